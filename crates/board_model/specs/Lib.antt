@@ -1,2 +1,5 @@
 pub mod Copies
 pub mod OwedAccesses
+pub mod TypeTable
+pub mod LineGrammar
+pub mod AnswerGrammar
