@@ -11,3 +11,4 @@ pub mod Replies
 pub mod Memory
 pub mod Parties
 pub mod LawfulSession
+pub mod Sound
