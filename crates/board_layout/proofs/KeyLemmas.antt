@@ -26,9 +26,9 @@ little_of (suc n) w [] small h =
     let none : little (take n []) ≡ 0 = nothing n in
     omega (arith, first, rest, none)
   where
-  nothing : (n : ℕ) → little (take n []) ≡ 0
-  nothing zero = refl
-  nothing (suc n) = refl
+    nothing : (n : ℕ) → little (take n []) ≡ 0
+    nothing zero = refl
+    nothing (suc n) = refl
 little_of (suc n) w (b ∷ bytes) small h =
     let first : b ≡ w / 1 % 256 = h 0 (omega arith) in
     let less : w < 256 * 2 ^ (8 * n) = rw (power_next n) at small in
@@ -40,15 +40,15 @@ words_of : (words bytes : List ℕ) → All (λ word. word < 2 ^ 64) words → (
 words_of [] bytes small h = refl
 words_of (w ∷ words) bytes small h =
     let first : little (take 8 bytes) ≡ w = little_of 8 w bytes (All-head (λ word. word < 2 ^ 64) w words small)
-        (λ i lt. let a : i / 8 ≡ 0 = omega (arith, lt) in let b : i % 8 ≡ i = omega (arith, lt) in h i ∙ rw (a, b) refl) in
+    (λ i lt. let a : i / 8 ≡ 0 = omega (arith, lt) in let b : i % 8 ≡ i = omega (arith, lt) in h i ∙ rw (a, b) refl) in
     let rest : words_in (length words) (drop 8 bytes) ≡ words = words_of words (drop 8 bytes) (All-tail (λ word. word < 2 ^ 64) w words small)
-        (λ i. let a : (8 + i) / 8 ≡ suc (i / 8) = omega arith in let b : (8 + i) % 8 ≡ i % 8 = omega arith in get_or-drop 8 bytes i 0 ∙ h (8 + i) ∙ rw (a, b) refl) in
+    (λ i. let a : (8 + i) / 8 ≡ suc (i / 8) = omega arith in let b : (8 + i) % 8 ≡ i % 8 = omega arith in get_or-drop 8 bytes i 0 ∙ h (8 + i) ∙ rw (a, b) refl) in
     rw (first, rest) refl
 
 -- a key gives back the words that it was made of
 pub words_in-key : (size count : ℕ) (words bytes : List ℕ) → AreWordsOf size count words → BeginsWithBytes bytes words size → words_in count (take size bytes) ≡ words
 words_in-key size count words bytes are begins = rw (sym are.every) (words_of words (take size bytes) are.small
     (λ i. ⊎_elim
-        (λ (lt : i < size). get_or-take size bytes i 0 lt ∙ begins.front i lt)
-        (λ (ge : size ≤ i). get_or_past (take size bytes) i 0 (omega (arith, length-take size bytes, ge)) ∙ sym (are.behind i ge))
-        (cases_lt i size)))
+    (λ (lt : i < size). get_or-take size bytes i 0 lt ∙ begins.front i lt)
+    (λ (ge : size ≤ i). get_or_past (take size bytes) i 0 (omega (arith, length-take size bytes, ge)) ∙ sym (are.behind i ge))
+    (cases_lt i size)))

@@ -6,10 +6,11 @@ use Rattle.std.proofs.Math.Pow.{pow_mono}
 use Rattle.std.proofs.lemmas.List.{get_or_past}
 use Rattle.std.proofs.lemmas.Bool.{cases_lt}
 use Rattle.std.specs.Prelude.{ℤ, FitsSigned}
-use Rattle.std.specs.Int.{cast_signed, cast_unsigned, w32, w64}
+use Rattle.std.specs.Int.{cast_signed, cast_unsigned, from_le_bytes, to_le_bytes, w32, w64}
+use Rattle.std.proofs.lemmas.Nat.{le_bytes_8}
 use Rattle.std.proofs.Math.Facts.{Fits-lt-pow, Fits-of_z, to_z-of_z}
 use Rattle.board_layout.specs.Bytes.{byte_of, byte_at}
-use Rattle.board_layout.specs.Words.{AreWordsOf}
+use Rattle.board_layout.specs.Words.{AreWordsOf, IsEightBytes}
 
 -- past the words there are only zeros
 byte_past : (words : List ℕ) (i : ℕ) → 8 * length words ≤ i → byte_at words i ≡ 0
@@ -88,3 +89,12 @@ i32_again x h = let fits : cast_unsigned w32 x < 2 ^ 32 = Fits-lt-pow (Fits-of_z
 
 pub i64_again : (x : ℤ) → FitsSigned w64 x → cast_signed w64 (cast_unsigned w64 x) ≡ x
 i64_again x h = to_z-of_z h
+
+-- eight bytes are one word, the low byte first
+pub eight_bytes_word : (bytes : List ℕ) → IsEightBytes bytes → AreWordsOf 8 1 (from_le_bytes w64 bytes ∷ [])
+eight_bytes_word bytes h = one_word 8 (from_le_bytes w64 bytes) (omega arith)
+    (omega (arith, h.each 0, h.each 1, h.each 2, h.each 3, h.each 4, h.each 5, h.each 6, h.each 7))
+
+-- that word gives them back
+pub eight_bytes_again : (bytes : List ℕ) → IsEightBytes bytes → to_le_bytes w64 (from_le_bytes w64 bytes) ≡ bytes
+eight_bytes_again bytes h = le_bytes_8 bytes (from_le_bytes w64 bytes) h.every h.each refl

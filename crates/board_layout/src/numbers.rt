@@ -201,8 +201,11 @@ impl ZeroCopySend for u64 {
 
 impl ZeroCopySend for i32 {
     const TYPE_NAME: &'static str = "i32";
+
     const SIZE: usize = 4;
+
     const ALIGNMENT: usize = 4;
+
     const WORDS: usize = 1;
 
     ghost type_bytes = { codes "i32" };
@@ -246,8 +249,11 @@ impl ZeroCopySend for i32 {
 
 impl ZeroCopySend for i64 {
     const TYPE_NAME: &'static str = "i64";
+
     const SIZE: usize = 8;
+
     const ALIGNMENT: usize = 8;
+
     const WORDS: usize = 1;
 
     ghost type_bytes = { codes "i64" };
