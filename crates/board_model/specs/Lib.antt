@@ -1,2 +1,14 @@
 pub mod Copies
 pub mod OwedAccesses
+pub mod TypeTable
+pub mod LineGrammar
+pub mod AnswerGrammar
+pub mod Tables
+pub mod TableCalls
+pub mod Things
+pub mod Requests
+pub mod Replies
+pub mod Memory
+pub mod Parties
+pub mod LawfulSession
+pub mod Sound

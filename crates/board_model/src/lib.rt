@@ -2,7 +2,19 @@
 #![tactic(auto)]
 
 mod access;
+mod answer;
+mod attributes;
 mod errors;
+mod line;
+mod lists;
+mod tables;
+mod value;
 
 pub use access::Access;
+pub use answer::{Answer, Info, Reason, Reply};
+pub use attributes::{Attribute, AttributeKeys, Attributes, Requirements};
 pub use errors::{BlackboardCreateError, BlackboardOpenError, EntryHandleError, EntryHandleMutError, ReaderCreateError, WriterCreateError};
+pub use line::{BoardName, Call, Line, Name};
+pub use lists::{AddedEntries, Entries, Keys, Names, Words};
+pub use tables::{Board, Entry, Kind, Limits, Thing, ThingKind};
+pub use value::{AddedEntry, Key, KeyType, Value, ValueType};
