@@ -40,6 +40,8 @@ impl Configuration {
 
 /// The parts of a configuration, the full names that it spells, and the names that it reads back.
 pub trait NamedConceptConfiguration: Sized {
+    ghost use Rattle.board_names.specs.declared.configuration.Configuration.{Configuration};
+
     ghost parts: { Self → Configuration };
 
     /// The configuration with this prefix.

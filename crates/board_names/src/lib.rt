@@ -24,9 +24,13 @@ mod tests;
 mod trigger_id;
 
 pub use base64url::Base64Url;
+pub use board_model::{
+    BlackboardCreateError, BlackboardOpenError, EntryHandleError, EntryHandleMutError,
+    ReaderCreateError, WriterCreateError,
+};
 pub use configuration::{Configuration, NamedConceptConfiguration};
 pub use constants::{
-    MAX_ATTRIBUTES, MAX_ATTRIBUTE_KEY_LENGTH, MAX_ATTRIBUTE_VALUE_LENGTH, MAX_NODE_NAME_LENGTH,
+    MAX_ATTRIBUTE_KEY_LENGTH, MAX_ATTRIBUTE_VALUE_LENGTH, MAX_ATTRIBUTES, MAX_NODE_NAME_LENGTH,
     MAX_SERVICE_NAME_LENGTH,
 };
 pub use errors::communication_channel::{
@@ -59,8 +63,3 @@ pub use node_name::NodeName;
 pub use path::Path;
 pub use service_name::ServiceName;
 pub use trigger_id::{EventId, TriggerId};
-
-pub use board_model::{
-    BlackboardCreateError, BlackboardOpenError, EntryHandleError, EntryHandleMutError,
-    ReaderCreateError, WriterCreateError,
-};

@@ -6,10 +6,10 @@ use thiserror::Error;
 pub enum SemanticStringError {
     /// The text breaks the rule of its type, or it is empty and isn't a node's name.
     #[error("SemanticStringError::InvalidContent")]
-    InvalidContent,
+    InvalidContent = 1,
     /// The text is longer than its type allows. This is looked at first.
     #[error("SemanticStringError::ExceedsMaximumLength")]
-    ExceedsMaximumLength,
+    ExceedsMaximumLength = 2,
 }
 
 /// Why a registry was not made or shared.

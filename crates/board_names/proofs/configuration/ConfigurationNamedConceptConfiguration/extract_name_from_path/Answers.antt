@@ -1,4 +1,4 @@
-use Rattle.std.proofs.Common.{◌≡◌, ◌∷◌, sym, ◌∙◌}
+use Rattle.std.proofs.Common.{◌≡◌}
 use Rattle.board_names.specs.Configuration.{file_name}
 use Rattle.board_names.proofs.Parts.{behind_front_of}
 use Rattle.board_names.proofs.configuration.ConfigurationNamedConceptConfiguration.extract_name_from_path.Goals as goal
