@@ -5,8 +5,12 @@ use Rattle.std.proofs.Math.Nat.{div-eq_of_lt, mod-eq_of_lt, zero-div}
 use Rattle.std.proofs.Math.Pow.{pow_mono}
 use Rattle.std.proofs.lemmas.List.{get_or_past}
 use Rattle.std.proofs.lemmas.Bool.{cases_lt}
+use Rattle.std.specs.Prelude.{ℤ, FitsSigned}
+use Rattle.std.specs.Int.{cast_signed, cast_unsigned, from_le_bytes, to_le_bytes, w32, w64}
+use Rattle.std.proofs.lemmas.Nat.{le_bytes_8}
+use Rattle.std.proofs.Math.Facts.{Fits-lt-pow, Fits-of_z, to_z-of_z}
 use Rattle.board_layout.specs.Bytes.{byte_of, byte_at}
-use Rattle.board_layout.specs.Words.{AreWordsOf}
+use Rattle.board_layout.specs.Words.{AreWordsOf, IsEightBytes}
 
 -- past the words there are only zeros
 byte_past : (words : List ℕ) (i : ℕ) → 8 * length words ≤ i → byte_at words i ≡ 0
@@ -71,3 +75,26 @@ four_words xs h = rw (four_once xs h.0) (record {
 pub four_again : (xs : List ℕ) → (length xs ≡ 4) × All (λ x. x < 2 ^ 64) xs →
     slice_index xs 0 ∷ slice_index xs 1 ∷ slice_index xs 2 ∷ slice_index xs 3 ∷ [] ≡ xs
 four_again xs h = four_once xs h.0
+
+-- a signed number is one word, by its bits
+pub i32_word : (x : ℤ) → FitsSigned w32 x → AreWordsOf 4 1 (cast_unsigned w32 x ∷ [])
+i32_word x h = one_word 4 (cast_unsigned w32 x) (omega arith) (Fits-lt-pow (Fits-of_z h))
+
+pub i64_word : (x : ℤ) → FitsSigned w64 x → AreWordsOf 8 1 (cast_unsigned w64 x ∷ [])
+i64_word x h = one_word 8 (cast_unsigned w64 x) (omega arith) (Fits-lt-pow (Fits-of_z h))
+
+-- its bits give it back
+pub i32_again : (x : ℤ) → FitsSigned w32 x → cast_signed w32 (cast_unsigned w32 x % 2 ^ 32) ≡ x
+i32_again x h = let fits : cast_unsigned w32 x < 2 ^ 32 = Fits-lt-pow (Fits-of_z h) in rw (mod-eq_of_lt fits) (to_z-of_z h)
+
+pub i64_again : (x : ℤ) → FitsSigned w64 x → cast_signed w64 (cast_unsigned w64 x) ≡ x
+i64_again x h = to_z-of_z h
+
+-- eight bytes are one word, the low byte first
+pub eight_bytes_word : (bytes : List ℕ) → IsEightBytes bytes → AreWordsOf 8 1 (from_le_bytes w64 bytes ∷ [])
+eight_bytes_word bytes h = one_word 8 (from_le_bytes w64 bytes) (omega arith)
+    (omega (arith, h.each 0, h.each 1, h.each 2, h.each 3, h.each 4, h.each 5, h.each 6, h.each 7))
+
+-- that word gives them back
+pub eight_bytes_again : (bytes : List ℕ) → IsEightBytes bytes → to_le_bytes w64 (from_le_bytes w64 bytes) ≡ bytes
+eight_bytes_again bytes h = le_bytes_8 bytes (from_le_bytes w64 bytes) h.every h.each refl

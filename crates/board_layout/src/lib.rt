@@ -3,6 +3,7 @@
 
 mod f8;
 mod key_memory;
+mod key_words;
 mod keys;
 mod numbers;
 mod plan_types;
@@ -15,7 +16,9 @@ mod type_name;
 mod zero_copy_send;
 
 pub use f8::F8;
-pub use key_memory::KeyMemory;
+pub use key_memory::{
+    KeyMemory, KeyMemoryError, MAX_BLACKBOARD_KEY_ALIGNMENT, MAX_BLACKBOARD_KEY_SIZE,
+};
 pub use keys::{is_key, key_of, same_keys};
 pub use plan_types::{Plan, PlanError};
 pub use planning::plan;
@@ -24,3 +27,6 @@ pub use text::Text;
 pub use type_detail::{TypeDetail, TypeVariant};
 pub use type_name::{MAX_TYPE_NAME_LENGTH, TypeName};
 pub use zero_copy_send::{BoardKey, ZeroCopySend};
+
+#[cfg(test)]
+mod tests;

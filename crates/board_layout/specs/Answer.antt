@@ -1,0 +1,6 @@
+-- What a call that may want memory answers.
+use Rattle.std.specs.Prelude.{◌≡◌, ◌≢◌, Result, Err}
+
+-- the expected answer, or want of memory
+abbrev pub Answers : {T E : Type 0} → Result T E → E → Result T E → Type 0
+Answers result out_of_memory answer = result ≢ Err out_of_memory → result ≡ answer
