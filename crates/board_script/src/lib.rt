@@ -1,0 +1,7 @@
+//! The machine that runs the lines of a script, and the program's top call.
+#![tactic(auto)]
+
+mod counts;
+mod lookups;
+mod machine;
+mod values;
