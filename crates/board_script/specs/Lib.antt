@@ -1,2 +1,4 @@
 pub mod Counts
+pub mod Create
 pub mod Machine
+pub mod TableCalls

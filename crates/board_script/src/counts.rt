@@ -1,5 +1,5 @@
 //! What is counted over the things.
-ghost use Rattle.std.specs.Prelude.{◌≡◌, ◌≤◌, nat_le};
+ghost use Rattle.std.specs.Prelude.{◌≡◌, true};
 ghost use Rattle.std.specs.List.{list_any};
 ghost use Rattle.board_model.specs.Tables as tables;
 ghost use Rattle.board_script.specs.Counts.{is_of_writer};
@@ -20,7 +20,7 @@ fn has_port(kind: &Kind) -> bool
 
 /// Whether the writer slot of the board is taken.
 pub(crate) fn has_writer(board: u64, things: &[Held]) -> bool
-    ensures { result ≡ nat_le 1 (tables.writer_slots board things.now) }
+    ensures { result ≡ list_any (is_of_writer board) things.now }
 {
     things.iter().any(|t| t.board == board && has_port(&t.kind))
 }

@@ -2,6 +2,8 @@
 #![tactic(auto)]
 
 mod counts;
+mod create;
 mod lookups;
 mod machine;
+mod ports;
 mod values;

@@ -2,7 +2,7 @@
 ghost use Rattle.std.specs.Prelude.{◌≡◌, ◌+◌, ◌<◌, Option, option_map, find, length, is_some};
 ghost use Rattle.std.specs.List.{position_from};
 ghost use Rattle.board_model.specs.Tables as tables;
-ghost use Rattle.board_model.specs.Things as things;
+ghost use Rattle.board_model.specs.Things as held;
 ghost use Rattle.board_model.specs.Replies as replies;
 ghost use Rattle.board_model.specs.TypeTable as types;
 ghost use Rattle.board_script.specs.Machine.{is_row_of};
@@ -45,7 +45,7 @@ pub(crate) fn place_of_party(party: &Name, parties: &[PartyRow]) -> Option<usize
 
 /// The thing that a party holds under a name.
 pub(crate) fn thing_of<'a>(party: &Name, name: &Name, things: &'a [Held]) -> Option<&'a Held>
-    ensures { option_map (λ t. t.now) result ≡ things.thing_of things.now party.now name.now }
+    ensures { option_map (λ t. t.now) result ≡ held.thing_of things.now party.now name.now }
 {
     things
         .iter()
@@ -67,7 +67,7 @@ fn is_kind(kind: ThingKind, of: &Kind) -> bool
 
 /// The same, where it is of this kind.
 pub(crate) fn held_of_kind(kind: ThingKind, party: &Name, name: &Name, things: &[Held]) -> Option<Held>
-    ensures { result ≡ things.of_kind kind (things.thing_of things.now party.now name.now) }
+    ensures { result ≡ held.of_kind kind (held.thing_of things.now party.now name.now) }
 {
     match thing_of(party, name, things) {
         Some(t) => {
