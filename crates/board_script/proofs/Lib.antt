@@ -1,2 +1,4 @@
+pub mod Memories
 pub mod Places
+pub mod Rows
 pub mod Slots
