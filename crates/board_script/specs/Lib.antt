@@ -1,4 +1,5 @@
 pub mod Counts
 pub mod Create
 pub mod Machine
+pub mod Steps
 pub mod TableCalls

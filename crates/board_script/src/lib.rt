@@ -6,4 +6,5 @@ mod create;
 mod lookups;
 mod machine;
 mod ports;
+mod step;
 mod values;
