@@ -1,0 +1,3 @@
+pub mod ListLemmas
+pub mod ThingLemmas
+pub mod KeptLemmas
