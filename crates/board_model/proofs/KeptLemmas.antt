@@ -229,7 +229,7 @@ quiet_loan s new sound h q name ws k same boards awake = record {
 -- what has to be shown of such a line
 pub record IsQuietLine (s new : State) (party : List ℕ) (x : Party) : Type 0 where
   pub quiet : IsQuiet s new
-  pub parties : new.parties ≡ with_party s.parties party x
+  pub parties : (q : List ℕ) → new.parties q ≡ with_party s.parties party x q
   pub boards : AreBoards new.standing.tables new.memory new.published
   pub handles : (n i : ℕ) → count_by (is_write_handle n i) new.standing.tables.things ≤ 1
   pub standing : AllByRecursion (HasBoard new.standing.tables) new.standing.tables.things
@@ -241,7 +241,7 @@ pub quiet_sound : (s new : State) (party : List ℕ) (x : Party) → Sound s →
 quiet_sound s new party x sound h = record {
   boards = h.boards;
   things = record { handles = h.handles; standing = h.standing; loans = λ q name ws e. loan q name ws e (bytes_eq q party) (same_bytes q party) (other_bytes q party) };
-  parties = λ q. subst (λ (ps : List ℕ → Party). IsParty new q (ps q)) (sym h.parties)
+  parties = λ q. subst (λ (y : Party). IsParty new q y) (sym (h.parties q))
       (with_parties new party x s.parties h.own (λ p ne. spared_party s new access.Table p (quiet_spares s new access.Table p (λ r. refl) h.quiet (h.others p ne)) (s.parties p) (sound.parties p)) q);
 }
   where
@@ -251,5 +251,5 @@ quiet_sound s new party x sound h = record {
         subst (λ (p : List ℕ). IsLoan new.standing.tables new.memory new.published new.parties p name ws) (sym (t refl)) (h.mine name ws e')
     loan q name ws e false t f =
         let k = h.others q (f refl) in
-        let same : new.parties q ≡ s.parties q = ap (λ (ps : List ℕ → Party). ps q) h.parties ∙ party_there s.parties party x q (f refl) in
+        let same : new.parties q ≡ s.parties q = h.parties q ∙ party_there s.parties party x q (f refl) in
         quiet_loan s new sound h.quiet q name ws (sound.things.loans q name ws (sym (k.loans name) ∙ e)) (k.things name) (λ y g. k.boards name y g) (λ n i a. ap (λ (y : Party). is_suspended y n i) (sym same) ∙ a)

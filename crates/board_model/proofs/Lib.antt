@@ -1,3 +1,5 @@
 pub mod ListLemmas
 pub mod ThingLemmas
 pub mod KeptLemmas
+pub mod TableLemmas
+pub mod DropLemmas
