@@ -1,3 +1,4 @@
 pub mod ListLemmas
 pub mod CopyLemmas
 pub mod GetLemmas
+pub mod OpeningLemmas

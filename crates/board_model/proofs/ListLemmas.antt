@@ -1,6 +1,6 @@
 -- Lemmas on lists: finding, counting and taking out.
-use Rattle.std.proofs.Common.{◌≡◌, ℕ, ◌+◌, ◌≤◌, ◌<◌, Bool, true, false, cond, List, [], ◌∷◌, ◌++◌, map, length, zero, suc, arith, refl, sym, ap, subst, ◌∙◌, Option, Some, None, inl, inr}
-use Rattle.std.specs.Prelude.{find, ◌⊎◌, ◌||◌, if◌then◌else◌, is_some, slice_get}
+use Rattle.std.proofs.Common.{◌≡◌, ℕ, ◌+◌, ◌≤◌, Bool, true, false, cond, List, [], ◌∷◌, ◌++◌, map, arith, refl, sym, ap, subst, ◌∙◌, Option, Some, None, inl, inr}
+use Rattle.std.specs.Prelude.{find, ◌⊎◌, ◌||◌}
 use Rattle.std.specs.List.{list_any, count_by}
 use Rattle.std.specs.Str.{bytes_eq}
 use Rattle.std.proofs.lemmas.Bool.{both_ways, or_left, or_right}
