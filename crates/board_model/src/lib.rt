@@ -13,10 +13,7 @@ mod value;
 pub use access::Access;
 pub use answer::{Answer, Info, Reason, Reply};
 pub use attributes::{Attribute, AttributeKeys, Attributes, Requirements};
-pub use errors::{
-    BlackboardCreateError, BlackboardOpenError, EntryHandleError, EntryHandleMutError,
-    ReaderCreateError, WriterCreateError,
-};
+pub use errors::{BlackboardCreateError, BlackboardOpenError, EntryHandleError, EntryHandleMutError, ReaderCreateError, WriterCreateError};
 pub use line::{BoardName, Call, Line, Name};
 pub use lists::{AddedEntries, Entries, Keys, Names, Words};
 pub use tables::{Board, Entry, Kind, Limits, Thing, ThingKind};
