@@ -1,6 +1,6 @@
 -- The record of facts that each line of a lawful session keeps.
 use Rattle.std.specs.Prelude.{◌≡◌, ℕ, ◌+◌, ◌-◌, ◌*◌, ◌<◌, ◌≤◌, Bool, true, false, ◌&&◌, ◌==◌, List, [], length, take, map, slice_get, slice_index, Option, Some, None, is_some}
-use Rattle.std.specs.List.{count_by}
+use Rattle.std.specs.List.{AllByRecursion, count_by}
 use Rattle.board_layout.specs.declared.shape.CellShape.{CellShape}
 use Rattle.board_model.specs.declared.access.Access.{Access}
 use Rattle.board_model.specs.declared.tables.Board.{Board}
@@ -89,11 +89,14 @@ pub record IsLoan (t : BoardTables) (memory : ℕ → List ℕ) (published : Pub
   pub put : (e : Entry) → entry_at t thing.board (entry_of thing.kind) ≡ Some e → is_suspended (parties party) thing.board (entry_of thing.kind) ≡ false
       → IsLent (memory thing.board) (cell_shape e.cell) (length (published thing.board (entry_of thing.kind))) put_words
 
+-- the board of a thing stands
+abbrev pub HasBoard : BoardTables → Held → Type 0
+HasBoard t x = is_some (board_at t x.board) ≡ true
+
 pub record AreThings (s : Standing) (memory : ℕ → List ℕ) (published : Published) (parties : List ℕ → Party) : Type 0 where
   -- at most one write handle or loan of an entry is a thing
   pub handles : (n i : ℕ) → count_by (is_write_handle n i) s.tables.things ≤ 1
-  -- the board of a thing stands
-  pub standing : (party name : List ℕ) (x : Held) → thing_of s.tables.things party name ≡ Some x → is_some (board_at s.tables x.board) ≡ true
+  pub standing : AllByRecursion (HasBoard s.tables) s.tables.things
   pub loans : (party name : List ℕ) (put_words : List (Option ℕ)) → s.loans party name ≡ Some put_words → IsLoan s.tables memory published parties party name put_words
 
 -- ---- running calls
