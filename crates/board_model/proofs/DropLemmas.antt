@@ -13,9 +13,9 @@ use Rattle.board_model.specs.Requests.{Published}
 use Rattle.board_model.specs.Replies.{dropped, released_thing}
 use Rattle.board_model.specs.Parties.{Party, free, with_party}
 use Rattle.board_model.specs.LawfulSession.{State}
-use Rattle.board_model.specs.Sound.{AreBoards, BoardTables, HasBoard, IsLoan, IsParty, Sound, is_suspended}
+use Rattle.board_model.specs.Sound.{AreBoards, BoardTables, HasBoard, HasEntry, IsLoan, IsParty, Sound, is_suspended}
 use Rattle.board_model.proofs.ListLemmas.{any_found, count_without, find_none, find_true, other_bytes, same_bytes}
-use Rattle.board_model.proofs.ThingLemmas.{all_found, all_without, find_without_other, held_as, held_as_other, held_by_other}
+use Rattle.board_model.proofs.ThingLemmas.{all_found, all_without, entries_kept, has_entry_kept, find_without_other, held_as, held_as_other, held_by_other}
 use Rattle.board_model.proofs.KeptLemmas.{IsQuietLine, KeepsThings, quiet_loan, quiet_sound}
 use Rattle.board_model.proofs.TableLemmas.{at_here, at_other_name, at_other_party, same_name}
 
@@ -79,6 +79,14 @@ module _ (t : BoardTables) (party name : List ℕ) (x : Held) (found : thing_of 
 
   pub all_standing : AllByRecursion (HasBoard t) t.things → AllByRecursion (HasBoard new) new.things
   all_standing h = standing_left (list_any (is_of_board x.board) left) refl (all_without (HasBoard t) (is_held_as party name) t.things h)
+
+  entries_left : (z : Bool) → list_any (is_of_board x.board) left ≡ z → AllByRecursion (HasEntry t) left → AllByRecursion (HasEntry (record t { things = left; boards = cond z t.boards (without (is_numbered x.board) t.boards) })) left
+  entries_left true e h = entries_kept t (record t { things = left }) (λ n i. refl) left h
+  entries_left false e h = all_off (HasEntry t) (HasEntry (record t { things = left; boards = without (is_numbered x.board) t.boards })) (is_of_board x.board)
+      (λ y k off. has_entry_kept t (record t { things = left; boards = without (is_numbered x.board) t.boards }) y.board (λ i. ap (λ (o : Option Board). entry_in o i) (other_board x.board y.board (λ q. both_ways (is_of_board x.board y) off (eq-eqb y.board x.board q)))) y.kind k) left e h
+
+  pub all_entries : AllByRecursion (HasEntry t) t.things → AllByRecursion (HasEntry new) new.things
+  all_entries h = entries_left (list_any (is_of_board x.board) left) refl (all_without (HasEntry t) (is_held_as party name) t.things h)
 
   -- what stands now stood before
   back : (memory : ℕ → List ℕ) (published : Published) → AreBoards t memory published → AllByRecursion (HasBoard t) t.things → (z : Bool) → (n : ℕ) (b : Board) → find (is_numbered n) (cond z t.boards (without (is_numbered x.board) t.boards)) ≡ Some b → find (is_numbered n) t.boards ≡ Some b
@@ -155,6 +163,7 @@ drop_case s party name sound fr None f = quiet_sound s (dropped_with s party nam
   boards = sound.boards;
   handles = sound.things.handles;
   standing = sound.things.standing;
+  entries = entries_kept s.standing.tables s.standing.tables (λ n i. refl) s.standing.tables.things sound.things.entries;
   others = λ q ne. record { things = λ n. refl; loans = λ n. at_other_party s.standing.loans party name q n None ne; boards = λ n y e. refl };
   mine = λ n ws e.
       let k = lent_before s party name n ws e in
@@ -167,6 +176,7 @@ drop_case s party name sound fr (Some x) f = quiet_sound s (dropped_with s party
   boards = boards_after s.standing.tables party name x f s.memory s.published sound.boards sound.things.standing;
   handles = λ n i. omega (arith, count_fewer (is_write_handle n i) (is_held_as party name) s.standing.tables.things x f, sound.things.handles n i);
   standing = all_standing s.standing.tables party name x f sound.things.standing;
+  entries = all_entries s.standing.tables party name x f sound.things.entries;
   others = λ q ne. record {
     things = λ n. others_found s.standing.tables party name x f q n ne;
     loans = λ n. at_other_party s.standing.loans party name q n None ne;

@@ -18,7 +18,7 @@ use Rattle.board_model.specs.Requests.{Fetch, Lending, Request, TableCall, creat
 use Rattle.board_model.specs.Replies.{word_put}
 use Rattle.board_model.specs.Parties.{Party, Running, count_write, free, gone, notice, reading, running, with_party}
 use Rattle.board_model.specs.LawfulSession.{State}
-use Rattle.board_model.specs.Sound.{AreBoards, AreThings, HasBoard, IsCalling, IsEntryOf, IsFree, IsGetting, IsHeldThing, IsHolding, IsLent, IsLoan, IsOfBoard, IsParty, IsPublishing, IsReading, IsTableCall, IsWriting, Sound, Stands, is_suspended}
+use Rattle.board_model.specs.Sound.{AreBoards, AreThings, HasBoard, HasEntry, IsCalling, IsEntryOf, IsFree, IsGetting, IsHeldThing, IsHolding, IsLent, IsLoan, IsOfBoard, IsParty, IsPublishing, IsReading, IsTableCall, IsWriting, Sound, Stands, is_suspended}
 use Rattle.board_model.proofs.ListLemmas.{other_bytes, same_bytes}
 use Rattle.board_model.proofs.ThingLemmas.{all_found, different_bytes, of_entry, same_to_itself}
 
@@ -233,6 +233,7 @@ pub record IsQuietLine (s new : State) (party : List ℕ) (x : Party) : Type 0 w
   pub boards : AreBoards new.standing.tables new.memory new.published
   pub handles : (n i : ℕ) → count_by (is_write_handle n i) new.standing.tables.things ≤ 1
   pub standing : AllByRecursion (HasBoard new.standing.tables) new.standing.tables.things
+  pub entries : AllByRecursion (HasEntry new.standing.tables) new.standing.tables.things
   pub others : (q : List ℕ) → (q ≡ party → ⊥) → KeepsThings s.standing new.standing q
   pub mine : (name : List ℕ) (ws : List (Option ℕ)) → new.standing.loans party name ≡ Some ws → IsLoan new.standing.tables new.memory new.published new.parties party name ws
   pub own : IsParty new party x
@@ -240,7 +241,7 @@ pub record IsQuietLine (s new : State) (party : List ℕ) (x : Party) : Type 0 w
 pub quiet_sound : (s new : State) (party : List ℕ) (x : Party) → Sound s → IsQuietLine s new party x → Sound new
 quiet_sound s new party x sound h = record {
   boards = h.boards;
-  things = record { handles = h.handles; standing = h.standing; loans = λ q name ws e. loan q name ws e (bytes_eq q party) (same_bytes q party) (other_bytes q party) };
+  things = record { handles = h.handles; standing = h.standing; entries = h.entries; loans = λ q name ws e. loan q name ws e (bytes_eq q party) (same_bytes q party) (other_bytes q party) };
   parties = λ q. subst (λ (y : Party). IsParty new q y) (sym (h.parties q))
       (with_parties new party x s.parties h.own (λ p ne. spared_party s new access.Table p (quiet_spares s new access.Table p (λ r. refl) h.quiet (h.others p ne)) (s.parties p) (sound.parties p)) q);
 }

@@ -3,3 +3,9 @@ pub mod ThingLemmas
 pub mod KeptLemmas
 pub mod TableLemmas
 pub mod DropLemmas
+pub mod CopyLemmas
+pub mod GetLemmas
+pub mod OpeningLemmas
+pub mod RunningLemmas
+pub mod ReadLaws
+pub mod CreateLemmas

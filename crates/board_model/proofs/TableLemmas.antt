@@ -17,9 +17,9 @@ use Rattle.board_model.specs.Requests.{Lending, Published}
 use Rattle.board_model.specs.Replies.{given_back, lent, none_put}
 use Rattle.board_model.specs.Parties.{Party, free, with_party}
 use Rattle.board_model.specs.LawfulSession.{State}
-use Rattle.board_model.specs.Sound.{AreBoards, BoardTables, HasBoard, IsEntryOf, IsFree, IsHolding, IsLending, IsLent, IsLoan, IsParty, IsWriting, Sound, is_suspended}
+use Rattle.board_model.specs.Sound.{AreBoards, BoardTables, HasBoard, HasEntry, IsEntryOf, IsFree, IsHolding, IsLending, IsLent, IsLoan, IsParty, IsWriting, Sound, is_suspended}
 use Rattle.board_model.proofs.ListLemmas.{count_none, count_push, find_kept, find_push_cases}
-use Rattle.board_model.proofs.ThingLemmas.{IsOfEntry, all_push, anew_boards, anew_count, anew_found, anew_found_elsewhere, anew_found_other, different_bytes, find_push_other, held_by_other, of_entry, same_to_itself}
+use Rattle.board_model.proofs.ThingLemmas.{IsOfEntry, all_push, anew_entries, entries_kept, anew_boards, anew_count, anew_found, anew_found_elsewhere, anew_found_other, different_bytes, find_push_other, held_by_other, of_entry, same_to_itself}
 use Rattle.board_model.proofs.KeptLemmas.{IsQuietLine, KeepsThings, keeps_all, party_here, quiet_loan, quiet_same, quiet_sound}
 
 -- ---- maps by party and name
@@ -71,6 +71,7 @@ valued_sound s party x values sound awake own = quiet_sound s (with_values s par
   boards = sound.boards;
   handles = sound.things.handles;
   standing = sound.things.standing;
+  entries = sound.things.entries;
   others = λ q ne. record { things = λ name. refl; loans = λ name. refl; boards = λ name y e. refl };
   mine = λ name ws e. quiet_loan s (with_values s party x values) sound (record { words = λ n h. refl; lists = λ n i h. refl }) party name ws (sound.things.loans party name ws e) refl (λ y f. refl)
       (λ n i a. awake n i (ap (λ (y : Party). is_suspended y n i) (sym (party_here s.parties party x)) ∙ a));
@@ -87,6 +88,7 @@ pub record IsNewThing (s : Standing) (party : List ℕ) (y : Held) : Type 0 wher
   pub holder : y.holder ≡ party
   pub free : IsFree s party y.name
   pub board : HasBoard s.tables y
+  pub entry : HasEntry s.tables y
   pub fewer : IsFewer s.tables y
 
 abbrev pub with_new : State → List ℕ → Held → ℕ → State
@@ -110,6 +112,7 @@ grown_sound s party y last_port sound calm h = quiet_sound s (with_new s party y
   boards = boards_again s.standing.tables s.memory s.published (s.standing.tables.things ++ y ∷ []) last_port sound.boards;
   handles = λ n i. few s.standing.tables y n i (sound.things.handles n i) (h.fewer n i);
   standing = all_push (HasBoard s.standing.tables) s.standing.tables.things y sound.things.standing h.board;
+  entries = entries_kept s.standing.tables (with_new s party y last_port).standing.tables (λ n i. refl) (s.standing.tables.things ++ y ∷ []) (all_push (HasEntry s.standing.tables) s.standing.tables.things y sound.things.entries h.entry);
   others = λ q ne. record { things = λ name. find_push_other (is_held_as q name) s.standing.tables.things y (held_by_other q party name y h.holder ne); loans = λ name. refl; boards = λ name x e. refl };
   mine = λ name ws e.
       let l = sound.things.loans party name ws e in
@@ -146,6 +149,7 @@ renamed_sound s party old new b i loans sound calm h = quiet_sound s (with_other
   boards = boards_again s.standing.tables s.memory s.published _ s.standing.tables.last_port sound.boards;
   handles = λ n j. omega (arith, anew_count s.standing.tables.things party old new n j, sound.things.handles n j);
   standing = anew_boards s.standing.tables s.standing.tables.things party old new sound.things.standing;
+  entries = entries_kept s.standing.tables (with_name s.standing.tables party old new) (λ n i. refl) (with_name s.standing.tables party old new).things (anew_entries s.standing.tables s.standing.tables.things party old new sound.things.entries);
   others = λ q ne. record { things = λ name. anew_found_other s.standing.tables.things party old new q name ne; loans = λ name. h.others q name ne; boards = λ name x e. refl };
   mine = λ name ws e. mine name ws e (same_name name new);
   own = tt;

@@ -8,9 +8,9 @@ use Rattle.std.proofs.lemmas.Option.{same_Some}
 use Rattle.std.proofs.lemmas.Slice.Eq.{bytes_eq-Decides}
 use Rattle.board_model.specs.declared.tables.Kind.{Kind}
 use Rattle.board_model.specs.declared.tables.Kind.TheVariants as kind
-use Rattle.board_model.specs.Tables.{board_at, entry_of, is_of_board, is_write_handle, without, writes_entry}
+use Rattle.board_model.specs.Tables.{board_at, entry_at, entry_of, is_of_board, is_write_handle, without, writes_entry}
 use Rattle.board_model.specs.Things.{Held, is_held_as, named_anew, thing_of}
-use Rattle.board_model.specs.Sound.{BoardTables, HasBoard}
+use Rattle.board_model.specs.Sound.{BoardTables, HasBoard, HasEntry, HasEntryAt}
 use Rattle.board_model.proofs.ListLemmas.{count_agree, count_map, find_agree, find_image, find_map, find_only, find_true, IsImage, same_bytes}
 
 -- ---- lists
@@ -194,3 +194,39 @@ of_entry n i x h =
 -- an entry's write handle is one thing
 pub one_handle : (things : List Held) (n i : ℕ) (p q : Held → Bool) (x y : Held) → count_by (is_write_handle n i) things ≤ 1 → find p things ≡ Some x → is_write_handle n i x ≡ true → find q things ≡ Some y → is_write_handle n i y ≡ true → x ≡ y
 one_handle things n i p q x y few e h f k = same_Some x y (sym (find_only (is_write_handle n i) p things x few e h) ∙ find_only (is_write_handle n i) q things y few f k)
+
+-- ---- entries of handles
+
+pub has_entry_kept : (t new : BoardTables) (b : ℕ) → ((i : ℕ) → entry_at new b i ≡ entry_at t b i) → (k : Kind) → HasEntryAt t b k → HasEntryAt new b k
+has_entry_kept t new b same kind.Factory h = tt
+has_entry_kept t new b same (kind.Reader p) h = tt
+has_entry_kept t new b same (kind.Writer p) h = tt
+has_entry_kept t new b same (kind.ReadHandle i) h = ap is_some (same i) ∙ h
+has_entry_kept t new b same (kind.WriteHandle i p) h = ap is_some (same i) ∙ h
+
+pub entries_kept : (t new : BoardTables) → ((n i : ℕ) → entry_at new n i ≡ entry_at t n i) → (things : List Held) → AllByRecursion (HasEntry t) things → AllByRecursion (HasEntry new) things
+entries_kept t new same things h = all_weaker (HasEntry t) (HasEntry new) (λ x k. has_entry_kept t new x.board (same x.board) x.kind k) things h
+
+pub anew_entries : (t : BoardTables) (things : List Held) (party old new : List ℕ) → AllByRecursion (HasEntry t) things → AllByRecursion (HasEntry t) (map (named_anew party old new) things)
+anew_entries t things party old new h = all_map (HasEntry t) (named_anew party old new) (λ x k. at x (is_held_as party old x) k) things h
+  where
+    at : (x : Held) (b : Bool) → HasEntry t x → HasEntry t (cond b (renamed new x) x)
+    at x true k = k
+    at x false k = k
+
+-- the entry of a write handle stands
+pub written_entry : (t : BoardTables) (x : Held) (n i : ℕ) → is_write_handle n i x ≡ true → HasEntry t x → is_some (entry_at t n i) ≡ true
+written_entry t x n i w h =
+    let o = of_entry n i x w in
+    subst (λ (m : ℕ). is_some (entry_at t m i) ≡ true) o.board (subst (λ (j : ℕ). is_some (entry_at t x.board j) ≡ true) o.entry (at x.kind (and_parts (x.board == n) (writes_entry i x.kind) w).1 h))
+  where
+    at : (k : Kind) → writes_entry i k ≡ true → HasEntryAt t x.board k → is_some (entry_at t x.board (entry_of k)) ≡ true
+    at kind.Factory q e = absurd cc
+    at (kind.Reader p) q e = absurd cc
+    at (kind.Writer p) q e = absurd cc
+    at (kind.ReadHandle j) q e = absurd cc
+    at (kind.WriteHandle j p) q e = e
+
+pub and_none : (b : Bool) → (b && false) ≡ false
+and_none true = refl
+and_none false = refl

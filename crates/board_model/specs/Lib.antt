@@ -12,3 +12,4 @@ pub mod Memory
 pub mod Parties
 pub mod LawfulSession
 pub mod Sound
+pub mod LawsOfReads

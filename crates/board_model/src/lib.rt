@@ -7,6 +7,7 @@ mod attributes;
 mod errors;
 mod line;
 mod lists;
+pub mod read_laws;
 mod tables;
 mod value;
 
