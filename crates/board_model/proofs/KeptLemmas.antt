@@ -208,6 +208,9 @@ quiet_spares s new a q calm h k = record {
       (subst (λ (l : List (List ℕ)). IsReading l f.shape.words (length r.so_far) r.passed (reading f.shape.words r.so_far)) (sym (h.lists f.board f.entry (entry_board s.standing.tables f.board f.entry f.shape g.place))) g.try);
 }
 
+pub quiet_party : (s new : State) (q : List ℕ) → IsQuiet s new → KeepsThings s.standing new.standing q → (x : Party) → IsParty s q x → IsParty new q x
+quiet_party s new q h k x own = spared_party s new access.Table q (quiet_spares s new access.Table q (λ r. refl) h k) x own
+
 -- a loan that its party still holds
 pub quiet_loan : (s new : State) → Sound s → IsQuiet s new → (q name : List ℕ) (ws : List (Option ℕ)) → IsLoan s.standing.tables s.memory s.published s.parties q name ws
     → thing_of new.standing.tables.things q name ≡ thing_of s.standing.tables.things q name

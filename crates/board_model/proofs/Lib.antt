@@ -9,3 +9,8 @@ pub mod OpeningLemmas
 pub mod RunningLemmas
 pub mod ReadLaws
 pub mod CreateLemmas
+pub mod StoreLemmas
+pub mod PublishLemmas
+pub mod StepLemmas
+pub mod BeginLemmas
+pub mod SoundLemmas

@@ -20,7 +20,7 @@ use Rattle.board_model.specs.LawfulSession.{State}
 use Rattle.board_model.specs.Sound.{AreBoards, BoardTables, HasBoard, HasEntry, IsEntryOf, IsFree, IsHolding, IsLending, IsLent, IsLoan, IsParty, IsWriting, Sound, is_suspended}
 use Rattle.board_model.proofs.ListLemmas.{count_none, count_push, find_kept, find_push_cases}
 use Rattle.board_model.proofs.ThingLemmas.{IsOfEntry, all_push, anew_entries, entries_kept, anew_boards, anew_count, anew_found, anew_found_elsewhere, anew_found_other, different_bytes, find_push_other, held_by_other, of_entry, same_to_itself}
-use Rattle.board_model.proofs.KeptLemmas.{IsQuietLine, KeepsThings, keeps_all, party_here, quiet_loan, quiet_same, quiet_sound}
+use Rattle.board_model.proofs.KeptLemmas.{IsQuietLine, KeepsThings, keeps_all, party_here, quiet_loan, quiet_party, quiet_same, quiet_sound}
 
 -- ---- maps by party and name
 
@@ -64,7 +64,7 @@ IsCalm s party = (n i : ℕ) → is_suspended (s.parties party) n i ≡ false
 abbrev pub with_values : State → List ℕ → Party → (List ℕ → List ℕ → Option Kept) → State
 with_values s party x values = record s { standing = record s.standing { values = values }; parties = with_party s.parties party x }
 
-pub valued_sound : (s : State) (party : List ℕ) (x : Party) (values : List ℕ → List ℕ → Option Kept) → Sound s → ((n i : ℕ) → is_suspended x n i ≡ false → is_suspended (s.parties party) n i ≡ false) → IsParty (with_values s party x values) party x → Sound (with_values s party x values)
+pub valued_sound : (s : State) (party : List ℕ) (x : Party) (values : List ℕ → List ℕ → Option Kept) → Sound s → ((n i : ℕ) → is_suspended x n i ≡ false → is_suspended (s.parties party) n i ≡ false) → IsParty s party x → Sound (with_values s party x values)
 valued_sound s party x values sound awake own = quiet_sound s (with_values s party x values) party x sound (record {
   quiet = record { words = λ n h. refl; lists = λ n i h. refl };
   parties = λ q. refl;
@@ -75,7 +75,7 @@ valued_sound s party x values sound awake own = quiet_sound s (with_values s par
   others = λ q ne. record { things = λ name. refl; loans = λ name. refl; boards = λ name y e. refl };
   mine = λ name ws e. quiet_loan s (with_values s party x values) sound (record { words = λ n h. refl; lists = λ n i h. refl }) party name ws (sound.things.loans party name ws e) refl (λ y f. refl)
       (λ n i a. awake n i (ap (λ (y : Party). is_suspended y n i) (sym (party_here s.parties party x)) ∙ a));
-  own = own;
+  own = quiet_party s (with_values s party x values) party (record { words = λ n h. refl; lists = λ n i h. refl }) (record { things = λ name. refl; loans = λ name. refl; boards = λ name y e. refl }) x own;
 })
 
 -- ---- a thing comes
@@ -191,7 +191,7 @@ same_shape t b i c e h f =
     let q : e ≡ h.entry = same_Some e h.entry (sym f ∙ h.found) in
     ap (λ (x : Entry). cell_shape x.cell) q ∙ sym h.shape
 
-none_some : (o : Option (List (Option ℕ))) (ws : List (Option ℕ)) → is_some o ≡ false → o ≡ Some ws → ⊥
+pub none_some : (o : Option (List (Option ℕ))) (ws : List (Option ℕ)) → is_some o ≡ false → o ≡ Some ws → ⊥
 none_some None ws e q = absurd cc
 none_some (Some x) ws e q = absurd cc
 
@@ -216,6 +216,20 @@ lend_sound s party l sound calm unheld h = renamed_sound s party l.handle l.loan
 no_loan : {X : Type 0} (ws : X) (o : Option X) → o ≡ None → o ≡ Some ws → ⊥
 no_loan ws o e q = absurd cc
 
+-- nothing is lent under the free name of a handle
+pub unlent_handle : (s : State) (party : List ℕ) (l : Lending) (ws : List (Option ℕ)) → Sound s → IsFree s.standing party l.handle → with_at s.standing.loans party l.loan None party l.handle ≡ Some ws → ⊥
+unlent_handle s party l ws sound unheld e = at (same_name l.handle l.loan)
+  where
+    at : (l.handle ≡ l.loan) ⊎ (l.handle ≡ l.loan → ⊥) → ⊥
+    at (inl q) = no_loan ws _ (ap (λ (n : List ℕ). with_at s.standing.loans party l.loan None party n) q ∙ at_here s.standing.loans party l.loan None) e
+    at (inr ne) =
+        let k = sound.things.loans party l.handle ws (sym (at_other_name s.standing.loans party l.loan l.handle None ne) ∙ e) in
+        no_loan k.thing _ unheld k.found
+
+-- nor under the name of the loan that ended
+pub ended_loan : (s : State) (party : List ℕ) (l : Lending) (ws : List (Option ℕ)) → with_at s.standing.loans party l.loan None party l.loan ≡ Some ws → ⊥
+ended_loan s party l ws e = no_loan ws _ (at_here s.standing.loans party l.loan None) e
+
 pub give_back_renames : (s : State) (party : List ℕ) (l : Lending) → Sound s → IsFree s.standing party l.handle → IsLending s party l l.loan true → IsRenaming s party l.loan l.handle l.board l.entry (with_at s.standing.loans party l.loan None)
 give_back_renames s party l sound unheld h = record {
   thing = h.hold.thing;
@@ -223,19 +237,12 @@ give_back_renames s party l sound unheld h = record {
   writes = h.hold.writes;
   free = unheld;
   others = λ q name ne. at_other_party s.standing.loans party l.loan q name None ne;
-  here = λ ws e x f. absurd (at_handle ws e (same_name l.handle l.loan));
+  here = λ ws e x f. absurd (unlent_handle s party l ws sound unheld e);
   elsewhere = λ name ws ne e. elsewhere name ws e (same_name name l.loan);
 }
   where
-    -- nothing is lent under the handle's name
-    at_handle : (ws : List (Option ℕ)) → with_at s.standing.loans party l.loan None party l.handle ≡ Some ws → (l.handle ≡ l.loan) ⊎ (l.handle ≡ l.loan → ⊥) → ⊥
-    at_handle ws e (inl q) = no_loan ws _ (ap (λ (n : List ℕ). with_at s.standing.loans party l.loan None party n) q ∙ at_here s.standing.loans party l.loan None) e
-    at_handle ws e (inr ne) =
-        let k = sound.things.loans party l.handle ws (sym (at_other_name s.standing.loans party l.loan l.handle None ne) ∙ e) in
-        no_loan k.thing _ unheld k.found
-
     elsewhere : (name : List ℕ) (ws : List (Option ℕ)) → with_at s.standing.loans party l.loan None party name ≡ Some ws → (name ≡ l.loan) ⊎ (name ≡ l.loan → ⊥) → (name ≡ l.loan → ⊥) × (s.standing.loans party name ≡ Some ws)
-    elsewhere name ws e (inl q) = absurd (no_loan ws _ (ap (λ (n : List ℕ). with_at s.standing.loans party l.loan None party n) q ∙ at_here s.standing.loans party l.loan None) e)
+    elsewhere name ws e (inl q) = absurd (ended_loan s party l ws (ap (λ (n : List ℕ). with_at s.standing.loans party l.loan None party n) (sym q) ∙ e))
     elsewhere name ws e (inr ne) = (ne, sym (at_other_name s.standing.loans party l.loan name None ne) ∙ e)
 
 pub give_back_sound : (s : State) (party : List ℕ) (l : Lending) → Sound s → IsCalm s party → IsFree s.standing party l.handle → IsLending s party l l.loan true
