@@ -4,3 +4,6 @@ pub mod GetLemmas
 pub mod OpeningLemmas
 pub mod RunningLemmas
 pub mod ReadLaws
+pub mod LineCases
+pub mod PassLemmas
+pub mod CountLaws

@@ -13,3 +13,4 @@ pub mod Parties
 pub mod LawfulSession
 pub mod Sound
 pub mod LawsOfReads
+pub mod LawsOfCounts

@@ -4,6 +4,7 @@
 mod access;
 mod answer;
 mod attributes;
+pub mod count_laws;
 mod errors;
 mod line;
 mod lists;
@@ -14,7 +15,10 @@ mod value;
 pub use access::Access;
 pub use answer::{Answer, Info, Reason, Reply};
 pub use attributes::{Attribute, AttributeKeys, Attributes, Requirements};
-pub use errors::{BlackboardCreateError, BlackboardOpenError, EntryHandleError, EntryHandleMutError, ReaderCreateError, WriterCreateError};
+pub use errors::{
+    BlackboardCreateError, BlackboardOpenError, EntryHandleError, EntryHandleMutError,
+    ReaderCreateError, WriterCreateError,
+};
 pub use line::{BoardName, Call, Line, Name};
 pub use lists::{AddedEntries, Entries, Keys, Names, Words};
 pub use tables::{Board, Entry, Kind, Limits, Thing, ThingKind};
