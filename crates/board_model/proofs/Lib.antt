@@ -7,3 +7,4 @@ pub mod ReadLaws
 pub mod LineCases
 pub mod PassLemmas
 pub mod CountLaws
+pub mod DrawLemmas

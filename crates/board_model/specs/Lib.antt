@@ -14,3 +14,4 @@ pub mod LawfulSession
 pub mod Sound
 pub mod LawsOfReads
 pub mod LawsOfCounts
+pub mod LawsOfBounds
