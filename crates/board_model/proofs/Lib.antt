@@ -8,3 +8,5 @@ pub mod LineCases
 pub mod PassLemmas
 pub mod CountLaws
 pub mod DrawLemmas
+pub mod BoundLaws
+pub mod NumberLemmas

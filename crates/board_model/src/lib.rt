@@ -4,6 +4,7 @@
 mod access;
 mod answer;
 mod attributes;
+pub mod bound_laws;
 pub mod count_laws;
 mod errors;
 mod line;
