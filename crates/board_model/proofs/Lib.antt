@@ -10,3 +10,4 @@ pub mod CountLaws
 pub mod DrawLemmas
 pub mod BoundLaws
 pub mod NumberLemmas
+pub mod AnswerLaws

@@ -15,3 +15,4 @@ pub mod Sound
 pub mod LawsOfReads
 pub mod LawsOfCounts
 pub mod LawsOfBounds
+pub mod LawsOfAnswers

@@ -3,6 +3,7 @@
 
 mod access;
 mod answer;
+pub mod answer_laws;
 mod attributes;
 pub mod bound_laws;
 pub mod count_laws;
