@@ -11,3 +11,4 @@ pub mod DrawLemmas
 pub mod BoundLaws
 pub mod NumberLemmas
 pub mod AnswerLaws
+pub mod GrowthLemmas

@@ -16,3 +16,4 @@ pub mod LawsOfReads
 pub mod LawsOfCounts
 pub mod LawsOfBounds
 pub mod LawsOfAnswers
+pub mod LawsOfSessions
