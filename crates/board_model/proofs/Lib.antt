@@ -12,3 +12,4 @@ pub mod BoundLaws
 pub mod NumberLemmas
 pub mod AnswerLaws
 pub mod GrowthLemmas
+pub mod SessionLaws
