@@ -14,3 +14,12 @@ pub mod PublishLemmas
 pub mod StepLemmas
 pub mod BeginLemmas
 pub mod SoundLemmas
+pub mod LineCases
+pub mod PassLemmas
+pub mod CountLaws
+pub mod DrawLemmas
+pub mod BoundLaws
+pub mod NumberLemmas
+pub mod AnswerLaws
+pub mod GrowthLemmas
+pub mod SessionLaws

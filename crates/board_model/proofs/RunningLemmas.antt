@@ -1,12 +1,12 @@
 -- What a running call has, and the access that it takes.
 use Rattle.std.proofs.Common.{◌≡◌, ℕ, List, [], ◌∷◌, ◌++◌, get_or, refl, sym, ap, subst, ◌∙◌, Some}
-use Rattle.std.specs.Prelude.{slice_get, ◌==◌, if◌then◌else◌, ◌+◌, ◌*◌, ◌%◌, length}
-use Rattle.std.proofs.lemmas.List.{get_or_from_slice_get}
+use Rattle.std.specs.Prelude.{slice_get, ◌==◌, if◌then◌else◌, ◌+◌, length}
+use Rattle.std.proofs.lemmas.Option.{get_or_from_slice_get}
 use Rattle.board_layout.specs.declared.shape.CellShape.{CellShape}
 use Rattle.board_model.specs.declared.access.Access.{Access}
 use Rattle.board_model.specs.declared.access.Access.TheVariants as access
 use Rattle.board_model.specs.Copies.{current_at}
-use Rattle.board_model.specs.OwedAccesses.{Owed, Reading, finished, heard, hear, opening, owed_of, owed_read, to_read, to_table, to_write, trying}
+use Rattle.board_model.specs.OwedAccesses.{Reading, finished, heard, hear, opening, owed_of, owed_read, to_read, to_table, to_write, trying}
 use Rattle.board_model.specs.Requests.{Fetch, Request, get}
 use Rattle.board_model.specs.Memory.{IsStanding}
 use Rattle.board_model.specs.Parties.{Party, Running, owed, reading, running}

@@ -5,7 +5,7 @@ use Rattle.board_model.specs.LawfulSession.{IsLawful, IsRight, Session, State, a
 use Rattle.board_model.specs.Sound.{Sound}
 
 pub record StaysSound : Type 0 where
-  pub start : Sound start
+  pub at_start : Sound start
   pub after : (s : State) (l : Line) (a : Answer) → IsRight s l a → Sound s → Sound (after s l a)
   -- so every lawful session leads to a sound state
   pub session : (pairs : Session) → IsLawful pairs → Sound (state_after start pairs)
