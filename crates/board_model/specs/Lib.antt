@@ -12,3 +12,9 @@ pub mod Memory
 pub mod Parties
 pub mod LawfulSession
 pub mod Sound
+pub mod LawsOfReads
+pub mod LawsOfCounts
+pub mod LawsOfBounds
+pub mod LawsOfAnswers
+pub mod LawsOfSessions
+pub mod LawOfSoundness
