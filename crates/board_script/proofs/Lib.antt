@@ -1,4 +1,5 @@
 pub mod Memories
+pub mod PartyRows
 pub mod Places
 pub mod Rows
 pub mod Slots

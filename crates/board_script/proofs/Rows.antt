@@ -101,6 +101,10 @@ module _ {X : Type 0} (q : X → Bool) (xs : List X) (k : ℕ) (d : X) (inside :
       ap (filter q) (split_at xs k d inside) ∙ filter_around q (take k xs) (get_or xs k d) (drop (suc k) xs)
       ∙ ap (λ (b : Bool). filter q (take k xs) ++ cond b (get_or xs k d ∷ filter q (drop (suc k) xs)) (filter q (drop (suc k) xs))) h
 
+  -- what passes at k is among what passes
+  pub some_at : q (get_or xs k d) ≡ true → filter q xs ≡ [] → ⊥
+  some_at h e = not_empty (filter q (take k xs)) (get_or xs k d) (filter q (drop (suc k) xs)) (sym (passing h) ∙ e)
+
   -- the one that passes stands at k
   pub only_at : (y : X) → q (get_or xs k d) ≡ true → filter q xs ≡ y ∷ [] → IsAlone (filter q (take k xs)) (get_or xs k d) (filter q (drop (suc k) xs)) y
   only_at y h e = alone (filter q (take k xs)) (get_or xs k d) (filter q (drop (suc k) xs)) y (sym (passing h) ∙ e)
