@@ -3,3 +3,4 @@ pub mod PartyRows
 pub mod Places
 pub mod Rows
 pub mod Slots
+pub mod UpdateSteps
