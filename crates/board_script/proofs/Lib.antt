@@ -3,4 +3,5 @@ pub mod PartyRows
 pub mod Places
 pub mod Rows
 pub mod Slots
+pub mod TableSteps
 pub mod UpdateSteps
