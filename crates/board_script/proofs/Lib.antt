@@ -3,5 +3,6 @@ pub mod PartyRows
 pub mod Places
 pub mod Rows
 pub mod Slots
+pub mod StepRefusals
 pub mod TableSteps
 pub mod UpdateSteps

@@ -61,6 +61,13 @@ module _ (rows : List PartyRow) (parties : List ℕ → Party) (are : AreParties
   pub runs_at : (place : ℕ) (row : PartyRow) → Some place ≡ position_from (is_row_of party) 0 rows → row ≡ get_or rows place row → RunsAt rows parties party place row
   runs_at place row p e = runs_in place row e (first_at (is_row_of party) place rows p) (parties party) refl (are party)
 
+-- one row stands at a place
+pub same_row : (rows : List PartyRow) (parties : List ℕ → Party) (party : List ℕ) (place : ℕ) (x y : PartyRow) → RunsAt rows parties party place x → RunsAt rows parties party place y → x ≡ y
+same_row rows parties party place x y a b = first_same x y (sym a.only ∙ b.only)
+  where
+    first_same : (x y : PartyRow) → x ∷ [] ≡ y ∷ [] → x ≡ y
+    first_same x y e = cc
+
 -- ---- changes
 
 -- what a party notices changes no row

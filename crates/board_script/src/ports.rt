@@ -1,5 +1,6 @@
 //! Writers and write handles.
 ghost use Rattle.std.specs.Prelude.{◌≡◌, ◌+◌, ◌^◌, ◌<◌, IfOk};
+ghost use Rattle.board_model.specs.AnswerGrammar.{IsReply};
 ghost use Rattle.board_model.specs.Tables as tables;
 ghost use Rattle.board_script.specs.TableCalls.{IsWriter, IsEntryMut};
 
@@ -27,7 +28,8 @@ impl Machine {
     /// Makes a writer, at a factory.
     pub(crate) fn make_writer(&mut self, name: Name, factory: &Held) -> Result<Reply, AllocError>
         requires { self.old.last_port + 1 < 2 ^ 64 }
-        ensures { IfOk result (IsWriter self.old self.new name factory.now) }
+        ensures told { IfOk result (IsWriter self.old self.new name factory.now) }
+        ensures is_reply { IfOk result IsReply }
     {
         if has_writer(factory.board, &self.things) {
             return Ok(Reply::WriterError(WriterCreateError::ExceedsMaxSupportedWriters));
@@ -51,7 +53,8 @@ impl Machine {
         key: &Key,
         value_type: ValueType,
     ) -> Result<Reply, AllocError>
-        ensures { IfOk result (IsEntryMut self.old self.new name writer.now key.now value_type) }
+        ensures told { IfOk result (IsEntryMut self.old self.new name writer.now key.now value_type) }
+        ensures is_reply { IfOk result IsReply }
     {
         let Some((entry, found)) = find_entry(writer.board, key, &value_detail(value_type), &self.boards) else {
             return Ok(Reply::EntryMutError(EntryHandleMutError::EntryDoesNotExist));

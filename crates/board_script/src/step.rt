@@ -1,6 +1,7 @@
 //! Lines `step P`.
 ghost use Rattle.std.specs.Prelude.{◌≡◌, ◌+◌, ◌<◌, ◌≤◌, ◌^◌, ◌==◌, IfOk, length, slice_set, slice_index_or};
 ghost use Rattle.std.specs.List.{remove};
+ghost use Rattle.board_model.specs.AnswerGrammar.{IsReply};
 ghost use Rattle.board_model.specs.declared.line.Line.TheVariants as line;
 ghost use Rattle.board_script.specs.Machine.{IsLed, Serves};
 ghost use Rattle.board_script.specs.Steps.{CanGoOn, CanRun, HasCounter, HasWord, IsCounter, IsOwedBy, IsStored, IsTold, ticked};
@@ -83,7 +84,8 @@ impl Machine {
     // The one step of a call on the tables.
     fn run_table(&mut self, party: Name, task: Task) -> Result<Reply, AllocError>
         requires { CanRun self.old task }
-        ensures { IfOk result (IsTold self.old self.new party task) }
+        ensures told { IfOk result (IsTold self.old self.new party task) }
+        ensures is_reply { IfOk result IsReply }
     {
         match task {
             Task::Create {
