@@ -6,3 +6,4 @@ pub mod Slots
 pub mod StepRefusals
 pub mod TableSteps
 pub mod UpdateSteps
+pub mod CallChecks

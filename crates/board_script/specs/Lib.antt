@@ -1,3 +1,4 @@
+pub mod Begins
 pub mod Counts
 pub mod Create
 pub mod Machine

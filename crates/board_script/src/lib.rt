@@ -1,6 +1,7 @@
 //! The machine that runs the lines of a script, and the program's top call.
 #![tactic(auto)]
 
+mod begin;
 mod counts;
 mod create;
 mod lookups;

@@ -8,7 +8,7 @@ use crate::counts::{has_write_handle, has_writer};
 use crate::lookups::find_entry;
 use crate::machine::{Held, Machine};
 use crate::values::value_detail;
-use board_model::{EntryHandleMutError, Key, Kind, Name, Reply, Thing, ValueType, WriterCreateError};
+use board_model::{Entry, EntryHandleMutError, Key, Kind, Name, Reply, Thing, ValueType, WriterCreateError};
 use std::alloc::AllocError;
 
 /// The port of a writer of a factory's board, or of the handles made from it.
@@ -22,6 +22,13 @@ fn port_of(kind: &Kind) -> u64
         Kind::ReadHandle { entry: _ } => 0,
         Kind::WriteHandle { entry: _, port } => *port,
     }
+}
+
+/// The byte at which the cell of an entry begins.
+fn entry_id(entry: &Entry) -> u64
+    ensures { result ≡ entry.now.cell.place }
+{
+    entry.cell.place
 }
 
 impl Machine {
@@ -62,7 +69,7 @@ impl Machine {
         if has_write_handle(writer.board, entry, &self.things) {
             return Ok(Reply::EntryMutError(EntryHandleMutError::HandleAlreadyExists));
         }
-        let place = found.cell.place;
+        let id = entry_id(found);
         self.things.push(Thing {
             holder: writer.holder,
             name,
@@ -72,6 +79,6 @@ impl Machine {
                 port: port_of(&writer.kind),
             },
         })?;
-        Ok(Reply::Number(place))
+        Ok(Reply::Number(id))
     }
 }

@@ -1,5 +1,6 @@
 use Rattle.std.proofs.Common.{◌≡◌, ℕ, ◌<◌, ◌^◌, List, length, get_or, rules, arith, refl, sym, ap, subst, ◌∙◌, Option, Some, None}
 use Rattle.std.specs.List.{position_from}
+use Rattle.board_script.specs.declared.machine.Machine.{Machine}
 use Rattle.board_script.specs.declared.machine.PartyRow.{PartyRow}
 use Rattle.board_script.specs.declared.machine.Task.{Task}
 use Rattle.board_script.specs.declared.step.OwedWrite.{OwedWrite}
@@ -113,7 +114,8 @@ pub returns-in_ok-told-in-None : goal.returns-in_ok-told-in-None
 returns-in_ok-told-in-None c =
     let place : a_place c.in-Some.at ≡ position_from (is_row_of c.args.party.now) 0 c.args.self.now.parties.items = search rules in
     let y = c.remove-name.result in
+    let mid : Machine = record c.args.self.now { parties = c.remove-name.new.self } in
     λ s rep sound l.
     let at = runs_at c.args.self.now.parties.items s.parties rep.parties c.args.party.now c.in-Some.at y place c.remove-name.ensures.value in
-    let told = subst (λ (p : List ℕ). IsTold _ c.run_table.new.self p y.task c.in_ok-told-in-None.told) at.name c.in_ok-told-in-None.ensures.told in
-    task_right c.args.self.now s rep sound c.args.party.now c.in-Some.at y at _ c.run_table.new.self refl refl c.remove-name.ensures.items y.task c.in_ok-told-in-None.told at.task told c.in_ok-told-in-None.ensures.is_reply l
+    let told = subst (λ (p : List ℕ). IsTold mid c.run_table.new.self p y.task c.in_ok-told-in-None.told) at.name c.in_ok-told-in-None.ensures.told in
+    task_right c.args.self.now s rep sound c.args.party.now c.in-Some.at y at mid c.run_table.new.self refl refl c.remove-name.ensures.items y.task c.in_ok-told-in-None.told at.task told c.in_ok-told-in-None.ensures.is_reply l
