@@ -1,6 +1,6 @@
 -- The rows of the parties, and the parties that they stand for.
 use Rattle.std.proofs.Common.{◌≡◌, ℕ, zero, suc, ◌+◌, ◌-◌, ◌<◌, ◌≤◌, Bool, true, false, cond, List, [], ◌∷◌, ◌++◌, length, get_or, set, take, drop, map, arith, rules, refl, sym, ap, subst, ◌∙◌, Option, Some, None}
-use Rattle.std.specs.Prelude.{not, ◌&&◌, ◌==◌}
+use Rattle.std.specs.Prelude.{not, ◌&&◌, ◌==◌, is_some}
 use Rattle.std.specs.Str.{bytes_eq}
 use Rattle.std.proofs.lemmas.List.{append-nil}
 use Rattle.std.specs.List.{filter, position_from, remove}
@@ -14,7 +14,7 @@ use Rattle.board_model.proofs.ThingLemmas.{same_to_itself}
 use Rattle.board_script.specs.declared.machine.PartyRow.{PartyRow}
 use Rattle.board_script.specs.declared.machine.Task.{Task}
 use Rattle.board_script.specs.Machine.{AreRowsOf, IsRowOf, IsTaskOf, is_row_of}
-use Rattle.board_script.proofs.Rows.{IsFirst, filter-remove_only, filter-remove_other, filter-set_only, filter-set_other, first_at, none_passes, only_at, some_at}
+use Rattle.board_script.proofs.Rows.{IsFirst, filter-remove_only, filter-remove_other, filter-set_only, filter-set_other, first_at, none_passes, only_at, passes_none, some_at}
 
 -- the rows are those of the parties
 abbrev pub AreParties : List PartyRow → (List ℕ → Party) → Type 0
@@ -41,6 +41,28 @@ module _ (rows : List PartyRow) (parties : List ℕ → Party) (are : AreParties
   is_free e = no_row (parties party) (subst (λ (xs : List PartyRow). AreRowsOf xs (parties party)) (none_passes (is_row_of party) rows e) (are party))
 
   -- a party with a row runs the row's call
+  busy_in : (x : Party) → parties party ≡ x → AreRowsOf (filter (is_row_of party) rows) x → is_some (position_from (is_row_of party) 0 rows) ≡ true → (r : Running) × (parties party ≡ running r)
+  busy_in free h t e =
+      let none : position_from (is_row_of party) 0 rows ≡ None = passes_none (is_row_of party) 0 rows t in
+      absurd (some_none (position_from (is_row_of party) 0 rows) e none)
+    where
+      some_none : (o : Option ℕ) → is_some o ≡ true → o ≡ None → ⊥
+      some_none None e n = absurd cc
+      some_none (Some k) e n = absurd cc
+  busy_in (running r) h t e = (r, h)
+  busy_in gone h t e = absurd t
+
+  -- a party with a row runs
+  pub is_busy : is_some (position_from (is_row_of party) 0 rows) ≡ true → (r : Running) × (parties party ≡ running r)
+  is_busy e = busy_in (parties party) refl (are party) e
+
+  none_of : (o : Option ℕ) → is_some o ≡ false → None ≡ o
+  none_of None e = refl
+  none_of (Some k) e = absurd cc
+
+  pub is_idle : is_some (position_from (is_row_of party) 0 rows) ≡ false → parties party ≡ free
+  is_idle e = is_free (none_of (position_from (is_row_of party) 0 rows) e)
+
   runs_in : (place : ℕ) (row : PartyRow) → row ≡ get_or rows place row → IsFirst (is_row_of party) rows place → (x : Party) → parties party ≡ x → AreRowsOf (filter (is_row_of party) rows) x
       → RunsAt rows parties party place row
   runs_in place row e first free h t = absurd (some_at (is_row_of party) rows place row first.inside (first.passes row) t)

@@ -46,6 +46,15 @@ none_from {X = X} p i (x ∷ xs) e =
 pub none_passes : {X : Type 0} (p : X → Bool) (xs : List X) → None ≡ position_from p 0 xs → filter p xs ≡ []
 none_passes p xs e = none_from p 0 xs (sym e)
 
+-- and nothing is found where nothing passes
+pub passes_none : {X : Type 0} (p : X → Bool) (i : ℕ) (xs : List X) → filter p xs ≡ [] → position_from p i xs ≡ None
+passes_none p i [] e = refl
+passes_none {X = X} p i (x ∷ xs) e = split (p x) (passes_none p (i + 1) xs) e
+  where
+    split : (b : Bool) → (filter p xs ≡ [] → position_from p (i + 1) xs ≡ None) → cond b (x ∷ filter p xs) (filter p xs) ≡ [] → cond b (Some i) (position_from p (i + 1) xs) ≡ None
+    split true more e = absurd cc
+    split false more e = more e
+
 -- what is found stands somewhere
 pub found_somewhere : {X : Type 0} (p : X → Bool) (i : ℕ) (xs : List X) (x : X) → find p xs ≡ Some x → (k : ℕ) × (position_from p i xs ≡ Some k)
 found_somewhere p i [] x e = absurd cc
