@@ -1,0 +1,3 @@
+pub mod GrammarLemmasNumbers
+pub mod GrammarLemmasSplits
+pub mod GrammarLemmasTokens

@@ -3,3 +3,4 @@ pub mod OwedAccesses
 pub mod TypeTable
 pub mod LineGrammar
 pub mod AnswerGrammar
+pub mod LineReading
