@@ -1,3 +1,5 @@
 pub mod GrammarLemmasNumbers
 pub mod GrammarLemmasSplits
 pub mod GrammarLemmasTokens
+pub mod GrammarLemmasCalls
+pub mod GrammarLemmasLines
