@@ -3,3 +3,4 @@ pub mod GrammarLemmasSplits
 pub mod GrammarLemmasTokens
 pub mod GrammarLemmasCalls
 pub mod GrammarLemmasLines
+pub mod GrammarLemmasSpaces
