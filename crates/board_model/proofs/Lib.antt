@@ -4,3 +4,4 @@ pub mod GrammarLemmasTokens
 pub mod GrammarLemmasCalls
 pub mod GrammarLemmasLines
 pub mod GrammarLemmasSpaces
+pub mod GrammarLemmasAnswers

@@ -4,3 +4,14 @@ pub mod TypeTable
 pub mod LineGrammar
 pub mod AnswerGrammar
 pub mod LineReading
+pub mod Tables
+pub mod TableCalls
+pub mod Things
+pub mod Requests
+pub mod Replies
+pub mod Memory
+pub mod Parties
+pub mod LawfulSession
+pub mod Sound
+pub mod Lines
+pub mod GrammarLaws
