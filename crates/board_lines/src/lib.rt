@@ -1,0 +1,6 @@
+//! The lines of a script: reading them from a source, parsing them, writing their answers, and running them one after another.
+#![tactic(auto)]
+
+mod atoms;
+mod bytes;
+mod tokens;
