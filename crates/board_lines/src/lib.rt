@@ -3,4 +3,9 @@
 
 mod atoms;
 mod bytes;
+mod calls;
+mod parse;
 mod tokens;
+mod values;
+
+pub use parse::parse_line;
