@@ -1,3 +1,4 @@
 pub mod TokenLemmas
 pub mod Digits
 pub mod EntryLemmas
+pub mod ReplyLemmas

@@ -1,11 +1,15 @@
 //! The lines of a script: reading them from a source, parsing them, writing their answers, and running them one after another.
 #![tactic(auto)]
 
+mod answers;
 mod atoms;
 mod bytes;
 mod calls;
+mod names;
 mod parse;
+mod replies;
 mod tokens;
 mod values;
 
+pub use answers::{push_answer, push_begun, push_gone, push_refused, push_step, push_words};
 pub use parse::parse_line;
