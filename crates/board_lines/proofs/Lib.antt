@@ -2,3 +2,4 @@ pub mod TokenLemmas
 pub mod Digits
 pub mod EntryLemmas
 pub mod ReplyLemmas
+pub mod Pieces

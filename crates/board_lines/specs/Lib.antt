@@ -1,2 +1,4 @@
 pub mod Tokens
 pub mod Texts
+pub mod Streams
+pub mod Memory
