@@ -3,3 +3,5 @@ pub mod Digits
 pub mod EntryLemmas
 pub mod ReplyLemmas
 pub mod Pieces
+pub mod HandLemmas
+pub mod LineLemmas

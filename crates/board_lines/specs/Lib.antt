@@ -2,3 +2,4 @@ pub mod Tokens
 pub mod Texts
 pub mod Streams
 pub mod Memory
+pub mod Reader

@@ -15,3 +15,10 @@ pub mod LawfulSession
 pub mod Sound
 pub mod Lines
 pub mod GrammarLaws
+pub mod LawsOfReads
+pub mod LawsOfCounts
+pub mod LawsOfBounds
+pub mod LawsOfAnswers
+pub mod LawsOfSessions
+pub mod LawOfSoundness
+pub mod Script
