@@ -5,3 +5,4 @@ pub mod ReplyLemmas
 pub mod Pieces
 pub mod HandLemmas
 pub mod LineLemmas
+pub mod RunLemmas

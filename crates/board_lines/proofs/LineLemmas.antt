@@ -93,6 +93,25 @@ none_left (Some bs) None hand k e z = absurd k
 none_left (Some bs) (Some ys) [] k e z = sym k ∙ e
 none_left (Some bs) (Some ys) (x ∷ hand) k e z = absurd (omega arith)
 
+-- ---- bytes have a line
+
+more_than_one : (p : List ℕ) (ps : List (List ℕ)) → 0 < length ps → 0 < length (whole_parts (p ∷ ps))
+more_than_one p [] lt = absurd (omega arith)
+more_than_one p (q ∷ qs) lt = omega arith
+
+first_not_empty : (b : ℕ) (parts : List (List ℕ)) → 0 < length parts → 0 < length (whole_parts (onto_first b parts))
+first_not_empty b [] lt = absurd (omega arith)
+first_not_empty b (p ∷ []) lt = rw (not_empty (b ∷ p) (omega arith)) (omega arith)
+first_not_empty b (p ∷ q ∷ qs) lt = omega arith
+
+either_way : (b : ℕ) (bs : List ℕ) (v : Bool) → 0 < length (whole_parts (cond v ([] ∷ slice_split is_newline bs) (onto_first b (slice_split is_newline bs))))
+either_way b bs true = more_than_one [] (slice_split is_newline bs) (part_of bs)
+either_way b bs false = first_not_empty b (slice_split is_newline bs) (part_of bs)
+
+pub some_lines : (bs : List ℕ) → 0 < length bs → 0 < length (lines_of bs)
+some_lines [] lt = absurd (omega arith)
+some_lines (b ∷ bs) lt = either_way b bs (is_newline b)
+
 -- ---- as a reader gives them out
 
 -- the bytes before a newline are the line, and the rest stands behind it

@@ -103,6 +103,7 @@ impl LineReader {
         ensures front { take (length (in_hand self.old)) (in_hand self.new) ≡ in_hand self.old }
         ensures grew { OnOk result (has_ended self.new ≡ false → length (in_hand self.old) < length (in_hand self.new)) }
         ensures same { IsTrue (has_ended self.new) → in_hand self.new ≡ in_hand self.old }
+        ensures failed { OnErr result (in_hand self.new ≡ in_hand self.old) }
         ensures ended { IsTrue (has_ended self.new) → IsAtEnd (S.left source.new) }
         ensures cause { HasCause (S.faults source.old) (S.faults source.new) result }
     {
