@@ -6,3 +6,4 @@ pub mod Pieces
 pub mod HandLemmas
 pub mod LineLemmas
 pub mod RunLemmas
+pub mod CompleteLemmas

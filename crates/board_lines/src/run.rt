@@ -1,7 +1,8 @@
 //! Lines that are run one after another.
-ghost use Rattle.std.specs.Prelude.{◌≡◌, ◌≤◌, ◌^◌, [], IfErr, IsErrOf, List, OnErr, OnOk};
+ghost use Rattle.std.specs.Prelude.{◌≡◌, ◌≤◌, ◌^◌, [], IfErr, IsErrOf, IsSomeAnd, List, OnErr, OnOk};
 ghost use Rattle.std.specs.Io.KnownBytes.{IsAtEnd};
 ghost use Rattle.board_model.specs.Lines.{Rose};
+ghost use Rattle.board_model.specs.Script.{IsScript};
 ghost use Rattle.board_model.specs.LawfulSession.{Session, State, start};
 ghost use Rattle.board_lines.specs.Runs.{HasAnswered, IsRunOf, IsStopped, SpellsNone, StandsFor};
 
@@ -45,6 +46,9 @@ pub fn run_lines<M: RunsLines, S: Source, K: Sink>(alloc: Global, limit: u64, ma
 
     // Each error comes where `IsStopped` says, and leaves what it says.
     ensures err { IfErr result (λ e. IsStopped e limit (S.left source.old) (S.left source.new) (K.held sink.old) (K.held sink.new)) }
+
+    // A known script of lines of the grammar, at most `limit`, is run to its end where nothing fails.
+    ensures complete { IsSomeAnd (S.left source.old) (IsScript limit) → ¬ Rose (S.faults source.old) (S.faults source.new) → ¬ Rose (K.faults sink.old) (K.faults sink.new) → IfErr result (λ e. e ≡ ScriptError.OutOfMemory) }
 
     // The faults are those of the source and of the sink.
     ensures read { IsErrOf result ScriptError.ReadFault → Rose (S.faults source.old) (S.faults source.new) }

@@ -1,5 +1,7 @@
 use Rattle.std.proofs.Common.{◌≡◌, ◌≤◌, ◌<◌, ℕ, List, refl, sym, subst, rules, arith}
+use Rattle.board_lines.specs.Reader.{line_given}
 use Rattle.board_lines.specs.Runs.{HasAnswered, SpellsNone, StandsFor}
+use Rattle.board_lines.proofs.CompleteLemmas.{not_bad, not_past}
 use Rattle.board_lines.proofs.RunLemmas.{bad_at, goes_on, is_past, is_spent, long_at, spent_at_once, stands_for, write_cut}
 use Rattle.board_lines.proofs.run.run_lines.Goals as goal
 
@@ -15,7 +17,7 @@ pub returns-in-Err-Bad-clause-err : goal.returns-in-Err-Bad-clause-err
 returns-in-Err-Bad-clause-err g c =
     let f = rw c.in-Ok-Line.field-0-is at c.in-Ok-Line.ensures.fetched in
     let none : SpellsNone c.line.result.now = c.in-Err-Bad.ensures.bad (cc c.in-Err-Bad.field-0-is) in
-    bad_at _ _ _ _ _ _ _ _ _ _ c.loop-n.invariant.run c.loop-n-test.true f (subst SpellsNone c.line.ensures none)
+    bad_at _ _ _ _ _ _ _ _ _ (line_given c.next.new.self) c.loop-n.invariant.run c.loop-n-test.true f (subst SpellsNone c.line.ensures none)
 
 pub returns-in-Err-OutOfMemory-clause-err : goal.returns-in-Err-OutOfMemory-clause-err
 returns-in-Err-OutOfMemory-clause-err g c = is_spent _ _ _ _ _ _ _ c.loop-n.invariant.run
@@ -45,3 +47,12 @@ loop-n-preserved g c =
 pub returns-clause-err : goal.returns-clause-err
 returns-clause-err g c =
     is_past _ _ _ _ _ _ _ _ c.loop-n.invariant.run (omega arith) (c.in-Ok-false.ensures.more c.in-Ok-false.field-0-test)
+
+pub returns-in-Ok-Long-clause-complete : goal.returns-in-Ok-Long-clause-complete
+returns-in-Ok-Long-clause-complete g c = λ script read write. absurd (not_bad _ _ _ _ _ (returns-in-Ok-Long-clause-err g c) script)
+
+pub returns-in-Err-Bad-clause-complete : goal.returns-in-Err-Bad-clause-complete
+returns-in-Err-Bad-clause-complete g c = λ script read write. absurd (not_bad _ _ _ _ _ (returns-in-Err-Bad-clause-err g c) script)
+
+pub returns-clause-complete : goal.returns-clause-complete
+returns-clause-complete g c = λ script read write. absurd (not_past _ _ _ _ (returns-clause-err g c) script)
