@@ -30,3 +30,4 @@ pub mod NumberLemmas
 pub mod AnswerLaws
 pub mod GrowthLemmas
 pub mod SessionLaws
+pub mod ScriptLemmas

@@ -22,3 +22,4 @@ pub mod LawsOfAnswers
 pub mod LawsOfSessions
 pub mod LawOfSoundness
 pub mod Script
+pub mod LawsOfScripts

@@ -12,6 +12,7 @@ pub mod grammar_laws;
 mod line;
 mod lists;
 pub mod read_laws;
+pub mod script_laws;
 pub mod sound_law;
 mod tables;
 mod value;
