@@ -124,9 +124,9 @@ some_request t (Some q) h = (q, refl, h)
 
 pub begin_begun : (m new : Machine) (s : State) (rep : Represents m s) (party : List ℕ) (c : Call) (t : Task) → s.parties party ≡ free
     → IsChecked (call_reason s.standing party c (request_of s.standing s.published party c)) (request_of s.standing s.published party c) (checked.Accepted t)
-    → tables_of new ≡ tables_of m → new.words.items ≡ m.words.items → new.parties.items ≡ m.parties.items ++ record { name = party; task = t } ∷ []
+    → tables_of new ≡ tables_of m → new.words.items ≡ m.words.items → new.spent ≡ m.spent → new.parties.items ≡ m.parties.items ++ record { name = party; task = t } ∷ []
     → IsLine (line.Begin party c) → IsRight s (line.Begin party c) answer.Begun × Represents new (after s (line.Begin party c) answer.Begun)
-begin_begun m new s rep party c t e h tables words parties l =
+begin_begun m new s rep party c t e h tables words spent parties l =
     let r : free_reason (s.parties party) (call_reason s.standing party c (request_of s.standing s.published party c)) ≡ None = rw e h.0 in
     let q = some_request t (request_of s.standing s.published party c) h.1 in (
       record {
@@ -138,6 +138,7 @@ begin_begun m new s rep party c t e h tables words parties l =
         reply = λ _. tt;
       },
       record {
+        alive = spent ∙ rep.alive;
         tables = rep.tables ∙ sym tables;
         words = words ∙ rep.words ∙ ap (λ x. words_of s.memory x.boards) (sym tables);
         parties = subst (λ (o : Option Request). (p : List ℕ) → AreRowsOf (filter (is_row_of p) new.parties.items) (with_party s.parties party (begun o) p)) (sym q.1)

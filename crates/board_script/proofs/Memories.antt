@@ -8,7 +8,6 @@ use Rattle.board_model.specs.declared.tables.Board.{Board}
 use Rattle.board_model.specs.Memory.{store, with_board}
 use Rattle.board_model.specs.Tables.{is_numbered}
 use Rattle.board_script.specs.Machine.{words_of}
-use Rattle.board_script.proofs.Rows.{IsFirst, first_at}
 
 chosen : {A : Type 0} (b : Bool) (x y z : A) → cond b x y ≡ z → ((b ≡ true) × (x ≡ z)) ⊎ ((b ≡ false) × (y ≡ z))
 chosen true x y z e = inl (refl, e)
@@ -66,13 +65,17 @@ module _ (f g : ℕ → List ℕ) (n : ℕ) (same : (m : ℕ) → (m == n) ≡ f
       let q : s.0 ≡ k = omega (arith, s.1) in
       s.2 ∙ ap (λ (at : ℕ). set (words_of f bs) at new) q
 
-get_or-words : (f : ℕ → List ℕ) (bs : List Board) (k : ℕ) (d : List ℕ) (b : Board) → k < length bs → get_or (words_of f bs) k d ≡ f (get_or bs k b).number
-get_or-words f [] k d b h = absurd (omega arith)
-get_or-words f (x ∷ bs) zero d b h = refl
-get_or-words f (x ∷ bs) (suc k) d b h = get_or-words f bs k d b (omega (arith, h))
+words_from : (f : ℕ → List ℕ) (n : ℕ) (bs : List Board) (i k : ℕ) (d : List ℕ) → position_from (is_numbered n) i bs ≡ Some k → (at : ℕ) × (k ≡ i + at) × (get_or (words_of f bs) at d ≡ f n)
+words_from f n [] i k d p = absurd cc
+words_from f n (b ∷ bs) i k d p =
+    elim (chosen (b.number == n) (Some i) (position_from (is_numbered n) (i + 1) bs) (Some k) p) [
+      | inl h ↦ (0, (let q : a_number i ≡ a_number k = h.1 in let ik : i ≡ k = cc in omega (arith, ik)), ap f (eqb-true b.number n h.0))
+      | inr h ↦ let more = words_from f n bs (i + 1) k d h.1 in (suc more.0, omega (arith, more.1), more.2)
+    ]
 
 -- the words at the place of a board
-pub words_at : (f : ℕ → List ℕ) (n : ℕ) (bs : List Board) (k : ℕ) (d : List ℕ) (b : Board) → Some k ≡ position_from (is_numbered n) 0 bs → get_or (words_of f bs) k d ≡ f n
-words_at f n bs k d b p =
-    let h = first_at (is_numbered n) k bs p in
-    get_or-words f bs k d b h.inside ∙ ap f (eqb-true (get_or bs k b).number n (h.passes b))
+pub words_at : (f : ℕ → List ℕ) (n : ℕ) (bs : List Board) (k : ℕ) (d : List ℕ) → Some k ≡ position_from (is_numbered n) 0 bs → get_or (words_of f bs) k d ≡ f n
+words_at f n bs k d p =
+    let w = words_from f n bs 0 k d (sym p) in
+    let q : w.0 ≡ k = omega (arith, w.1) in
+    ap (λ (at : ℕ). get_or (words_of f bs) at d) (sym q) ∙ w.2

@@ -1,6 +1,6 @@
 -- What passes a test in a list, where one place of the list changes or goes.
 use Rattle.std.proofs.Common.{◌≡◌, ℕ, zero, suc, ◌+◌, ◌-◌, ◌<◌, ◌≤◌, Bool, true, false, cond, List, [], ◌∷◌, ◌++◌, length, get_or, set, take, drop, map, arith, rules, refl, sym, ap, subst, ◌∙◌, Option, Some, None, ◌⊎◌, inl, inr, length-append}
-use Rattle.std.specs.Prelude.{find}
+use Rattle.std.specs.Prelude.{find, is_some}
 use Rattle.std.specs.List.{filter, position_from, remove}
 use Rattle.std.proofs.lemmas.List.Elements.{filter-append}
 
@@ -54,6 +54,24 @@ passes_none {X = X} p i (x ∷ xs) e = split (p x) (passes_none p (i + 1) xs) e
     split : (b : Bool) → (filter p xs ≡ [] → position_from p (i + 1) xs ≡ None) → cond b (x ∷ filter p xs) (filter p xs) ≡ [] → cond b (Some i) (position_from p (i + 1) xs) ≡ None
     split true more e = absurd cc
     split false more e = more e
+
+-- what stands somewhere is found
+pub place_found : {X : Type 0} (p : X → Bool) (i k : ℕ) (xs : List X) → position_from p i xs ≡ Some k → is_some (find p xs) ≡ true
+place_found p i k [] e = absurd cc
+place_found p i k (x ∷ xs) e =
+    elim (chosen (p x) (Some i) (position_from p (i + 1) xs) (Some k) e) [
+      | inl h ↦ rw h.0 refl
+      | inr h ↦ rw h.0 (place_found p (i + 1) k xs h.1)
+    ]
+
+-- what stands nowhere isn't
+pub place_missing : {X : Type 0} (p : X → Bool) (i : ℕ) (xs : List X) → position_from p i xs ≡ None → is_some (find p xs) ≡ false
+place_missing p i [] e = refl
+place_missing p i (x ∷ xs) e =
+    elim (chosen (p x) (Some i) (position_from p (i + 1) xs) None e) [
+      | inl h ↦ absurd (let s : a_number i ≡ None = h.1 in cc)
+      | inr h ↦ rw h.0 (place_missing p (i + 1) xs h.1)
+    ]
 
 -- what is found stands somewhere
 pub found_somewhere : {X : Type 0} (p : X → Bool) (i : ℕ) (xs : List X) (x : X) → find p xs ≡ Some x → (k : ℕ) × (position_from p i xs ≡ Some k)

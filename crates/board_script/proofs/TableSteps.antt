@@ -98,6 +98,7 @@ module _ (m : Machine) (s : State) (rep : Represents m s) (sound : Sound s) (par
     pub values : (p n : List ℕ) → (ask_tables s.standing s.published party c).standing.values p n ≡ None
     pub words : new.words.items ≡ words_of (memory_after s.memory (table c) told) new.boards.items
     pub parties : new.parties.items ≡ remove m.parties.items place
+    pub alive : new.spent ≡ false
 
   pub table_right : (new : Machine) (c : TableCall) (told : Reply) → at.r.request ≡ table c → IsServed new c told → IsLine (line.Step party)
       → IsRight s (line.Step party) (answer.Step access.Table (Some told)) × Represents new (after s (line.Step party) (answer.Step access.Table (Some told)))
@@ -115,6 +116,7 @@ module _ (m : Machine) (s : State) (rep : Represents m s) (sound : Sound s) (par
           reply = λ _. rw runs_call (record { last = sym done; reply = h.told_is });
         },
         rw runs_call (record {
+          alive = h.alive;
           tables = h.tables;
           words = h.words;
           parties = subst (λ (xs : List PartyRow). (p : List ℕ) → AreRowsOf (filter (is_row_of p) xs) (with_party (λ q. notice access.Table (s.parties q)) party free p))
@@ -130,7 +132,7 @@ module _ (m : Machine) (s : State) (rep : Represents m s) (sound : Sound s) (par
 
   -- ---- one call after another
 
-  module _ (mid new : Machine) (same : tables_of mid ≡ tables_of m) (same_list : mid.words.items ≡ m.words.items) (rows : mid.parties.items ≡ remove m.parties.items place) where
+  module _ (mid new : Machine) (same : tables_of mid ≡ tables_of m) (same_list : mid.words.items ≡ m.words.items) (rows : mid.parties.items ≡ remove m.parties.items place) (alive : mid.spent ≡ false) where
     tables_are : s.standing.tables ≡ tables_of mid
     tables_are = rep.tables ∙ sym same
 
@@ -151,6 +153,7 @@ module _ (m : Machine) (s : State) (rep : Represents m s) (sound : Sound s) (par
       values = rep.values;
       words = kept_words (ap (λ t. t.boards) h.tables ∙ kept_boards _ _ _ _ refl) h.words;
       parties = h.parties ∙ rows;
+      alive = h.spent ∙ alive;
     }
 
     pub entry_mut_served : (n : List ℕ) (x : Held) (k : Key) (type : ValueType) (told : Reply)
@@ -164,6 +167,7 @@ module _ (m : Machine) (s : State) (rep : Represents m s) (sound : Sound s) (par
       values = rep.values;
       words = kept_words (ap (λ t. t.boards) h.tables ∙ kept_boards _ _ _ _ refl) h.words;
       parties = h.parties ∙ rows;
+      alive = h.spent ∙ alive;
     }
 
     -- the entry of a write handle stands
@@ -207,6 +211,7 @@ module _ (m : Machine) (s : State) (rep : Represents m s) (sound : Sound s) (par
       values = rep.values;
       words = kept_words (ap (λ (y : Machine). y.boards.items) h.same) (ap (λ (y : Machine). y.words.items) h.same);
       parties = ap (λ (y : Machine). y.parties.items) h.same ∙ rows;
+      alive = ap (λ (y : Machine). y.spent) h.same ∙ alive;
     }
 
     -- no board has the next number
@@ -265,6 +270,7 @@ module _ (m : Machine) (s : State) (rep : Represents m s) (sound : Sound s) (par
                 ∙ subst (λ (t : Reply). words_with m.words.items entries t ≡ words_of (memory_after s.memory (table (create f n k limits attributes entries)) t) new.boards.items) (sym told_same)
                     (words_told (refusal s.standing.tables) new.boards.items (ap (λ t. t.boards) tables_same));
             parties = h.parties ∙ rows;
+            alive = h.spent ∙ alive;
           }
 
     -- the step of the task is right

@@ -108,7 +108,7 @@ module _ (m : Machine) (s : State) (rep : Represents m s) (sound : Sound s) wher
         place = p.0;
         stands = sym p.1;
         inside = omega (arith, first.inside, l);
-        words = λ d. ap (λ (ws : List (List ℕ)). get_or ws p.0 d) rep.words ∙ words_at s.memory n m.boards.items p.0 d b.0 (sym p.1);
+        words = λ d. ap (λ (ws : List (List ℕ)). get_or ws p.0 d) rep.words ∙ words_at s.memory n m.boards.items p.0 d (sym p.1);
       }
 
   pub has_word : (n word : ℕ) → is_some (board_at s.standing.tables n) ≡ true → word < length (s.memory n) → HasWord m n word
@@ -185,7 +185,10 @@ module _ (m : Machine) (s : State) (rep : Represents m s) (sound : Sound s) (par
       pub value : IsNumber w.value
 
     module _ (stored new : Machine) (is_stored : IsStored m stored w.board w.word w.value) (numbers : AreWritten) (l : IsLine (line.Step party))
-      (tables : tables_of new ≡ tables_of stored) (words : new.words.items ≡ stored.words.items) where
+      (tables : tables_of new ≡ tables_of stored) (words : new.words.items ≡ stored.words.items) (spent : new.spent ≡ stored.spent) where
+      still_alive : new.spent ≡ false
+      still_alive = spent ∙ is_stored.spent ∙ rep.alive
+
       all_tables : s.standing.tables ≡ tables_of new
       all_tables = rep.tables ∙ sym is_stored.tables ∙ sym tables
 
@@ -207,6 +210,7 @@ module _ (m : Machine) (s : State) (rep : Represents m s) (sound : Sound s) (par
           reply = λ _. rw runs_update (record { last = sym (last_done e); reply = refl });
         },
         rw runs_update (record {
+          alive = still_alive;
           tables = all_tables;
           words = all_words;
           parties = subst (λ (xs : List PartyRow). (p : List ℕ) → AreRowsOf (filter (is_row_of p) xs) (with_party (λ q. notice made (s.parties q)) party free p))
@@ -236,6 +240,7 @@ module _ (m : Machine) (s : State) (rep : Represents m s) (sound : Sound s) (par
               reply = λ _. rw runs_update (record { last = sym (more_done e); reply = tt });
             },
             rw runs_update (record {
+              alive = still_alive;
               tables = all_tables;
               words = all_words;
               parties = subst (λ (xs : List PartyRow). (p : List ℕ) → AreRowsOf (filter (is_row_of p) xs) (with_party (λ q. notice made (s.parties q)) party (running next) p))

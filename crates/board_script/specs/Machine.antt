@@ -1,5 +1,5 @@
 -- The state of a script that a machine stands for.
-use Rattle.std.specs.Prelude.{◌≡◌, ℕ, ◌+◌, ◌<◌, ◌^◌, Bool, List, [], ◌∷◌, length, map, Option, Some, None}
+use Rattle.std.specs.Prelude.{◌≡◌, ℕ, ◌+◌, ◌<◌, ◌^◌, Bool, false, List, [], ◌∷◌, length, map, Option, Some, None}
 use Rattle.std.specs.List.{filter}
 use Rattle.std.specs.Str.{bytes_eq}
 use Rattle.board_model.specs.declared.access.Access.{Access}
@@ -10,6 +10,7 @@ use Rattle.board_model.specs.TypeTable.{value_words}
 use Rattle.board_model.specs.Tables.{Tables}
 use Rattle.board_model.specs.Requests.{Publication, Request, create, entry_mut, table, tell, update, writer}
 use Rattle.board_model.specs.Parties.{Party, Running, free, gone, running}
+use Rattle.board_model.specs.AnswerGrammar.{answer_line}
 use Rattle.board_model.specs.LineGrammar.{IsLine}
 use Rattle.board_model.specs.LawfulSession.{IsRight, State, after}
 use Rattle.board_model.specs.Sound.{Sound}
@@ -66,6 +67,7 @@ words_of memory boards = map (λ (b : Board). memory b.number) boards
 
 -- the machine stands for the state
 pub record Represents (m : Machine) (s : State) : Type 0 where
+  pub alive : m.spent ≡ false
   pub tables : s.standing.tables ≡ tables_of m
   pub words : m.words.items ≡ words_of s.memory m.boards.items
   pub parties : (p : List ℕ) → AreRowsOf (filter (is_row_of p) m.parties.items) (s.parties p)
@@ -88,3 +90,13 @@ pub record IsLed (m : Machine) : Type 0 where
 -- the answer is right after each state that the machine stood for, and the machine stands for what follows
 abbrev pub Serves : Machine → Machine → Line → Answer → Type 0
 Serves old new l a = (s : State) → Represents old s → Sound s → IsLine l → IsRight s l a × Represents new (after s l a)
+
+-- the text is the line of an answer that is right after each state that the machine stood for, and the machine stands for what follows
+pub record IsTelling (new : Machine) (s : State) (l : Line) (text : List ℕ) : Type 0 where
+  pub answer : Answer
+  pub right : IsRight s l answer
+  pub represents : Represents new (after s l answer)
+  pub told : text ≡ answer_line answer
+
+abbrev pub Tells : Machine → Machine → Line → List ℕ → Type 0
+Tells old new l text = (s : State) → Represents old s → Sound s → IsTelling new s l text

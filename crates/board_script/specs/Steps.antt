@@ -65,6 +65,7 @@ pub record HasWord (m : Machine) (board word : ℕ) : Type 0 where
 pub record IsStored (old new : Machine) (board word value : ℕ) : Type 0 where
   pub tables : tables_of new ≡ tables_of old
   pub parties : new.parties.items ≡ old.parties.items
+  pub spent : new.spent ≡ old.spent
   pub words : (place : ℕ) (d : List ℕ) → Some place ≡ position_from (is_numbered board) 0 old.boards.items
       → new.words.items ≡ slice_set old.words.items place (slice_set (slice_index_or old.words.items place d) word value)
 

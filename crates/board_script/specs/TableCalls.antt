@@ -17,12 +17,13 @@ use Rattle.board_model.specs.Replies.{added_of, is_key, number_or}
 use Rattle.board_script.specs.declared.machine.Machine.{Machine}
 use Rattle.board_script.specs.Machine.{tables_of}
 
--- a call is told so, and leaves these tables; the words and the calls that run stay
+-- a call is told so, and leaves these tables; all else stays
 pub record IsAsked {E : Type 0} (old new : Machine) (error : E → Reply) (asked : Result ℕ E × Tables (List ℕ) (List ℕ)) (told : Reply) : Type 0 where
   pub told_is : told ≡ number_or error asked.0
   pub tables : tables_of new ≡ asked.1
   pub words : new.words.items ≡ old.words.items
   pub parties : new.parties.items ≡ old.parties.items
+  pub spent : new.spent ≡ old.spent
 
 abbrev pub IsWriter : Machine → Machine → List ℕ → Held → Reply → Type 0
 IsWriter old new name x told = IsAsked old new reply.WriterError (writer_asked (tables_of old) x name) told
@@ -36,9 +37,10 @@ abbrev pub words_with : List (List ℕ) → List AddedEntry → Reply → List (
 words_with words entries (reply.Number n) = words ++ opening_of entries ∷ []
 words_with words entries told = words
 
--- a create is told so, and leaves these tables and words; the calls that run stay
+-- a create is told so, and leaves these tables and words; all else stays
 pub record IsCreate (old new : Machine) (party factory name : List ℕ) (k : KeyType) (limits : Limits) (attributes : List Attribute) (entries : List AddedEntry) (told : Reply) : Type 0 where
   pub told_is : told ≡ number_or reply.CreateError (create_asked (same_key k) (tables_of old) party factory name (key_detail k) limits attributes (map added_of entries)).0
   pub tables : tables_of new ≡ (create_asked (same_key k) (tables_of old) party factory name (key_detail k) limits attributes (map added_of entries)).1
   pub words : new.words.items ≡ words_with old.words.items entries told
   pub parties : new.parties.items ≡ old.parties.items
+  pub spent : new.spent ≡ old.spent

@@ -4,6 +4,7 @@
 mod begin;
 mod counts;
 mod create;
+mod line;
 mod lookups;
 mod machine;
 mod ports;

@@ -77,7 +77,7 @@ run_table-requires c =
     let at_y = at y place c.remove-name.ensures.value in
     let same = same_row _ _ _ _ x y at_x at_y in
     let none = subst (λ (z : PartyRow). IsOwedBy z.task None) same c.in-None.ensures in
-    task_can_run c.args.self.now c.requires.state c.requires.represents c.requires.sound c.args.party.now c.in-Some.at y at_y _ c.args.self.now refl refl c.remove-name.ensures.items y.task c.requires.bounded at_y.task none
+    task_can_run c.args.self.now c.requires.state c.requires.represents c.requires.sound c.args.party.now c.in-Some.at y at_y _ c.args.self.now refl refl c.remove-name.ensures.items c.requires.represents.alive y.task c.requires.bounded at_y.task none
 
 pub returns-then-write : goal.returns-then-write
 returns-then-write c =
@@ -90,7 +90,7 @@ returns-then-write c =
     λ s rep sound l.
     let at = runs_at c.args.self.now.parties.items s.parties rep.parties c.args.party.now c.in-Some.at x place c.index.ensures in
     update_ends c.args.self.now s rep sound c.args.party.now c.in-Some.at x at w c.in-Some-owed_write.ensures c.write_word.new.self _ c.write_word.ensures
-    (record { board = board; word = word; value = value }) l refl refl c.if-write.true c.remove.ensures.items
+    (record { board = board; word = word; value = value }) l refl refl refl c.if-write.true c.remove.ensures.items
 
 pub returns-else-write : goal.returns-else-write
 returns-else-write c =
@@ -107,7 +107,7 @@ returns-else-write c =
     let at_x = at x place c.index.ensures in
     let same = same_row _ _ _ _ y x (at y place e) at_x in
     update_goes_on c.args.self.now s rep sound c.args.party.now c.in-Some.at x at_x w c.in-Some-owed_write.ensures c.write_word.new.self _ c.write_word.ensures
-    (record { board = board; word = word; value = value }) l refl refl
+    (record { board = board; word = word; value = value }) l refl refl refl
     (record { name = y.name; task = c.took.new.self }) (ap (λ (z : PartyRow). z.name) same) (c.took.ensures ∙ ap (λ (z : PartyRow). ticked z.task) same) c.if-write.false refl
 
 pub returns-in_ok-told-in-None : goal.returns-in_ok-told-in-None
@@ -118,4 +118,4 @@ returns-in_ok-told-in-None c =
     λ s rep sound l.
     let at = runs_at c.args.self.now.parties.items s.parties rep.parties c.args.party.now c.in-Some.at y place c.remove-name.ensures.value in
     let told = subst (λ (p : List ℕ). IsTold mid c.run_table.new.self p y.task c.in_ok-told-in-None.told) at.name c.in_ok-told-in-None.ensures.told in
-    task_right c.args.self.now s rep sound c.args.party.now c.in-Some.at y at mid c.run_table.new.self refl refl c.remove-name.ensures.items y.task c.in_ok-told-in-None.told at.task told c.in_ok-told-in-None.ensures.is_reply l
+    task_right c.args.self.now s rep sound c.args.party.now c.in-Some.at y at mid c.run_table.new.self refl refl c.remove-name.ensures.items rep.alive y.task c.in_ok-told-in-None.told at.task told c.in_ok-told-in-None.ensures.is_reply l
