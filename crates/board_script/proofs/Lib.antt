@@ -1,3 +1,5 @@
+pub mod CallChecks
+pub mod Listings
 pub mod Memories
 pub mod PartyRows
 pub mod Places
@@ -6,4 +8,3 @@ pub mod Slots
 pub mod StepRefusals
 pub mod TableSteps
 pub mod UpdateSteps
-pub mod CallChecks

@@ -8,5 +8,10 @@ mod line;
 mod lookups;
 mod machine;
 mod ports;
+mod script;
 mod step;
 mod values;
+
+pub use board_lines::{Failed, MemorySink, MemorySource, RunsLines, ScriptError, Sink, SinkError, Source};
+pub use machine::Machine;
+pub use script::run_script;

@@ -1,7 +1,10 @@
 //! The machine's one call: the line of a script, and the answer to it.
-ghost use Rattle.std.specs.Prelude.{◌≡◌, ◌<◌, ◌^◌, [], true, false, IfNone, IfSome, IsErrOf, OnErr, OnOk, is_some};
+ghost use Rattle.std.specs.Prelude.{◌≡◌, ◌++◌, ◌<◌, ◌^◌, [], true, false, IfNone, IfSome, IsErrOf, OnErr, OnOk, is_some};
+ghost use Rattle.std.specs.List.{AllByRecursion};
 ghost use Rattle.board_model.specs.LawfulSession.{Session, State, start};
-ghost use Rattle.board_model.specs.LineGrammar.{IsLine};
+ghost use Rattle.board_model.specs.AnswerGrammar.{answer_line};
+ghost use Rattle.board_model.specs.LineGrammar.{IsLine, IsNumber};
+ghost use Rattle.board_model.specs.declared.answer.Answer.TheVariants as answer;
 ghost use Rattle.board_model.specs.Tables as tables;
 ghost use Rattle.board_lines.specs.Runs.{HasAnswered, SpellsNone, StandsFor};
 ghost use Rattle.board_script.specs.Machine.{IsLed, Represents, Tells};
@@ -11,6 +14,14 @@ use crate::machine::Machine;
 use board_lines::{LineError, RunsLines, parse_line, push_answer, push_refused, push_words};
 use board_model::{Line, Reason};
 use std::alloc::{AllocError, Global};
+
+// Tells the words of a board.
+fn push_listing(words: &[u64], out: &mut Vec<u8>) -> Result<(), AllocError>
+    ensures numbers { AllByRecursion IsNumber words.now }
+    ensures told { OnOk result (out.new.items ≡ out.old.items ++ answer_line (answer.Words words.now)) }
+{
+    push_words(words, out)
+}
 
 impl Machine {
     /// A machine that stands for the empty session. It takes no memory.
@@ -66,7 +77,7 @@ impl Machine {
                 push_answer(&answer, out)
             }
             Line::Words { board } => match self.words_of(board) {
-                Some(words) => push_words(words, out),
+                Some(words) => push_listing(words, out),
                 None => push_refused(Reason::NoBoard, out),
             },
             _ => unreachable!(),
