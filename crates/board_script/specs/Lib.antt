@@ -4,3 +4,4 @@ pub mod Create
 pub mod Machine
 pub mod Steps
 pub mod TableCalls
+pub mod Top
