@@ -1,6 +1,7 @@
 pub mod CallChecks
 pub mod Listings
 pub mod Memories
+pub mod Notes
 pub mod PartyRows
 pub mod Places
 pub mod Rows

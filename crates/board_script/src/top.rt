@@ -17,6 +17,17 @@ fn note<N: Sink>(notes: &mut N, text: &[u8])
     let _ = write_whole(notes, text);
 }
 
+// The note of a line outside the grammar.
+fn bad_line(n: u64) -> Text<80>
+    ensures { result ≡ note_of (Err (ScriptError.BadLine n)) }
+{
+    let mut text: Text<80> = Text::of(b"line ");
+    let mut buffer = Buffer::new();
+    text.push(buffer.format(n).as_bytes());
+    text.push(b": not in the grammar\n");
+    text
+}
+
 // The note of an error, with its newline.
 fn note_text(error: ScriptError) -> Text<80>
     ensures { result ≡ note_of (Err error) }
@@ -24,13 +35,7 @@ fn note_text(error: ScriptError) -> Text<80>
     match error {
         ScriptError::ReadFault => Text::of(b"read fault\n"),
         ScriptError::WriteFault => Text::of(b"write fault\n"),
-        ScriptError::BadLine(n) => {
-            let mut text: Text<80> = Text::of(b"line ");
-            let mut buffer = Buffer::new();
-            text.push(buffer.format(n).as_bytes());
-            text.push(b": not in the grammar\n");
-            text
-        }
+        ScriptError::BadLine(n) => bad_line(n),
         ScriptError::TooLong => Text::of(b"too long\n"),
         ScriptError::OutOfMemory => Text::of(b"out of memory\n"),
     }
