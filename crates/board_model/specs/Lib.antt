@@ -17,3 +17,4 @@ pub mod LawsOfCounts
 pub mod LawsOfBounds
 pub mod LawsOfAnswers
 pub mod LawsOfSessions
+pub mod LawsOfIds
