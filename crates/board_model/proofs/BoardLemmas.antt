@@ -18,7 +18,7 @@ use Rattle.board_model.specs.Sound.{BoardTables, Sound}
 use Rattle.board_model.proofs.ListLemmas.{count_without, find_back, find_none, find_push_cases, find_true}
 use Rattle.board_model.proofs.LineCases.{after_cases}
 use Rattle.board_model.proofs.GrowthLemmas.{line_growth}
-use Rattle.board_model.proofs.SessionLaws.{KeepsSound}
+use Rattle.board_model.proofs.SoundLemmas.{sound_after}
 
 -- a board that stands later under a number that was drawn stood before
 abbrev pub KeepsBoards : BoardTables → BoardTables → Type 0
@@ -142,9 +142,9 @@ line_boards s l a r sound = after_cases (λ (x : State). KeepsBoards s.standing.
     none : (t : BoardTables) → KeepsBoards t t
     none t = same_boards t t refl
 
-pub session_boards : KeepsSound → (pairs : Session) (s : State) → IsLawfulFrom s pairs → Sound s → KeepsBoards s.standing.tables (state_after s pairs).standing.tables
-session_boards keeps [] s h sound n b le f = f
-session_boards keeps (x ∷ xs) s h sound n b le f =
+pub session_boards : (pairs : Session) (s : State) → IsLawfulFrom s pairs → Sound s → KeepsBoards s.standing.tables (state_after s pairs).standing.tables
+session_boards [] s h sound n b le f = f
+session_boards (x ∷ xs) s h sound n b le f =
     let g = line_growth s x.0 x.1 n 0 le h.0 in
-    let k = session_boards keeps xs (after s x.0 x.1) h.1 (keeps.next s x.0 x.1 h.0 sound) n b (omega (arith, g.drawn)) f in
+    let k = session_boards xs (after s x.0 x.1) h.1 (sound_after s x.0 x.1 h.0 sound) n b (omega (arith, g.drawn)) f in
     line_boards s x.0 x.1 h.0 sound n b le k

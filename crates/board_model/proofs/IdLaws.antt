@@ -22,7 +22,7 @@ use Rattle.board_model.specs.LawfulSession.{IsRight, State, state_after}
 use Rattle.board_model.specs.Sound.{BoardTables}
 use Rattle.board_model.specs.LawsOfSessions.{Pairs, at_one, at_two}
 use Rattle.board_model.specs.LawsOfIds.{AsksForHandle, EntriesHaveOtherPlaces, IsMade, OneKeyOneId, OtherEntriesOtherIds}
-use Rattle.board_model.proofs.SessionLaws.{KeepsSound, apart, pair_step}
+use Rattle.board_model.proofs.SessionLaws.{apart, pair_step}
 use Rattle.board_model.proofs.BoardLemmas.{session_boards}
 
 -- ---- places
@@ -166,20 +166,20 @@ record AreFound (t : BoardTables) (n : ℕ) (k l : Key) (i j one two : ℕ) : Ty
 same_board : (x y : Board) → Some x ≡ Some y → x ≡ y
 same_board x y e = cc
 
-both_found : KeepsSound → (p : Pairs) (n i j one two : ℕ) (k l : Key) (t u : ValueType) → IsMade (at_one p) p.one n i k t one → IsMade (at_two p) p.two n j l u two → AreFound (at_one p).standing.tables n k l i j one two
-both_found keeps p n i j one two k l t u x y =
-    let a = apart keeps p in
+both_found : (p : Pairs) (n i j one two : ℕ) (k l : Key) (t u : ValueType) → IsMade (at_one p) p.one n i k t one → IsMade (at_two p) p.two n j l u two → AreFound (at_one p).standing.tables n k l i j one two
+both_found p n i j one two k l t u x y =
+    let a = apart p in
     let f = made (at_one p) p.one n i one k t a.one x in
     let g = made (at_two p) p.two n j two l u a.two y in
     let d : n ≤ (at_one p).standing.tables.last_board = a.sound.boards.numbered n f.board f.stands in
     let h : board_at (state_after (at_one p) (p.one ∷ p.between)).standing.tables n ≡ Some g.board = subst (λ (s : State). board_at s.standing.tables n ≡ Some g.board) a.state g.stands in
-    let b : board_at (at_one p).standing.tables n ≡ Some g.board = session_boards keeps (p.one ∷ p.between) (at_one p) (a.one, a.between) a.sound n g.board d h in
+    let b : board_at (at_one p).standing.tables n ≡ Some g.board = session_boards (p.one ∷ p.between) (at_one p) (a.one, a.between) a.sound n g.board d h in
     let e : g.board ≡ f.board = same_board g.board f.board (sym b ∙ f.stands) in
     record { board = f.board; stands = f.stands; item = f.item; other = g.item; first = f.first; second = subst (λ (z : Board). entry_from 0 (is_key l) z.entries ≡ Some (j, g.item)) e g.first; told = f.told; later = g.told }
 
-pub one_id : KeepsSound → OneKeyOneId
-one_id keeps p n i j one two k t u x y =
-    let f = both_found keeps p n i j one two k k t u x y in
+pub one_id : OneKeyOneId
+one_id p n i j one two k t u x y =
+    let f = both_found p n i j one two k k t u x y in
     let e : (i, f.item) ≡ (j, f.other) = same_some (i, f.item) (j, f.other) (sym f.first ∙ f.second) in
     let g : f.item ≡ f.other = ap (λ (z : ℕ × Entry). z.1) e in
     (ap (λ (z : ℕ × Entry). z.0) e, f.told ∙ ap (λ (z : Entry). z.cell.place) g ∙ sym f.later)
@@ -191,9 +191,9 @@ placed_at t n i b is e h f =
     let q : slice_get b.entries i ≡ Some e = ap (slice_get b.entries) a ∙ g.item in
     ap (λ (o : Option Board). entry_in o i) h ∙ q
 
-pub other_ids : KeepsSound → OtherEntriesOtherIds
-other_ids keeps p n i j id k l t u x y =
-    let f = both_found keeps p n i j id id k l t u x y in
-    let a = apart keeps p in
+pub other_ids : OtherEntriesOtherIds
+other_ids p n i j id k l t u x y =
+    let f = both_found p n i j id id k l t u x y in
+    let a = apart p in
     other_places (at_one p) n i j f.item f.other a.sound (placed_at (at_one p).standing.tables n i f.board (is_key k) f.item f.stands f.first) (placed_at (at_one p).standing.tables n j f.board (is_key l) f.other f.stands f.second)
     (sym f.told ∙ f.later)

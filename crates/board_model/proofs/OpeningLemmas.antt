@@ -30,7 +30,7 @@ pub record IsAddedTyped (a : Added) : Type 0 where
   pub detail : a.value ≡ value_detail type
   pub words : length a.words ≡ word_count type
 
-sized : (v : Value) → length (value_words v) ≡ word_count (type_of v)
+pub sized : (v : Value) → length (value_words v) ≡ word_count (type_of v)
 sized (value.Bool b) = refl
 sized (value.U64 n) = refl
 sized (value.Q4 a b c d) = refl

@@ -18,3 +18,4 @@ pub mod LawsOfBounds
 pub mod LawsOfAnswers
 pub mod LawsOfSessions
 pub mod LawsOfIds
+pub mod LawOfSoundness

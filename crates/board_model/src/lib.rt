@@ -8,9 +8,12 @@ mod attributes;
 pub mod bound_laws;
 pub mod count_laws;
 mod errors;
+pub mod id_laws;
 mod line;
 mod lists;
 pub mod read_laws;
+pub mod session_laws;
+pub mod sound_law;
 mod tables;
 mod value;
 
