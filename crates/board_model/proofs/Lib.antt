@@ -25,3 +25,4 @@ pub mod GrowthLemmas
 pub mod SessionLaws
 pub mod BoardLemmas
 pub mod IdLaws
+pub mod WorkedLemmas

@@ -19,3 +19,4 @@ pub mod LawsOfAnswers
 pub mod LawsOfSessions
 pub mod LawsOfIds
 pub mod LawOfSoundness
+pub mod WorkedSessions

@@ -16,6 +16,7 @@ pub mod session_laws;
 pub mod sound_law;
 mod tables;
 mod value;
+pub mod worked_sessions;
 
 pub use access::Access;
 pub use answer::{Answer, Info, Reason, Reply};
