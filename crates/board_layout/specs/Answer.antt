@@ -4,3 +4,7 @@ use Rattle.std.specs.Prelude.{◌≡◌, ◌≢◌, Result, Err}
 -- the expected answer, or want of memory
 abbrev pub Answers : {T E : Type 0} → Result T E → E → Result T E → Type 0
 Answers result out_of_memory answer = result ≢ Err out_of_memory → result ≡ answer
+
+-- where a refusal is expected it comes, and no want of memory in its place
+abbrev pub Refuses : {T E : Type 0} → Result T E → Result T E → Type 0
+Refuses {T} {E} result answer = (e : E) → answer ≡ Err e → result ≡ Err e

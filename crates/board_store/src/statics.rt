@@ -1,6 +1,6 @@
 //! Static storages by full names.
 ghost use Rattle.std.specs.Prelude.{◌≡◌, ◌≢◌, ℕ, ◌+◌, ◌-◌, ◌<◌, ◌≤◌, ◌==◌, ◌↔◌, List, [], ◌∷◌, ◌++◌, length, Some, None, true, is_some, IfOk, IsErrOf, OnOk, OnErr, IsTrue, IsSome, IfSome, option_map};
-ghost use Rattle.board_layout.specs.Answer.{Answers};
+ghost use Rattle.board_layout.specs.Answer.{Answers, Refuses};
 ghost use Rattle.board_store.specs.Table.{at, putting, without, name_at};
 ghost use Rattle.board_store.specs.Statics.{bytes_of, locked_of, create_answer, open_answer, unlock_answer};
 
@@ -53,7 +53,7 @@ impl Statics {
     /// `AlreadyExists` where the name is held; `OutOfMemory`. The storages stay as they were.
     pub fn create_locked(&mut self, name: &FilePath) -> Result<(), StaticStorageCreateError>
         ensures answer { Answers result StaticStorageCreateError.OutOfMemory (create_answer (at self.old name.now)) }
-        ensures already { IsErrOf result StaticStorageCreateError.AlreadyExists ↔ IsSome (at self.old name.now) }
+        ensures refused { Refuses result (create_answer (at self.old name.now)) }
         ensures ok { OnOk result (self.new ≡ putting self.old name.now Stored.Locked) }
         ensures err { OnErr result (self.new ≡ self.old) }
     {
@@ -76,7 +76,7 @@ impl Statics {
         contents: &[u8],
     ) -> Result<Content, StaticStorageUnlockError>
         ensures answer { Answers result StaticStorageUnlockError.OutOfMemory (unlock_answer contents.now (locked_of self.old name.now)) }
-        ensures internal { IsErrOf result StaticStorageUnlockError.InternalError ↔ (locked_of self.old name.now ≢ Some true) }
+        ensures refused { Refuses result (unlock_answer contents.now (locked_of self.old name.now)) }
         ensures ok { OnOk result (self.new ≡ putting self.old name.now (Stored.Final contents.now)) }
         ensures err { OnErr result (self.new ≡ self.old) }
     {
@@ -102,8 +102,7 @@ impl Statics {
     /// `DoesNotExist` where the name isn't held; `InitializationNotYetFinalized` where it is locked; `OutOfMemory`.
     pub fn try_open(&self, name: &FilePath) -> Result<Content, StaticStorageOpenError>
         ensures answer { Answers result StaticStorageOpenError.OutOfMemory (open_answer (at self.now name.now)) }
-        ensures absent { IsErrOf result StaticStorageOpenError.DoesNotExist ↔ (locked_of self.now name.now ≡ None) }
-        ensures locked { IsErrOf result StaticStorageOpenError.InitializationNotYetFinalized ↔ (locked_of self.now name.now ≡ Some true) }
+        ensures refused { Refuses result (open_answer (at self.now name.now)) }
     {
         match self.names.get(name) {
             None => Err(StaticStorageOpenError::DoesNotExist),
