@@ -4,22 +4,22 @@
 //! answers over the storages themselves, and its contract says them.
 #![tactic(auto)]
 
-// mod builder;
+mod builder;
 mod content;
-// mod locked;
+mod locked;
 mod registry;
-// pub mod static_storage;
+pub mod static_storage;
 mod statics;
-// mod storage;
+mod storage;
 mod table;
 #[cfg(test)]
 mod tests;
 
-// pub use builder::Builder;
+pub use builder::Builder;
 pub use content::Content;
-// pub use locked::Locked;
+pub use locked::Locked;
 pub use registry::StaticRegistry;
-// pub use static_storage::{StaticStorage, StaticStorageBuilder, StaticStorageLocked};
+pub use static_storage::{StaticStorage, StaticStorageBuilder, StaticStorageLocked};
 pub use statics::{Statics, Stored};
-// pub use storage::Storage;
-pub use table::{list_names, Table};
+pub use storage::Storage;
+pub use table::{Table, list_names};

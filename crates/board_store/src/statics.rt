@@ -3,13 +3,14 @@ ghost use Rattle.std.specs.Prelude.{◌≡◌, ◌≢◌, ℕ, ◌+◌, ◌-◌,
 ghost use Rattle.board_layout.specs.Answer.{Answers, Refuses};
 ghost use Rattle.board_store.specs.Table.{at, putting, without, name_at};
 ghost use Rattle.board_store.specs.Statics.{bytes_of, locked_of, create_answer, open_answer, unlock_answer};
+ghost use Rattle.board_store.specs.Storage.{released};
 
 use crate::content::Content;
 use crate::table::Table;
 use board_names::{
     FilePath, StaticStorageCreateError, StaticStorageOpenError, StaticStorageUnlockError,
 };
-use std::alloc::Global;
+use std::alloc::{AllocError, Global};
 use std::collections::BTreeMap;
 use std::marker::Model;
 
@@ -83,12 +84,21 @@ impl Statics {
         if self.is_locked(name) != Some(true) {
             return Err(StaticStorageUnlockError::InternalError);
         }
-        let Ok(content) = Content::of(self.alloc, contents) else {
-            return Err(StaticStorageUnlockError::OutOfMemory);
-        };
-        let Ok(shared) = content.share() else {
-            return Err(StaticStorageUnlockError::OutOfMemory);
-        };
+        match self.fill(name, contents) {
+            Ok(content) => Ok(content),
+            Err(_) => Err(StaticStorageUnlockError::OutOfMemory),
+        }
+    }
+
+    /// Gives the storage of a name that is known to be locked its bytes, and hands them back, shared.
+    pub(crate) fn fill(&mut self, name: &FilePath, contents: &[u8]) -> Result<Content, AllocError>
+        requires { locked_of self.old name.now ≡ Some true }
+        ensures value { IfOk result (λ content. content ≡ contents.now) }
+        ensures ok { OnOk result (self.new ≡ putting self.old name.now (Stored.Final contents.now)) }
+        ensures err { OnErr result (self.new ≡ self.old) }
+    {
+        let content = Content::of(self.alloc, contents)?;
+        let shared = content.share()?;
         // The name is held, so the table doesn't grow.
         let Ok(_) = self.names.insert(*name, Stored::Final(content)) else {
             unreachable!()
@@ -141,6 +151,15 @@ impl Statics {
         ensures after { self.new ≡ without self.old name.now }
     {
         self.names.remove(name).is_some()
+    }
+
+    /// Lets a name go where it is owned.
+    pub(crate) fn let_go(&mut self, name: &FilePath, owns: bool)
+        ensures { self.new ≡ released self.old owns name.now }
+    {
+        if owns {
+            let _ = self.remove(name);
+        }
     }
 
     /// The name at an index, counted from 0 in the order of the names.
