@@ -1,5 +1,6 @@
 //! What an opener needs of a service's attributes.
 ghost use Rattle.std.specs.Prelude.{◌≡◌, ◌++◌, [], ◌∷◌, ◌↔◌, length, IsTrue, false, IfOk, IsErrOf};
+ghost use Rattle.std.specs.List.{list_all};
 ghost use Rattle.board_model.specs.Tables as tables;
 ghost use Rattle.board_concepts.specs.Attributes.{is_text, is_attribute, pair_of};
 
@@ -41,6 +42,20 @@ fn has_key(pairs: &[Attribute], key: &Text<64>) -> bool
     ensures { result ≡ tables.has_attribute pairs.now key.now }
 {
     pairs.iter().any(|other| other.key == *key)
+}
+
+// Whether each required pair is among these.
+fn has_pairs(pairs: &[Attribute], required: &[Attribute]) -> bool
+    ensures { result ≡ list_all (tables.has_pair pairs.now) required.now }
+{
+    required.iter().all(|pair| has_pair(pairs, pair))
+}
+
+// Whether each required key is that of one of these.
+fn has_keys(pairs: &[Attribute], required: &[Text<64>]) -> bool
+    ensures { result ≡ list_all (tables.has_attribute pairs.now) required.now }
+{
+    required.iter().all(|key| has_key(pairs, key))
 }
 
 impl AttributeVerifier {
@@ -90,7 +105,6 @@ impl AttributeVerifier {
     pub fn verify_requirements(&self, set: &AttributeSet) -> bool
         ensures { result ≡ tables.meets self.now set.now }
     {
-        let pairs = set.as_slice();
-        self.pairs.as_slice().iter().all(|pair| has_pair(pairs, pair)) && self.keys.iter().all(|key| has_key(pairs, key))
+        has_pairs(set.as_slice(), self.pairs.as_slice()) && has_keys(set.as_slice(), &self.keys)
     }
 }

@@ -2,11 +2,12 @@
 ghost use Rattle.std.specs.Prelude.{◌≡◌, ℕ, ◌+◌, ◌*◌, ◌%◌, ◌/◌, ◌^◌, ◌<◌, ◌≤◌, List, [], ◌∷◌, ◌++◌, length, IsTrue, Some, IfSome, IsSomeAnd, IfOk, OnOk, IsErrOf};
 ghost use Rattle.std.specs.List.{list_all};
 ghost use Rattle.board_layout.specs.declared.type_detail.TypeDetail.{TypeDetail};
+ghost use Rattle.board_layout.specs.declared.type_detail.TypeVariant.{TypeVariant};
 ghost use Rattle.board_model.specs.declared.attributes.Attribute.{Attribute};
 ghost use Rattle.board_names.specs.Names.{IsServiceName};
 ghost use Rattle.board_concepts.specs.Attributes.{is_attribute};
 ghost use Rattle.board_concepts.specs.Spelling.{Spelled, SpelledText, Spells, SpellsText};
-ghost use Rattle.board_concepts.specs.DescriptionSpelling.{IsType, SpelledType, SpelledAttribute, SpelledEach, SpelledList};
+ghost use Rattle.board_concepts.specs.DescriptionSpelling.{variant_number, IsType, SpelledType, SpelledAttribute, SpelledEach, SpelledList};
 
 use crate::attribute_set::{is_text, AttributeSet};
 use board_layout::{Text, TypeDetail, TypeName, TypeVariant};
@@ -78,7 +79,10 @@ pub(crate) fn service_name(bytes: &[u8]) -> Option<ServiceName>
 }
 
 // The variant of this number.
-fn variant_of(number: u64) -> Option<TypeVariant> {
+fn variant_of(number: u64) -> Option<TypeVariant>
+    ensures some { IfSome result (λ v. variant_number v ≡ number) }
+    ensures every { (v : TypeVariant) → variant_number v ≡ number → result ≡ Some v }
+{
     match number {
         0 => Some(TypeVariant::FixedSize),
         1 => Some(TypeVariant::Dynamic),
