@@ -13,10 +13,6 @@ Spelled n (b ∷ bytes) rest =
 abbrev pub SpelledText : List ℕ → List ℕ → List ℕ → Type 0
 SpelledText text bytes rest = Spelled (length text) bytes (text ++ rest)
 
--- these bytes are the spelling of n
-abbrev pub Spells : ℕ → List ℕ → Type 0
-Spells n front = (rest : List ℕ) → Spelled n (front ++ rest) rest
-
--- these bytes are the spelling of a text
-abbrev pub SpellsText : List ℕ → List ℕ → Type 0
-SpellsText text front = (rest : List ℕ) → SpelledText text (front ++ rest) rest
+-- the new bytes are the old ones and then a spelling: whatever stands behind it, it is read off the front
+abbrev pub Puts : (List ℕ → List ℕ → Type 0) → List ℕ → List ℕ → Type 0
+Puts IsSpelled old new = (front : List ℕ) × (new ≡ old ++ front) × ((rest : List ℕ) → IsSpelled (front ++ rest) rest)

@@ -5,8 +5,8 @@ ghost use Rattle.board_layout.specs.declared.type_detail.TypeDetail.{TypeDetail}
 ghost use Rattle.board_layout.specs.declared.type_detail.TypeVariant.{TypeVariant};
 ghost use Rattle.board_model.specs.declared.attributes.Attribute.{Attribute};
 ghost use Rattle.board_names.specs.Names.{IsServiceName};
-ghost use Rattle.board_concepts.specs.Attributes.{is_attribute};
-ghost use Rattle.board_concepts.specs.Spelling.{Spelled, SpelledText, Spells, SpellsText};
+ghost use Rattle.board_concepts.specs.Attributes.{is_attribute, AreAttributes};
+ghost use Rattle.board_concepts.specs.Spelling.{Spelled, SpelledText, Puts};
 ghost use Rattle.board_concepts.specs.DescriptionSpelling.{variant_number, IsType, SpelledType, SpelledAttribute, SpelledEach, SpelledList};
 
 use crate::attribute_set::{is_text, AttributeSet};
@@ -38,7 +38,7 @@ pub(crate) fn number(bytes: &[u8], most: u64) -> Option<(u64, &[u8])>
 
 // Adds the spelling of a number.
 pub(crate) fn put_number(out: &mut Vec<u8>, number: u64) -> Result<(), AllocError>
-    ensures { OnOk result ((front : List ℕ) × (out.new.items ≡ out.old.items ++ front) × Spells number front) }
+    ensures { OnOk result (Puts (Spelled number) out.old.items out.new.items) }
 {
     if number < 128 {
         out.push(number as u8)?;
@@ -62,7 +62,7 @@ pub(crate) fn text(bytes: &[u8]) -> Option<(&[u8], &[u8])>
 
 // Adds the spelling of a text.
 pub(crate) fn put_text(out: &mut Vec<u8>, text: &[u8]) -> Result<(), AllocError>
-    ensures { OnOk result ((front : List ℕ) × (out.new.items ≡ out.old.items ++ front) × SpellsText text.now front) }
+    ensures { OnOk result (Puts (SpelledText text.now) out.old.items out.new.items) }
 {
     put_number(out, text.len() as u64)?;
     out.extend_from_slice(text)?;
@@ -74,8 +74,10 @@ pub(crate) fn service_name(bytes: &[u8]) -> Option<ServiceName>
     ensures some { IfSome result (λ name. name ≡ bytes.now) }
     ensures accepted { IsServiceName bytes.now → result ≡ Some bytes.now }
 {
-    let text = str::from_utf8(bytes).ok()?;
-    ServiceName::new(text).ok()
+    match str::from_utf8(bytes) {
+        Ok(text) => ServiceName::new(text).ok(),
+        Err(_) => None,
+    }
 }
 
 // The variant of this number.
@@ -145,4 +147,67 @@ fn read_each<'a>(set: &mut AttributeSet, bytes: &'a [u8], count: u64) -> Result<
         return Err(DeserializeError::OutOfMemory);
     }
     read_each(set, behind, count - 1)
+}
+
+// The list of attributes at the front of the bytes. A list of more than 8 is none, and takes no memory.
+pub(crate) fn read_list(alloc: Global, bytes: &[u8]) -> Result<(AttributeSet, &[u8]), DeserializeError>
+    ensures found { IfOk result (λ p. SpelledList p.0 bytes.now p.1.now) }
+    ensures none { IsErrOf result DeserializeError.InternalError → (attributes : List Attribute) (rest : List ℕ) → AreAttributes attributes → SpelledList attributes bytes.now rest → ⊥ }
+    ensures every { (attributes : List Attribute) (rest : List ℕ) → AreAttributes attributes → SpelledList attributes bytes.now rest → IfOk result (λ p. (p.0 ≡ attributes) × (p.1.now ≡ rest)) }
+{
+    let Some((count, items)) = number(bytes, MAX_ATTRIBUTES as u64) else {
+        return Err(DeserializeError::InternalError);
+    };
+    let mut set = AttributeSet::new(alloc);
+    let behind = read_each(&mut set, items, count)?;
+    Ok((set, behind))
+}
+
+// The number of a variant.
+fn number_of(variant: TypeVariant) -> u64
+    ensures { result ≡ variant_number variant }
+{
+    match variant {
+        TypeVariant::FixedSize => 0,
+        TypeVariant::Dynamic => 1,
+    }
+}
+
+// Adds the spelling of a type.
+pub(crate) fn put_type(out: &mut Vec<u8>, detail: &TypeDetail) -> Result<(), AllocError>
+    ensures { OnOk result (Puts (SpelledType detail.now) out.old.items out.new.items) }
+{
+    put_number(out, number_of(detail.variant))?;
+    put_text(out, detail.type_name.as_bytes())?;
+    put_number(out, detail.size as u64)?;
+    put_number(out, detail.alignment as u64)?;
+    Ok(())
+}
+
+// Adds the spelling of an attribute.
+fn put_attribute(out: &mut Vec<u8>, attribute: &Attribute) -> Result<(), AllocError>
+    ensures { OnOk result (Puts (SpelledAttribute attribute.now) out.old.items out.new.items) }
+{
+    put_text(out, attribute.key.as_bytes())?;
+    put_text(out, attribute.value.as_bytes())?;
+    Ok(())
+}
+
+// Adds the spelling of each of these attributes.
+fn put_each(out: &mut Vec<u8>, attributes: &[Attribute]) -> Result<(), AllocError>
+    ensures { OnOk result (Puts (SpelledEach attributes.now) out.old.items out.new.items) }
+{
+    for attribute in attributes {
+        put_attribute(out, attribute)?;
+    }
+    Ok(())
+}
+
+// Adds the spelling of a list of attributes.
+pub(crate) fn put_list(out: &mut Vec<u8>, attributes: &[Attribute]) -> Result<(), AllocError>
+    ensures { OnOk result (Puts (SpelledList attributes.now) out.old.items out.new.items) }
+{
+    put_number(out, attributes.len() as u64)?;
+    put_each(out, attributes)?;
+    Ok(())
 }
