@@ -1,5 +1,5 @@
 -- Lists of notes and of loads.
-use Rattle.std.proofs.Common.{◌≡◌, ℕ, zero, suc, ◌+◌, ◌-◌, ◌<◌, ◌≤◌, List, [], ◌∷◌, ◌++◌, length, get_or, Some, refl, subst, arith}
+use Rattle.std.proofs.Common.{◌≡◌, ℕ, zero, suc, ◌-◌, ◌<◌, ◌≤◌, List, [], ◌∷◌, ◌++◌, length, Some, refl, subst, arith}
 use Rattle.std.specs.Prelude.{slice_get}
 use Rattle.std.specs.List.{All}
 use Rattle.std.proofs.lemmas.List.Elements.{All-weaker, All-push, All-nil, All-head, All-tail}
@@ -40,4 +40,3 @@ rising_push (x ∷ xs) n r a = (All-push (λ y. x ≤ y) xs n r.0 (All-head (λ 
 pub notes_rise_push : (xs : List Note) (n : Note) → NotesRise xs → AreTold n.generation xs → NotesRise (xs ++ n ∷ [])
 notes_rise_push [] n r a = (All-nil (λ (y : Note). n.generation ≤ y.generation), tt)
 notes_rise_push (x ∷ xs) n r a = (All-push (λ (y : Note). x.generation ≤ y.generation) xs n r.0 (All-head (λ (y : Note). y.generation ≤ n.generation) x xs a), notes_rise_push xs n r.1 (All-tail (λ (y : Note). y.generation ≤ n.generation) x xs a))
-

@@ -1,27 +1,18 @@
 -- The views of a table, and what a step of one seat leaves of the others.
-use Rattle.std.proofs.Common.{◌≡◌, ◌≢◌, ℕ, zero, suc, ◌+◌, ◌<◌, ◌≤◌, max, Bool, true, false, eqb, List, [], ◌∷◌, ◌++◌, length, take, get_or, set, refl, sym, ap, ◌∙◌, subst, ⊎_elim, arith, length-append, length-set, get_or-set_other, get_or-set_same, replicate}
-use Rattle.std.proofs.lemmas.List.{length-replicate}
+use Rattle.std.proofs.Common.{◌≡◌, ◌≢◌, ℕ, zero, suc, ◌≤◌, List, [], ◌∷◌, set, refl, sym, ap, ◌∙◌, subst, ⊎_elim, arith}
 use Rattle.std.specs.List.{All}
-use Rattle.std.proofs.lemmas.List.Elements.{All-append, All-weaker, All-push, All-nil}
-use Rattle.std.proofs.lemmas.List.{take_all}
-use lib.Seq.{set-get_or, take-suc}
-use lib.ListN.{get_elem?, get_or-append}
-use mathlib.Core.Logic.{dite}
-use mathlib.Core.Option.{none, some, some-injective, some-ne-none}
-use native.Mathlib.Decide.{ℕ_discrete}
-use Rattle.atomic_table.specs.Table.{State, Me, step, keeps, stepped, opening, Allows, Splits, Joins}
-use Rattle.atomic_table.proofs.Lists.{at_set, at_snoc, at_longer, set_again, set_else}
-use Rattle.board_model.specs.Copies.{copy_at}
-use Rattle.board_cell.specs.Passes.{cell_shape, note, Stands, NotesRise}
-use Rattle.board_cell.specs.Rule.{last_of, IsRising, AreTold, ReaderFits, WriterFits, Fits, KeptBy, Kept, opening_words, opening_view}
-use Rattle.board_cell.specs.Views.{writer_of, reader_of, with_word, with_publish, with_open, with_found, noted_if, with_close, with_load, newcomer, writer_with, reader_with, joined, puts, publishes, opens, reads, closes, glances, looks}
+use Rattle.std.proofs.lemmas.List.Elements.{All-weaker}
+use lib.ListN.{get_elem?}
+use mathlib.Core.Option.{some, some-injective, some-ne-none}
+use Rattle.atomic_table.specs.Table.{State, Me}
+use Rattle.atomic_table.proofs.Lists.{at_set, set_else}
+use Rattle.board_cell.specs.Rule.{AreTold, ReaderFits, Fits, KeptBy, Kept}
+use Rattle.board_cell.specs.Views.{writer_of}
 use Rattle.board_cell.specs.declared.threaded.view.Note.{Note}
 use Rattle.board_cell.specs.declared.threaded.view.WriterView.{WriterView}
 use Rattle.board_cell.specs.declared.threaded.view.ReaderView.{ReaderView}
 use Rattle.board_cell.specs.declared.threaded.view.View.{View}
-use Rattle.board_cell.specs.declared.threaded.view.View.TheVariants.{Spent, Writer, Reader}
-use Rattle.board_cell.proofs.Notes.{all_stand_longer, last_of-push, last_stands, last_is_even, rising_push, notes_rise_push}
-use Rattle.board_cell.proofs.CopyPlaces.{copies_apart, copy_within, two_on}
+use Rattle.board_cell.specs.declared.threaded.view.View.TheVariants.{Writer, Reader}
 
 abbrev pub St : Type 0
 St = State (Unit {0}) View

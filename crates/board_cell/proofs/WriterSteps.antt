@@ -1,28 +1,24 @@
 -- Each step of the writer keeps the rule.
-use Rattle.std.proofs.Common.{◌≡◌, ◌≢◌, ℕ, zero, suc, ◌+◌, ◌<◌, ◌≤◌, max, Bool, true, false, eqb, List, [], ◌∷◌, ◌++◌, length, take, get_or, set, refl, sym, ap, ◌∙◌, subst, ⊎_elim, arith, length-append, length-set, get_or-set_other, get_or-set_same, replicate}
-use Rattle.std.proofs.lemmas.List.{length-replicate}
+use Rattle.std.proofs.Common.{◌≡◌, ℕ, suc, ◌+◌, ◌<◌, ◌≤◌, List, [], ◌∷◌, ◌++◌, length, get_or, set, refl, sym, ap, ◌∙◌, subst, arith, length-append, length-set, get_or-set_other, get_or-set_same}
 use Rattle.std.specs.List.{All}
-use Rattle.std.proofs.lemmas.List.Elements.{All-append, All-weaker, All-push, All-nil}
-use Rattle.std.proofs.lemmas.List.{take_all}
-use lib.Seq.{set-get_or, take-suc}
+use Rattle.std.proofs.lemmas.List.Elements.{All-push}
+use lib.Seq.{set-get_or}
 use lib.ListN.{get_elem?, get_or-append}
 use mathlib.Core.Logic.{dite}
-use mathlib.Core.Option.{none, some, some-injective, some-ne-none}
+use mathlib.Core.Option.{none, some}
 use native.Mathlib.Decide.{ℕ_discrete}
-use Rattle.atomic_table.specs.Table.{State, Me, step, keeps, stepped, opening, Allows, Splits, Joins}
-use Rattle.atomic_table.proofs.Lists.{at_set, at_snoc, at_longer, set_again, set_else}
+use Rattle.atomic_table.specs.Table.{step, keeps, Allows}
+use Rattle.atomic_table.proofs.Lists.{set_again}
 use Rattle.board_model.specs.Copies.{copy_at}
-use Rattle.board_cell.specs.Passes.{cell_shape, note, Stands, NotesRise}
-use Rattle.board_cell.specs.Rule.{last_of, IsRising, AreTold, ReaderFits, WriterFits, Fits, KeptBy, Kept, opening_words, opening_view}
-use Rattle.board_cell.specs.Views.{writer_of, reader_of, with_word, with_publish, with_open, with_found, noted_if, with_close, with_load, newcomer, writer_with, reader_with, joined, puts, publishes, opens, reads, closes, glances, looks}
-use Rattle.board_cell.specs.declared.threaded.view.Note.{Note}
+use Rattle.board_cell.specs.Passes.{cell_shape, Stands}
+use Rattle.board_cell.specs.Rule.{Fits, KeptBy, Kept}
+use Rattle.board_cell.specs.Views.{writer_of, with_word, with_publish, puts, publishes, looks}
 use Rattle.board_cell.specs.declared.threaded.view.WriterView.{WriterView}
-use Rattle.board_cell.specs.declared.threaded.view.ReaderView.{ReaderView}
 use Rattle.board_cell.specs.declared.threaded.view.View.{View}
 use Rattle.board_cell.specs.declared.threaded.view.View.TheVariants.{Spent, Writer, Reader}
-use Rattle.board_cell.proofs.Notes.{all_stand_longer, last_of-push, last_stands, last_is_even, rising_push, notes_rise_push}
+use Rattle.board_cell.proofs.Notes.{all_stand_longer, last_of-push}
 use Rattle.board_cell.proofs.CopyPlaces.{copies_apart, copy_within, two_on}
-use Rattle.board_cell.proofs.ViewLemmas.{St, M, set_there, fits_set, elsewhere, mine, lift, untouched}
+use Rattle.board_cell.proofs.ViewLemmas.{St, M, set_there, fits_set, mine}
 
 at_push : (xs : List ℕ) (b : ℕ) → get_or (xs ++ b ∷ []) (length xs) 0 ≡ b
 at_push [] b = refl

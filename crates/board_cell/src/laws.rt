@@ -23,5 +23,4 @@ pub fn a_history_is_legal()
     ensures legal { (published : List (List ℕ)) (readers : List (List Note)) → All (All (Stands published)) readers → IsLegal (history published readers) }
     ensures publishes { (published : List (List ℕ)) (readers : List (List Note)) → publishes_in (history published readers) ≡ published }
     ensures reads { (published : List (List ℕ)) (readers : List (List Note)) (k : ℕ) (notes : List Note) → slice_get readers k ≡ Some notes → NotesRise notes → All (Stands published) notes → reads_in k (history published readers) ≡ notes }
-{
-}
+{}

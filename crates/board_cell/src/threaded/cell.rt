@@ -46,7 +46,10 @@ fn opening(alloc: Global, words: &Vec<u64>) -> Result<Vec<u64>, AllocError>
 
 impl ThreadedCell {
     /// A cell of this value, with its writer's pass and a first reader's. The error is want of memory.
-    pub fn new(alloc: Global, words: &Vec<u64>) -> Result<(ThreadedCell, WriterPass, ReaderPass), CellError>
+    pub fn new(
+        alloc: Global,
+        words: &Vec<u64>,
+    ) -> Result<(ThreadedCell, WriterPass, ReaderPass), CellError>
         ensures cell { IfOk result (λ r. r.0.width ≡ length words.now.items) }
         ensures writer { IfOk result (λ r. r.1 ≡ new_writer r.0.cell words.now.items) }
         ensures reader { IfOk result (λ r. r.2 ≡ new_reader r.0.cell 1) }

@@ -44,7 +44,13 @@ pub struct GetAgain {
 impl ThreadedCell {
     // Tries until one is accepted, or none is left.
     #[inline(always)]
-    fn run_tries(&self, seat: &mut Seat<(), View>, call: &mut GetCall, opened: u64, tries: u32) -> Result<u64, GetAgain>
+    fn run_tries(
+        &self,
+        seat: &mut Seat<(), View>,
+        call: &mut GetCall,
+        opened: u64,
+        tries: u32,
+    ) -> Result<u64, GetAgain>
         requires cell { seat.old.table_id ≡ self.now.cell }
         requires seat { (seat.old.me.0 ≡ Reader (reader_of seat.old.me.0)) × ((reader_of seat.old.me.0).found ≡ []) × ((reader_of seat.old.me.0).opened ≡ opened) }
         requires call { IsTrying self.now.width call.old (reader_of seat.old.me.0) }
@@ -74,7 +80,12 @@ impl ThreadedCell {
     /// # Errors
     /// `GetAgain` where the counter rose in each of the tries; `out` then holds words of no use.
     #[inline]
-    pub fn try_get(&self, pass: &mut ReaderPass, tries: u32, out: &mut Vec<u64>) -> Result<u64, GetAgain>
+    pub fn try_get(
+        &self,
+        pass: &mut ReaderPass,
+        tries: u32,
+        out: &mut Vec<u64>,
+    ) -> Result<u64, GetAgain>
         requires cell { pass.old.cell ≡ self.now.cell }
         requires width { length out.old.items ≡ self.now.width }
         ensures width { length out.new.items ≡ self.now.width }
@@ -93,7 +104,13 @@ impl ThreadedCell {
     // Tries until one is accepted.
     #[cold]
     #[inline(never)]
-    fn run_all<R: Wait>(&self, rt: &R, seat: &mut Seat<(), View>, call: &mut GetCall, opened: u64) -> u64
+    fn run_all<R: Wait>(
+        &self,
+        rt: &R,
+        seat: &mut Seat<(), View>,
+        call: &mut GetCall,
+        opened: u64,
+    ) -> u64
         requires cell { seat.old.table_id ≡ self.now.cell }
         requires seat { (seat.old.me.0 ≡ Reader (reader_of seat.old.me.0)) × ((reader_of seat.old.me.0).found ≡ []) × ((reader_of seat.old.me.0).opened ≡ opened) }
         requires call { IsTrying self.now.width call.old (reader_of seat.old.me.0) }
@@ -114,7 +131,13 @@ impl ThreadedCell {
 
     // The first try stands apart, since it is mostly accepted: the loop stays out of its way.
     #[inline(always)]
-    fn run_first<R: Wait>(&self, rt: &R, seat: &mut Seat<(), View>, mut call: GetCall, opened: u64) -> (u64, GetCall)
+    fn run_first<R: Wait>(
+        &self,
+        rt: &R,
+        seat: &mut Seat<(), View>,
+        mut call: GetCall,
+        opened: u64,
+    ) -> (u64, GetCall)
         requires cell { seat.old.table_id ≡ self.now.cell }
         requires seat { (seat.old.me.0 ≡ Reader (reader_of seat.old.me.0)) × ((reader_of seat.old.me.0).found ≡ []) × ((reader_of seat.old.me.0).opened ≡ opened) }
         requires call { IsTrying self.now.width call (reader_of seat.old.me.0) }

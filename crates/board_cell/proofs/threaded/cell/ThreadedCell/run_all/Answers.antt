@@ -1,4 +1,4 @@
-use Rattle.std.proofs.Common.{◌≡◌, ◌≢◌, ℕ, List, [], ◌∷◌, ◌++◌, sym, ap, ◌∙◌, arith, append_assoc}
+use Rattle.std.proofs.Common.{◌≡◌, ℕ, List, [], ◌∷◌, ◌++◌, sym, ap, ◌∙◌, arith, append_assoc}
 use Rattle.board_cell.specs.Views.{reader_of, with_open}
 use Rattle.board_cell.specs.declared.threaded.view.View.TheVariants.{Reader}
 use Rattle.board_cell.proofs.Climbs.{climbs_push, last_push}

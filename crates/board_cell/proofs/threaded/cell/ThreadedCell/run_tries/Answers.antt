@@ -1,4 +1,4 @@
-use Rattle.std.proofs.Common.{◌≡◌, ◌≢◌, ℕ, List, [], ◌∷◌, ◌++◌, refl, sym, ap, ◌∙◌, arith, length-append, append_assoc}
+use Rattle.std.proofs.Common.{◌≡◌, ℕ, List, [], ◌∷◌, ◌++◌, refl, sym, ap, ◌∙◌, arith, length-append, append_assoc}
 use Rattle.board_cell.specs.Calls.{words_of}
 use Rattle.board_cell.specs.Passes.{note}
 use Rattle.board_cell.specs.Views.{reader_of, with_open, with_note}
