@@ -35,4 +35,4 @@ pub use update_call::{UpdateCall, ValueWords};
 pub use words::Words;
 
 #[cfg(test)]
-mod call_tests;
+mod tests;

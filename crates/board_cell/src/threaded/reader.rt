@@ -166,8 +166,8 @@ impl ThreadedCell {
         let shape = self.shape();
         let buffer = mem::replace(out, Vec::new(*out.allocator()));
         let mut call = GetCall::new(shape, buffer);
-        let opened = self.open_try(&mut pass.seat, &mut call);
-        let (generation, call) = self.run_first(rt, &mut pass.seat, call, opened);
+        let first = self.open_try(&mut pass.seat, &mut call);
+        let (generation, call) = self.run_first(rt, &mut pass.seat, call, first);
         mem::forget(mem::replace(out, call.into_buffer()));
         generation
     }
