@@ -23,3 +23,5 @@ pub mod NumberLemmas
 pub mod AnswerLaws
 pub mod GrowthLemmas
 pub mod SessionLaws
+pub mod BoardLemmas
+pub mod IdLaws

@@ -22,19 +22,11 @@ use Rattle.board_model.specs.Sound.{IsCalling, IsEntryOf, IsWriting, Sound}
 use Rattle.board_model.specs.LawsOfSessions.{FreshMeansUnpublished, GenerationsNeverFall, IsGot, IsLooked, IsPublicationOf, IsPublished, ListsOnlyGrow, NoGetIsStale, OneGenerationOneValue, Pairs, at_one, at_two, is_publication, publishes, publishes_by, publishes_in}
 use Rattle.board_model.proofs.CopyLemmas.{latest_push}
 use Rattle.board_model.proofs.RunningLemmas.{runs}
+use Rattle.board_model.proofs.SoundLemmas.{sound_after, sound_from, sound_start}
 use Rattle.board_model.proofs.LineCases.{IsStepOf, step_of}
 use Rattle.board_model.proofs.GrowthLemmas.{IsGrowth, line_growth, session_growth}
 
 -- ---- sessions
-
--- soundness is begun with and kept
-pub record KeepsSound : Type 0 where
-  pub first : Sound start
-  pub next : (s : State) (l : Line) (a : Answer) → IsRight s l a → Sound s → Sound (after s l a)
-
-pub sound_session : KeepsSound → (pairs : Session) (s : State) → IsLawfulFrom s pairs → Sound s → Sound (state_after s pairs)
-sound_session keeps [] s h k = k
-sound_session keeps (x ∷ xs) s h k = sound_session keeps xs (after s x.0 x.1) h.1 (keeps.next s x.0 x.1 h.0 k)
 
 pub lawful_split : (xs ys : Session) (s : State) → IsLawfulFrom s (xs ++ ys) → IsLawfulFrom s xs × IsLawfulFrom (state_after s xs) ys
 lawful_split [] ys s h = (tt, h)
@@ -58,11 +50,11 @@ pub record IsApart (p : Pairs) : Type 0 where
   pub last : Sound (at_two p)
   pub two : IsRight (at_two p) p.two.0 p.two.1
 
-pub apart : KeepsSound → (p : Pairs) → IsApart p
-apart keeps p =
+pub apart : (p : Pairs) → IsApart p
+apart p =
     let a = lawful_split p.before (p.one ∷ (p.between ++ p.two ∷ [])) start p.lawful in
-    let s1 : Sound (at_one p) = sound_session keeps p.before start a.0 keeps.first in
-    let s2 : Sound (after (at_one p) p.one.0 p.one.1) = keeps.next (at_one p) p.one.0 p.one.1 a.1.0 s1 in
+    let s1 : Sound (at_one p) = sound_from start p.before sound_start a.0 in
+    let s2 : Sound (after (at_one p) p.one.0 p.one.1) = sound_after (at_one p) p.one.0 p.one.1 a.1.0 s1 in
     let b = lawful_split p.between (p.two ∷ []) (after (at_one p) p.one.0 p.one.1) a.1.1 in
     let e : at_two p ≡ state_after (after (at_one p) p.one.0 p.one.1) p.between = state_append p.before (p.one ∷ p.between) start in
     record {
@@ -71,7 +63,7 @@ apart keeps p =
       next = s2;
       between = b.0;
       state = e;
-      last = subst Sound (sym e) (sound_session keeps p.between (after (at_one p) p.one.0 p.one.1) b.0 s2);
+      last = subst Sound (sym e) (sound_from (after (at_one p) p.one.0 p.one.1) p.between s2 b.0);
       two = subst (λ (s : State). IsRight s p.two.0 p.two.1) (sym e) b.1.0;
     }
 
@@ -119,28 +111,28 @@ looked s x b i g is h k =
 -- ---- the laws
 
 -- from one pair to the other
-between_growth : KeepsSound → (p : Pairs) (b i : ℕ) → b ≤ (at_one p).standing.tables.last_board → IsGrowth (at_one p) (at_two p) b i ((if publishes (at_one p) p.one.0 p.one.1 b i then 1 else 0) + publishes_in (after (at_one p) p.one.0 p.one.1) p.between b i)
-between_growth keeps p b i le =
-    let a = apart keeps p in
+between_growth : (p : Pairs) (b i : ℕ) → b ≤ (at_one p).standing.tables.last_board → IsGrowth (at_one p) (at_two p) b i ((if publishes (at_one p) p.one.0 p.one.1 b i then 1 else 0) + publishes_in (after (at_one p) p.one.0 p.one.1) p.between b i)
+between_growth p b i le =
+    let a = apart p in
     subst (λ (s : State). IsGrowth (at_one p) s b i ((if publishes (at_one p) p.one.0 p.one.1 b i then 1 else 0) + publishes_in (after (at_one p) p.one.0 p.one.1) p.between b i)) (sym a.state)
     (session_growth (p.one ∷ p.between) (at_one p) b i le (a.one, a.between))
 
-pub same_values : KeepsSound → OneGenerationOneValue
-same_values keeps p b i g ws vs x y =
-    let a = apart keeps p in
+pub same_values : OneGenerationOneValue
+same_values p b i g ws vs x y =
+    let a = apart p in
     let k = given (at_one p) p.one b i g ws a.sound a.one x in
     let l = given (at_two p) p.two b i g vs a.last a.two y in
-    let m = between_growth keeps p b i k.drawn in
+    let m = between_growth p b i k.drawn in
     let z : length m.more ≡ 0 = omega (arith, k.number, l.number, length-append ((at_one p).published b i) m.more, ap length m.list) in
     let e : (at_two p).published b i ≡ (at_one p).published b i = m.list ∙ ap (λ (c : List (List ℕ)). (at_one p).published b i ++ c) (nil_from_length m.more z) ∙ append-nil ((at_one p).published b i) in
     k.words ∙ ap latest (sym e) ∙ sym l.words
 
-pub rising : KeepsSound → GenerationsNeverFall
-rising keeps p b i g h ws vs x y =
-    let a = apart keeps p in
+pub rising : GenerationsNeverFall
+rising p b i g h ws vs x y =
+    let a = apart p in
     let k = given (at_one p) p.one b i g ws a.sound a.one x in
     let l = given (at_two p) p.two b i h vs a.last a.two y in
-    let m = between_growth keeps p b i k.drawn in
+    let m = between_growth p b i k.drawn in
     omega (arith, k.number, l.number, length-append ((at_one p).published b i) m.more, ap length m.list)
 
 -- the list after a publication
@@ -174,9 +166,9 @@ published s x b i g ws sound k =
     let e : (after s x.0 x.1).published b i ≡ lists_after s.published k.call.request k.told b i = ap (λ (y : State). y.published b i) (after_is s x k.party k.call k.access (Some k.told) k.runs k.line k.answer) in
     (e ∙ a.0, a.1, a.2)
 
-pub later : KeepsSound → NoGetIsStale
-later keeps p b i g h ws vs x y =
-    let a = apart keeps p in
+pub later : NoGetIsStale
+later p b i g h ws vs x y =
+    let a = apart p in
     let s1 : State = after (at_one p) p.one.0 p.one.1 in
     let k = published (at_one p) p.one b i g ws a.sound x in
     let one = line_growth (at_one p) p.one.0 p.one.1 b i k.2 a.one in
@@ -203,18 +195,18 @@ same_plus g n = at (n == 0) (eqb-true n 0) (eqb-false n 0)
     at true t f = eq-eqb g (g + n) (omega (arith, t refl))
     at false t f = ne_eqb g (g + n) (λ e. f refl (omega arith))
 
-pub still : KeepsSound → FreshMeansUnpublished
-still keeps p b i g ws is x y =
-    let a = apart keeps p in
+pub still : FreshMeansUnpublished
+still p b i g ws is x y =
+    let a = apart p in
     let k = given (at_one p) p.one b i g ws a.sound a.one x in
     let l = looked (at_two p) p.two b i g is a.two y in
-    let m = between_growth keeps p b i k.drawn in
+    let m = between_growth p b i k.drawn in
     let n : ℕ = publishes_in (after (at_one p) p.one.0 p.one.1) p.between b i in
     let z : ◌≡◌ {A = ℕ} (if publishes (at_one p) p.one.0 p.one.1 b i then 1 else 0) 0 = ap (λ (q : Bool). if q then 1 else 0) (got_alone (at_one p) p.one b i g b i ws x) in
     let c : length ((at_two p).published b i) ≡ g + n = ap length m.list ∙ length-append ((at_one p).published b i) m.more ∙ omega (arith, k.number, m.count, z) in
     l ∙ ap (λ (q : ℕ). g == q) c ∙ same_plus g n
 
-pub growing : KeepsSound → ListsOnlyGrow
-growing keeps p b i le =
-    let m = between_growth keeps p b i le in
+pub growing : ListsOnlyGrow
+growing p b i le =
+    let m = between_growth p b i le in
     (m.more, m.list, m.count)

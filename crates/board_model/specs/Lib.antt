@@ -17,4 +17,5 @@ pub mod LawsOfCounts
 pub mod LawsOfBounds
 pub mod LawsOfAnswers
 pub mod LawsOfSessions
+pub mod LawsOfIds
 pub mod LawOfSoundness
