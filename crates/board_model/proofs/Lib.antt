@@ -1,3 +1,10 @@
+pub mod GrammarLemmasNumbers
+pub mod GrammarLemmasSplits
+pub mod GrammarLemmasTokens
+pub mod GrammarLemmasCalls
+pub mod GrammarLemmasLines
+pub mod GrammarLemmasSpaces
+pub mod GrammarLemmasAnswers
 pub mod ListLemmas
 pub mod ThingLemmas
 pub mod KeptLemmas

@@ -3,6 +3,7 @@ pub mod OwedAccesses
 pub mod TypeTable
 pub mod LineGrammar
 pub mod AnswerGrammar
+pub mod LineReading
 pub mod Tables
 pub mod TableCalls
 pub mod Things
@@ -12,6 +13,8 @@ pub mod Memory
 pub mod Parties
 pub mod LawfulSession
 pub mod Sound
+pub mod Lines
+pub mod GrammarLaws
 pub mod LawsOfReads
 pub mod LawsOfCounts
 pub mod LawsOfBounds
@@ -20,3 +23,4 @@ pub mod LawsOfSessions
 pub mod LawsOfIds
 pub mod LawOfSoundness
 pub mod WorkedSessions
+pub mod Script

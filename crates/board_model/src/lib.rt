@@ -9,6 +9,7 @@ pub mod bound_laws;
 pub mod count_laws;
 mod errors;
 pub mod id_laws;
+pub mod grammar_laws;
 mod line;
 mod lists;
 pub mod read_laws;
