@@ -1,5 +1,5 @@
 -- Printable texts are ASCII.
-use Rattle.std.proofs.Common.{◌≡◌, ℕ, ◌<◌, ◌≤◌, List, length, get_or, Bool, true, false, refl, sym, ◌∙◌, ⊎_elim, arith, leb, rules}
+use Rattle.std.proofs.Common.{◌≡◌, ℕ, ◌<◌, ◌≤◌, List, length, get_or, Bool, true, false, refl, ⊎_elim, arith, leb}
 use Rattle.std.specs.Prelude.{IsTrue, ◌&&◌, IsUtf8}
 use Rattle.std.specs.List.{list_all}
 use Rattle.std.specs.Str.{IsAscii}
@@ -19,9 +19,9 @@ unprinted b h = let e : leb b 126 ≡ false = lt-leb b 126 (omega (arith, h)) in
 pub IsAscii-printed : (bytes : List ℕ) → IsTrue (list_all is_printable bytes) → IsAscii bytes
 IsAscii-printed bytes h i = ⊎_elim
     (λ (lt : i < length bytes). ⊎_elim
-        (λ (low : get_or bytes i 0 < 128). low)
-        (λ (high : 128 ≤ get_or bytes i 0). absurd (both_ways (list_all is_printable bytes) (list_all_at is_printable bytes i 0 lt (unprinted (get_or bytes i 0) high)) h))
-        (cases_lt (get_or bytes i 0) 128))
+    (λ (low : get_or bytes i 0 < 128). low)
+    (λ (high : 128 ≤ get_or bytes i 0). absurd (both_ways (list_all is_printable bytes) (list_all_at is_printable bytes i 0 lt (unprinted (get_or bytes i 0) high)) h))
+    (cases_lt (get_or bytes i 0) 128))
     (λ (ge : length bytes ≤ i). let e : get_or bytes i 0 ≡ 0 = get_or_past bytes i 0 ge in omega (arith, e))
     (cases_lt i (length bytes))
 

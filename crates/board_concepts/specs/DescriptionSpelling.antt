@@ -1,5 +1,5 @@
 -- How a description is spelled: its fields, one after another, and nothing behind them.
-use Rattle.std.specs.Prelude.{◌≡◌, ℕ, ◌<◌, ◌^◌, List, [], ◌∷◌, ◌++◌, length, IsTrue, Result, Ok, IfOk}
+use Rattle.std.specs.Prelude.{◌≡◌, ℕ, ◌<◌, ◌^◌, List, [], ◌∷◌, ◌++◌, length, Result, Ok, IfOk}
 use Rattle.board_layout.specs.Types.{IsTypeName}
 use Rattle.board_layout.specs.Answer.{Answers}
 use Rattle.board_layout.specs.declared.type_detail.TypeDetail.{TypeDetail}
@@ -69,6 +69,11 @@ pub record SpelledAt (d : Description) (bytes : List ℕ) (at : Fields) : Type 0
 abbrev pub SpelledDescription : Description → List ℕ → Type 0
 SpelledDescription d bytes = (at : Fields) × SpelledAt d bytes at
 
+-- the description of these fields
+abbrev pub described : List ℕ → TypeDetail → ℕ → ℕ → List Attribute → Description
+described name key max_readers max_nodes attributes =
+    record { version = 1; name = name; key = key; max_readers = max_readers; max_nodes = max_nodes; attributes = attributes }
+
 -- what a program can hold as a type
 pub record IsType (t : TypeDetail) : Type 0 where
   pub name : IsTypeName t.type_name
@@ -84,6 +89,10 @@ pub record IsDescription (d : Description) : Type 0 where
   pub attributes : AreAttributes d.attributes
 
 -- reading answers with the description that the bytes spell, exactly where they spell one; want of memory aside
-pub record Reads (bytes : List ℕ) (result : Result Description DeserializeError) : Type 0 where
-  pub found : IfOk result (λ d. SpelledDescription d bytes)
-  pub every : (d : Description) → IsDescription d → SpelledDescription d bytes → Answers result OutOfMemory (Ok d)
+pub record Reads (Spells : Description → List ℕ → Type 0) (bytes : List ℕ) (result : Result Description DeserializeError) : Type 0 where
+  pub found : IfOk result (λ d. Spells d bytes)
+  pub every : (d : Description) → IsDescription d → Spells d bytes → Answers result OutOfMemory (Ok d)
+
+-- bytes begin with one spelling at most, and nothing is behind it
+abbrev pub IsPrefixFree : (Description → List ℕ → Type 0) → Type 0
+IsPrefixFree Spells = (d e : Description) (bytes more : List ℕ) → Spells d bytes → Spells e (bytes ++ more) → (d ≡ e) × (more ≡ [])

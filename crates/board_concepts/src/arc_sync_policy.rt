@@ -3,7 +3,7 @@ ghost use Rattle.std.specs.Prelude.{◌≡◌, IfOk, IsOkUnless};
 ghost use Rattle.board_names.specs.declared.errors.service.ArcSyncPolicyCreationError.TheVariants.{InsufficientResources};
 ghost use denote.Bor.{Bor};
 
-pub use board_names::ArcSyncPolicyCreationError;
+use board_names::ArcSyncPolicyCreationError;
 use std::alloc::Global;
 use std::rc::Rc;
 use std::sync::{Arc, Mutex, Wait};

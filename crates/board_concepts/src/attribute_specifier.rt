@@ -2,11 +2,12 @@
 ghost use Rattle.std.specs.Prelude.{◌≡◌, ◌++◌, [], ◌∷◌, ◌↔◌, length, IsTrue, false, IfOk, IsErrOf};
 ghost use Rattle.board_concepts.specs.Attributes.{is_attribute, pair_of};
 
-use crate::attribute_set::AttributeSet;
-use crate::attribute_set::is_text;
+use crate::attribute_set::{AttributeSet, is_text};
 use board_layout::Text;
 use board_model::Attribute;
-use board_names::{AttributeError, MAX_ATTRIBUTE_KEY_LENGTH, MAX_ATTRIBUTE_VALUE_LENGTH, MAX_ATTRIBUTES};
+use board_names::{
+    AttributeError, MAX_ATTRIBUTE_KEY_LENGTH, MAX_ATTRIBUTE_VALUE_LENGTH, MAX_ATTRIBUTES,
+};
 use std::alloc::Global;
 use std::marker::Model;
 
@@ -31,7 +32,9 @@ pub(crate) fn add(set: AttributeSet, key: &str, value: &str) -> Result<Attribute
     ensures full { IsErrOf result AttributeError.ExceedsMaxSupportedAttributes ↔ (IsTrue (is_attribute (pair_of key.now value.now)) × (length set ≡ 8)) }
     ensures ok { IfOk result (λ more. more ≡ set ++ pair_of key.now value.now ∷ []) }
 {
-    if !is_text(MAX_ATTRIBUTE_KEY_LENGTH, key.as_bytes()) || !is_text(MAX_ATTRIBUTE_VALUE_LENGTH, value.as_bytes()) {
+    if !is_text(MAX_ATTRIBUTE_KEY_LENGTH, key.as_bytes())
+        || !is_text(MAX_ATTRIBUTE_VALUE_LENGTH, value.as_bytes())
+    {
         return Err(AttributeError::InvalidText);
     }
     if set.len() == MAX_ATTRIBUTES {

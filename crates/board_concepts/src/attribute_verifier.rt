@@ -4,7 +4,7 @@ ghost use Rattle.std.specs.List.{list_all};
 ghost use Rattle.board_model.specs.Tables as tables;
 ghost use Rattle.board_concepts.specs.Attributes.{is_text, is_attribute, pair_of};
 
-use crate::attribute_set::{is_text, AttributeSet};
+use crate::attribute_set::{AttributeSet, is_text};
 use crate::attribute_specifier::add;
 use board_layout::Text;
 use board_model::Attribute;
@@ -34,7 +34,9 @@ impl Model for AttributeVerifier {
 fn has_pair(pairs: &[Attribute], pair: &Attribute) -> bool
     ensures { result ≡ tables.has_pair pairs.now pair.now }
 {
-    pairs.iter().any(|other| other.key == pair.key && other.value == pair.value)
+    pairs
+        .iter()
+        .any(|other| other.key == pair.key && other.value == pair.value)
 }
 
 // Whether a key is that of one of these.

@@ -9,10 +9,13 @@ ghost use Rattle.board_concepts.specs.Attributes.{is_attribute, AreAttributes};
 ghost use Rattle.board_concepts.specs.Spelling.{Spelled, SpelledText, Puts};
 ghost use Rattle.board_concepts.specs.DescriptionSpelling.{variant_number, IsType, SpelledType, SpelledAttribute, SpelledEach, SpelledList};
 
-use crate::attribute_set::{is_text, AttributeSet};
+use crate::attribute_set::{AttributeSet, is_text};
 use board_layout::{Text, TypeDetail, TypeName, TypeVariant};
 use board_model::Attribute;
-use board_names::{DeserializeError, ServiceName, MAX_ATTRIBUTE_KEY_LENGTH, MAX_ATTRIBUTE_VALUE_LENGTH, MAX_ATTRIBUTES};
+use board_names::{
+    DeserializeError, MAX_ATTRIBUTE_KEY_LENGTH, MAX_ATTRIBUTE_VALUE_LENGTH, MAX_ATTRIBUTES,
+    ServiceName,
+};
 use std::alloc::{AllocError, Global};
 
 // The number at the front of the bytes, where it is at most `most` and in its shortest spelling.
@@ -24,7 +27,11 @@ pub(crate) fn number(bytes: &[u8], most: u64) -> Option<(u64, &[u8])>
     let (first, behind) = bytes.split_first()?;
     let low = u64::from(*first);
     if low < 128 {
-        return if low <= most { Some((low, behind)) } else { None };
+        return if low <= most {
+            Some((low, behind))
+        } else {
+            None
+        };
     }
     if most < 128 {
         return None;
@@ -131,7 +138,11 @@ fn read_attribute(bytes: &[u8]) -> Option<(Attribute, &[u8])>
 }
 
 // Adds so many attributes at the front of the bytes to a set, and answers the bytes behind them.
-fn read_each<'a>(set: &mut AttributeSet, bytes: &'a [u8], count: u64) -> Result<&'a [u8], DeserializeError>
+fn read_each<'a>(
+    set: &mut AttributeSet,
+    bytes: &'a [u8],
+    count: u64,
+) -> Result<&'a [u8], DeserializeError>
     requires { length set.old + count ≤ 8 }
     ensures found { IfOk result (λ left. (more : List Attribute) × (set.new ≡ set.old ++ more) × (length more ≡ count) × SpelledEach more bytes.now left.now) }
     ensures none { IsErrOf result DeserializeError.InternalError → (more : List Attribute) (rest : List ℕ) → length more ≡ count → IsTrue (list_all is_attribute more) → SpelledEach more bytes.now rest → ⊥ }
@@ -150,7 +161,10 @@ fn read_each<'a>(set: &mut AttributeSet, bytes: &'a [u8], count: u64) -> Result<
 }
 
 // The list of attributes at the front of the bytes. A list of more than 8 is none, and takes no memory.
-pub(crate) fn read_list(alloc: Global, bytes: &[u8]) -> Result<(AttributeSet, &[u8]), DeserializeError>
+pub(crate) fn read_list(
+    alloc: Global,
+    bytes: &[u8],
+) -> Result<(AttributeSet, &[u8]), DeserializeError>
     ensures found { IfOk result (λ p. SpelledList p.0 bytes.now p.1.now) }
     ensures none { IsErrOf result DeserializeError.InternalError → (attributes : List Attribute) (rest : List ℕ) → AreAttributes attributes → SpelledList attributes bytes.now rest → ⊥ }
     ensures every { (attributes : List Attribute) (rest : List ℕ) → AreAttributes attributes → SpelledList attributes bytes.now rest → IfOk result (λ p. (p.0 ≡ attributes) × (p.1.now ≡ rest)) }

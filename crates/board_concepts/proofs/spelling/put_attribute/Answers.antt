@@ -1,4 +1,3 @@
-use Rattle.std.proofs.Common.{subst}
 use Rattle.board_concepts.specs.Spelling.{SpelledText}
 use Rattle.board_concepts.specs.DescriptionSpelling.{SpelledAttribute}
 use Rattle.board_concepts.proofs.SpellingLemmas.{puts_then}
@@ -9,4 +8,4 @@ returns c =
     let key = rw c.as_bytes.ensures.value at c.in_ok-put_text.ensures in
     let value = rw c.as_bytes-2.ensures.value at c.in_ok-put_text-2.ensures in
     puts_then (SpelledText c.args.attribute.now.key) (SpelledText c.args.attribute.now.value) (SpelledAttribute c.args.attribute.now) _ _ _
-        (λ bytes at rest s t. (at, s, t)) key value
+    (λ bytes at rest s t. (at, s, t)) key value

@@ -1,7 +1,3 @@
-use Rattle.std.proofs.Common.{ℕ, List}
-use Rattle.board_layout.specs.declared.type_detail.TypeDetail.{TypeDetail}
-use Rattle.board_concepts.specs.Spelling.{Spelled, SpelledText, Puts}
-use Rattle.board_concepts.specs.DescriptionSpelling.{SpelledType, variant_number}
 use Rattle.board_concepts.proofs.SpellingLemmas.{puts_type}
 use Rattle.board_concepts.proofs.spelling.put_type.Goals as goal
 

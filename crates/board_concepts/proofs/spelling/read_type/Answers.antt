@@ -1,4 +1,4 @@
-use Rattle.std.proofs.Common.{◌≡◌, subst, sym, arith}
+use Rattle.std.proofs.Common.{subst, arith}
 use Rattle.std.proofs.lemmas.Grind.{common_steps}
 use Rattle.board_concepts.specs.Spelling.{Spelled, SpelledText}
 use Rattle.board_concepts.proofs.spelling.read_type.Goals as goal
@@ -11,4 +11,5 @@ returns-clause-found c = (
     name = subst (λ t. SpelledText t c.in_ok-variant.bytes.now c.in_ok-type_name.bytes.now) (grind (arith, common_steps)) c.in_ok-type_name.ensures.found;
     size = c.in_ok-size.ensures.found;
     alignment = c.in_ok-alignment.ensures.found;
-  })
+  },
+)

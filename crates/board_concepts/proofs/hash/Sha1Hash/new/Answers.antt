@@ -1,4 +1,4 @@
-use Rattle.std.proofs.Common.{◌≡◌, ◌*◌, ◌<◌, ◌≤◌, length, rules, arith, refl, ap, ◌∙◌}
+use Rattle.std.proofs.Common.{◌≡◌, ◌*◌, length, rules, arith, refl, ap, ◌∙◌}
 use Rattle.board_names.specs.Names.{IsBase64Url}
 use Rattle.hex.specs.Hex.{encode_lower, lower_digits}
 use Rattle.hex.proofs.HexLemmas.{length-encode_with}
@@ -10,7 +10,7 @@ unreachable-requires-in_default-new c =
     let whole : 40 ≡ 2 * length c.digest-digest.result = c.in-Ok.ensures.fits.0 refl in
     let written : c.encode_to_slice.new.output ≡ encode_lower c.digest-digest.result = c.in-Ok.ensures.written in
     let long : length c.encode_to_slice.new.output ≡ 2 * length c.digest-digest.result =
-        ap length written ∙ length-encode_with lower_digits c.digest-digest.result in
+    ap length written ∙ length-encode_with lower_digits c.digest-digest.result in
     let valid : IsBase64Url c.encode_to_slice.new.output = record {
       fits = omega (arith, whole, long);
       some = omega (arith, whole, long);
