@@ -57,3 +57,6 @@ fn main(rt: HostRuntime) -> anyhow::Result<ExitCode> {
     }
     Ok(ExitCode::SUCCESS)
 }
+
+#[cfg(test)]
+mod tests;
