@@ -5,7 +5,13 @@ use std::alloc::Global;
 use std::sync::Wait;
 
 /// This many gets, one after another.
-pub fn gets<R: Wait>(rt: &R, cell: &ThreadedCell, reader: &mut ReaderPass, out: &mut Vec<u64>, count: u64)
+pub fn gets<R: Wait>(
+    rt: &R,
+    cell: &ThreadedCell,
+    reader: &mut ReaderPass,
+    out: &mut Vec<u64>,
+    count: u64,
+)
     requires cell { reader.old.cell ≡ cell.now.cell }
     requires width { length out.old.items ≡ cell.now.width }
     ensures { length reader.new.notes ≡ length reader.old.notes + count }
@@ -16,7 +22,13 @@ pub fn gets<R: Wait>(rt: &R, cell: &ThreadedCell, reader: &mut ReaderPass, out: 
 }
 
 /// This many updates, by two values in turn.
-pub fn updates(cell: &ThreadedCell, writer: &mut WriterPass, one: &Vec<u64>, two: &Vec<u64>, count: u64)
+pub fn updates(
+    cell: &ThreadedCell,
+    writer: &mut WriterPass,
+    one: &Vec<u64>,
+    two: &Vec<u64>,
+    count: u64,
+)
     requires cell { writer.old.cell ≡ cell.now.cell }
     requires width { (length one.now.items ≡ cell.now.width) × (length two.now.items ≡ cell.now.width) }
     requires room { length writer.old.published + count < 2 ^ 64 }

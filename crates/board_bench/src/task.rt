@@ -8,11 +8,21 @@ use std::alloc::{AllocError, Global};
 #[derive(Clone, Copy, Debug, PartialEq, Eq)]
 pub enum Task {
     /// This many gets of a cell of so many words, in one thread.
-    Get { width: u64, count: u64 },
+    Get {
+        width: u64,
+        count: u64,
+    },
     /// This many updates, in one thread.
-    Update { width: u64, count: u64 },
+    Update {
+        width: u64,
+        count: u64,
+    },
     /// One thread that makes so many updates, and so many that get until they have seen the last of them.
-    Shared { width: u64, readers: u64, updates: u64 },
+    Shared {
+        width: u64,
+        readers: u64,
+        updates: u64,
+    },
 }
 
 // The greatest count, and one more.
@@ -55,7 +65,11 @@ pub fn task_of(alloc: Global, words: &[String]) -> Result<Option<Task>, AllocErr
             if readers == 0 || readers > 3 {
                 return Ok(None);
             }
-            Ok(Some(Task::Shared { width, readers, updates: count }))
+            Ok(Some(Task::Shared {
+                width,
+                readers,
+                updates: count,
+            }))
         }
         _ => Ok(None),
     }

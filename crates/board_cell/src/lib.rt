@@ -27,10 +27,7 @@ pub use publish_call::PublishCall;
 pub use put_call::PutCall;
 pub use runs::{run_get, run_update};
 pub use seat_words::SeatWords;
-pub use threaded::{
-    Gathered, GetAgain, Note, ReaderPass, ReaderView, Receipt, ThreadedCell, View, WriterPass,
-    WriterView,
-};
+pub use threaded::{Gathered, GetAgain, Note, ReaderPass, Receipt, ThreadedCell, WriterPass};
 pub use update_call::{UpdateCall, ValueWords};
 pub use words::Words;
 

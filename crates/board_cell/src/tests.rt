@@ -1,3 +1,4 @@
 mod calls;
 mod row;
 mod shared;
+mod words;

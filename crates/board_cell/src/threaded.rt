@@ -13,5 +13,5 @@ pub use cell::ThreadedCell;
 pub use gather::Gathered;
 pub use reader::{GetAgain, ReaderPass};
 pub use receipt::Receipt;
-pub use view::{Note, ReaderView, View, WriterView};
+pub use view::Note;
 pub use writer::WriterPass;

@@ -1,7 +1,7 @@
 //! The calls, each through its accesses, in a cell of two words that begins with word 4: its copies begin with words 6 and 8.
 use crate::{
-    Access, CellShape, FreshCall, GetCall, PlainWords, Progress, PublishCall, PutCall, UpdateCall,
-    Words, run_get, run_update,
+    Access, CellShape, FreshCall, GetCall, Progress, PublishCall, PutCall, UpdateCall, Words,
+    run_get, run_update,
 };
 use std::test::*;
 
@@ -61,14 +61,4 @@ fn a_loan_puts_its_words_and_publishes(rt: HostRuntime) {
     let mut publish = PublishCall::new(SHAPE, 2);
     assert_eq!(rt; publish.next(), Access::Write { word: 4, value: 3 });
     assert_eq!(rt; publish.took(0), Progress::Done);
-}
-
-#[test]
-fn plain_words_keep_what_is_stored(rt: HostRuntime) -> Result<(), Fail> {
-    let mut words = PlainWords::new(vec![in rt.alloc(); 1, 2]?);
-    words.store(0, 7);
-    assert_eq!(rt; words.len(), 2);
-    assert_eq!(rt; words.load(0), 7);
-    assert_eq!(rt; words.load(1), 2);
-    Ok(())
 }

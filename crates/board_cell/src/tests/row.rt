@@ -1,9 +1,8 @@
 //! One thread.
 ghost use Rattle.std.specs.Prelude.{◌≡◌, ◌+◌, ◌^◌, ◌<◌, length, IfOk};
 
-use crate::{GetAgain, ReaderPass, SeatWords, ThreadedCell, Words, WriterPass};
+use crate::{GetAgain, ReaderPass, ThreadedCell, WriterPass};
 use std::alloc::{AllocError, Global};
-use std::sync::Wait;
 use std::test::*;
 
 fn tried(cell: &ThreadedCell, reader: &mut ReaderPass, out: &mut Vec<u64>) -> Option<(u64, u64)>
@@ -71,16 +70,5 @@ fn a_receipt_and_another_pass_are_told_of(rt: HostRuntime) -> Result<(), Fail> {
     cell.join(&mut reader, other);
     assert!(rt; cell.fresh(&mut reader, 2));
     cell.meet(&mut writer, &mut reader);
-    Ok(())
-}
-
-#[test]
-fn seat_words_keep_what_is_stored(rt: HostRuntime) -> Result<(), Fail> {
-    let words = vec![in rt.alloc(); 1, 2]?;
-    let mut words = SeatWords::new(rt.alloc(), &words)?;
-    words.store(0, 7);
-    assert_eq!(rt; words.len(), 2);
-    assert_eq!(rt; words.load(0), 7);
-    assert_eq!(rt; words.load(1), 2);
     Ok(())
 }
