@@ -33,3 +33,5 @@ pub mod SessionLaws
 pub mod BoardLemmas
 pub mod IdLaws
 pub mod WorkedLemmas
+pub mod KeptKeyLemmas
+pub mod FormLemmas

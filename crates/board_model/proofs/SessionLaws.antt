@@ -21,7 +21,7 @@ use Rattle.board_model.specs.LawfulSession.{IsLawfulFrom, IsRight, Session, Stat
 use Rattle.board_model.specs.Sound.{IsCalling, IsEntryOf, IsWriting, Sound}
 use Rattle.board_model.specs.LawsOfSessions.{FreshMeansUnpublished, GenerationsNeverFall, IsGot, IsLooked, IsPublicationOf, IsPublished, ListsOnlyGrow, NoGetIsStale, OneGenerationOneValue, Pairs, at_one, at_two, is_publication, publishes, publishes_by, publishes_in}
 use Rattle.board_model.proofs.CopyLemmas.{latest_push}
-use Rattle.board_model.proofs.RunningLemmas.{runs}
+use Rattle.board_model.proofs.RunningLemmas.{drawn_in, runs}
 use Rattle.board_model.proofs.SoundLemmas.{sound_after, sound_from, sound_start}
 use Rattle.board_model.proofs.LineCases.{IsStepOf, step_of}
 use Rattle.board_model.proofs.GrowthLemmas.{IsGrowth, line_growth, session_growth}
@@ -73,14 +73,6 @@ pair_step s x party r a told run l e h =
     let h1 : IsRight s (line.Step party) x.1 = subst (λ (y : Line). IsRight s y x.1) l h in
     let h2 : IsRight s (line.Step party) (answer.Step a told) = subst (λ (y : Answer). IsRight s (line.Step party) y) e h1 in
     step_of s party r a told run h2
-
--- the number of an entry's board was drawn
-drawn_in : (s : State) → Sound s → (b i : ℕ) (c : CellShape) → IsEntryOf s.standing.tables b i c → b ≤ s.standing.tables.last_board
-drawn_in s sound b i c h = at (board_at s.standing.tables b) refl h.found
-  where
-    at : (o : Option Board) → board_at s.standing.tables b ≡ o → entry_in o i ≡ Some h.entry → b ≤ s.standing.tables.last_board
-    at None e f = absurd cc
-    at (Some x) e f = sound.boards.numbered b x e
 
 -- what a get gave
 pub record IsGiven (s : State) (b i : ℕ) (ws : List ℕ) (g : ℕ) : Type 0 where
