@@ -86,7 +86,7 @@ formed_board number name k limits attributes entries h le = record {
 weaker_thing : (m n : ℕ) → m ≤ n → (t : Held) → IsFormedThing m t → IsFormedThing n t
 weaker_thing m n le t h = record { holder = h.holder; port = omega (arith, h.port, le) }
 
-formed_same : (t : BoardTables) (n : ℕ) → AreFormedTables t n → AreFormedTables t (n + 1)
+pub formed_same : (t : BoardTables) (n : ℕ) → AreFormedTables t n → AreFormedTables t (n + 1)
 formed_same t n h = record { boards = h.boards; things = h.things; few = omega (arith, h.few) }
 
 -- one more thing
@@ -117,7 +117,7 @@ anew_formed party old new n x h = at (is_held_as party old x)
     at true = record { holder = h.holder; port = h.port }
     at false = h
 
-formed_named : (t : BoardTables) (party old new : List ℕ) (n : ℕ) → AreFormedTables t n → AreFormedTables (with_name t party old new) (n + 1)
+pub formed_named : (t : BoardTables) (party old new : List ℕ) (n : ℕ) → AreFormedTables t n → AreFormedTables (with_name t party old new) (n + 1)
 formed_named t party old new n h = record {
   boards = h.boards;
   things = all_map (IsFormedThing t.last_port) (named_anew party old new) (anew_formed party old new t.last_port) t.things h.things;
@@ -127,7 +127,7 @@ formed_named t party old new n h = record {
 held_formed : (t : BoardTables) (party : List ℕ) (x : Held) (n : ℕ) → AreFormedTables t n → thing_of t.things party x.name ≡ Some x → IsFormedThing t.last_port x
 held_formed t party x n h f = all_found (IsFormedThing t.last_port) (is_held_as party x.name) t.things x h.things f
 
-formed_table : (s : State) (party : List ℕ) (n : ℕ) (c : TableCall) → AreFormedTables s.standing.tables n → is_name party ≡ true → IsFormedInTable c → IsTableCall s party c → AreFormedTables (ask_tables s.standing s.published party c).standing.tables (n + 1)
+pub formed_table : (s : State) (party : List ℕ) (n : ℕ) (c : TableCall) → AreFormedTables s.standing.tables n → is_name party ≡ true → IsFormedInTable n c → IsTableCall s party c → AreFormedTables (ask_tables s.standing s.published party c).standing.tables (n + 1)
 formed_table s party n (create f name k limits attributes entries) h p q r =
     let t : BoardTables = s.standing.tables in
     let new : BoardTables = created s.standing.tables party f name (key_detail k) limits attributes (map added_of entries) in

@@ -35,3 +35,4 @@ pub mod IdLaws
 pub mod WorkedLemmas
 pub mod KeptKeyLemmas
 pub mod FormLemmas
+pub mod KeptFormLemmas

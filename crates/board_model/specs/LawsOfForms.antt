@@ -15,7 +15,7 @@ use Rattle.board_model.specs.AnswerGrammar.{IsAnswer}
 use Rattle.board_model.specs.TypeTable.{key_bytes, key_of, key_type_of, type_of_key}
 use Rattle.board_model.specs.Tables.{port_of}
 use Rattle.board_model.specs.Things.{Held}
-use Rattle.board_model.specs.Requests.{Request, TableCall, create, table}
+use Rattle.board_model.specs.Requests.{Request, TableCall, create, identify, table}
 use Rattle.board_model.specs.Parties.{Party, free, gone, running}
 use Rattle.board_model.specs.LawfulSession.{IsLawful, IsOwed, IsReasoned, IsReplied, IsRight, IsWord, Session, State, has_key_type, reason_of, start, state_after}
 use Rattle.board_model.specs.Sound.{BoardTables}
@@ -59,24 +59,25 @@ pub record IsFormedCreate (name : List ℕ) (k : KeyType) (limits : Limits) (att
   pub each : AllByRecursion IsAddedEntry entries
   pub types : list_all (has_key_type k) entries ≡ true
 
-abbrev pub IsFormedInTable : TableCall → Type 0
-IsFormedInTable (create f name k limits attributes entries) = IsFormedCreate name k limits attributes entries
-IsFormedInTable c = Unit {0}
+abbrev pub IsFormedInTable : ℕ → TableCall → Type 0
+IsFormedInTable n (create f name k limits attributes entries) = IsFormedCreate name k limits attributes entries
+IsFormedInTable n (identify x) = port_of x.kind ≤ n
+IsFormedInTable n c = Unit {0}
 
-abbrev pub IsFormedRequest : Request → Type 0
-IsFormedRequest (table c) = IsFormedInTable c
-IsFormedRequest request = Unit {0}
+abbrev pub IsFormedRequest : ℕ → Request → Type 0
+IsFormedRequest n (table c) = IsFormedInTable n c
+IsFormedRequest n request = Unit {0}
 
 -- a party that runs a call has a name of the grammar
-abbrev pub IsFormedParty : List ℕ → Party → Type 0
-IsFormedParty name free = Unit {0}
-IsFormedParty name (running r) = (is_name name ≡ true) × IsFormedRequest r.request
-IsFormedParty name gone = Unit {0}
+abbrev pub IsFormedParty : ℕ → List ℕ → Party → Type 0
+IsFormedParty n name free = Unit {0}
+IsFormedParty n name (running r) = (is_name name ≡ true) × IsFormedRequest n r.request
+IsFormedParty n name gone = Unit {0}
 
--- and no more than n things stand
+-- no more than n things stand, and no port of a call is above n
 pub record AreFormed (s : State) (n : ℕ) : Type 0 where
   pub tables : AreFormedTables s.standing.tables n
-  pub parties : (party : List ℕ) → IsFormedParty party (s.parties party)
+  pub parties : (party : List ℕ) → IsFormedParty n party (s.parties party)
 
 -- after a session they are no more than it has lines
 abbrev pub SessionsKeepForms : Type 0
