@@ -1,38 +1,34 @@
 -- Tables of boards and things whose texts and numbers are of the grammar.
-use Rattle.std.proofs.Common.{◌≡◌, ℕ, zero, suc, ◌+◌, ◌-◌, ◌*◌, ◌^◌, ◌<◌, ◌≤◌, Bool, true, false, cond, List, [], ◌∷◌, ◌++◌, length, map, max, arith, refl, sym, ap, subst, ◌∙◌, Option, Some, None}
-use Rattle.std.specs.Prelude.{find, ◌==◌, ◌||◌, nat_lt, Result, Ok, Err}
+use Rattle.std.proofs.Common.{◌≡◌, ℕ, ◌+◌, ◌<◌, ◌≤◌, Bool, true, false, cond, List, [], ◌∷◌, ◌++◌, length, map, arith, refl, sym, ap, subst, Option, Some, None}
+use Rattle.std.specs.Prelude.{◌==◌, ◌||◌, nat_lt}
 use Rattle.std.specs.List.{AllByRecursion, list_all, list_any}
 use Rattle.std.specs.Str.{bytes_eq}
 use Rattle.std.proofs.lemmas.Bool.{and_parts, ltb-false, or_parts}
 use Rattle.std.proofs.lemmas.List.{length_push, length-map}
 use Rattle.board_layout.specs.declared.shape.CellPlace.{CellPlace}
-use Rattle.board_layout.specs.Layout.{cell_alignment, cell_bytes, payload, place_at, places_from, start_of}
+use Rattle.board_layout.specs.Layout.{cell_bytes, payload, places_from, start_of}
 use Rattle.board_model.specs.declared.attributes.Attribute.{Attribute}
-use Rattle.board_model.specs.declared.attributes.Requirements.{Requirements}
 use Rattle.board_model.specs.declared.errors.BlackboardCreateError.TheVariants as create_error
 use Rattle.board_model.specs.declared.tables.Board.{Board}
 use Rattle.board_model.specs.declared.tables.Entry.{Entry}
-use Rattle.board_model.specs.declared.tables.Kind.{Kind}
 use Rattle.board_model.specs.declared.tables.Kind.TheVariants as kind
 use Rattle.board_model.specs.declared.tables.Limits.{Limits}
 use Rattle.board_model.specs.declared.value.AddedEntry.{AddedEntry}
-use Rattle.board_model.specs.declared.value.Key.{Key}
-use Rattle.board_model.specs.declared.value.Key.TheVariants as key
 use Rattle.board_model.specs.declared.value.KeyType.{KeyType}
 use Rattle.board_model.specs.declared.value.KeyType.TheVariants as key_type
 use Rattle.board_model.specs.declared.value.Value.{Value}
 use Rattle.board_model.specs.declared.value.Value.TheVariants as value
-use Rattle.board_model.specs.LineGrammar.{AreLimits, IsAddedEntry, IsNumber, IsNumberIfAny, is_board_name, is_name}
-use Rattle.board_model.specs.TypeTable.{key_bytes, key_detail, key_type_of, same_key, same_key_type, type_of_key, value_detail, value_words}
-use Rattle.board_model.specs.Tables.{board_at, board_named, entries_of, entry_found, has_equal_keys, has_name, is_numbered, is_of_board, limit_of, new_board, port_of, shape_of, shapes_of, without}
-use Rattle.board_model.specs.TableCalls.{asked, boards_left, create_refusals, created, entry_mut_refusals, entry_refusals, first_of, id_of, is_corrupted, joined, place_of, number_of, open_refusals, reader_refusals, with_read_handle, with_reader, with_thing, with_write_handle, with_writer, writer_refusals}
-use Rattle.board_model.specs.Things.{Held, Standing, is_held_as, named_anew, thing_of, with_name}
-use Rattle.board_model.specs.Requests.{Fetch, Published, Request, TableCall, create, describe, entry, entry_mut, fill, fresh, get, give_back, identify, join, lend, list_keys, list_nodes, publish, put, reader, table, tell, update, writer}
-use Rattle.board_model.specs.Replies.{added_of, ask, ask_tables, dropped, is_key, latest, released_thing, with_value}
+use Rattle.board_model.specs.LineGrammar.{IsAddedEntry, IsNumber, IsNumberIfAny, is_name}
+use Rattle.board_model.specs.TypeTable.{key_detail, key_type_of, same_key, same_key_type, type_of_key, value_detail, value_words}
+use Rattle.board_model.specs.Tables.{board_at, board_named, entries_of, entry_found, has_equal_keys, has_name, limit_of, new_board, port_of, shape_of, shapes_of}
+use Rattle.board_model.specs.TableCalls.{asked, create_refusals, created, entry_mut_refusals, entry_refusals, first_of, id_of, is_corrupted, joined, place_of, number_of, open_refusals, reader_refusals, with_read_handle, with_reader, with_write_handle, with_writer, writer_refusals}
+use Rattle.board_model.specs.Things.{Held, is_held_as, named_anew, thing_of, with_name}
+use Rattle.board_model.specs.Requests.{TableCall, create, describe, entry, entry_mut, give_back, identify, join, lend, list_keys, list_nodes, reader, tell, writer}
+use Rattle.board_model.specs.Replies.{added_of, ask_tables, is_key}
 use Rattle.board_model.specs.LawfulSession.{State, has_key_type}
 use Rattle.board_model.specs.Sound.{BoardTables, IsTableCall}
-use Rattle.board_model.specs.LawsOfForms.{AreFormedTables, IsFormedBoard, IsFormedCreate, IsFormedEntry, IsFormedInTable, IsFormedRequest, IsFormedThing}
-use Rattle.board_model.proofs.ThingLemmas.{all_found, all_map, all_push, all_weaker, all_without}
+use Rattle.board_model.specs.LawsOfForms.{AreFormedTables, IsFormedBoard, IsFormedCreate, IsFormedEntry, IsFormedInTable, IsFormedThing}
+use Rattle.board_model.proofs.ThingLemmas.{all_found, all_map, all_push, all_weaker}
 
 -- ---- a new board
 
@@ -135,9 +131,9 @@ formed_table s party n (create f name k limits attributes entries) h p q r =
     let thing : Held = record { holder = party; name = f; board = s.standing.tables.last_board + 1; kind = kind.Factory } in
     formed_asked s.standing.tables (first_of (create_refusals (same_key k) s.standing.tables.boards name (map added_of entries))) (s.standing.tables.last_board + 1) new n h
     (λ e.
-        let c : is_corrupted (same_key k) (map added_of entries) ≡ false = third_false (list_any (has_name name) s.standing.tables.boards) (length (map added_of entries) == 0) (is_corrupted (same_key k) (map added_of entries)) create_error.AlreadyExists create_error.NoEntriesProvided create_error.ServiceInCorruptedState e in
-        let d : payload (shapes_of (map added_of entries)) ≤ 4294967295 = short_payload (has_equal_keys (same_key k) (map added_of entries)) (payload (shapes_of (map added_of entries))) c in
-        formed_thing s.standing.tables new thing n h (all_push IsFormedBoard s.standing.tables.boards b h.boards (formed_board (s.standing.tables.last_board + 1) name k limits attributes entries q d)) (omega arith) refl (record { holder = p; port = omega arith }))
+    let c : is_corrupted (same_key k) (map added_of entries) ≡ false = third_false (list_any (has_name name) s.standing.tables.boards) (length (map added_of entries) == 0) (is_corrupted (same_key k) (map added_of entries)) create_error.AlreadyExists create_error.NoEntriesProvided create_error.ServiceInCorruptedState e in
+    let d : payload (shapes_of (map added_of entries)) ≤ 4294967295 = short_payload (has_equal_keys (same_key k) (map added_of entries)) (payload (shapes_of (map added_of entries))) c in
+    formed_thing s.standing.tables new thing n h (all_push IsFormedBoard s.standing.tables.boards b h.boards (formed_board (s.standing.tables.last_board + 1) name k limits attributes entries q d)) (omega arith) refl (record { holder = p; port = omega arith }))
 formed_table s party n (join f name k limits needs) h p q r =
     let new : BoardTables = joined s.standing.tables party f (board_named s.standing.tables name) in
     formed_asked s.standing.tables (first_of (open_refusals bytes_eq s.standing.tables.things party (board_named s.standing.tables name) (key_detail k) limits needs)) (number_of (board_named s.standing.tables name)) new n h

@@ -1,5 +1,5 @@
 -- Each line keeps the forms of boards, things and parties.
-use Rattle.std.proofs.Common.{◌≡◌, ℕ, ◌+◌, ◌≤◌, Bool, true, false, cond, List, [], ◌∷◌, ◌++◌, length, arith, refl, sym, ap, subst, ◌∙◌, Option, Some, None}
+use Rattle.std.proofs.Common.{◌≡◌, ℕ, ◌+◌, ◌≤◌, Bool, true, false, cond, List, [], ◌∷◌, ◌++◌, length, arith, refl, sym, subst, Option, Some, None}
 use Rattle.std.specs.Prelude.{not, is_some, if◌then◌else◌}
 use Rattle.std.specs.List.{AllByRecursion, list_all, list_any}
 use Rattle.std.specs.Str.{bytes_eq}
@@ -8,25 +8,21 @@ use Rattle.board_model.specs.declared.access.Access.TheVariants as access
 use Rattle.board_model.specs.declared.answer.Answer.{Answer}
 use Rattle.board_model.specs.declared.answer.Reason.{Reason}
 use Rattle.board_model.specs.declared.answer.Reason.TheVariants as reason
-use Rattle.board_model.specs.declared.attributes.Attribute.{Attribute}
 use Rattle.board_model.specs.declared.line.Call.{Call}
 use Rattle.board_model.specs.declared.line.Call.TheVariants as call
 use Rattle.board_model.specs.declared.line.Line.{Line}
 use Rattle.board_model.specs.declared.line.Line.TheVariants as line
 use Rattle.board_model.specs.declared.tables.Board.{Board}
-use Rattle.board_model.specs.declared.tables.Limits.{Limits}
-use Rattle.board_model.specs.declared.value.AddedEntry.{AddedEntry}
-use Rattle.board_model.specs.declared.value.KeyType.{KeyType}
 use Rattle.board_model.specs.declared.tables.ThingKind.{ThingKind}
 use Rattle.board_model.specs.declared.tables.ThingKind.TheVariants as thing_kind
 use Rattle.board_model.specs.LineGrammar.{IsCall, is_name}
 use Rattle.board_model.specs.Tables.{is_numbered, is_of_board, kind_of, port_of, same_kind, without}
 use Rattle.board_model.specs.TableCalls.{boards_left}
 use Rattle.board_model.specs.Things.{Held, Standing, held_of_kind, is_held_as, of_kind, thing_of}
-use Rattle.board_model.specs.Requests.{Fetch, Published, Request, TableCall, and_then, create, describe, give_back, identify, join, lend, list_keys, list_nodes, tell, entry, entry_mut, fill, fresh, get, handle_of, handled, identified, loan_of, new_name, publish, put, reader, request_of, table, update, writer}
-use Rattle.board_model.specs.Replies.{ask, dropped, latest, released_thing, with_value}
+use Rattle.board_model.specs.Requests.{Fetch, Request, TableCall, and_then, create, describe, give_back, identify, join, lend, list_keys, list_nodes, tell, entry, entry_mut, fill, fresh, get, handle_of, handled, identified, loan_of, publish, put, reader, request_of, table, update, writer}
+use Rattle.board_model.specs.Replies.{ask, latest, released_thing, with_value}
 use Rattle.board_model.specs.Parties.{Party, Running, begun, free, gone, notice, running, with_party}
-use Rattle.board_model.specs.LawfulSession.{IsLawful, IsLawfulFrom, IsRight, Session, State, after, call_reason, free_reason, has_key_type, is_taken, is_typed, is_indexed, is_filled, reason_of, start, state_after, stepped}
+use Rattle.board_model.specs.LawfulSession.{IsLawfulFrom, IsRight, Session, State, after, call_reason, free_reason, has_key_type, is_taken, reason_of, start, state_after}
 use Rattle.board_model.specs.Sound.{BoardTables, IsCalling, Sound}
 use Rattle.board_model.specs.LawsOfForms.{AreFormed, AreFormedTables, IsFormedBoard, IsFormedParty, IsFormedInTable, IsFormedRequest, IsFormedThing, SessionsKeepForms}
 use Rattle.board_model.specs.LawsOfBounds.{IsWithin}

@@ -36,3 +36,5 @@ pub mod WorkedLemmas
 pub mod KeptKeyLemmas
 pub mod FormLemmas
 pub mod KeptFormLemmas
+pub mod ReplyFormLemmas
+pub mod FormLaws

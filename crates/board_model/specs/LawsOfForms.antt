@@ -1,5 +1,5 @@
 -- Laws of forms: a right answer is one of the answer grammar, each line of the grammar has one, and keys are told as they were added.
-use Rattle.std.specs.Prelude.{◌≡◌, ℕ, ◌+◌, ◌^◌, ◌<◌, ◌≤◌, true, List, length, None}
+use Rattle.std.specs.Prelude.{◌≡◌, ℕ, ◌^◌, ◌<◌, ◌≤◌, true, List, length, None}
 use Rattle.std.specs.List.{AllByRecursion, list_all}
 use Rattle.board_model.specs.declared.answer.Answer.{Answer}
 use Rattle.board_model.specs.declared.attributes.Attribute.{Attribute}
@@ -19,6 +19,7 @@ use Rattle.board_model.specs.Requests.{Request, TableCall, create, identify, tab
 use Rattle.board_model.specs.Parties.{Party, free, gone, running}
 use Rattle.board_model.specs.LawfulSession.{IsLawful, IsOwed, IsReasoned, IsReplied, IsRight, IsWord, Session, State, has_key_type, reason_of, start, state_after}
 use Rattle.board_model.specs.Sound.{BoardTables}
+use Rattle.board_model.specs.LawsOfAnswers.{lines_of}
 
 -- a key is told as it was added
 abbrev pub KeysAreToldAsAdded : Type 0
@@ -100,3 +101,7 @@ RightAnswersAreOfTheGrammar = (pairs : Session) (l : Line) (a : Answer) → IsLa
 -- so each line of the grammar has a right answer: the rules never contradict each other
 abbrev pub EachLineHasAnAnswer : Type 0
 EachLineHasAnAnswer = (pairs : Session) (l : Line) → IsLawful pairs → length pairs < 2 ^ 63 → IsLine l → (a : Answer) × IsRight (state_after start pairs) l a
+
+-- and each list of lines has a lawful session
+abbrev pub EachScriptHasASession : Type 0
+EachScriptHasASession = (lines : List Line) → AllByRecursion IsLine lines → length lines < 2 ^ 63 → (pairs : Session) × IsLawful pairs × (lines_of pairs ≡ lines)
