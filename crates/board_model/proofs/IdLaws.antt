@@ -92,7 +92,7 @@ is_first value (Some x) y e = at (same_type x.1.value value) e
     at true k = k
     at false k = absurd cc
 
-found_in : (t : BoardTables) (n : ℕ) (k : Key) (u : ValueType) (place id : ℕ) (x : ℕ × Entry) → (o : Option Board) → board_at t n ≡ o → entry_found o (is_key k) (value_detail u) ≡ Some x → place ≡ x.0 → id ≡ x.1.cell.place → IsFoundIn t n k place id
+pub found_in : (t : BoardTables) (n : ℕ) (k : Key) (u : ValueType) (place id : ℕ) (x : ℕ × Entry) → (o : Option Board) → board_at t n ≡ o → entry_found o (is_key k) (value_detail u) ≡ Some x → place ≡ x.0 → id ≡ x.1.cell.place → IsFoundIn t n k place id
 found_in t n k u place id x None e h p q = absurd cc
 found_in t n k u place id x (Some b) e h p q = record {
   board = b;
@@ -184,7 +184,7 @@ one_id p n i j one two k t u x y =
     let g : f.item ≡ f.other = ap (λ (z : ℕ × Entry). z.1) e in
     (ap (λ (z : ℕ × Entry). z.0) e, f.told ∙ ap (λ (z : Entry). z.cell.place) g ∙ sym f.later)
 
-placed_at : (t : BoardTables) (n i : ℕ) (b : Board) (is : List ℕ → Bool) (e : Entry) → board_at t n ≡ Some b → entry_from 0 is b.entries ≡ Some (i, e) → entry_at t n i ≡ Some e
+pub placed_at : (t : BoardTables) (n i : ℕ) (b : Board) (is : List ℕ → Bool) (e : Entry) → board_at t n ≡ Some b → entry_from 0 is b.entries ≡ Some (i, e) → entry_at t n i ≡ Some e
 placed_at t n i b is e h f =
     let g = found_from is b.entries 0 i e f in
     let a : i ≡ g.at = omega (arith, g.from) in

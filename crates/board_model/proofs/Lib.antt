@@ -33,3 +33,8 @@ pub mod SessionLaws
 pub mod BoardLemmas
 pub mod IdLaws
 pub mod WorkedLemmas
+pub mod KeptKeyLemmas
+pub mod FormLemmas
+pub mod KeptFormLemmas
+pub mod ReplyFormLemmas
+pub mod FormLaws

@@ -43,7 +43,7 @@ use Rattle.board_model.proofs.SoundLemmas.{sound_after, sound_start}
 abbrev pub Below : List ℕ → Type 0
 Below words = (j : ℕ) → IsNumber (slice_index words j)
 
-below_none : Below []
+pub below_none : Below []
 below_none j = omega arith
 
 below_cons : (x : ℕ) (xs : List ℕ) → IsNumber x → Below xs → Below (x ∷ xs)

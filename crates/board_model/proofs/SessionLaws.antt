@@ -1,5 +1,5 @@
 -- Laws of whole sessions.
-use Rattle.std.proofs.Common.{◌≡◌, ℕ, ◌+◌, ◌≤◌, Bool, true, false, List, [], ◌∷◌, ◌++◌, length, map, arith, refl, sym, ap, subst, ◌∙◌, Option, Some, None}
+use Rattle.std.proofs.Common.{◌≡◌, ℕ, ◌+◌, ◌≤◌, Bool, true, false, List, [], ◌∷◌, ◌++◌, length, map, arith, refl, sym, ap, subst, ◌∙◌, Option, Some}
 use Rattle.std.specs.Prelude.{◌==◌, if◌then◌else◌}
 use Rattle.std.proofs.lemmas.Bool.{eqb-true, eqb-false, eq-eqb, ne_eqb}
 use Rattle.std.proofs.lemmas.List.{append-nil, length-append, length_push, nil_from_length}
@@ -11,18 +11,16 @@ use Rattle.board_model.specs.declared.answer.Reply.{Reply}
 use Rattle.board_model.specs.declared.answer.Reply.TheVariants as reply
 use Rattle.board_model.specs.declared.line.Line.{Line}
 use Rattle.board_model.specs.declared.line.Line.TheVariants as line
-use Rattle.board_model.specs.declared.tables.Board.{Board}
 use Rattle.board_model.specs.TypeTable.{value_type_of, value_words}
-use Rattle.board_model.specs.Tables.{board_at, entry_in}
 use Rattle.board_model.specs.Requests.{Published, Request, fill, fresh, get, publish, put, table, update}
 use Rattle.board_model.specs.Replies.{ask, latest, lists_after, published_at, word_put}
 use Rattle.board_model.specs.Parties.{Party, Running, running}
 use Rattle.board_model.specs.LawfulSession.{IsLawfulFrom, IsRight, Session, State, after, after_step, start, state_after, stepped}
-use Rattle.board_model.specs.Sound.{IsCalling, IsEntryOf, IsWriting, Sound}
-use Rattle.board_model.specs.LawsOfSessions.{FreshMeansUnpublished, GenerationsNeverFall, IsGot, IsLooked, IsPublicationOf, IsPublished, ListsOnlyGrow, NoGetIsStale, OneGenerationOneValue, Pairs, at_one, at_two, is_publication, publishes, publishes_by, publishes_in}
+use Rattle.board_model.specs.Sound.{IsCalling, IsWriting, Sound}
+use Rattle.board_model.specs.LawsOfSessions.{FreshMeansUnpublished, GenerationsNeverFall, IsGot, IsLooked, IsPublicationOf, IsPublished, ListsOnlyGrow, NoGetIsStale, OneGenerationOneValue, OneWriteHandle, Pairs, at_one, at_two, is_publication, publishes, publishes_by, publishes_in}
 use Rattle.board_model.proofs.CopyLemmas.{latest_push}
-use Rattle.board_model.proofs.RunningLemmas.{runs}
-use Rattle.board_model.proofs.SoundLemmas.{sound_after, sound_from, sound_start}
+use Rattle.board_model.proofs.RunningLemmas.{drawn_in, runs}
+use Rattle.board_model.proofs.SoundLemmas.{sound_after, sound_from, sound_session, sound_start}
 use Rattle.board_model.proofs.LineCases.{IsStepOf, step_of}
 use Rattle.board_model.proofs.GrowthLemmas.{IsGrowth, line_growth, session_growth}
 
@@ -73,14 +71,6 @@ pair_step s x party r a told run l e h =
     let h1 : IsRight s (line.Step party) x.1 = subst (λ (y : Line). IsRight s y x.1) l h in
     let h2 : IsRight s (line.Step party) (answer.Step a told) = subst (λ (y : Answer). IsRight s (line.Step party) y) e h1 in
     step_of s party r a told run h2
-
--- the number of an entry's board was drawn
-drawn_in : (s : State) → Sound s → (b i : ℕ) (c : CellShape) → IsEntryOf s.standing.tables b i c → b ≤ s.standing.tables.last_board
-drawn_in s sound b i c h = at (board_at s.standing.tables b) refl h.found
-  where
-    at : (o : Option Board) → board_at s.standing.tables b ≡ o → entry_in o i ≡ Some h.entry → b ≤ s.standing.tables.last_board
-    at None e f = absurd cc
-    at (Some x) e f = sound.boards.numbered b x e
 
 -- what a get gave
 pub record IsGiven (s : State) (b i : ℕ) (ws : List ℕ) (g : ℕ) : Type 0 where
@@ -210,3 +200,6 @@ pub growing : ListsOnlyGrow
 growing p b i le =
     let m = between_growth p b i le in
     (m.more, m.list, m.count)
+
+pub one_handle : OneWriteHandle
+one_handle pairs b i h = (sound_session pairs h).things.handles b i

@@ -24,3 +24,4 @@ pub mod LawsOfIds
 pub mod LawOfSoundness
 pub mod WorkedSessions
 pub mod Script
+pub mod LawsOfForms

@@ -1,5 +1,5 @@
 //! Laws of whole sessions. Each function's contract is a theorem over the definitions alone.
-ghost use Rattle.board_model.specs.LawsOfSessions.{FreshMeansUnpublished, GenerationsNeverFall, ListsOnlyGrow, NoGetIsStale, OneGenerationOneValue};
+ghost use Rattle.board_model.specs.LawsOfSessions.{FreshMeansUnpublished, GenerationsNeverFall, ListsOnlyGrow, NoGetIsStale, OneGenerationOneValue, OneWriteHandle};
 
 /// What was published before a pair stays, and each publication since is one value more.
 pub fn lists_only_grow()
@@ -24,4 +24,9 @@ pub fn no_get_is_stale()
 /// A value is still the last one exactly where no publication of the entry ended since the get that gave it.
 pub fn fresh_means_unpublished()
     ensures { FreshMeansUnpublished }
+{}
+
+/// At most one write handle or loan of an entry is a thing at any moment.
+pub fn one_write_handle()
+    ensures { OneWriteHandle }
 {}
