@@ -1,11 +1,7 @@
 -- Descriptions and their fields.
-use Rattle.std.proofs.Common.{◌≡◌, ℕ, List, refl, ap, rules}
+use Rattle.std.proofs.Common.{◌≡◌, ℕ, List, ap}
 use Rattle.board_layout.specs.declared.type_detail.TypeDetail.{TypeDetail}
 use Rattle.board_concepts.specs.declared.description.Description.{Description}
-use Rattle.std.specs.Prelude.{Err, Ok, IsErrOf}
-use Rattle.board_layout.specs.Answer.{Answers}
-use Rattle.board_names.specs.declared.errors.service.DeserializeError.{DeserializeError}
-use Rattle.board_names.specs.declared.errors.service.DeserializeError.TheVariants.{InternalError, OutOfMemory}
 use Rattle.board_concepts.specs.DescriptionSpelling.{described}
 
 -- a description is that of its fields
@@ -13,8 +9,3 @@ pub is_described : (d : Description) (name : List ℕ) (key : TypeDetail) (max_r
     → d.version ≡ 1 → name ≡ d.name → key ≡ d.key → max_readers ≡ d.max_readers → max_nodes ≡ d.max_nodes
     → d ≡ described name key max_readers max_nodes d.attributes
 is_described d name key max_readers max_nodes v n k r m = rw (n, k, r, m) (ap (λ x. record { version = x; name = d.name; key = d.key; max_readers = d.max_readers; max_nodes = d.max_nodes; attributes = d.attributes }) v)
-
--- an error that isn't `InternalError` is want of memory
-pub never : {T : Type 0} (e : DeserializeError) (d : Description) → (IsErrOf {T = T} (Err e) InternalError → ⊥) → Answers (Err e) OutOfMemory (Ok d)
-never {T} InternalError d h = λ differs. absurd (h (search rules))
-never {T} OutOfMemory d h = λ differs. absurd (differs refl)

@@ -1,5 +1,6 @@
 -- How a description is spelled: its fields, one after another, and nothing behind them.
-use Rattle.std.specs.Prelude.{◌≡◌, ℕ, ◌<◌, ◌^◌, List, [], ◌∷◌, ◌++◌, length, Result, Ok, IfOk}
+use Rattle.std.specs.Prelude.{◌≡◌, ℕ, ◌<◌, ◌^◌, ◌↔◌, List, [], ◌∷◌, ◌++◌, length, IsTrue, Result, Ok, IfOk, IsErrOf}
+use Rattle.std.specs.List.{list_all}
 use Rattle.board_layout.specs.Types.{IsTypeName}
 use Rattle.board_layout.specs.Answer.{Answers}
 use Rattle.board_layout.specs.declared.type_detail.TypeDetail.{TypeDetail}
@@ -8,8 +9,8 @@ use Rattle.board_layout.specs.declared.type_detail.TypeVariant.TheVariants as va
 use Rattle.board_model.specs.declared.attributes.Attribute.{Attribute}
 use Rattle.board_names.specs.Names.{IsServiceName}
 use Rattle.board_names.specs.declared.errors.service.DeserializeError.{DeserializeError}
-use Rattle.board_names.specs.declared.errors.service.DeserializeError.TheVariants.{OutOfMemory}
-use Rattle.board_concepts.specs.Attributes.{AreAttributes}
+use Rattle.board_names.specs.declared.errors.service.DeserializeError.TheVariants.{InternalError, OutOfMemory}
+use Rattle.board_concepts.specs.Attributes.{AreAttributes, is_attribute}
 use Rattle.board_concepts.specs.Spelling.{Spelled, SpelledText}
 use Rattle.board_concepts.specs.declared.description.Description.{Description}
 
@@ -42,6 +43,12 @@ SpelledAttribute a bytes rest = (value : List ℕ) × SpelledText a.key bytes va
 abbrev pub SpelledEach : List Attribute → List ℕ → List ℕ → Type 0
 SpelledEach [] bytes rest = bytes ≡ rest
 SpelledEach (a ∷ attributes) bytes rest = (next : List ℕ) × SpelledAttribute a bytes next × SpelledEach attributes next rest
+
+-- the bytes begin with so many attributes of the right texts
+pub record AreSpelled (attributes : List Attribute) (count : ℕ) (bytes rest : List ℕ) : Type 0 where
+  pub counted : length attributes ≡ count
+  pub rule : IsTrue (list_all is_attribute attributes)
+  pub spelled : SpelledEach attributes bytes rest
 
 -- the bytes begin with a list of attributes, its length and its items
 abbrev pub SpelledList : List Attribute → List ℕ → List ℕ → Type 0
@@ -88,10 +95,11 @@ pub record IsDescription (d : Description) : Type 0 where
   pub max_nodes : d.max_nodes < 2 ^ 64
   pub attributes : AreAttributes d.attributes
 
--- reading answers with the description that the bytes spell, exactly where they spell one; want of memory aside
+-- reading answers with the description that the bytes spell, exactly where they spell one and there is memory for it
 pub record Reads (Spells : Description → List ℕ → Type 0) (bytes : List ℕ) (result : Result Description DeserializeError) : Type 0 where
   pub found : IfOk result (λ d. Spells d bytes)
   pub every : (d : Description) → IsDescription d → Spells d bytes → Answers result OutOfMemory (Ok d)
+  pub none : IsErrOf result InternalError ↔ ((d : Description) → IsDescription d → Spells d bytes → ⊥)
 
 -- bytes begin with one spelling at most, and nothing is behind it
 abbrev pub IsPrefixFree : (Description → List ℕ → Type 0) → Type 0

@@ -1,13 +1,15 @@
 //! Descriptions as bytes.
 ghost use Rattle.std.specs.Prelude.{◌≡◌, ℕ, List, [], IfOk, IsOkUnless, IfSome, IsSomeAnd};
 ghost use Rattle.board_names.specs.declared.errors.service.SerializeError.TheVariants.{OutOfMemory};
+ghost use Rattle.board_concepts.specs.Attributes.{AreAttributes};
 ghost use Rattle.board_concepts.specs.declared.description.Description.{Description};
 ghost use Rattle.board_concepts.specs.DescriptionSpelling.{Fields, IsDescription, SpelledAt, SpelledDescription, SpelledList, described, Reads};
 ghost use Rattle.board_model.specs.declared.attributes.Attribute.{Attribute};
 
 use crate::description::Description;
 use crate::spelling::{
-    number, put_list, put_number, put_text, put_type, read_list, read_type, service_name, text,
+    is_list, list_of, number, put_list, put_number, put_text, put_type, read_type, service_name,
+    text,
 };
 use board_layout::TypeDetail;
 use board_names::{DeserializeError, SerializeError, ServiceName};
@@ -24,7 +26,7 @@ pub trait Serialize {
         ensures ok { IfOk result (λ bytes. Spells value.now bytes.items) }
         ensures memory { IsOkUnless result OutOfMemory };
 
-    /// The description that is spelled by these bytes, or `InternalError` where none is. No memory is taken for what isn't there.
+    /// The description that is spelled by these bytes, or `InternalError` where none is. Memory is taken for the attributes of a description alone.
     fn deserialize(alloc: Global, bytes: &[u8]) -> Result<Description, DeserializeError>
         ensures { Reads Spells bytes.now result };
 }
@@ -66,6 +68,7 @@ struct Front<'a> {
 // What stands at the front of the bytes of a description.
 fn read_front(bytes: &[u8]) -> Option<Front<'_>>
     ensures found { IfSome result (λ f. (a : List Attribute) → SpelledList a f.attributes.now [] → SpelledDescription (described f.name f.key f.max_readers f.max_nodes a) bytes.now) }
+    ensures rule { IfSome result (λ f. (a : List Attribute) → AreAttributes a → IsDescription (described f.name f.key f.max_readers f.max_nodes a)) }
     ensures every { (d : Description) (at : Fields) → IsDescription d → SpelledAt d bytes.now at → IsSomeAnd result (λ f. (f.attributes.now ≡ at.attributes) × (d ≡ described f.name f.key f.max_readers f.max_nodes d.attributes)) }
 {
     let (version, bytes) = number(bytes, 0xFFFF_FFFF)?;
@@ -95,13 +98,12 @@ fn read(alloc: Global, bytes: &[u8]) -> Result<Description, DeserializeError>
     let Some(front) = read_front(bytes) else {
         return Err(DeserializeError::InternalError);
     };
-    let (attributes, behind) = match read_list(alloc, front.attributes) {
-        Ok(read) => read,
-        Err(error) => return Err(error),
-    };
-    if !behind.is_empty() {
+    if !is_list(front.attributes) {
         return Err(DeserializeError::InternalError);
     }
+    let Ok(attributes) = list_of(alloc, front.attributes) else {
+        return Err(DeserializeError::OutOfMemory);
+    };
     Ok(Description {
         version: 1,
         name: front.name,

@@ -1,20 +1,19 @@
 //! Reading and writing of the parts of a description. A reader answers with what the bytes begin with, and with the bytes behind it.
-ghost use Rattle.std.specs.Prelude.{◌≡◌, ℕ, ◌+◌, ◌*◌, ◌%◌, ◌/◌, ◌^◌, ◌<◌, ◌≤◌, List, [], ◌∷◌, ◌++◌, length, IsTrue, Some, IfSome, IsSomeAnd, IfOk, OnOk, IsErrOf};
-ghost use Rattle.std.specs.List.{list_all};
+ghost use Rattle.std.specs.Prelude.{◌≡◌, ℕ, ◌+◌, ◌*◌, ◌%◌, ◌/◌, ◌^◌, ◌<◌, ◌≤◌, List, [], ◌∷◌, ◌++◌, length, IsTrue, Some, IfSome, IsSomeAnd, IfOk, OnOk};
+ghost use Rattle.std.specs.Bool.{OnTrue};
 ghost use Rattle.board_layout.specs.declared.type_detail.TypeDetail.{TypeDetail};
 ghost use Rattle.board_layout.specs.declared.type_detail.TypeVariant.{TypeVariant};
 ghost use Rattle.board_model.specs.declared.attributes.Attribute.{Attribute};
 ghost use Rattle.board_names.specs.Names.{IsServiceName};
 ghost use Rattle.board_concepts.specs.Attributes.{is_attribute, AreAttributes};
 ghost use Rattle.board_concepts.specs.Spelling.{Spelled, SpelledText, Puts};
-ghost use Rattle.board_concepts.specs.DescriptionSpelling.{variant_number, IsType, SpelledType, SpelledAttribute, SpelledEach, SpelledList};
+ghost use Rattle.board_concepts.specs.DescriptionSpelling.{variant_number, IsType, SpelledType, SpelledAttribute, SpelledEach, SpelledList, AreSpelled};
 
 use crate::attribute_set::{AttributeSet, is_text};
 use board_layout::{Text, TypeDetail, TypeName, TypeVariant};
 use board_model::Attribute;
 use board_names::{
-    DeserializeError, MAX_ATTRIBUTE_KEY_LENGTH, MAX_ATTRIBUTE_VALUE_LENGTH, MAX_ATTRIBUTES,
-    ServiceName,
+    MAX_ATTRIBUTE_KEY_LENGTH, MAX_ATTRIBUTE_VALUE_LENGTH, MAX_ATTRIBUTES, ServiceName,
 };
 use std::alloc::{AllocError, Global};
 
@@ -79,6 +78,7 @@ pub(crate) fn put_text(out: &mut Vec<u8>, text: &[u8]) -> Result<(), AllocError>
 // The name of these bytes.
 pub(crate) fn service_name(bytes: &[u8]) -> Option<ServiceName>
     ensures some { IfSome result (λ name. name ≡ bytes.now) }
+    ensures rule { IfSome result (λ name. IsServiceName name) }
     ensures accepted { IsServiceName bytes.now → result ≡ Some bytes.now }
 {
     match str::from_utf8(bytes) {
@@ -102,6 +102,7 @@ fn variant_of(number: u64) -> Option<TypeVariant>
 // The type at the front of the bytes.
 pub(crate) fn read_type(bytes: &[u8]) -> Option<(TypeDetail, &[u8])>
     ensures found { IfSome result (λ p. SpelledType p.0 bytes.now p.1.now) }
+    ensures rule { IfSome result (λ p. IsType p.0) }
     ensures every { (t : TypeDetail) (rest : List ℕ) → IsType t → SpelledType t bytes.now rest → IsSomeAnd result (λ p. (p.0 ≡ t) × (p.1.now ≡ rest)) }
 {
     let (variant, bytes) = number(bytes, u64::MAX)?;
@@ -137,44 +138,62 @@ fn read_attribute(bytes: &[u8]) -> Option<(Attribute, &[u8])>
     Some((attribute, bytes))
 }
 
-// Adds so many attributes at the front of the bytes to a set, and answers the bytes behind them.
-fn read_each<'a>(
-    set: &mut AttributeSet,
-    bytes: &'a [u8],
-    count: u64,
-) -> Result<&'a [u8], DeserializeError>
-    requires { length set.old + count ≤ 8 }
-    ensures found { IfOk result (λ left. (more : List Attribute) × (set.new ≡ set.old ++ more) × (length more ≡ count) × SpelledEach more bytes.now left.now) }
-    ensures none { IsErrOf result DeserializeError.InternalError → (more : List Attribute) (rest : List ℕ) → length more ≡ count → IsTrue (list_all is_attribute more) → SpelledEach more bytes.now rest → ⊥ }
-    ensures every { (more : List Attribute) (rest : List ℕ) → length more ≡ count → IsTrue (list_all is_attribute more) → SpelledEach more bytes.now rest → IfOk result (λ left. (set.new ≡ set.old ++ more) × (left.now ≡ rest)) }
+// The bytes behind so many attributes. Takes no memory.
+fn skip_each(bytes: &[u8], count: u64) -> Option<&[u8]>
+    ensures found { IfSome result (λ left. (each : List Attribute) × AreSpelled each count bytes.now left.now) }
+    ensures every { (each : List Attribute) (rest : List ℕ) → AreSpelled each count bytes.now rest → IsSomeAnd result (λ left. left.now ≡ rest) }
 {
     if count == 0 {
-        return Ok(bytes);
+        return Some(bytes);
     }
-    let Some((attribute, behind)) = read_attribute(bytes) else {
-        return Err(DeserializeError::InternalError);
+    let Some((_, behind)) = read_attribute(bytes) else {
+        return None;
     };
-    if set.push(attribute).is_err() {
-        return Err(DeserializeError::OutOfMemory);
-    }
-    read_each(set, behind, count - 1)
+    skip_each(behind, count - 1)
 }
 
-// The list of attributes at the front of the bytes. A list of more than 8 is none, and takes no memory.
-pub(crate) fn read_list(
-    alloc: Global,
-    bytes: &[u8],
-) -> Result<(AttributeSet, &[u8]), DeserializeError>
-    ensures found { IfOk result (λ p. SpelledList p.0 bytes.now p.1.now) }
-    ensures none { IsErrOf result DeserializeError.InternalError → (attributes : List Attribute) (rest : List ℕ) → AreAttributes attributes → SpelledList attributes bytes.now rest → ⊥ }
-    ensures every { (attributes : List Attribute) (rest : List ℕ) → AreAttributes attributes → SpelledList attributes bytes.now rest → IfOk result (λ p. (p.0 ≡ attributes) × (p.1.now ≡ rest)) }
+// Whether the bytes are a list of attributes and nothing else. Takes no memory.
+pub(crate) fn is_list(bytes: &[u8]) -> bool
+    ensures yes { OnTrue result ((attributes : List Attribute) × AreAttributes attributes × SpelledList attributes bytes.now []) }
+    ensures no { (attributes : List Attribute) → AreAttributes attributes → SpelledList attributes bytes.now [] → IsTrue result }
 {
     let Some((count, items)) = number(bytes, MAX_ATTRIBUTES as u64) else {
-        return Err(DeserializeError::InternalError);
+        return false;
+    };
+    let Some(behind) = skip_each(items, count) else {
+        return false;
+    };
+    behind.is_empty()
+}
+
+// Adds so many attributes at the front of the bytes to a set.
+fn fill(set: &mut AttributeSet, bytes: &[u8], count: u64) -> Result<(), AllocError>
+    requires room { length set.old + count ≤ 8 }
+    requires spelled { (each : List Attribute) × (rest : List ℕ) × AreSpelled each count bytes.now rest }
+    ensures { (each : List Attribute) (rest : List ℕ) → AreSpelled each count bytes.now rest → OnOk result (set.new ≡ set.old ++ each) }
+{
+    if count == 0 {
+        return Ok(());
+    }
+    let Some((attribute, behind)) = read_attribute(bytes) else {
+        unreachable!()
+    };
+    set.push(attribute)?;
+    fill(set, behind, count - 1)?;
+    Ok(())
+}
+
+// The list of attributes that the bytes are.
+pub(crate) fn list_of(alloc: Global, bytes: &[u8]) -> Result<AttributeSet, AllocError>
+    requires { (attributes : List Attribute) × AreAttributes attributes × SpelledList attributes bytes.now [] }
+    ensures { (attributes : List Attribute) → AreAttributes attributes → SpelledList attributes bytes.now [] → IfOk result (λ set. set ≡ attributes) }
+{
+    let Some((count, items)) = number(bytes, MAX_ATTRIBUTES as u64) else {
+        unreachable!()
     };
     let mut set = AttributeSet::new(alloc);
-    let behind = read_each(&mut set, items, count)?;
-    Ok((set, behind))
+    fill(&mut set, items, count)?;
+    Ok(set)
 }
 
 // The number of a variant.
