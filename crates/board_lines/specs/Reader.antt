@@ -28,3 +28,8 @@ abbrev pub IsFetched : Fetched → List ℕ → Option (List ℕ) → Option (Li
 IsFetched Line line old new = TakesLine old new line
 IsFetched Long line old new = HasLongLine old
 IsFetched End line old new = IsAtEnd old
+
+abbrev pub IsEnd : Fetched → Type 0
+IsEnd Line = ⊥
+IsEnd Long = ⊥
+IsEnd End = Unit {0}

@@ -14,3 +14,8 @@ Writes r bytes = IfOk r (λ n. IsWritten n bytes)
 abbrev pub HasLongLine : Option (List ℕ) → Type 0
 HasLongLine None = ⊤
 HasLongLine (Some bytes) = IsSomeAnd (slice_get (lines_of bytes) 0) (λ line. 4096 < length line)
+
+-- a byte is left, where the bytes are known
+abbrev pub HasMore : Option (List ℕ) → Type 0
+HasMore None = ⊤
+HasMore (Some bytes) = 0 < length bytes

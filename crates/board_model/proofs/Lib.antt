@@ -38,3 +38,4 @@ pub mod FormLemmas
 pub mod KeptFormLemmas
 pub mod ReplyFormLemmas
 pub mod FormLaws
+pub mod ScriptLemmas

@@ -25,3 +25,4 @@ pub mod LawOfSoundness
 pub mod WorkedSessions
 pub mod Script
 pub mod LawsOfForms
+pub mod LawsOfScripts

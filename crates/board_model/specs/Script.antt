@@ -1,6 +1,6 @@
 -- The sessions whose lines are those of an input, and their output.
-use Rattle.std.specs.Prelude.{◌≡◌, ℕ, ◌-◌, ◌<◌, List, [], ◌∷◌, ◌++◌, length, slice_get, Option, Some, None, ⊤, IsSomeAnd}
-use Rattle.std.specs.List.{flat_map}
+use Rattle.std.specs.Prelude.{◌≡◌, ℕ, ◌≤◌, List, [], ◌∷◌, ◌++◌, length, Option, Some, None, ⊤}
+use Rattle.std.specs.List.{flat_map, AllByRecursion}
 use Rattle.board_model.specs.declared.line.Line.{Line}
 use Rattle.board_model.specs.declared.answer.Answer.{Answer}
 use Rattle.board_model.specs.LineGrammar.{Spells}
@@ -59,3 +59,8 @@ abbrev pub Fed : Option (List ℕ) → Option (List ℕ) → Session → Type 0
 Fed None left session = ⊤
 Fed (Some input) None session = ⊥
 Fed (Some input) (Some left) session = FollowedBy input session (lines_of left)
+
+-- each of the input's lines is one of the grammar, and they are at most so many
+pub record IsScript (most : ℕ) (input : List ℕ) : Type 0 where
+  pub each : AllByRecursion (λ bytes. (l : Line) × Spells bytes l) (lines_of input)
+  pub few : length (lines_of input) ≤ most

@@ -15,6 +15,7 @@ mod line;
 mod lists;
 pub mod read_laws;
 pub mod session_laws;
+pub mod script_laws;
 pub mod sound_law;
 mod tables;
 mod value;

@@ -4,9 +4,9 @@ ghost use Rattle.board_model.specs.Lines.{HasCause, IsOneLine};
 ghost use Rattle.board_lines.specs.Reader.{has_ended, in_hand, line_given};
 
 use super::LineReader;
-use crate::bytes::place_of;
 use crate::error::LineError;
 use crate::stream::{Failed, Source};
+use board_parse::place_of;
 use std::alloc::Global;
 
 // Reads into the bytes from a place on, and tells how many came.
@@ -103,6 +103,7 @@ impl LineReader {
         ensures front { take (length (in_hand self.old)) (in_hand self.new) ≡ in_hand self.old }
         ensures grew { OnOk result (has_ended self.new ≡ false → length (in_hand self.old) < length (in_hand self.new)) }
         ensures same { IsTrue (has_ended self.new) → in_hand self.new ≡ in_hand self.old }
+        ensures failed { OnErr result (in_hand self.new ≡ in_hand self.old) }
         ensures ended { IsTrue (has_ended self.new) → IsAtEnd (S.left source.new) }
         ensures cause { HasCause (S.faults source.old) (S.faults source.new) result }
     {
