@@ -1,4 +1,4 @@
-ghost use Rattle.std.specs.Prelude.{ℕ, ◌≡◌, ◌+◌, ◌^◌, ◌<◌, ◌≤◌, true, false};
+ghost use Rattle.std.specs.Prelude.{ℕ, ◌≡◌, ◌+◌, ◌^◌, ◌<◌, true, false};
 ghost use Rattle.board_model.specs.OwedAccesses.{to_write};
 ghost use Rattle.board_cell.specs.Calls.{told};
 ghost use Rattle.board_cell.specs.declared.access.Progress.TheVariants.{Done};
@@ -30,7 +30,7 @@ impl PublishCall {
     /// Raises the counter of the cell of this shape from this generation.
     #[inline(always)]
     pub fn new(shape: CellShape, generation: u64) -> PublishCall
-        requires generation { (1 ≤ generation) × (generation + 1 < 2 ^ 64) }
+        requires room { generation + 1 < 2 ^ 64 }
         ensures { result ≡ record { shape = shape; generation = generation; done = false } }
     {
         PublishCall {

@@ -1,4 +1,4 @@
-ghost use Rattle.std.specs.Prelude.{ℕ, ◌≡◌, ◌+◌, ◌^◌, ◌<◌, ◌≤◌, true, false};
+ghost use Rattle.std.specs.Prelude.{ℕ, ◌≡◌, ◌+◌, ◌^◌, ◌<◌, true, false};
 ghost use Rattle.board_model.specs.Copies.{spare_at, cell_end};
 ghost use Rattle.board_model.specs.OwedAccesses.{to_write};
 ghost use Rattle.board_cell.specs.Calls.{told};
@@ -36,7 +36,6 @@ impl PutCall {
     #[inline(always)]
     pub fn new(shape: CellShape, generation: u64, index: u64, word: u64) -> PutCall
         requires index { index < shape.words }
-        requires generation { 1 ≤ generation }
         requires shape { cell_end shape < 2 ^ 64 }
         ensures { result ≡ record { shape = shape; generation = generation; index = index; word = word; done = false } }
     {

@@ -1,5 +1,5 @@
 -- Laws of planned cells.
-use Rattle.std.proofs.Common.{◌≡◌, ℕ, zero, suc, ◌+◌, ◌-◌, ◌*◌, ◌/◌, ◌%◌, ◌^◌, ◌<◌, ◌≤◌, max, List, [], ◌∷◌, length, get_or, refl, arith, sym, ap, ◌∙◌, ⊎_elim}
+use Rattle.std.proofs.Common.{◌≡◌, ℕ, zero, suc, ◌+◌, ◌-◌, ◌*◌, ◌/◌, ◌^◌, ◌<◌, ◌≤◌, List, [], ◌∷◌, length, refl, arith, ap, ◌∙◌, ⊎_elim}
 use Rattle.std.specs.Prelude.{All, AllPairs}
 use Rattle.std.specs.List.{AllZip}
 use Rattle.std.proofs.Math.Pow.{pow_mono}
@@ -8,9 +8,8 @@ use Rattle.std.proofs.lemmas.Nat.{pow-add}
 use Rattle.std.proofs.lemmas.Bool.{cases_lt}
 use Rattle.std.proofs.lemmas.List.Elements.{All-nil, All-cons, All-head, All-tail, All-weaker}
 use Rattle.board_layout.specs.declared.shape.Shape.{Shape}
-use Rattle.board_layout.specs.declared.shape.CellPlace.{CellPlace}
 use Rattle.board_layout.specs.Layout.{IsAlignment, IsShape, IsCellFor, LiesBefore, LiesWithin, align, cell_alignment, cell_bytes, cell_end, end_from, head_bytes, payload, place_at, places_from, start_of}
-use Rattle.board_layout.proofs.Places.{align_le, alignment_bound, IsBounded, is_bounded}
+use Rattle.board_layout.proofs.Places.{align_le}
 
 -- a number of whole words, in bytes
 abbrev pub IsWhole : ℕ → Type 0

@@ -1,6 +1,3 @@
-pub mod TokenLemmas
-pub mod Digits
-pub mod EntryLemmas
 pub mod ReplyLemmas
 pub mod Pieces
 pub mod HandLemmas

@@ -1,5 +1,5 @@
 -- The lines of bytes, from the front.
-use Rattle.std.proofs.Common.{take, drop, get_or, ◌≡◌, ℕ, zero, suc, ◌+◌, ◌<◌, ◌≤◌, Bool, true, false, cond, eqb, List, [], ◌∷◌, ◌++◌, length, arith, rules, refl, sym, ap, subst, ◌∙◌, All, append_assoc, Option, Some, None}
+use Rattle.std.proofs.Common.{add-one, drop-cons, take-append-drop, take, drop, get_or, ◌≡◌, ℕ, zero, suc, ◌+◌, ◌<◌, ◌≤◌, Bool, true, false, cond, eqb, List, [], ◌∷◌, ◌++◌, length, arith, rules, refl, sym, ap, subst, ◌∙◌, All, append_assoc, Option, Some, None}
 use Rattle.std.specs.List.{slice_split, onto_first, AllByRecursion}
 use Rattle.std.proofs.lemmas.List.{append-nil, drop_all, length-append, take_all}
 use Rattle.std.proofs.lemmas.List.Splits.{slice_split_at, slice_split_none, slice_split-cons_no, length-slice_split}
@@ -7,7 +7,6 @@ use Rattle.std.proofs.lemmas.List.Elements.{recursion_from_All}
 use Rattle.std.specs.Io.KnownBytes.{prepend_known, Keeps, IsAtEnd}
 use Rattle.std.specs.Prelude.{slice_get, IsSomeAnd, IsErrOf}
 use Rattle.board_model.specs.Lines.{IsOneLine, lines_of, whole_parts, TakesLine}
-use Rattle.board_lines.proofs.TokenLemmas.{parts_at}
 use Rattle.board_lines.specs.Streams.{HasLongLine}
 
 abbrev is_newline : ℕ → Bool
@@ -113,6 +112,11 @@ some_lines [] lt = absurd (omega arith)
 some_lines (b ∷ bs) lt = either_way b bs (is_newline b)
 
 -- ---- as a reader gives them out
+
+parts_at : (c : ℕ) (xs : List ℕ) (i : ℕ) → i < length xs → get_or xs i 0 ≡ c → xs ≡ take i xs ++ c ∷ drop (i + 1) xs
+parts_at c xs i lt e =
+    let d : drop i xs ≡ c ∷ drop (i + 1) xs = rw (add-one, drop-cons xs i 0) (ap (λ (x : ℕ). x ∷ drop (suc i) xs) e) in
+    sym (take-append-drop i xs) ∙ ap (λ (t : List ℕ). take i xs ++ t) d
 
 -- the bytes before a newline are the line, and the rest stands behind it
 pub gave_line : (s left : Option (List ℕ)) (hand line rest : List ℕ) (at : ℕ) → Keeps s (prepend_known hand left) → at < length hand → get_or hand at 0 ≡ 10 → IsOneLine (take at hand) → line ≡ take at hand → rest ≡ drop (at + 1) hand → TakesLine s (prepend_known rest left) line

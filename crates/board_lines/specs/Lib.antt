@@ -1,4 +1,3 @@
-pub mod Tokens
 pub mod Texts
 pub mod Streams
 pub mod Memory

@@ -8,14 +8,18 @@ mod attributes;
 pub mod bound_laws;
 pub mod count_laws;
 mod errors;
+pub mod form_laws;
 pub mod grammar_laws;
+pub mod id_laws;
 mod line;
 mod lists;
 pub mod read_laws;
+pub mod session_laws;
 pub mod script_laws;
 pub mod sound_law;
 mod tables;
 mod value;
+pub mod worked_sessions;
 
 pub use access::Access;
 pub use answer::{Answer, Info, Reason, Reply};

@@ -22,4 +22,4 @@ pub use registry::StaticRegistry;
 pub use static_storage::{StaticStorage, StaticStorageBuilder, StaticStorageLocked};
 pub use statics::{Statics, Stored};
 pub use storage::Storage;
-pub use table::{list_names, Table};
+pub use table::{Table, list_names};

@@ -1,15 +1,16 @@
 //! Static storages by full names.
 ghost use Rattle.std.specs.Prelude.{◌≡◌, ◌≢◌, ℕ, ◌+◌, ◌-◌, ◌<◌, ◌≤◌, ◌==◌, ◌↔◌, List, [], ◌∷◌, ◌++◌, length, Some, None, true, is_some, IfOk, IsErrOf, OnOk, OnErr, IsTrue, IsSome, IfSome, option_map};
-ghost use Rattle.board_layout.specs.Answer.{Answers};
+ghost use Rattle.board_layout.specs.Answer.{Answers, Refuses};
 ghost use Rattle.board_store.specs.Table.{at, putting, without, name_at};
 ghost use Rattle.board_store.specs.Statics.{bytes_of, locked_of, create_answer, open_answer, unlock_answer};
+ghost use Rattle.board_store.specs.Storage.{released};
 
 use crate::content::Content;
 use crate::table::Table;
 use board_names::{
     FilePath, StaticStorageCreateError, StaticStorageOpenError, StaticStorageUnlockError,
 };
-use std::alloc::Global;
+use std::alloc::{AllocError, Global};
 use std::collections::BTreeMap;
 use std::marker::Model;
 
@@ -53,7 +54,7 @@ impl Statics {
     /// `AlreadyExists` where the name is held; `OutOfMemory`. The storages stay as they were.
     pub fn create_locked(&mut self, name: &FilePath) -> Result<(), StaticStorageCreateError>
         ensures answer { Answers result StaticStorageCreateError.OutOfMemory (create_answer (at self.old name.now)) }
-        ensures already { IsErrOf result StaticStorageCreateError.AlreadyExists ↔ IsSome (at self.old name.now) }
+        ensures refused { Refuses result (create_answer (at self.old name.now)) }
         ensures ok { OnOk result (self.new ≡ putting self.old name.now Stored.Locked) }
         ensures err { OnErr result (self.new ≡ self.old) }
     {
@@ -76,19 +77,28 @@ impl Statics {
         contents: &[u8],
     ) -> Result<Content, StaticStorageUnlockError>
         ensures answer { Answers result StaticStorageUnlockError.OutOfMemory (unlock_answer contents.now (locked_of self.old name.now)) }
-        ensures internal { IsErrOf result StaticStorageUnlockError.InternalError ↔ (locked_of self.old name.now ≢ Some true) }
+        ensures refused { Refuses result (unlock_answer contents.now (locked_of self.old name.now)) }
         ensures ok { OnOk result (self.new ≡ putting self.old name.now (Stored.Final contents.now)) }
         ensures err { OnErr result (self.new ≡ self.old) }
     {
         if self.is_locked(name) != Some(true) {
             return Err(StaticStorageUnlockError::InternalError);
         }
-        let Ok(content) = Content::of(self.alloc, contents) else {
-            return Err(StaticStorageUnlockError::OutOfMemory);
-        };
-        let Ok(shared) = content.share() else {
-            return Err(StaticStorageUnlockError::OutOfMemory);
-        };
+        match self.fill(name, contents) {
+            Ok(content) => Ok(content),
+            Err(_) => Err(StaticStorageUnlockError::OutOfMemory),
+        }
+    }
+
+    /// Gives the storage of a name that is known to be locked its bytes, and hands them back, shared.
+    pub(crate) fn fill(&mut self, name: &FilePath, contents: &[u8]) -> Result<Content, AllocError>
+        requires { locked_of self.old name.now ≡ Some true }
+        ensures value { IfOk result (λ content. content ≡ contents.now) }
+        ensures ok { OnOk result (self.new ≡ putting self.old name.now (Stored.Final contents.now)) }
+        ensures err { OnErr result (self.new ≡ self.old) }
+    {
+        let content = Content::of(self.alloc, contents)?;
+        let shared = content.share()?;
         // The name is held, so the table doesn't grow.
         let Ok(_) = self.names.insert(*name, Stored::Final(content)) else {
             unreachable!()
@@ -102,8 +112,7 @@ impl Statics {
     /// `DoesNotExist` where the name isn't held; `InitializationNotYetFinalized` where it is locked; `OutOfMemory`.
     pub fn try_open(&self, name: &FilePath) -> Result<Content, StaticStorageOpenError>
         ensures answer { Answers result StaticStorageOpenError.OutOfMemory (open_answer (at self.now name.now)) }
-        ensures absent { IsErrOf result StaticStorageOpenError.DoesNotExist ↔ (locked_of self.now name.now ≡ None) }
-        ensures locked { IsErrOf result StaticStorageOpenError.InitializationNotYetFinalized ↔ (locked_of self.now name.now ≡ Some true) }
+        ensures refused { Refuses result (open_answer (at self.now name.now)) }
     {
         match self.names.get(name) {
             None => Err(StaticStorageOpenError::DoesNotExist),
@@ -142,6 +151,15 @@ impl Statics {
         ensures after { self.new ≡ without self.old name.now }
     {
         self.names.remove(name).is_some()
+    }
+
+    /// Lets a name go where it is owned.
+    pub(crate) fn let_go(&mut self, name: &FilePath, owns: bool)
+        ensures { self.new ≡ released self.old owns name.now }
+    {
+        if owns {
+            let _ = self.remove(name);
+        }
     }
 
     /// The name at an index, counted from 0 in the order of the names.

@@ -4,9 +4,9 @@ ghost use Rattle.board_model.specs.Lines.{HasCause, IsOneLine};
 ghost use Rattle.board_lines.specs.Reader.{has_ended, in_hand, line_given};
 
 use super::LineReader;
-use crate::bytes::place_of;
 use crate::error::LineError;
 use crate::stream::{Failed, Source};
+use board_parse::place_of;
 use std::alloc::Global;
 
 // Reads into the bytes from a place on, and tells how many came.

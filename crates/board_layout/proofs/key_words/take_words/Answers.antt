@@ -1,4 +1,3 @@
-use Rattle.std.proofs.Common.{arith}
 use Rattle.board_layout.proofs.Bytes.{read_next, read_all}
 use Rattle.board_layout.proofs.key_words.take_words.Goals as goal
 

@@ -1,7 +1,5 @@
-use Rattle.std.proofs.Common.{◌≡◌, ◌*◌, ◌/◌, ◌≤◌, ◌<◌, length, arith, refl}
-use Rattle.std.specs.Prelude.{All, AllPairs}
-use Rattle.std.specs.List.{AllZip}
-use Rattle.board_layout.specs.Layout.{IsShape, IsCellFor, LiesBefore, LiesWithin, end_from}
+use Rattle.std.proofs.Common.{◌/◌, arith, refl}
+use Rattle.board_layout.specs.Layout.{end_from}
 use Rattle.board_layout.proofs.Places.{all_laid}
 use Rattle.board_layout.proofs.Cells.{suited, cells_disjoint, cells_within, words_of_bytes, IsWhole-end_from}
 use Rattle.board_layout.proofs.planning.plan.Goals as goal
