@@ -14,9 +14,15 @@ struct Row {
 }
 
 // Runs a script whose source gives and whose sink takes so many bytes a call, or any number where that is 0.
-fn agrees(rt: &impl Abort, alloc: Global, row: &Row, piece: usize) -> Result<(), Fail> {
-    let mut source = MemorySource::new(Vec::from_slice(alloc, row.script)?, piece, Vec::new(alloc));
-    let mut sink = MemorySink::new(alloc, 4096, piece, Vec::new(alloc))?;
+fn agrees(
+    rt: &impl Abort,
+    alloc: Global,
+    row: &Row,
+    read: usize,
+    write: usize,
+) -> Result<(), Fail> {
+    let mut source = MemorySource::new(Vec::from_slice(alloc, row.script)?, read, Vec::new(alloc));
+    let mut sink = MemorySink::new(alloc, 4096, write, Vec::new(alloc))?;
     let mut notes = MemorySink::new(alloc, 100, 0, Vec::new(alloc))?;
     let words = Vec::new(alloc);
     let status = run_words(alloc, &words, &mut source, &mut sink, &mut notes);
@@ -35,12 +41,13 @@ const FIRST_RUN: Row = Row {
 
 #[test]
 fn the_first_run(rt: HostRuntime) -> Result<(), Fail> {
-    agrees(&rt, rt.alloc(), &FIRST_RUN, 0)
+    agrees(&rt, rt.alloc(), &FIRST_RUN, 0, 0)
 }
 
 #[test]
 fn one_byte_at_a_time(rt: HostRuntime) -> Result<(), Fail> {
-    agrees(&rt, rt.alloc(), &FIRST_RUN, 1)
+    agrees(&rt, rt.alloc(), &FIRST_RUN, 1, 0)?;
+    agrees(&rt, rt.alloc(), &FIRST_RUN, 0, 1)
 }
 
 #[test]
@@ -72,7 +79,7 @@ fn small_scripts(rt: HostRuntime) -> Result<(), Fail> {
         },
     ];
     for row in &rows {
-        agrees(&rt, rt.alloc(), row, 0)?;
+        agrees(&rt, rt.alloc(), row, 0, 0)?;
     }
     Ok(())
 }
@@ -103,7 +110,7 @@ fn lines_outside_the_grammar(rt: HostRuntime) -> Result<(), Fail> {
         b"begin a update m u64:01",
         b"begin a update m u64:18446744073709551616",
         b"stop a",
-        b"step \x7f",
+        b"begin a create f b\x7f u64",
         b"words 00",
     ];
     for line in lines {
