@@ -39,3 +39,4 @@ pub mod KeptFormLemmas
 pub mod ReplyFormLemmas
 pub mod FormLaws
 pub mod ScriptLemmas
+pub mod OutputLaws
