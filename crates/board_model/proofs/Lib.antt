@@ -40,3 +40,4 @@ pub mod ReplyFormLemmas
 pub mod FormLaws
 pub mod ScriptLemmas
 pub mod OutputLaws
+pub mod KeyLaws

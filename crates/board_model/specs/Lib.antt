@@ -27,3 +27,4 @@ pub mod Script
 pub mod LawsOfForms
 pub mod LawsOfScripts
 pub mod LawsOfOutputs
+pub mod LawsOfKeys

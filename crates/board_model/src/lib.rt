@@ -11,6 +11,7 @@ mod errors;
 pub mod form_laws;
 pub mod grammar_laws;
 pub mod id_laws;
+pub mod key_laws;
 mod line;
 mod lists;
 pub mod output_laws;
