@@ -77,17 +77,17 @@ module _ (m : Machine) (s : State) (rep : Represents m s) (sound : Sound s) (n i
   pub update_begins : (party handle : List ℕ) (x : Held) (v : Value) (g : ℕ) (words : List ℕ) (begun : Updating) → begun ≡ record { shape = cell_shape e.cell; generation = g; words = words; written = 0 } → n ≡ x.board → i ≡ entry_of x.kind
       → of_kind thing_kind.WriteHandle (thing_of m.things.items party handle) ≡ Some x → same_type (value_detail (type_of v)) e.value ≡ true → IsCounter m n i g → words ≡ value_words v
       → IsChecked (call_reason s.standing party (call.Update handle v) (request_of s.standing s.published party (call.Update handle v))) (request_of s.standing s.published party (call.Update handle v))
-          (checked.Accepted (task.Update n begun))
+      (checked.Accepted (task.Update n begun))
   update_begins party handle x v g words begun is nb ib held typed counter w =
       let u : Publication = record { board = x.board; entry = entry_of x.kind; shape = cell_shape e.cell; type = e.value; handle = handle; generation = length (s.published x.board (entry_of x.kind)); value = v } in
       let h : of_kind thing_kind.WriteHandle (thing_of s.standing.tables.things party handle) ≡ Some x = ap (λ t. of_kind thing_kind.WriteHandle (thing_of t.things party handle)) rep.tables ∙ held in
       let f : entry_at s.standing.tables x.board (entry_of x.kind) ≡ Some e = ap (λ (k : ℕ). entry_at s.standing.tables x.board k) (sym ib) ∙ ap (λ (k : ℕ). entry_at s.standing.tables k i) (sym nb) ∙ in_state in
       let count : g ≡ length (s.published x.board (entry_of x.kind)) =
-          (counter_at m s rep sound n i e in_state).is_length g counter ∙ ap (λ (k : ℕ). length (s.published k i)) nb ∙ ap (λ (k : ℕ). length (s.published x.board k)) ib in
+      (counter_at m s rep sound n i e in_state).is_length g counter ∙ ap (λ (k : ℕ). length (s.published k i)) nb ∙ ap (λ (k : ℕ). length (s.published x.board k)) ib in
       let asked : request_of s.standing s.published party (call.Update handle v) ≡ Some (update u) = rw (rep.loans party handle, h, f) refl in
       let call_is : begun ≡ updating u 0 =
-          is ∙ ap (λ (k : ℕ). record { shape = cell_shape e.cell; generation = k; words = words; written = 0 }) count
-          ∙ ap (λ (ws : List ℕ). record { shape = cell_shape e.cell; generation = u.generation; words = ws; written = 0 }) w in
+      is ∙ ap (λ (k : ℕ). record { shape = cell_shape e.cell; generation = k; words = words; written = 0 }) count
+      ∙ ap (λ (ws : List ℕ). record { shape = cell_shape e.cell; generation = u.generation; words = ws; written = 0 }) w in
       rw asked (rw typed refl, record { publication = u; request = refl; board_is = nb; call_is = call_is })
 
 -- ---- answers to the line
@@ -143,7 +143,7 @@ begin_begun m new s rep party c t e h tables words spent parties l =
         words = words ∙ rep.words ∙ ap (λ x. words_of s.memory x.boards) (sym tables);
         parties = subst (λ (o : Option Request). (p : List ℕ) → AreRowsOf (filter (is_row_of p) new.parties.items) (with_party s.parties party (begun o) p)) (sym q.1)
             (subst (λ (xs : List PartyRow). (p : List ℕ) → AreRowsOf (filter (is_row_of p) xs) (with_party s.parties party (begun (Some q.0)) p)) (sym parties)
-              (started m.parties.items s.parties rep.parties party e t q.0 q.2));
+            (started m.parties.items s.parties rep.parties party e t q.0 q.2));
         loans = rep.loans;
         values = rep.values;
       },

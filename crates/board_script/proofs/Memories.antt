@@ -54,7 +54,7 @@ module _ (f g : ℕ → List ℕ) (n : ℕ) (same : (m : ℕ) → (m == n) ≡ f
   set_from new e [] i k p c = absurd cc
   set_from new e (b ∷ bs) i k p c =
       let more : (j : ℕ) → position_from (is_numbered n) (i + 1) bs ≡ Some j → count_by (is_numbered n) bs ≤ 1 → (at : ℕ) × (j ≡ i + 1 + at) × (words_of g bs ≡ set (words_of f bs) at new)
-          = λ j. set_from new e bs (i + 1) j in
+      = λ j. set_from new e bs (i + 1) j in
       let h : one_if (is_numbered n b) + count_by (is_numbered n) bs ≤ 1 = omega (arith, count-cons (is_numbered n) b bs, c) in
       set_head new e b bs i k (b.number == n) refl h p more
 

@@ -145,8 +145,8 @@ module _ (rows : List PartyRow) (parties : List ℕ → Party) (are : AreParties
   begins_for p true h =
       let new : PartyRow = record { name = party; task = t } in
       let none : filter (is_row_of p) rows ≡ [] =
-          ap (λ (n : List ℕ). filter (is_row_of n) rows) (same_bytes p party h)
-          ∙ subst (λ (x : Party). AreRowsOf (filter (is_row_of party) rows) x) is (are party) in
+      ap (λ (n : List ℕ). filter (is_row_of n) rows) (same_bytes p party h)
+      ∙ subst (λ (x : Party). AreRowsOf (filter (is_row_of party) rows) x) is (are party) in
       record {
         row = new;
         only = filter-append (is_row_of p) rows (new ∷ []) ∙ ap (λ (xs : List PartyRow). xs ++ filter (is_row_of p) (new ∷ [])) none ∙ ap (λ (b : Bool). cond b (new ∷ []) []) h;

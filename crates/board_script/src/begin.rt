@@ -12,9 +12,14 @@ ghost use Rattle.board_script.specs.Begins.{Checks};
 
 use crate::lookups::{board_at, entry_at, entry_of, held_of_kind, place_of_party, thing_of};
 use crate::machine::{Held, Machine, PartyRow, Task};
-use crate::values::{key_detail, same_key_type, same_type, type_of, type_of_key, value_detail, value_words};
+use crate::values::{
+    key_detail, same_key_type, same_type, type_of, type_of_key, value_detail, value_words,
+};
 use board_cell::{CellShape, UpdateCall};
-use board_model::{AddedEntries, AddedEntry, Answer, Attributes, Board, BoardName, Call, Key, KeyType, Limits, Name, Reason, ThingKind, Value, ValueType};
+use board_model::{
+    AddedEntries, AddedEntry, Answer, Attributes, Board, BoardName, Call, Key, KeyType, Limits,
+    Name, Reason, ThingKind, Value, ValueType,
+};
 use std::alloc::AllocError;
 
 /// Whether a call may begin: what it has to do, or why not.

@@ -13,7 +13,10 @@ use crate::machine::Machine;
 use crate::values::{key_bytes, key_detail, same_key, type_of, value_detail, value_words};
 use board_cell::PlainWords;
 use board_layout::{CellPlace, KeyMemory, Plan, PlanError, Shape, plan};
-use board_model::{AddedEntries, AddedEntry, Attributes, BlackboardCreateError, Board, BoardName, Entries, Entry, KeyType, Kind, Limits, Name, Reply, Thing, Value};
+use board_model::{
+    AddedEntries, AddedEntry, Attributes, BlackboardCreateError, Board, BoardName, Entries, Entry,
+    KeyType, Kind, Limits, Name, Reply, Thing, Value,
+};
 use std::alloc::{AllocError, Global};
 
 /// The cells of a new board, or why it isn't made.
@@ -102,13 +105,19 @@ fn plan_for(
     let shapes = shapes_for(alloc, entries)?;
     match plan(alloc, &shapes) {
         Ok(plan) => Ok(Planned::Cells(plan)),
-        Err(PlanError::TooLarge) => Ok(Planned::Refused(BlackboardCreateError::ServiceInCorruptedState)),
+        Err(PlanError::TooLarge) => Ok(Planned::Refused(
+            BlackboardCreateError::ServiceInCorruptedState,
+        )),
         Err(PlanError::OutOfMemory) => Err(AllocError),
     }
 }
 
 // The entries of a new board.
-fn entries_for(alloc: Global, cells: &[CellPlace], entries: &[AddedEntry]) -> Result<Vec<Entry>, AllocError>
+fn entries_for(
+    alloc: Global,
+    cells: &[CellPlace],
+    entries: &[AddedEntry],
+) -> Result<Vec<Entry>, AllocError>
     requires { length cells.now ≡ length entries.now }
     ensures { IfOk result (λ v. v.items ≡ tables.entries_of cells.now (map added_of entries.now)) }
 {
@@ -143,7 +152,12 @@ fn push_cell(words: &mut Vec<u64>, cell: &CellPlace, value: &[u64]) -> Result<()
 }
 
 // The words of a new board.
-fn board_words(alloc: Global, end: u64, cells: &[CellPlace], entries: &[AddedEntry]) -> Result<Vec<u64>, AllocError>
+fn board_words(
+    alloc: Global,
+    end: u64,
+    cells: &[CellPlace],
+    entries: &[AddedEntry],
+) -> Result<Vec<u64>, AllocError>
     requires each { length cells.now ≡ length entries.now }
     requires within { All (LiesWithin end) cells.now }
     ensures { IfOk result (λ v. v.items ≡ opening_words 0 cells.now (map value_list entries.now)) }

@@ -13,7 +13,9 @@ mod step;
 mod top;
 mod values;
 
-pub use board_lines::{Failed, MemorySink, MemorySource, RunsLines, ScriptError, Sink, SinkError, Source};
+pub use board_lines::{
+    Failed, MemorySink, MemorySource, RunsLines, ScriptError, Sink, SinkError, Source,
+};
 pub use machine::Machine;
 pub use script::run_script;
 pub use top::run_words;

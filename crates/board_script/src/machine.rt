@@ -1,6 +1,8 @@
 //! The machine: the tables, the words of each board, and the calls that run.
 use board_cell::{PlainWords, UpdateCall};
-use board_model::{AddedEntries, Attributes, Board, BoardName, Key, KeyType, Limits, Name, Thing, ValueType};
+use board_model::{
+    AddedEntries, Attributes, Board, BoardName, Key, KeyType, Limits, Name, Thing, ValueType,
+};
 use std::alloc::Global;
 
 /// A thing of a board, under its party and its name.

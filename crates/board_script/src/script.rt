@@ -12,7 +12,11 @@ use std::alloc::Global;
 const MAX_LINES: u64 = 4294967295;
 
 /// Runs the lines of the source to its end, and writes the answer to each before the next is run.
-pub fn run_script<S: Source, K: Sink>(alloc: Global, source: &mut S, sink: &mut K) -> Result<(), ScriptError>
+pub fn run_script<S: Source, K: Sink>(
+    alloc: Global,
+    source: &mut S,
+    sink: &mut K,
+) -> Result<(), ScriptError>
     // The sink gained the output of the lawful session of the input's lines, which was read to its end.
     ensures ok { OnOk result (IsRunOf 4294967295 (S.left source.old) (K.held sink.old) (K.held sink.new)) }
     ensures end { OnOk result (IsAtEnd (S.left source.new)) }

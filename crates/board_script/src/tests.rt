@@ -138,12 +138,27 @@ fn a_word_on_the_command_line(rt: HostRuntime) -> Result<(), Fail> {
 }
 
 // Runs the first run with these calls of the source and of the sink failing.
-fn fails(rt: &impl Abort, alloc: Global, reads: &[u64], writes: &[u64], status: u8, output: &[u8], note: &[u8]) -> Result<(), Fail> {
-    let mut source = MemorySource::new(Vec::from_slice(alloc, FIRST_RUN.script)?, 60, Vec::from_slice(alloc, reads)?);
+fn fails(
+    rt: &impl Abort,
+    alloc: Global,
+    reads: &[u64],
+    writes: &[u64],
+    status: u8,
+    output: &[u8],
+    note: &[u8],
+) -> Result<(), Fail> {
+    let mut source = MemorySource::new(
+        Vec::from_slice(alloc, FIRST_RUN.script)?,
+        60,
+        Vec::from_slice(alloc, reads)?,
+    );
     let mut sink = MemorySink::new(alloc, 4096, 0, Vec::from_slice(alloc, writes)?)?;
     let mut notes = MemorySink::new(alloc, 100, 0, Vec::new(alloc))?;
     let words = Vec::new(alloc);
-    assert_eq!(rt; run_words(alloc, &words, &mut source, &mut sink, &mut notes), status);
+    assert_eq!(rt;
+        run_words(alloc, &words, &mut source, &mut sink, &mut notes),
+        status
+    );
     assert_eq!(rt; sink.held(), output);
     assert_eq!(rt; notes.held(), note);
     Ok(())
@@ -152,5 +167,13 @@ fn fails(rt: &impl Abort, alloc: Global, reads: &[u64], writes: &[u64], status: 
 #[test]
 fn faults_end_the_run(rt: HostRuntime) -> Result<(), Fail> {
     fails(&rt, rt.alloc(), &[1], &[], 3, b"ok\n", b"read fault\n")?;
-    fails(&rt, rt.alloc(), &[], &[2], 4, b"ok\ntable = ok 1\n", b"write fault\n")
+    fails(
+        &rt,
+        rt.alloc(),
+        &[],
+        &[2],
+        4,
+        b"ok\ntable = ok 1\n",
+        b"write fault\n",
+    )
 }
