@@ -1,0 +1,5 @@
+use Rattle.board_script.proofs.Listings.{numbers}
+use Rattle.board_script.proofs.line.push_listing.Goals as goal
+
+pub returns-clause-numbers : goal.returns-clause-numbers
+returns-clause-numbers c = numbers c.args.words.now (λ k l. c.type_inv.words k)
