@@ -1,5 +1,5 @@
 -- Channels by full names, what clauses see of their ends, and what their calls answer.
-use Rattle.std.specs.Prelude.{◌≡◌, ℕ, Bool, List, Option, Some, None, Result, Ok, Err, max, if◌then◌else◌}
+use Rattle.std.specs.Prelude.{ℕ, Bool, List, Option, Some, None, Result, Ok, Err, max, if◌then◌else◌}
 use Rattle.board_names.specs.declared.configuration.Configuration.{Configuration}
 use Rattle.board_names.specs.Configuration.{full_name}
 use Rattle.board_store.specs.Table.{taking, without}

@@ -1,5 +1,5 @@
 -- What a clause sees of a queue.
-use Rattle.std.specs.Prelude.{◌≡◌, ◌≤◌, ℕ, Bool, true, false, List, [], ◌∷◌, ◌++◌, Option, Some, None, Result, Ok, Err, length, nat_lt, if◌then◌else◌, drop, slice_get, max}
+use Rattle.std.specs.Prelude.{ℕ, Bool, List, [], ◌∷◌, ◌++◌, Option, None, Result, Ok, Err, length, nat_lt, if◌then◌else◌, drop, slice_get, max}
 use Rattle.board_names.specs.declared.errors.communication_channel.CommunicationChannelSendError.{CommunicationChannelSendError}
 use Rattle.board_names.specs.declared.errors.communication_channel.CommunicationChannelSendError.TheVariants.{ReceiverCacheIsFull}
 
