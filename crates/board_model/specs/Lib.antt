@@ -3,6 +3,7 @@ pub mod OwedAccesses
 pub mod TypeTable
 pub mod LineGrammar
 pub mod AnswerGrammar
+pub mod LineReading
 pub mod Tables
 pub mod TableCalls
 pub mod Things
@@ -12,3 +13,14 @@ pub mod Memory
 pub mod Parties
 pub mod LawfulSession
 pub mod Sound
+pub mod Lines
+pub mod GrammarLaws
+pub mod LawsOfReads
+pub mod LawsOfCounts
+pub mod LawsOfBounds
+pub mod LawsOfAnswers
+pub mod LawsOfSessions
+pub mod LawsOfIds
+pub mod LawOfSoundness
+pub mod WorkedSessions
+pub mod Script

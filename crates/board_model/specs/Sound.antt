@@ -5,6 +5,8 @@ use Rattle.board_layout.specs.declared.shape.CellShape.{CellShape}
 use Rattle.board_model.specs.declared.access.Access.{Access}
 use Rattle.board_model.specs.declared.tables.Board.{Board}
 use Rattle.board_model.specs.declared.tables.Entry.{Entry}
+use Rattle.board_model.specs.declared.tables.Kind.{Kind}
+use Rattle.board_model.specs.declared.tables.Kind.TheVariants as kind
 use Rattle.board_model.specs.declared.tables.ThingKind.{ThingKind}
 use Rattle.board_model.specs.declared.tables.ThingKind.TheVariants as thing_kind
 use Rattle.board_model.specs.declared.value.KeyType.{KeyType}
@@ -93,10 +95,22 @@ pub record IsLoan (t : BoardTables) (memory : ℕ → List ℕ) (published : Pub
 abbrev pub HasBoard : BoardTables → Held → Type 0
 HasBoard t x = is_some (board_at t x.board) ≡ true
 
+-- and so does the entry of a handle
+abbrev pub HasEntryAt : BoardTables → ℕ → Kind → Type 0
+HasEntryAt t board kind.Factory = Unit {0}
+HasEntryAt t board (kind.Reader port) = Unit {0}
+HasEntryAt t board (kind.Writer port) = Unit {0}
+HasEntryAt t board (kind.ReadHandle i) = is_some (entry_at t board i) ≡ true
+HasEntryAt t board (kind.WriteHandle i port) = is_some (entry_at t board i) ≡ true
+
+abbrev pub HasEntry : BoardTables → Held → Type 0
+HasEntry t x = HasEntryAt t x.board x.kind
+
 pub record AreThings (s : Standing) (memory : ℕ → List ℕ) (published : Published) (parties : List ℕ → Party) : Type 0 where
   -- at most one write handle or loan of an entry is a thing
   pub handles : (n i : ℕ) → count_by (is_write_handle n i) s.tables.things ≤ 1
   pub standing : AllByRecursion (HasBoard s.tables) s.tables.things
+  pub entries : AllByRecursion (HasEntry s.tables) s.tables.things
   pub loans : (party name : List ℕ) (put_words : List (Option ℕ)) → s.loans party name ≡ Some put_words → IsLoan s.tables memory published parties party name put_words
 
 -- ---- running calls

@@ -1,6 +1,6 @@
 -- How the names of a table are listed.
-use Rattle.std.specs.Prelude.{◌≡◌, ℕ, List, [], ◌∷◌, ◌++◌, Option, Some, None, option_to_list, IfSome, refl}
-use Rattle.std.proofs.Common.{sym, ◌∙◌, ap, subst}
+use Rattle.std.specs.Prelude.{◌≡◌, ℕ, List, ◌∷◌, ◌++◌, Option, Some, None, option_to_list, IfSome, refl}
+use Rattle.std.proofs.Common.{sym, subst}
 use Rattle.std.proofs.lemmas.List.{append_assoc}
 use Rattle.board_names.specs.declared.configuration.Configuration.{Configuration}
 use Rattle.board_names.specs.Configuration.{full_name}

@@ -1,6 +1,6 @@
 -- Static storages, and what their calls answer.
-use Rattle.std.specs.Prelude.{◌≡◌, ℕ, List, Option, Some, None, Result, Ok, Err, Bool, true, false, option_map}
-use Rattle.board_store.specs.Table.{at}
+use Rattle.std.specs.Prelude.{ℕ, List, Option, Some, None, Result, Ok, Err, Bool, true, false, option_map}
+use Rattle.board_store.specs.Table.{at, taking}
 use Rattle.board_store.specs.declared.statics.Stored.{Stored}
 use Rattle.board_store.specs.declared.statics.Stored.TheVariants.{Locked, Final}
 use Rattle.board_names.specs.declared.errors.static_storage.StaticStorageCreateError.{StaticStorageCreateError}
@@ -35,8 +35,7 @@ bytes_of storages name = final_bytes (at storages name)
 
 -- what `create_locked` answers, by what stands under the name
 abbrev pub create_answer : Option Stored → Result (Unit {0}) StaticStorageCreateError
-create_answer None = Ok tt
-create_answer (Some one) = Err AlreadyExists
+create_answer = taking tt AlreadyExists
 
 -- what `try_open` answers
 abbrev pub open_answer : Option Stored → Result (List ℕ) StaticStorageOpenError

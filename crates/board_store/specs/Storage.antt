@@ -2,12 +2,13 @@
 use Rattle.std.specs.Prelude.{◌≡◌, ◌⊎◌, ℕ, List, Bool, true, false, Option, if◌then◌else◌, Some, None, Result, Ok, Err}
 use Rattle.board_names.specs.declared.configuration.Configuration.{Configuration}
 use Rattle.board_names.specs.Configuration.{full_name}
-use Rattle.board_store.specs.Table.{putting, without}
+use Rattle.board_store.specs.Table.{putting, without, taking}
 use Rattle.board_layout.specs.Answer.{with_value}
-use Rattle.board_store.specs.Statics.{Storages, create_answer, open_answer, unlock_answer}
+use Rattle.board_store.specs.Statics.{Storages, open_answer, unlock_answer}
 use Rattle.board_store.specs.declared.statics.Stored.{Stored}
 use Rattle.board_store.specs.declared.statics.Stored.TheVariants.{Locked, Final}
 use Rattle.board_names.specs.declared.errors.static_storage.StaticStorageCreateError.{StaticStorageCreateError}
+use Rattle.board_names.specs.declared.errors.static_storage.StaticStorageCreateError.TheVariants.{AlreadyExists}
 use Rattle.board_names.specs.declared.errors.static_storage.StaticStorageOpenError.{StaticStorageOpenError}
 use Rattle.board_names.specs.declared.errors.static_storage.StaticStorageUnlockError.{StaticStorageUnlockError}
 use Rattle.board_names.specs.declared.errors.concept.NamedConceptDoesExistError.{NamedConceptDoesExistError}
@@ -48,13 +49,17 @@ locked_of_builder b = record { name = b.name; path = path_of b; owns = b.owns }
 abbrev pub filled : LockedView → List ℕ → StorageView
 filled l bytes = record { name = l.name; path = l.path; owns = l.owns; bytes = bytes }
 
--- what `create` answers
-abbrev pub create_storage_answer : BuilderView → List ℕ → Option Stored → Result StorageView StaticStorageCreateError
-create_storage_answer b contents one = with_value (λ u. storage_of b contents) (create_answer one)
+-- the full name that the taking of a name answers
+abbrev pub take_answer : BuilderView → Option Stored → Result (List ℕ) StaticStorageCreateError
+take_answer b = taking (path_of b) AlreadyExists
 
 -- the content that `create` answers
 abbrev pub create_content_answer : List ℕ → Option Stored → Result (List ℕ) StaticStorageCreateError
-create_content_answer contents one = with_value (λ u. contents) (create_answer one)
+create_content_answer contents = taking contents AlreadyExists
+
+-- what `create` answers
+abbrev pub create_storage_answer : BuilderView → List ℕ → Option Stored → Result StorageView StaticStorageCreateError
+create_storage_answer b contents = taking (storage_of b contents) AlreadyExists
 
 -- the storages stay, or the name is locked
 abbrev pub StaysOrIsLocked : Storages → Storages → List ℕ → Type 0
@@ -62,7 +67,7 @@ StaysOrIsLocked old new name = (new ≡ old) ⊎ (new ≡ putting old name Locke
 
 -- what `create_locked` answers
 abbrev pub create_locked_answer : BuilderView → Option Stored → Result LockedView StaticStorageCreateError
-create_locked_answer b one = with_value (λ u. locked_of_builder b) (create_answer one)
+create_locked_answer b = taking (locked_of_builder b) AlreadyExists
 
 -- what one look of `open` answers
 abbrev pub open_storage_answer : BuilderView → Option Stored → Result StorageView StaticStorageOpenError

@@ -4,7 +4,7 @@ ghost use Rattle.board_layout.specs.Answer.{Answers, Refuses};
 ghost use Rattle.board_names.specs.Configuration.{full_name, started};
 ghost use Rattle.board_store.specs.Table.{at, putting};
 ghost use Rattle.board_store.specs.Statics.{create_answer, open_answer};
-ghost use Rattle.board_store.specs.Storage.{path_of, storage_of, create_storage_answer, create_content_answer, StaysOrIsLocked, create_locked_answer, open_storage_answer};
+ghost use Rattle.board_store.specs.Storage.{path_of, storage_of, create_storage_answer, create_content_answer, take_answer, StaysOrIsLocked, create_locked_answer, open_storage_answer};
 ghost use Rattle.board_store.specs.declared.statics.Stored.TheVariants.{Locked as Stood, Final};
 
 use crate::content::Content;
@@ -73,8 +73,7 @@ impl Builder {
         ensures ok { OnOk result (state.new ≡ putting state.old (path_of self) Stood) }
         ensures err { OnErr result (state.new ≡ state.old) }
     {
-        let path = self.path();
-        state.create_locked(&path)?;
+        let path = self.take(state)?;
         Ok(Locked::at(self.name, path, self.owns, self.registry))
     }
 
@@ -91,6 +90,32 @@ impl Builder {
         Ok(self.into_storage(content))
     }
 
+    fn take(&self, state: &mut Statics) -> Result<FilePath, StaticStorageCreateError>
+        ensures answer { Answers result StaticStorageCreateError.OutOfMemory (take_answer self.now (at state.old (path_of self.now))) }
+        ensures refused { Refuses result (take_answer self.now (at state.old (path_of self.now))) }
+        ensures path { IfOk result (λ path. path ≡ path_of self.now) }
+        ensures ok { OnOk result (state.new ≡ putting state.old (path_of self.now) Stood) }
+        ensures err { OnErr result (state.new ≡ state.old) }
+    {
+        let path = self.path();
+        state.create_locked(&path)?;
+        Ok(path)
+    }
+
+    fn take_locking<R: Wait>(&self, rt: &R) -> Result<FilePath, StaticStorageCreateError> {
+        let mut state = self.registry.state.lock(rt);
+        self.take(&mut state)
+    }
+
+    fn create_locking<R: Wait>(
+        &self,
+        rt: &R,
+        contents: &[u8],
+    ) -> Result<Content, StaticStorageCreateError> {
+        let mut state = self.registry.state.lock(rt);
+        self.create_content(&mut state, contents)
+    }
+
     fn create_content(
         &self,
         state: &mut Statics,
@@ -102,8 +127,7 @@ impl Builder {
         ensures already { IsErrOf result StaticStorageCreateError.AlreadyExists → state.new ≡ state.old }
         ensures memory { IsErrOf result StaticStorageCreateError.OutOfMemory → StaysOrIsLocked state.old state.new (path_of self.now) }
     {
-        let path = self.path();
-        state.create_locked(&path)?;
+        let path = self.take(state)?;
         match state.fill(&path, contents) {
             Ok(content) => Ok(content),
             Err(_) => Err(StaticStorageCreateError::OutOfMemory),
@@ -195,11 +219,8 @@ impl StaticStorageBuilder for Builder {
         alloc: Global,
         contents: &[u8],
     ) -> Result<Storage, StaticStorageCreateError> {
-        let Ok(registry) = self.registry.share() else {
-            return Err(StaticStorageCreateError::OutOfMemory);
-        };
-        let mut state = registry.state.lock(rt);
-        self.create_in(&mut state, alloc, contents)
+        let content = self.create_locking(rt, contents)?;
+        Ok(self.into_storage(content))
     }
 
     fn create_locked<R: Wait>(
@@ -207,11 +228,8 @@ impl StaticStorageBuilder for Builder {
         rt: &R,
         alloc: Global,
     ) -> Result<Locked, StaticStorageCreateError> {
-        let Ok(registry) = self.registry.share() else {
-            return Err(StaticStorageCreateError::OutOfMemory);
-        };
-        let mut state = registry.state.lock(rt);
-        self.create_locked_in(&mut state, alloc)
+        let path = self.take_locking(rt)?;
+        Ok(Locked::at(self.name, path, self.owns, self.registry))
     }
 
     fn open<R: Wait>(self, rt: &R, polls: u32) -> Result<Storage, StaticStorageOpenError> {

@@ -3,9 +3,10 @@ ghost use Rattle.std.specs.Prelude.{◌≡◌, ℕ, List, Bool, OnOk, OnErr, IsE
 ghost use Rattle.board_layout.specs.Answer.{Answers, Refuses};
 ghost use Rattle.board_store.specs.Table.{at, putting, without};
 ghost use Rattle.board_store.specs.Statics.{locked_of};
-ghost use Rattle.board_store.specs.Storage.{unlock_storage_answer, released};
+ghost use Rattle.board_store.specs.Storage.{filled, unlock_storage_answer, released};
 ghost use Rattle.board_store.specs.declared.statics.Stored.TheVariants.{Final};
 
+use crate::content::Content;
 use crate::registry::StaticRegistry;
 use crate::static_storage::StaticStorageLocked;
 use crate::statics::Statics;
@@ -60,7 +61,18 @@ impl Locked {
         ensures err { OnErr result (state.new ≡ state.old) }
     {
         let content = state.unlock(&self.path, contents)?;
-        Ok(Storage::at(self.name, self.path, self.owns, content, self.registry))
+        Ok(self.into_storage(content))
+    }
+
+    fn fill<R: Wait>(&self, rt: &R, contents: &[u8]) -> Result<Content, StaticStorageUnlockError> {
+        let mut state = self.registry.state.lock(rt);
+        state.unlock(&self.path, contents)
+    }
+
+    fn into_storage(self, content: Content) -> Storage
+        ensures { result ≡ filled self content }
+    {
+        Storage::at(self.name, self.path, self.owns, content, self.registry)
     }
 
     /// `release` over the storages themselves.
@@ -88,11 +100,8 @@ impl StaticStorageLocked for Locked {
         alloc: Global,
         contents: &[u8],
     ) -> Result<Storage, StaticStorageUnlockError> {
-        let Ok(registry) = self.registry.share() else {
-            return Err(StaticStorageUnlockError::OutOfMemory);
-        };
-        let mut state = registry.state.lock(rt);
-        self.unlock_in(&mut state, alloc, contents)
+        let content = self.fill(rt, contents)?;
+        Ok(self.into_storage(content))
     }
 
     fn release<R: Wait>(self, rt: &R) {

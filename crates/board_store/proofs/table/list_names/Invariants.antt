@@ -1,4 +1,3 @@
-use Rattle.std.proofs.Common.{List}
 use Rattle.std.specs.Map.{keys_of}
 use Rattle.board_store.proofs.Listing.{ListsBehind}
 use Rattle.board_store.proofs.table.list_names.Given as goal

@@ -1,4 +1,4 @@
-use Rattle.std.proofs.Common.{rules, ◌≡◌}
+use Rattle.std.proofs.Common.{rules}
 use Rattle.board_layout.proofs.AnswerLemmas.{Refuses-same, Refuses-value}
 use Rattle.board_store.proofs.statics.Statics.try_open.Goals as goal
 
