@@ -23,6 +23,13 @@ impl PlainWords {
     {
         PlainWords { words }
     }
+
+    /// The words, in order.
+    pub fn as_slice(&self) -> &[u64]
+        ensures { result.now ≡ self.now }
+    {
+        self.words.as_slice()
+    }
 }
 
 impl Words for PlainWords {

@@ -1,0 +1,118 @@
+//! The words of reasons, types and errors.
+ghost use Rattle.std.specs.Prelude.{◌≡◌};
+ghost use Rattle.board_model.specs.AnswerGrammar.{create_error_text, entry_error_text, entry_mut_error_text, open_error_text, reader_error_text, reason_text, writer_error_text};
+ghost use Rattle.board_model.specs.LineGrammar.{key_type_text};
+
+use board_model::{BlackboardCreateError, BlackboardOpenError, EntryHandleError, EntryHandleMutError, KeyType, ReaderCreateError, Reason, WriterCreateError};
+
+pub(crate) fn reason_name(reason: Reason) -> &'static [u8]
+    ensures { result.now ≡ reason_text reason }
+{
+    match reason {
+        Reason::Abandoned => b"abandoned",
+        Reason::Busy => b"busy",
+        Reason::Idle => b"idle",
+        Reason::Unknown => b"unknown",
+        Reason::Taken => b"taken",
+        Reason::Type => b"type",
+        Reason::Index => b"index",
+        Reason::Unfilled => b"unfilled",
+        Reason::NoBoard => b"noboard",
+    }
+}
+
+pub(crate) fn key_type_name(key_type: KeyType) -> &'static [u8]
+    ensures { result.now ≡ key_type_text key_type }
+{
+    match key_type {
+        KeyType::U64 => b"u64",
+        KeyType::F8 => b"f8",
+    }
+}
+
+pub(crate) fn create_error_name(error: BlackboardCreateError) -> &'static [u8]
+    ensures { result.now ≡ create_error_text error }
+{
+    match error {
+        BlackboardCreateError::AlreadyExists => b"AlreadyExists",
+        BlackboardCreateError::IsBeingCreatedByAnotherInstance => b"IsBeingCreatedByAnotherInstance",
+        BlackboardCreateError::InternalFailure => b"InternalFailure",
+        BlackboardCreateError::InsufficientPermissions => b"InsufficientPermissions",
+        BlackboardCreateError::ServiceInCorruptedState => b"ServiceInCorruptedState",
+        BlackboardCreateError::HangsInCreation => b"HangsInCreation",
+        BlackboardCreateError::NoEntriesProvided => b"NoEntriesProvided",
+        BlackboardCreateError::NumbersSpent => b"NumbersSpent",
+        BlackboardCreateError::OutOfMemory => b"OutOfMemory",
+    }
+}
+
+pub(crate) fn open_error_name(error: BlackboardOpenError) -> &'static [u8]
+    ensures { result.now ≡ open_error_text error }
+{
+    match error {
+        BlackboardOpenError::DoesNotExist => b"DoesNotExist",
+        BlackboardOpenError::ServiceInCorruptedState => b"ServiceInCorruptedState",
+        BlackboardOpenError::IncompatibleKeys => b"IncompatibleKeys",
+        BlackboardOpenError::InternalFailure => b"InternalFailure",
+        BlackboardOpenError::IncompatibleAttributes => b"IncompatibleAttributes",
+        BlackboardOpenError::IncompatibleMessagingPattern => b"IncompatibleMessagingPattern",
+        BlackboardOpenError::DoesNotSupportRequestedAmountOfReaders => b"DoesNotSupportRequestedAmountOfReaders",
+        BlackboardOpenError::InsufficientPermissions => b"InsufficientPermissions",
+        BlackboardOpenError::HangsInCreation => b"HangsInCreation",
+        BlackboardOpenError::IsMarkedForDestruction => b"IsMarkedForDestruction",
+        BlackboardOpenError::ExceedsMaxNumberOfNodes => b"ExceedsMaxNumberOfNodes",
+        BlackboardOpenError::DoesNotSupportRequestedAmountOfNodes => b"DoesNotSupportRequestedAmountOfNodes",
+        BlackboardOpenError::NumbersSpent => b"NumbersSpent",
+        BlackboardOpenError::OutOfMemory => b"OutOfMemory",
+    }
+}
+
+pub(crate) fn reader_error_name(error: ReaderCreateError) -> &'static [u8]
+    ensures { result.now ≡ reader_error_text error }
+{
+    match error {
+        ReaderCreateError::ExceedsMaxSupportedReaders => b"ExceedsMaxSupportedReaders",
+        ReaderCreateError::FailedToDeployThreadsafetyPolicy => b"FailedToDeployThreadsafetyPolicy",
+        ReaderCreateError::UnableToCreatePortTag => b"UnableToCreatePortTag",
+        ReaderCreateError::ThingUnknown(_) => b"ThingUnknown",
+        ReaderCreateError::NumbersSpent => b"NumbersSpent",
+        ReaderCreateError::OutOfMemory => b"OutOfMemory",
+    }
+}
+
+pub(crate) fn writer_error_name(error: WriterCreateError) -> &'static [u8]
+    ensures { result.now ≡ writer_error_text error }
+{
+    match error {
+        WriterCreateError::ExceedsMaxSupportedWriters => b"ExceedsMaxSupportedWriters",
+        WriterCreateError::InternalFailure => b"InternalFailure",
+        WriterCreateError::FailedToDeployThreadsafetyPolicy => b"FailedToDeployThreadsafetyPolicy",
+        WriterCreateError::UnableToCreatePortTag => b"UnableToCreatePortTag",
+        WriterCreateError::ThingUnknown(_) => b"ThingUnknown",
+        WriterCreateError::NumbersSpent => b"NumbersSpent",
+        WriterCreateError::OutOfMemory => b"OutOfMemory",
+    }
+}
+
+pub(crate) fn entry_error_name(error: EntryHandleError) -> &'static [u8]
+    ensures { result.now ≡ entry_error_text error }
+{
+    match error {
+        EntryHandleError::EntryDoesNotExist => b"EntryDoesNotExist",
+        EntryHandleError::ThingUnknown(_) => b"ThingUnknown",
+        EntryHandleError::NumbersSpent => b"NumbersSpent",
+        EntryHandleError::OutOfMemory => b"OutOfMemory",
+    }
+}
+
+pub(crate) fn entry_mut_error_name(error: EntryHandleMutError) -> &'static [u8]
+    ensures { result.now ≡ entry_mut_error_text error }
+{
+    match error {
+        EntryHandleMutError::EntryDoesNotExist => b"EntryDoesNotExist",
+        EntryHandleMutError::HandleAlreadyExists => b"HandleAlreadyExists",
+        EntryHandleMutError::ThingUnknown(_) => b"ThingUnknown",
+        EntryHandleMutError::NumbersSpent => b"NumbersSpent",
+        EntryHandleMutError::OutOfMemory => b"OutOfMemory",
+    }
+}

@@ -1,0 +1,4 @@
+mod idle;
+mod reading;
+mod running;
+mod writing;

@@ -1,0 +1,22 @@
+//! Whole lines to a sink.
+ghost use Rattle.std.specs.Prelude.{OnOk, OnErr, ℕ, take};
+ghost use Rattle.std.specs.Io.KnownBytes.{Appends};
+ghost use Rattle.board_model.specs.Lines.{HasCause};
+
+use crate::stream::{Failed, Sink};
+
+/// Writes all of the bytes. They are offered in one `write`, and their rest again until all is taken.
+pub fn write_whole<K: Sink>(sink: &mut K, bytes: &[u8]) -> Result<(), Failed>
+    ensures ok { OnOk result (Appends (K.held sink.old) (K.held sink.new) bytes.now) }
+
+    // A front of the bytes was written before a fault.
+    ensures err { OnErr result ((n : ℕ) × Appends (K.held sink.old) (K.held sink.new) (take n bytes.now)) }
+    ensures cause { HasCause (K.faults sink.old) (K.faults sink.new) result }
+{
+    let mut at = 0;
+    while at < bytes.len() {
+        let taken = sink.write(&bytes[at..])?;
+        at += taken;
+    }
+    Ok(())
+}

@@ -1,0 +1,114 @@
+-- Lines are read back from their bytes, and what is read is spelled so.
+use Rattle.std.proofs.Common.{◌≡◌, ℕ, ◌<◌, ◌≤◌, arith, Bool, true, false, List, [], ◌∷◌, ◌++◌, length, Option, Some, None, refl, sym, ap, subst, ◌∙◌, eqb, ◌⊎◌, inl, inr}
+use Rattle.std.specs.Prelude.{◌&&◌, not, nat_le, codes, IfSome, IfNone}
+use Rattle.std.specs.Str.{bytes_eq}
+use Rattle.std.specs.List.{join_with_byte, flat_map, list_all, AllByRecursion}
+use Rattle.std.proofs.lemmas.List.Splits.{join_with_byte-slice_split}
+use Rattle.std.proofs.lemmas.List.Concat.{flat_map-cons}
+use Rattle.board_model.specs.declared.value.AddedEntry.{AddedEntry}
+use Rattle.board_model.specs.declared.value.Key.{Key}
+use Rattle.board_model.specs.declared.value.Key.TheVariants as key
+use Rattle.board_model.specs.declared.value.Value.{Value}
+use Rattle.board_model.specs.declared.value.Value.TheVariants as value
+use Rattle.board_model.specs.declared.value.KeyType.{KeyType}
+use Rattle.board_model.specs.declared.value.KeyType.TheVariants as key_type
+use Rattle.board_model.specs.declared.value.ValueType.{ValueType}
+use Rattle.board_model.specs.declared.value.ValueType.TheVariants as type
+use Rattle.board_model.specs.declared.attributes.Attribute.{Attribute}
+use Rattle.board_model.specs.declared.line.Call.{Call}
+use Rattle.board_model.specs.declared.line.Call.TheVariants as call
+use Rattle.board_model.specs.declared.line.Line.{Line}
+use Rattle.board_model.specs.declared.line.Line.TheVariants as line
+use Rattle.board_model.specs.LineGrammar.{is_name, is_name_byte, is_visible, is_visible_byte, is_board_name, key_text, key_type_text, value_text, value_type_text, entry_tokens, call_tokens, tokens, spell, IsAddedEntry, IsCall, IsKey, IsValue, IsWellFormed, IsLine, Spells, runs, runs_call}
+use Rattle.board_model.specs.LineReading.{◌>>=◌, guard, first_by, is_end, split_tokens, read_number, read_name, read_call, read_one_name, read_begin, read_words, read_plain_line, read_formed, read_line}
+use Rattle.board_model.proofs.GrammarLemmasNumbers.{some_is, bind_some, guard_some, both, number_again, number_takes}
+use Rattle.board_model.proofs.GrammarLemmasTokens.{word_is, chosen, first_takes, end_takes, name_again, name_takes}
+use Rattle.board_model.proofs.GrammarLemmasCalls.{Takes, call_takes, read_call_tokens, call_again, one_again, one_takes}
+
+-- ---- lines from tokens
+
+pub record TakesLine (ts : List (List ℕ)) (l : Line) : Type 0 where
+  pub tokens : ts ≡ tokens l
+  pub is : IsWellFormed l
+
+begin_takes : (ts : List (List ℕ)) (l : Line) → read_begin ts ≡ Some l → TakesLine (codes "begin" ∷ ts) l
+unfolding read_begin
+begin_takes [] l e = absurd cc
+begin_takes (p ∷ []) l e = absurd cc
+begin_takes (p ∷ word ∷ rest) l e =
+    let n = bind_some (read_name p) (λ party. read_call word rest >>= λ c. Some (line.Begin party c)) l e in
+    let c = bind_some (read_call word rest) (λ c. Some (line.Begin n.0 c)) l n.2 in
+    let t = call_takes word rest c.0 c.1 in
+    let nn = name_takes p n.0 n.1 in
+    subst (TakesLine (codes "begin" ∷ p ∷ word ∷ rest)) (some_is (line.Begin n.0 c.0) l c.2)
+      (record { tokens = ap (λ (x : List ℕ). codes "begin" ∷ x ∷ word ∷ rest) nn.token ∙ ap (λ (x : List (List ℕ)). codes "begin" ∷ n.0 ∷ x) t.tokens; is = (nn.named, t.is) })
+
+step_takes : (ts : List (List ℕ)) (l : Line) → (read_one_name ts >>= λ p. Some (line.Step p)) ≡ Some l → TakesLine (codes "step" ∷ ts) l
+step_takes ts l e =
+    let p = bind_some (read_one_name ts) (λ p. Some (line.Step p)) l e in
+    let t = one_takes ts p.0 p.1 in
+    subst (TakesLine (codes "step" ∷ ts)) (some_is (line.Step p.0) l p.2)
+      (record { tokens = ap (λ (x : List (List ℕ)). codes "step" ∷ x) t.tokens; is = t.named })
+
+words_takes : (ts : List (List ℕ)) (l : Line) → read_words ts ≡ Some l → TakesLine (codes "words" ∷ ts) l
+unfolding read_words
+words_takes ts l e =
+    let n = bind_some (first_by read_number ts) (λ n. guard (is_end n.1) (Some (line.Words n.0))) l e in
+    let g = guard_some (is_end n.0.1) (Some (line.Words n.0.0)) l n.2 in
+    let t = first_takes read_number ts n.0 n.1 in
+    let d = number_takes t.token n.0.0 t.is in
+    subst (TakesLine (codes "words" ∷ ts)) (some_is (line.Words n.0.0) l g.1)
+      (record { tokens = chain ts n.0.1 t.token _ t.all d.0 (end_takes n.0.1 g.0); is = d.1 })
+  where
+  chain : (t0 t1 : List (List ℕ)) (a x : List ℕ) → t0 ≡ a ∷ t1 → a ≡ x → t1 ≡ [] → codes "words" ∷ t0 ≡ codes "words" ∷ x ∷ []
+  chain t0 t1 a x e0 ea e1 = cc
+
+head_of : (word v : List ℕ) (rest : List (List ℕ)) (l : Line) → bytes_eq word v ≡ true → TakesLine (v ∷ rest) l → TakesLine (word ∷ rest) l
+head_of word v rest l e t = subst (λ (w : List ℕ). TakesLine (w ∷ rest) l) (sym (word_is word v e)) t
+
+plain_line_takes : (word : List ℕ) (ts : List (List ℕ)) (l : Line) → read_plain_line word ts ≡ Some l → TakesLine (word ∷ ts) l
+unfolding read_plain_line
+plain_line_takes word ts l e =
+    elim (chosen (bytes_eq word (codes "step")) _ _ _ e) [
+      | inl h ↦ head_of word (codes "step") ts l h.0 (step_takes ts l h.1)
+      | inr h ↦ elim (chosen (bytes_eq word (codes "words")) _ _ _ h.1) [
+          | inl i ↦ head_of word (codes "words") ts l i.0 (words_takes ts l i.1)
+          | inr i ↦ absurd (let bad = i.1 in cc)
+        ]
+    ]
+
+formed_takes : (ts : List (List ℕ)) (l : Line) → read_formed ts ≡ Some l → TakesLine ts l
+unfolding read_formed
+formed_takes [] l e = absurd cc
+formed_takes (word ∷ rest) l e =
+    elim (chosen (bytes_eq word (codes "begin")) _ _ _ e) [
+      | inl h ↦ head_of word (codes "begin") rest l h.0 (begin_takes rest l h.1)
+      | inr h ↦ plain_line_takes word rest l h.1
+    ]
+
+-- what is read is spelled so
+pub line_takes : (ts : List (List ℕ)) (l : Line) → read_line ts ≡ Some l → (ts ≡ tokens l) × IsLine l
+unfolding read_line
+line_takes ts l e =
+    let f = bind_some (read_formed ts) (λ l. guard (runs l) (Some l)) l e in
+    let g = guard_some (runs f.0) (Some f.0) l f.2 in
+    let t = formed_takes ts f.0 f.1 in
+    subst (λ (x : Line). (ts ≡ tokens x) × IsLine x) (some_is f.0 l g.1) (t.tokens, record { formed = t.is; runs = g.0 })
+
+begin_again : (p : List ℕ) (c : Call) (ts : List (List ℕ)) → is_name p ≡ true → read_call_tokens ts ≡ Some c → read_begin (p ∷ ts) ≡ Some (line.Begin p c)
+unfolding read_begin
+begin_again p c [] h e = absurd cc
+begin_again p c (word ∷ ts) h e = rw (name_again p h, e) refl
+
+formed_again : (l : Line) → IsWellFormed l → runs l ≡ true → read_formed (tokens l) ≡ Some l
+unfolding read_formed read_plain_line read_words
+formed_again (line.Begin p c) h r = begin_again p c (call_tokens c) h.0 (call_again c h.1 r)
+formed_again (line.Step p) h r = rw (one_again p h) refl
+formed_again (line.Words b) h r = rw (number_again b h) refl
+formed_again (line.Release p t) h r = absurd cc
+formed_again (line.Abandon p) h r = absurd cc
+
+-- what is spelled so is read
+pub line_again : (l : Line) → IsLine l → read_line (tokens l) ≡ Some l
+unfolding read_line
+line_again l h = rw (formed_again l h.formed h.runs, h.runs) refl

@@ -1,0 +1,15 @@
+-- What holds of the two grammars.
+use Rattle.std.specs.Prelude.{◌≡◌, ℕ, List}
+use Rattle.board_model.specs.declared.line.Line.{Line}
+use Rattle.board_model.specs.declared.answer.Answer.{Answer}
+use Rattle.board_model.specs.LineGrammar.{Spells}
+use Rattle.board_model.specs.AnswerGrammar.{IsAnswer, answer_text}
+use Rattle.board_model.specs.Lines.{IsOneLine}
+
+-- bytes spell at most one line
+abbrev pub BytesSpellOneLine : Type 0
+BytesSpellOneLine = (bytes : List ℕ) (k l : Line) → Spells bytes k → Spells bytes l → k ≡ l
+
+-- no answer holds a newline
+abbrev pub AnswersHoldNoNewline : Type 0
+AnswersHoldNoNewline = (a : Answer) → IsAnswer a → IsOneLine (answer_text a)

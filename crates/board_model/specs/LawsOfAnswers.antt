@@ -1,0 +1,14 @@
+-- Laws of answers: a line has at most one right answer, and a list of lines at most one lawful session.
+use Rattle.std.specs.Prelude.{◌≡◌, List, map}
+use Rattle.board_model.specs.declared.answer.Answer.{Answer}
+use Rattle.board_model.specs.declared.line.Line.{Line}
+use Rattle.board_model.specs.LawfulSession.{IsLawful, IsRight, Session, State}
+
+abbrev pub OneRightAnswer : Type 0
+OneRightAnswer = (s : State) (l : Line) (a b : Answer) → IsRight s l a → IsRight s l b → a ≡ b
+
+abbrev pub lines_of : Session → List Line
+lines_of pairs = map (λ (pair : Line × Answer). pair.0) pairs
+
+abbrev pub OneLawfulSession : Type 0
+OneLawfulSession = (xs ys : Session) → IsLawful xs → IsLawful ys → lines_of xs ≡ lines_of ys → xs ≡ ys

@@ -1,0 +1,178 @@
+-- A reader of lines. It goes through the tokens of a line from the front, and gives the line that they are, where there is one.
+use Rattle.std.specs.Prelude.{◌≡◌, ℕ, ◌+◌, ◌-◌, ◌*◌, Bool, true, false, not, ◌&&◌, nat_lt, ◌==◌, if◌then◌else◌, List, [], ◌∷◌, codes, Option, Some, None}
+use Rattle.std.specs.Str.{bytes_eq, all_ascii_digits}
+use Rattle.std.specs.List.{slice_split}
+use Rattle.board_model.specs.declared.tables.Limits.{Limits}
+use Rattle.board_model.specs.declared.value.AddedEntry.{AddedEntry}
+use Rattle.board_model.specs.declared.value.KeyType.{KeyType}
+use Rattle.board_model.specs.declared.value.KeyType.TheVariants as key_type
+use Rattle.board_model.specs.declared.value.ValueType.{ValueType}
+use Rattle.board_model.specs.declared.value.ValueType.TheVariants as type
+use Rattle.board_model.specs.declared.value.Key.{Key}
+use Rattle.board_model.specs.declared.value.Key.TheVariants as key
+use Rattle.board_model.specs.declared.value.Value.{Value}
+use Rattle.board_model.specs.declared.value.Value.TheVariants as value
+use Rattle.board_model.specs.declared.line.Call.{Call}
+use Rattle.board_model.specs.declared.line.Call.TheVariants as call
+use Rattle.board_model.specs.declared.line.Line.{Line}
+use Rattle.board_model.specs.declared.line.Line.TheVariants as line
+use Rattle.board_model.specs.LineGrammar.{is_name, is_visible, is_board_name, runs}
+
+-- ---- readers, one after another
+
+infixl 10 ◌>>=◌
+abbrev pub ◌>>=◌ : {A B : Type 0} → Option A → (A → Option B) → Option B
+(Some x) >>= f = f x
+None >>= f = None
+
+-- where the test holds
+abbrev pub guard : {A : Type 0} → Bool → Option A → Option A
+guard true o = o
+guard false o = None
+
+-- what the first token reads as, and the tokens behind it
+abbrev pub first_by : {A : Type 0} → (List ℕ → Option A) → List (List ℕ) → Option (A × List (List ℕ))
+first_by read [] = None
+first_by read (t ∷ ts) = read t >>= λ x. Some (x, ts)
+
+-- no token is left
+abbrev pub is_end : List (List ℕ) → Bool
+is_end [] = true
+is_end (t ∷ ts) = false
+
+-- the tokens of a line's bytes: the parts between its spaces
+abbrev pub split_tokens : List ℕ → List (List ℕ)
+split_tokens bytes = slice_split (λ b. b == 32) bytes
+
+-- what follows a prefix
+abbrev pub behind : List ℕ → List ℕ → Option (List ℕ)
+behind [] text = Some text
+behind (p ∷ prefix) [] = None
+behind (p ∷ prefix) (b ∷ text) = guard (b == p) (behind prefix text)
+
+-- ---- tokens
+
+-- the number that digits go on to
+abbrev pub read_on : ℕ → List ℕ → ℕ
+read_on n [] = n
+read_on n (c ∷ cs) = read_on (10 * n + (c - 48)) cs
+
+-- one digit, or no leading zero
+abbrev pub is_plain : List ℕ → Bool
+is_plain [] = false
+is_plain (c ∷ []) = true
+is_plain (c ∷ d ∷ cs) = not (c == 48)
+
+abbrev pub read_digits : List ℕ → Option ℕ
+read_digits text = guard (all_ascii_digits text && nat_lt (read_on 0 text) 18446744073709551616) (Some (read_on 0 text))
+
+unfoldable pub read_number : List ℕ → Option ℕ
+read_number text = guard (is_plain text) (read_digits text)
+
+unfoldable pub read_name : List ℕ → Option (List ℕ)
+read_name text = guard (is_name text) (Some text)
+
+unfoldable pub read_board_name : List ℕ → Option (List ℕ)
+read_board_name text = guard (is_board_name text) (Some text)
+
+unfoldable pub read_key_type : List ℕ → Option KeyType
+read_key_type text = if bytes_eq text (codes "u64") then Some key_type.U64 else if bytes_eq text (codes "f8") then Some key_type.F8 else None
+
+unfoldable pub read_value_type : List ℕ → Option ValueType
+read_value_type text = if bytes_eq text (codes "bool") then Some type.Bool else if bytes_eq text (codes "u64") then Some type.U64 else if bytes_eq text (codes "q4") then Some type.Q4 else None
+
+-- a key, from what follows `u64:` and from what follows `f8:`
+unfoldable pub read_key_behind : Option (List ℕ) → Option (List ℕ) → Option Key
+read_key_behind (Some digits) other = read_number digits >>= λ n. Some (key.U64 n)
+read_key_behind None (Some text) = guard (is_visible 8 text) (Some (key.F8 text))
+read_key_behind None None = None
+
+unfoldable pub read_key : List ℕ → Option Key
+read_key text = read_key_behind (behind (codes "u64:") text) (behind (codes "f8:") text)
+
+-- four numbers, from the parts between commas
+unfoldable pub read_four : List (List ℕ) → Option Value
+read_four parts =
+    first_by read_number parts >>= λ a. first_by read_number a.1 >>= λ b. first_by read_number b.1 >>= λ c. first_by read_number c.1 >>= λ d.
+    guard (is_end d.1) (Some (value.Q4 a.0 b.0 c.0 d.0))
+
+-- a value of words, from what follows `u64:` and from what follows `q4:`
+unfoldable pub read_words_behind : Option (List ℕ) → Option (List ℕ) → Option Value
+read_words_behind (Some digits) other = read_number digits >>= λ n. Some (value.U64 n)
+read_words_behind None (Some text) = read_four (slice_split (λ b. b == 44) text)
+read_words_behind None None = None
+
+unfoldable pub read_value : List ℕ → Option Value
+read_value text =
+    if bytes_eq text (codes "bool:true") then Some (value.Bool true) else
+    if bytes_eq text (codes "bool:false") then Some (value.Bool false) else
+    read_words_behind (behind (codes "u64:") text) (behind (codes "q4:") text)
+
+-- ---- calls
+
+abbrev pub no_limits : Limits
+no_limits = record { max_readers = None; max_nodes = None }
+
+unfoldable pub read_entry : List ℕ → List ℕ → List ℕ → Option AddedEntry
+read_entry word k v = guard (bytes_eq word (codes "add")) (read_key k >>= λ key. read_value v >>= λ value. Some (record { key = key; value = value }))
+
+unfoldable pub read_entries : List (List ℕ) → Option (List AddedEntry)
+read_entries [] = Some []
+read_entries (word ∷ []) = None
+read_entries (word ∷ k ∷ []) = None
+read_entries (word ∷ k ∷ v ∷ rest) = read_entry word k v >>= λ e. read_entries rest >>= λ es. Some (e ∷ es)
+
+unfoldable pub read_create : List (List ℕ) → Option Call
+read_create ts =
+    first_by read_name ts >>= λ f. first_by read_board_name f.1 >>= λ n. first_by read_key_type n.1 >>= λ k. read_entries k.1 >>= λ es.
+    Some (call.Create f.0 n.0 k.0 no_limits [] es)
+
+unfoldable pub read_one_name : List (List ℕ) → Option (List ℕ)
+read_one_name ts = first_by read_name ts >>= λ a. guard (is_end a.1) (Some a.0)
+
+unfoldable pub read_two_names : List (List ℕ) → Option (List ℕ × List ℕ)
+read_two_names ts = first_by read_name ts >>= λ a. first_by read_name a.1 >>= λ b. guard (is_end b.1) (Some (a.0, b.0))
+
+unfoldable pub read_entry_mut : List (List ℕ) → Option Call
+read_entry_mut ts =
+    first_by read_name ts >>= λ m. first_by read_name m.1 >>= λ w. first_by read_key w.1 >>= λ k. first_by read_value_type k.1 >>= λ t.
+    guard (is_end t.1) (Some (call.EntryMut m.0 w.0 k.0 t.0))
+
+unfoldable pub read_update : List (List ℕ) → Option Call
+read_update ts = first_by read_name ts >>= λ m. first_by read_value m.1 >>= λ v. guard (is_end v.1) (Some (call.Update m.0 v.0))
+
+-- the call of a word, but for `create`
+unfoldable pub read_plain_call : List ℕ → List (List ℕ) → Option Call
+read_plain_call word ts =
+    if bytes_eq word (codes "writer") then (read_two_names ts >>= λ p. Some (call.Writer p.0 p.1)) else
+    if bytes_eq word (codes "entrymut") then read_entry_mut ts else
+    if bytes_eq word (codes "update") then read_update ts else
+    if bytes_eq word (codes "gen") then (read_one_name ts >>= λ m. Some (call.Gen m)) else None
+
+unfoldable pub read_call : List ℕ → List (List ℕ) → Option Call
+read_call word ts = if bytes_eq word (codes "create") then read_create ts else read_plain_call word ts
+
+-- ---- lines
+
+unfoldable pub read_begin : List (List ℕ) → Option Line
+read_begin [] = None
+read_begin (p ∷ []) = None
+read_begin (p ∷ word ∷ rest) = read_name p >>= λ party. read_call word rest >>= λ c. Some (line.Begin party c)
+
+unfoldable pub read_words : List (List ℕ) → Option Line
+read_words ts = first_by read_number ts >>= λ n. guard (is_end n.1) (Some (line.Words n.0))
+
+-- the line of a word, but for `begin`
+unfoldable pub read_plain_line : List ℕ → List (List ℕ) → Option Line
+read_plain_line word ts =
+    if bytes_eq word (codes "step") then (read_one_name ts >>= λ p. Some (line.Step p)) else
+    if bytes_eq word (codes "words") then read_words ts else None
+
+-- a line of any form
+unfoldable pub read_formed : List (List ℕ) → Option Line
+read_formed [] = None
+read_formed (word ∷ rest) = if bytes_eq word (codes "begin") then read_begin rest else read_plain_line word rest
+
+-- a line of a form that runs
+unfoldable pub read_line : List (List ℕ) → Option Line
+read_line ts = read_formed ts >>= λ l. guard (runs l) (Some l)

@@ -1,0 +1,14 @@
+//! What holds of the grammars of lines and answers. Nothing is computed here: the check proves the contracts.
+ghost use Rattle.board_model.specs.GrammarLaws.{AnswersHoldNoNewline, BytesSpellOneLine};
+
+/// Two different lines are never spelled by the same bytes.
+pub fn lines_are_told_apart()
+    ensures { BytesSpellOneLine }
+{
+}
+
+/// An answer is one line of output.
+pub fn answers_hold_no_newline()
+    ensures { AnswersHoldNoNewline }
+{
+}

@@ -1,0 +1,14 @@
+//! The lines of a script, from their bytes.
+#![tactic(auto)]
+
+mod atoms;
+mod bytes;
+mod calls;
+mod parse;
+#[cfg(test)]
+mod tests;
+mod tokens;
+mod values;
+
+pub use bytes::place_of;
+pub use parse::parse_line;

@@ -1,0 +1,166 @@
+//! Lines, from their bytes.
+ghost use Rattle.std.specs.Prelude.{◌≡◌, IfNone, IfOk, IfSome, length, ◌==◌};
+ghost use Rattle.std.specs.List.{list_all};
+ghost use Rattle.board_model.specs.declared.line.Line.{Line};
+ghost use Rattle.board_model.specs.LineGrammar.{Spells, is_number_key, is_number_key_type, is_number_type, is_number_value, is_plain_entry, runs, runs_call};
+ghost use Rattle.board_model.specs.LineReading.{read_begin, read_formed, read_line, read_plain_line, read_words, split_tokens};
+
+use crate::atoms::name_of;
+use crate::bytes::is_word;
+use crate::calls::{call_of, one_name};
+use crate::tokens::Tokens;
+use board_model::{AddedEntry, Call, Key, KeyType, Line, Value, ValueType};
+use std::alloc::{AllocError, Global};
+
+#[tactic(auto, unfolding(board_model::specs::LineReading::read_begin))]
+fn begin_of(alloc: Global, tokens: &mut Tokens) -> Result<Option<Line>, AllocError>
+    ensures { IfOk result (λ o. o ≡ read_begin tokens.old) }
+{
+    let Some(party) = tokens.next() else {
+        return Ok(None);
+    };
+    let Some(word) = tokens.next() else {
+        return Ok(None);
+    };
+    let Some(party) = name_of(party) else {
+        return Ok(None);
+    };
+    let Some(call) = call_of(alloc, word, tokens)? else {
+        return Ok(None);
+    };
+    Ok(Some(Line::Begin { party, call }))
+}
+
+#[tactic(auto, unfolding(board_model::specs::LineReading::read_words))]
+fn words_of(tokens: &mut Tokens) -> Option<Line>
+    ensures { result ≡ read_words tokens.old }
+{
+    let board = tokens.number()?;
+    if !tokens.is_end() {
+        return None;
+    }
+    Some(Line::Words { board })
+}
+
+// The line of a word, but for `begin`.
+#[tactic(auto, unfolding(board_model::specs::LineReading::read_plain_line))]
+fn plain_line_of(word: &[u8], tokens: &mut Tokens) -> Option<Line>
+    ensures { result ≡ read_plain_line word.now tokens.old }
+{
+    if is_word(word, b"step") {
+        let party = one_name(tokens)?;
+        return Some(Line::Step { party });
+    }
+    if is_word(word, b"words") {
+        return words_of(tokens);
+    }
+    None
+}
+
+// The line of any form.
+#[tactic(auto, unfolding(board_model::specs::LineReading::read_formed))]
+fn formed_of(alloc: Global, tokens: &mut Tokens) -> Result<Option<Line>, AllocError>
+    ensures { IfOk result (λ o. o ≡ read_formed tokens.old) }
+{
+    let Some(word) = tokens.next() else {
+        return Ok(None);
+    };
+    if is_word(word, b"begin") {
+        return begin_of(alloc, tokens);
+    }
+    Ok(plain_line_of(word, tokens))
+}
+
+fn is_number_key(key: &Key) -> bool
+    ensures { result ≡ is_number_key key.now }
+{
+    matches!(key, Key::U64(_))
+}
+
+fn is_number_value(value: &Value) -> bool
+    ensures { result ≡ is_number_value value.now }
+{
+    matches!(value, Value::U64(_))
+}
+
+fn is_number_key_type(key_type: KeyType) -> bool
+    ensures { result ≡ is_number_key_type key_type }
+{
+    matches!(key_type, KeyType::U64)
+}
+
+fn is_number_type(value_type: ValueType) -> bool
+    ensures { result ≡ is_number_type value_type }
+{
+    matches!(value_type, ValueType::U64)
+}
+
+fn are_number_entries(entries: &[AddedEntry]) -> bool
+    ensures { result ≡ list_all is_plain_entry entries.now }
+{
+    entries.iter().all(|entry| is_number_key(&entry.key) && is_number_value(&entry.value))
+}
+
+fn runs_call(call: &Call) -> bool
+    ensures { result ≡ runs_call call.now }
+{
+    match call {
+        Call::Create {
+            key_type,
+            limits,
+            attributes,
+            entries,
+            ..
+        } => {
+            if !is_number_key_type(*key_type) || limits.max_readers.is_some() || limits.max_nodes.is_some() {
+                return false;
+            }
+            if !attributes.as_slice().is_empty() {
+                return false;
+            }
+            are_number_entries(entries.as_slice())
+        }
+        Call::EntryMut {
+            key, value_type, ..
+        } => is_number_key(key) && is_number_type(*value_type),
+        Call::Update { value, .. } => is_number_value(value),
+        Call::Writer { .. } | Call::Gen { .. } => true,
+        _ => false,
+    }
+}
+
+// Whether the line is of a form that runs.
+fn runs(line: &Line) -> bool
+    ensures { result ≡ runs line.now }
+{
+    match line {
+        Line::Begin { call, .. } => runs_call(call),
+        Line::Step { .. } | Line::Words { .. } => true,
+        _ => false,
+    }
+}
+
+#[tactic(auto, unfolding(board_model::specs::LineReading::read_line))]
+fn line_of(alloc: Global, bytes: &[u8]) -> Result<Option<Line>, AllocError>
+    ensures { IfOk result (λ o. o ≡ read_line (split_tokens bytes.now)) }
+{
+    let Some(line) = formed_of(alloc, &mut Tokens::between(bytes, 32))? else {
+        return Ok(None);
+    };
+    if !runs(&line) {
+        return Ok(None);
+    }
+    Ok(Some(line))
+}
+
+/// The line of the script that these bytes spell, or `None` where no line of the grammar does.
+/// Memory is taken for the entries of a `create` alone.
+pub fn parse_line(alloc: Global, bytes: &[u8]) -> Result<Option<Line>, AllocError>
+    ensures found { IfOk result (λ o. IfSome o (λ l. Spells bytes.now l)) }
+    ensures only { IfOk result (λ o. IfNone o ((l : Line) → Spells bytes.now l → ⊥)) }
+{
+    if bytes.len() > 4096 {
+        return Ok(None);
+    }
+    line_of(alloc, bytes)
+}

@@ -1,0 +1,122 @@
+use crate::parse_line;
+use board_layout::Text;
+use board_model::{Call, Key, Line, Value, ValueType};
+use std::alloc::{AllocError, Global};
+use std::test::Fail;
+
+#[test]
+fn lines_of_the_grammar_are_told_from_others(rt: HostRuntime) -> Result<(), Fail> {
+    let cases: [(&[u8], bool); 30] = [
+        (b"begin p create f board u64", true),
+        (b"begin p create f ~!/\\ u64 add u64:1 u64:0 add u64:1 u64:18446744073709551615", true),
+        (b"begin begin writer step words", true),
+        (b"begin p entrymut m w u64:0 u64", true),
+        (b"begin p update m u64:10", true),
+        (b"begin p gen abcdefghijklmnop", true),
+        (b"step 0", true),
+        (b"words 0", true),
+        (b"", false),
+        (b"\r", false),
+        (b"step p\r", false),
+        (b"step  p", false),
+        (b" step p", false),
+        (b"step p ", false),
+        (b"step", false),
+        (b"step P", false),
+        (b"step abcdefghijklmnopq", false),
+        (b"begin p gen m m", false),
+        (b"begin p", false),
+        (b"begin p jump m", false),
+        (b"begin p update m u64:01", false),
+        (b"begin p update m u64:+1", false),
+        (b"begin p update m u64:18446744073709551616", false),
+        (b"words 18446744073709551616", false),
+        (b"words 00", false),
+        (b"words \xb2", false),
+        (b"begin p create f b\x7f u64", false),
+        (b"begin p create f b u64 add u64:1", false),
+        (b"begin p create f b u64 u64:1 u64:2 add", false),
+        (b"begin p create f b u32", false),
+    ];
+    for (bytes, is_line) in cases {
+        assert_eq!(rt; parse_line(rt.alloc(), bytes)?.is_some(), is_line);
+    }
+    Ok(())
+}
+
+#[test]
+fn forms_that_do_not_run_yet_are_outside_the_grammar(rt: HostRuntime) -> Result<(), Fail> {
+    let cases: [&[u8]; 6] = [
+        b"begin p update m bool:true",
+        b"begin p update m q4:1,2,3,4",
+        b"begin p create f b f8 add f8:a u64:1",
+        b"begin p create f b u64 readers 3",
+        b"abandon p",
+        b"begin p entrymut m w u64:0 bool",
+    ];
+    for bytes in cases {
+        assert!(rt; parse_line(rt.alloc(), bytes)?.is_none());
+    }
+    Ok(())
+}
+
+// A create line of 17 bytes, the name, 4 bytes and 254 entries of 16 bytes.
+fn create_line(alloc: Global, name: &[u8]) -> Result<Vec<u8>, AllocError> {
+    let mut line = Vec::from_slice(alloc, b"begin p create f ")?;
+    line.extend_from_slice(name)?;
+    line.extend_from_slice(b" u64")?;
+    for _ in 0..254 {
+        line.extend_from_slice(b" add u64:1 u64:2")?;
+    }
+    Ok(line)
+}
+
+#[test]
+fn a_line_has_at_most_4096_bytes(rt: HostRuntime) -> Result<(), Fail> {
+    let whole = create_line(rt.alloc(), b"elevenbytes")?;
+    assert_eq!(rt; whole.len(), 4096);
+    assert!(rt; parse_line(rt.alloc(), &whole)?.is_some());
+    let long = create_line(rt.alloc(), b"twelve_bytes")?;
+    assert_eq!(rt; long.len(), 4097);
+    assert!(rt; parse_line(rt.alloc(), &long)?.is_none());
+    Ok(())
+}
+
+#[test]
+fn names_and_numbers_are_kept(rt: HostRuntime) -> Result<(), Fail> {
+    let line = parse_line(rt.alloc(), b"begin p entrymut m w u64:12 u64")?.ok_or("a line")?;
+    let Line::Begin {
+        party,
+        call:
+            Call::EntryMut {
+                handle,
+                writer,
+                key,
+                value_type,
+            },
+    } = line
+    else {
+        return Err("another line")?;
+    };
+    assert_eq!(rt; [party, handle, writer], [Text::of(b"p"), Text::of(b"m"), Text::of(b"w")]);
+    assert_eq!(rt; (key, value_type), (Key::U64(12), ValueType::U64));
+    Ok(())
+}
+
+#[test]
+fn entries_are_kept_in_order(rt: HostRuntime) -> Result<(), Fail> {
+    let line = parse_line(rt.alloc(), b"begin p create f b u64 add u64:7 u64:8 add u64:6 u64:9")?.ok_or("a line")?;
+    let Line::Begin {
+        call: Call::Create { entries, .. },
+        ..
+    } = line
+    else {
+        return Err("another line")?;
+    };
+    let pairs: [(Key, Value); 2] = [(Key::U64(7), Value::U64(8)), (Key::U64(6), Value::U64(9))];
+    assert_eq!(rt; entries.as_slice().len(), 2);
+    for (entry, pair) in entries.as_slice().iter().zip(pairs) {
+        assert_eq!(rt; (entry.key, entry.value), pair);
+    }
+    Ok(())
+}
