@@ -1,5 +1,5 @@
 -- Readers of one cell.
-use Rattle.std.specs.Prelude.{◌≡◌, ◌<◌, length}
+use Rattle.std.specs.Prelude.{◌≡◌, length}
 use Rattle.board_cell.specs.Passes.{CellSeen}
 use Rattle.board_bench.specs.declared.shared.Watcher.{Watcher}
 

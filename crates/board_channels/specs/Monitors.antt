@@ -1,5 +1,5 @@
 -- Monitored names, and what their calls answer.
-use Rattle.std.specs.Prelude.{◌≡◌, ℕ, List, Option, Some, None, Result, Ok, Err, is_some, if◌then◌else◌}
+use Rattle.std.specs.Prelude.{ℕ, List, Option, Some, None, Result, Ok, Err, is_some, if◌then◌else◌}
 use Rattle.board_names.specs.declared.configuration.Configuration.{Configuration}
 use Rattle.board_names.specs.Configuration.{full_name}
 use Rattle.board_store.specs.Table.{at, putting, taking}

@@ -51,7 +51,11 @@ pub trait MonitoringBuilder: NamedConceptBuilder {
     ///
     /// # Errors
     /// `AlreadyExists` where it is held; `OutOfMemory`.
-    fn token<R: Wait>(self, rt: &R, alloc: Global) -> Result<Self::Token, MonitoringCreateTokenError>;
+    fn token<R: Wait>(
+        self,
+        rt: &R,
+        alloc: Global,
+    ) -> Result<Self::Token, MonitoringCreateTokenError>;
 
     /// Watches the name, whether or not it is held. It is never refused.
     fn monitor(self) -> Result<Self::Monitor, MonitoringCreateMonitorError>;

@@ -41,12 +41,24 @@ impl Token {
     pub fn abandon_in(self, state: &mut Monitors)
         ensures { state.new ≡ marked state.old self.path }
     {
-        let _ = state.mark_dead(&self.path);
+        self.leave(state);
     }
 
     /// `release` over the names themselves.
     pub fn release_in(self, state: &mut Monitors)
         ensures { state.new ≡ without state.old self.path }
+    {
+        self.let_go(state);
+    }
+
+    fn leave(&self, state: &mut Monitors)
+        ensures { state.new ≡ marked state.old self.now.path }
+    {
+        let _ = state.mark_dead(&self.path);
+    }
+
+    fn let_go(&self, state: &mut Monitors)
+        ensures { state.new ≡ without state.old self.now.path }
     {
         let _ = state.remove(&self.path);
     }
@@ -63,11 +75,11 @@ impl NamedConcept for Token {
 impl MonitoringToken for Token {
     fn abandon<R: Wait>(self, rt: &R) {
         let mut state = self.registry.state.lock(rt);
-        let _ = state.mark_dead(&self.path);
+        self.leave(&mut state);
     }
 
     fn release<R: Wait>(self, rt: &R) {
         let mut state = self.registry.state.lock(rt);
-        let _ = state.remove(&self.path);
+        self.let_go(&mut state);
     }
 }

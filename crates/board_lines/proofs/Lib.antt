@@ -4,3 +4,4 @@ pub mod HandLemmas
 pub mod LineLemmas
 pub mod RunLemmas
 pub mod CompleteLemmas
+pub mod IdleLemmas

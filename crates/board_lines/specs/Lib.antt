@@ -3,3 +3,4 @@ pub mod Streams
 pub mod Memory
 pub mod Reader
 pub mod Runs
+pub mod IdleMachine

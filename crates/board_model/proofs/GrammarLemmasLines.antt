@@ -1,29 +1,15 @@
 -- Lines are read back from their bytes, and what is read is spelled so.
-use Rattle.std.proofs.Common.{◌≡◌, ℕ, ◌<◌, ◌≤◌, arith, Bool, true, false, List, [], ◌∷◌, ◌++◌, length, Option, Some, None, refl, sym, ap, subst, ◌∙◌, eqb, ◌⊎◌, inl, inr}
-use Rattle.std.specs.Prelude.{◌&&◌, not, nat_le, codes, IfSome, IfNone}
+use Rattle.std.proofs.Common.{◌≡◌, ℕ, true, List, [], ◌∷◌, Some, refl, sym, ap, subst, ◌∙◌, inl, inr}
+use Rattle.std.specs.Prelude.{codes}
 use Rattle.std.specs.Str.{bytes_eq}
-use Rattle.std.specs.List.{join_with_byte, flat_map, list_all, AllByRecursion}
-use Rattle.std.proofs.lemmas.List.Splits.{join_with_byte-slice_split}
-use Rattle.std.proofs.lemmas.List.Concat.{flat_map-cons}
-use Rattle.board_model.specs.declared.value.AddedEntry.{AddedEntry}
-use Rattle.board_model.specs.declared.value.Key.{Key}
-use Rattle.board_model.specs.declared.value.Key.TheVariants as key
-use Rattle.board_model.specs.declared.value.Value.{Value}
-use Rattle.board_model.specs.declared.value.Value.TheVariants as value
-use Rattle.board_model.specs.declared.value.KeyType.{KeyType}
-use Rattle.board_model.specs.declared.value.KeyType.TheVariants as key_type
-use Rattle.board_model.specs.declared.value.ValueType.{ValueType}
-use Rattle.board_model.specs.declared.value.ValueType.TheVariants as type
-use Rattle.board_model.specs.declared.attributes.Attribute.{Attribute}
 use Rattle.board_model.specs.declared.line.Call.{Call}
-use Rattle.board_model.specs.declared.line.Call.TheVariants as call
 use Rattle.board_model.specs.declared.line.Line.{Line}
 use Rattle.board_model.specs.declared.line.Line.TheVariants as line
-use Rattle.board_model.specs.LineGrammar.{is_name, is_name_byte, is_visible, is_visible_byte, is_board_name, key_text, key_type_text, value_text, value_type_text, entry_tokens, call_tokens, tokens, spell, IsAddedEntry, IsCall, IsKey, IsValue, IsWellFormed, IsLine, Spells, runs, runs_call}
-use Rattle.board_model.specs.LineReading.{◌>>=◌, guard, first_by, is_end, split_tokens, read_number, read_name, read_call, read_one_name, read_begin, read_words, read_plain_line, read_formed, read_line}
-use Rattle.board_model.proofs.GrammarLemmasNumbers.{some_is, bind_some, guard_some, both, number_again, number_takes}
+use Rattle.board_model.specs.LineGrammar.{is_name, call_tokens, tokens, IsWellFormed, IsLine, runs}
+use Rattle.board_model.specs.LineReading.{◌>>=◌, guard, first_by, is_end, read_number, read_name, read_call, read_one_name, read_begin, read_words, read_plain_line, read_formed, read_line}
+use Rattle.board_model.proofs.GrammarLemmasNumbers.{some_is, bind_some, guard_some, number_again, number_takes}
 use Rattle.board_model.proofs.GrammarLemmasTokens.{word_is, chosen, first_takes, end_takes, name_again, name_takes}
-use Rattle.board_model.proofs.GrammarLemmasCalls.{Takes, call_takes, read_call_tokens, call_again, one_again, one_takes}
+use Rattle.board_model.proofs.GrammarLemmasCalls.{call_takes, read_call_tokens, call_again, one_again, one_takes}
 
 -- ---- lines from tokens
 
@@ -41,14 +27,14 @@ begin_takes (p ∷ word ∷ rest) l e =
     let t = call_takes word rest c.0 c.1 in
     let nn = name_takes p n.0 n.1 in
     subst (TakesLine (codes "begin" ∷ p ∷ word ∷ rest)) (some_is (line.Begin n.0 c.0) l c.2)
-      (record { tokens = ap (λ (x : List ℕ). codes "begin" ∷ x ∷ word ∷ rest) nn.token ∙ ap (λ (x : List (List ℕ)). codes "begin" ∷ n.0 ∷ x) t.tokens; is = (nn.named, t.is) })
+    (record { tokens = ap (λ (x : List ℕ). codes "begin" ∷ x ∷ word ∷ rest) nn.token ∙ ap (λ (x : List (List ℕ)). codes "begin" ∷ n.0 ∷ x) t.tokens; is = (nn.named, t.is) })
 
 step_takes : (ts : List (List ℕ)) (l : Line) → (read_one_name ts >>= λ p. Some (line.Step p)) ≡ Some l → TakesLine (codes "step" ∷ ts) l
 step_takes ts l e =
     let p = bind_some (read_one_name ts) (λ p. Some (line.Step p)) l e in
     let t = one_takes ts p.0 p.1 in
     subst (TakesLine (codes "step" ∷ ts)) (some_is (line.Step p.0) l p.2)
-      (record { tokens = ap (λ (x : List (List ℕ)). codes "step" ∷ x) t.tokens; is = t.named })
+    (record { tokens = ap (λ (x : List (List ℕ)). codes "step" ∷ x) t.tokens; is = t.named })
 
 words_takes : (ts : List (List ℕ)) (l : Line) → read_words ts ≡ Some l → TakesLine (codes "words" ∷ ts) l
 unfolding read_words
@@ -58,10 +44,10 @@ words_takes ts l e =
     let t = first_takes read_number ts n.0 n.1 in
     let d = number_takes t.token n.0.0 t.is in
     subst (TakesLine (codes "words" ∷ ts)) (some_is (line.Words n.0.0) l g.1)
-      (record { tokens = chain ts n.0.1 t.token _ t.all d.0 (end_takes n.0.1 g.0); is = d.1 })
+    (record { tokens = chain ts n.0.1 t.token _ t.all d.0 (end_takes n.0.1 g.0); is = d.1 })
   where
-  chain : (t0 t1 : List (List ℕ)) (a x : List ℕ) → t0 ≡ a ∷ t1 → a ≡ x → t1 ≡ [] → codes "words" ∷ t0 ≡ codes "words" ∷ x ∷ []
-  chain t0 t1 a x e0 ea e1 = cc
+    chain : (t0 t1 : List (List ℕ)) (a x : List ℕ) → t0 ≡ a ∷ t1 → a ≡ x → t1 ≡ [] → codes "words" ∷ t0 ≡ codes "words" ∷ x ∷ []
+    chain t0 t1 a x e0 ea e1 = cc
 
 head_of : (word v : List ℕ) (rest : List (List ℕ)) (l : Line) → bytes_eq word v ≡ true → TakesLine (v ∷ rest) l → TakesLine (word ∷ rest) l
 head_of word v rest l e t = subst (λ (w : List ℕ). TakesLine (w ∷ rest) l) (sym (word_is word v e)) t
@@ -72,9 +58,9 @@ plain_line_takes word ts l e =
     elim (chosen (bytes_eq word (codes "step")) _ _ _ e) [
       | inl h ↦ head_of word (codes "step") ts l h.0 (step_takes ts l h.1)
       | inr h ↦ elim (chosen (bytes_eq word (codes "words")) _ _ _ h.1) [
-          | inl i ↦ head_of word (codes "words") ts l i.0 (words_takes ts l i.1)
-          | inr i ↦ absurd (let bad = i.1 in cc)
-        ]
+        | inl i ↦ head_of word (codes "words") ts l i.0 (words_takes ts l i.1)
+        | inr i ↦ absurd (let bad = i.1 in cc)
+      ]
     ]
 
 formed_takes : (ts : List (List ℕ)) (l : Line) → read_formed ts ≡ Some l → TakesLine ts l

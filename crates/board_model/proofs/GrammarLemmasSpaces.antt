@@ -1,12 +1,10 @@
 -- The tokens of a line hold no space, so the line's bytes are cut where they were joined.
-use Rattle.std.proofs.Common.{◌≡◌, ℕ, ◌<◌, ◌≤◌, arith, Bool, true, false, List, [], ◌∷◌, ◌++◌, length, Option, Some, None, refl, sym, ap, subst, ◌∙◌, eqb}
+use Rattle.std.proofs.Common.{◌≡◌, ℕ, ◌<◌, ◌≤◌, arith, true, false, List, [], ◌∷◌, ◌++◌, length, Option, Some, None, refl, sym, ap, subst, ◌∙◌, eqb}
 use Rattle.std.specs.Prelude.{◌&&◌, not, nat_le, codes, decimal, IfSome, IfNone}
 use Rattle.std.specs.List.{join_with_byte, flat_map, list_all, AllByRecursion}
-use Rattle.std.specs.Char.{is_ascii_digit}
 use Rattle.std.proofs.lemmas.List.Splits.{join_with_byte-slice_split}
 use Rattle.std.proofs.lemmas.List.Concat.{flat_map-cons}
 use Rattle.board_model.specs.declared.attributes.Attribute.{Attribute}
-use Rattle.board_model.specs.declared.attributes.Requirements.{Requirements}
 use Rattle.board_model.specs.declared.tables.Limits.{Limits}
 use Rattle.board_model.specs.declared.value.AddedEntry.{AddedEntry}
 use Rattle.board_model.specs.declared.value.Key.{Key}
@@ -21,7 +19,7 @@ use Rattle.board_model.specs.declared.line.Call.{Call}
 use Rattle.board_model.specs.declared.line.Call.TheVariants as call
 use Rattle.board_model.specs.declared.line.Line.{Line}
 use Rattle.board_model.specs.declared.line.Line.TheVariants as line
-use Rattle.board_model.specs.LineGrammar.{is_name, is_name_byte, is_visible, is_visible_byte, is_board_name, is_attribute_key, key_text, key_type_text, value_text, value_type_text, limit_tokens, limits_tokens, pair_tokens, needed_key_tokens, entry_tokens, name_tokens, call_tokens, tokens, spell, IsNumber, IsNumberIfAny, IsNameIfAny, IsAddedEntry, IsAttribute, AreLimits, AreAttributes, AreRequirements, IsCall, IsKey, IsValue, IsWellFormed, IsLine, Spells}
+use Rattle.board_model.specs.LineGrammar.{is_name, is_name_byte, is_visible, is_visible_byte, is_attribute_key, key_text, key_type_text, value_text, value_type_text, limit_tokens, limits_tokens, pair_tokens, needed_key_tokens, entry_tokens, name_tokens, call_tokens, tokens, spell, IsNumber, IsNumberIfAny, IsNameIfAny, IsAddedEntry, IsAttribute, AreLimits, IsCall, IsKey, IsValue, IsWellFormed, Spells}
 use Rattle.board_model.specs.LineReading.{split_tokens, read_line}
 use Rattle.board_model.proofs.GrammarLemmasNumbers.{both}
 use Rattle.board_model.proofs.GrammarLemmasSplits.{IsFree, lacks, split_free, free_from, free_number}
@@ -112,18 +110,38 @@ plain_two : (word a b : List ℕ) → IsPlain word → is_name a ≡ true → is
 plain_two word a b w ha hb = (w, (plain_name a ha, (plain_name b hb, tt)))
 
 plain_call : (c : Call) → IsCall c → ArePlain (call_tokens c)
-plain_call (call.Create f n k l attrs es) h =
-    (refl, (plain_name f h.0, (free_visible 32 255 refl n h.1, (plain_key_type k,
-      plain_append (limits_tokens l) (flat_map (pair_tokens (codes "attr")) attrs ++ flat_map entry_tokens es) (plain_limits l h.2)
-        (plain_append (flat_map (pair_tokens (codes "attr")) attrs) (flat_map entry_tokens es)
-          (plain_each IsAttribute (pair_tokens (codes "attr")) (plain_pair (codes "attr") refl) attrs h.3.each)
-          (plain_each IsAddedEntry entry_tokens plain_entry es h.4))))))
-plain_call (call.Open f n k l needs) h =
-    (refl, (plain_name f h.0, (free_visible 32 255 refl n h.1, (plain_key_type k,
-      plain_append (limits_tokens l) (flat_map (pair_tokens (codes "need")) needs.pairs ++ flat_map needed_key_tokens needs.keys) (plain_limits l h.2)
-        (plain_append (flat_map (pair_tokens (codes "need")) needs.pairs) (flat_map needed_key_tokens needs.keys)
-          (plain_each IsAttribute (pair_tokens (codes "need")) (plain_pair (codes "need") refl) needs.pairs h.3.pairs.each)
-          (plain_each (λ k. is_attribute_key k ≡ true) needed_key_tokens plain_needed needs.keys h.3.each))))))
+plain_call (call.Create f n k l attrs es) h = (
+  refl,
+  (
+    plain_name f h.0,
+    (
+      free_visible 32 255 refl n h.1,
+      (
+        plain_key_type k,
+        plain_append (limits_tokens l) (flat_map (pair_tokens (codes "attr")) attrs ++ flat_map entry_tokens es) (plain_limits l h.2)
+            (plain_append (flat_map (pair_tokens (codes "attr")) attrs) (flat_map entry_tokens es)
+            (plain_each IsAttribute (pair_tokens (codes "attr")) (plain_pair (codes "attr") refl) attrs h.3.each)
+            (plain_each IsAddedEntry entry_tokens plain_entry es h.4)),
+      ),
+    ),
+  ),
+)
+plain_call (call.Open f n k l needs) h = (
+  refl,
+  (
+    plain_name f h.0,
+    (
+      free_visible 32 255 refl n h.1,
+      (
+        plain_key_type k,
+        plain_append (limits_tokens l) (flat_map (pair_tokens (codes "need")) needs.pairs ++ flat_map needed_key_tokens needs.keys) (plain_limits l h.2)
+            (plain_append (flat_map (pair_tokens (codes "need")) needs.pairs) (flat_map needed_key_tokens needs.keys)
+            (plain_each IsAttribute (pair_tokens (codes "need")) (plain_pair (codes "need") refl) needs.pairs h.3.pairs.each)
+            (plain_each (λ k. is_attribute_key k ≡ true) needed_key_tokens plain_needed needs.keys h.3.each)),
+      ),
+    ),
+  ),
+)
 plain_call (call.Reader r f) h = plain_two (codes "reader") r f refl h.0 h.1
 plain_call (call.Writer w f) h = plain_two (codes "writer") w f refl h.0 h.1
 plain_call (call.Entry x r k t) h = (refl, (plain_name x h.0, (plain_name r h.1, (plain_key k h.2, (plain_value_type t, tt)))))

@@ -39,3 +39,5 @@ pub mod KeptFormLemmas
 pub mod ReplyFormLemmas
 pub mod FormLaws
 pub mod ScriptLemmas
+pub mod OutputLaws
+pub mod KeyLaws

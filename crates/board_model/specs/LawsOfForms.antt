@@ -1,4 +1,4 @@
--- Laws of forms: a right answer is one of the answer grammar, each line of the grammar has one, and keys are told as they were added.
+-- Laws of forms: a right answer is one of the answer grammar, and each line of the grammar has one.
 use Rattle.std.specs.Prelude.{◌≡◌, ℕ, ◌^◌, ◌<◌, ◌≤◌, true, List, length, None}
 use Rattle.std.specs.List.{AllByRecursion, list_all}
 use Rattle.board_model.specs.declared.answer.Answer.{Answer}
@@ -12,7 +12,7 @@ use Rattle.board_model.specs.declared.value.Key.{Key}
 use Rattle.board_model.specs.declared.value.KeyType.{KeyType}
 use Rattle.board_model.specs.LineGrammar.{AreLimits, IsAddedEntry, IsKey, IsLine, IsNumber, is_board_name, is_name}
 use Rattle.board_model.specs.AnswerGrammar.{IsAnswer}
-use Rattle.board_model.specs.TypeTable.{key_bytes, key_of, key_type_of, type_of_key}
+use Rattle.board_model.specs.TypeTable.{key_bytes, key_type_of, type_of_key}
 use Rattle.board_model.specs.Tables.{port_of}
 use Rattle.board_model.specs.Things.{Held}
 use Rattle.board_model.specs.Requests.{Request, TableCall, create, identify, table}
@@ -20,10 +20,6 @@ use Rattle.board_model.specs.Parties.{Party, free, gone, running}
 use Rattle.board_model.specs.LawfulSession.{IsLawful, IsOwed, IsReasoned, IsReplied, IsRight, IsWord, Session, State, has_key_type, reason_of, start, state_after}
 use Rattle.board_model.specs.Sound.{BoardTables}
 use Rattle.board_model.specs.LawsOfAnswers.{lines_of}
-
--- a key is told as it was added
-abbrev pub KeysAreToldAsAdded : Type 0
-KeysAreToldAsAdded = (k : Key) → IsKey k → key_of (type_of_key k) (key_bytes k) ≡ k
 
 -- ---- what is told of boards and things is of the grammar
 

@@ -26,3 +26,5 @@ pub mod WorkedSessions
 pub mod Script
 pub mod LawsOfForms
 pub mod LawsOfScripts
+pub mod LawsOfOutputs
+pub mod LawsOfKeys

@@ -1,10 +1,5 @@
 //! Laws of forms. Each function's contract is a theorem over the definitions alone.
-ghost use Rattle.board_model.specs.LawsOfForms.{EachLineHasAnAnswer, EachScriptHasASession, KeysAreToldAsAdded, RightAnswersAreOfTheGrammar, SessionsKeepForms};
-
-/// A key is told as it was added.
-pub fn keys_are_told_as_added()
-    ensures { KeysAreToldAsAdded }
-{}
+ghost use Rattle.board_model.specs.LawsOfForms.{EachLineHasAnAnswer, EachScriptHasASession, RightAnswersAreOfTheGrammar, SessionsKeepForms};
 
 /// After a session the names, keys and limits that stand are of the grammar, and no more things stand than it has lines.
 pub fn sessions_keep_forms()

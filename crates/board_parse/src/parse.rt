@@ -12,6 +12,9 @@ use crate::tokens::Tokens;
 use board_model::{AddedEntry, Call, Key, KeyType, Line, Value, ValueType};
 use std::alloc::{AllocError, Global};
 
+// A line has no more bytes than these.
+const MOST_BYTES: usize = 4096;
+
 #[tactic(auto, unfolding(board_model::specs::LineReading::read_begin))]
 fn begin_of(alloc: Global, tokens: &mut Tokens) -> Result<Option<Line>, AllocError>
     ensures { IfOk result (λ o. o ≡ read_begin tokens.old) }
@@ -159,7 +162,7 @@ pub fn parse_line(alloc: Global, bytes: &[u8]) -> Result<Option<Line>, AllocErro
     ensures found { IfOk result (λ o. IfSome o (λ l. Spells bytes.now l)) }
     ensures only { IfOk result (λ o. IfNone o ((l : Line) → Spells bytes.now l → ⊥)) }
 {
-    if bytes.len() > 4096 {
+    if bytes.len() > MOST_BYTES {
         return Ok(None);
     }
     line_of(alloc, bytes)

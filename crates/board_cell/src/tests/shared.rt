@@ -29,9 +29,7 @@ fn write_all(cell: &ThreadedCell, mut writer: WriterPass, mut words: Vec<u64>) -
 {
     for i in 0..1000u64 {
         words.as_mut_slice().fill(i);
-        if writer.generation() < u64::MAX {
-            cell.update(&mut writer, &words);
-        }
+        cell.update(&mut writer, &words);
     }
     writer
 }

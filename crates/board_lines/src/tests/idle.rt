@@ -1,9 +1,11 @@
 //! A machine on which no call was begun. It answers steps and looks at boards, and has no memory for anything else.
-ghost use Rattle.std.specs.Prelude.{◌≡◌, [], List, IfErr, IfOk, IsErrOf, OnErr, OnOk};
-ghost use Rattle.board_model.specs.declared.answer.Answer.TheVariants as answer;
-ghost use Rattle.board_model.specs.LawfulSession.{Session, State, start};
+ghost use Rattle.std.specs.Prelude.{◌≡◌, [], IfErr, IfOk, IsErrOf, OnErr, OnOk, Some};
+ghost use Rattle.board_model.specs.declared.line.Line.{Line};
+ghost use Rattle.board_model.specs.declared.answer.Answer.TheVariants as answers;
+ghost use Rattle.board_model.specs.AnswerGrammar.{answer_line};
 ghost use Rattle.board_model.specs.LineGrammar.{Spells};
-ghost use Rattle.board_lines.specs.Runs.{HasAnswered, SpellsNone, StandsFor};
+ghost use Rattle.board_lines.specs.Runs.{SpellsNone};
+ghost use Rattle.board_lines.specs.IdleMachine.{idle_reason};
 
 use crate::{LineError, RunsLines, parse_line, push_refused};
 use board_model::{Line, Reason};
@@ -14,10 +16,50 @@ pub(super) struct Idle {
     pub(super) alloc: Global,
 }
 
-fn reason_of(line: &Line) -> Option<Reason> {
+fn reason_of(line: &Line) -> Option<Reason>
+    ensures { result ≡ idle_reason line.now }
+{
     match line {
         Line::Step { .. } => Some(Reason::Idle),
         Line::Words { .. } => Some(Reason::NoBoard),
         _ => None,
+    }
+}
+
+// Why the line of these bytes is refused.
+fn refusal(alloc: Global, bytes: &[u8]) -> Result<Reason, LineError>
+    ensures ok { IfOk result (λ why. (l : Line) × Spells bytes.now l × (Some why ≡ idle_reason l)) }
+    ensures bad { IsErrOf result LineError.Bad → SpellsNone bytes.now }
+{
+    let Some(line) = parse_line(alloc, bytes)? else {
+        return Err(LineError::Bad);
+    };
+    reason_of(&line).ok_or(LineError::OutOfMemory)
+}
+
+// Writes the refusal alone, or nothing.
+fn write_refusal(reason: Reason, answer: &mut Vec<u8>) -> Result<(), LineError>
+    ensures ok { OnOk result (answer.new.items ≡ answer_line (answers.Refused reason)) }
+    ensures err { OnErr result (answer.new.items ≡ []) }
+    ensures kind { IfErr result (λ e. e ≡ LineError.OutOfMemory) }
+{
+    answer.clear();
+    if push_refused(reason, answer).is_err() {
+        answer.clear();
+        return Err(LineError::OutOfMemory);
+    }
+    Ok(())
+}
+
+impl RunsLines for Idle {
+    ghost use Rattle.std.specs.Prelude.{◌≡◌};
+    ghost use Rattle.board_model.specs.LawfulSession.{start};
+
+    ghost stands = { λ machine s. s ≡ start };
+
+    fn line(&mut self, line: &[u8], answer: &mut Vec<u8>) -> Result<(), LineError> {
+        answer.clear();
+        let reason = refusal(self.alloc, line)?;
+        write_refusal(reason, answer)
     }
 }

@@ -63,9 +63,9 @@ fn a_failed_read_loses_nothing(rt: HostRuntime) -> Result<(), Fail> {
     let mut reader = LineReader::new(rt.alloc())?;
     assert_eq!(rt; reader.next(&mut source), Err(Failed));
     assert_eq!(rt; reader.next(&mut source)?, Fetched::Line);
-    assert_eq!(rt; reader.line(), b"ab");
+    assert_eq!(rt; reader.line(), b"ab".as_slice());
     assert_eq!(rt; reader.next(&mut source)?, Fetched::Line);
-    assert_eq!(rt; reader.line(), b"c");
+    assert_eq!(rt; reader.line(), b"c".as_slice());
     assert_eq!(rt; reader.next(&mut source)?, Fetched::End);
     Ok(())
 }
@@ -74,13 +74,13 @@ fn a_failed_read_loses_nothing(rt: HostRuntime) -> Result<(), Fail> {
 fn a_sink_takes_what_it_has_room_for(rt: HostRuntime) -> Result<(), Fail> {
     let mut sink = MemorySink::new(rt.alloc(), 2, 1, Vec::new(rt.alloc()))?;
     assert_eq!(rt; write_whole(&mut sink, b"abc"), Err(Failed));
-    assert_eq!(rt; sink.held(), b"ab");
+    assert_eq!(rt; sink.held(), b"ab".as_slice());
     assert_eq!(rt; write_whole(&mut sink, b""), Ok(()));
 
     let fails = Vec::from_array(rt.alloc(), [1])?;
     let mut sink = MemorySink::new(rt.alloc(), 9, 2, fails)?;
     assert_eq!(rt; write_whole(&mut sink, b"abcd"), Err(Failed));
     assert_eq!(rt; write_whole(&mut sink, b"cd"), Ok(()));
-    assert_eq!(rt; sink.held(), b"abcd");
+    assert_eq!(rt; sink.held(), b"abcd".as_slice());
     Ok(())
 }

@@ -90,7 +90,7 @@ fn values_and_words_are_listed(rt: HostRuntime) -> Result<(), Fail> {
         assert_eq!(rt; out.as_slice(), text);
     }
     push_words(&[], &mut out)?;
-    assert_eq!(rt; out.as_slice(), b"words 0 10\nwords\n");
+    assert_eq!(rt; out.as_slice(), b"words 0 10\nwords\n".as_slice());
     Ok(())
 }
 

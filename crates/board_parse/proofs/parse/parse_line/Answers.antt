@@ -15,7 +15,7 @@ only bytes (Ok o) e = is_only bytes o e
 only bytes (Err x) e = tt
 
 pub returns-clause-found : goal.returns-clause-found
-returns-clause-found c = found c.args.bytes.now c.line_of.result c.if-bytes-gt4096.false c.line_of.ensures
+returns-clause-found c = found c.args.bytes.now c.line_of.result c.if-bytes-gt-MOST_BYTES.false c.line_of.ensures
 
 pub returns-clause-only : goal.returns-clause-only
 returns-clause-only c = only c.args.bytes.now c.line_of.result c.line_of.ensures

@@ -1,4 +1,4 @@
-use Rattle.board_model.proofs.form_laws.keys_are_told_as_added.Goals as goal
+use Rattle.board_model.proofs.key_laws.keys_are_told_as_added.Goals as goal
 use Rattle.board_model.proofs.KeptKeyLemmas.{told_as_added}
 
 pub returns : goal.returns
