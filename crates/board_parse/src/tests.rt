@@ -8,7 +8,10 @@ use std::test::Fail;
 fn lines_of_the_grammar_are_told_from_others(rt: HostRuntime) -> Result<(), Fail> {
     let cases: [(&[u8], bool); 30] = [
         (b"begin p create f board u64", true),
-        (b"begin p create f ~!/\\ u64 add u64:1 u64:0 add u64:1 u64:18446744073709551615", true),
+        (
+            b"begin p create f ~!/\\ u64 add u64:1 u64:0 add u64:1 u64:18446744073709551615",
+            true,
+        ),
         (b"begin begin writer step words", true),
         (b"begin p entrymut m w u64:0 u64", true),
         (b"begin p update m u64:10", true),
@@ -87,25 +90,31 @@ fn names_and_numbers_are_kept(rt: HostRuntime) -> Result<(), Fail> {
     let line = parse_line(rt.alloc(), b"begin p entrymut m w u64:12 u64")?.ok_or("a line")?;
     let Line::Begin {
         party,
-        call:
-            Call::EntryMut {
-                handle,
-                writer,
-                key,
-                value_type,
-            },
+        call: Call::EntryMut {
+            handle,
+            writer,
+            key,
+            value_type,
+        },
     } = line
     else {
         return Err("another line")?;
     };
-    assert_eq!(rt; [party, handle, writer], [Text::of(b"p"), Text::of(b"m"), Text::of(b"w")]);
+    assert_eq!(rt;
+        [party, handle, writer],
+        [Text::of(b"p"), Text::of(b"m"), Text::of(b"w")]
+    );
     assert_eq!(rt; (key, value_type), (Key::U64(12), ValueType::U64));
     Ok(())
 }
 
 #[test]
 fn entries_are_kept_in_order(rt: HostRuntime) -> Result<(), Fail> {
-    let line = parse_line(rt.alloc(), b"begin p create f b u64 add u64:7 u64:8 add u64:6 u64:9")?.ok_or("a line")?;
+    let line = parse_line(
+        rt.alloc(),
+        b"begin p create f b u64 add u64:7 u64:8 add u64:6 u64:9",
+    )?
+    .ok_or("a line")?;
     let Line::Begin {
         call: Call::Create { entries, .. },
         ..
