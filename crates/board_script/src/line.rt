@@ -103,20 +103,17 @@ impl Machine {
         ensures err { OnErr result (answer.new.items ≡ []) }
     {
         answer.clear();
-        let parsed = match parse_line(self.alloc, line) {
-            Ok(parsed) => parsed,
+        match parse_line(self.alloc, line) {
+            Ok(Some(parsed)) => match self.answer(parsed, answer) {
+                Ok(()) => Ok(()),
+                Err(_) => {
+                    answer.clear();
+                    self.spent = true;
+                    Err(LineError::OutOfMemory)
+                }
+            },
+            Ok(None) => Err(LineError::Bad),
             Err(_) => {
-                self.spent = true;
-                return Err(LineError::OutOfMemory);
-            }
-        };
-        let Some(parsed) = parsed else {
-            return Err(LineError::Bad);
-        };
-        match self.answer(parsed, answer) {
-            Ok(()) => Ok(()),
-            Err(_) => {
-                answer.clear();
                 self.spent = true;
                 Err(LineError::OutOfMemory)
             }

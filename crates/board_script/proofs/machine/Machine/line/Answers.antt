@@ -8,7 +8,7 @@ use Rattle.board_script.proofs.machine.Machine.line.Goals as goal
 pub answer-requires-clause-led : goal.answer-requires-clause-led
 answer-requires-clause-led c = led c.args.self.now c.requires.0 c.requires.1
 
-pub returns-in-Ok-answer-clause-ok : goal.returns-in-Ok-answer-clause-ok
-returns-in-Ok-answer-clause-ok c =
-    let spelled = subst (λ (o : Option Line). IfSome o (λ l. Spells c.args.line.now l)) c.in-Some.is c.in-Ok.ensures.found in
-    λ session h. has_answered c.args.self.now c.answer.new.self session c.args.line.now c.answer.new.out.items c.in-Some.parsed h spelled c.in-Ok-answer.ensures
+pub returns-in-Ok-clause-ok : goal.returns-in-Ok-clause-ok
+returns-in-Ok-clause-ok c =
+    let spelled = subst (λ (o : Option Line). IfSome o (λ l. Spells c.args.line.now l)) c.in-Ok-Some.field-0-is c.in-Ok-Some.ensures.found in
+    λ session h. has_answered c.args.self.now c.answer.new.self session c.args.line.now c.answer.new.out.items c.in-Ok-Some.parsed h spelled c.in-Ok.ensures
