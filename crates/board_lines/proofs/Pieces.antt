@@ -17,8 +17,8 @@ read_front bs m rest at n e le =
     let d : drop n (drop at bs) ≡ drop (at + n) bs = drop-drop n at bs in
     rw (t, e, ← d) (sym (take-append-drop n (drop at bs)))
   where
-  take_exact : (m rest : List ℕ) (n : ℕ) → length m ≡ n → take n (m ++ rest) ≡ m
-  take_exact m rest n len = take-append-le n m rest (omega (arith, len)) ∙ take_all n m (omega (arith, len))
+    take_exact : (m rest : List ℕ) (n : ℕ) → length m ≡ n → take n (m ++ rest) ≡ m
+    take_exact m rest n len = take-append-le n m rest (omega (arith, len)) ∙ take_all n m (omega (arith, len))
 
 -- bytes that were read are in hand
 pub moved : (a b : Option (List ℕ)) (hand more : List ℕ) → Consumes a b more → Keeps (prepend_known hand a) (prepend_known (hand ++ more) b)

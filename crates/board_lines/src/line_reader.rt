@@ -4,7 +4,6 @@ ghost use Rattle.std.specs.Prelude.{◌≡◌, ◌≤◌, vec_len};
 mod hand;
 mod next;
 
-
 /// What a look for the next line found.
 #[derive(Clone, Copy, Debug, PartialEq, Eq)]
 pub enum Fetched {

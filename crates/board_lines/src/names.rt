@@ -3,7 +3,10 @@ ghost use Rattle.std.specs.Prelude.{◌≡◌};
 ghost use Rattle.board_model.specs.AnswerGrammar.{create_error_text, entry_error_text, entry_mut_error_text, open_error_text, reader_error_text, reason_text, writer_error_text};
 ghost use Rattle.board_model.specs.LineGrammar.{key_type_text};
 
-use board_model::{BlackboardCreateError, BlackboardOpenError, EntryHandleError, EntryHandleMutError, KeyType, ReaderCreateError, Reason, WriterCreateError};
+use board_model::{
+    BlackboardCreateError, BlackboardOpenError, EntryHandleError, EntryHandleMutError, KeyType,
+    ReaderCreateError, Reason, WriterCreateError,
+};
 
 pub(crate) fn reason_name(reason: Reason) -> &'static [u8]
     ensures { result.now ≡ reason_text reason }
@@ -35,7 +38,8 @@ pub(crate) fn create_error_name(error: BlackboardCreateError) -> &'static [u8]
 {
     match error {
         BlackboardCreateError::AlreadyExists => b"AlreadyExists",
-        BlackboardCreateError::IsBeingCreatedByAnotherInstance => b"IsBeingCreatedByAnotherInstance",
+        BlackboardCreateError::IsBeingCreatedByAnotherInstance =>
+            b"IsBeingCreatedByAnotherInstance",
         BlackboardCreateError::InternalFailure => b"InternalFailure",
         BlackboardCreateError::InsufficientPermissions => b"InsufficientPermissions",
         BlackboardCreateError::ServiceInCorruptedState => b"ServiceInCorruptedState",
@@ -56,12 +60,14 @@ pub(crate) fn open_error_name(error: BlackboardOpenError) -> &'static [u8]
         BlackboardOpenError::InternalFailure => b"InternalFailure",
         BlackboardOpenError::IncompatibleAttributes => b"IncompatibleAttributes",
         BlackboardOpenError::IncompatibleMessagingPattern => b"IncompatibleMessagingPattern",
-        BlackboardOpenError::DoesNotSupportRequestedAmountOfReaders => b"DoesNotSupportRequestedAmountOfReaders",
+        BlackboardOpenError::DoesNotSupportRequestedAmountOfReaders =>
+            b"DoesNotSupportRequestedAmountOfReaders",
         BlackboardOpenError::InsufficientPermissions => b"InsufficientPermissions",
         BlackboardOpenError::HangsInCreation => b"HangsInCreation",
         BlackboardOpenError::IsMarkedForDestruction => b"IsMarkedForDestruction",
         BlackboardOpenError::ExceedsMaxNumberOfNodes => b"ExceedsMaxNumberOfNodes",
-        BlackboardOpenError::DoesNotSupportRequestedAmountOfNodes => b"DoesNotSupportRequestedAmountOfNodes",
+        BlackboardOpenError::DoesNotSupportRequestedAmountOfNodes =>
+            b"DoesNotSupportRequestedAmountOfNodes",
         BlackboardOpenError::NumbersSpent => b"NumbersSpent",
         BlackboardOpenError::OutOfMemory => b"OutOfMemory",
     }

@@ -6,7 +6,10 @@ ghost use Rattle.board_model.specs.LineGrammar.{key_text};
 ghost use Rattle.board_lines.specs.Texts.{comma_text, counts_text, limits_text, taken_text};
 
 use crate::answers::{push_digits, push_number};
-use crate::names::{create_error_name, entry_error_name, entry_mut_error_name, key_type_name, open_error_name, reader_error_name, writer_error_name};
+use crate::names::{
+    create_error_name, entry_error_name, entry_mut_error_name, key_type_name, open_error_name,
+    reader_error_name, writer_error_name,
+};
 use board_model::{Info, Key, Name, Reply, ValueType};
 use std::alloc::AllocError;
 
@@ -189,11 +192,31 @@ pub(crate) fn push_reply(reply: &Reply, out: &mut Vec<u8>) -> Result<(), AllocEr
             out.extend_from_slice(b"gen")?;
             push_number(*n, out)
         }
-        Reply::CreateError(error) => push_both(b"BlackboardCreateError::", create_error_name(*error), out),
-        Reply::OpenError(error) => push_both(b"BlackboardOpenError::", open_error_name(*error), out),
-        Reply::ReaderError(error) => push_both(b"ReaderCreateError::", reader_error_name(*error), out),
-        Reply::WriterError(error) => push_both(b"WriterCreateError::", writer_error_name(*error), out),
+        Reply::CreateError(error) => push_both(
+            b"BlackboardCreateError::",
+            create_error_name(*error),
+            out,
+        ),
+        Reply::OpenError(error) => push_both(
+            b"BlackboardOpenError::",
+            open_error_name(*error),
+            out,
+        ),
+        Reply::ReaderError(error) => push_both(
+            b"ReaderCreateError::",
+            reader_error_name(*error),
+            out,
+        ),
+        Reply::WriterError(error) => push_both(
+            b"WriterCreateError::",
+            writer_error_name(*error),
+            out,
+        ),
         Reply::EntryError(error) => push_both(b"EntryHandleError::", entry_error_name(*error), out),
-        Reply::EntryMutError(error) => push_both(b"EntryHandleMutError::", entry_mut_error_name(*error), out),
+        Reply::EntryMutError(error) => push_both(
+            b"EntryHandleMutError::",
+            entry_mut_error_name(*error),
+            out,
+        ),
     }
 }

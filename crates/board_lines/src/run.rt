@@ -36,7 +36,13 @@ pub trait RunsLines {
 /// Answers the lines of the source, at most `limit` of them, and writes each answer before the next line is looked at.
 ///
 /// Line n is counted from 1. `TooLong` is looked at when a byte follows the last line that is allowed.
-pub fn run_lines<M: RunsLines, S: Source, K: Sink>(alloc: Global, limit: u64, machine: &mut M, source: &mut S, sink: &mut K) -> Result<(), ScriptError>
+pub fn run_lines<M: RunsLines, S: Source, K: Sink>(
+    alloc: Global,
+    limit: u64,
+    machine: &mut M,
+    source: &mut S,
+    sink: &mut K,
+) -> Result<(), ScriptError>
     requires limit { limit ≤ 4294967295 }
     requires machine { M.stands machine.old start }
 

@@ -17,6 +17,7 @@ pub struct Failed;
 /// Contracts see the bytes that are `left` to read, where a source tells them, and a count of `faults` that never falls.
 pub trait Source {
     ghost left: { Self → Option (List ℕ) };
+
     ghost faults: { Self → ℕ };
 
     /// Fills a front of `buf` with the next bytes, and tells how many. 0 for a `buf` that isn't empty means the end.
@@ -35,6 +36,7 @@ pub trait Source {
 /// Contracts see the bytes that are `held`, where a sink tells them, and a count of `faults` that never falls.
 pub trait Sink {
     ghost held: { Self → Option (List ℕ) };
+
     ghost faults: { Self → ℕ };
 
     /// Takes a front of `bytes`, at least one byte where there is one, and tells how many.

@@ -51,7 +51,7 @@ flat_number n h = flat_decimal n h
 flat_place : (board word value : ℕ) → IsNumber board → IsNumber word → IsNumber value → IsFlat (place_text board word value)
 flat_place board word value hb hw hv =
     flat_append (decimal board) (codes ":" ++ (decimal word ++ (codes " " ++ decimal value))) (flat_decimal board hb)
-      (flat_append (decimal word) (codes " " ++ decimal value) (flat_decimal word hw) (flat_decimal value hv))
+    (flat_append (decimal word) (codes " " ++ decimal value) (flat_decimal word hw) (flat_decimal value hv))
 
 flat_access : (a : Access) → IsAccess a → IsFlat (access_text a)
 flat_access access.Table h = refl
@@ -146,14 +146,14 @@ flat_key_type key_type.F8 = refl
 flat_info : (i : Info) → IsInfo i → IsFlat (info_text i)
 flat_info i h =
     flat_append i.name _ (free_visible 10 255 refl i.name h.name)
-      (flat_append (key_type_text i.key_type) _ (flat_key_type i.key_type)
-        (flat_append (decimal i.max_readers) _ (flat_decimal i.max_readers h.max_readers)
-          (flat_append (decimal i.max_nodes) _ (flat_decimal i.max_nodes h.max_nodes)
-            (flat_append (decimal i.entries) _ (flat_decimal i.entries h.entries)
-              (flat_append (decimal i.attributes) _ (flat_decimal i.attributes h.attributes)
-                (flat_append (decimal i.readers) _ (flat_decimal i.readers h.readers)
-                  (flat_append (decimal i.writers) _ (flat_decimal i.writers h.writers)
-                    (flat_decimal i.nodes h.nodes))))))))
+    (flat_append (key_type_text i.key_type) _ (flat_key_type i.key_type)
+    (flat_append (decimal i.max_readers) _ (flat_decimal i.max_readers h.max_readers)
+    (flat_append (decimal i.max_nodes) _ (flat_decimal i.max_nodes h.max_nodes)
+    (flat_append (decimal i.entries) _ (flat_decimal i.entries h.entries)
+    (flat_append (decimal i.attributes) _ (flat_decimal i.attributes h.attributes)
+    (flat_append (decimal i.readers) _ (flat_decimal i.readers h.readers)
+    (flat_append (decimal i.writers) _ (flat_decimal i.writers h.writers)
+    (flat_decimal i.nodes h.nodes))))))))
 
 flat_reply : (r : Reply) → IsReply r → IsFlat (reply_text r)
 flat_reply reply.Done h = refl

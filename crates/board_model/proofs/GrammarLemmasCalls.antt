@@ -40,7 +40,7 @@ entry_takes w k v e h =
     let ta = key_takes k a.0 a.1 in
     let tb = value_takes v b.0 b.1 in
     subst (IsTakenEntry w k v) (some_is made e b.2)
-      (record { tokens = three w k v (codes "add") (key_text a.0) (value_text b.0) (word_is w (codes "add") g.0) ta.token tb.token; is = record { key = ta.is; value = tb.is } })
+    (record { tokens = three w k v (codes "add") (key_text a.0) (value_text b.0) (word_is w (codes "add") g.0) ta.token tb.token; is = record { key = ta.is; value = tb.is } })
 
 pub record AreTaken (ts : List (List ℕ)) (es : List AddedEntry) : Type 0 where
   pub tokens : ts ≡ flat_map entry_tokens es
@@ -57,7 +57,7 @@ entries_take (w ∷ k ∷ v ∷ rest) es e =
     let one = entry_takes w k v a.0 a.1 in
     let more = entries_take rest b.0 b.1 in
     subst (AreTaken (w ∷ k ∷ v ∷ rest)) (some_is (a.0 ∷ b.0) es b.2)
-      (record { tokens = ap (λ (x : List (List ℕ)). x ++ rest) one.tokens ∙ ap (λ (x : List (List ℕ)). entry_tokens a.0 ++ x) more.tokens ∙ sym (flat_map-cons entry_tokens a.0 b.0); are = (one.is, more.are) })
+    (record { tokens = ap (λ (x : List (List ℕ)). x ++ rest) one.tokens ∙ ap (λ (x : List (List ℕ)). entry_tokens a.0 ++ x) more.tokens ∙ sym (flat_map-cons entry_tokens a.0 b.0); are = (one.is, more.are) })
 
 -- ---- calls
 
@@ -71,10 +71,10 @@ pub record Takes (word : List ℕ) (ts : List (List ℕ)) (c : Call) : Type 0 wh
 no_limit : (l : Limits) → is_none l.max_readers ≡ true → is_none l.max_nodes ≡ true → l ≡ no_limits
 no_limit l r n = alike l l.max_readers l.max_nodes refl refl r n
   where
-  alike : (l : Limits) (a b : Option ℕ) → l.max_readers ≡ a → l.max_nodes ≡ b → is_none a ≡ true → is_none b ≡ true → l ≡ no_limits
-  alike l None None ea eb r n = rw (ea, eb) refl
-  alike l (Some x) b ea eb r n = absurd cc
-  alike l None (Some x) ea eb r n = absurd cc
+    alike : (l : Limits) (a b : Option ℕ) → l.max_readers ≡ a → l.max_nodes ≡ b → is_none a ≡ true → is_none b ≡ true → l ≡ no_limits
+    alike l None None ea eb r n = rw (ea, eb) refl
+    alike l (Some x) b ea eb r n = absurd cc
+    alike l None (Some x) ea eb r n = absurd cc
 
 no_items : {A : Type 0} (xs : List A) → eqb (length xs) 0 ≡ true → xs ≡ []
 no_items [] e = refl
@@ -99,15 +99,16 @@ create_takes ts c e =
     let nn = board_name_takes tn.token n.0.0 tn.is in
     let nk = key_type_takes tk.token k.0.0 tk.is in
     subst (Takes (codes "create") ts) (some_is (call.Create f.0.0 n.0.0 k.0.0 no_limits [] es.0) c es.2)
-      (record {
-        tokens = chain ts f.0.1 n.0.1 k.0.1 tf.token tn.token tk.token f.0.0 n.0.0 (key_type_text k.0.0) (flat_map entry_tokens es.0) tf.all tn.all tk.all te.tokens nf.token nn.token nk;
-        is = (nf.named, nn.named, record { readers = tt; nodes = tt }, record { few = omega_zero; each = tt }, te.are);
-      })
+    (record {
+      tokens = chain ts f.0.1 n.0.1 k.0.1 tf.token tn.token tk.token f.0.0 n.0.0 (key_type_text k.0.0) (flat_map entry_tokens es.0) tf.all tn.all tk.all te.tokens nf.token nn.token nk;
+      is = (nf.named, nn.named, record { readers = tt; nodes = tt }, record { few = omega_zero; each = tt }, te.are);
+    })
   where
-  chain : (t0 t1 t2 t3 : List (List ℕ)) (a b c f n k : List ℕ) (es : List (List ℕ)) → t0 ≡ a ∷ t1 → t1 ≡ b ∷ t2 → t2 ≡ c ∷ t3 → t3 ≡ es → a ≡ f → b ≡ n → c ≡ k → codes "create" ∷ t0 ≡ codes "create" ∷ f ∷ n ∷ k ∷ es
-  chain t0 t1 t2 t3 a b c f n k es e0 e1 e2 e3 ea eb ec = cc
-  omega_zero : length {A = Attribute} [] ≤ 8
-  omega_zero = omega arith
+    chain : (t0 t1 t2 t3 : List (List ℕ)) (a b c f n k : List ℕ) (es : List (List ℕ)) → t0 ≡ a ∷ t1 → t1 ≡ b ∷ t2 → t2 ≡ c ∷ t3 → t3 ≡ es → a ≡ f → b ≡ n → c ≡ k → codes "create" ∷ t0 ≡ codes "create" ∷ f ∷ n ∷ k ∷ es
+    chain t0 t1 t2 t3 a b c f n k es e0 e1 e2 e3 ea eb ec = cc
+
+    omega_zero : length {A = Attribute} [] ≤ 8
+    omega_zero = omega arith
 
 -- ---- calls of names alone
 
@@ -128,8 +129,8 @@ one_takes ts a e =
     let n = name_takes t.token x.0.0 t.is in
     subst (OneName ts) (some_is x.0.0 a g.1) (record { tokens = chain ts x.0.1 t.token x.0.0 t.all n.token (end_takes x.0.1 g.0); named = n.named })
   where
-  chain : (t0 t1 : List (List ℕ)) (a b : List ℕ) → t0 ≡ a ∷ t1 → a ≡ b → t1 ≡ [] → t0 ≡ b ∷ []
-  chain t0 t1 a b e0 ea e1 = cc
+    chain : (t0 t1 : List (List ℕ)) (a b : List ℕ) → t0 ≡ a ∷ t1 → a ≡ b → t1 ≡ [] → t0 ≡ b ∷ []
+    chain t0 t1 a b e0 ea e1 = cc
 
 pub two_again : (a b : List ℕ) → is_name a ≡ true → is_name b ≡ true → read_two_names (a ∷ b ∷ []) ≡ Some (a, b)
 unfolding read_two_names
@@ -151,24 +152,24 @@ two_take ts p e =
     let na = name_takes ta.token a.0.0 ta.is in
     let nb = name_takes tb.token b.0.0 tb.is in
     subst (TwoNames ts) (some_is (a.0.0, b.0.0) p g.1)
-      (record { tokens = chain ts a.0.1 b.0.1 ta.token tb.token a.0.0 b.0.0 ta.all tb.all (end_takes b.0.1 g.0) na.token nb.token; first = na.named; second = nb.named })
+    (record { tokens = chain ts a.0.1 b.0.1 ta.token tb.token a.0.0 b.0.0 ta.all tb.all (end_takes b.0.1 g.0) na.token nb.token; first = na.named; second = nb.named })
   where
-  chain : (t0 t1 t2 : List (List ℕ)) (a b x y : List ℕ) → t0 ≡ a ∷ t1 → t1 ≡ b ∷ t2 → t2 ≡ [] → a ≡ x → b ≡ y → t0 ≡ x ∷ y ∷ []
-  chain t0 t1 t2 a b x y e0 e1 e2 ea eb = cc
+    chain : (t0 t1 t2 : List (List ℕ)) (a b x y : List ℕ) → t0 ≡ a ∷ t1 → t1 ≡ b ∷ t2 → t2 ≡ [] → a ≡ x → b ≡ y → t0 ≡ x ∷ y ∷ []
+    chain t0 t1 t2 a b x y e0 e1 e2 ea eb = cc
 
 writer_takes : (ts : List (List ℕ)) (c : Call) → (read_two_names ts >>= λ p. Some (call.Writer p.0 p.1)) ≡ Some c → Takes (codes "writer") ts c
 writer_takes ts c e =
     let p = bind_some (read_two_names ts) (λ p. Some (call.Writer p.0 p.1)) c e in
     let t = two_take ts p.0 p.1 in
     subst (Takes (codes "writer") ts) (some_is (call.Writer p.0.0 p.0.1) c p.2)
-      (record { tokens = ap (λ (x : List (List ℕ)). codes "writer" ∷ x) t.tokens; is = (t.first, t.second) })
+    (record { tokens = ap (λ (x : List (List ℕ)). codes "writer" ∷ x) t.tokens; is = (t.first, t.second) })
 
 gen_takes : (ts : List (List ℕ)) (c : Call) → (read_one_name ts >>= λ m. Some (call.Gen m)) ≡ Some c → Takes (codes "gen") ts c
 gen_takes ts c e =
     let m = bind_some (read_one_name ts) (λ m. Some (call.Gen m)) c e in
     let t = one_takes ts m.0 m.1 in
     subst (Takes (codes "gen") ts) (some_is (call.Gen m.0) c m.2)
-      (record { tokens = ap (λ (x : List (List ℕ)). codes "gen" ∷ x) t.tokens; is = t.named })
+    (record { tokens = ap (λ (x : List (List ℕ)). codes "gen" ∷ x) t.tokens; is = t.named })
 
 -- ---- calls with keys and values
 
@@ -189,13 +190,13 @@ entry_mut_takes ts c e =
     let nk = key_takes tk.token k.0.0 tk.is in
     let nv = value_type_takes tv.token t.0.0 tv.is in
     subst (Takes (codes "entrymut") ts) (some_is (call.EntryMut m.0.0 w.0.0 k.0.0 t.0.0) c g.1)
-      (record {
-        tokens = chain ts m.0.1 w.0.1 k.0.1 t.0.1 tm.token tw.token tk.token tv.token m.0.0 w.0.0 (key_text k.0.0) (value_type_text t.0.0) tm.all tw.all tk.all tv.all (end_takes t.0.1 g.0) nm.token nw.token nk.token nv;
-        is = (nm.named, nw.named, nk.is);
-      })
+    (record {
+      tokens = chain ts m.0.1 w.0.1 k.0.1 t.0.1 tm.token tw.token tk.token tv.token m.0.0 w.0.0 (key_text k.0.0) (value_type_text t.0.0) tm.all tw.all tk.all tv.all (end_takes t.0.1 g.0) nm.token nw.token nk.token nv;
+      is = (nm.named, nw.named, nk.is);
+    })
   where
-  chain : (t0 t1 t2 t3 t4 : List (List ℕ)) (a b c d x y z u : List ℕ) → t0 ≡ a ∷ t1 → t1 ≡ b ∷ t2 → t2 ≡ c ∷ t3 → t3 ≡ d ∷ t4 → t4 ≡ [] → a ≡ x → b ≡ y → c ≡ z → d ≡ u → codes "entrymut" ∷ t0 ≡ codes "entrymut" ∷ x ∷ y ∷ z ∷ u ∷ []
-  chain t0 t1 t2 t3 t4 a b c d x y z u e0 e1 e2 e3 e4 ea eb ec ed = cc
+    chain : (t0 t1 t2 t3 t4 : List (List ℕ)) (a b c d x y z u : List ℕ) → t0 ≡ a ∷ t1 → t1 ≡ b ∷ t2 → t2 ≡ c ∷ t3 → t3 ≡ d ∷ t4 → t4 ≡ [] → a ≡ x → b ≡ y → c ≡ z → d ≡ u → codes "entrymut" ∷ t0 ≡ codes "entrymut" ∷ x ∷ y ∷ z ∷ u ∷ []
+    chain t0 t1 t2 t3 t4 a b c d x y z u e0 e1 e2 e3 e4 ea eb ec ed = cc
 
 update_takes : (ts : List (List ℕ)) (c : Call) → read_update ts ≡ Some c → Takes (codes "update") ts c
 unfolding read_update
@@ -208,10 +209,10 @@ update_takes ts c e =
     let nm = name_takes tm.token m.0.0 tm.is in
     let nv = value_takes tv.token v.0.0 tv.is in
     subst (Takes (codes "update") ts) (some_is (call.Update m.0.0 v.0.0) c g.1)
-      (record { tokens = chain ts m.0.1 v.0.1 tm.token tv.token m.0.0 (value_text v.0.0) tm.all tv.all (end_takes v.0.1 g.0) nm.token nv.token; is = (nm.named, nv.is) })
+    (record { tokens = chain ts m.0.1 v.0.1 tm.token tv.token m.0.0 (value_text v.0.0) tm.all tv.all (end_takes v.0.1 g.0) nm.token nv.token; is = (nm.named, nv.is) })
   where
-  chain : (t0 t1 t2 : List (List ℕ)) (a b x y : List ℕ) → t0 ≡ a ∷ t1 → t1 ≡ b ∷ t2 → t2 ≡ [] → a ≡ x → b ≡ y → codes "update" ∷ t0 ≡ codes "update" ∷ x ∷ y ∷ []
-  chain t0 t1 t2 a b x y e0 e1 e2 ea eb = cc
+    chain : (t0 t1 t2 : List (List ℕ)) (a b x y : List ℕ) → t0 ≡ a ∷ t1 → t1 ≡ b ∷ t2 → t2 ≡ [] → a ≡ x → b ≡ y → codes "update" ∷ t0 ≡ codes "update" ∷ x ∷ y ∷ []
+    chain t0 t1 t2 a b x y e0 e1 e2 ea eb = cc
 
 -- ---- all calls
 
@@ -224,15 +225,15 @@ plain_call_takes word ts c e =
     elim (chosen (bytes_eq word (codes "writer")) _ _ _ e) [
       | inl h ↦ head_of word (codes "writer") ts c h.0 (writer_takes ts c h.1)
       | inr h ↦ elim (chosen (bytes_eq word (codes "entrymut")) _ _ _ h.1) [
-          | inl i ↦ head_of word (codes "entrymut") ts c i.0 (entry_mut_takes ts c i.1)
-          | inr i ↦ elim (chosen (bytes_eq word (codes "update")) _ _ _ i.1) [
-              | inl j ↦ head_of word (codes "update") ts c j.0 (update_takes ts c j.1)
-              | inr j ↦ elim (chosen (bytes_eq word (codes "gen")) _ _ _ j.1) [
-                  | inl k ↦ head_of word (codes "gen") ts c k.0 (gen_takes ts c k.1)
-                  | inr k ↦ absurd (let bad = k.1 in cc)
-                ]
-            ]
+        | inl i ↦ head_of word (codes "entrymut") ts c i.0 (entry_mut_takes ts c i.1)
+        | inr i ↦ elim (chosen (bytes_eq word (codes "update")) _ _ _ i.1) [
+          | inl j ↦ head_of word (codes "update") ts c j.0 (update_takes ts c j.1)
+          | inr j ↦ elim (chosen (bytes_eq word (codes "gen")) _ _ _ j.1) [
+            | inl k ↦ head_of word (codes "gen") ts c k.0 (gen_takes ts c k.1)
+            | inr k ↦ absurd (let bad = k.1 in cc)
+          ]
         ]
+      ]
     ]
 
 pub call_takes : (word : List ℕ) (ts : List (List ℕ)) (c : Call) → read_call word ts ≡ Some c → Takes word ts c
@@ -257,8 +258,8 @@ create_again f n k l attrs es h r =
     let b4 = both (is_number_key_type k) (is_none l.max_readers) b3.0 in
     alike l attrs (no_limit l b4.1 b3.1) (no_items attrs b2.1)
   where
-  alike : (l : Limits) (attrs : List Attribute) → l ≡ no_limits → attrs ≡ [] → read_call_tokens (call_tokens (call.Create f n k l attrs es)) ≡ Some (call.Create f n k l attrs es)
-  alike l attrs el ea = rw (el, ea) (create_plain_again f n k es h.0 h.1 h.4)
+    alike : (l : Limits) (attrs : List Attribute) → l ≡ no_limits → attrs ≡ [] → read_call_tokens (call_tokens (call.Create f n k l attrs es)) ≡ Some (call.Create f n k l attrs es)
+    alike l attrs el ea = rw (el, ea) (create_plain_again f n k es h.0 h.1 h.4)
 
 pub call_again : (c : Call) → IsCall c → runs_call c ≡ true → read_call_tokens (call_tokens c) ≡ Some c
 unfolding read_call read_plain_call read_entry_mut read_update

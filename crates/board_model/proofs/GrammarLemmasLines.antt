@@ -41,14 +41,14 @@ begin_takes (p ∷ word ∷ rest) l e =
     let t = call_takes word rest c.0 c.1 in
     let nn = name_takes p n.0 n.1 in
     subst (TakesLine (codes "begin" ∷ p ∷ word ∷ rest)) (some_is (line.Begin n.0 c.0) l c.2)
-      (record { tokens = ap (λ (x : List ℕ). codes "begin" ∷ x ∷ word ∷ rest) nn.token ∙ ap (λ (x : List (List ℕ)). codes "begin" ∷ n.0 ∷ x) t.tokens; is = (nn.named, t.is) })
+    (record { tokens = ap (λ (x : List ℕ). codes "begin" ∷ x ∷ word ∷ rest) nn.token ∙ ap (λ (x : List (List ℕ)). codes "begin" ∷ n.0 ∷ x) t.tokens; is = (nn.named, t.is) })
 
 step_takes : (ts : List (List ℕ)) (l : Line) → (read_one_name ts >>= λ p. Some (line.Step p)) ≡ Some l → TakesLine (codes "step" ∷ ts) l
 step_takes ts l e =
     let p = bind_some (read_one_name ts) (λ p. Some (line.Step p)) l e in
     let t = one_takes ts p.0 p.1 in
     subst (TakesLine (codes "step" ∷ ts)) (some_is (line.Step p.0) l p.2)
-      (record { tokens = ap (λ (x : List (List ℕ)). codes "step" ∷ x) t.tokens; is = t.named })
+    (record { tokens = ap (λ (x : List (List ℕ)). codes "step" ∷ x) t.tokens; is = t.named })
 
 words_takes : (ts : List (List ℕ)) (l : Line) → read_words ts ≡ Some l → TakesLine (codes "words" ∷ ts) l
 unfolding read_words
@@ -58,10 +58,10 @@ words_takes ts l e =
     let t = first_takes read_number ts n.0 n.1 in
     let d = number_takes t.token n.0.0 t.is in
     subst (TakesLine (codes "words" ∷ ts)) (some_is (line.Words n.0.0) l g.1)
-      (record { tokens = chain ts n.0.1 t.token _ t.all d.0 (end_takes n.0.1 g.0); is = d.1 })
+    (record { tokens = chain ts n.0.1 t.token _ t.all d.0 (end_takes n.0.1 g.0); is = d.1 })
   where
-  chain : (t0 t1 : List (List ℕ)) (a x : List ℕ) → t0 ≡ a ∷ t1 → a ≡ x → t1 ≡ [] → codes "words" ∷ t0 ≡ codes "words" ∷ x ∷ []
-  chain t0 t1 a x e0 ea e1 = cc
+    chain : (t0 t1 : List (List ℕ)) (a x : List ℕ) → t0 ≡ a ∷ t1 → a ≡ x → t1 ≡ [] → codes "words" ∷ t0 ≡ codes "words" ∷ x ∷ []
+    chain t0 t1 a x e0 ea e1 = cc
 
 head_of : (word v : List ℕ) (rest : List (List ℕ)) (l : Line) → bytes_eq word v ≡ true → TakesLine (v ∷ rest) l → TakesLine (word ∷ rest) l
 head_of word v rest l e t = subst (λ (w : List ℕ). TakesLine (w ∷ rest) l) (sym (word_is word v e)) t
@@ -72,9 +72,9 @@ plain_line_takes word ts l e =
     elim (chosen (bytes_eq word (codes "step")) _ _ _ e) [
       | inl h ↦ head_of word (codes "step") ts l h.0 (step_takes ts l h.1)
       | inr h ↦ elim (chosen (bytes_eq word (codes "words")) _ _ _ h.1) [
-          | inl i ↦ head_of word (codes "words") ts l i.0 (words_takes ts l i.1)
-          | inr i ↦ absurd (let bad = i.1 in cc)
-        ]
+        | inl i ↦ head_of word (codes "words") ts l i.0 (words_takes ts l i.1)
+        | inr i ↦ absurd (let bad = i.1 in cc)
+      ]
     ]
 
 formed_takes : (ts : List (List ℕ)) (l : Line) → read_formed ts ≡ Some l → TakesLine ts l

@@ -112,18 +112,38 @@ plain_two : (word a b : List ℕ) → IsPlain word → is_name a ≡ true → is
 plain_two word a b w ha hb = (w, (plain_name a ha, (plain_name b hb, tt)))
 
 plain_call : (c : Call) → IsCall c → ArePlain (call_tokens c)
-plain_call (call.Create f n k l attrs es) h =
-    (refl, (plain_name f h.0, (free_visible 32 255 refl n h.1, (plain_key_type k,
-      plain_append (limits_tokens l) (flat_map (pair_tokens (codes "attr")) attrs ++ flat_map entry_tokens es) (plain_limits l h.2)
-        (plain_append (flat_map (pair_tokens (codes "attr")) attrs) (flat_map entry_tokens es)
-          (plain_each IsAttribute (pair_tokens (codes "attr")) (plain_pair (codes "attr") refl) attrs h.3.each)
-          (plain_each IsAddedEntry entry_tokens plain_entry es h.4))))))
-plain_call (call.Open f n k l needs) h =
-    (refl, (plain_name f h.0, (free_visible 32 255 refl n h.1, (plain_key_type k,
-      plain_append (limits_tokens l) (flat_map (pair_tokens (codes "need")) needs.pairs ++ flat_map needed_key_tokens needs.keys) (plain_limits l h.2)
-        (plain_append (flat_map (pair_tokens (codes "need")) needs.pairs) (flat_map needed_key_tokens needs.keys)
-          (plain_each IsAttribute (pair_tokens (codes "need")) (plain_pair (codes "need") refl) needs.pairs h.3.pairs.each)
-          (plain_each (λ k. is_attribute_key k ≡ true) needed_key_tokens plain_needed needs.keys h.3.each))))))
+plain_call (call.Create f n k l attrs es) h = (
+  refl,
+  (
+    plain_name f h.0,
+    (
+      free_visible 32 255 refl n h.1,
+      (
+        plain_key_type k,
+        plain_append (limits_tokens l) (flat_map (pair_tokens (codes "attr")) attrs ++ flat_map entry_tokens es) (plain_limits l h.2)
+            (plain_append (flat_map (pair_tokens (codes "attr")) attrs) (flat_map entry_tokens es)
+            (plain_each IsAttribute (pair_tokens (codes "attr")) (plain_pair (codes "attr") refl) attrs h.3.each)
+            (plain_each IsAddedEntry entry_tokens plain_entry es h.4)),
+      ),
+    ),
+  ),
+)
+plain_call (call.Open f n k l needs) h = (
+  refl,
+  (
+    plain_name f h.0,
+    (
+      free_visible 32 255 refl n h.1,
+      (
+        plain_key_type k,
+        plain_append (limits_tokens l) (flat_map (pair_tokens (codes "need")) needs.pairs ++ flat_map needed_key_tokens needs.keys) (plain_limits l h.2)
+            (plain_append (flat_map (pair_tokens (codes "need")) needs.pairs) (flat_map needed_key_tokens needs.keys)
+            (plain_each IsAttribute (pair_tokens (codes "need")) (plain_pair (codes "need") refl) needs.pairs h.3.pairs.each)
+            (plain_each (λ k. is_attribute_key k ≡ true) needed_key_tokens plain_needed needs.keys h.3.each)),
+      ),
+    ),
+  ),
+)
 plain_call (call.Reader r f) h = plain_two (codes "reader") r f refl h.0 h.1
 plain_call (call.Writer w f) h = plain_two (codes "writer") w f refl h.0 h.1
 plain_call (call.Entry x r k t) h = (refl, (plain_name x h.0, (plain_name r h.1, (plain_key k h.2, (plain_value_type t, tt)))))

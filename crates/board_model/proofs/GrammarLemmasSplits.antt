@@ -64,9 +64,9 @@ free_from c p bar (b ∷ bs) h =
 pub free_digits : (c : ℕ) → is_ascii_digit c ≡ false → (text : List ℕ) → all_ascii_digits text ≡ true → IsFree c text
 free_digits c bar text h = free_from c is_ascii_digit bar text (digits_pass text h)
   where
-  digits_pass : (ds : List ℕ) → all_ascii_digits ds ≡ true → list_all is_ascii_digit ds ≡ true
-  digits_pass [] e = refl
-  digits_pass (d ∷ ds) e = let s = both (is_ascii_digit d) (all_ascii_digits ds) e in rw (s.0, digits_pass ds s.1) refl
+    digits_pass : (ds : List ℕ) → all_ascii_digits ds ≡ true → list_all is_ascii_digit ds ≡ true
+    digits_pass [] e = refl
+    digits_pass (d ∷ ds) e = let s = both (is_ascii_digit d) (all_ascii_digits ds) e in rw (s.0, digits_pass ds s.1) refl
 
 pub free_number : (c : ℕ) → is_ascii_digit c ≡ false → (n : ℕ) → n < 2 ^ 64 → IsFree c (decimal n)
 free_number c bar n lt = free_digits c bar (decimal n) (digits_decimal own n lt)
@@ -75,4 +75,4 @@ free_number c bar n lt = free_digits c bar (decimal n) (digits_decimal own n lt)
 pub split_four : (a b c d : ℕ) → IsNumber a → IsNumber b → IsNumber c → IsNumber d → slice_split (λ x. eqb x 44) (join_with_byte 44 (decimal a ∷ decimal b ∷ decimal c ∷ decimal d ∷ [])) ≡ decimal a ∷ decimal b ∷ decimal c ∷ decimal d ∷ []
 split_four a b c d ha hb hc hd =
     split_free 44 refl (decimal a ∷ decimal b ∷ decimal c ∷ decimal d ∷ []) (omega arith)
-      (free_number 44 refl a ha, (free_number 44 refl b hb, (free_number 44 refl c hc, (free_number 44 refl d hd, tt))))
+    (free_number 44 refl a ha, (free_number 44 refl b hb, (free_number 44 refl c hc, (free_number 44 refl d hd, tt))))

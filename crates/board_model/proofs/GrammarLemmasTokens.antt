@@ -93,9 +93,9 @@ key_type_takes t k e =
     elim (chosen (bytes_eq t (codes "u64")) _ _ _ e) [
       | inl h ↦ word_is t (codes "u64") h.0 ∙ ap key_type_text (some_is key_type.U64 k h.1)
       | inr h ↦ elim (chosen (bytes_eq t (codes "f8")) _ _ _ h.1) [
-          | inl i ↦ word_is t (codes "f8") i.0 ∙ ap key_type_text (some_is key_type.F8 k i.1)
-          | inr i ↦ absurd (let bad = i.1 in cc)
-        ]
+        | inl i ↦ word_is t (codes "f8") i.0 ∙ ap key_type_text (some_is key_type.F8 k i.1)
+        | inr i ↦ absurd (let bad = i.1 in cc)
+      ]
     ]
 
 pub value_type_again : (v : ValueType) → read_value_type (value_type_text v) ≡ Some v
@@ -110,12 +110,12 @@ value_type_takes t v e =
     elim (chosen (bytes_eq t (codes "bool")) _ _ _ e) [
       | inl h ↦ word_is t (codes "bool") h.0 ∙ ap value_type_text (some_is type.Bool v h.1)
       | inr h ↦ elim (chosen (bytes_eq t (codes "u64")) _ _ _ h.1) [
-          | inl i ↦ word_is t (codes "u64") i.0 ∙ ap value_type_text (some_is type.U64 v i.1)
-          | inr i ↦ elim (chosen (bytes_eq t (codes "q4")) _ _ _ i.1) [
-              | inl j ↦ word_is t (codes "q4") j.0 ∙ ap value_type_text (some_is type.Q4 v j.1)
-              | inr j ↦ absurd (let bad = j.1 in cc)
-            ]
+        | inl i ↦ word_is t (codes "u64") i.0 ∙ ap value_type_text (some_is type.U64 v i.1)
+        | inr i ↦ elim (chosen (bytes_eq t (codes "q4")) _ _ _ i.1) [
+          | inl j ↦ word_is t (codes "q4") j.0 ∙ ap value_type_text (some_is type.Q4 v j.1)
+          | inr j ↦ absurd (let bad = j.1 in cc)
         ]
+      ]
     ]
 
 -- ---- keys
@@ -178,10 +178,18 @@ four_takes parts v e =
     let na = number_takes ta.token a.0.0 ta.is in
     let nb = number_takes tb.token b.0.0 tb.is in
     let nc = number_takes tc.token c.0.0 tc.is in
-    let nd = number_takes td.token d.0.0 td.is in
-    (a.0.0, b.0.0, c.0.0, d.0.0, some_is (value.Q4 a.0.0 b.0.0 c.0.0 d.0.0) v g.1,
+    let nd = number_takes td.token d.0.0 td.is in (
+      a.0.0,
+      b.0.0,
+      c.0.0,
+      d.0.0,
+      some_is (value.Q4 a.0.0 b.0.0 c.0.0 d.0.0) v g.1,
       four_parts parts a.0.1 b.0.1 c.0.1 d.0.1 ta.token tb.token tc.token td.token (decimal a.0.0) (decimal b.0.0) (decimal c.0.0) (decimal d.0.0) ta.all tb.all tc.all td.all (end_takes d.0.1 g.0) na.0 nb.0 nc.0 nd.0,
-      na.1, nb.1, nc.1, nd.1)
+      na.1,
+      nb.1,
+      nc.1,
+      nd.1,
+    )
 
 words_behind_takes : (t : List ℕ) (a b : Option (List ℕ)) (v : Value) → behind (codes "u64:") t ≡ a → behind (codes "q4:") t ≡ b → read_words_behind a b ≡ Some v → IsTakenValue t v
 unfolding read_words_behind
@@ -201,7 +209,7 @@ value_takes t v e =
     elim (chosen (bytes_eq t (codes "bool:true")) _ _ _ e) [
       | inl h ↦ subst (IsTakenValue t) (some_is (value.Bool true) v h.1) (record { token = word_is t (codes "bool:true") h.0; is = tt })
       | inr h ↦ elim (chosen (bytes_eq t (codes "bool:false")) _ _ _ h.1) [
-          | inl i ↦ subst (IsTakenValue t) (some_is (value.Bool false) v i.1) (record { token = word_is t (codes "bool:false") i.0; is = tt })
-          | inr i ↦ words_behind_takes t _ _ v refl refl i.1
-        ]
+        | inl i ↦ subst (IsTakenValue t) (some_is (value.Bool false) v i.1) (record { token = word_is t (codes "bool:false") i.0; is = tt })
+        | inr i ↦ words_behind_takes t _ _ v refl refl i.1
+      ]
     ]

@@ -4,11 +4,9 @@ ghost use Rattle.board_model.specs.GrammarLaws.{AnswersHoldNoNewline, BytesSpell
 /// Two different lines are never spelled by the same bytes.
 pub fn lines_are_told_apart()
     ensures { BytesSpellOneLine }
-{
-}
+{}
 
 /// An answer is one line of output.
 pub fn answers_hold_no_newline()
     ensures { AnswersHoldNoNewline }
-{
-}
+{}

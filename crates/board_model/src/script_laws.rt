@@ -4,5 +4,4 @@ ghost use Rattle.board_model.specs.LawsOfScripts.{InputsHaveOneSession};
 /// The lines of an input have at most one lawful session, so that its output is fixed.
 pub fn inputs_have_one_session()
     ensures { InputsHaveOneSession }
-{
-}
+{}

@@ -11,7 +11,8 @@ use board_model::{BoardName, Key, KeyType, Name, ValueType};
 fn has_name_bytes(text: &[u8]) -> bool
     ensures { result ≡ list_all is_name_byte text.now }
 {
-    text.iter().all(|b| (*b >= 97 && *b <= 122) || (*b >= 48 && *b <= 57))
+    text.iter()
+        .all(|b| (*b >= 97 && *b <= 122) || (*b >= 48 && *b <= 57))
 }
 
 fn has_visible_bytes(text: &[u8]) -> bool

@@ -114,7 +114,11 @@ fn create_of(alloc: Global, tokens: &mut Tokens) -> Result<Option<Call>, AllocEr
 }
 
 #[tactic(auto, unfolding(board_model::specs::LineReading::read_call))]
-pub(crate) fn call_of(alloc: Global, word: &[u8], tokens: &mut Tokens) -> Result<Option<Call>, AllocError>
+pub(crate) fn call_of(
+    alloc: Global,
+    word: &[u8],
+    tokens: &mut Tokens,
+) -> Result<Option<Call>, AllocError>
     ensures { IfOk result (λ o. o ≡ read_call word.now tokens.old) }
 {
     if is_word(word, b"create") {

@@ -115,7 +115,10 @@ fn runs_call(call: &Call) -> bool
             entries,
             ..
         } => {
-            if !is_number_key_type(*key_type) || limits.max_readers.is_some() || limits.max_nodes.is_some() {
+            if !is_number_key_type(*key_type)
+                || limits.max_readers.is_some()
+                || limits.max_nodes.is_some()
+            {
                 return false;
             }
             if !attributes.as_slice().is_empty() {
@@ -124,7 +127,9 @@ fn runs_call(call: &Call) -> bool
             are_number_entries(entries.as_slice())
         }
         Call::EntryMut {
-            key, value_type, ..
+            key,
+            value_type,
+            ..
         } => is_number_key(key) && is_number_type(*value_type),
         Call::Update { value, .. } => is_number_value(value),
         Call::Writer { .. } | Call::Gen { .. } => true,

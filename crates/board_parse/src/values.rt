@@ -61,7 +61,10 @@ fn entry_of(word: &[u8], key: &[u8], value: &[u8]) -> Option<(Key, Value)>
 }
 
 // The entries that are left. Only their list takes memory.
-pub(crate) fn entries_of(alloc: Global, tokens: &mut Tokens) -> Result<Option<AddedEntries>, AllocError>
+pub(crate) fn entries_of(
+    alloc: Global,
+    tokens: &mut Tokens,
+) -> Result<Option<AddedEntries>, AllocError>
     ensures { IfOk result (λ o. o ≡ read_entries tokens.old) }
 {
     let mut entries = Vec::new(alloc);

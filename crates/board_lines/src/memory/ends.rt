@@ -11,7 +11,11 @@ fn piece_of(wanted: usize, there: usize, piece: usize) -> usize
     ensures some { 0 < wanted → 0 < there → 0 < result }
 {
     let most = wanted.min(there);
-    if piece > 0 && most > piece { piece } else { most }
+    if piece > 0 && most > piece {
+        piece
+    } else {
+        most
+    }
 }
 
 impl Source for MemorySource {

@@ -28,7 +28,12 @@ impl MemorySink {
     /// A sink with room for so many bytes, which it takes first.
     ///
     /// It takes at most `piece` bytes a call, and 0 is no bound. The calls whose numbers `fails` lists, counted from 0, fail.
-    pub fn new(alloc: Global, room: usize, piece: usize, fails: Vec<u64>) -> Result<MemorySink, SinkError>
+    pub fn new(
+        alloc: Global,
+        room: usize,
+        piece: usize,
+        fails: Vec<u64>,
+    ) -> Result<MemorySink, SinkError>
         ensures held { IfOk result (λ sink. sink_holds sink ≡ []) }
         ensures faults { IfOk result (λ sink. sink.faults ≡ 0) }
     {

@@ -32,7 +32,11 @@ fn lines_are_given_out_in_any_pieces(rt: HostRuntime) -> Result<(), Fail> {
     ];
     for (bytes, lines) in cases {
         for piece in [0, 1, 2] {
-            assert_eq!(rt; lines_barred(rt.alloc(), bytes, piece)?.as_slice(), lines, "pieces of {piece}");
+            assert_eq!(rt;
+                lines_barred(rt.alloc(), bytes, piece)?.as_slice(),
+                lines,
+                "pieces of {piece}"
+            );
         }
     }
     Ok(())

@@ -31,7 +31,13 @@ fn check(alloc: Global, trial: &Trial) -> Result<bool, Fail> {
     let mut source = MemorySource::new(script, trial.piece, fails);
     let mut sink = MemorySink::new(alloc, trial.room, trial.piece, Vec::new(alloc))?;
     let mut machine = Idle { alloc };
-    let result = run_lines(alloc, u64::from(trial.limit), &mut machine, &mut source, &mut sink);
+    let result = run_lines(
+        alloc,
+        u64::from(trial.limit),
+        &mut machine,
+        &mut source,
+        &mut sink,
+    );
     Ok(result == trial.result && sink.held() == trial.written)
 }
 

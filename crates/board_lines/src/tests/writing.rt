@@ -1,6 +1,9 @@
 use crate::{push_answer, push_words};
 use board_layout::Text;
-use board_model::{Access, Answer, BlackboardCreateError, EntryHandleMutError, Info, Key, KeyType, Keys, Names, Reason, ReaderCreateError, Reply, ValueType, Words};
+use board_model::{
+    Access, Answer, BlackboardCreateError, EntryHandleMutError, Info, Key, KeyType, Keys, Names,
+    ReaderCreateError, Reason, Reply, ValueType, Words,
+};
 use std::alloc::{AllocError, Global};
 use std::test::Fail;
 
@@ -78,9 +81,18 @@ fn answers_without_lists(rt: HostRuntime) -> Result<(), Fail> {
 #[test]
 fn values_and_words_are_listed(rt: HostRuntime) -> Result<(), Fail> {
     let cases: [(Answer, &[u8]); 4] = [
-        (got(rt.alloc(), ValueType::Bool, &[2])?, b"table = bool:true gen 3\n"),
-        (got(rt.alloc(), ValueType::U64, &[7])?, b"table = u64:7 gen 3\n"),
-        (got(rt.alloc(), ValueType::Q4, &[1, 2, 3, 4])?, b"table = q4:1,2,3,4 gen 3\n"),
+        (
+            got(rt.alloc(), ValueType::Bool, &[2])?,
+            b"table = bool:true gen 3\n",
+        ),
+        (
+            got(rt.alloc(), ValueType::U64, &[7])?,
+            b"table = u64:7 gen 3\n",
+        ),
+        (
+            got(rt.alloc(), ValueType::Q4, &[1, 2, 3, 4])?,
+            b"table = q4:1,2,3,4 gen 3\n",
+        ),
         (Answer::Words(words(rt.alloc(), &[0, 10])?), b"words 0 10\n"),
     ];
     let mut out = Vec::new(rt.alloc());
@@ -110,8 +122,14 @@ fn a_board_is_told_in_one_line(rt: HostRuntime) -> Result<(), Fail> {
         nodes: 4,
     };
     let cases: [(Answer, &[u8]); 3] = [
-        (step(Reply::Keys(Keys::from_vec(keys))), b"table = keys u64:5 f8:ab\n"),
-        (step(Reply::Nodes(Names::from_vec(names))), b"table = nodes a b1\n"),
+        (
+            step(Reply::Keys(Keys::from_vec(keys))),
+            b"table = keys u64:5 f8:ab\n",
+        ),
+        (
+            step(Reply::Nodes(Names::from_vec(names))),
+            b"table = nodes a b1\n",
+        ),
         (
             step(Reply::Info(info)),
             b"table = info board f8 readers 8 nodes 20 entries 2 attrs 1 taken 3 1 4\n",

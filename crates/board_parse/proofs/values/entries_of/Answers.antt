@@ -13,7 +13,7 @@ returns-in_default-entry_of c = stops c.loop-word.entries.items _ _ _ _ _ _ _ _ 
 pub loop-word-preserved : goal.loop-word-preserved
 loop-word-preserved c =
     rw c.in_ok-push.ensures.items
-      (goes_on c.loop-word.entries.items (record { key = c.in-Some-entry_of.key; value = c.in-Some-entry_of.value }) _ _ _ _ _ _ _ _ c.in-Some.ensures c.in-Some-next.ensures c.in-Some-next-2.ensures c.in-Some-entry_of.ensures c.loop-word.invariant)
+    (goes_on c.loop-word.entries.items (record { key = c.in-Some-entry_of.key; value = c.in-Some-entry_of.value }) _ _ _ _ _ _ _ _ c.in-Some.ensures c.in-Some-next.ensures c.in-Some-next-2.ensures c.in-Some-entry_of.ensures c.loop-word.invariant)
 
 pub returns : goal.returns
 returns c = rw c.from_vec.ensures (is_done c.loop-word.entries.items _ _ c.in_default.ensures c.loop-word.invariant)
