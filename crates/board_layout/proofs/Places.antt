@@ -1,5 +1,6 @@
 -- Laws of places.
 use Rattle.std.proofs.Common.{◌≡◌, ℕ, suc, ◌+◌, ◌-◌, ◌^◌, ◌<◌, ◌≤◌, List, [], ◌∷◌, ◌++◌, length, drop, get_or, arith, sym, ap, ◌∙◌, append_assoc, add-one, drop-cons}
+use Rattle.std.proofs.lemmas.List.{append-nil, drop_all}
 use Rattle.std.proofs.Math.Pow.{pow_mono}
 use Rattle.std.proofs.lemmas.Nat.{pow_pos}
 use Rattle.std.proofs.Math.Nat.{div-mul-le_self}
@@ -28,20 +29,32 @@ is_bounded at s h =
     let b = alignment_bound s.alignment h.alignment in
     record { start = align_le (cell_alignment s) at; head = align_le s.alignment 16; low = b.0; high = b.1 }
 
--- the first of what is left is laid down
-pub record IsLaid (laid : List CellPlace) (at bytes : ℕ) (left shapes : List Shape) : Type 0 where
+-- the cells of what is left go on from here, and there is room for them
+pub record IsLaid (laid : List CellPlace) (at room : ℕ) (left shapes : List Shape) : Type 0 where
   pub cells : laid ++ places_from at left ≡ places_from 0 shapes
   pub ends : end_from at left ≡ end_from 0 shapes
-  pub asked : bytes + payload left ≡ payload shapes
+  pub fits : at + payload left ≤ room
 
-pub lay : (cells : List CellPlace) (at asked i : ℕ) (shapes : List Shape) (s : Shape) → i < length shapes → s ≡ get_or shapes i s
-    → IsLaid cells at asked (drop i shapes) shapes
-    → IsLaid (cells ++ place_at at s ∷ []) (start_of at s + cell_bytes s) (asked + (cell_bytes s + (cell_alignment s - 1))) (drop (i + 1) shapes) shapes
-lay cells at asked i shapes s lt is h =
-    let e : drop i shapes ≡ s ∷ drop (i + 1) shapes = rw (add-one, drop-cons shapes i s) (ap (λ (x : Shape). x ∷ drop (suc i) shapes) (sym is)) in
-    let h' : IsLaid cells at asked (s ∷ drop (i + 1) shapes) shapes = rw e at h in
+-- the next shape of a list, and what is left of it
+pub next_shape : (shapes : List Shape) (i : ℕ) (s : Shape) → i < length shapes → s ≡ get_or shapes i s → drop i shapes ≡ s ∷ drop (i + 1) shapes
+next_shape shapes i s lt is = rw (add-one, drop-cons shapes i s) (ap (λ (x : Shape). x ∷ drop (suc i) shapes) (sym is))
+
+-- the first of what is left is laid down
+pub lay : (cells : List CellPlace) (at room i : ℕ) (shapes : List Shape) (s : Shape) → i < length shapes → s ≡ get_or shapes i s
+    → IsLaid cells at room (drop i shapes) shapes
+    → IsLaid (cells ++ place_at at s ∷ []) (start_of at s + cell_bytes s) room (drop (i + 1) shapes) shapes
+lay cells at room i shapes s lt is h =
+    let e : drop i shapes ≡ s ∷ drop (i + 1) shapes = next_shape shapes i s lt is in
+    let h' : IsLaid cells at room (s ∷ drop (i + 1) shapes) shapes = rw e at h in
     record {
       cells = append_assoc cells (place_at at s ∷ []) (places_from (start_of at s + cell_bytes s) (drop (i + 1) shapes)) ∙ h'.cells;
       ends = h'.ends;
-      asked = omega (arith, h'.asked);
+      fits = omega (arith, h'.fits, align_le (cell_alignment s) at);
     }
+
+-- nothing is left to lay
+pub all_laid : (cells : List CellPlace) (at room i : ℕ) (shapes : List Shape) → length shapes ≤ i → IsLaid cells at room (drop i shapes) shapes
+    → (cells ≡ places_from 0 shapes) × (at ≡ end_from 0 shapes)
+all_laid cells at room i shapes le h =
+    let h' : IsLaid cells at room [] shapes = rw (drop_all i shapes le) at h in
+    (sym (append-nil cells) ∙ h'.cells, h'.ends)

@@ -1,5 +1,5 @@
--- Where the cells of a board lie, and what is in them at first.
-use Rattle.std.specs.Prelude.{◌≡◌, ℕ, ◌+◌, ◌-◌, ◌*◌, ◌/◌, ◌^◌, ◌<◌, ◌≤◌, max, List, [], ◌∷◌, ◌++◌, replicate}
+-- Where the cells of a board lie, and what is in them at first. Places, heads and payloads are in bytes, unless said otherwise.
+use Rattle.std.specs.Prelude.{◌≡◌, ℕ, ◌+◌, ◌-◌, ◌*◌, ◌/◌, ◌%◌, ◌^◌, ◌<◌, ◌≤◌, max, List, [], ◌∷◌, ◌++◌, replicate}
 use Rattle.board_layout.specs.declared.shape.Shape.{Shape}
 use Rattle.board_layout.specs.declared.shape.CellPlace.{CellPlace}
 
@@ -7,20 +7,24 @@ use Rattle.board_layout.specs.declared.shape.CellPlace.{CellPlace}
 abbrev pub align : ℕ → ℕ → ℕ
 align a n = (n + (a - 1)) / a * a
 
+-- the bytes before the first copy: the counter, a reserved word and padding
 abbrev pub head_bytes : Shape → ℕ
 head_bytes s = align s.alignment 16
 
+-- the bytes of a cell: its head and two copies
 abbrev pub cell_bytes : Shape → ℕ
 cell_bytes s = head_bytes s + 16 * s.words
 
+-- what a cell's place is a multiple of
 abbrev pub cell_alignment : Shape → ℕ
 cell_alignment s = max 8 s.alignment
 
+-- the bytes asked for: each cell's, and what may lie unused before it
 abbrev pub payload : List Shape → ℕ
 payload [] = 0
 payload (s ∷ ss) = (cell_bytes s + (cell_alignment s - 1)) + payload ss
 
--- the cell of a shape, at the first place for it from this byte on
+-- the first place for a cell of this shape from this byte on, and the cell there
 abbrev pub start_of : ℕ → Shape → ℕ
 start_of at s = align (cell_alignment s) at
 
@@ -43,6 +47,25 @@ IsAlignment a = (k : ℕ) × (k ≤ 12) × (a ≡ 2 ^ k)
 pub record IsShape (s : Shape) : Type 0 where
   pub words : 0 < s.words
   pub alignment : IsAlignment s.alignment
+
+-- the word after a cell
+abbrev pub cell_end : CellPlace → ℕ
+cell_end c = c.first + c.head + 2 * c.words
+
+-- a cell that suits a shape
+pub record IsCellFor (s : Shape) (c : CellPlace) : Type 0 where
+  pub aligned : c.place % cell_alignment s ≡ 0
+  pub first : 8 * c.first ≡ c.place
+  pub head : 8 * c.head ≡ head_bytes s
+  pub words : c.words ≡ s.words
+
+-- the words of one cell lie before those of the other
+abbrev pub LiesBefore : CellPlace → CellPlace → Type 0
+LiesBefore a b = cell_end a ≤ b.first
+
+-- the words of a cell are among the first `end` words
+abbrev pub LiesWithin : ℕ → CellPlace → Type 0
+LiesWithin end c = cell_end c ≤ end
 
 -- the cell's words at first: the counter 1, zeros up to the head, the value, and zeros for the second copy
 abbrev pub opening_cell : CellPlace → List ℕ → List ℕ

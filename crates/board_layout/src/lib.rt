@@ -1,20 +1,32 @@
 //! Types as words, keys, and where the cells of a board lie.
 #![tactic(auto)]
 
-mod shape;
-mod type_detail;
+mod f8;
 mod key_memory;
+mod key_words;
 mod keys;
+mod numbers;
 mod plan_types;
 mod planning;
+mod shape;
 mod text;
+mod truth_and_arrays;
+mod type_detail;
+mod type_name;
 mod zero_copy_send;
 
-pub use shape::{CellPlace, CellShape, Shape};
-pub use type_detail::{TypeDetail, TypeVariant};
-pub use key_memory::KeyMemory;
+pub use f8::F8;
+pub use key_memory::{
+    KeyMemory, KeyMemoryError, MAX_BLACKBOARD_KEY_ALIGNMENT, MAX_BLACKBOARD_KEY_SIZE,
+};
 pub use keys::{is_key, key_of, same_keys};
 pub use plan_types::{Plan, PlanError};
 pub use planning::plan;
+pub use shape::{CellPlace, CellShape, Shape};
 pub use text::Text;
-pub use zero_copy_send::{BoardKey, F8, ZeroCopySend};
+pub use type_detail::{TypeDetail, TypeVariant};
+pub use type_name::{MAX_TYPE_NAME_LENGTH, TypeName};
+pub use zero_copy_send::{BoardKey, ZeroCopySend};
+
+#[cfg(test)]
+mod tests;

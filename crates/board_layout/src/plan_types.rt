@@ -1,14 +1,20 @@
+//! A plan, and why there is none.
 use crate::shape::CellPlace;
 use std::alloc::{AllocError, AllocFailed};
+use thiserror::Error;
 
 /// Why there is no plan.
-#[derive(Clone, Copy, Debug, PartialEq, Eq)]
+#[derive(Clone, Copy, Debug, PartialEq, Eq, Hash, Error)]
 pub enum PlanError {
+    /// The cells ask for more than 4294967295 bytes.
+    #[error("PlanError::TooLarge")]
     TooLarge,
+    /// Memory was refused.
+    #[error("PlanError::OutOfMemory")]
     OutOfMemory,
 }
 
-/// The cells of a board, the word behind the last one, and the bytes asked for.
+/// The cells of a board in the order of their shapes, the number of the word behind the last one, and the bytes asked for.
 #[derive(Drop, Debug)]
 pub struct Plan {
     pub cells: Vec<CellPlace>,
@@ -37,4 +43,3 @@ impl<T: Drop> From<AllocFailed<T>> for PlanError {
         PlanError::OutOfMemory
     }
 }
-

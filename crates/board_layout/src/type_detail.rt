@@ -1,6 +1,7 @@
-ghost use Rattle.std.specs.Prelude.{◌≡◌, ◌≤◌, length};
+//! A type, as it is told to others.
+ghost use Rattle.std.specs.Prelude.{◌≡◌};
 
-use crate::text::Text;
+use crate::type_name::TypeName;
 use crate::zero_copy_send::ZeroCopySend;
 
 /// Whether values of a type have one size.
@@ -10,11 +11,11 @@ pub enum TypeVariant {
     Dynamic,
 }
 
-/// A type, as it is told to others.
+/// A type, as it is told to others: its name, and its size and alignment in bytes. Two are equal where all four fields are.
 #[derive(Clone, Copy, Debug, PartialEq, Eq)]
 pub struct TypeDetail {
     pub variant: TypeVariant,
-    pub type_name: Text<256>,
+    pub type_name: TypeName,
     pub size: usize,
     pub alignment: usize,
 }
@@ -26,7 +27,7 @@ impl TypeDetail {
     {
         TypeDetail {
             variant,
-            type_name: Text::of(T::name_text().as_bytes()),
+            type_name: TypeName::of(T::name_text().as_bytes()),
             size: T::SIZE,
             alignment: T::ALIGNMENT,
         }

@@ -1,22 +1,13 @@
 -- A call that begins, and any line, keeps a sound state sound.
-use Rattle.std.proofs.Common.{◌≡◌, ℕ, zero, suc, ◌+◌, ◌<◌, ◌≤◌, Bool, true, false, cond, List, [], ◌∷◌, ◌++◌, length, map, take, get_or, arith, refl, sym, ap, subst, ◌∙◌, Option, Some, None, inl, inr}
-use Rattle.std.specs.Prelude.{find, is_some, slice_get, slice_index, not, ◌⊎◌, ◌==◌, ◌||◌, ◌&&◌, IfSome, if◌then◌else◌}
-use Rattle.std.proofs.lemmas.Bool.{and_from, both_ways, eq-eqb, ltb-true, or_parts}
+use Rattle.std.proofs.Common.{◌≡◌, ℕ, zero, suc, ◌<◌, Bool, true, false, cond, List, [], ◌∷◌, length, map, take, get_or, arith, refl, sym, ap, subst, ◌∙◌, Option, Some, None}
+use Rattle.std.specs.Prelude.{is_some, slice_get, not, ◌==◌, if◌then◌else◌}
+use Rattle.std.proofs.lemmas.Bool.{and_from, eq-eqb, ltb-true, or_parts}
 use Rattle.std.proofs.lemmas.List.{length-map, take_all}
 use Rattle.std.proofs.lemmas.Option.{same_Some}
-use Rattle.board_layout.specs.declared.shape.CellShape.{CellShape}
 use Rattle.board_layout.specs.declared.type_detail.TypeDetail.{TypeDetail}
-use Rattle.board_model.specs.declared.access.Access.{Access}
-use Rattle.board_model.specs.declared.access.Access.TheVariants as access
-use Rattle.board_model.specs.declared.answer.Answer.{Answer}
-use Rattle.board_model.specs.declared.answer.Answer.TheVariants as answer
-use Rattle.board_model.specs.declared.answer.Reason.{Reason}
 use Rattle.board_model.specs.declared.answer.Reason.TheVariants as reason
-use Rattle.board_model.specs.declared.answer.Reply.{Reply}
 use Rattle.board_model.specs.declared.line.Call.{Call}
 use Rattle.board_model.specs.declared.line.Call.TheVariants as call
-use Rattle.board_model.specs.declared.line.Line.{Line}
-use Rattle.board_model.specs.declared.line.Line.TheVariants as line
 use Rattle.board_model.specs.declared.tables.Entry.{Entry}
 use Rattle.board_model.specs.declared.tables.Kind.{Kind}
 use Rattle.board_model.specs.declared.tables.Kind.TheVariants as kind
@@ -28,18 +19,16 @@ use Rattle.board_model.specs.declared.value.ValueType.TheVariants as type
 use Rattle.board_model.specs.Copies.{spare_at}
 use Rattle.board_model.specs.TypeTable.{same_type, type_of, value_detail, value_words, word_count}
 use Rattle.board_model.specs.Tables.{entry_at, entry_of, is_write_handle, kind_of, same_kind, writes_entry}
-use Rattle.board_model.specs.Things.{Held, Kept, Standing, cell_shape, held_of_kind, is_held, of_kind, thing_of}
-use Rattle.board_model.specs.Requests.{Fetch, Lending, Look, Publication, Published, Request, TableCall, and_then, create, describe, entry, entry_mut, fill, fresh, get, give_back, handle_of, handled, identified, identify, join, lend, lending, list_keys, list_nodes, loan_of, new_name, publish, put, reader, request_of, table, tell, update, writer}
+use Rattle.board_model.specs.Things.{Held, Standing, cell_shape, held_of_kind, of_kind, thing_of}
+use Rattle.board_model.specs.Requests.{Lending, Request, and_then, create, describe, entry, entry_mut, fill, fresh, get, give_back, handle_of, handled, identified, identify, join, lend, lending, list_keys, list_nodes, loan_of, new_name, publish, put, reader, request_of, table, tell, update, writer}
 use Rattle.board_model.specs.Replies.{word_put}
-use Rattle.board_model.specs.Parties.{Party, Running, begun, free, gone, running, with_party}
-use Rattle.board_model.specs.LawfulSession.{IsLawful, IsLawfulFrom, IsOwed, IsOwedStep, IsReasoned, IsRight, IsTold, Session, State, after, after_step, all_put, call_reason, free_reason, is_filled, is_indexed, is_taken, is_typed, reason_of, start, state_after, step_reason, stepped}
-use Rattle.board_model.specs.Sound.{IsCalling, IsEntryOf, IsFree, IsHeldThing, IsHolding, IsLent, IsLoan, IsOfBoard, IsParty, IsPublishing, IsPutting, IsTyped, IsWriting, Sound, Stands, is_suspended}
+use Rattle.board_model.specs.Parties.{Party, begun, free}
+use Rattle.board_model.specs.LawfulSession.{State, all_put, call_reason, is_filled, is_indexed, is_taken, is_typed}
+use Rattle.board_model.specs.Sound.{IsCalling, IsFree, IsHeldThing, IsLent, IsOfBoard, IsParty, IsPublishing, IsTyped, IsWriting, Sound, Stands, is_suspended}
 use Rattle.board_model.proofs.ThingLemmas.{found_as}
 use Rattle.board_model.proofs.CopyLemmas.{stands_none}
 use Rattle.board_model.proofs.OpeningLemmas.{sized}
-use Rattle.board_model.proofs.TableLemmas.{valued_sound}
-use Rattle.board_model.proofs.DropLemmas.{drop_sound}
-use Rattle.board_model.proofs.StepLemmas.{IsStepOf, call_step, calling}
+use Rattle.board_model.proofs.StepLemmas.{calling}
 
 -- ---- kinds and types
 

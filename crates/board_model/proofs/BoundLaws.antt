@@ -13,13 +13,13 @@ use Rattle.board_model.specs.LawfulSession.{State}
 use Rattle.board_model.specs.Sound.{IsCalling, IsEntryOf, IsReading, Sound}
 use Rattle.board_model.specs.LawsOfBounds.{IsInBoard, OwedReadsAreInside, OwedWritesAreInside}
 use Rattle.board_model.proofs.CopyLemmas.{copy_inside}
-use Rattle.board_model.proofs.RunningLemmas.{runs}
+use Rattle.board_model.proofs.RunningLemmas.{drawn_in, runs}
 
 in_board : (s : State) → Sound s → (b i w : ℕ) (c : CellShape) → IsEntryOf s.standing.tables b i c → w < cell_end c → IsInBoard s b w
 in_board s sound b i w c h lt =
     let e : cell_end c ≡ cell_end (cell_shape h.entry.cell) = ap cell_end h.shape in
     let k = sound.boards.cells b i h.entry h.found in
-    record { inside = omega (arith, e, k.inside); few = sound.boards.short b i h.entry h.found }
+    record { drawn = drawn_in s sound b i c h; inside = omega (arith, e, k.inside); few = sound.boards.short b i h.entry h.found }
 
 head_of : (s : State) → Sound s → (b i : ℕ) (c : CellShape) → IsEntryOf s.standing.tables b i c → 0 < c.head
 head_of s sound b i c h = subst (λ (x : CellShape). 0 < x.head) (sym h.shape) (sound.boards.cells b i h.entry h.found).head

@@ -1,9 +1,8 @@
 -- A board that is created.
 use Rattle.std.proofs.Common.{◌≡◌, ℕ, ◌+◌, ◌*◌, ◌<◌, ◌≤◌, Bool, true, false, cond, List, [], ◌∷◌, ◌++◌, length, map, arith, refl, sym, ap, subst, ◌∙◌, Option, Some, None, inl, inr}
-use Rattle.std.specs.Prelude.{find, is_some, slice_get, ◌⊎◌, ◌==◌}
-use Rattle.std.specs.List.{AllByRecursion, count_by, list_any}
-use Rattle.std.proofs.lemmas.Bool.{both_ways, cases_eq, eq-eqb, eqb-true, ne_eqb}
-use Rattle.std.proofs.lemmas.Option.{same_Some}
+use Rattle.std.specs.Prelude.{is_some, slice_get, ◌⊎◌, ◌==◌}
+use Rattle.std.specs.List.{AllByRecursion, count_by}
+use Rattle.std.proofs.lemmas.Bool.{cases_eq, eq-eqb, eqb-true, ne_eqb}
 use Rattle.board_layout.specs.Layout.{payload}
 use Rattle.board_model.specs.declared.attributes.Attribute.{Attribute}
 use Rattle.board_model.specs.declared.tables.Board.{Board}
@@ -25,9 +24,9 @@ use Rattle.board_model.specs.LawfulSession.{State}
 use Rattle.board_model.specs.Sound.{AreBoards, BoardTables, HasBoard, HasEntry, IsCell, IsTyped, Sound}
 use Rattle.board_model.proofs.ListLemmas.{any_missing, count_none, count_push, find_kept, find_push_cases, find_true}
 use Rattle.board_model.proofs.ThingLemmas.{all_found, all_push, all_weaker, and_none, find_push_here, find_push_other, has_entry_kept, held_by_other}
-use Rattle.board_model.proofs.KeptLemmas.{IsQuiet, IsQuietLine, quiet_loan, quiet_sound}
-use Rattle.board_model.proofs.TableLemmas.{IsCalm, IsFewer}
-use Rattle.board_model.proofs.OpeningLemmas.{IsOpened, opened_apart, opened_entry, opened_length}
+use Rattle.board_model.proofs.KeptLemmas.{IsQuiet, quiet_loan, quiet_sound}
+use Rattle.board_model.proofs.TableLemmas.{IsCalm}
+use Rattle.board_model.proofs.OpeningLemmas.{opened_apart, opened_entry, opened_length}
 
 -- ---- one board more
 

@@ -1,22 +1,22 @@
 -- A thing that is dropped, and the board that goes with its last thing.
-use Rattle.std.proofs.Common.{◌≡◌, ℕ, ◌+◌, ◌≤◌, Bool, true, false, cond, List, [], ◌∷◌, length, arith, refl, sym, ap, subst, ◌∙◌, Option, Some, None, inl, inr}
-use Rattle.std.specs.Prelude.{find, is_some, ◌⊎◌, ◌==◌, ◌||◌}
+use Rattle.std.proofs.Common.{◌≡◌, ℕ, ◌≤◌, Bool, true, false, cond, List, [], ◌∷◌, arith, refl, sym, ap, subst, ◌∙◌, Option, Some, None, inl, inr}
+use Rattle.std.specs.Prelude.{find, is_some, ◌⊎◌}
 use Rattle.std.specs.List.{AllByRecursion, count_by, list_any}
 use Rattle.std.specs.Str.{bytes_eq}
-use Rattle.std.proofs.lemmas.Bool.{both_ways, cases_Bool, cases_eq, eq-eqb, eqb-true, ne_eqb, or_parts}
+use Rattle.std.proofs.lemmas.Bool.{both_ways, cases_eq, eq-eqb, eqb-true, ne_eqb, or_parts}
 use Rattle.board_model.specs.declared.tables.Board.{Board}
 use Rattle.board_model.specs.declared.tables.Entry.{Entry}
 use Rattle.board_model.specs.Tables.{board_at, entry_at, entry_in, is_numbered, is_of_board, is_write_handle, without}
-use Rattle.board_model.specs.TableCalls.{boards_left, released}
-use Rattle.board_model.specs.Things.{Held, Standing, is_held_as, thing_of, with_at}
+use Rattle.board_model.specs.TableCalls.{released}
+use Rattle.board_model.specs.Things.{Held, is_held_as, thing_of, with_at}
 use Rattle.board_model.specs.Requests.{Published}
 use Rattle.board_model.specs.Replies.{dropped, released_thing}
-use Rattle.board_model.specs.Parties.{Party, free, with_party}
+use Rattle.board_model.specs.Parties.{free, with_party}
 use Rattle.board_model.specs.LawfulSession.{State}
-use Rattle.board_model.specs.Sound.{AreBoards, BoardTables, HasBoard, HasEntry, IsLoan, IsParty, Sound, is_suspended}
-use Rattle.board_model.proofs.ListLemmas.{any_found, count_without, find_none, find_true, other_bytes, same_bytes}
+use Rattle.board_model.specs.Sound.{AreBoards, BoardTables, HasBoard, HasEntry, Sound}
+use Rattle.board_model.proofs.ListLemmas.{any_found, count_without, find_none, find_true, same_bytes}
 use Rattle.board_model.proofs.ThingLemmas.{all_found, all_without, entries_kept, has_entry_kept, find_without_other, held_as, held_as_other, held_by_other}
-use Rattle.board_model.proofs.KeptLemmas.{IsQuietLine, KeepsThings, quiet_loan, quiet_sound}
+use Rattle.board_model.proofs.KeptLemmas.{quiet_loan, quiet_sound}
 use Rattle.board_model.proofs.TableLemmas.{at_here, at_other_name, at_other_party, same_name}
 
 -- ---- fewer boards

@@ -1,7 +1,7 @@
 -- The text of an answer holds no newline.
 use Rattle.std.proofs.Common.{◌≡◌, ℕ, Bool, true, false, List, [], ◌∷◌, ◌++◌, Option, Some, None, refl, sym, subst, eqb, cond, map}
 use Rattle.std.specs.Prelude.{codes, decimal, slice_index, IfSome}
-use Rattle.std.specs.List.{join_with_byte, flat_map, AllByRecursion}
+use Rattle.std.specs.List.{flat_map, AllByRecursion}
 use Rattle.std.proofs.lemmas.List.Concat.{flat_map-cons}
 use Rattle.board_model.specs.declared.access.Access.{Access}
 use Rattle.board_model.specs.declared.access.Access.TheVariants as access
@@ -30,7 +30,7 @@ use Rattle.board_model.specs.declared.errors.EntryHandleError.{EntryHandleError}
 use Rattle.board_model.specs.declared.errors.EntryHandleError.TheVariants as entry_error
 use Rattle.board_model.specs.declared.errors.EntryHandleMutError.{EntryHandleMutError}
 use Rattle.board_model.specs.declared.errors.EntryHandleMutError.TheVariants as entry_mut_error
-use Rattle.board_model.specs.LineGrammar.{IsKey, IsNumber, is_name, key_text, key_type_text}
+use Rattle.board_model.specs.LineGrammar.{IsKey, IsNumber, is_name, key_type_text}
 use Rattle.board_model.specs.AnswerGrammar.{place_text, access_text, words_text, create_error_text, open_error_text, reader_error_text, writer_error_text, entry_error_text, entry_mut_error_text, number_text, key_item_text, name_item_text, info_text, reply_text, reason_text, told_text, answer_text, IsAccess, IsInfo, IsReply, IsAnswer}
 use Rattle.board_model.specs.Lines.{IsOneLine}
 use Rattle.board_model.proofs.GrammarLemmasSplits.{IsFree, free_lacks, free_number}

@@ -1,5 +1,5 @@
 -- Calls are read back from their tokens.
-use Rattle.std.proofs.Common.{◌≡◌, ℕ, ◌≤◌, arith, Bool, true, false, List, [], ◌∷◌, ◌++◌, length, Option, Some, None, refl, sym, ap, subst, ◌∙◌, eqb, ◌⊎◌, inl, inr}
+use Rattle.std.proofs.Common.{◌≡◌, ℕ, ◌≤◌, arith, true, List, [], ◌∷◌, ◌++◌, length, Option, Some, None, refl, sym, ap, subst, ◌∙◌, eqb, inl, inr}
 use Rattle.std.specs.Prelude.{◌&&◌, codes}
 use Rattle.std.specs.Str.{bytes_eq}
 use Rattle.std.specs.List.{flat_map, list_all, AllByRecursion}
@@ -8,13 +8,12 @@ use Rattle.board_model.specs.declared.attributes.Attribute.{Attribute}
 use Rattle.board_model.specs.declared.tables.Limits.{Limits}
 use Rattle.board_model.specs.declared.value.AddedEntry.{AddedEntry}
 use Rattle.board_model.specs.declared.value.KeyType.{KeyType}
-use Rattle.board_model.specs.declared.value.KeyType.TheVariants as key_type
 use Rattle.board_model.specs.declared.line.Call.{Call}
 use Rattle.board_model.specs.declared.line.Call.TheVariants as call
-use Rattle.board_model.specs.LineGrammar.{is_name, is_board_name, key_text, key_type_text, value_text, value_type_text, entry_tokens, call_tokens, limit_tokens, limits_tokens, pair_tokens, IsAddedEntry, IsCall, IsKey, IsValue, AreLimits, AreAttributes, runs_call, is_number_key_type, is_none, is_plain_entry}
+use Rattle.board_model.specs.LineGrammar.{is_name, is_board_name, key_text, key_type_text, value_text, value_type_text, entry_tokens, call_tokens, IsAddedEntry, IsCall, runs_call, is_number_key_type, is_none, is_plain_entry}
 use Rattle.board_model.specs.LineReading.{◌>>=◌, guard, first_by, is_end, read_name, read_board_name, read_key_type, read_value_type, read_key, read_value, no_limits, read_entry, read_entries, read_create, read_one_name, read_two_names, read_entry_mut, read_update, read_plain_call, read_call}
 use Rattle.board_model.proofs.GrammarLemmasNumbers.{some_is, bind_some, guard_some, both}
-use Rattle.board_model.proofs.GrammarLemmasTokens.{word_is, chosen, Took, first_takes, end_takes, name_again, name_takes, board_name_again, board_name_takes, key_type_again, key_type_takes, value_type_again, value_type_takes, key_again, key_takes, value_again, value_takes}
+use Rattle.board_model.proofs.GrammarLemmasTokens.{word_is, chosen, first_takes, end_takes, name_again, name_takes, board_name_again, board_name_takes, key_type_again, key_type_takes, value_type_again, value_type_takes, key_again, key_takes, value_again, value_takes}
 
 -- ---- entries
 

@@ -1,29 +1,15 @@
 -- Lines are read back from their bytes, and what is read is spelled so.
-use Rattle.std.proofs.Common.{◌≡◌, ℕ, ◌<◌, ◌≤◌, arith, Bool, true, false, List, [], ◌∷◌, ◌++◌, length, Option, Some, None, refl, sym, ap, subst, ◌∙◌, eqb, ◌⊎◌, inl, inr}
-use Rattle.std.specs.Prelude.{◌&&◌, not, nat_le, codes, IfSome, IfNone}
+use Rattle.std.proofs.Common.{◌≡◌, ℕ, true, List, [], ◌∷◌, Some, refl, sym, ap, subst, ◌∙◌, inl, inr}
+use Rattle.std.specs.Prelude.{codes}
 use Rattle.std.specs.Str.{bytes_eq}
-use Rattle.std.specs.List.{join_with_byte, flat_map, list_all, AllByRecursion}
-use Rattle.std.proofs.lemmas.List.Splits.{join_with_byte-slice_split}
-use Rattle.std.proofs.lemmas.List.Concat.{flat_map-cons}
-use Rattle.board_model.specs.declared.value.AddedEntry.{AddedEntry}
-use Rattle.board_model.specs.declared.value.Key.{Key}
-use Rattle.board_model.specs.declared.value.Key.TheVariants as key
-use Rattle.board_model.specs.declared.value.Value.{Value}
-use Rattle.board_model.specs.declared.value.Value.TheVariants as value
-use Rattle.board_model.specs.declared.value.KeyType.{KeyType}
-use Rattle.board_model.specs.declared.value.KeyType.TheVariants as key_type
-use Rattle.board_model.specs.declared.value.ValueType.{ValueType}
-use Rattle.board_model.specs.declared.value.ValueType.TheVariants as type
-use Rattle.board_model.specs.declared.attributes.Attribute.{Attribute}
 use Rattle.board_model.specs.declared.line.Call.{Call}
-use Rattle.board_model.specs.declared.line.Call.TheVariants as call
 use Rattle.board_model.specs.declared.line.Line.{Line}
 use Rattle.board_model.specs.declared.line.Line.TheVariants as line
-use Rattle.board_model.specs.LineGrammar.{is_name, is_name_byte, is_visible, is_visible_byte, is_board_name, key_text, key_type_text, value_text, value_type_text, entry_tokens, call_tokens, tokens, spell, IsAddedEntry, IsCall, IsKey, IsValue, IsWellFormed, IsLine, Spells, runs, runs_call}
-use Rattle.board_model.specs.LineReading.{◌>>=◌, guard, first_by, is_end, split_tokens, read_number, read_name, read_call, read_one_name, read_begin, read_words, read_plain_line, read_formed, read_line}
-use Rattle.board_model.proofs.GrammarLemmasNumbers.{some_is, bind_some, guard_some, both, number_again, number_takes}
+use Rattle.board_model.specs.LineGrammar.{is_name, call_tokens, tokens, IsWellFormed, IsLine, runs}
+use Rattle.board_model.specs.LineReading.{◌>>=◌, guard, first_by, is_end, read_number, read_name, read_call, read_one_name, read_begin, read_words, read_plain_line, read_formed, read_line}
+use Rattle.board_model.proofs.GrammarLemmasNumbers.{some_is, bind_some, guard_some, number_again, number_takes}
 use Rattle.board_model.proofs.GrammarLemmasTokens.{word_is, chosen, first_takes, end_takes, name_again, name_takes}
-use Rattle.board_model.proofs.GrammarLemmasCalls.{Takes, call_takes, read_call_tokens, call_again, one_again, one_takes}
+use Rattle.board_model.proofs.GrammarLemmasCalls.{call_takes, read_call_tokens, call_again, one_again, one_takes}
 
 -- ---- lines from tokens
 

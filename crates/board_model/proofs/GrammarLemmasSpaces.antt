@@ -1,12 +1,10 @@
 -- The tokens of a line hold no space, so the line's bytes are cut where they were joined.
-use Rattle.std.proofs.Common.{◌≡◌, ℕ, ◌<◌, ◌≤◌, arith, Bool, true, false, List, [], ◌∷◌, ◌++◌, length, Option, Some, None, refl, sym, ap, subst, ◌∙◌, eqb}
+use Rattle.std.proofs.Common.{◌≡◌, ℕ, ◌<◌, ◌≤◌, arith, true, false, List, [], ◌∷◌, ◌++◌, length, Option, Some, None, refl, sym, ap, subst, ◌∙◌, eqb}
 use Rattle.std.specs.Prelude.{◌&&◌, not, nat_le, codes, decimal, IfSome, IfNone}
 use Rattle.std.specs.List.{join_with_byte, flat_map, list_all, AllByRecursion}
-use Rattle.std.specs.Char.{is_ascii_digit}
 use Rattle.std.proofs.lemmas.List.Splits.{join_with_byte-slice_split}
 use Rattle.std.proofs.lemmas.List.Concat.{flat_map-cons}
 use Rattle.board_model.specs.declared.attributes.Attribute.{Attribute}
-use Rattle.board_model.specs.declared.attributes.Requirements.{Requirements}
 use Rattle.board_model.specs.declared.tables.Limits.{Limits}
 use Rattle.board_model.specs.declared.value.AddedEntry.{AddedEntry}
 use Rattle.board_model.specs.declared.value.Key.{Key}
@@ -21,7 +19,7 @@ use Rattle.board_model.specs.declared.line.Call.{Call}
 use Rattle.board_model.specs.declared.line.Call.TheVariants as call
 use Rattle.board_model.specs.declared.line.Line.{Line}
 use Rattle.board_model.specs.declared.line.Line.TheVariants as line
-use Rattle.board_model.specs.LineGrammar.{is_name, is_name_byte, is_visible, is_visible_byte, is_board_name, is_attribute_key, key_text, key_type_text, value_text, value_type_text, limit_tokens, limits_tokens, pair_tokens, needed_key_tokens, entry_tokens, name_tokens, call_tokens, tokens, spell, IsNumber, IsNumberIfAny, IsNameIfAny, IsAddedEntry, IsAttribute, AreLimits, AreAttributes, AreRequirements, IsCall, IsKey, IsValue, IsWellFormed, IsLine, Spells}
+use Rattle.board_model.specs.LineGrammar.{is_name, is_name_byte, is_visible, is_visible_byte, is_attribute_key, key_text, key_type_text, value_text, value_type_text, limit_tokens, limits_tokens, pair_tokens, needed_key_tokens, entry_tokens, name_tokens, call_tokens, tokens, spell, IsNumber, IsNumberIfAny, IsNameIfAny, IsAddedEntry, IsAttribute, AreLimits, IsCall, IsKey, IsValue, IsWellFormed, Spells}
 use Rattle.board_model.specs.LineReading.{split_tokens, read_line}
 use Rattle.board_model.proofs.GrammarLemmasNumbers.{both}
 use Rattle.board_model.proofs.GrammarLemmasSplits.{IsFree, lacks, split_free, free_from, free_number}

@@ -1,6 +1,6 @@
 -- Tokens hold no separator, so what they are joined to is cut where they were joined.
-use Rattle.std.proofs.Common.{◌≡◌, ℕ, ◌^◌, ◌<◌, Bool, true, false, List, [], ◌∷◌, length, arith, refl, sym, ap, ◌∙◌, eqb, All}
-use Rattle.std.specs.Prelude.{not, ◌&&◌, decimal}
+use Rattle.std.proofs.Common.{◌≡◌, ℕ, ◌^◌, ◌<◌, Bool, true, false, List, [], ◌∷◌, length, arith, refl, ap, ◌∙◌, eqb, All}
+use Rattle.std.specs.Prelude.{not, decimal}
 use Rattle.std.specs.Str.{all_ascii_digits}
 use Rattle.std.specs.Char.{is_ascii_digit}
 use Rattle.std.specs.List.{join_with_byte, slice_split, AllByRecursion, list_all}

@@ -1,5 +1,5 @@
 -- Keys, values, types and names are read back from their tokens.
-use Rattle.std.proofs.Common.{◌≡◌, ℕ, suc, ◌^◌, ◌<◌, Bool, true, false, List, [], ◌∷◌, ◌++◌, Option, Some, None, refl, sym, ap, subst, ◌∙◌, eqb, ◌⊎◌, inl, inr, cond, arith, rules}
+use Rattle.std.proofs.Common.{◌≡◌, ℕ, Bool, true, false, List, [], ◌∷◌, ◌++◌, Option, Some, None, refl, sym, ap, subst, ◌∙◌, eqb, ◌⊎◌, inl, inr, cond}
 use Rattle.std.specs.Prelude.{codes, decimal}
 use Rattle.std.specs.Str.{bytes_eq}
 use Rattle.std.specs.List.{slice_split, join_with_byte}
@@ -15,8 +15,8 @@ use Rattle.board_model.specs.declared.value.Key.TheVariants as key
 use Rattle.board_model.specs.declared.value.Value.{Value}
 use Rattle.board_model.specs.declared.value.Value.TheVariants as value
 use Rattle.board_model.specs.LineGrammar.{is_name, is_visible, is_board_name, key_type_text, value_type_text, key_text, value_text, IsKey, IsValue, IsNumber}
-use Rattle.board_model.specs.LineReading.{◌>>=◌, guard, first_by, is_end, behind, read_number, read_name, read_board_name, read_key_type, read_value_type, read_key_behind, read_key, read_four, read_words_behind, read_value}
-use Rattle.board_model.proofs.GrammarLemmasNumbers.{some_is, bind_some, guard_some, both, number_again, number_takes}
+use Rattle.board_model.specs.LineReading.{first_by, is_end, behind, read_number, read_name, read_board_name, read_key_type, read_value_type, read_key_behind, read_key, read_four, read_words_behind, read_value}
+use Rattle.board_model.proofs.GrammarLemmasNumbers.{some_is, bind_some, guard_some, number_again, number_takes}
 use Rattle.board_model.proofs.GrammarLemmasSplits.{split_four}
 
 pub word_is : (w : List ℕ) (v : List ℕ) → bytes_eq w v ≡ true → w ≡ v

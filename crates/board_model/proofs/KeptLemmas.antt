@@ -1,6 +1,6 @@
 -- What a line leaves of the other parties.
-use Rattle.std.proofs.Common.{◌≡◌, ℕ, ◌+◌, ◌*◌, ◌<◌, ◌≤◌, Bool, true, false, cond, List, length, take, map, arith, refl, sym, ap, subst, ◌∙◌, Option, Some, None}
-use Rattle.std.specs.Prelude.{is_some, ◌==◌}
+use Rattle.std.proofs.Common.{◌≡◌, ℕ, ◌≤◌, Bool, true, false, cond, List, length, take, map, arith, refl, sym, ap, subst, ◌∙◌, Option, Some, None}
+use Rattle.std.specs.Prelude.{is_some}
 use Rattle.std.specs.List.{AllByRecursion, count_by}
 use Rattle.std.specs.Str.{bytes_eq}
 use Rattle.std.proofs.lemmas.List.{length-take-le}
@@ -8,17 +8,16 @@ use Rattle.board_layout.specs.declared.shape.CellShape.{CellShape}
 use Rattle.board_model.specs.declared.access.Access.{Access}
 use Rattle.board_model.specs.declared.access.Access.TheVariants as access
 use Rattle.board_model.specs.declared.tables.Board.{Board}
-use Rattle.board_model.specs.declared.tables.Entry.{Entry}
 use Rattle.board_model.specs.declared.tables.ThingKind.{ThingKind}
 use Rattle.board_model.specs.Copies.{spare_at}
 use Rattle.board_model.specs.TypeTable.{value_words}
 use Rattle.board_model.specs.Tables.{Tables, board_at, entry_at, entry_in, entry_of, is_write_handle}
 use Rattle.board_model.specs.Things.{Held, Standing, cell_shape, thing_of}
-use Rattle.board_model.specs.Requests.{Fetch, Lending, Request, TableCall, create, describe, entry, entry_mut, fill, fresh, get, give_back, identify, join, lend, list_keys, list_nodes, publish, put, reader, table, tell, update, writer}
+use Rattle.board_model.specs.Requests.{Fetch, Request, TableCall, create, describe, entry, entry_mut, fill, fresh, get, give_back, identify, join, lend, list_keys, list_nodes, publish, put, reader, table, tell, update, writer}
 use Rattle.board_model.specs.Replies.{word_put}
 use Rattle.board_model.specs.Parties.{Party, Running, count_write, free, gone, notice, reading, running, with_party}
 use Rattle.board_model.specs.LawfulSession.{State}
-use Rattle.board_model.specs.Sound.{AreBoards, AreThings, HasBoard, HasEntry, IsCalling, IsEntryOf, IsFree, IsGetting, IsHeldThing, IsHolding, IsLent, IsLoan, IsOfBoard, IsParty, IsPublishing, IsReading, IsTableCall, IsWriting, Sound, Stands, is_suspended}
+use Rattle.board_model.specs.Sound.{AreBoards, HasBoard, HasEntry, IsCalling, IsEntryOf, IsFree, IsGetting, IsHeldThing, IsHolding, IsLent, IsLoan, IsOfBoard, IsParty, IsPublishing, IsReading, IsTableCall, IsWriting, Sound, Stands, is_suspended}
 use Rattle.board_model.proofs.ListLemmas.{other_bytes, same_bytes}
 use Rattle.board_model.proofs.ThingLemmas.{all_found, different_bytes, of_entry, same_to_itself}
 
@@ -122,17 +121,23 @@ module _ (s new : State) (a : Access) (q : List ℕ) (k : Spares s new a q) wher
     hold = kept_of_board s.standing new.standing q k.things f.handle f.board h.hold;
     try = k.gets r f e h;
   }
-  spared_calling r (fresh l) e h = (h.0, record {
-    place = kept_place s.standing new.standing q k.things l.handle l.board l.entry l.shape h.1.hold h.1.place;
-    hold = kept_of_board s.standing new.standing q k.things l.handle l.board h.1.hold;
-  })
+  spared_calling r (fresh l) e h = (
+    h.0,
+    record {
+      place = kept_place s.standing new.standing q k.things l.handle l.board l.entry l.shape h.1.hold h.1.place;
+      hold = kept_of_board s.standing new.standing q k.things l.handle l.board h.1.hold;
+    },
+  )
   spared_calling r (update u) e h = spared_publishing u.handle u.board u.entry u.shape u.generation (value_words u.value) (length r.so_far) false h
-  spared_calling r (put l i w) e h = (h.0, record {
-    writes = spared_writing l.loan l.board l.entry l.shape l.generation true h.1.writes;
-    below = h.1.below;
-    words = k.things.loans l.loan ∙ h.1.words;
-    lent = k.puts l.loan l.board l.entry true l.shape l.generation l.words h.1.writes.hold h.1.writes.place h.1.lent;
-  })
+  spared_calling r (put l i w) e h = (
+    h.0,
+    record {
+      writes = spared_writing l.loan l.board l.entry l.shape l.generation true h.1.writes;
+      below = h.1.below;
+      words = k.things.loans l.loan ∙ h.1.words;
+      lent = k.puts l.loan l.board l.entry true l.shape l.generation l.words h.1.writes.hold h.1.writes.place h.1.lent;
+    },
+  )
   spared_calling r (publish l) e h = (h.0, kept_free s.standing new.standing q k.things l.handle h.1, spared_publishing l.loan l.board l.entry l.shape l.generation (map word_put l.words) l.shape.words true h.2)
   spared_calling r (fill l v) e h = (kept_free s.standing new.standing q k.things l.handle h.0, spared_publishing l.loan l.board l.entry l.shape l.generation (value_words v) (length r.so_far) true h.1)
 

@@ -30,4 +30,14 @@ pub mod NumberLemmas
 pub mod AnswerLaws
 pub mod GrowthLemmas
 pub mod SessionLaws
+pub mod BoardLemmas
+pub mod IdLaws
+pub mod WorkedLemmas
+pub mod KeptKeyLemmas
+pub mod FormLemmas
+pub mod KeptFormLemmas
+pub mod ReplyFormLemmas
+pub mod FormLaws
 pub mod ScriptLemmas
+pub mod OutputLaws
+pub mod KeyLaws

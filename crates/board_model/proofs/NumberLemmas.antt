@@ -29,20 +29,21 @@ use Rattle.board_model.specs.declared.tables.ThingKind.TheVariants as thing_kind
 use Rattle.board_model.specs.Things.{Standing, held_of_kind}
 use Rattle.board_model.specs.Memory.{after_access, memory_after, opening_of, store, with_board}
 use Rattle.board_model.specs.Parties.{Party, Running, begun, free, gone, notice, owed, running, with_party}
-use Rattle.board_model.specs.LawfulSession.{State}
+use Rattle.board_model.specs.LawfulSession.{start, after, Session, IsLawfulFrom, state_after, State}
 use Rattle.board_model.specs.Sound.{IsCalling, Sound}
-use Rattle.board_model.specs.LawsOfBounds.{AreNumbers, BeginsBounded, HasNumbers, IsWithin, LinesKeepNumbers, OwedWritesAreNumbers, RunsNumbers}
+use Rattle.board_model.specs.LawsOfBounds.{AreNumbers, BeginsBounded, HasNumbers, IsWithin, LinesKeepNumbers, OwedWritesAreNumbers, RunsNumbers, SessionsKeepNumbers}
 use Rattle.board_model.proofs.BoundLaws.{no_write}
 use Rattle.board_model.proofs.RunningLemmas.{runs}
 use Rattle.board_model.proofs.LineCases.{after_cases}
-use Rattle.board_model.proofs.DrawLemmas.{within_start}
+use Rattle.board_model.proofs.DrawLemmas.{line_within, within_start}
+use Rattle.board_model.proofs.SoundLemmas.{sound_after, sound_start}
 
 -- ---- lists of numbers
 
 abbrev pub Below : List ℕ → Type 0
 Below words = (j : ℕ) → IsNumber (slice_index words j)
 
-below_none : Below []
+pub below_none : Below []
 below_none j = omega arith
 
 below_cons : (x : ℕ) (xs : List ℕ) → IsNumber x → Below xs → Below (x ∷ xs)
@@ -243,3 +244,11 @@ line_numbers s l a n r sound w lt h = after_cases AreNumbers s l a r h
 
 pub begins_bounded : BeginsBounded
 begins_bounded = record { within = within_start; numbers = record { words = λ b. below_none; calls = λ p. tt } }
+
+numbers_session : (pairs : Session) (s : State) (n : ℕ) → n + length pairs < 2 ^ 63 → IsLawfulFrom s pairs → Sound s → IsWithin s n → AreNumbers s → AreNumbers (state_after s pairs)
+numbers_session [] s n lt h sound w k = k
+numbers_session (x ∷ xs) s n lt h sound w k =
+    numbers_session xs (after s x.0 x.1) (n + 1) (omega (arith, lt)) h.1 (sound_after s x.0 x.1 h.0 sound) (line_within s x.0 x.1 n h.0 w) (line_numbers s x.0 x.1 n h.0 sound w (omega (arith, lt)) k)
+
+pub session_numbers : SessionsKeepNumbers
+session_numbers pairs h lt = numbers_session pairs start 0 (omega (arith, lt)) h sound_start begins_bounded.within begins_bounded.numbers

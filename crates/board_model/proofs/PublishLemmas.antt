@@ -1,28 +1,27 @@
 -- The steps of an update, a fill, a put and a publish keep a sound state sound.
-use Rattle.std.proofs.Common.{◌≡◌, ℕ, zero, suc, ◌+◌, ◌-◌, ◌*◌, ◌<◌, ◌≤◌, Bool, true, false, cond, List, [], ◌∷◌, ◌++◌, length, map, take, set, get_or, get_or-set_other, get_or-set_same, arith, refl, sym, ap, subst, ◌∙◌, Option, Some, None, inl, inr}
-use Rattle.std.specs.Prelude.{is_some, slice_get, slice_set, slice_index, ◌⊎◌, ◌==◌, ◌&&◌, not}
+use Rattle.std.proofs.Common.{◌≡◌, ℕ, zero, suc, ◌+◌, ◌-◌, ◌*◌, ◌<◌, ◌≤◌, Bool, true, false, cond, List, [], ◌∷◌, ◌++◌, length, take, set, get_or, get_or-set_other, get_or-set_same, arith, refl, sym, ap, subst, ◌∙◌, Option, Some, None, inl, inr}
+use Rattle.std.specs.Prelude.{slice_get, slice_set, slice_index, ◌⊎◌, ◌==◌, ◌&&◌, not}
 use Rattle.std.proofs.lemmas.Bool.{and_from, both_ways, cases_eq, eq-eqb, eqb-true, ne_eqb}
 use Rattle.std.proofs.lemmas.List.{length-set, length_push, take_all}
 use Rattle.std.proofs.lemmas.Option.{same_Some}
 use Rattle.std.proofs.Math.Nat.{mul-le-mul_right}
 use Rattle.board_layout.specs.declared.shape.CellShape.{CellShape}
 use Rattle.board_model.specs.declared.access.Access.TheVariants as access
-use Rattle.board_model.specs.declared.tables.Entry.{Entry}
 use Rattle.board_model.specs.Copies.{spare_at}
 use Rattle.board_model.specs.OwedAccesses.{Reading, finished, opening, trying}
-use Rattle.board_model.specs.Tables.{entry_at, entry_of, is_write_handle}
+use Rattle.board_model.specs.Tables.{entry_at, entry_of}
 use Rattle.board_model.specs.Things.{Standing, cell_shape, thing_of, with_at, with_name}
 use Rattle.board_model.specs.Requests.{Fetch, Lending, Published, Request, get}
 use Rattle.board_model.specs.Replies.{given_back, published_at, with_word}
 use Rattle.board_model.specs.Memory.{store}
 use Rattle.board_model.specs.Parties.{Party, Running, count_write, free, is_counter_of, notice, reading}
 use Rattle.board_model.specs.LawfulSession.{State}
-use Rattle.board_model.specs.Sound.{IsCell, IsEntryOf, IsFree, IsGetting, IsHolding, IsLending, IsLent, IsLoan, IsParty, IsPublishing, IsPut, IsPutting, IsReading, IsWriting, Sound, Stands, is_suspended}
-use Rattle.board_model.proofs.ThingLemmas.{IsOfEntry, anew_boards, anew_count, anew_entries, anew_found_elsewhere, anew_found_other, entries_kept, of_entry}
+use Rattle.board_model.specs.Sound.{IsCell, IsEntryOf, IsFree, IsGetting, IsLending, IsLent, IsLoan, IsParty, IsPublishing, IsPut, IsPutting, IsReading, Sound, Stands, is_suspended}
+use Rattle.board_model.proofs.ThingLemmas.{anew_boards, anew_count, anew_entries, anew_found_elsewhere, anew_found_other, entries_kept, of_entry}
 use Rattle.board_model.proofs.CopyLemmas.{IsUntouched, cell_kept, cell_published, copy_inside, spare_untouched, stands_more}
 use Rattle.board_model.proofs.KeptLemmas.{keeps_all, party_here}
-use Rattle.board_model.proofs.TableLemmas.{at_here, at_other_name, at_other_party, boards_again, ended_loan, give_back_renames, none_some, own_entry, same_name, same_shape, unlent_handle}
-use Rattle.board_model.proofs.StoreLemmas.{IsIn, IsOwnChange, IsStore, IsThere, own_cell, store_here, store_sound, stored, word_parties}
+use Rattle.board_model.proofs.TableLemmas.{at_here, at_other_name, at_other_party, boards_again, give_back_renames, none_some, own_entry, same_name, same_shape, unlent_handle}
+use Rattle.board_model.proofs.StoreLemmas.{IsIn, IsOwnChange, IsThere, own_cell, store_here, store_sound, stored, word_parties}
 
 -- ---- what stands afterwards
 

@@ -1,20 +1,22 @@
 -- What a get and a look have read when they end.
-use Rattle.std.proofs.Common.{◌≡◌, ℕ, List, [], ◌∷◌, ◌++◌, length, map, refl, sym, ap, subst, ◌∙◌, Option, Some}
-use Rattle.std.specs.Prelude.{slice_get, ◌==◌}
+use Rattle.std.proofs.Common.{◌≡◌, ℕ, List, [], ◌∷◌, ◌++◌, length, map, arith, refl, sym, ap, subst, ◌∙◌, Option, Some, None}
+use Rattle.std.specs.Prelude.{slice_get, ◌==◌, nat_le, is_some, IfSome}
+use Rattle.std.proofs.lemmas.Bool.{le-leb}
 use Rattle.std.proofs.lemmas.List.{nil_from_length}
 use Rattle.board_layout.specs.declared.type_detail.TypeDetail.{TypeDetail}
 use Rattle.board_model.specs.declared.access.Access.{Access}
 use Rattle.board_model.specs.declared.answer.Reply.{Reply}
 use Rattle.board_model.specs.declared.answer.Reply.TheVariants as reply
-use Rattle.board_model.specs.OwedAccesses.{Reading, finished, heard, opening, owed_of, to_read, trying}
+use Rattle.board_model.specs.OwedAccesses.{Reading, is_finished, finished, heard, opening, owed_of, to_read, trying}
 use Rattle.board_model.specs.TypeTable.{value_type_of}
 use Rattle.board_model.specs.Requests.{Request, fill, fresh, get, publish, put, table, update}
 use Rattle.board_model.specs.Replies.{ask, latest}
 use Rattle.board_model.specs.Memory.{IsStanding}
 use Rattle.board_model.specs.Parties.{Running, owed, reading, reply_of_look, reply_of_reading, reply_read}
 use Rattle.board_model.specs.LawfulSession.{State}
-use Rattle.board_model.specs.LawsOfReads.{GetsReadTheLastValue, IsTaking, ReadsAreReplies}
+use Rattle.board_model.specs.LawsOfReads.{RepliesAreRead, RepliesComeWithTheLastWord, GetsReadTheLastValue, IsTaking, ReadsAreReplies}
 use Rattle.board_model.proofs.GetLemmas.{is_counter}
+use Rattle.board_model.proofs.LineCases.{IsStepOf, step_of}
 use Rattle.board_model.proofs.RunningLemmas.{get_ended, own_cell, read_gives, read_is, runs}
 
 pub last_value : GetsReadTheLastValue
@@ -57,3 +59,37 @@ read_reply s party r a t (fill l v) rq st e = absurd cc
 
 pub reads_are_replies : ReadsAreReplies
 reads_are_replies s party r a t st e = read_reply s party r a t r.request refl st e
+
+-- ---- the reply that is told
+
+read_at_end : (type : TypeDetail) (x : Reading) → is_some (reply_of_reading type x) ≡ is_finished x
+read_at_end type opening = refl
+read_at_end type (trying c ws) = refl
+read_at_end type (finished c ws) = refl
+
+look_at_end : (g : ℕ) (so_far : List Access) → is_some (reply_of_look g (map heard so_far)) ≡ nat_le 1 (length so_far)
+look_at_end g [] = refl
+look_at_end g (a ∷ more) = sym (le-leb 1 (length (a ∷ more)) (omega arith))
+
+pub reply_at_end : RepliesComeWithTheLastWord
+reply_at_end (table c) so_far h = absurd cc
+reply_at_end (get f) so_far h = read_at_end f.type (reading f.shape.words so_far)
+reply_at_end (fresh l) so_far h = look_at_end l.generation so_far
+reply_at_end (update u) so_far h = absurd cc
+reply_at_end (put l i w) so_far h = absurd cc
+reply_at_end (publish l) so_far h = absurd cc
+reply_at_end (fill l v) so_far h = absurd cc
+
+pub told_is_read : RepliesAreRead
+told_is_read s party r a told sound run h right = at told (reply_read r.request (r.so_far ++ a ∷ [])) refl (st.reply.last ∙ sym (reply_at_end r.request (r.so_far ++ a ∷ []) h)) st.reply.reply
+  where
+    st : IsStepOf s party r a told
+    st = step_of s party r a told run right
+
+    at : (t o : Option Reply) → reply_read r.request (r.so_far ++ a ∷ []) ≡ o → is_some t ≡ is_some o → IfSome t (λ x. x ≡ (ask s.standing s.published party r.request).reply) → t ≡ o
+    at None None e i k = refl
+    at None (Some y) e i k = absurd cc
+    at (Some x) None e i k = absurd cc
+    at (Some x) (Some y) e i k =
+        let z : y ≡ (ask s.standing s.published party r.request).reply = reads_are_replies s party r a y (record { sound = sound; runs = run; next = st.next; word = st.word }) e in
+        ap (λ (w : Reply). Some w) (k ∙ sym z)

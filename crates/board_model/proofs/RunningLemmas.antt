@@ -1,10 +1,12 @@
 -- What a running call has, and the access that it takes.
-use Rattle.std.proofs.Common.{◌≡◌, ℕ, List, [], ◌∷◌, ◌++◌, get_or, refl, sym, ap, subst, ◌∙◌, Some}
+use Rattle.std.proofs.Common.{◌≡◌, ℕ, List, [], ◌∷◌, ◌++◌, get_or, ◌≤◌, refl, sym, ap, subst, ◌∙◌, Option, Some, None}
 use Rattle.std.specs.Prelude.{slice_get, ◌==◌, if◌then◌else◌, ◌+◌, length}
 use Rattle.std.proofs.lemmas.Option.{get_or_from_slice_get}
 use Rattle.board_layout.specs.declared.shape.CellShape.{CellShape}
 use Rattle.board_model.specs.declared.access.Access.{Access}
 use Rattle.board_model.specs.declared.access.Access.TheVariants as access
+use Rattle.board_model.specs.declared.tables.Board.{Board}
+use Rattle.board_model.specs.Tables.{board_at, entry_in}
 use Rattle.board_model.specs.Copies.{current_at}
 use Rattle.board_model.specs.OwedAccesses.{Reading, finished, heard, hear, opening, owed_of, owed_read, to_read, to_table, to_write, trying}
 use Rattle.board_model.specs.Requests.{Fetch, Request, get}
@@ -53,6 +55,14 @@ runs s party r q sound e rq = subst (λ (x : Request). IsCalling s party r x) rq
 
 pub own_cell : (s : State) → Sound s → (b i : ℕ) (c : CellShape) → IsEntryOf s.standing.tables b i c → IsCell (s.memory b) c (s.published b i)
 own_cell s sound b i c h = subst (λ (x : CellShape). IsCell (s.memory b) x (s.published b i)) (sym h.shape) (sound.boards.cells b i h.entry h.found)
+
+-- the number of an entry's board was drawn
+pub drawn_in : (s : State) → Sound s → (b i : ℕ) (c : CellShape) → IsEntryOf s.standing.tables b i c → b ≤ s.standing.tables.last_board
+drawn_in s sound b i c h = at (board_at s.standing.tables b) refl h.found
+  where
+    at : (o : Option Board) → board_at s.standing.tables b ≡ o → entry_in o i ≡ Some h.entry → b ≤ s.standing.tables.last_board
+    at None e f = absurd cc
+    at (Some x) e f = sound.boards.numbered b x e
 
 -- the access of a get is a read of its board
 pub record IsGetRead (s : State) (f : Fetch) (so_far : List Access) (a : Access) : Type 0 where

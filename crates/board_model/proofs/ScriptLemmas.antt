@@ -1,8 +1,7 @@
 -- The lines of an input fix its session.
 use Rattle.std.proofs.Common.{◌≡◌, ℕ, List, [], ◌∷◌, refl}
 use Rattle.board_model.specs.declared.line.Line.{Line}
-use Rattle.board_model.specs.declared.answer.Answer.{Answer}
-use Rattle.board_model.specs.LawfulSession.{IsLawful, Session}
+use Rattle.board_model.specs.LawfulSession.{Session}
 use Rattle.board_model.specs.LawsOfAnswers.{lines_of}
 use Rattle.board_model.specs.Script.{SpellsAll}
 use Rattle.board_model.specs.LawsOfScripts.{InputsHaveOneSession}

@@ -1,5 +1,5 @@
 -- Laws of whole sessions.
-use Rattle.std.proofs.Common.{◌≡◌, ℕ, ◌+◌, ◌≤◌, Bool, true, false, List, [], ◌∷◌, ◌++◌, length, map, arith, refl, sym, ap, subst, ◌∙◌, Option, Some, None}
+use Rattle.std.proofs.Common.{◌≡◌, ℕ, ◌+◌, ◌≤◌, Bool, true, false, List, [], ◌∷◌, ◌++◌, length, map, arith, refl, sym, ap, subst, ◌∙◌, Option, Some}
 use Rattle.std.specs.Prelude.{◌==◌, if◌then◌else◌}
 use Rattle.std.proofs.lemmas.Bool.{eqb-true, eqb-false, eq-eqb, ne_eqb}
 use Rattle.std.proofs.lemmas.List.{append-nil, length-append, length_push, nil_from_length}
@@ -11,30 +11,20 @@ use Rattle.board_model.specs.declared.answer.Reply.{Reply}
 use Rattle.board_model.specs.declared.answer.Reply.TheVariants as reply
 use Rattle.board_model.specs.declared.line.Line.{Line}
 use Rattle.board_model.specs.declared.line.Line.TheVariants as line
-use Rattle.board_model.specs.declared.tables.Board.{Board}
 use Rattle.board_model.specs.TypeTable.{value_type_of, value_words}
-use Rattle.board_model.specs.Tables.{board_at, entry_in}
 use Rattle.board_model.specs.Requests.{Published, Request, fill, fresh, get, publish, put, table, update}
 use Rattle.board_model.specs.Replies.{ask, latest, lists_after, published_at, word_put}
 use Rattle.board_model.specs.Parties.{Party, Running, running}
 use Rattle.board_model.specs.LawfulSession.{IsLawfulFrom, IsRight, Session, State, after, after_step, start, state_after, stepped}
-use Rattle.board_model.specs.Sound.{IsCalling, IsEntryOf, IsWriting, Sound}
-use Rattle.board_model.specs.LawsOfSessions.{FreshMeansUnpublished, GenerationsNeverFall, IsGot, IsLooked, IsPublicationOf, IsPublished, ListsOnlyGrow, NoGetIsStale, OneGenerationOneValue, Pairs, at_one, at_two, is_publication, publishes, publishes_by, publishes_in}
+use Rattle.board_model.specs.Sound.{IsCalling, IsWriting, Sound}
+use Rattle.board_model.specs.LawsOfSessions.{FreshMeansUnpublished, GenerationsNeverFall, IsGot, IsLooked, IsPublicationOf, IsPublished, ListsOnlyGrow, NoGetIsStale, OneGenerationOneValue, OneWriteHandle, Pairs, at_one, at_two, is_publication, publishes, publishes_by, publishes_in}
 use Rattle.board_model.proofs.CopyLemmas.{latest_push}
-use Rattle.board_model.proofs.RunningLemmas.{runs}
+use Rattle.board_model.proofs.RunningLemmas.{drawn_in, runs}
+use Rattle.board_model.proofs.SoundLemmas.{sound_after, sound_from, sound_session, sound_start}
 use Rattle.board_model.proofs.LineCases.{IsStepOf, step_of}
 use Rattle.board_model.proofs.GrowthLemmas.{IsGrowth, line_growth, session_growth}
 
 -- ---- sessions
-
--- soundness is begun with and kept
-pub record KeepsSound : Type 0 where
-  pub first : Sound start
-  pub next : (s : State) (l : Line) (a : Answer) → IsRight s l a → Sound s → Sound (after s l a)
-
-pub sound_session : KeepsSound → (pairs : Session) (s : State) → IsLawfulFrom s pairs → Sound s → Sound (state_after s pairs)
-sound_session keeps [] s h k = k
-sound_session keeps (x ∷ xs) s h k = sound_session keeps xs (after s x.0 x.1) h.1 (keeps.next s x.0 x.1 h.0 k)
 
 pub lawful_split : (xs ys : Session) (s : State) → IsLawfulFrom s (xs ++ ys) → IsLawfulFrom s xs × IsLawfulFrom (state_after s xs) ys
 lawful_split [] ys s h = (tt, h)
@@ -58,11 +48,11 @@ pub record IsApart (p : Pairs) : Type 0 where
   pub last : Sound (at_two p)
   pub two : IsRight (at_two p) p.two.0 p.two.1
 
-pub apart : KeepsSound → (p : Pairs) → IsApart p
-apart keeps p =
+pub apart : (p : Pairs) → IsApart p
+apart p =
     let a = lawful_split p.before (p.one ∷ (p.between ++ p.two ∷ [])) start p.lawful in
-    let s1 : Sound (at_one p) = sound_session keeps p.before start a.0 keeps.first in
-    let s2 : Sound (after (at_one p) p.one.0 p.one.1) = keeps.next (at_one p) p.one.0 p.one.1 a.1.0 s1 in
+    let s1 : Sound (at_one p) = sound_from start p.before sound_start a.0 in
+    let s2 : Sound (after (at_one p) p.one.0 p.one.1) = sound_after (at_one p) p.one.0 p.one.1 a.1.0 s1 in
     let b = lawful_split p.between (p.two ∷ []) (after (at_one p) p.one.0 p.one.1) a.1.1 in
     let e : at_two p ≡ state_after (after (at_one p) p.one.0 p.one.1) p.between = state_append p.before (p.one ∷ p.between) start in
     record {
@@ -71,7 +61,7 @@ apart keeps p =
       next = s2;
       between = b.0;
       state = e;
-      last = subst Sound (sym e) (sound_session keeps p.between (after (at_one p) p.one.0 p.one.1) b.0 s2);
+      last = subst Sound (sym e) (sound_from (after (at_one p) p.one.0 p.one.1) p.between s2 b.0);
       two = subst (λ (s : State). IsRight s p.two.0 p.two.1) (sym e) b.1.0;
     }
 
@@ -81,14 +71,6 @@ pair_step s x party r a told run l e h =
     let h1 : IsRight s (line.Step party) x.1 = subst (λ (y : Line). IsRight s y x.1) l h in
     let h2 : IsRight s (line.Step party) (answer.Step a told) = subst (λ (y : Answer). IsRight s (line.Step party) y) e h1 in
     step_of s party r a told run h2
-
--- the number of an entry's board was drawn
-drawn_in : (s : State) → Sound s → (b i : ℕ) (c : CellShape) → IsEntryOf s.standing.tables b i c → b ≤ s.standing.tables.last_board
-drawn_in s sound b i c h = at (board_at s.standing.tables b) refl h.found
-  where
-    at : (o : Option Board) → board_at s.standing.tables b ≡ o → entry_in o i ≡ Some h.entry → b ≤ s.standing.tables.last_board
-    at None e f = absurd cc
-    at (Some x) e f = sound.boards.numbered b x e
 
 -- what a get gave
 pub record IsGiven (s : State) (b i : ℕ) (ws : List ℕ) (g : ℕ) : Type 0 where
@@ -119,28 +101,28 @@ looked s x b i g is h k =
 -- ---- the laws
 
 -- from one pair to the other
-between_growth : KeepsSound → (p : Pairs) (b i : ℕ) → b ≤ (at_one p).standing.tables.last_board → IsGrowth (at_one p) (at_two p) b i ((if publishes (at_one p) p.one.0 p.one.1 b i then 1 else 0) + publishes_in (after (at_one p) p.one.0 p.one.1) p.between b i)
-between_growth keeps p b i le =
-    let a = apart keeps p in
+between_growth : (p : Pairs) (b i : ℕ) → b ≤ (at_one p).standing.tables.last_board → IsGrowth (at_one p) (at_two p) b i ((if publishes (at_one p) p.one.0 p.one.1 b i then 1 else 0) + publishes_in (after (at_one p) p.one.0 p.one.1) p.between b i)
+between_growth p b i le =
+    let a = apart p in
     subst (λ (s : State). IsGrowth (at_one p) s b i ((if publishes (at_one p) p.one.0 p.one.1 b i then 1 else 0) + publishes_in (after (at_one p) p.one.0 p.one.1) p.between b i)) (sym a.state)
     (session_growth (p.one ∷ p.between) (at_one p) b i le (a.one, a.between))
 
-pub same_values : KeepsSound → OneGenerationOneValue
-same_values keeps p b i g ws vs x y =
-    let a = apart keeps p in
+pub same_values : OneGenerationOneValue
+same_values p b i g ws vs x y =
+    let a = apart p in
     let k = given (at_one p) p.one b i g ws a.sound a.one x in
     let l = given (at_two p) p.two b i g vs a.last a.two y in
-    let m = between_growth keeps p b i k.drawn in
+    let m = between_growth p b i k.drawn in
     let z : length m.more ≡ 0 = omega (arith, k.number, l.number, length-append ((at_one p).published b i) m.more, ap length m.list) in
     let e : (at_two p).published b i ≡ (at_one p).published b i = m.list ∙ ap (λ (c : List (List ℕ)). (at_one p).published b i ++ c) (nil_from_length m.more z) ∙ append-nil ((at_one p).published b i) in
     k.words ∙ ap latest (sym e) ∙ sym l.words
 
-pub rising : KeepsSound → GenerationsNeverFall
-rising keeps p b i g h ws vs x y =
-    let a = apart keeps p in
+pub rising : GenerationsNeverFall
+rising p b i g h ws vs x y =
+    let a = apart p in
     let k = given (at_one p) p.one b i g ws a.sound a.one x in
     let l = given (at_two p) p.two b i h vs a.last a.two y in
-    let m = between_growth keeps p b i k.drawn in
+    let m = between_growth p b i k.drawn in
     omega (arith, k.number, l.number, length-append ((at_one p).published b i) m.more, ap length m.list)
 
 -- the list after a publication
@@ -174,9 +156,9 @@ published s x b i g ws sound k =
     let e : (after s x.0 x.1).published b i ≡ lists_after s.published k.call.request k.told b i = ap (λ (y : State). y.published b i) (after_is s x k.party k.call k.access (Some k.told) k.runs k.line k.answer) in
     (e ∙ a.0, a.1, a.2)
 
-pub later : KeepsSound → NoGetIsStale
-later keeps p b i g h ws vs x y =
-    let a = apart keeps p in
+pub later : NoGetIsStale
+later p b i g h ws vs x y =
+    let a = apart p in
     let s1 : State = after (at_one p) p.one.0 p.one.1 in
     let k = published (at_one p) p.one b i g ws a.sound x in
     let one = line_growth (at_one p) p.one.0 p.one.1 b i k.2 a.one in
@@ -203,18 +185,21 @@ same_plus g n = at (n == 0) (eqb-true n 0) (eqb-false n 0)
     at true t f = eq-eqb g (g + n) (omega (arith, t refl))
     at false t f = ne_eqb g (g + n) (λ e. f refl (omega arith))
 
-pub still : KeepsSound → FreshMeansUnpublished
-still keeps p b i g ws is x y =
-    let a = apart keeps p in
+pub still : FreshMeansUnpublished
+still p b i g ws is x y =
+    let a = apart p in
     let k = given (at_one p) p.one b i g ws a.sound a.one x in
     let l = looked (at_two p) p.two b i g is a.two y in
-    let m = between_growth keeps p b i k.drawn in
+    let m = between_growth p b i k.drawn in
     let n : ℕ = publishes_in (after (at_one p) p.one.0 p.one.1) p.between b i in
     let z : ◌≡◌ {A = ℕ} (if publishes (at_one p) p.one.0 p.one.1 b i then 1 else 0) 0 = ap (λ (q : Bool). if q then 1 else 0) (got_alone (at_one p) p.one b i g b i ws x) in
     let c : length ((at_two p).published b i) ≡ g + n = ap length m.list ∙ length-append ((at_one p).published b i) m.more ∙ omega (arith, k.number, m.count, z) in
     l ∙ ap (λ (q : ℕ). g == q) c ∙ same_plus g n
 
-pub growing : KeepsSound → ListsOnlyGrow
-growing keeps p b i le =
-    let m = between_growth keeps p b i le in
+pub growing : ListsOnlyGrow
+growing p b i le =
+    let m = between_growth p b i le in
     (m.more, m.list, m.count)
+
+pub one_handle : OneWriteHandle
+one_handle pairs b i h = (sound_session pairs h).things.handles b i

@@ -1,8 +1,7 @@
 -- Each line of a lawful session keeps a sound state sound.
-use Rattle.std.proofs.Common.{◌≡◌, ℕ, arith, Bool, true, false, List, [], ◌∷◌, refl, sym, ap, ◌∙◌, Option, Some, None}
+use Rattle.std.proofs.Common.{◌≡◌, ℕ, arith, List, [], ◌∷◌, refl, ap, Option, Some, None}
 use Rattle.std.specs.Prelude.{if◌then◌else◌}
 use Rattle.board_model.specs.declared.access.Access.{Access}
-use Rattle.board_model.specs.declared.access.Access.TheVariants as access
 use Rattle.board_model.specs.declared.answer.Answer.{Answer}
 use Rattle.board_model.specs.declared.answer.Answer.TheVariants as answer
 use Rattle.board_model.specs.declared.answer.Reason.{Reason}
@@ -14,7 +13,7 @@ use Rattle.board_model.specs.declared.line.Line.TheVariants as line
 use Rattle.board_model.specs.Things.{is_held}
 use Rattle.board_model.specs.Requests.{request_of}
 use Rattle.board_model.specs.Memory.{IsStanding}
-use Rattle.board_model.specs.Parties.{Party, Running, begun, free, gone, running, with_party}
+use Rattle.board_model.specs.Parties.{Party, begun, free, gone, running, with_party}
 use Rattle.board_model.specs.LawfulSession.{IsLawful, IsLawfulFrom, IsOwedStep, IsReasoned, IsRight, IsToldStep, Session, State, after, after_step, call_reason, free_reason, start, state_after, step_reason}
 use Rattle.board_model.specs.Sound.{IsParty, Sound, is_suspended}
 use Rattle.board_model.proofs.TableLemmas.{valued_sound}

@@ -1,6 +1,6 @@
 -- A step of a running call keeps a sound state sound.
 use Rattle.std.proofs.Common.{◌≡◌, ℕ, suc, ◌+◌, ◌*◌, ◌%◌, ◌<◌, ◌≤◌, Bool, true, false, cond, List, [], ◌∷◌, ◌++◌, length, map, get_or, arith, refl, sym, ap, subst, ◌∙◌, Option, Some, None, inl, inr}
-use Rattle.std.specs.Prelude.{find, is_some, slice_get, slice_index, ◌⊎◌, ◌==◌, ◌||◌, ◌&&◌, nat_le, nat_lt, IfSome, if◌then◌else◌}
+use Rattle.std.specs.Prelude.{find, is_some, slice_get, slice_index, ◌⊎◌, ◌==◌, ◌&&◌, nat_le, nat_lt, IfSome, if◌then◌else◌}
 use Rattle.std.specs.List.{list_any}
 use Rattle.std.specs.Str.{bytes_eq}
 use Rattle.std.proofs.lemmas.Bool.{and_from, and_parts, both_ways, cases_Bool, eq-eqb, eqb-true, false_from_ne_true, le-leb, leb-false, leb-true, ltb-false, ne_eqb, or_parts}
@@ -18,15 +18,12 @@ use Rattle.board_model.specs.declared.attributes.Requirements.{Requirements}
 use Rattle.board_model.specs.declared.errors.BlackboardCreateError.{BlackboardCreateError}
 use Rattle.board_model.specs.declared.errors.BlackboardCreateError.TheVariants as create_error
 use Rattle.board_model.specs.declared.errors.BlackboardOpenError.{BlackboardOpenError}
-use Rattle.board_model.specs.declared.errors.BlackboardOpenError.TheVariants as open_error
 use Rattle.board_model.specs.declared.tables.Board.{Board}
 use Rattle.board_model.specs.declared.tables.Entry.{Entry}
 use Rattle.board_model.specs.declared.errors.EntryHandleMutError.TheVariants as entry_mut_error
 use Rattle.board_model.specs.declared.tables.Kind.{Kind}
 use Rattle.board_model.specs.declared.tables.Kind.TheVariants as kind
 use Rattle.board_model.specs.declared.tables.Limits.{Limits}
-use Rattle.board_model.specs.declared.tables.Thing.{Thing}
-use Rattle.board_model.specs.declared.tables.ThingKind.TheVariants as thing_kind
 use Rattle.board_model.specs.declared.value.AddedEntry.{AddedEntry}
 use Rattle.board_model.specs.declared.value.Key.{Key}
 use Rattle.board_model.specs.declared.value.KeyType.{KeyType}
@@ -35,23 +32,22 @@ use Rattle.board_model.specs.declared.value.ValueType.{ValueType}
 use Rattle.board_model.specs.LineGrammar.{is_none}
 use Rattle.board_model.specs.TypeTable.{key_detail, same_key, same_type, value_detail, value_words}
 use Rattle.board_model.specs.Copies.{spare_at}
-use Rattle.board_model.specs.OwedAccesses.{Owed, Reading, finished, hear, is_finished, opening, owed_of, owed_read, owed_write, to_read, to_table, to_write, trying}
-use Rattle.board_model.specs.Tables.{Tables, board_at, board_named, entry_at, entry_found, entry_from, entry_in, has_equal_keys, has_name, holds_at, is_numbered, is_of_board, is_write_handle, of_type, port_of, reader_slots, shapes_of, writer_slots, writes_entry}
-use Rattle.board_model.specs.TableCalls.{asked, entry_mut_refusals, entry_refusals, id_of, create_asked, create_refusals, created, first_of, has_all_nodes, is_corrupted, joined, number_of, open_refusals, place_of, with_thing}
-use Rattle.board_model.specs.Things.{Held, Standing, cell_shape, thing_of, with_at}
-use Rattle.board_model.specs.Requests.{Fetch, Lending, Look, Publication, Published, Request, TableCall, create, describe, entry, entry_mut, fill, fresh, get, give_back, identify, join, lend, list_keys, list_nodes, publish, put, reader, table, tell, update, writer}
-use Rattle.board_model.specs.Replies.{Asked, added_of, ask, given_back, ask_tables, is_key, lists_after, told_by, with_value, word_put}
+use Rattle.board_model.specs.OwedAccesses.{Reading, finished, hear, is_finished, opening, owed_of, owed_read, owed_write, to_read, to_table, to_write, trying}
+use Rattle.board_model.specs.Tables.{board_at, board_named, entry_at, entry_found, entry_from, entry_in, has_equal_keys, has_name, is_numbered, is_write_handle, of_type, port_of, shapes_of}
+use Rattle.board_model.specs.TableCalls.{asked, entry_mut_refusals, entry_refusals, id_of, create_refusals, created, first_of, is_corrupted, joined, number_of, open_refusals, place_of, with_thing}
+use Rattle.board_model.specs.Things.{Held, Standing, thing_of}
+use Rattle.board_model.specs.Requests.{Fetch, Lending, Publication, Request, TableCall, create, describe, entry, entry_mut, fill, fresh, get, give_back, identify, join, lend, list_keys, list_nodes, publish, put, reader, table, tell, update, writer}
+use Rattle.board_model.specs.Replies.{Asked, added_of, ask, given_back, is_key, lists_after, told_by, with_value, word_put}
 use Rattle.board_model.specs.Memory.{IsStanding, memory_after}
-use Rattle.board_model.specs.Parties.{Party, Running, free, gone, is_done, notice, owed, reading, running, with_party}
+use Rattle.board_model.specs.Parties.{Party, Running, free, is_done, owed, reading, running, with_party}
 use Rattle.board_model.specs.LawfulSession.{State, stepped}
-use Rattle.board_model.specs.Sound.{BoardTables, HasBoard, HasEntryAt, IsCalling, IsCell, IsEntryOf, IsFree, IsGetting, IsHeldThing, IsLending, IsParty, IsPublishing, IsReading, IsTableCall, Sound, is_suspended}
-use Rattle.board_model.proofs.ListLemmas.{any_found, find_any, find_true, IsFound, same_bytes}
+use Rattle.board_model.specs.Sound.{BoardTables, HasBoard, HasEntryAt, IsCalling, IsFree, IsGetting, IsPublishing, IsReading, IsTableCall, Sound, is_suspended}
+use Rattle.board_model.proofs.ListLemmas.{any_found, find_any}
 use Rattle.board_model.proofs.ThingLemmas.{all_found, found_as}
 use Rattle.board_model.proofs.GetLemmas.{IsRead, goes_on, reading_push}
-use Rattle.board_model.proofs.KeptLemmas.{keeps_all}
-use Rattle.board_model.proofs.TableLemmas.{IsCalm, IsFewer, IsNewThing, ended_loan, give_back_sound, grown_sound, lend_sound, none_some, valued_sound, with_values}
-use Rattle.board_model.proofs.CreateLemmas.{create_sound, created_state}
-use Rattle.board_model.proofs.StoreLemmas.{IsThere, own_cell, stored, word_parties}
+use Rattle.board_model.proofs.TableLemmas.{IsCalm, IsFewer, IsNewThing, ended_loan, give_back_sound, grown_sound, lend_sound, none_some, valued_sound}
+use Rattle.board_model.proofs.CreateLemmas.{create_sound}
+use Rattle.board_model.proofs.StoreLemmas.{IsThere, own_cell}
 use Rattle.board_model.proofs.PublishLemmas.{own_given_back, own_same, publish_sound, put_sound, write_word, wrote_word}
 
 -- ---- accesses

@@ -1,30 +1,28 @@
 -- A line that stores one word in the cell of an entry, by the party that holds the entry's write handle.
-use Rattle.std.proofs.Common.{◌≡◌, ℕ, ◌+◌, ◌-◌, ◌*◌, ◌<◌, ◌≤◌, Bool, true, false, cond, List, [], ◌∷◌, ◌++◌, length, set, get_or-set_other, arith, refl, sym, ap, subst, ◌∙◌, Option, Some, None, inl, inr}
-use Rattle.std.specs.Prelude.{slice_get, ◌⊎◌, ◌==◌, ◌&&◌, not}
+use Rattle.std.proofs.Common.{◌≡◌, ℕ, ◌+◌, ◌<◌, ◌≤◌, Bool, true, false, cond, List, length, set, get_or-set_other, arith, refl, sym, ap, subst, ◌∙◌, Option, Some, None, inl, inr}
+use Rattle.std.specs.Prelude.{◌⊎◌, ◌==◌}
 use Rattle.std.specs.List.{AllByRecursion, count_by}
 use Rattle.std.specs.Str.{bytes_eq}
 use Rattle.std.proofs.lemmas.Bool.{cases_eq, cases_lt, eq-eqb, eqb-true}
 use Rattle.std.proofs.lemmas.List.{length-set}
-use Rattle.std.proofs.lemmas.Option.{same_Some, slice_get_within}
-use Rattle.std.proofs.Math.Nat.{mul-le-mul_right}
+use Rattle.std.proofs.lemmas.Option.{slice_get_within}
 use Rattle.board_layout.specs.declared.shape.CellShape.{CellShape}
 use Rattle.board_model.specs.declared.access.Access.TheVariants as access
 use Rattle.board_model.specs.declared.tables.Board.{Board}
 use Rattle.board_model.specs.declared.tables.Entry.{Entry}
 use Rattle.board_model.specs.Copies.{cell_end, spare_at}
-use Rattle.board_model.specs.OwedAccesses.{Reading, finished, opening, trying}
 use Rattle.board_model.specs.Tables.{board_at, entry_at, entry_in, entry_of, is_write_handle}
 use Rattle.board_model.specs.Things.{Held, Standing, cell_shape, is_held_as, thing_of}
 use Rattle.board_model.specs.Requests.{Fetch, Published, get}
 use Rattle.board_model.specs.Memory.{store}
-use Rattle.board_model.specs.Parties.{Party, Running, count_write, is_counter_of, notice, reading, with_party}
+use Rattle.board_model.specs.Parties.{Party, Running, count_write, notice, reading, with_party}
 use Rattle.board_model.specs.LawfulSession.{State}
-use Rattle.board_model.specs.Sound.{AreBoards, HasBoard, HasEntry, IsCell, IsEntryOf, IsGetting, IsHolding, IsLent, IsLoan, IsParty, IsReading, Sound, Stands, is_suspended}
-use Rattle.board_model.proofs.ListLemmas.{other_bytes, same_bytes}
-use Rattle.board_model.proofs.ThingLemmas.{IsHeldAs, found_as, of_entry, one_handle}
+use Rattle.board_model.specs.Sound.{AreBoards, HasBoard, HasEntry, IsCell, IsEntryOf, IsGetting, IsLent, IsLoan, IsParty, IsReading, Sound, Stands, is_suspended}
+use Rattle.board_model.proofs.ListLemmas.{same_bytes}
+use Rattle.board_model.proofs.ThingLemmas.{found_as, one_handle}
 use Rattle.board_model.proofs.CopyLemmas.{cell_kept, copy_inside, outside_untouched, stands_kept}
-use Rattle.board_model.proofs.KeptLemmas.{KeepsThings, Spares, noticed_suspended, party_here, party_there, spared_party, with_parties}
-use Rattle.board_model.proofs.TableLemmas.{own_entry, same_name, same_shape}
+use Rattle.board_model.proofs.KeptLemmas.{KeepsThings, Spares, noticed_suspended, spared_party, with_parties}
+use Rattle.board_model.proofs.TableLemmas.{same_name, same_shape}
 
 -- ---- words outside a cell
 

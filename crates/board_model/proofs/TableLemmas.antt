@@ -1,26 +1,25 @@
 -- Lines that store no word keep a sound state sound: parties change, things come, and handles and loans take each other's place.
-use Rattle.std.proofs.Common.{◌≡◌, ℕ, ◌+◌, ◌≤◌, zero, suc, Bool, true, false, cond, List, [], ◌∷◌, ◌++◌, length, map, arith, refl, sym, ap, subst, ◌∙◌, Option, Some, None, inl, inr}
-use Rattle.std.specs.Prelude.{find, is_some, ◌⊎◌, ◌&&◌, slice_get}
+use Rattle.std.proofs.Common.{◌≡◌, ℕ, ◌≤◌, zero, suc, Bool, true, false, cond, List, [], ◌∷◌, ◌++◌, length, arith, refl, sym, ap, subst, ◌∙◌, Option, Some, None, inl, inr}
+use Rattle.std.specs.Prelude.{is_some, ◌⊎◌, slice_get}
 use Rattle.std.specs.List.{count_by, list_any}
 use Rattle.std.specs.Str.{bytes_eq}
-use Rattle.std.proofs.lemmas.Bool.{and_right, both_ways, cases_Bool, cond_both, false_from_ne_true}
+use Rattle.std.proofs.lemmas.Bool.{and_right, both_ways, cases_Bool, cond_both}
 use Rattle.std.proofs.lemmas.List.{length-replicate}
 use Rattle.std.proofs.lemmas.Option.{same_Some}
 use Rattle.std.proofs.lemmas.Slice.Eq.{bytes_eq-Decides}
 use Rattle.board_layout.specs.declared.shape.CellShape.{CellShape}
-use Rattle.board_model.specs.declared.access.Access.TheVariants as access
 use Rattle.board_model.specs.declared.tables.Entry.{Entry}
-use Rattle.board_model.specs.Tables.{board_at, entry_at, entry_of, is_write_handle}
+use Rattle.board_model.specs.Tables.{entry_at, entry_of, is_write_handle}
 use Rattle.board_model.specs.TableCalls.{with_thing}
 use Rattle.board_model.specs.Things.{Held, Kept, Standing, cell_shape, is_held_as, thing_of, with_at, with_name}
 use Rattle.board_model.specs.Requests.{Lending, Published}
 use Rattle.board_model.specs.Replies.{given_back, lent, none_put}
 use Rattle.board_model.specs.Parties.{Party, free, with_party}
 use Rattle.board_model.specs.LawfulSession.{State}
-use Rattle.board_model.specs.Sound.{AreBoards, BoardTables, HasBoard, HasEntry, IsEntryOf, IsFree, IsHolding, IsLending, IsLent, IsLoan, IsParty, IsWriting, Sound, is_suspended}
-use Rattle.board_model.proofs.ListLemmas.{count_none, count_push, find_kept, find_push_cases}
-use Rattle.board_model.proofs.ThingLemmas.{IsOfEntry, all_push, anew_entries, entries_kept, anew_boards, anew_count, anew_found, anew_found_elsewhere, anew_found_other, different_bytes, find_push_other, held_by_other, of_entry, same_to_itself}
-use Rattle.board_model.proofs.KeptLemmas.{IsQuietLine, KeepsThings, keeps_all, party_here, quiet_loan, quiet_party, quiet_same, quiet_sound}
+use Rattle.board_model.specs.Sound.{AreBoards, BoardTables, HasBoard, HasEntry, IsEntryOf, IsFree, IsLending, IsLent, IsLoan, IsParty, Sound, is_suspended}
+use Rattle.board_model.proofs.ListLemmas.{count_none, count_push, find_kept}
+use Rattle.board_model.proofs.ThingLemmas.{all_push, anew_entries, entries_kept, anew_boards, anew_count, anew_found, anew_found_elsewhere, anew_found_other, different_bytes, find_push_other, held_by_other, of_entry, same_to_itself}
+use Rattle.board_model.proofs.KeptLemmas.{party_here, quiet_loan, quiet_party, quiet_sound}
 
 -- ---- maps by party and name
 

@@ -1,17 +1,17 @@
 -- Things that come, go and take other names, and what is found under a name then.
-use Rattle.std.proofs.Common.{◌≡◌, ℕ, ◌+◌, ◌≤◌, Bool, true, false, cond, List, [], ◌∷◌, ◌++◌, map, refl, sym, ap, subst, ◌∙◌, Option, Some, None}
+use Rattle.std.proofs.Common.{◌≡◌, ℕ, ◌≤◌, Bool, true, false, cond, List, [], ◌∷◌, ◌++◌, map, refl, sym, ap, subst, ◌∙◌, Option, Some, None}
 use Rattle.std.specs.Prelude.{find, ◌&&◌, ◌==◌, is_some}
-use Rattle.std.specs.List.{AllByRecursion, count_by, list_any}
+use Rattle.std.specs.List.{AllByRecursion, count_by}
 use Rattle.std.specs.Str.{bytes_eq}
-use Rattle.std.proofs.lemmas.Bool.{and_from, and_left, and_parts, and_right, both_ways, eqb-true, false_from_ne_true}
+use Rattle.std.proofs.lemmas.Bool.{and_from, and_left, and_parts, and_right, eqb-true, false_from_ne_true}
 use Rattle.std.proofs.lemmas.Option.{same_Some}
 use Rattle.std.proofs.lemmas.Slice.Eq.{bytes_eq-Decides}
 use Rattle.board_model.specs.declared.tables.Kind.{Kind}
 use Rattle.board_model.specs.declared.tables.Kind.TheVariants as kind
-use Rattle.board_model.specs.Tables.{board_at, entry_at, entry_of, is_of_board, is_write_handle, without, writes_entry}
+use Rattle.board_model.specs.Tables.{board_at, entry_at, entry_of, is_write_handle, without, writes_entry}
 use Rattle.board_model.specs.Things.{Held, is_held_as, named_anew, thing_of}
 use Rattle.board_model.specs.Sound.{BoardTables, HasBoard, HasEntry, HasEntryAt}
-use Rattle.board_model.proofs.ListLemmas.{count_agree, count_map, find_agree, find_image, find_map, find_only, find_true, IsImage, same_bytes}
+use Rattle.board_model.proofs.ListLemmas.{count_agree, count_map, find_only, find_true, same_bytes}
 
 -- ---- lists
 

@@ -12,8 +12,9 @@ use Rattle.board_model.specs.Sound.{Sound}
 
 -- ---- words
 
--- the word is one of its board's, and these are few
+-- the word is one of its board's, and these are few; the board's number was drawn
 pub record IsInBoard (s : State) (board word : ℕ) : Type 0 where
+  pub drawn : board ≤ s.standing.tables.last_board
   pub inside : word < length (s.memory board)
   pub few : 8 * length (s.memory board) ≤ 4294967295
 

@@ -1,5 +1,6 @@
 -- Laws of whole sessions: what gets and looks tell beside what was published.
 use Rattle.std.specs.Prelude.{◌≡◌, ℕ, ◌+◌, ◌≤◌, ◌==◌, ◌&&◌, Bool, false, if◌then◌else◌, List, [], ◌∷◌, ◌++◌, length, map, Option, Some}
+use Rattle.std.specs.List.{count_by}
 use Rattle.board_model.specs.declared.access.Access.{Access}
 use Rattle.board_model.specs.declared.answer.Answer.{Answer}
 use Rattle.board_model.specs.declared.answer.Answer.TheVariants as answer
@@ -8,6 +9,7 @@ use Rattle.board_model.specs.declared.answer.Reply.TheVariants as reply
 use Rattle.board_model.specs.declared.line.Line.{Line}
 use Rattle.board_model.specs.declared.line.Line.TheVariants as line
 use Rattle.board_model.specs.TypeTable.{value_type_of, value_words}
+use Rattle.board_model.specs.Tables.{is_write_handle}
 use Rattle.board_model.specs.Requests.{Fetch, Look, Request, fill, fresh, get, publish, update}
 use Rattle.board_model.specs.Replies.{word_put}
 use Rattle.board_model.specs.Parties.{Party, Running, running}
@@ -120,3 +122,7 @@ FreshMeansUnpublished = (p : Pairs) (b i g : ℕ) (words : List ℕ) (still : Bo
 abbrev pub ListsOnlyGrow : Type 0
 ListsOnlyGrow = (p : Pairs) (b i : ℕ) → b ≤ (at_one p).standing.tables.last_board
     → (more : List (List ℕ)) × ((at_two p).published b i ≡ (at_one p).published b i ++ more) × (length more ≡ publishes_in (at_one p) (p.one ∷ p.between) b i)
+
+-- at most one write handle or loan of an entry is a thing at any moment
+abbrev pub OneWriteHandle : Type 0
+OneWriteHandle = (pairs : Session) (b i : ℕ) → IsLawful pairs → count_by (is_write_handle b i) (state_after start pairs).standing.tables.things ≤ 1

@@ -20,6 +20,11 @@ pub mod LawsOfCounts
 pub mod LawsOfBounds
 pub mod LawsOfAnswers
 pub mod LawsOfSessions
+pub mod LawsOfIds
 pub mod LawOfSoundness
+pub mod WorkedSessions
 pub mod Script
+pub mod LawsOfForms
 pub mod LawsOfScripts
+pub mod LawsOfOutputs
+pub mod LawsOfKeys

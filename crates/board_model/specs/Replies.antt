@@ -1,5 +1,5 @@
 -- The board asked one call at a time: the reply to a call, and what stands after it.
-use Rattle.std.specs.Prelude.{ℕ, ◌+◌, ◌-◌, Bool, true, false, not, ◌&&◌, ◌==◌, if◌then◌else◌, List, [], ◌∷◌, ◌++◌, length, map, replicate, slice_index_or, slice_get, slice_set, Option, Some, None, Result, Ok, Err, is_some}
+use Rattle.std.specs.Prelude.{ℕ, ◌-◌, Bool, ◌&&◌, ◌==◌, if◌then◌else◌, List, [], ◌∷◌, ◌++◌, length, map, replicate, slice_index_or, slice_get, slice_set, Option, Some, None, Result, Ok, Err}
 use Rattle.std.specs.Ordering.{nat_cmp, is_lt}
 use Rattle.std.specs.Cmp.Lexicographic.{slice_cmp}
 use Rattle.std.specs.Str.{bytes_eq}
@@ -10,13 +10,12 @@ use Rattle.board_model.specs.declared.tables.Board.{Board}
 use Rattle.board_model.specs.declared.tables.Entry.{Entry}
 use Rattle.board_model.specs.declared.tables.Kind.{Kind}
 use Rattle.board_model.specs.declared.tables.Kind.TheVariants as kind
-use Rattle.board_model.specs.declared.tables.ThingKind.TheVariants as thing_kind
 use Rattle.board_model.specs.declared.value.AddedEntry.{AddedEntry}
 use Rattle.board_model.specs.declared.value.Key.{Key}
 use Rattle.board_model.specs.declared.value.KeyType.{KeyType}
 use Rattle.board_model.specs.declared.value.KeyType.TheVariants as key_type
 use Rattle.board_model.specs.TypeTable.{key_bytes, key_detail, key_of, key_type_of, same_key, type_of, type_of_key, value_detail, value_type_of, value_words}
-use Rattle.board_model.specs.Tables.{Added, Tables, board_at, entry_found, entry_of, is_of_board, nodes_taken, port_of, reader_slots, writer_slots}
+use Rattle.board_model.specs.Tables.{Added, Tables, board_at, entry_found, entry_of, is_of_board, nodes_taken, reader_slots, writer_slots}
 use Rattle.board_model.specs.TableCalls.{create_asked, entry_asked, entry_mut_asked, open_asked, reader_asked, released, writer_asked}
 use Rattle.board_model.specs.Things.{Held, Standing, is_held_as, thing_of, with_at, with_name}
 use Rattle.board_model.specs.Requests.{Fetch, Lending, Published, Request, TableCall, create, describe, entry, entry_mut, fill, fresh, get, give_back, handled, identify, join, lend, list_keys, list_nodes, publish, put, reader, table, tell, update, writer}

@@ -2,7 +2,6 @@
 use Rattle.std.specs.Prelude.{◌≡◌, ℕ, ◌≤◌, List, [], ◌∷◌, ◌++◌, length, Option, Some, None, ⊤}
 use Rattle.std.specs.List.{flat_map, AllByRecursion}
 use Rattle.board_model.specs.declared.line.Line.{Line}
-use Rattle.board_model.specs.declared.answer.Answer.{Answer}
 use Rattle.board_model.specs.LineGrammar.{Spells}
 use Rattle.board_model.specs.AnswerGrammar.{answer_line}
 use Rattle.board_model.specs.LawfulSession.{Session, IsLawful}

@@ -14,9 +14,9 @@ use Rattle.board_model.specs.declared.value.ValueType.{ValueType}
 use Rattle.board_model.specs.Copies.{cell_end, current_at, spare_at}
 use Rattle.board_model.specs.OwedAccesses.{Reading, finished, opening, trying}
 use Rattle.board_model.specs.TypeTable.{key_detail, value_detail, value_words, word_count}
-use Rattle.board_model.specs.Tables.{Tables, board_at, entry_at, entry_of, is_numbered, is_write_handle, kind_of, writes_entry}
+use Rattle.board_model.specs.Tables.{Tables, board_at, entry_at, entry_of, is_numbered, is_write_handle, kind_of}
 use Rattle.board_model.specs.Things.{Held, Standing, cell_shape, thing_of}
-use Rattle.board_model.specs.Requests.{Fetch, Lending, Look, Publication, Published, Request, TableCall, create, describe, entry, entry_mut, fill, fresh, get, give_back, identify, join, lend, list_keys, list_nodes, publish, put, reader, table, tell, update, writer}
+use Rattle.board_model.specs.Requests.{Fetch, Lending, Look, Published, Request, TableCall, create, describe, entry, entry_mut, fill, fresh, get, give_back, identify, join, lend, list_keys, list_nodes, publish, put, reader, table, tell, update, writer}
 use Rattle.board_model.specs.Replies.{latest, word_put}
 use Rattle.board_model.specs.Parties.{Party, Running, free, gone, reading, running}
 use Rattle.board_model.specs.LawfulSession.{State}

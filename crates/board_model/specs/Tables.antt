@@ -1,5 +1,5 @@
 -- Boards, and the things of them. A thing has a holder and a name, of any kind: in a script a party and a text.
-use Rattle.std.specs.Prelude.{ℕ, ◌+◌, Bool, true, false, not, ◌&&◌, ◌||◌, ◌==◌, max, if◌then◌else◌, List, [], ◌∷◌, ◌++◌, length, map, find, Option, Some, None, slice_get}
+use Rattle.std.specs.Prelude.{ℕ, ◌+◌, Bool, true, false, not, ◌&&◌, ◌||◌, ◌==◌, max, if◌then◌else◌, List, [], ◌∷◌, length, map, find, Option, Some, None, slice_get}
 use Rattle.std.specs.List.{list_any, list_all, count_by}
 use Rattle.std.specs.Str.{bytes_eq}
 use Rattle.board_layout.specs.declared.shape.CellPlace.{CellPlace}

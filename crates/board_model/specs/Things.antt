@@ -1,11 +1,10 @@
 -- What the parties of a script hold: things of boards, words of loans, and values.
-use Rattle.std.specs.Prelude.{ℕ, Bool, true, ◌&&◌, if◌then◌else◌, List, map, find, Option, Some, None, is_some, ◌||◌}
+use Rattle.std.specs.Prelude.{ℕ, Bool, ◌&&◌, if◌then◌else◌, List, map, find, Option, Some, None, is_some, ◌||◌}
 use Rattle.std.specs.Str.{bytes_eq}
 use Rattle.board_layout.specs.declared.shape.CellPlace.{CellPlace}
 use Rattle.board_layout.specs.declared.shape.CellShape.{CellShape}
 use Rattle.board_model.specs.declared.tables.Thing.{Thing}
 use Rattle.board_model.specs.declared.tables.ThingKind.{ThingKind}
-use Rattle.board_model.specs.declared.tables.ThingKind.TheVariants as thing_kind
 use Rattle.board_model.specs.declared.value.ValueType.{ValueType}
 use Rattle.board_model.specs.Tables.{Tables, kind_of, same_kind}
 

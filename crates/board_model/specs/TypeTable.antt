@@ -1,11 +1,10 @@
 -- The key types and value types of a script: their details, the words of a value, the bytes of a key, and when keys are equal.
-use Rattle.std.specs.Prelude.{ℕ, ◌==◌, Bool, true, false, ◌&&◌, if◌then◌else◌, List, [], ◌∷◌, ◌++◌, map, take, codes, decimal}
+use Rattle.std.specs.Prelude.{ℕ, ◌==◌, Bool, true, false, ◌&&◌, if◌then◌else◌, List, [], ◌∷◌, map, take, codes}
 use Rattle.std.specs.Str.{bytes_eq}
 use Rattle.std.specs.Char.{to_ascii_lowercase}
 use Rattle.board_layout.specs.declared.type_detail.TypeDetail.{TypeDetail}
 use Rattle.board_layout.specs.declared.type_detail.TypeVariant.{TypeVariant}
 use Rattle.board_layout.specs.declared.type_detail.TypeVariant.TheVariants.{FixedSize, Dynamic}
-use Rattle.board_layout.specs.declared.shape.Shape.{Shape}
 use Rattle.board_layout.specs.Bytes.{byte_of}
 use Rattle.board_layout.specs.Keys.{details, little}
 use Rattle.board_layout.specs.Text.{padded}

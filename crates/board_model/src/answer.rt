@@ -1,6 +1,9 @@
 //! The answers to the lines of a script.
 use crate::access::Access;
-use crate::errors::{BlackboardCreateError, BlackboardOpenError, EntryHandleError, EntryHandleMutError, ReaderCreateError, WriterCreateError};
+use crate::errors::{
+    BlackboardCreateError, BlackboardOpenError, EntryHandleError, EntryHandleMutError,
+    ReaderCreateError, WriterCreateError,
+};
 use crate::lists::{Keys, Names, Words};
 use crate::value::{KeyType, ValueType};
 use board_layout::Text;
@@ -63,7 +66,10 @@ pub enum Reply {
 pub enum Answer {
     Begun,
     Refused(Reason),
-    Step { access: Access, reply: Option<Reply> },
+    Step {
+        access: Access,
+        reply: Option<Reply>,
+    },
     Gone,
     Words(Words),
 }

@@ -1,5 +1,5 @@
 //! Laws of bounds: owed words lie in their boards, and what a session draws and writes are numbers of 64 bits. Each function's contract is a theorem over the definitions alone.
-ghost use Rattle.board_model.specs.LawsOfBounds.{BeginsBounded, LinesDrawOne, LinesKeepNumbers, OwedReadsAreInside, OwedWritesAreInside, OwedWritesAreNumbers, SessionsDrawTheirLength};
+ghost use Rattle.board_model.specs.LawsOfBounds.{BeginsBounded, LinesDrawOne, LinesKeepNumbers, OwedReadsAreInside, OwedWritesAreInside, OwedWritesAreNumbers, SessionsDrawTheirLength, SessionsKeepNumbers};
 
 /// The word that a running call is to read is one of its board's, and these are few.
 pub fn owed_reads_are_inside()
@@ -34,4 +34,9 @@ pub fn lines_keep_numbers()
 /// Before the first line nothing was drawn or written.
 pub fn begins_bounded()
     ensures { BeginsBounded }
+{}
+
+/// After a session of fewer than 2^63 lines every word of the memory is below 2^64.
+pub fn sessions_keep_numbers()
+    ensures { SessionsKeepNumbers }
 {}

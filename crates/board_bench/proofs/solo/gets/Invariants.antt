@@ -1,0 +1,5 @@
+use Rattle.std.proofs.Common.{◌≡◌, ◌+◌, length}
+use Rattle.board_bench.proofs.solo.gets.Given as goal
+
+abbrev pub invariant-loop : goal.invariant-loop
+invariant-loop g l = (l.reader.cell ≡ l.initial.reader.cell) × (length l.out.items ≡ length l.initial.out.items) × (length l.reader.notes ≡ length l.initial.reader.notes + l.counter)

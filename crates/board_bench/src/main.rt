@@ -1,0 +1,62 @@
+//! Measures the cell between threads: `solo W get COUNT`, `solo W update COUNT` or `shared W R UPDATES`. It reads no clock.
+#![tactic(auto)]
+
+ghost use Rattle.board_bench.specs.Task.{IsTask};
+
+mod shared;
+mod solo;
+mod task;
+
+use board_cell::CellError;
+use shared::run_shared;
+use solo::{run_gets, run_updates};
+use std::alloc::Global;
+use std::env;
+use std::process::ExitCode;
+use std::sync::Wait;
+use std::thread::Threads;
+use task::{Task, task_of};
+
+const USAGE: &str =
+    "usage: board_bench solo 1|4|32 get|update COUNT, or board_bench shared 1|4|32 1|2|3 UPDATES";
+
+// Does the task, and gives how many gets were made beside updates.
+fn run<R: Threads + Wait + Sync>(
+    rt: &R,
+    alloc: Global,
+    task: Task,
+) -> Result<Option<u64>, CellError>
+    requires { IsTask task }
+{
+    match task {
+        Task::Get { width, count } => {
+            run_gets(rt, alloc, width, count)?;
+            Ok(None)
+        }
+        Task::Update { width, count } => {
+            run_updates(alloc, width, count)?;
+            Ok(None)
+        }
+        Task::Shared {
+            width,
+            readers,
+            updates,
+        } => Ok(Some(run_shared(rt, alloc, width, readers, updates)?)),
+    }
+}
+
+fn main(rt: HostRuntime) -> anyhow::Result<ExitCode> {
+    let alloc = rt.alloc();
+    let words: Vec<String> = env::args(&rt)?.collect(alloc)?;
+    let Some(task) = task_of(alloc, words.as_slice().get(1..).unwrap_or(&[]))? else {
+        eprintln!(rt; "{USAGE}")?;
+        return Ok(ExitCode::from(2));
+    };
+    if let Some(gets) = run(&rt, alloc, task)? {
+        println!(rt; "gets {gets}")?;
+    }
+    Ok(ExitCode::SUCCESS)
+}
+
+#[cfg(test)]
+mod tests;

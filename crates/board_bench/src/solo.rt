@@ -1,0 +1,60 @@
+ghost use Rattle.std.specs.Prelude.{◌≡◌, ◌+◌, ◌^◌, ◌<◌, length};
+
+use board_cell::{CellError, ReaderPass, ThreadedCell, WriterPass};
+use std::alloc::Global;
+use std::sync::Wait;
+
+/// This many gets, one after another.
+pub fn gets<R: Wait>(
+    rt: &R,
+    cell: &ThreadedCell,
+    reader: &mut ReaderPass,
+    out: &mut Vec<u64>,
+    count: u64,
+)
+    requires cell { reader.old.cell ≡ cell.now.cell }
+    requires width { length out.old.items ≡ cell.now.width }
+    ensures { length reader.new.notes ≡ length reader.old.notes + count }
+{
+    for _ in 0..count {
+        cell.get(rt, reader, out);
+    }
+}
+
+/// This many updates, by two values in turn.
+pub fn updates(
+    cell: &ThreadedCell,
+    writer: &mut WriterPass,
+    one: &Vec<u64>,
+    two: &Vec<u64>,
+    count: u64,
+)
+    requires cell { writer.old.cell ≡ cell.now.cell }
+    requires width { (length one.now.items ≡ cell.now.width) × (length two.now.items ≡ cell.now.width) }
+    requires room { length writer.old.published + count < 2 ^ 64 }
+    ensures { length writer.new.published ≡ length writer.old.published + count }
+{
+    for i in 0..count {
+        cell.update(writer, if i % 2 == 0 { one } else { two });
+    }
+}
+
+/// A cell of this many words, and this many gets of it. The error is want of memory.
+pub fn run_gets<R: Wait>(rt: &R, alloc: Global, width: u64, count: u64) -> Result<(), CellError> {
+    let words = vec![in alloc; 7; width as usize]?;
+    let mut out = vec![in alloc; 0; width as usize]?;
+    let (cell, _writer, mut reader) = ThreadedCell::new(alloc, &words)?;
+    gets(rt, &cell, &mut reader, &mut out, count);
+    Ok(())
+}
+
+/// A cell of this many words, and this many updates of it. The error is want of memory.
+pub fn run_updates(alloc: Global, width: u64, count: u64) -> Result<(), CellError>
+    requires { count < 2 ^ 40 }
+{
+    let one = vec![in alloc; 1; width as usize]?;
+    let two = vec![in alloc; 2; width as usize]?;
+    let (cell, mut writer, _reader) = ThreadedCell::new(alloc, &two)?;
+    updates(&cell, &mut writer, &one, &two, count);
+    Ok(())
+}

@@ -1,0 +1,12 @@
+pub mod Hearing
+pub mod Writing
+pub mod Mirroring
+pub mod Notes
+pub mod CopyPlaces
+pub mod ViewLemmas
+pub mod ReaderSteps
+pub mod WriterSteps
+pub mod SeatSteps
+pub mod Histories
+pub mod Told
+pub mod Climbs

@@ -1,0 +1,103 @@
+-- What callers see of a cell between threads and of its passes.
+use Rattle.std.specs.Prelude.{◌≡◌, ℕ, ◌+◌, ◌-◌, ◌<◌, ◌≤◌, List, [], ◌∷◌, ◌++◌, length, slice_get, Some}
+use Rattle.std.specs.List.{All}
+use Rattle.atomic_table.specs.Seated.{TableId}
+use Rattle.board_layout.specs.declared.shape.CellShape.{CellShape}
+use Rattle.board_cell.specs.declared.threaded.view.Note.{Note}
+
+-- which cell it is, and how many words a value has
+pub record CellSeen : Type 0 where
+  pub cell : TableId
+  pub width : ℕ
+
+-- a writer's pass: the published values, the opening one first
+pub record WriterSeen : Type 0 where
+  pub cell : TableId
+  pub published : List (List ℕ)
+
+-- a reader's pass: the values that it read, the counters that it loaded, and the generation that it was told
+pub record ReaderSeen : Type 0 where
+  pub cell : TableId
+  pub notes : List Note
+  pub loads : List ℕ
+  pub told : ℕ
+
+-- a receipt names a publication
+pub record ReceiptSeen : Type 0 where
+  pub cell : TableId
+  pub generation : ℕ
+
+-- how the cell of this many words lies in its table
+abbrev pub cell_shape : ℕ → CellShape
+cell_shape w = record { first = 0; head = 2; words = w }
+
+abbrev pub note : ℕ → List ℕ → Note
+note generation words = record { generation = generation; words = words }
+
+abbrev pub notes_of : ReaderSeen → List Note
+notes_of r = r.notes
+
+-- the passes of a new cell
+abbrev pub new_writer : TableId → List ℕ → WriterSeen
+new_writer cell words = record { cell = cell; published = words ∷ [] }
+
+abbrev pub new_reader : TableId → ℕ → ReaderSeen
+new_reader cell told = record { cell = cell; notes = []; loads = []; told = told }
+
+-- the note's words are the published ones of its generation
+pub record Stands (published : List (List ℕ)) (n : Note) : Type 0 where
+  pub counted : 1 ≤ n.generation
+  pub item : slice_get published (n.generation - 1) ≡ Some n.words
+
+-- no generation falls
+abbrev pub NotesRise : List Note → Type 0
+NotesRise [] = Unit {0}
+NotesRise (n ∷ ns) = All (λ (m : Note). n.generation ≤ m.generation) ns × NotesRise ns
+
+-- each is greater than the one before, and the first is greater than x
+abbrev pub ClimbsFrom : ℕ → List ℕ → Type 0
+ClimbsFrom x [] = Unit {0}
+ClimbsFrom x (y ∷ ys) = (x < y) × ClimbsFrom y ys
+
+abbrev pub last_from : ℕ → List ℕ → ℕ
+last_from x [] = x
+last_from x (y ∷ ys) = last_from y ys
+
+-- the counters of tries of which the last was accepted at g: a climbing list that begins no lower than what was told and ends with g, and g once more
+pub record LoadsUntil (told g : ℕ) (before after : List ℕ) : Type 0 where
+  pub first : ℕ
+  pub rest : List ℕ
+  pub begins : told ≤ first
+  pub climbs : ClimbsFrom first rest
+  pub ends : last_from first rest ≡ g
+  pub gained : after ≡ before ++ first ∷ (rest ++ g ∷ [])
+
+-- an accepted get: the pass gains its note and is told its generation
+pub record Gets (g : ℕ) (words : List ℕ) (old new : ReaderSeen) : Type 0 where
+  pub cell : new.cell ≡ old.cell
+  pub notes : new.notes ≡ old.notes ++ note g words ∷ []
+  pub told : new.told ≡ g
+  pub loads : LoadsUntil old.told g old.loads new.loads
+
+-- the same in at most this many tries
+pub record GetsWithin (tries g : ℕ) (words : List ℕ) (old new : ReaderSeen) : Type 0 where
+  pub gets : Gets g words old new
+  pub few : length gets.loads.rest < tries
+
+-- no try was accepted: each of the counters is greater than the one before, and these are the last two
+pub record GivesUp (tries before after : ℕ) (old new : ReaderSeen) : Type 0 where
+  pub cell : new.cell ≡ old.cell
+  pub notes : new.notes ≡ old.notes
+  pub told : new.told ≡ after
+  pub first : ℕ
+  pub rest : List ℕ
+  pub begins : old.told ≤ first
+  pub climbs : ClimbsFrom first (rest ++ after ∷ [])
+  pub ends : last_from first rest ≡ before
+  pub all : length rest + 1 ≡ tries
+  pub gained : new.loads ≡ old.loads ++ first ∷ (rest ++ after ∷ [])
+
+-- one load of the counter
+pub record Looks (counter : ℕ) (old new : ReaderSeen) : Type 0 where
+  pub begins : old.told ≤ counter
+  pub pass : new ≡ record old { loads = old.loads ++ counter ∷ []; told = counter }

@@ -1,0 +1,19 @@
+-- The accesses of whole runs, one after another.
+use Rattle.std.specs.Prelude.{ℕ, zero, suc, ◌+◌, ◌-◌, List, [], ◌∷◌, length}
+use Rattle.board_layout.specs.declared.shape.CellShape.{CellShape}
+use Rattle.board_model.specs.OwedAccesses.{Owed, Reading, finished, hear, owed_read, owed_write}
+
+-- what a get owes before each of these words, until it is finished
+abbrev pub owed_reads : ℕ → CellShape → Reading → List ℕ → List Owed
+owed_reads board c r [] = []
+owed_reads board c (finished counter words) (v ∷ vs) = []
+owed_reads board c r (v ∷ vs) = owed_read board c r ∷ owed_reads board c (hear c.words r v) vs
+
+-- what an update owes in this many accesses, of which the first has number k
+abbrev pub owed_writes_from : ℕ → CellShape → ℕ → List ℕ → ℕ → ℕ → List Owed
+owed_writes_from board c g words k zero = []
+owed_writes_from board c g words k (suc n) = owed_write board c g words k ∷ owed_writes_from board c g words (k + 1) n
+
+-- what an update owes from its access number k to its last one, the counter
+abbrev pub owed_writes : ℕ → CellShape → ℕ → List ℕ → ℕ → List Owed
+owed_writes board c g words k = owed_writes_from board c g words k (length words + 1 - k)

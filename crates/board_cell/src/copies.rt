@@ -1,0 +1,30 @@
+ghost use Rattle.std.specs.Prelude.{◌≡◌, ◌+◌, ◌^◌, ◌<◌};
+ghost use Rattle.board_model.specs.Copies.{spare_at, current_at, cell_end};
+
+use board_layout::CellShape;
+
+// The word with this index of the first copy, or of the second one.
+#[inline(always)]
+pub(crate) fn spare_word(shape: CellShape, generation: u64, index: u64) -> u64
+    requires { (cell_end shape < 2 ^ 64) × (index < shape.words) }
+    ensures { result ≡ spare_at shape generation + index }
+{
+    if generation % 2 == 0 {
+        shape.first + shape.head + index
+    } else {
+        shape.first + shape.head + shape.words + index
+    }
+}
+
+// The word with this index of the copy that is current at this counter.
+#[inline(always)]
+pub(crate) fn current_word(shape: CellShape, counter: u64, index: u64) -> u64
+    requires { (cell_end shape < 2 ^ 64) × (index < shape.words) }
+    ensures { result ≡ current_at shape counter + index }
+{
+    if counter % 2 == 0 {
+        shape.first + shape.head + shape.words + index
+    } else {
+        shape.first + shape.head + index
+    }
+}

@@ -1,0 +1,144 @@
+ghost use Rattle.std.specs.Prelude.{ℕ, ◌≡◌, ◌+◌, ◌^◌, ◌<◌, nat_lt, true, false, if◌then◌else◌, ◌++◌, [], ◌∷◌, List, length};
+ghost use Rattle.board_model.specs.Copies.{cell_end};
+ghost use Rattle.board_model.specs.OwedAccesses.{Reading, opening, trying, hear, reading_from, is_finished, owed_read};
+ghost use Rattle.board_cell.specs.Calls.{told, progress_of, counter_of, words_of};
+
+use crate::access::{Access, Progress};
+use crate::copies::current_word;
+use board_layout::CellShape;
+use std::marker::Model;
+
+// How far a get is.
+#[derive(Clone, Copy, Debug, PartialEq, Eq)]
+pub(crate) enum Stage {
+    Opening,
+    Trying,
+    Finished,
+}
+
+/// A read of a cell, one access after another: the counter, the words of the current copy, and the counter again, until two counters are equal.
+#[derive(Drop, Debug)]
+pub struct GetCall {
+    shape: CellShape,
+    buffer: Vec<u64>,
+    counter: u64,
+    at: u64,
+    stage: Stage,
+}
+
+impl Model for GetCall {
+    ghost use Rattle.std.specs.Prelude.{◌≡◌, ◌^◌, ◌<◌, ◌≤◌, length, take};
+    ghost use Rattle.board_model.specs.Copies.{cell_end};
+    ghost use Rattle.board_cell.specs.declared.get_call.Stage.TheVariants.{Opening, Finished};
+    ghost use Rattle.board_cell.specs.Calls.{Getting};
+    ghost use Rattle.board_cell.specs.Stages.{reading_of};
+
+    ghost Value = { Getting };
+
+    ghost view = { λ s. record { shape = s.shape; reading = reading_of s.stage s.counter (take s.at s.buffer.items) } };
+
+    ghost invariant = { λ s. (length s.buffer.items ≡ s.shape.words) × (cell_end s.shape < 2 ^ 64) × (s.at ≤ s.shape.words) × (s.stage ≡ Opening → s.at ≡ 0) × (s.stage ≡ Finished → s.at ≡ s.shape.words) };
+}
+
+impl GetCall {
+    /// A read of the cell of this shape. The buffer has as many words as a value.
+    #[inline(always)]
+    pub fn new(shape: CellShape, buffer: Vec<u64>) -> GetCall
+        requires buffer { length buffer.items ≡ shape.words }
+        requires shape { cell_end shape < 2 ^ 64 }
+        ensures { result ≡ record { shape = shape; reading = opening } }
+    {
+        GetCall {
+            shape,
+            buffer,
+            counter: 0,
+            at: 0,
+            stage: Stage::Opening,
+        }
+    }
+
+    /// The access that is owed.
+    #[inline(always)]
+    pub fn next(&self) -> Access
+        requires { is_finished self.now.reading ≡ false }
+        ensures { (board : ℕ) → told board result ≡ owed_read board self.now.shape self.now.reading }
+    {
+        if self.stage == Stage::Trying && self.at < self.buffer.len() as u64 {
+            Access::Read {
+                word: current_word(self.shape, self.counter, self.at),
+            }
+        } else {
+            Access::Read {
+                word: self.shape.first,
+            }
+        }
+    }
+
+    // Begins a try at this counter.
+    #[inline(always)]
+    fn begin_try(&mut self, counter: u64)
+        ensures { self.new ≡ record self.old { reading = trying counter [] } }
+    {
+        self.stage = Stage::Trying;
+        self.counter = counter;
+        self.at = 0;
+    }
+
+    /// Takes the word that was read.
+    #[inline(always)]
+    pub fn took(&mut self, word: u64) -> Progress
+        requires { is_finished self.old.reading ≡ false }
+        ensures call { self.new ≡ record self.old { reading = hear self.old.shape.words self.old.reading word } }
+        ensures progress { result ≡ progress_of (is_finished self.new.reading) }
+    {
+        if self.stage == Stage::Opening {
+            self.begin_try(word);
+            Progress::More
+        } else if self.at < self.buffer.len() as u64 {
+            self.buffer[self.at as usize] = word;
+            self.at += 1;
+            Progress::More
+        } else if word == self.counter {
+            self.stage = Stage::Finished;
+            Progress::Done
+        } else {
+            self.begin_try(word);
+            Progress::More
+        }
+    }
+
+    /// Whether the open try still owes a word.
+    #[inline(always)]
+    pub fn owes_word(&self) -> bool
+        ensures { result ≡ nat_lt (length (words_of self.now.reading)) self.now.shape.words }
+    {
+        self.at < self.buffer.len() as u64
+    }
+
+    /// The counter at which the words were read.
+    #[inline(always)]
+    pub fn generation(&self) -> u64
+        requires { is_finished self.now.reading ≡ true }
+        ensures { result ≡ counter_of self.now.reading }
+    {
+        self.counter
+    }
+
+    /// The words that were read.
+    #[inline(always)]
+    pub fn words(&self) -> &Vec<u64>
+        requires { is_finished self.now.reading ≡ true }
+        ensures { result.now.items ≡ words_of self.now.reading }
+    {
+        &self.buffer
+    }
+
+    /// Gives the buffer back: with the words that were read, once the call is done.
+    #[inline(always)]
+    pub fn into_buffer(self) -> Vec<u64>
+        ensures width { length result.items ≡ self.shape.words }
+        ensures words { is_finished self.reading ≡ true → result.items ≡ words_of self.reading }
+    {
+        self.buffer
+    }
+}

@@ -1,0 +1,35 @@
+//! The words of a cell, the calls on it as step machines, and the cell between threads.
+#![tactic(auto)]
+
+mod access;
+mod cell_error;
+mod copies;
+mod fresh_call;
+mod get_call;
+mod laws;
+mod plain_words;
+mod publish_call;
+mod put_call;
+mod runs;
+mod seat_words;
+mod threaded;
+mod update_call;
+mod words;
+
+pub use access::{Access, Progress};
+pub use board_layout::CellShape;
+pub use cell_error::CellError;
+pub use fresh_call::FreshCall;
+pub use get_call::GetCall;
+pub use laws::{a_get_hears_in_order, a_history_is_legal, a_try_decides};
+pub use plain_words::PlainWords;
+pub use publish_call::PublishCall;
+pub use put_call::PutCall;
+pub use runs::{run_get, run_update};
+pub use seat_words::SeatWords;
+pub use threaded::{Gathered, GetAgain, Note, ReaderPass, Receipt, ThreadedCell, WriterPass};
+pub use update_call::{UpdateCall, ValueWords};
+pub use words::Words;
+
+#[cfg(test)]
+mod tests;

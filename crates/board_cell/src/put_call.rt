@@ -1,0 +1,73 @@
+ghost use Rattle.std.specs.Prelude.{ℕ, ◌≡◌, ◌+◌, ◌^◌, ◌<◌, true, false};
+ghost use Rattle.board_model.specs.Copies.{spare_at, cell_end};
+ghost use Rattle.board_model.specs.OwedAccesses.{to_write};
+ghost use Rattle.board_cell.specs.Calls.{told};
+ghost use Rattle.board_cell.specs.declared.access.Progress.TheVariants.{Done};
+
+use crate::access::{Access, Progress};
+use crate::copies::spare_word;
+use board_layout::CellShape;
+use std::marker::Model;
+
+/// One word of a loan, written into the spare copy.
+#[derive(Drop, Debug)]
+pub struct PutCall {
+    shape: CellShape,
+    generation: u64,
+    index: u64,
+    word: u64,
+    done: bool,
+}
+
+impl Model for PutCall {
+    ghost use Rattle.std.specs.Prelude.{◌^◌, ◌<◌};
+    ghost use Rattle.board_model.specs.Copies.{cell_end};
+    ghost use Rattle.board_cell.specs.Calls.{Putting};
+
+    ghost Value = { Putting };
+
+    ghost view = { λ s. record { shape = s.shape; generation = s.generation; index = s.index; word = s.word; done = s.done } };
+
+    ghost invariant = { λ s. (cell_end s.shape < 2 ^ 64) × (s.index < s.shape.words) };
+}
+
+impl PutCall {
+    /// Puts this word at this index of the copy that is spare at this generation.
+    #[inline(always)]
+    pub fn new(shape: CellShape, generation: u64, index: u64, word: u64) -> PutCall
+        requires index { index < shape.words }
+        requires shape { cell_end shape < 2 ^ 64 }
+        ensures { result ≡ record { shape = shape; generation = generation; index = index; word = word; done = false } }
+    {
+        PutCall {
+            shape,
+            generation,
+            index,
+            word,
+            done: false,
+        }
+    }
+
+    /// The access that is owed.
+    #[inline(always)]
+    pub fn next(&self) -> Access
+        requires { self.now.done ≡ false }
+        ensures { (board : ℕ) → told board result ≡ to_write board (spare_at self.now.shape self.now.generation + self.now.index) self.now.word }
+    {
+        Access::Write {
+            word: spare_word(self.shape, self.generation, self.index),
+            value: self.word,
+        }
+    }
+
+    /// The access was made.
+    #[inline(always)]
+    pub fn took(&mut self, _word: u64) -> Progress
+        requires { self.old.done ≡ false }
+        ensures call { self.new ≡ record self.old { done = true } }
+        ensures progress { result ≡ Done }
+    {
+        self.done = true;
+        Progress::Done
+    }
+}

@@ -1,0 +1,4 @@
+mod calls;
+mod row;
+mod shared;
+mod words;

@@ -1,0 +1,64 @@
+//! The calls, each through its accesses, in a cell of two words that begins with word 4: its copies begin with words 6 and 8.
+use crate::{
+    Access, CellShape, FreshCall, GetCall, Progress, PublishCall, PutCall, UpdateCall, Words,
+    run_get, run_update,
+};
+use std::test::*;
+
+const SHAPE: CellShape = CellShape {
+    first: 4,
+    head: 2,
+    words: 2,
+};
+
+#[test]
+fn an_update_fills_the_spare_copy_and_then_raises_the_counter(rt: HostRuntime) -> Result<(), Fail> {
+    let alloc = rt.alloc();
+    let mut call = UpdateCall::new(SHAPE, 1, vec![in alloc; 7, 9]?);
+    let mut accesses = Vec::new(alloc);
+    run_update(&mut call, &mut accesses)?;
+    let expected = [
+        Access::Write { word: 8, value: 7 },
+        Access::Write { word: 9, value: 9 },
+        Access::Write { word: 4, value: 2 },
+    ];
+    assert_eq!(rt; accesses.as_slice(), expected.as_slice());
+    assert_eq!(rt; call.into_buffer().as_slice(), [7, 9].as_slice());
+    Ok(())
+}
+
+#[test]
+fn a_get_that_meets_one_update_tries_again(rt: HostRuntime) -> Result<(), Fail> {
+    let alloc = rt.alloc();
+    let mut call = GetCall::new(SHAPE, vec![in alloc; 0, 0]?);
+    let mut accesses = Vec::new(alloc);
+    run_get(&mut call, &[1, 5, 6, 2, 7, 9, 2], &mut accesses)?;
+    let expected = [4, 6, 7, 4, 8, 9, 4];
+    assert_eq!(rt; accesses.len(), expected.len());
+    for (access, word) in accesses.iter().zip(expected) {
+        assert_eq!(rt; *access, Access::Read { word });
+    }
+    assert_eq!(rt; call.generation(), 2);
+    assert_eq!(rt; call.words().as_slice(), [7, 9].as_slice());
+    Ok(())
+}
+
+#[test]
+fn a_fresh_asks_the_counter_alone(rt: HostRuntime) {
+    for (counter, fresh) in [(2, false), (3, true), (4, false)] {
+        let mut call = FreshCall::new(SHAPE, 3);
+        assert_eq!(rt; call.next(), Access::Read { word: 4 });
+        assert_eq!(rt; call.took(counter), Progress::Done);
+        assert_eq!(rt; call.answer(), fresh, "at {counter}");
+    }
+}
+
+#[test]
+fn a_loan_puts_its_words_and_publishes(rt: HostRuntime) {
+    let mut put = PutCall::new(SHAPE, 2, 1, 9);
+    assert_eq!(rt; put.next(), Access::Write { word: 7, value: 9 });
+    assert_eq!(rt; put.took(0), Progress::Done);
+    let mut publish = PublishCall::new(SHAPE, 2);
+    assert_eq!(rt; publish.next(), Access::Write { word: 4, value: 3 });
+    assert_eq!(rt; publish.took(0), Progress::Done);
+}

@@ -1,0 +1,142 @@
+//! A writer and two readers in one scope.
+ghost use Rattle.std.specs.Prelude.{◌≡◌, ◌+◌, ◌^◌, ◌<◌, ◌∷◌, [], length, IfOk};
+
+use crate::{ReaderPass, ThreadedCell, WriterPass};
+use std::alloc::AllocError;
+use std::snapshot::Snapshot;
+use std::sync::{Arc, Wait};
+use std::test::*;
+use std::thread;
+use std::thread::{Promise, Threads};
+
+#[derive(Drop)]
+struct WriterOf(Snapshot<ThreadedCell>);
+
+impl Promise<WriterPass> for WriterOf {
+    ghost kept_by = { λ p r. r.cell ≡ p.0.value.cell };
+}
+
+#[derive(Drop)]
+struct ReaderOf(Snapshot<ThreadedCell>);
+
+impl Promise<(ReaderPass, bool)> for ReaderOf {
+    ghost kept_by = { λ p r. r.0.cell ≡ p.0.value.cell };
+}
+
+fn write_all(cell: &ThreadedCell, mut writer: WriterPass, mut words: Vec<u64>) -> WriterPass
+    requires { (writer.cell ≡ cell.now.cell) × (length words.items ≡ cell.now.width) × (length writer.published < 2 ^ 32) }
+    ensures { result.cell ≡ writer.cell }
+{
+    for i in 0..1000u64 {
+        words.as_mut_slice().fill(i);
+        cell.update(&mut writer, &words);
+    }
+    writer
+}
+
+fn all_same(words: &Vec<u64>) -> bool {
+    match words.first() {
+        Some(first) => words.iter().all(|w| w == first),
+        None => true,
+    }
+}
+
+fn read_all(cell: &ThreadedCell, mut reader: ReaderPass, mut out: Vec<u64>) -> (ReaderPass, bool)
+    requires { (reader.cell ≡ cell.now.cell) × (length out.items ≡ cell.now.width) }
+    ensures { result.0.cell ≡ reader.cell }
+{
+    let mut right = true;
+    for _ in 0..1000u32 {
+        if cell.try_get(&mut reader, 8, &mut out).is_ok() && !all_same(&out) {
+            right = false;
+        }
+    }
+    (reader, right)
+}
+
+fn run<R: Threads + Wait + Sync>(
+    rt: &R,
+    cell: &ThreadedCell,
+    writer: WriterPass,
+    first: ReaderPass,
+    second: ReaderPass,
+    words: Vec<u64>,
+    one: Vec<u64>,
+    two: Vec<u64>,
+) -> Result<(WriterPass, ReaderPass, ReaderPass, bool), AllocError>
+    requires cell { (writer.cell ≡ cell.now.cell) × (first.cell ≡ cell.now.cell) × (second.cell ≡ cell.now.cell) }
+    requires width { (length words.items ≡ cell.now.width) × (length one.items ≡ cell.now.width) × (length two.items ≡ cell.now.width) }
+    requires room { length writer.published < 2 ^ 32 }
+    ensures { IfOk result (λ r. (r.0.cell ≡ cell.now.cell) × (r.1.cell ≡ cell.now.cell) × (r.2.cell ≡ cell.now.cell)) }
+{
+    thread::scope(
+        thread::scope_env(),
+        rt,
+        |scope| -> Result<(WriterPass, ReaderPass, ReaderPass, bool), AllocError>
+            requires { (writer.cell ≡ cell.now.cell) × (first.cell ≡ cell.now.cell) × (second.cell ≡ cell.now.cell) × (length words.items ≡ cell.now.width) × (length one.items ≡ cell.now.width) × (length two.items ≡ cell.now.width) × (length writer.published < 2 ^ 32) }
+            ensures { IfOk result (λ r. (r.0.cell ≡ cell.entry.now.cell) × (r.1.cell ≡ cell.entry.now.cell) × (r.2.cell ≡ cell.entry.now.cell)) }
+        {
+            let a = scope.spawn_with(
+                WriterOf(Snapshot::of(cell)),
+                move ||
+                    requires { (writer.cell ≡ cell.now.cell) × (length words.items ≡ cell.now.width) × (length writer.published < 2 ^ 32) }
+                    ensures { result.cell ≡ writer.cell }
+                { write_all(cell, writer, words) },
+            )?;
+            let b = scope.spawn_with(
+                ReaderOf(Snapshot::of(cell)),
+                move ||
+                    requires { (first.cell ≡ cell.now.cell) × (length one.items ≡ cell.now.width) }
+                    ensures { result.0.cell ≡ first.cell }
+                { read_all(cell, first, one) },
+            )?;
+            let c = scope.spawn_with(
+                ReaderOf(Snapshot::of(cell)),
+                move ||
+                    requires { (second.cell ≡ cell.now.cell) × (length two.items ≡ cell.now.width) }
+                    ensures { result.0.cell ≡ second.cell }
+                { read_all(cell, second, two) },
+            )?;
+            let writer = a.join(rt);
+            let (first, right) = b.join(rt);
+            let (second, also) = c.join(rt);
+            Ok((writer, first, second, right && also))
+        },
+    )
+}
+
+#[test]
+fn each_value_that_a_reader_gets_is_whole(rt: HostRuntime) -> Result<(), Fail> {
+    let words = vec![in rt.alloc(); 0u64; 4]?;
+    let (cell, writer, mut first) = ThreadedCell::new(rt.alloc(), &words)?;
+    let second = cell.split(&mut first);
+    let (one, two) = (words.clone()?, words.clone()?);
+    let (mut writer, first, mut second, right) = run(
+        &rt, &cell, writer, first, second, words, one, two,
+    )?;
+    assert!(rt; right);
+    cell.meet(&mut writer, &mut second);
+    let mut readers = Vec::new(rt.alloc());
+    readers.push(first)?;
+    readers.push(second)?;
+    let all = cell.gather(&mut writer, &mut readers);
+    assert_eq!(rt; all.generation, 1001);
+    Ok(())
+}
+
+fn is_send<T: Send>(x: T) -> T
+    ensures { result ≡ x }
+{
+    x
+}
+
+#[test]
+fn a_receipt_may_cross_threads(rt: HostRuntime) -> Result<(), Fail> {
+    let words = vec![in rt.alloc(); 5u64]?;
+    let (cell, mut writer, mut reader) = ThreadedCell::new(rt.alloc(), &words)?;
+    let receipt = is_send(cell.receipt(&mut writer));
+    cell.learn(&mut reader, receipt);
+    let cell = is_send(Arc::new(rt.alloc(), cell)?);
+    assert_eq!(rt; cell.words(), 1);
+    Ok(())
+}

@@ -1,0 +1,17 @@
+//! A cell that one writer and any number of readers share, each in a thread of its own, without a lock.
+
+mod cell;
+mod gather;
+mod reader;
+mod receipt;
+mod rule;
+mod steps;
+mod view;
+mod writer;
+
+pub use cell::ThreadedCell;
+pub use gather::Gathered;
+pub use reader::{GetAgain, ReaderPass};
+pub use receipt::Receipt;
+pub use view::Note;
+pub use writer::WriterPass;

@@ -1,0 +1,48 @@
+ghost use Rattle.std.specs.Prelude.{ℕ, ◌≡◌, ◌≤◌, length, map, slice_get, Some};
+ghost use Rattle.std.specs.List.{All};
+ghost use Rattle.board_cell.specs.Passes.{ReaderSeen, notes_of, Stands, NotesRise};
+ghost use Rattle.board_cell.specs.History.{IsLegal, history, publishes_in, reads_in};
+
+use crate::threaded::cell::ThreadedCell;
+use crate::threaded::reader::ReaderPass;
+use crate::threaded::rule::{Look, Parts};
+use crate::threaded::writer::WriterPass;
+
+/// The last generation, once the writer has met all readers.
+#[derive(Drop, Clone, Copy, Debug, PartialEq, Eq)]
+pub struct Gathered {
+    pub generation: u64,
+}
+
+impl ThreadedCell {
+    /// The writer meets a reader: each value that the reader noted is the one that was published at its generation.
+    pub fn meet(&self, writer: &mut WriterPass, reader: &mut ReaderPass)
+        requires cell { (writer.old.cell ≡ self.now.cell) × (reader.old.cell ≡ self.now.cell) }
+        ensures kept { (writer.new ≡ writer.old) × (reader.new ≡ reader.old) }
+        ensures notes { All (Stands writer.old.published) reader.old.notes }
+        ensures rises { NotesRise reader.old.notes }
+        ensures told { reader.old.told ≤ length writer.old.published }
+    {
+        let table = &self.table;
+        let shown = table.shared.split_seat::<Parts>(&mut reader.seat);
+        table.shared.join_seat::<Parts>(&mut writer.seat, shown);
+        table.shared.load::<Look>(&mut writer.seat, 0);
+    }
+
+    /// The writer meets each reader: the publications and the readers' notes make one legal history.
+    pub fn gather(&self, writer: &mut WriterPass, readers: &mut Vec<ReaderPass>) -> Gathered
+        requires cell { (writer.old.cell ≡ self.now.cell) × All (λ (r : ReaderSeen). r.cell ≡ self.now.cell) readers.old.items }
+        ensures kept { (writer.new ≡ writer.old) × (readers.new.items ≡ readers.old.items) }
+        ensures generation { result.generation ≡ length writer.old.published }
+        ensures legal { IsLegal (history writer.old.published (map notes_of readers.old.items)) }
+        ensures publishes { publishes_in (history writer.old.published (map notes_of readers.old.items)) ≡ writer.old.published }
+        ensures reads { (k : ℕ) (r : ReaderSeen) → slice_get readers.old.items k ≡ Some r → reads_in k (history writer.old.published (map notes_of readers.old.items)) ≡ r.notes }
+    {
+        for i in 0..readers.len() {
+            self.meet(writer, &mut readers[i]);
+        }
+        Gathered {
+            generation: writer.generation(),
+        }
+    }
+}

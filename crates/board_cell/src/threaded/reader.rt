@@ -1,0 +1,207 @@
+ghost use Rattle.std.specs.Prelude.{ℕ, ◌≡◌, ◌==◌, ◌<◌, [], max, length, IfOk, IfErr};
+ghost use Rattle.board_model.specs.OwedAccesses.{finished};
+ghost use Rattle.board_cell.specs.Calls.{words_of};
+ghost use Rattle.board_cell.specs.Passes.{cell_shape, new_reader, NotesRise, Gets, GetsWithin, GivesUp, Looks};
+ghost use Rattle.board_cell.specs.Views.{reader_of, IsTrying, AfterTries, AfterTriesWithin, AfterFailures};
+ghost use Rattle.board_cell.specs.declared.threaded.view.View.TheVariants.{Reader};
+
+use crate::fresh_call::FreshCall;
+use crate::get_call::GetCall;
+use crate::threaded::cell::ThreadedCell;
+use crate::threaded::rule::Parts;
+use crate::threaded::view::View;
+use atomic_table::Seat;
+use std::marker::Model;
+use std::mem;
+use std::sync::Wait;
+
+/// What one reader of a cell knows: the values that it read, the counters that it loaded, and the generation that it was told.
+#[derive(Drop)]
+pub struct ReaderPass {
+    pub(crate) seat: Seat<(), View>,
+}
+
+impl Model for ReaderPass {
+    ghost use Rattle.std.specs.Prelude.{◌≡◌, []};
+    ghost use Rattle.board_cell.specs.Passes.{ReaderSeen, NotesRise};
+    ghost use Rattle.board_cell.specs.Views.{reader_of};
+    ghost use Rattle.board_cell.specs.declared.threaded.view.View.TheVariants.{Reader};
+
+    ghost Value = { ReaderSeen };
+
+    ghost view = { λ s. record { cell = s.seat.table_id; notes = (reader_of s.seat.me.0).notes; loads = (reader_of s.seat.me.0).loads; told = (reader_of s.seat.me.0).told } };
+
+    ghost invariant = { λ s. (s.seat.me.0 ≡ Reader (reader_of s.seat.me.0)) × (s.seat.me.1 ≡ []) × NotesRise (reader_of s.seat.me.0).notes };
+}
+
+/// No try was accepted: the two counters of the last one.
+#[derive(Drop, Clone, Copy, Debug, PartialEq, Eq)]
+pub struct GetAgain {
+    pub before: u64,
+    pub after: u64,
+}
+
+impl ThreadedCell {
+    // Tries until one is accepted, or none is left.
+    #[inline(always)]
+    fn run_tries(
+        &self,
+        seat: &mut Seat<(), View>,
+        call: &mut GetCall,
+        opened: u64,
+        tries: u32,
+    ) -> Result<u64, GetAgain>
+        requires cell { seat.old.table_id ≡ self.now.cell }
+        requires seat { (seat.old.me.0 ≡ Reader (reader_of seat.old.me.0)) × ((reader_of seat.old.me.0).found ≡ []) × ((reader_of seat.old.me.0).opened ≡ opened) }
+        requires call { IsTrying self.now.width call.old (reader_of seat.old.me.0) }
+        requires some { 0 < tries }
+        ensures cell { (seat.new.table_id ≡ seat.old.table_id) × (seat.new.me.1 ≡ seat.old.me.1) × (call.new.shape ≡ call.old.shape) }
+        ensures rises { NotesRise (reader_of seat.new.me.0).notes }
+        ensures ok { IfOk result (λ g. AfterTriesWithin tries (reader_of seat.old.me.0) seat.new.me.0 opened g (words_of call.new.reading) × (call.new.reading ≡ finished g (words_of call.new.reading))) }
+        ensures again { IfErr result (λ e. AfterFailures tries (reader_of seat.old.me.0) seat.new.me.0 opened e.before e.after) }
+    {
+        let mut before = opened;
+        let mut left = tries;
+        'tries: loop {
+            let after = self.try_once(seat, call);
+            if after == before {
+                return Ok(after);
+            }
+            left -= 1;
+            if left == 0 {
+                return Err(GetAgain { before, after });
+            }
+            before = after;
+        }
+    }
+
+    /// Reads the value in at most this many tries, 0 counted as 1. Gives its generation, and its words in `out`, which has as many words as a value.
+    ///
+    /// # Errors
+    /// `GetAgain` where the counter rose in each of the tries; `out` then holds words of no use.
+    #[inline]
+    pub fn try_get(
+        &self,
+        pass: &mut ReaderPass,
+        tries: u32,
+        out: &mut Vec<u64>,
+    ) -> Result<u64, GetAgain>
+        requires cell { pass.old.cell ≡ self.now.cell }
+        requires width { length out.old.items ≡ self.now.width }
+        ensures width { length out.new.items ≡ self.now.width }
+        ensures ok { IfOk result (λ g. GetsWithin (max tries 1) g out.new.items pass.old pass.new) }
+        ensures again { IfErr result (λ e. GivesUp (max tries 1) e.before e.after pass.old pass.new) }
+    {
+        let shape = self.shape();
+        let buffer = mem::replace(out, Vec::new(*out.allocator()));
+        let mut call = GetCall::new(shape, buffer);
+        let opened = self.open_try(&mut pass.seat, &mut call);
+        let answer = self.run_tries(&mut pass.seat, &mut call, opened, tries.max(1));
+        mem::forget(mem::replace(out, call.into_buffer()));
+        answer
+    }
+
+    // Tries until one is accepted.
+    #[cold]
+    #[inline(never)]
+    fn run_all<R: Wait>(
+        &self,
+        rt: &R,
+        seat: &mut Seat<(), View>,
+        call: &mut GetCall,
+        opened: u64,
+    ) -> u64
+        requires cell { seat.old.table_id ≡ self.now.cell }
+        requires seat { (seat.old.me.0 ≡ Reader (reader_of seat.old.me.0)) × ((reader_of seat.old.me.0).found ≡ []) × ((reader_of seat.old.me.0).opened ≡ opened) }
+        requires call { IsTrying self.now.width call.old (reader_of seat.old.me.0) }
+        ensures cell { (seat.new.table_id ≡ seat.old.table_id) × (seat.new.me.1 ≡ seat.old.me.1) × (call.new.shape ≡ call.old.shape) }
+        ensures rises { NotesRise (reader_of seat.new.me.0).notes }
+        ensures ok { AfterTries (reader_of seat.old.me.0) seat.new.me.0 opened result (words_of call.new.reading) × (call.new.reading ≡ finished result (words_of call.new.reading)) }
+    {
+        let mut before = opened;
+        'tries: for _ in rt.forever() {
+            let after = self.try_once(seat, call);
+            if after == before {
+                return after;
+            }
+            before = after;
+        }
+        unreachable!()
+    }
+
+    // The first try stands apart, since it is mostly accepted: the loop stays out of its way.
+    #[inline(always)]
+    fn run_first<R: Wait>(
+        &self,
+        rt: &R,
+        seat: &mut Seat<(), View>,
+        mut call: GetCall,
+        opened: u64,
+    ) -> (u64, GetCall)
+        requires cell { seat.old.table_id ≡ self.now.cell }
+        requires seat { (seat.old.me.0 ≡ Reader (reader_of seat.old.me.0)) × ((reader_of seat.old.me.0).found ≡ []) × ((reader_of seat.old.me.0).opened ≡ opened) }
+        requires call { IsTrying self.now.width call (reader_of seat.old.me.0) }
+        ensures cell { (seat.new.table_id ≡ seat.old.table_id) × (seat.new.me.1 ≡ seat.old.me.1) × (result.1.shape ≡ call.shape) }
+        ensures rises { NotesRise (reader_of seat.new.me.0).notes }
+        ensures ok { AfterTries (reader_of seat.old.me.0) seat.new.me.0 opened result.0 (words_of result.1.reading) × (result.1.reading ≡ finished result.0 (words_of result.1.reading)) }
+    {
+        let after = self.try_once(seat, &mut call);
+        if after == opened {
+            return (after, call);
+        }
+        // The loop gets the call for itself, so that it stays in registers above.
+        let mut slow = call;
+        let generation = self.run_all(rt, seat, &mut slow, after);
+        (generation, slow)
+    }
+
+    /// Reads the value, in as many tries as it takes. Gives its generation, and its words in `out`, which has as many words as a value.
+    #[inline]
+    pub fn get<R: Wait>(&self, rt: &R, pass: &mut ReaderPass, out: &mut Vec<u64>) -> u64
+        requires cell { pass.old.cell ≡ self.now.cell }
+        requires width { length out.old.items ≡ self.now.width }
+        ensures width { length out.new.items ≡ self.now.width }
+        ensures got { Gets result out.new.items pass.old pass.new }
+    {
+        let shape = self.shape();
+        let buffer = mem::replace(out, Vec::new(*out.allocator()));
+        let mut call = GetCall::new(shape, buffer);
+        let first = self.open_try(&mut pass.seat, &mut call);
+        let (generation, call) = self.run_first(rt, &mut pass.seat, call, first);
+        mem::forget(mem::replace(out, call.into_buffer()));
+        generation
+    }
+
+    /// Whether one load of the counter gave this generation.
+    #[inline]
+    pub fn fresh(&self, pass: &mut ReaderPass, generation: u64) -> bool
+        requires { pass.old.cell ≡ self.now.cell }
+        ensures { (counter : ℕ) × Looks counter pass.old pass.new × (result ≡ (counter == generation)) }
+    {
+        let mut call = FreshCall::new(self.shape(), generation);
+        self.glance(&mut pass.seat, &mut call);
+        call.answer()
+    }
+
+    /// A pass for another reader, which is told as much as this one.
+    pub fn split(&self, pass: &mut ReaderPass) -> ReaderPass
+        requires { pass.old.cell ≡ self.now.cell }
+        ensures kept { pass.new ≡ pass.old }
+        ensures given { result ≡ new_reader pass.old.cell pass.old.told }
+    {
+        let table = &self.table;
+        ReaderPass {
+            seat: table.shared.split_seat::<Parts>(&mut pass.seat),
+        }
+    }
+
+    /// Tells the pass what the other one was told, and gives the other up.
+    pub fn join(&self, pass: &mut ReaderPass, other: ReaderPass)
+        requires cell { (pass.old.cell ≡ self.now.cell) × (other.cell ≡ self.now.cell) }
+        ensures { pass.new ≡ record pass.old { told = max pass.old.told other.told } }
+    {
+        let table = &self.table;
+        let ReaderPass { seat } = other;
+        table.shared.join_seat::<Parts>(&mut pass.seat, seat);
+    }
+}

@@ -1,0 +1,53 @@
+ghost use Rattle.std.specs.Prelude.{◌≡◌, max};
+
+use crate::threaded::cell::ThreadedCell;
+use crate::threaded::reader::ReaderPass;
+use crate::threaded::rule::Parts;
+use crate::threaded::view::View;
+use atomic_table::Seat;
+use std::marker::Model;
+
+/// Names a publication, so that a reader can be told of it.
+#[derive(Drop)]
+pub struct Receipt {
+    pub(crate) seat: Seat<(), View>,
+    pub(crate) generation: u64,
+}
+
+impl Model for Receipt {
+    ghost use Rattle.std.specs.Prelude.{◌≡◌, []};
+    ghost use Rattle.board_cell.specs.Passes.{ReceiptSeen};
+    ghost use Rattle.board_cell.specs.Views.{reader_of};
+    ghost use Rattle.board_cell.specs.declared.threaded.view.View.TheVariants.{Reader};
+
+    ghost Value = { ReceiptSeen };
+
+    ghost view = { λ s. record { cell = s.seat.table_id; generation = s.generation } };
+
+    ghost invariant = { λ s. (s.seat.me.0 ≡ Reader (reader_of s.seat.me.0)) × (s.seat.me.1 ≡ []) × ((reader_of s.seat.me.0).told ≡ s.generation) };
+}
+
+impl Receipt {
+    /// The generation of the publication.
+    #[inline]
+    pub fn generation(&self) -> u64
+        ensures { result ≡ self.now.generation }
+    {
+        self.generation
+    }
+}
+
+impl ThreadedCell {
+    /// Tells a reader of the publication: its next gets give that value or a later one.
+    pub fn learn(&self, pass: &mut ReaderPass, receipt: Receipt)
+        requires cell { (pass.old.cell ≡ self.now.cell) × (receipt.cell ≡ self.now.cell) }
+        ensures { pass.new ≡ record pass.old { told = max pass.old.told receipt.generation } }
+    {
+        let table = &self.table;
+        let Receipt {
+            seat,
+            generation: _,
+        } = receipt;
+        table.shared.join_seat::<Parts>(&mut pass.seat, seat);
+    }
+}

@@ -1,0 +1,3 @@
+pub mod Monitors
+pub mod Queue
+pub mod Channels

@@ -1,0 +1,128 @@
+//! What a channel does: senders add numbers to a queue under a name, and a receiver takes them in their order.
+ghost use Rattle.std.specs.Prelude.{◌≡◌, ℕ, List, Bool, codes};
+
+use board_names::{
+    CommunicationChannelCreateError, CommunicationChannelOpenError,
+    CommunicationChannelReceiveError, CommunicationChannelSendError, FileName, NamedConcept,
+    NamedConceptBuilder, NamedConceptMgmt,
+};
+use std::alloc::Global;
+use std::sync::Wait;
+
+/// How many numbers a channel holds, unless its creator is told otherwise.
+pub const DEFAULT_RECEIVER_BUFFER_SIZE: usize = 8;
+
+/// The channels of this process.
+pub type Local = crate::channel::Channel;
+
+/// Channels of one kind.
+pub trait CommunicationChannel: NamedConceptMgmt + Sized {
+    type Sender;
+
+    type Receiver;
+
+    /// What makes a receiver, and with it the channel.
+    type Creator;
+
+    /// What opens a sender.
+    type Connector;
+
+    /// The suffix that a builder starts with.
+    fn default_suffix() -> FileName
+        ensures { result ≡ codes ".com" };
+
+    /// Whether a full channel can give its oldest number back in place of a refusal.
+    fn does_support_safe_overflow() -> bool {
+        false
+    }
+
+    /// Whether a creator can be told how many numbers the channel holds.
+    fn has_configurable_buffer_size() -> bool {
+        false
+    }
+}
+
+/// One end of a channel.
+pub trait CommunicationChannelParticipant {
+    ghost overflows: { Self → Bool };
+
+    /// Whether a full channel gives its oldest number back in place of a refusal.
+    fn does_enable_safe_overflow(&self) -> bool
+        ensures { result ≡ overflows self.now };
+}
+
+/// The end that sends.
+pub trait CommunicationChannelSender: CommunicationChannelParticipant + NamedConcept {
+    /// Adds a number. A full channel that overflows hands its oldest one back.
+    ///
+    /// # Errors
+    /// `ReceiverCacheIsFull` where the channel is full and doesn't overflow. It stays as it was.
+    fn send<R: Wait>(
+        &self,
+        rt: &R,
+        value: &u64,
+    ) -> Result<Option<u64>, CommunicationChannelSendError>;
+
+    /// The same as `send`.
+    ///
+    /// # Errors
+    /// `ReceiverCacheIsFull` where the channel is full and doesn't overflow. It stays as it was.
+    fn try_send<R: Wait>(
+        &self,
+        rt: &R,
+        value: &u64,
+    ) -> Result<Option<u64>, CommunicationChannelSendError>;
+}
+
+/// The end that receives.
+pub trait CommunicationChannelReceiver: CommunicationChannelParticipant + NamedConcept {
+    ghost holds: { Self → ℕ };
+
+    /// How many numbers the channel holds.
+    fn buffer_size(&self) -> usize
+        ensures { result ≡ holds self.now };
+
+    /// Takes the oldest number. It is never refused.
+    fn receive<R: Wait>(&self, rt: &R) -> Result<Option<u64>, CommunicationChannelReceiveError>;
+}
+
+/// A builder of a receiver and its channel.
+pub trait CommunicationChannelCreator: NamedConceptBuilder {
+    type Receiver: CommunicationChannelReceiver;
+
+    /// A full channel gives its oldest number back in place of a refusal.
+    fn enable_safe_overflow(self) -> Self;
+
+    /// How many numbers the channel holds; 0 counts as 1.
+    fn buffer_size(self, value: usize) -> Self;
+
+    /// The channel, and its receiver.
+    ///
+    /// # Errors
+    /// `AlreadyExists` where the name is held; `OutOfMemory`.
+    fn create_receiver<R: Wait>(
+        self,
+        rt: &R,
+        alloc: Global,
+    ) -> Result<Self::Receiver, CommunicationChannelCreateError>;
+}
+
+/// A builder of a sender.
+pub trait CommunicationChannelConnector: NamedConceptBuilder {
+    type Sender: CommunicationChannelSender;
+
+    /// A sender of the channel under the name.
+    ///
+    /// # Errors
+    /// `DoesNotExist` where the name isn't held; `OutOfMemory`.
+    fn open_sender<R: Wait>(self, rt: &R) -> Result<Self::Sender, CommunicationChannelOpenError>;
+
+    /// The same as `open_sender`.
+    ///
+    /// # Errors
+    /// `DoesNotExist` where the name isn't held; `OutOfMemory`.
+    fn try_open_sender<R: Wait>(
+        self,
+        rt: &R,
+    ) -> Result<Self::Sender, CommunicationChannelOpenError>;
+}

@@ -1,0 +1,93 @@
+//! What monitoring does: who takes a name holds its token, others see whether the token lives, and one of them may clean up.
+ghost use Rattle.std.specs.Prelude.{◌≡◌, ℕ, List, codes};
+
+use board_names::{
+    FileName, MonitoringCreateCleanerError, MonitoringCreateMonitorError,
+    MonitoringCreateTokenError, MonitoringStateError, NamedConcept, NamedConceptBuilder,
+    NamedConceptMgmt,
+};
+use std::alloc::Global;
+use std::sync::Wait;
+
+/// The monitoring of this process.
+pub type Local = crate::process_local_monitoring::ProcessLocalMonitoring;
+
+/// What a monitor sees of a name.
+#[derive(Clone, Copy, Debug, PartialEq, Eq)]
+pub enum State {
+    /// Its token is held.
+    Alive,
+    /// Its token was abandoned. A cleaner may own the name.
+    Dead,
+    /// It isn't held.
+    DoesNotExist,
+}
+
+/// The monitoring of names.
+pub trait Monitoring: NamedConceptMgmt + Sized {
+    type Token;
+
+    type Monitor;
+
+    type Cleaner;
+
+    /// What makes them.
+    type Builder;
+
+    /// The suffix that a builder starts with.
+    fn default_suffix() -> FileName
+        ensures { result ≡ codes ".monitor" };
+}
+
+/// A builder of a token, a monitor or a cleaner of a name.
+pub trait MonitoringBuilder: NamedConceptBuilder {
+    type Token: MonitoringToken;
+
+    type Monitor: MonitoringMonitor;
+
+    type Cleaner: MonitoringCleaner;
+
+    /// Takes the name.
+    ///
+    /// # Errors
+    /// `AlreadyExists` where it is held; `OutOfMemory`.
+    fn token<R: Wait>(
+        self,
+        rt: &R,
+        alloc: Global,
+    ) -> Result<Self::Token, MonitoringCreateTokenError>;
+
+    /// Watches the name, whether or not it is held. It is never refused.
+    fn monitor(self) -> Result<Self::Monitor, MonitoringCreateMonitorError>;
+
+    /// Takes a dead name, to clean up after it.
+    ///
+    /// # Errors
+    /// `InstanceStillAlive` where its token is held; `AlreadyOwnedByAnotherInstance` where it has a cleaner;
+    /// `DoesNotExist` where it isn't held.
+    fn cleaner<R: Wait>(self, rt: &R) -> Result<Self::Cleaner, MonitoringCreateCleanerError>;
+}
+
+/// The holder of a name.
+pub trait MonitoringToken: NamedConcept + Sized {
+    /// Leaves the name dead, where it is still held.
+    fn abandon<R: Wait>(self, rt: &R);
+
+    /// Lets the name go.
+    fn release<R: Wait>(self, rt: &R);
+}
+
+/// One who watches a name.
+pub trait MonitoringMonitor: NamedConcept {
+    /// What is seen of the name. It is never refused.
+    fn state<R: Wait>(&self, rt: &R) -> Result<State, MonitoringStateError>;
+}
+
+/// One who cleans up after a dead name.
+pub trait MonitoringCleaner: NamedConcept + Sized {
+    /// Leaves the name dead, where it is still held, for another cleaner.
+    fn relinquish<R: Wait>(self, rt: &R);
+
+    /// Lets the name go.
+    fn release<R: Wait>(self, rt: &R);
+}

@@ -1,0 +1,199 @@
+-- Entry ids.
+use Rattle.std.proofs.Common.{◌≡◌, ℕ, zero, suc, ◌+◌, ◌<◌, ◌≤◌, Bool, true, false, cond, List, [], ◌∷◌, arith, refl, sym, ap, subst, ◌∙◌, Option, Some, None, inl, inr}
+use Rattle.std.specs.Prelude.{slice_get, ◌⊎◌, if◌then◌else◌}
+use Rattle.std.specs.List.{list_any}
+use Rattle.board_layout.specs.declared.type_detail.TypeDetail.{TypeDetail}
+use Rattle.board_model.specs.declared.answer.Reply.TheVariants as reply
+use Rattle.board_model.specs.declared.errors.EntryHandleMutError.TheVariants as entry_mut_error
+use Rattle.board_model.specs.declared.line.Line.{Line}
+use Rattle.board_model.specs.declared.answer.Answer.{Answer}
+use Rattle.board_model.specs.declared.tables.Board.{Board}
+use Rattle.board_model.specs.declared.tables.Entry.{Entry}
+use Rattle.board_model.specs.declared.value.Key.{Key}
+use Rattle.board_model.specs.declared.value.ValueType.{ValueType}
+use Rattle.board_model.specs.Copies.{cell_end}
+use Rattle.board_model.specs.TypeTable.{same_type, value_detail}
+use Rattle.board_model.specs.Tables.{board_at, entry_at, entry_found, entry_from, entry_in, is_write_handle, of_type}
+use Rattle.board_model.specs.TableCalls.{asked, entry_asked, entry_mut_asked, first_of, place_of, with_write_handle}
+use Rattle.board_model.specs.Things.{Held, Standing, cell_shape}
+use Rattle.board_model.specs.Requests.{Request, create, describe, entry, entry_mut, fill, fresh, get, give_back, identify, join, lend, list_keys, list_nodes, publish, put, reader, table, tell, update, writer}
+use Rattle.board_model.specs.Replies.{ask, is_key, number_or}
+use Rattle.board_model.specs.LawfulSession.{IsRight, State, state_after}
+use Rattle.board_model.specs.Sound.{BoardTables}
+use Rattle.board_model.specs.LawsOfSessions.{Pairs, at_one, at_two}
+use Rattle.board_model.specs.LawsOfIds.{AsksForHandle, EntriesHaveOtherPlaces, IsMade, OneKeyOneId, OtherEntriesOtherIds}
+use Rattle.board_model.proofs.SessionLaws.{apart, pair_step}
+use Rattle.board_model.proofs.BoardLemmas.{session_boards}
+
+-- ---- places
+
+same_or_apart : (i j : ℕ) → (i ≡ j) ⊎ ((i < j) ⊎ (j < i))
+same_or_apart zero zero = inl refl
+same_or_apart zero (suc j) = inr (inl (omega arith))
+same_or_apart (suc i) zero = inr (inr (omega arith))
+same_or_apart (suc i) (suc j) = up (same_or_apart i j)
+  where
+    up : (i ≡ j) ⊎ ((i < j) ⊎ (j < i)) → (suc i ≡ suc j) ⊎ ((suc i < suc j) ⊎ (suc j < suc i))
+    up (inl e) = inl (ap suc e)
+    up (inr (inl h)) = inr (inl (omega arith))
+    up (inr (inr h)) = inr (inr (omega arith))
+
+pub other_places : EntriesHaveOtherPlaces
+other_places s n i j e f sound p q same = at (same_or_apart i j)
+  where
+    off : (i j : ℕ) (e f : Entry) → entry_at s.standing.tables n i ≡ Some e → entry_at s.standing.tables n j ≡ Some f → e.cell.place ≡ f.cell.place → i < j → ⊥
+    off i j e f p q same lt =
+        let a : cell_end (cell_shape e.cell) ≤ f.cell.first = sound.boards.apart n i j e f p q lt in
+        let h : 0 < e.cell.head = (sound.boards.cells n i e p).head in
+        absurd (omega (arith, a, h, same, sound.boards.placed n i e p, sound.boards.placed n j f q))
+
+    at : (i ≡ j) ⊎ ((i < j) ⊎ (j < i)) → i ≡ j
+    at (inl e) = e
+    at (inr (inl lt)) = absurd (off i j e f p q same lt)
+    at (inr (inr lt)) = absurd (off j i f e q p (sym same) lt)
+
+-- ---- an entry that is found
+
+pub record IsPlaceFrom (es : List Entry) (i j : ℕ) (e : Entry) : Type 0 where
+  pub at : ℕ
+  pub from : j ≡ i + at
+  pub item : slice_get es at ≡ Some e
+
+same_some : (x y : ℕ × Entry) → Some x ≡ Some y → x ≡ y
+same_some x y e = cc
+
+found_from : (is : List ℕ → Bool) (es : List Entry) (i j : ℕ) (e : Entry) → entry_from i is es ≡ Some (j, e) → IsPlaceFrom es i j e
+found_from is [] i j e h = absurd cc
+found_from is (x ∷ es) i j e h = at (is x.key.bytes) (found_from is es (i + 1) j e) h
+  where
+    at : (z : Bool) → (entry_from (i + 1) is es ≡ Some (j, e) → IsPlaceFrom es (i + 1) j e) → cond z (Some (i, x)) (entry_from (i + 1) is es) ≡ Some (j, e) → IsPlaceFrom (x ∷ es) i j e
+    at true ih k =
+        let w : ◌≡◌ {A = ℕ × Entry} (i, x) (j, e) = same_some (i, x) (j, e) k in
+        let p : i ≡ j = ap (λ (y : ℕ × Entry). y.0) w in
+        let q : x ≡ e = ap (λ (y : ℕ × Entry). y.1) w in
+        record { at = zero; from = omega (arith, p); item = ap (λ (y : Entry). Some y) q }
+    at false ih k =
+        let r = ih k in
+        record { at = suc r.at; from = omega (arith, r.from); item = r.item }
+
+-- what a call that was answered by a number has found
+pub record IsFoundIn (t : BoardTables) (n : ℕ) (k : Key) (place id : ℕ) : Type 0 where
+  pub board : Board
+  pub stands : board_at t n ≡ Some board
+  pub item : Entry
+  pub first : entry_from 0 (is_key k) board.entries ≡ Some (place, item)
+  pub told : id ≡ item.cell.place
+
+is_first : (value : TypeDetail) (x : Option (ℕ × Entry)) (y : ℕ × Entry) → of_type value x ≡ Some y → x ≡ Some y
+is_first value None y e = absurd cc
+is_first value (Some x) y e = at (same_type x.1.value value) e
+  where
+    at : (z : Bool) → (if z then Some x else None) ≡ Some y → Some x ≡ Some y
+    at true k = k
+    at false k = absurd cc
+
+pub found_in : (t : BoardTables) (n : ℕ) (k : Key) (u : ValueType) (place id : ℕ) (x : ℕ × Entry) → (o : Option Board) → board_at t n ≡ o → entry_found o (is_key k) (value_detail u) ≡ Some x → place ≡ x.0 → id ≡ x.1.cell.place → IsFoundIn t n k place id
+found_in t n k u place id x None e h p q = absurd cc
+found_in t n k u place id x (Some b) e h p q = record {
+  board = b;
+  stands = e;
+  item = x.1;
+  first = is_first (value_detail u) (entry_from 0 (is_key k) b.entries) x h ∙ ap (λ (m : ℕ). Some (m, x.1)) (sym p);
+  told = q;
+}
+
+-- a read handle
+read_found : (s : Standing) (of : Held) (name : List ℕ) (found : Option (ℕ × Entry)) (id : ℕ) → reply.Number id ≡ number_or reply.EntryError (entry_asked s.tables of name found).0 → (x : ℕ × Entry) × (found ≡ Some x) × (id ≡ x.1.cell.place)
+read_found s of name None id e = absurd cc
+read_found s of name (Some x) id e = (x, refl, cc)
+
+-- a write handle
+write_found : (s : Standing) (of : Held) (name : List ℕ) (found : Option (ℕ × Entry)) (id : ℕ) → reply.Number id ≡ number_or reply.EntryMutError (entry_mut_asked s.tables of name found).0 → (x : ℕ × Entry) × (found ≡ Some x) × (id ≡ x.1.cell.place)
+write_found s of name None id e = absurd cc
+write_found s of name (Some x) id e = at (list_any (is_write_handle of.board x.0) s.tables.things) e
+  where
+    at : (z : Bool) → reply.Number id ≡ number_or reply.EntryMutError (asked (first_of ((false, entry_mut_error.EntryDoesNotExist) ∷ (z, entry_mut_error.HandleAlreadyExists) ∷ [])) x.1.cell.place (with_write_handle s.tables of name (Some x)) s.tables).0 → (y : ℕ × Entry) × (Some x ≡ Some y) × (id ≡ y.1.cell.place)
+    at true k = absurd cc
+    at false k = (x, refl, cc)
+
+asked_found : (s : State) (party : List ℕ) (q : Request) (n place id : ℕ) (k : Key) (u : ValueType) → AsksForHandle q n k u → reply.Number id ≡ (ask s.standing s.published party q).reply → place_of (entry_found (board_at s.standing.tables n) (is_key k) (value_detail u)) ≡ place
+    → IsFoundIn s.standing.tables n k place id
+asked_found s party (table (entry name of l w)) n place id k u h e p =
+    let o : Option (ℕ × Entry) = entry_found (board_at s.standing.tables of.board) (is_key l) (value_detail w) in
+    let x = read_found s.standing of name (entry_found (board_at s.standing.tables of.board) (is_key l) (value_detail w)) id e in
+    let f : entry_found (board_at s.standing.tables n) (is_key k) (value_detail u) ≡ Some x.0 = rw (← h.0, ← h.1, ← h.2) x.1 in
+    found_in s.standing.tables n k u place id x.0 (board_at s.standing.tables n) refl f (sym p ∙ ap place_of f) x.2
+asked_found s party (table (entry_mut name of l w)) n place id k u h e p =
+    let x = write_found s.standing of name (entry_found (board_at s.standing.tables of.board) (is_key l) (value_detail w)) id e in
+    let f : entry_found (board_at s.standing.tables n) (is_key k) (value_detail u) ≡ Some x.0 = rw (← h.0, ← h.1, ← h.2) x.1 in
+    found_in s.standing.tables n k u place id x.0 (board_at s.standing.tables n) refl f (sym p ∙ ap place_of f) x.2
+asked_found s party (table (create f name l limits attributes entries)) n place id k u h e p = absurd h
+asked_found s party (table (join f name l limits needs)) n place id k u h e p = absurd h
+asked_found s party (table (reader name x)) n place id k u h e p = absurd h
+asked_found s party (table (writer name x)) n place id k u h e p = absurd h
+asked_found s party (table (lend l)) n place id k u h e p = absurd h
+asked_found s party (table (give_back l)) n place id k u h e p = absurd h
+asked_found s party (table (list_keys x)) n place id k u h e p = absurd h
+asked_found s party (table (list_nodes x)) n place id k u h e p = absurd h
+asked_found s party (table (describe x)) n place id k u h e p = absurd h
+asked_found s party (table (identify x)) n place id k u h e p = absurd h
+asked_found s party (table (tell x)) n place id k u h e p = absurd h
+asked_found s party (get f) n place id k u h e p = absurd h
+asked_found s party (fresh l) n place id k u h e p = absurd h
+asked_found s party (update x) n place id k u h e p = absurd h
+asked_found s party (put l i w) n place id k u h e p = absurd h
+asked_found s party (publish l) n place id k u h e p = absurd h
+asked_found s party (fill l v) n place id k u h e p = absurd h
+
+made : (s : State) (x : Line × Answer) (n place id : ℕ) (k : Key) (u : ValueType) → IsRight s x.0 x.1 → IsMade s x n place k u id → IsFoundIn s.standing.tables n k place id
+made s x n place id k u h m =
+    let st = pair_step s x m.party m.call m.access (Some (reply.Number id)) m.runs m.line m.answer h in
+    asked_found s m.party m.call.request n place id k u m.request st.reply.reply m.found
+
+-- ---- at two moments of a session
+
+-- both were found in the board that stood first
+record AreFound (t : BoardTables) (n : ℕ) (k l : Key) (i j one two : ℕ) : Type 0 where
+  pub board : Board
+  pub stands : board_at t n ≡ Some board
+  pub item : Entry
+  pub other : Entry
+  pub first : entry_from 0 (is_key k) board.entries ≡ Some (i, item)
+  pub second : entry_from 0 (is_key l) board.entries ≡ Some (j, other)
+  pub told : one ≡ item.cell.place
+  pub later : two ≡ other.cell.place
+
+same_board : (x y : Board) → Some x ≡ Some y → x ≡ y
+same_board x y e = cc
+
+both_found : (p : Pairs) (n i j one two : ℕ) (k l : Key) (t u : ValueType) → IsMade (at_one p) p.one n i k t one → IsMade (at_two p) p.two n j l u two → AreFound (at_one p).standing.tables n k l i j one two
+both_found p n i j one two k l t u x y =
+    let a = apart p in
+    let f = made (at_one p) p.one n i one k t a.one x in
+    let g = made (at_two p) p.two n j two l u a.two y in
+    let d : n ≤ (at_one p).standing.tables.last_board = a.sound.boards.numbered n f.board f.stands in
+    let h : board_at (state_after (at_one p) (p.one ∷ p.between)).standing.tables n ≡ Some g.board = subst (λ (s : State). board_at s.standing.tables n ≡ Some g.board) a.state g.stands in
+    let b : board_at (at_one p).standing.tables n ≡ Some g.board = session_boards (p.one ∷ p.between) (at_one p) (a.one, a.between) a.sound n g.board d h in
+    let e : g.board ≡ f.board = same_board g.board f.board (sym b ∙ f.stands) in
+    record { board = f.board; stands = f.stands; item = f.item; other = g.item; first = f.first; second = subst (λ (z : Board). entry_from 0 (is_key l) z.entries ≡ Some (j, g.item)) e g.first; told = f.told; later = g.told }
+
+pub one_id : OneKeyOneId
+one_id p n i j one two k t u x y =
+    let f = both_found p n i j one two k k t u x y in
+    let e : (i, f.item) ≡ (j, f.other) = same_some (i, f.item) (j, f.other) (sym f.first ∙ f.second) in
+    let g : f.item ≡ f.other = ap (λ (z : ℕ × Entry). z.1) e in
+    (ap (λ (z : ℕ × Entry). z.0) e, f.told ∙ ap (λ (z : Entry). z.cell.place) g ∙ sym f.later)
+
+pub placed_at : (t : BoardTables) (n i : ℕ) (b : Board) (is : List ℕ → Bool) (e : Entry) → board_at t n ≡ Some b → entry_from 0 is b.entries ≡ Some (i, e) → entry_at t n i ≡ Some e
+placed_at t n i b is e h f =
+    let g = found_from is b.entries 0 i e f in
+    let a : i ≡ g.at = omega (arith, g.from) in
+    let q : slice_get b.entries i ≡ Some e = ap (slice_get b.entries) a ∙ g.item in
+    ap (λ (o : Option Board). entry_in o i) h ∙ q
+
+pub other_ids : OtherEntriesOtherIds
+other_ids p n i j id k l t u x y =
+    let f = both_found p n i j id id k l t u x y in
+    let a = apart p in
+    other_places (at_one p) n i j f.item f.other a.sound (placed_at (at_one p).standing.tables n i f.board (is_key k) f.item f.stands f.first) (placed_at (at_one p).standing.tables n j f.board (is_key l) f.other f.stands f.second)
+    (sym f.told ∙ f.later)

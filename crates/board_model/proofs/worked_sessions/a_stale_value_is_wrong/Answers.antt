@@ -1,0 +1,5 @@
+use Rattle.board_model.proofs.worked_sessions.a_stale_value_is_wrong.Goals as goal
+use Rattle.board_model.proofs.WorkedLemmas.{stale_wrong}
+
+pub returns : goal.returns
+returns c = stale_wrong

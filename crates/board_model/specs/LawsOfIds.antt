@@ -1,0 +1,56 @@
+-- Laws of entry ids.
+use Rattle.std.specs.Prelude.{◌≡◌, ℕ, List, Some}
+use Rattle.board_model.specs.declared.access.Access.{Access}
+use Rattle.board_model.specs.declared.answer.Answer.{Answer}
+use Rattle.board_model.specs.declared.answer.Answer.TheVariants as answer
+use Rattle.board_model.specs.declared.answer.Reply.TheVariants as reply
+use Rattle.board_model.specs.declared.line.Line.{Line}
+use Rattle.board_model.specs.declared.line.Line.TheVariants as line
+use Rattle.board_model.specs.declared.tables.Entry.{Entry}
+use Rattle.board_model.specs.declared.value.Key.{Key}
+use Rattle.board_model.specs.declared.value.ValueType.{ValueType}
+use Rattle.board_model.specs.TypeTable.{value_detail}
+use Rattle.board_model.specs.Tables.{board_at, entry_at, entry_found}
+use Rattle.board_model.specs.TableCalls.{place_of}
+use Rattle.board_model.specs.Requests.{Request, TableCall, entry, entry_mut, table}
+use Rattle.board_model.specs.Replies.{is_key}
+use Rattle.board_model.specs.Parties.{Running, running}
+use Rattle.board_model.specs.LawfulSession.{State}
+use Rattle.board_model.specs.Sound.{Sound}
+use Rattle.board_model.specs.LawsOfSessions.{Pairs, at_one, at_two}
+
+-- two entries of a board have two places
+abbrev pub EntriesHaveOtherPlaces : Type 0
+EntriesHaveOtherPlaces = (s : State) (n i j : ℕ) (e f : Entry) → Sound s → entry_at s.standing.tables n i ≡ Some e → entry_at s.standing.tables n j ≡ Some f
+    → e.cell.place ≡ f.cell.place → i ≡ j
+
+-- the call asks for a read or a write handle by a key and a value type, at a reader or writer of the board
+abbrev pub AsksInTable : TableCall → ℕ → Key → ValueType → Type 0
+AsksInTable (entry name of k type) n key t = (of.board ≡ n) × (k ≡ key) × (type ≡ t)
+AsksInTable (entry_mut name of k type) n key t = (of.board ≡ n) × (k ≡ key) × (type ≡ t)
+AsksInTable c n key t = ⊥
+
+abbrev pub AsksForHandle : Request → ℕ → Key → ValueType → Type 0
+AsksForHandle (table c) n key t = AsksInTable c n key t
+AsksForHandle request n key t = ⊥
+
+-- the pair ends such a call, with a handle of the entry at this place of the board, and tells this id
+pub record IsMade (s : State) (pair : Line × Answer) (n place : ℕ) (key : Key) (t : ValueType) (id : ℕ) : Type 0 where
+  pub party : List ℕ
+  pub call : Running
+  pub access : Access
+  pub runs : s.parties party ≡ running call
+  pub request : AsksForHandle call.request n key t
+  pub found : place_of (entry_found (board_at s.standing.tables n) (is_key key) (value_detail t)) ≡ place
+  pub line : pair.0 ≡ line.Step party
+  pub answer : pair.1 ≡ answer.Step access (Some (reply.Number id))
+
+-- the entry and its id of a key are the same for read and write handle, at any two moments of a session
+abbrev pub OneKeyOneId : Type 0
+OneKeyOneId = (p : Pairs) (n i j one two : ℕ) (k : Key) (t u : ValueType) → IsMade (at_one p) p.one n i k t one → IsMade (at_two p) p.two n j k u two
+    → (i ≡ j) × (one ≡ two)
+
+-- and the ids of two entries of a board differ
+abbrev pub OtherEntriesOtherIds : Type 0
+OtherEntriesOtherIds = (p : Pairs) (n i j id : ℕ) (k l : Key) (t u : ValueType) → IsMade (at_one p) p.one n i k t id → IsMade (at_two p) p.two n j l u id
+    → i ≡ j

@@ -1,0 +1,253 @@
+-- Sessions that were worked out by hand.
+use Rattle.std.specs.Prelude.{◌≡◌, ℕ, List, [], ◌∷◌, ◌++◌, codes, Some, None, true}
+use Rattle.std.specs.List.{AllByRecursion}
+use Rattle.board_model.specs.declared.access.Access.{Access}
+use Rattle.board_model.specs.declared.access.Access.TheVariants as access
+use Rattle.board_model.specs.declared.answer.Answer.{Answer}
+use Rattle.board_model.specs.declared.answer.Answer.TheVariants as answer
+use Rattle.board_model.specs.declared.answer.Reason.{Reason}
+use Rattle.board_model.specs.declared.answer.Reason.TheVariants as reason
+use Rattle.board_model.specs.declared.answer.Reply.{Reply}
+use Rattle.board_model.specs.declared.answer.Reply.TheVariants as reply
+use Rattle.board_model.specs.declared.attributes.Requirements.{Requirements}
+use Rattle.board_model.specs.declared.errors.WriterCreateError.TheVariants as writer_error
+use Rattle.board_model.specs.declared.line.Call.{Call}
+use Rattle.board_model.specs.declared.line.Call.TheVariants as call
+use Rattle.board_model.specs.declared.line.Line.{Line}
+use Rattle.board_model.specs.declared.line.Line.TheVariants as line
+use Rattle.board_model.specs.declared.tables.Limits.{Limits}
+use Rattle.board_model.specs.declared.value.AddedEntry.{AddedEntry}
+use Rattle.board_model.specs.declared.value.Key.{Key}
+use Rattle.board_model.specs.declared.value.Key.TheVariants as key
+use Rattle.board_model.specs.declared.value.KeyType.TheVariants as key_type
+use Rattle.board_model.specs.declared.value.Value.{Value}
+use Rattle.board_model.specs.declared.value.Value.TheVariants as value
+use Rattle.board_model.specs.declared.value.ValueType.{ValueType}
+use Rattle.board_model.specs.declared.value.ValueType.TheVariants as type
+use Rattle.board_model.specs.AnswerGrammar.{IsAnswer}
+use Rattle.board_model.specs.LineGrammar.{IsWellFormed, runs}
+use Rattle.board_model.specs.LawfulSession.{IsLawful, IsOwed, IsReasoned, IsReplied, IsWord, Session, State, after, reason_of, start}
+
+-- ---- sessions of forms that the program doesn't run yet
+
+-- the rules of an answer, but for one: the program need not run the line's form
+pub record IsAnswered (s : State) (l : Line) (a : Answer) : Type 0 where
+  pub formed : IsWellFormed l
+  pub answer : IsAnswer a
+  pub reason : IsReasoned (reason_of s l) a
+  pub owed : reason_of s l ≡ None → IsOwed s l a
+  pub word : reason_of s l ≡ None → IsWord s l a
+  pub reply : reason_of s l ≡ None → IsReplied s l a
+
+abbrev pub AreAnsweredFrom : State → Session → Type 0
+AreAnsweredFrom s [] = Unit {0}
+AreAnsweredFrom s (pair ∷ pairs) = IsAnswered s pair.0 pair.1 × AreAnsweredFrom (after s pair.0 pair.1) pairs
+
+-- lawful, whatever forms the program runs so far: once it runs the forms of these lines, the session is lawful
+abbrev pub AreAnswered : Session → Type 0
+AreAnswered pairs = AreAnsweredFrom start pairs
+
+abbrev pub RunsForm : Line × Answer → Type 0
+RunsForm pair = runs pair.0 ≡ true
+
+-- where each line has a form that the program runs, the two are the same
+pub record IsLawfulWhereRun (pairs : Session) : Type 0 where
+  pub there : AllByRecursion RunsForm pairs → AreAnswered pairs → IsLawful pairs
+  pub back : IsLawful pairs → AreAnswered pairs
+
+-- ---- lines and their answers
+
+abbrev pub begun : List ℕ → Call → Line × Answer
+begun party c = (line.Begin party c, answer.Begun)
+
+abbrev pub stepped : List ℕ → Access → Line × Answer
+stepped party a = (line.Step party, answer.Step a None)
+
+-- the last step of a call
+abbrev pub ended : List ℕ → Access → Reply → Line × Answer
+ended party a told = (line.Step party, answer.Step a (Some told))
+
+abbrev pub left : List ℕ → Line × Answer
+left party = (line.Abandon party, answer.Gone)
+
+abbrev pub listed : ℕ → List ℕ → Line × Answer
+listed board words = (line.Words board, answer.Words words)
+
+abbrev pub refused : Line → Reason → Line × Answer
+refused l why = (l, answer.Refused why)
+
+abbrev pub no_limits : Limits
+no_limits = record { max_readers = None; max_nodes = None }
+
+abbrev pub no_needs : Requirements
+no_needs = record { pairs = []; keys = [] }
+
+abbrev pub added : Key → Value → AddedEntry
+added k v = record { key = k; value = v }
+
+-- ---- lawful sessions
+
+-- one party makes a board of two numbers, and updates one
+abbrev pub the_first_run : Session
+the_first_run =
+    begun (codes "a") (call.Create (codes "f") (codes "b") key_type.U64 no_limits [] (added (key.U64 1) (value.U64 5) ∷ added (key.U64 2) (value.U64 7) ∷ []))
+    ∷ ended (codes "a") access.Table (reply.Number 1)
+    ∷ begun (codes "a") (call.Writer (codes "w") (codes "f"))
+    ∷ ended (codes "a") access.Table (reply.Number 1)
+    ∷ begun (codes "a") (call.EntryMut (codes "m") (codes "w") (key.U64 2) type.U64)
+    ∷ ended (codes "a") access.Table (reply.Number 32)
+    ∷ begun (codes "a") (call.Update (codes "m") (value.U64 9))
+    ∷ stepped (codes "a") (access.Write 1 7 9)
+    ∷ listed 1 (1 ∷ 0 ∷ 5 ∷ 0 ∷ 1 ∷ 0 ∷ 7 ∷ 9 ∷ [])
+    ∷ ended (codes "a") (access.Write 1 4 2) reply.Done
+    ∷ begun (codes "a") (call.Gen (codes "m"))
+    ∷ ended (codes "a") access.Table (reply.Generation 2)
+    ∷ refused (line.Step (codes "a")) reason.Idle
+    ∷ refused (line.Words 2) reason.NoBoard
+    ∷ []
+
+-- one party makes a board with one entry and takes its write handle; the other opens it and takes a read handle
+abbrev pub set_up : ValueType → Value → Session
+set_up t v =
+    begun (codes "a") (call.Create (codes "f") (codes "b") key_type.U64 no_limits [] (added (key.U64 1) v ∷ []))
+    ∷ ended (codes "a") access.Table (reply.Number 1)
+    ∷ begun (codes "a") (call.Writer (codes "w") (codes "f"))
+    ∷ ended (codes "a") access.Table (reply.Number 1)
+    ∷ begun (codes "a") (call.EntryMut (codes "m") (codes "w") (key.U64 1) t)
+    ∷ ended (codes "a") access.Table (reply.Number 0)
+    ∷ begun (codes "b") (call.Open (codes "f") (codes "b") key_type.U64 no_limits no_needs)
+    ∷ ended (codes "b") access.Table (reply.Number 1)
+    ∷ begun (codes "b") (call.Reader (codes "r") (codes "f"))
+    ∷ ended (codes "b") access.Table (reply.Number 2)
+    ∷ begun (codes "b") (call.Entry (codes "h") (codes "r") (key.U64 1) t)
+    ∷ ended (codes "b") access.Table (reply.Number 0)
+    ∷ []
+
+-- a get that meets one update: it reads both copies, and gives the later value
+abbrev pub a_get_that_meets_one_update : Session
+a_get_that_meets_one_update =
+    set_up type.U64 (value.U64 7) ++ (
+    begun (codes "b") (call.Get (codes "h") (Some (codes "v")))
+    ∷ stepped (codes "b") (access.Read 1 0 1)
+    ∷ begun (codes "a") (call.Update (codes "m") (value.U64 9))
+    ∷ stepped (codes "a") (access.Write 1 3 9)
+    ∷ ended (codes "a") (access.Write 1 0 2) reply.Done
+    ∷ stepped (codes "b") (access.Read 1 2 7)
+    ∷ stepped (codes "b") (access.Read 1 0 2)
+    ∷ stepped (codes "b") (access.Read 1 3 9)
+    ∷ ended (codes "b") (access.Read 1 0 2) (reply.Got type.U64 (9 ∷ []) 2)
+    ∷ begun (codes "b") (call.Fresh (codes "h") (codes "v"))
+    ∷ ended (codes "b") (access.Read 1 0 2) (reply.Fresh true)
+    ∷ [])
+
+-- two updates of four words in the middle of a try
+abbrev pub a_get_that_meets_two_updates : Session
+a_get_that_meets_two_updates =
+    set_up type.Q4 (value.Q4 1 2 3 4) ++ (
+    begun (codes "b") (call.Get (codes "h") None)
+    ∷ stepped (codes "b") (access.Read 1 0 1)
+    ∷ stepped (codes "b") (access.Read 1 2 1)
+    ∷ stepped (codes "b") (access.Read 1 3 2)
+    ∷ begun (codes "a") (call.Update (codes "m") (value.Q4 5 6 7 8))
+    ∷ stepped (codes "a") (access.Write 1 6 5)
+    ∷ stepped (codes "a") (access.Write 1 7 6)
+    ∷ stepped (codes "a") (access.Write 1 8 7)
+    ∷ stepped (codes "a") (access.Write 1 9 8)
+    ∷ ended (codes "a") (access.Write 1 0 2) reply.Done
+    ∷ begun (codes "a") (call.Update (codes "m") (value.Q4 9 9 9 9))
+    ∷ stepped (codes "a") (access.Write 1 2 9)
+    ∷ stepped (codes "a") (access.Write 1 3 9)
+    ∷ stepped (codes "a") (access.Write 1 4 9)
+    ∷ stepped (codes "a") (access.Write 1 5 9)
+    ∷ ended (codes "a") (access.Write 1 0 3) reply.Done
+    ∷ stepped (codes "b") (access.Read 1 4 9)
+    ∷ stepped (codes "b") (access.Read 1 5 9)
+    ∷ stepped (codes "b") (access.Read 1 0 3)
+    ∷ stepped (codes "b") (access.Read 1 2 9)
+    ∷ stepped (codes "b") (access.Read 1 3 9)
+    ∷ stepped (codes "b") (access.Read 1 4 9)
+    ∷ stepped (codes "b") (access.Read 1 5 9)
+    ∷ ended (codes "b") (access.Read 1 0 3) (reply.Got type.Q4 (9 ∷ 9 ∷ 9 ∷ 9 ∷ []) 3)
+    ∷ [])
+
+-- an update that is given up in the middle: the value before it stands, and so does the writer
+abbrev pub a_writer_abandoned_in_an_update : Session
+a_writer_abandoned_in_an_update =
+    set_up type.Q4 (value.Q4 1 2 3 4) ++ (
+    begun (codes "a") (call.Update (codes "m") (value.Q4 5 6 7 8))
+    ∷ stepped (codes "a") (access.Write 1 6 5)
+    ∷ stepped (codes "a") (access.Write 1 7 6)
+    ∷ left (codes "a")
+    ∷ begun (codes "b") (call.Get (codes "h") None)
+    ∷ stepped (codes "b") (access.Read 1 0 1)
+    ∷ stepped (codes "b") (access.Read 1 2 1)
+    ∷ stepped (codes "b") (access.Read 1 3 2)
+    ∷ stepped (codes "b") (access.Read 1 4 3)
+    ∷ stepped (codes "b") (access.Read 1 5 4)
+    ∷ ended (codes "b") (access.Read 1 0 1) (reply.Got type.Q4 (1 ∷ 2 ∷ 3 ∷ 4 ∷ []) 1)
+    ∷ begun (codes "b") (call.Writer (codes "w") (codes "f"))
+    ∷ ended (codes "b") access.Table (reply.WriterError writer_error.ExceedsMaxSupportedWriters)
+    ∷ refused (line.Step (codes "a")) reason.Abandoned
+    ∷ refused (line.Abandon (codes "a")) reason.Abandoned
+    ∷ [])
+
+-- a loan that is given back, and taken anew: its words are to be put again
+abbrev pub a_loan_forgets_its_words : Session
+a_loan_forgets_its_words =
+    set_up type.Q4 (value.Q4 1 2 3 4) ++ (
+    begun (codes "a") (call.Loan (codes "l") (codes "m"))
+    ∷ ended (codes "a") access.Table reply.Done
+    ∷ begun (codes "a") (call.Put (codes "l") 0 5)
+    ∷ ended (codes "a") (access.Write 1 6 5) reply.Done
+    ∷ begun (codes "a") (call.Put (codes "l") 1 6)
+    ∷ ended (codes "a") (access.Write 1 7 6) reply.Done
+    ∷ begun (codes "a") (call.Put (codes "l") 2 7)
+    ∷ ended (codes "a") (access.Write 1 8 7) reply.Done
+    ∷ refused (line.Begin (codes "a") (call.Publish (codes "l") (codes "m"))) reason.Unfilled
+    ∷ begun (codes "a") (call.Discard (codes "l") (codes "m"))
+    ∷ ended (codes "a") access.Table reply.Done
+    ∷ begun (codes "a") (call.Loan (codes "l") (codes "m"))
+    ∷ ended (codes "a") access.Table reply.Done
+    ∷ begun (codes "a") (call.Put (codes "l") 3 8)
+    ∷ ended (codes "a") (access.Write 1 9 8) reply.Done
+    ∷ refused (line.Begin (codes "a") (call.Publish (codes "l") (codes "m"))) reason.Unfilled
+    ∷ refused (line.Begin (codes "a") (call.Put (codes "l") 4 0)) reason.Index
+    ∷ begun (codes "a") (call.Fill (codes "l") (codes "m") (value.Q4 5 6 7 8))
+    ∷ stepped (codes "a") (access.Write 1 6 5)
+    ∷ stepped (codes "a") (access.Write 1 7 6)
+    ∷ stepped (codes "a") (access.Write 1 8 7)
+    ∷ stepped (codes "a") (access.Write 1 9 8)
+    ∷ ended (codes "a") (access.Write 1 0 2) reply.Done
+    ∷ [])
+
+-- ---- sessions that are not
+
+-- a get that gives the value before the last update
+abbrev pub a_stale_value : Session
+a_stale_value =
+    set_up type.U64 (value.U64 7) ++ (
+    begun (codes "a") (call.Update (codes "m") (value.U64 9))
+    ∷ stepped (codes "a") (access.Write 1 3 9)
+    ∷ ended (codes "a") (access.Write 1 0 2) reply.Done
+    ∷ begun (codes "b") (call.Get (codes "h") None)
+    ∷ stepped (codes "b") (access.Read 1 0 2)
+    ∷ stepped (codes "b") (access.Read 1 3 9)
+    ∷ ended (codes "b") (access.Read 1 0 2) (reply.Got type.U64 (7 ∷ []) 1)
+    ∷ [])
+
+-- a get that doesn't read the counter again
+abbrev pub no_second_look : Session
+no_second_look =
+    set_up type.U64 (value.U64 7) ++ (
+    begun (codes "b") (call.Get (codes "h") None)
+    ∷ stepped (codes "b") (access.Read 1 0 1)
+    ∷ ended (codes "b") (access.Read 1 2 7) (reply.Got type.U64 (7 ∷ []) 1)
+    ∷ [])
+
+-- an update that writes into the current copy
+abbrev pub an_update_in_place : Session
+an_update_in_place =
+    set_up type.U64 (value.U64 7) ++ (
+    begun (codes "a") (call.Update (codes "m") (value.U64 9))
+    ∷ stepped (codes "a") (access.Write 1 2 9)
+    ∷ [])

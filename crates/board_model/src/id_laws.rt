@@ -1,0 +1,17 @@
+//! Laws of entry ids. Each function's contract is a theorem over the definitions alone.
+ghost use Rattle.board_model.specs.LawsOfIds.{EntriesHaveOtherPlaces, OneKeyOneId, OtherEntriesOtherIds};
+
+/// Two entries of a board have two places.
+pub fn entries_have_other_places()
+    ensures { EntriesHaveOtherPlaces }
+{}
+
+/// The entry and its id of a key are the same for read and write handle, at any two moments of a session.
+pub fn one_key_one_id()
+    ensures { OneKeyOneId }
+{}
+
+/// The ids of two entries of a board differ.
+pub fn other_entries_other_ids()
+    ensures { OtherEntriesOtherIds }
+{}

@@ -1,0 +1,4 @@
+pub mod Names
+pub mod Configuration
+pub mod Concept
+pub mod Extraction

@@ -1,0 +1,82 @@
+//! Why a call of static storage is refused.
+use thiserror::Error;
+
+/// Why a static storage was not created.
+#[derive(Clone, Copy, Debug, PartialEq, Eq, Hash, Error)]
+pub enum StaticStorageCreateError {
+    /// The name is held.
+    #[error("StaticStorageCreateError::AlreadyExists")]
+    AlreadyExists,
+    /// A file could not be made.
+    #[error("StaticStorageCreateError::Creation")]
+    Creation,
+    /// Never given here.
+    #[error("StaticStorageCreateError::Write")]
+    Write,
+    /// Never given here.
+    #[error("StaticStorageCreateError::InsufficientPermissions")]
+    InsufficientPermissions,
+    /// Never given here.
+    #[error("StaticStorageCreateError::InternalError")]
+    InternalError,
+    /// Memory was refused.
+    #[error("StaticStorageCreateError::OutOfMemory")]
+    OutOfMemory,
+}
+
+/// Why a static storage was not opened.
+#[derive(Clone, Copy, Debug, PartialEq, Eq, Hash, Error)]
+pub enum StaticStorageOpenError {
+    /// The name isn't held.
+    #[error("StaticStorageOpenError::DoesNotExist")]
+    DoesNotExist,
+    /// A file could not be read.
+    #[error("StaticStorageOpenError::Read")]
+    Read,
+    /// The name is locked, at each look.
+    #[error("StaticStorageOpenError::InitializationNotYetFinalized")]
+    InitializationNotYetFinalized,
+    /// Never given here.
+    #[error("StaticStorageOpenError::InternalError")]
+    InternalError,
+    /// Memory was refused.
+    #[error("StaticStorageOpenError::OutOfMemory")]
+    OutOfMemory,
+}
+
+/// Why the contents were not read.
+#[derive(Clone, Copy, Debug, PartialEq, Eq, Hash, Error)]
+pub enum StaticStorageReadError {
+    /// The contents are longer than the buffer.
+    #[error("StaticStorageReadError::BufferTooSmall")]
+    BufferTooSmall,
+    /// A file could not be read.
+    #[error("StaticStorageReadError::ReadError")]
+    ReadError,
+    /// A file has other than the `expected` bytes: `found` were there to read.
+    #[error("StaticStorageReadError::StaticStorageWasModified")]
+    StaticStorageWasModified { expected: u64, found: u64 },
+    /// Never given here.
+    #[error("StaticStorageReadError::CreationNotComplete")]
+    CreationNotComplete,
+    /// Memory was refused.
+    #[error("StaticStorageReadError::OutOfMemory")]
+    OutOfMemory,
+}
+
+/// Why a static storage was not unlocked.
+#[derive(Clone, Copy, Debug, PartialEq, Eq, Hash, Error)]
+pub enum StaticStorageUnlockError {
+    /// Never given here.
+    #[error("StaticStorageUnlockError::InsufficientPermissions")]
+    InsufficientPermissions,
+    /// A file took `taken` of the `given` bytes.
+    #[error("StaticStorageUnlockError::NoSpaceLeft")]
+    NoSpaceLeft { taken: u64, given: u64 },
+    /// The name isn't held locked, or a file could not be written.
+    #[error("StaticStorageUnlockError::InternalError")]
+    InternalError,
+    /// Memory was refused.
+    #[error("StaticStorageUnlockError::OutOfMemory")]
+    OutOfMemory,
+}

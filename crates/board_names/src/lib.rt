@@ -1,0 +1,65 @@
+//! The names that things carry, how they are spelled, the traits that all named things share, and the errors of every layer.
+//!
+//! ```text
+//! let config = Configuration::with_suffix(&FileName::new(b".event")?);
+//! let path = config.path_for(&FileName::new(b"door")?);           // /tmp/iceoryx2/iox2_door.event
+//! assert_eq!(config.extract_name_from_path(&path), Some(door));
+//! ```
+#![tactic(auto)]
+
+mod base64url;
+mod byte_rules;
+mod configuration;
+mod constants;
+mod errors;
+mod file_name;
+mod file_path;
+mod laws;
+mod named_concept;
+mod node_name;
+mod path;
+mod service_name;
+#[cfg(test)]
+mod tests;
+mod trigger_id;
+
+pub use base64url::Base64Url;
+pub use board_model::{
+    BlackboardCreateError, BlackboardOpenError, EntryHandleError, EntryHandleMutError,
+    ReaderCreateError, WriterCreateError,
+};
+pub use configuration::{Configuration, NamedConceptConfiguration};
+pub use constants::{
+    MAX_ATTRIBUTE_KEY_LENGTH, MAX_ATTRIBUTE_VALUE_LENGTH, MAX_ATTRIBUTES, MAX_NODE_NAME_LENGTH,
+    MAX_SERVICE_NAME_LENGTH,
+};
+pub use errors::communication_channel::{
+    CommunicationChannelCreateError, CommunicationChannelOpenError,
+    CommunicationChannelReceiveError, CommunicationChannelSendError,
+};
+pub use errors::concept::{
+    NamedConceptDoesExistError, NamedConceptListError, NamedConceptPathHintRemoveError,
+    NamedConceptRemoveError, RegistryError, SemanticStringError,
+};
+pub use errors::event::{
+    ListenerCreateError, ListenerWaitError, NotifierCreateError, NotifierNotifyError,
+};
+pub use errors::monitoring::{
+    MonitoringCreateCleanerError, MonitoringCreateMonitorError, MonitoringCreateTokenError,
+    MonitoringStateError,
+};
+pub use errors::service::{
+    ArcSyncPolicyCreationError, AttributeError, DeserializeError, DomainError, SerializeError,
+};
+pub use errors::static_storage::{
+    StaticStorageCreateError, StaticStorageOpenError, StaticStorageReadError,
+    StaticStorageUnlockError,
+};
+pub use file_name::FileName;
+pub use file_path::FilePath;
+pub use laws::path_and_back;
+pub use named_concept::{NamedConcept, NamedConceptBuilder, NamedConceptMgmt};
+pub use node_name::NodeName;
+pub use path::Path;
+pub use service_name::ServiceName;
+pub use trigger_id::{EventId, TriggerId};

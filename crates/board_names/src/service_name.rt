@@ -1,0 +1,73 @@
+//! The name of a service.
+ghost use Rattle.std.specs.Prelude.{◌≡◌, ℕ, ◌+◌, ◌-◌, ◌<◌, ◌≤◌, ◌↔◌, List, [], ◌∷◌, length, IsTrue, Ok, IfOk, IsErrOf};
+ghost use Rattle.board_names.specs.Names.{IsServiceName};
+ghost use Rattle.std.specs.Cmp.Rules.{hashing};
+ghost use Rattle.std.specs.Hash as fed;
+ghost use Rattle.std.proofs.Common.{rules};
+
+use crate::byte_rules::is_service_name;
+use crate::constants::MAX_SERVICE_NAME_LENGTH;
+use crate::errors::concept::SemanticStringError;
+use board_layout::Text;
+use std::hash::{Hash, Hasher};
+use std::marker::Model;
+
+/// The name of a service: 1 to 255 bytes 0x20 to 0x7E.
+///
+/// Clauses see it as the list of its bytes, which is also what it hashes.
+#[derive(Clone, Copy, Debug, PartialEq, Eq, PartialOrd, Ord)]
+pub struct ServiceName {
+    text: Text<255>,
+}
+
+impl Model for ServiceName {
+    ghost use Rattle.std.specs.Prelude.{ℕ, List};
+    ghost use Rattle.board_names.specs.Names.{IsServiceName};
+
+    ghost Value = { List ℕ };
+
+    ghost view = { λ s. s.text };
+
+    ghost invariant = { λ s. IsServiceName s.text };
+
+    ghost inverse = { λ d. record { text = d } };
+}
+
+impl ServiceName {
+    /// The name of this text.
+    pub fn new(value: &str) -> Result<ServiceName, SemanticStringError>
+        ensures long { IsErrOf result SemanticStringError.ExceedsMaximumLength ↔ (255 < length value.now) }
+        ensures content { IsErrOf result SemanticStringError.InvalidContent ↔ ((length value.now ≤ 255) × ¬ IsServiceName value.now) }
+        ensures accepted { IsServiceName value.now → result ≡ Ok value.now }
+        ensures ok { IfOk result (λ n. (n ≡ value.now) × IsServiceName value.now) }
+    {
+        if value.len() > MAX_SERVICE_NAME_LENGTH {
+            return Err(SemanticStringError::ExceedsMaximumLength);
+        }
+        if !is_service_name(value.as_bytes()) {
+            return Err(SemanticStringError::InvalidContent);
+        }
+        Ok(ServiceName {
+            text: Text::of(value.as_bytes()),
+        })
+    }
+
+    /// Its bytes.
+    pub fn as_bytes(&self) -> &[u8]
+        ensures value { result.now ≡ self.now }
+        ensures rule { IsServiceName self.now }
+        ensures fits { length result.now ≤ 255 }
+    {
+        self.text.as_bytes()
+    }
+}
+
+impl Hash for ServiceName {
+    ghost hash_input = { λ s. fed.slice fed.u8 s };
+
+    ghost respects_eq = { Prim.search (hashing, rules) };
+
+    fn hash<H: Hasher>(&self, state: &mut H) {
+        self.as_bytes().hash(state);
+    }
+}

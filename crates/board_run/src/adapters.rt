@@ -1,0 +1,99 @@
+//! Standard input, output and error as source and sinks. They tell no bytes.
+ghost use Rattle.std.specs.Prelude.{None};
+ghost use Rattle.board_model.specs.Lines.{HasCause};
+ghost use Rattle.board_lines.specs.Streams.{Writes};
+
+use board_script::{Failed, Sink, Source};
+use std::io::{Read, Stderr, Stdin, Stdout, Write};
+
+/// Standard input.
+#[derive(Drop)]
+pub struct StdinSource {
+    stdin: Stdin,
+    faults: u64,
+}
+
+impl StdinSource {
+    pub fn new(stdin: Stdin) -> StdinSource {
+        StdinSource { stdin, faults: 0 }
+    }
+}
+
+impl Source for StdinSource {
+    ghost left = { λ s. None };
+
+    ghost faults = { λ s. s.faults };
+
+    fn read(&mut self, buf: &mut [u8]) -> Result<usize, Failed> {
+        match self.stdin.read(buf) {
+            Ok(count) => Ok(count),
+            Err(_) => {
+                self.faults = self.faults.saturating_add(1);
+                Err(Failed)
+            }
+        }
+    }
+}
+
+// Writes a front of the bytes. A write that takes nothing fails as well.
+fn write_front<W: Write>(out: &mut W, faults: &mut u64, bytes: &[u8]) -> Result<usize, Failed>
+    ensures bound { Writes result bytes.now }
+    ensures cause { HasCause faults.old faults.new result }
+{
+    match out.write(bytes) {
+        Ok(count) => {
+            if count > 0 || bytes.is_empty() {
+                return Ok(count);
+            }
+        }
+        Err(_) => {}
+    }
+    *faults = faults.saturating_add(1);
+    Err(Failed)
+}
+
+/// Standard output.
+#[derive(Drop)]
+pub struct StdoutSink {
+    stdout: Stdout,
+    faults: u64,
+}
+
+impl StdoutSink {
+    pub fn new(stdout: Stdout) -> StdoutSink {
+        StdoutSink { stdout, faults: 0 }
+    }
+}
+
+impl Sink for StdoutSink {
+    ghost held = { λ s. None };
+
+    ghost faults = { λ s. s.faults };
+
+    fn write(&mut self, bytes: &[u8]) -> Result<usize, Failed> {
+        write_front(&mut self.stdout, &mut self.faults, bytes)
+    }
+}
+
+/// Standard error.
+#[derive(Drop)]
+pub struct StderrSink {
+    stderr: Stderr,
+    faults: u64,
+}
+
+impl StderrSink {
+    pub fn new(stderr: Stderr) -> StderrSink {
+        StderrSink { stderr, faults: 0 }
+    }
+}
+
+impl Sink for StderrSink {
+    ghost held = { λ s. None };
+
+    ghost faults = { λ s. s.faults };
+
+    fn write(&mut self, bytes: &[u8]) -> Result<usize, Failed> {
+        write_front(&mut self.stderr, &mut self.faults, bytes)
+    }
+}

@@ -1,0 +1,11 @@
+pub mod CallChecks
+pub mod Listings
+pub mod Memories
+pub mod Notes
+pub mod PartyRows
+pub mod Places
+pub mod Rows
+pub mod Slots
+pub mod StepRefusals
+pub mod TableSteps
+pub mod UpdateSteps

@@ -1,0 +1,117 @@
+-- Lines that list the words of a board.
+use Rattle.std.proofs.Common.{◌≡◌, ℕ, zero, suc, ◌+◌, ◌^◌, ◌<◌, ◌≤◌, Bool, true, false, List, [], ◌∷◌, ◌++◌, length, get_or, map, arith, refl, sym, ap, subst, ◌∙◌, Option, Some, None}
+use Rattle.std.specs.Prelude.{find, is_some, OnOk, Result, Ok, Err}
+use Rattle.std.specs.List.{AllByRecursion, position_from}
+use Rattle.std.proofs.lemmas.List.{length-map}
+use Rattle.board_model.specs.declared.answer.Answer.{Answer}
+use Rattle.board_model.specs.declared.answer.Answer.TheVariants as answer
+use Rattle.board_model.specs.declared.answer.Reason.TheVariants as reason
+use Rattle.board_model.specs.declared.line.Line.{Line}
+use Rattle.board_model.specs.declared.line.Line.TheVariants as line
+use Rattle.board_model.specs.declared.tables.Board.{Board}
+use Rattle.board_model.specs.AnswerGrammar.{answer_line}
+use Rattle.board_model.specs.LineGrammar.{IsLine, IsNumber, Spells}
+use Rattle.board_model.specs.LawsOfBounds.{IsWithin}
+use Rattle.board_model.specs.Tables.{board_at, is_numbered}
+use Rattle.board_model.specs.LawfulSession.{IsRight, Session, State, start, state_after}
+use Rattle.board_model.proofs.DrawLemmas.{session_within}
+use Rattle.board_model.proofs.SoundLemmas.{sound_session}
+use Rattle.board_lines.specs.Runs.{HasAnswered, StandsFor}
+use Rattle.board_script.specs.declared.machine.Machine.{Machine}
+use Rattle.board_script.specs.Machine.{IsBounded, IsLed, IsTelling, Represents, Tells, words_of}
+use Rattle.board_script.proofs.Memories.{words_at}
+use Rattle.board_script.proofs.Rows.{first_at, place_found, place_missing}
+
+-- ---- the words of a board
+
+module _ (m : Machine) (s : State) (rep : Represents m s) (n : ℕ) where
+  pub place_inside : (k : ℕ) → Some k ≡ position_from (is_numbered n) 0 m.boards.items → k < length m.words.items
+  place_inside k p =
+      let l : length m.words.items ≡ length m.boards.items = ap length rep.words ∙ length-map m.boards.items (λ (x : Board). s.memory x.number) in
+      omega (arith, (first_at (is_numbered n) k m.boards.items p).inside, l)
+
+  pub board_stands : (k : ℕ) → Some k ≡ position_from (is_numbered n) 0 m.boards.items → is_some (board_at s.standing.tables n) ≡ true
+  board_stands k p = ap (λ t. is_some (find (is_numbered n) t.boards)) rep.tables ∙ place_found (is_numbered n) 0 k m.boards.items (sym p)
+
+  pub board_is_missing : None ≡ position_from (is_numbered n) 0 m.boards.items → is_some (board_at s.standing.tables n) ≡ false
+  board_is_missing p = ap (λ t. is_some (find (is_numbered n) t.boards)) rep.tables ∙ place_missing (is_numbered n) 0 m.boards.items (sym p)
+
+  pub board_words : (k : ℕ) (d : List ℕ) → Some k ≡ position_from (is_numbered n) 0 m.boards.items → get_or m.words.items k d ≡ s.memory n
+  board_words k d p = ap (λ (ws : List (List ℕ)). get_or ws k d) rep.words ∙ words_at s.memory n m.boards.items k d p
+
+-- ---- answers to the line
+
+pub numbers : (ws : List ℕ) → ((k : ℕ) → k < length ws → get_or ws k 0 < 2 ^ 64) → AllByRecursion IsNumber ws
+numbers [] h = tt
+numbers (w ∷ ws) h = (h 0 (omega arith), numbers ws (λ k l. h (suc k) (omega (arith, l))))
+
+-- what is added to nothing is all
+from_nothing : (old new more : List ℕ) → old ≡ [] → new ≡ old ++ more → new ≡ more
+from_nothing old new more e f = f ∙ ap (λ (xs : List ℕ). xs ++ more) e
+
+pub on_ok : {T E : Type 0} {P Q : Type 0} → (P → Q) → (r : Result T E) → OnOk r P → OnOk r Q
+on_ok f (Ok x) h = f h
+on_ok f (Err e) h = tt
+
+pub listed : (m : Machine) (n : ℕ) (ws old new : List ℕ) → ((s : State) → Represents m s → is_some (board_at s.standing.tables n) ≡ true) → ((s : State) → Represents m s → ws ≡ s.memory n)
+    → AllByRecursion IsNumber ws → IsLine (line.Words n) → old ≡ [] → new ≡ old ++ answer_line (answer.Words ws) → Tells m m (line.Words n) new
+listed m n ws old new stands words small l e f = λ s rep sound. record {
+  answer = answer.Words ws;
+  right = record {
+    line = l;
+    answer = small;
+    reason = rw (stands s rep) tt;
+    owed = λ _. tt;
+    word = λ _. words s rep;
+    reply = λ _. tt;
+  };
+  represents = rep;
+  told = from_nothing old new (answer_line (answer.Words ws)) e f;
+}
+
+pub not_listed : (m : Machine) (n : ℕ) (old new : List ℕ) → ((s : State) → Represents m s → is_some (board_at s.standing.tables n) ≡ false)
+    → IsLine (line.Words n) → old ≡ [] → new ≡ old ++ answer_line (answer.Refused reason.NoBoard) → Tells m m (line.Words n) new
+not_listed m n old new missing l e f = λ s rep sound. record {
+  answer = answer.Refused reason.NoBoard;
+  right = record {
+    line = l;
+    answer = tt;
+    reason = rw (missing s rep) refl;
+    owed = rw (missing s rep) (λ h. absurd cc);
+    word = λ _. tt;
+    reply = λ _. tt;
+  };
+  represents = rep;
+  told = from_nothing old new (answer_line (answer.Refused reason.NoBoard)) e f;
+}
+
+-- ---- lawful sessions
+
+bounded : (s : State) (n : ℕ) → IsWithin s n → n < 2 ^ 63 → IsBounded s
+bounded s n w lt = record {
+  boards = omega (arith, w.boards, lt);
+  ports = omega (arith, w.ports, lt);
+  lists = λ b i. omega (arith, w.lists b i, lt);
+}
+
+-- a machine that stands for a lawful session is led
+pub led : (m : Machine) (session : Session) → StandsFor Represents m session → IsLed m
+led m session h = record {
+  state = state_after start session;
+  represents = h.state;
+  sound = sound_session session h.lawful;
+  bounded = bounded (state_after start session) (length session) (session_within session h.lawful) h.few;
+}
+
+-- so a right answer adds a pair to the session
+pub has_answered : (old new : Machine) (session : Session) (bytes text : List ℕ) (l : Line) → StandsFor Represents old session → Spells bytes l → Tells old new l text → HasAnswered Represents new session bytes text
+has_answered old new session bytes text l h spelled tells =
+    let t = tells (state_after start session) h.state (sound_session session h.lawful) in
+    record {
+      line = l;
+      answer = t.answer;
+      spelled = spelled;
+      right = t.right;
+      state = t.represents;
+      told = t.told;
+    }

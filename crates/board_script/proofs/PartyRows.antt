@@ -1,0 +1,163 @@
+-- The rows of the parties, and the parties that they stand for.
+use Rattle.std.proofs.Common.{◌≡◌, ℕ, zero, suc, ◌+◌, ◌-◌, ◌<◌, ◌≤◌, Bool, true, false, cond, List, [], ◌∷◌, ◌++◌, length, get_or, set, take, drop, map, arith, rules, refl, sym, ap, subst, ◌∙◌, Option, Some, None}
+use Rattle.std.specs.Prelude.{not, ◌&&◌, ◌==◌, is_some}
+use Rattle.std.specs.Str.{bytes_eq}
+use Rattle.std.proofs.lemmas.List.{append-nil}
+use Rattle.std.specs.List.{filter, position_from, remove}
+use Rattle.std.proofs.lemmas.List.Elements.{filter-append}
+use Rattle.board_model.specs.declared.access.Access.{Access}
+use Rattle.board_model.specs.declared.access.Access.TheVariants as access
+use Rattle.board_model.specs.Requests.{Request, table}
+use Rattle.board_model.specs.Parties.{Party, Running, begun, free, gone, notice, running, with_party}
+use Rattle.board_model.proofs.ListLemmas.{same_bytes}
+use Rattle.board_model.proofs.ThingLemmas.{same_to_itself}
+use Rattle.board_script.specs.declared.machine.PartyRow.{PartyRow}
+use Rattle.board_script.specs.declared.machine.Task.{Task}
+use Rattle.board_script.specs.Machine.{AreRowsOf, IsRowOf, IsTaskOf, is_row_of}
+use Rattle.board_script.proofs.Rows.{IsFirst, filter-remove_only, filter-remove_other, filter-set_only, filter-set_other, first_at, none_passes, only_at, passes_none, some_at}
+
+-- the rows are those of the parties
+abbrev pub AreParties : List PartyRow → (List ℕ → Party) → Type 0
+AreParties rows parties = (p : List ℕ) → AreRowsOf (filter (is_row_of p) rows) (parties p)
+
+-- a party's call stands at a place of the rows
+pub record RunsAt (rows : List PartyRow) (parties : List ℕ → Party) (party : List ℕ) (place : ℕ) (row : PartyRow) : Type 0 where
+  pub r : Running
+  pub runs : parties party ≡ running r
+  pub inside : place < length rows
+  pub stands : get_or rows place row ≡ row
+  pub only : filter (is_row_of party) rows ≡ row ∷ []
+  pub name : row.name ≡ party
+  pub task : IsTaskOf row.task r.request r.so_far
+
+module _ (rows : List PartyRow) (parties : List ℕ → Party) (are : AreParties rows parties) (party : List ℕ) where
+  -- a party without a row is free
+  no_row : (x : Party) → AreRowsOf [] x → x ≡ free
+  no_row free h = refl
+  no_row (running r) h = absurd (let e = h.only in cc)
+  no_row gone h = absurd h
+
+  pub is_free : None ≡ position_from (is_row_of party) 0 rows → parties party ≡ free
+  is_free e = no_row (parties party) (subst (λ (xs : List PartyRow). AreRowsOf xs (parties party)) (none_passes (is_row_of party) rows e) (are party))
+
+  -- a party with a row runs the row's call
+  busy_in : (x : Party) → parties party ≡ x → AreRowsOf (filter (is_row_of party) rows) x → is_some (position_from (is_row_of party) 0 rows) ≡ true → (r : Running) × (parties party ≡ running r)
+  busy_in free h t e =
+      let none : position_from (is_row_of party) 0 rows ≡ None = passes_none (is_row_of party) 0 rows t in
+      absurd (some_none (position_from (is_row_of party) 0 rows) e none)
+    where
+      some_none : (o : Option ℕ) → is_some o ≡ true → o ≡ None → ⊥
+      some_none None e n = absurd cc
+      some_none (Some k) e n = absurd cc
+  busy_in (running r) h t e = (r, h)
+  busy_in gone h t e = absurd t
+
+  -- a party with a row runs
+  pub is_busy : is_some (position_from (is_row_of party) 0 rows) ≡ true → (r : Running) × (parties party ≡ running r)
+  is_busy e = busy_in (parties party) refl (are party) e
+
+  none_of : (o : Option ℕ) → is_some o ≡ false → None ≡ o
+  none_of None e = refl
+  none_of (Some k) e = absurd cc
+
+  pub is_idle : is_some (position_from (is_row_of party) 0 rows) ≡ false → parties party ≡ free
+  is_idle e = is_free (none_of (position_from (is_row_of party) 0 rows) e)
+
+  runs_in : (place : ℕ) (row : PartyRow) → row ≡ get_or rows place row → IsFirst (is_row_of party) rows place → (x : Party) → parties party ≡ x → AreRowsOf (filter (is_row_of party) rows) x
+      → RunsAt rows parties party place row
+  runs_in place row e first free h t = absurd (some_at (is_row_of party) rows place row first.inside (first.passes row) t)
+  runs_in place row e first (running r) h t =
+      let alone = only_at (is_row_of party) rows place row first.inside t.row (first.passes row) t.only in
+      let same : row ≡ t.row = e ∙ alone.same in
+      record {
+        r = r;
+        runs = h;
+        inside = first.inside;
+        stands = sym e;
+        only = t.only ∙ ap (λ (y : PartyRow). y ∷ []) (sym same);
+        name = sym (same_bytes party row.name (ap (is_row_of party) e ∙ first.passes row));
+        task = subst (λ (y : PartyRow). IsTaskOf y.task r.request r.so_far) (sym same) t.task;
+      }
+  runs_in place row e first gone h t = absurd t
+
+  pub runs_at : (place : ℕ) (row : PartyRow) → Some place ≡ position_from (is_row_of party) 0 rows → row ≡ get_or rows place row → RunsAt rows parties party place row
+  runs_at place row p e = runs_in place row e (first_at (is_row_of party) place rows p) (parties party) refl (are party)
+
+-- one row stands at a place
+pub same_row : (rows : List PartyRow) (parties : List ℕ → Party) (party : List ℕ) (place : ℕ) (x y : PartyRow) → RunsAt rows parties party place x → RunsAt rows parties party place y → x ≡ y
+same_row rows parties party place x y a b = first_same x y (sym a.only ∙ b.only)
+  where
+    first_same : (x y : PartyRow) → x ∷ [] ≡ y ∷ [] → x ≡ y
+    first_same x y e = cc
+
+-- ---- changes
+
+-- what a party notices changes no row
+noticed : (a : Access) (rows : List PartyRow) (x : Party) → AreRowsOf rows x → AreRowsOf rows (notice a x)
+noticed access.Table rows free h = h
+noticed access.Table rows (running r) h = h
+noticed access.Table rows gone h = h
+noticed (access.Read b i v) rows free h = h
+noticed (access.Read b i v) rows (running r) h = h
+noticed (access.Read b i v) rows gone h = h
+noticed (access.Write b i v) rows free h = h
+noticed (access.Write b i v) rows (running r) h = record { row = h.row; only = h.only; task = h.task }
+noticed (access.Write b i v) rows gone h = h
+
+module _ (rows : List PartyRow) (parties : List ℕ → Party) (are : AreParties rows parties) (party : List ℕ) (place : ℕ) (row : PartyRow) (at : RunsAt rows parties party place row) where
+  -- another party doesn't have this row
+  other_row : (p : List ℕ) → bytes_eq p party ≡ false → is_row_of p (get_or rows place row) ≡ false
+  other_row p h = ap (is_row_of p) at.stands ∙ ap (bytes_eq p) at.name ∙ h
+
+  own_row : (p : List ℕ) → bytes_eq p party ≡ true → is_row_of p (get_or rows place row) ≡ true
+  own_row p h = ap (is_row_of p) at.stands ∙ ap (bytes_eq p) at.name ∙ h
+
+  own_only : (p : List ℕ) → bytes_eq p party ≡ true → filter (is_row_of p) rows ≡ row ∷ []
+  own_only p h = ap (λ (q : List ℕ). filter (is_row_of q) rows) (same_bytes p party h) ∙ at.only
+
+  removed : (a : Access) (p : List ℕ) (b : Bool) → bytes_eq p party ≡ b → AreRowsOf (filter (is_row_of p) (remove rows place)) (cond b free (notice a (parties p)))
+  removed a p true h = filter-remove_only (is_row_of p) rows place row at.inside row (own_row p h) (own_only p h)
+  removed a p false h = subst (λ (xs : List PartyRow). AreRowsOf xs (notice a (parties p))) (sym (filter-remove_other (is_row_of p) rows place row at.inside (other_row p h))) (noticed a _ (parties p) (are p))
+
+  -- a call ends
+  pub ended : (a : Access) → AreParties (remove rows place) (with_party (λ p. notice a (parties p)) party free)
+  ended a p = removed a p (bytes_eq p party) refl
+
+  changed : (a : Access) (y : PartyRow) (r : Running) → y.name ≡ row.name → IsTaskOf y.task r.request r.so_far → (p : List ℕ) (b : Bool) → bytes_eq p party ≡ b
+      → AreRowsOf (filter (is_row_of p) (set rows place y)) (cond b (running r) (notice a (parties p)))
+  changed a y r n t p true h = record {
+    row = y;
+    only = filter-set_only (is_row_of p) rows place row at.inside y row (own_row p h) (own_only p h) (ap (bytes_eq p) (n ∙ at.name) ∙ h);
+    task = t;
+  }
+  changed a y r n t p false h =
+      subst (λ (xs : List PartyRow). AreRowsOf xs (notice a (parties p)))
+      (sym (filter-set_other (is_row_of p) rows place row at.inside y (other_row p h) (ap (bytes_eq p) (n ∙ at.name) ∙ h)))
+      (noticed a _ (parties p) (are p))
+
+  -- a call goes on
+  pub went_on : (a : Access) (y : PartyRow) (r : Running) → y.name ≡ row.name → IsTaskOf y.task r.request r.so_far
+      → AreParties (set rows place y) (with_party (λ p. notice a (parties p)) party (running r))
+  went_on a y r n t p = changed a y r n t p (bytes_eq p party) refl
+
+module _ (rows : List PartyRow) (parties : List ℕ → Party) (are : AreParties rows parties) (party : List ℕ) (is : parties party ≡ free) (t : Task) (q : Request) (of : IsTaskOf t q []) where
+  begins_for : (p : List ℕ) (b : Bool) → bytes_eq p party ≡ b → AreRowsOf (filter (is_row_of p) (rows ++ record { name = party; task = t } ∷ [])) (cond b (begun (Some q)) (parties p))
+  begins_for p true h =
+      let new : PartyRow = record { name = party; task = t } in
+      let none : filter (is_row_of p) rows ≡ [] =
+      ap (λ (n : List ℕ). filter (is_row_of n) rows) (same_bytes p party h)
+      ∙ subst (λ (x : Party). AreRowsOf (filter (is_row_of party) rows) x) is (are party) in
+      record {
+        row = new;
+        only = filter-append (is_row_of p) rows (new ∷ []) ∙ ap (λ (xs : List PartyRow). xs ++ filter (is_row_of p) (new ∷ [])) none ∙ ap (λ (b : Bool). cond b (new ∷ []) []) h;
+        task = of;
+      }
+  begins_for p false h =
+      let new : PartyRow = record { name = party; task = t } in
+      subst (λ (xs : List PartyRow). AreRowsOf xs (parties p))
+      (sym (filter-append (is_row_of p) rows (new ∷ []) ∙ ap (λ (b : Bool). filter (is_row_of p) rows ++ cond b (new ∷ []) []) h ∙ append-nil (filter (is_row_of p) rows)))
+      (are p)
+
+  -- a call begins
+  pub started : AreParties (rows ++ record { name = party; task = t } ∷ []) (with_party parties party (begun (Some q)))
+  started p = begins_for p (bytes_eq p party) refl

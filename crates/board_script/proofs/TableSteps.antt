@@ -1,0 +1,290 @@
+-- The step of a call on the tables is right, and the machine stands for what follows.
+use Rattle.std.proofs.Common.{◌≡◌, ℕ, zero, suc, ◌+◌, ◌-◌, ◌^◌, ◌<◌, ◌≤◌, Bool, true, false, cond, List, [], ◌∷◌, ◌++◌, length, get_or, set, map, arith, rules, refl, sym, ap, subst, ◌∙◌, Option, Some, None}
+use Rattle.std.specs.Prelude.{◌==◌, nat_le, find, is_some, Result, Ok, Err, slice_index}
+use Rattle.std.specs.List.{AllByRecursion, count_by, filter, position_from, remove}
+use Rattle.std.proofs.lemmas.Bool.{eq-eqb, le-leb}
+use Rattle.std.proofs.lemmas.List.{length-append, map_push}
+use Rattle.board_model.specs.declared.access.Access.TheVariants as access
+use Rattle.board_model.specs.declared.answer.Answer.TheVariants as answer
+use Rattle.board_model.specs.declared.answer.Reply.{Reply}
+use Rattle.board_model.specs.declared.answer.Reply.TheVariants as reply
+use Rattle.board_model.specs.declared.errors.BlackboardCreateError.{BlackboardCreateError}
+use Rattle.board_model.specs.declared.line.Line.TheVariants as line
+use Rattle.board_model.specs.declared.attributes.Attribute.{Attribute}
+use Rattle.board_model.specs.declared.tables.Board.{Board}
+use Rattle.board_model.specs.declared.tables.Entry.{Entry}
+use Rattle.board_model.specs.declared.tables.Kind.{Kind}
+use Rattle.board_model.specs.declared.tables.Kind.TheVariants as kind
+use Rattle.board_model.specs.declared.tables.Limits.{Limits}
+use Rattle.board_model.specs.declared.tables.ThingKind.{ThingKind}
+use Rattle.board_model.specs.declared.tables.ThingKind.TheVariants as thing_kind
+use Rattle.board_model.specs.declared.value.AddedEntry.{AddedEntry}
+use Rattle.board_model.specs.declared.value.Key.{Key}
+use Rattle.board_model.specs.declared.value.KeyType.{KeyType}
+use Rattle.board_model.specs.declared.value.ValueType.{ValueType}
+use Rattle.board_model.specs.AnswerGrammar.{IsReply}
+use Rattle.board_model.specs.LineGrammar.{IsLine}
+use Rattle.board_model.specs.Memory.{memory_after, opening_of, with_board}
+use Rattle.board_model.specs.Requests.{Request, TableCall, create, entry_mut, table, tell, writer}
+use Rattle.board_model.specs.Replies.{added_of, ask_tables, is_key, number_or, told_by}
+use Rattle.board_model.specs.Tables.{Tables, board_at, entry_at, entry_found, entry_in, entry_of, is_numbered, kind_of, new_board}
+use Rattle.board_model.specs.TableCalls.{asked, create_asked, create_refusals, created, entry_mut_asked, first_of, writer_asked}
+use Rattle.board_model.specs.Things.{Held, Standing, thing_of}
+use Rattle.board_model.specs.TypeTable.{key_detail, same_key, value_detail}
+use Rattle.board_model.specs.Parties.{Party, Running, free, notice, running, with_party}
+use Rattle.board_model.specs.LawfulSession.{IsRight, State, after}
+use Rattle.board_model.specs.Sound.{HasEntry, HasEntryAt, IsCalling, Sound}
+use Rattle.board_model.proofs.ListLemmas.{any_missing, count_none}
+use Rattle.board_model.proofs.RunningLemmas.{runs}
+use Rattle.board_model.proofs.KeptLemmas.{entry_board}
+use Rattle.board_model.proofs.ThingLemmas.{all_found}
+use Rattle.board_script.specs.declared.machine.Machine.{Machine}
+use Rattle.board_script.specs.declared.machine.PartyRow.{PartyRow}
+use Rattle.board_script.specs.declared.machine.Task.{Task}
+use Rattle.board_script.specs.declared.machine.Task.TheVariants as task
+use Rattle.board_script.specs.Machine.{AreRowsOf, IsBounded, IsTaskOf, Represents, is_row_of, tables_of, words_of}
+use Rattle.board_script.specs.Steps.{CanRun, HasCounter, IsCounter, IsGen, IsOwedBy, IsTold}
+use Rattle.board_script.specs.TableCalls.{IsAsked, IsCreate, words_with}
+use Rattle.board_script.proofs.Memories.{same_words}
+use Rattle.board_script.proofs.PartyRows.{RunsAt, ended}
+use Rattle.board_script.proofs.UpdateSteps.{StandsAt, stands_at}
+
+abbrev BoardTables : Type 0
+BoardTables = Tables (List ℕ) (List ℕ)
+
+some_entry : (o : Option Entry) → is_some o ≡ true → (e : Entry) × (o ≡ Some e)
+some_entry None e = absurd cc
+some_entry (Some x) e = (x, refl)
+
+-- ---- counters
+
+module _ (m : Machine) (s : State) (rep : Represents m s) (sound : Sound s) where
+  -- the counter word of an entry is the length of its list
+  pub record CounterAt (n i : ℕ) : Type 0 where
+    pub has : HasCounter m n i
+    pub is_length : (g : ℕ) → IsCounter m n i g → g ≡ length (s.published n i)
+
+  board_of : (n i : ℕ) (e : Entry) (o : Option Board) → entry_in o i ≡ Some e → is_some o ≡ true
+  board_of n i e None h = absurd cc
+  board_of n i e (Some b) h = refl
+
+  pub counter_at : (n i : ℕ) (e : Entry) → entry_at s.standing.tables n i ≡ Some e → CounterAt n i
+  counter_at n i e h =
+      let at = stands_at m s rep sound n (board_of n i e (board_at s.standing.tables n) h) in
+      let cell = sound.boards.cells n i e h in
+      let found : entry_at (tables_of m) n i ≡ Some e = ap (λ t. entry_at t n i) (sym rep.tables) ∙ h in
+      let lt : e.cell.first < length (s.memory n) = omega (arith, cell.inside, cell.head) in
+      record {
+        has = record {
+          place = at.place;
+          entry = e;
+          stands = at.stands;
+          found = found;
+          inside = at.inside;
+          word_inside = λ d. subst (λ (ws : List ℕ). e.cell.first < length ws) (sym (at.words d)) lt;
+        };
+        is_length = λ g c. c at.place e [] at.stands found ∙ ap (λ (ws : List ℕ). slice_index ws e.cell.first) (at.words []) ∙ cell.counter;
+      }
+
+-- ---- replies and what follows
+
+module _ (m : Machine) (s : State) (rep : Represents m s) (sound : Sound s) (party : List ℕ) (place : ℕ) (row : PartyRow) (at : RunsAt m.parties.items s.parties party place row) where
+  -- a call on the tables is told so, and the machine has the tables after it
+  pub record IsServed (new : Machine) (c : TableCall) (told : Reply) : Type 0 where
+    pub told_is : told ≡ (ask_tables s.standing s.published party c).reply
+    pub is_reply : IsReply told
+    pub tables : (ask_tables s.standing s.published party c).standing.tables ≡ tables_of new
+    pub loans : (p n : List ℕ) → (ask_tables s.standing s.published party c).standing.loans p n ≡ None
+    pub values : (p n : List ℕ) → (ask_tables s.standing s.published party c).standing.values p n ≡ None
+    pub words : new.words.items ≡ words_of (memory_after s.memory (table c) told) new.boards.items
+    pub parties : new.parties.items ≡ remove m.parties.items place
+    pub alive : new.spent ≡ false
+
+  pub table_right : (new : Machine) (c : TableCall) (told : Reply) → at.r.request ≡ table c → IsServed new c told → IsLine (line.Step party)
+      → IsRight s (line.Step party) (answer.Step access.Table (Some told)) × Represents new (after s (line.Step party) (answer.Step access.Table (Some told)))
+  table_right new c told request h l =
+      let of_call : Running = record at.r { request = table c } in
+      let runs_call : s.parties party ≡ running of_call = at.runs ∙ ap (λ (q : Request). running (record at.r { request = q })) request in
+      let done : nat_le 1 (length (at.r.so_far ++ access.Table ∷ [])) ≡ true = le-leb _ _ (omega (arith, length-append at.r.so_far (access.Table ∷ []))) in (
+        record {
+          line = l;
+          answer = (tt, h.is_reply);
+          reason = rw runs_call tt;
+          owed = λ _. rw runs_call refl;
+          word = λ _. tt;
+          reply = λ _. rw runs_call (record { last = sym done; reply = h.told_is });
+        },
+        rw runs_call (record {
+          alive = h.alive;
+          tables = h.tables;
+          words = h.words;
+          parties = subst (λ (xs : List PartyRow). (p : List ℕ) → AreRowsOf (filter (is_row_of p) xs) (with_party (λ q. notice access.Table (s.parties q)) party free p))
+              (sym h.parties)
+              (ended m.parties.items s.parties rep.parties party place row at access.Table);
+          loans = h.loans;
+          values = h.values;
+        }),
+      )
+
+  calling : (c : TableCall) → at.r.request ≡ table c → IsCalling s party at.r (table c)
+  calling c e = runs s party at.r (table c) sound at.runs e
+
+  -- ---- one call after another
+
+  module _ (mid new : Machine) (same : tables_of mid ≡ tables_of m) (same_list : mid.words.items ≡ m.words.items) (rows : mid.parties.items ≡ remove m.parties.items place) (alive : mid.spent ≡ false) where
+    tables_are : s.standing.tables ≡ tables_of mid
+    tables_are = rep.tables ∙ sym same
+
+    kept_boards : {E : Type 0} (o : Option E) (n : ℕ) (after before : BoardTables) → after.boards ≡ before.boards → (asked o n after before).1.boards ≡ before.boards
+    kept_boards None n after before e = e
+    kept_boards (Some x) n after before e = refl
+
+    kept_words : new.boards.items ≡ mid.boards.items → new.words.items ≡ mid.words.items → new.words.items ≡ words_of s.memory new.boards.items
+    kept_words b w =
+        w ∙ same_list ∙ rep.words ∙ ap (λ (bs : List Board). words_of s.memory bs) (ap (λ t. t.boards) (sym same) ∙ sym b)
+
+    pub writer_served : (n : List ℕ) (x : Held) (told : Reply) → IsAsked mid new reply.WriterError (writer_asked (tables_of mid) x n) told → IsReply told → IsServed new (writer n x) told
+    writer_served n x told h r = record {
+      told_is = h.told_is ∙ ap (λ t. number_or reply.WriterError (writer_asked t x n).0) (sym tables_are);
+      is_reply = r;
+      tables = ap (λ t. (writer_asked t x n).1) tables_are ∙ sym h.tables;
+      loans = rep.loans;
+      values = rep.values;
+      words = kept_words (ap (λ t. t.boards) h.tables ∙ kept_boards _ _ _ _ refl) h.words;
+      parties = h.parties ∙ rows;
+      alive = h.spent ∙ alive;
+    }
+
+    pub entry_mut_served : (n : List ℕ) (x : Held) (k : Key) (type : ValueType) (told : Reply)
+        → IsAsked mid new reply.EntryMutError (entry_mut_asked (tables_of mid) x n (entry_found (board_at (tables_of mid) x.board) (is_key k) (value_detail type))) told → IsReply told
+        → IsServed new (entry_mut n x k type) told
+    entry_mut_served n x k type told h r = record {
+      told_is = h.told_is ∙ ap (λ t. number_or reply.EntryMutError (entry_mut_asked t x n (entry_found (board_at t x.board) (is_key k) (value_detail type))).0) (sym tables_are);
+      is_reply = r;
+      tables = ap (λ t. (entry_mut_asked t x n (entry_found (board_at t x.board) (is_key k) (value_detail type))).1) tables_are ∙ sym h.tables;
+      loans = rep.loans;
+      values = rep.values;
+      words = kept_words (ap (λ t. t.boards) h.tables ∙ kept_boards _ _ _ _ refl) h.words;
+      parties = h.parties ∙ rows;
+      alive = h.spent ∙ alive;
+    }
+
+    -- the entry of a write handle stands
+    handle_entry : (x : Held) (k : Kind) → kind_of k ≡ thing_kind.WriteHandle → HasEntryAt s.standing.tables x.board k → is_some (entry_at s.standing.tables x.board (entry_of k)) ≡ true
+    handle_entry x kind.Factory e h = absurd cc
+    handle_entry x (kind.Reader p) e h = absurd cc
+    handle_entry x (kind.Writer p) e h = absurd cc
+    handle_entry x (kind.ReadHandle i) e h = absurd cc
+    handle_entry x (kind.WriteHandle i p) e h = h
+
+    handle_counter : (x : Held) → at.r.request ≡ table (tell x) → CounterAt m s rep sound x.board (entry_of x.kind)
+    handle_counter x e =
+        let held = (calling (tell x) e).1 in
+        let has = all_found (HasEntry s.standing.tables) _ s.standing.tables.things x sound.things.entries held.found in
+        let entry = some_entry (entry_at s.standing.tables x.board (entry_of x.kind)) (handle_entry x x.kind held.kind has) in
+        counter_at m s rep sound x.board (entry_of x.kind) entry.0 entry.1
+
+    pub gen_has : (x : Held) → at.r.request ≡ table (tell x) → HasCounter mid x.board (entry_of x.kind)
+    gen_has x e =
+        let h = (handle_counter x e).has in
+        record {
+          place = h.place;
+          entry = h.entry;
+          stands = h.stands ∙ ap (λ t. position_from (is_numbered x.board) 0 t.boards) (sym same);
+          found = ap (λ t. entry_at t x.board (entry_of x.kind)) same ∙ h.found;
+          inside = subst (λ (ws : List (List ℕ)). h.place < length ws) (sym same_list) h.inside;
+          word_inside = λ d. subst (λ (ws : List (List ℕ)). h.entry.cell.first < length (get_or ws h.place d)) (sym same_list) (h.word_inside d);
+        }
+
+    gen_count : (x : Held) (g : ℕ) → IsCounter mid x.board (entry_of x.kind) g → IsCounter m x.board (entry_of x.kind) g
+    gen_count x g c = λ k e d p f.
+        c k e d (p ∙ ap (λ t. position_from (is_numbered x.board) 0 t.boards) (sym same)) (ap (λ t. entry_at t x.board (entry_of x.kind)) same ∙ f)
+        ∙ ap (λ (ws : List (List ℕ)). slice_index (get_or ws k d) e.cell.first) same_list
+
+    pub gen_served : (x : Held) (told : Reply) → at.r.request ≡ table (tell x) → IsGen mid new x told → IsReply told → IsServed new (tell x) told
+    gen_served x told e h r = record {
+      told_is = h.told_is ∙ ap (λ (n : ℕ). reply.Generation n) ((handle_counter x e).is_length h.counter (gen_count x h.counter h.is_counter));
+      is_reply = r;
+      tables = tables_are ∙ ap tables_of (sym h.same);
+      loans = rep.loans;
+      values = rep.values;
+      words = kept_words (ap (λ (y : Machine). y.boards.items) h.same) (ap (λ (y : Machine). y.words.items) h.same);
+      parties = ap (λ (y : Machine). y.parties.items) h.same ∙ rows;
+      alive = ap (λ (y : Machine). y.spent) h.same ∙ alive;
+    }
+
+    -- no board has the next number
+    none_next : board_at s.standing.tables (s.standing.tables.last_board + 1) ≡ None
+    none_next = none (board_at s.standing.tables (s.standing.tables.last_board + 1)) refl
+      where
+        none : (o : Option Board) → board_at s.standing.tables (s.standing.tables.last_board + 1) ≡ o → o ≡ None
+        none None e = refl
+        none (Some b) e = absurd (omega (arith, sound.boards.numbered (s.standing.tables.last_board + 1) b e))
+
+    module _ (f n : List ℕ) (k : KeyType) (limits : Limits) (attributes : List Attribute) (entries : List AddedEntry) where
+      abbrev next : BoardTables → BoardTables
+      next t = created t party f n (key_detail k) limits attributes (map added_of entries)
+
+      abbrev number : ℕ
+      number = s.standing.tables.last_board + 1
+
+      -- the words of the boards with those of a new one
+      words_more : words_of s.memory s.standing.tables.boards ++ opening_of entries ∷ [] ≡ words_of (with_board s.memory number (opening_of entries)) (next s.standing.tables).boards
+      words_more =
+          let new = new_board number n (key_detail k) limits attributes (map added_of entries) in
+          let f : Board → List ℕ = λ b. with_board s.memory number (opening_of entries) b.number in
+          let none = count_none (is_numbered number) s.standing.tables.boards (any_missing (is_numbered number) s.standing.tables.boards none_next) in
+          let old = same_words s.memory (with_board s.memory number (opening_of entries)) number (λ m e. rw e refl) s.standing.tables.boards none in
+          let here : with_board s.memory number (opening_of entries) number ≡ opening_of entries = rw (eq-eqb number number refl) refl in
+          ap (λ (ws : List (List ℕ)). ws ++ opening_of entries ∷ []) (sym old)
+          ∙ ap (λ (w : List ℕ). words_of (with_board s.memory number (opening_of entries)) s.standing.tables.boards ++ w ∷ []) (sym here)
+          ∙ sym (map_push f s.standing.tables.boards new)
+
+      abbrev refusal : BoardTables → Option BlackboardCreateError
+      refusal t = first_of (create_refusals (same_key k) t.boards n (map added_of entries))
+
+      abbrev told_of : Option BlackboardCreateError → Reply
+      told_of o = number_or reply.CreateError (asked o number (next s.standing.tables) s.standing.tables).0
+
+      words_told : (o : Option BlackboardCreateError) (boards : List Board) → boards ≡ (asked o number (next s.standing.tables) s.standing.tables).1.boards
+          → words_with m.words.items entries (told_of o) ≡ words_of (memory_after s.memory (table (create f n k limits attributes entries)) (told_of o)) boards
+      words_told None boards e =
+          ap (λ (ws : List (List ℕ)). ws ++ opening_of entries ∷ []) (rep.words ∙ ap (λ t. words_of s.memory t.boards) (sym rep.tables)) ∙ words_more
+          ∙ ap (λ (bs : List Board). words_of (with_board s.memory number (opening_of entries)) bs) (sym e)
+      words_told (Some why) boards e = rep.words ∙ ap (λ t. words_of s.memory t.boards) (sym rep.tables) ∙ ap (λ (bs : List Board). words_of s.memory bs) (sym e)
+
+      pub create_served : (told : Reply) → IsCreate mid new party f n k limits attributes entries told → IsReply told → IsServed new (create f n k limits attributes entries) told
+      create_served told h r =
+          let asked_of : BoardTables → Result ℕ BlackboardCreateError × BoardTables = λ t. create_asked (same_key k) t party f n (key_detail k) limits attributes (map added_of entries) in
+          let told_same : told ≡ told_of (refusal s.standing.tables) = h.told_is ∙ ap (λ t. number_or reply.CreateError (asked_of t).0) (sym tables_are) in
+          let tables_same : tables_of new ≡ (asked_of s.standing.tables).1 = h.tables ∙ ap (λ t. (asked_of t).1) (sym tables_are) in
+          record {
+            told_is = told_same;
+            is_reply = r;
+            tables = sym tables_same;
+            loans = rep.loans;
+            values = rep.values;
+            words =
+                h.words ∙ ap (λ (ws : List (List ℕ)). words_with ws entries told) same_list
+                ∙ subst (λ (t : Reply). words_with m.words.items entries t ≡ words_of (memory_after s.memory (table (create f n k limits attributes entries)) t) new.boards.items) (sym told_same)
+                (words_told (refusal s.standing.tables) new.boards.items (ap (λ t. t.boards) tables_same));
+            parties = h.parties ∙ rows;
+            alive = h.spent ∙ alive;
+          }
+
+    -- the step of the task is right
+    pub task_right : (t : Task) (told : Reply) → IsTaskOf t at.r.request at.r.so_far → IsTold mid new party t told → IsReply told → IsLine (line.Step party)
+        → IsRight s (line.Step party) (answer.Step access.Table (Some told)) × Represents new (after s (line.Step party) (answer.Step access.Table (Some told)))
+    task_right (task.Create f n k limits attributes entries) told e h r l = table_right new (create f n k limits attributes entries) told e (create_served f n k limits attributes entries told h r) l
+    task_right (task.Writer n x) told e h r l = table_right new (writer n x) told e (writer_served n x told h r) l
+    task_right (task.EntryMut n x k type) told e h r l = table_right new (entry_mut n x k type) told e (entry_mut_served n x k type told h r) l
+    task_right (task.Gen x) told e h r l = table_right new (tell x) told e (gen_served x told e h r) l
+    task_right (task.Update board call) told e h r l = absurd h
+
+    -- and it can be made
+    pub task_can_run : (t : Task) → IsBounded s → IsTaskOf t at.r.request at.r.so_far → IsOwedBy t None → CanRun mid t
+    task_can_run (task.Create f n k limits attributes entries) b e o = subst (λ (t : BoardTables). t.last_board + 1 < 2 ^ 64) tables_are b.boards
+    task_can_run (task.Writer n x) b e o = subst (λ (t : BoardTables). t.last_port + 1 < 2 ^ 64) tables_are b.ports
+    task_can_run (task.EntryMut n x k type) b e o = tt
+    task_can_run (task.Gen x) b e o = gen_has x e
+    task_can_run (task.Update board call) b e o = absurd o

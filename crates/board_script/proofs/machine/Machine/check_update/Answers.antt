@@ -1,0 +1,49 @@
+use Rattle.std.proofs.Common.{◌≡◌, ℕ, List, length, rules, refl, sym, ap, ◌∙◌, Option, Some, true}
+use Rattle.board_model.specs.declared.tables.Entry.{Entry}
+use Rattle.board_model.specs.declared.tables.ThingKind.TheVariants as thing_kind
+use Rattle.board_model.specs.Tables.{entry_at}
+use Rattle.board_model.specs.Things.{Held, of_kind, thing_of}
+use Rattle.board_model.specs.TypeTable.{same_type, type_of, value_detail, value_words}
+use Rattle.board_script.specs.Machine.{tables_of}
+use Rattle.board_script.proofs.CallChecks.{cell_is_low, counter_is_low, entry_has_counter, update_begins, value_fits}
+use Rattle.board_script.proofs.machine.Machine.check_update.Goals as goal
+
+abbrev an_entry : Entry → Option Entry
+an_entry e = Some e
+
+abbrev a_thing : Held → Option Held
+a_thing x = Some x
+
+pub counter-generation-requires : goal.counter-generation-requires
+counter-generation-requires c =
+    let e : entry_at (tables_of c.args.self.now) c.in-Some.found.board c.entry_of-place.result ≡ an_entry c.in-Some-entry_at.entry.now = search rules in
+    let led = c.requires in
+    entry_has_counter c.args.self.now led.state led.represents led.sound c.in-Some.found.board c.entry_of-place.result c.in-Some-entry_at.entry.now e
+
+pub new-requires-clause-words : goal.new-requires-clause-words
+new-requires-clause-words c =
+    let e : entry_at (tables_of c.args.self.now) c.in-Some.found.board c.entry_of-place.result ≡ an_entry c.in-Some-entry_at.entry.now = search rules in
+    let t : same_type (value_detail (type_of c.args.value)) c.in-Some-entry_at.entry.now.value ≡ true = search rules in
+    let w : c.in_ok-words.words.items ≡ value_words c.args.value = search rules in
+    let led = c.requires in
+    ap (λ (ws : List ℕ). length ws) w ∙ value_fits c.args.self.now led.state led.represents led.sound c.in-Some.found.board c.entry_of-place.result c.in-Some-entry_at.entry.now e c.args.value t
+
+pub new-requires-clause-shape : goal.new-requires-clause-shape
+new-requires-clause-shape c =
+    let e : entry_at (tables_of c.args.self.now) c.in-Some.found.board c.entry_of-place.result ≡ an_entry c.in-Some-entry_at.entry.now = search rules in
+    let led = c.requires in
+    cell_is_low c.args.self.now led.state led.represents led.sound c.in-Some.found.board c.entry_of-place.result c.in-Some-entry_at.entry.now e
+
+pub new-requires-clause-room : goal.new-requires-clause-room
+new-requires-clause-room c =
+    let e : entry_at (tables_of c.args.self.now) c.in-Some.found.board c.entry_of-place.result ≡ an_entry c.in-Some-entry_at.entry.now = search rules in
+    let led = c.requires in
+    counter_is_low c.args.self.now led.state led.represents led.sound c.in-Some.found.board c.entry_of-place.result c.in-Some-entry_at.entry.now e c.counter-generation.result led.bounded c.counter-generation.ensures
+
+pub returns : goal.returns
+returns c =
+    let e : entry_at (tables_of c.args.self.now) c.in-Some.found.board c.entry_of-place.result ≡ an_entry c.in-Some-entry_at.entry.now = search rules in
+    let t : same_type (value_detail (type_of c.args.value)) c.in-Some-entry_at.entry.now.value ≡ true = search rules in
+    let w : c.in_ok-words.words.items ≡ value_words c.args.value = search rules in
+    let h : of_kind thing_kind.WriteHandle (thing_of c.args.self.now.things.items c.args.party.now c.args.handle.now) ≡ a_thing c.in-Some.found = search rules in
+    λ s rep sound. update_begins c.args.self.now s rep sound c.in-Some.found.board c.entry_of-place.result c.in-Some-entry_at.entry.now e c.args.party.now c.args.handle.now c.in-Some.found c.args.value c.counter-generation.result c.in_ok-words.words.items c.new.result c.new.ensures refl c.entry_of-place.ensures h t c.counter-generation.ensures w

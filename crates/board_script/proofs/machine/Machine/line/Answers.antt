@@ -1,0 +1,14 @@
+use Rattle.std.proofs.Common.{◌≡◌, subst, Option}
+use Rattle.std.specs.Prelude.{IfSome}
+use Rattle.board_model.specs.declared.line.Line.{Line}
+use Rattle.board_model.specs.LineGrammar.{Spells}
+use Rattle.board_script.proofs.Listings.{has_answered, led}
+use Rattle.board_script.proofs.machine.Machine.line.Goals as goal
+
+pub answer-requires-clause-led : goal.answer-requires-clause-led
+answer-requires-clause-led c = led c.args.self.now c.requires.0 c.requires.1
+
+pub returns-in-Ok-answer-clause-ok : goal.returns-in-Ok-answer-clause-ok
+returns-in-Ok-answer-clause-ok c =
+    let spelled = subst (λ (o : Option Line). IfSome o (λ l. Spells c.args.line.now l)) c.in-Some.is c.in-Ok.ensures.found in
+    λ session h. has_answered c.args.self.now c.answer.new.self session c.args.line.now c.answer.new.out.items c.in-Some.parsed h spelled c.in-Ok-answer.ensures

@@ -1,0 +1,7 @@
+pub mod Begins
+pub mod Counts
+pub mod Create
+pub mod Machine
+pub mod Steps
+pub mod TableCalls
+pub mod Top

@@ -1,0 +1,102 @@
+-- The state of a script that a machine stands for.
+use Rattle.std.specs.Prelude.{◌≡◌, ℕ, ◌+◌, ◌<◌, ◌^◌, Bool, false, List, [], ◌∷◌, length, map, Option, Some, None}
+use Rattle.std.specs.List.{filter}
+use Rattle.std.specs.Str.{bytes_eq}
+use Rattle.board_model.specs.declared.access.Access.{Access}
+use Rattle.board_model.specs.declared.answer.Answer.{Answer}
+use Rattle.board_model.specs.declared.line.Line.{Line}
+use Rattle.board_model.specs.declared.tables.Board.{Board}
+use Rattle.board_model.specs.TypeTable.{value_words}
+use Rattle.board_model.specs.Tables.{Tables}
+use Rattle.board_model.specs.Requests.{Publication, Request, create, entry_mut, table, tell, update, writer}
+use Rattle.board_model.specs.Parties.{Party, Running, free, gone, running}
+use Rattle.board_model.specs.AnswerGrammar.{answer_line}
+use Rattle.board_model.specs.LineGrammar.{IsLine}
+use Rattle.board_model.specs.LawfulSession.{IsRight, State, after}
+use Rattle.board_model.specs.Sound.{Sound}
+use Rattle.board_cell.specs.Calls.{Updating}
+use Rattle.board_script.specs.declared.machine.Machine.{Machine}
+use Rattle.board_script.specs.declared.machine.PartyRow.{PartyRow}
+use Rattle.board_script.specs.declared.machine.Task.{Task}
+use Rattle.board_script.specs.declared.machine.Task.TheVariants as task
+
+-- ---- running calls
+
+abbrev pub is_row_of : List ℕ → PartyRow → Bool
+is_row_of party row = bytes_eq party row.name
+
+-- an update after so many accesses
+abbrev pub updating : Publication → ℕ → Updating
+updating u k = record { shape = u.shape; generation = u.generation; words = value_words u.value; written = k }
+
+-- an update that runs is what is left of this publication
+pub record IsUpdate (board : ℕ) (call : Updating) (q : Request) (k : ℕ) : Type 0 where
+  pub publication : Publication
+  pub request : q ≡ update publication
+  pub board_is : board ≡ publication.board
+  pub call_is : call ≡ updating publication k
+
+-- the task is what a call has still to do after these accesses
+abbrev pub IsTaskOf : Task → Request → List Access → Type 0
+IsTaskOf (task.Create f n k l attributes entries) q so_far = q ≡ table (create f n k l attributes entries)
+IsTaskOf (task.Writer n x) q so_far = q ≡ table (writer n x)
+IsTaskOf (task.EntryMut n x k type) q so_far = q ≡ table (entry_mut n x k type)
+IsTaskOf (task.Gen x) q so_far = q ≡ table (tell x)
+IsTaskOf (task.Update board call) q so_far = IsUpdate board call q (length so_far)
+
+-- the one row of a party whose call runs
+pub record IsRowOf (rows : List PartyRow) (r : Running) : Type 0 where
+  pub row : PartyRow
+  pub only : rows ≡ row ∷ []
+  pub task : IsTaskOf row.task r.request r.so_far
+
+-- the rows of a party
+abbrev pub AreRowsOf : List PartyRow → Party → Type 0
+AreRowsOf rows free = rows ≡ []
+AreRowsOf rows (running r) = IsRowOf rows r
+AreRowsOf rows gone = ⊥
+
+-- ---- the machine
+
+abbrev pub tables_of : Machine → Tables (List ℕ) (List ℕ)
+tables_of m = record { boards = m.boards.items; things = m.things.items; last_board = m.last_board; last_port = m.last_port }
+
+-- the words of the boards, one after another
+abbrev pub words_of : (ℕ → List ℕ) → List Board → List (List ℕ)
+words_of memory boards = map (λ (b : Board). memory b.number) boards
+
+-- the machine stands for the state
+pub record Represents (m : Machine) (s : State) : Type 0 where
+  pub alive : m.spent ≡ false
+  pub tables : s.standing.tables ≡ tables_of m
+  pub words : m.words.items ≡ words_of s.memory m.boards.items
+  pub parties : (p : List ℕ) → AreRowsOf (filter (is_row_of p) m.parties.items) (s.parties p)
+  pub loans : (p n : List ℕ) → s.standing.loans p n ≡ None
+  pub values : (p n : List ℕ) → s.standing.values p n ≡ None
+
+-- the numbers of a state are far from their end
+pub record IsBounded (s : State) : Type 0 where
+  pub boards : s.standing.tables.last_board + 1 < 2 ^ 64
+  pub ports : s.standing.tables.last_port + 1 < 2 ^ 64
+  pub lists : (n i : ℕ) → length (s.published n i) + 1 < 2 ^ 64
+
+-- the machine stands for a state that a lawful session led to
+pub record IsLed (m : Machine) : Type 0 where
+  pub state : State
+  pub represents : Represents m state
+  pub sound : Sound state
+  pub bounded : IsBounded state
+
+-- the answer is right after each state that the machine stood for, and the machine stands for what follows
+abbrev pub Serves : Machine → Machine → Line → Answer → Type 0
+Serves old new l a = (s : State) → Represents old s → Sound s → IsLine l → IsRight s l a × Represents new (after s l a)
+
+-- the text is the line of an answer that is right after each state that the machine stood for, and the machine stands for what follows
+pub record IsTelling (new : Machine) (s : State) (l : Line) (text : List ℕ) : Type 0 where
+  pub answer : Answer
+  pub right : IsRight s l answer
+  pub represents : Represents new (after s l answer)
+  pub told : text ≡ answer_line answer
+
+abbrev pub Tells : Machine → Machine → Line → List ℕ → Type 0
+Tells old new l text = (s : State) → Represents old s → Sound s → IsTelling new s l text

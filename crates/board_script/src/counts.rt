@@ -1,0 +1,44 @@
+//! What is counted over the things.
+ghost use Rattle.std.specs.Prelude.{◌≡◌, true};
+ghost use Rattle.std.specs.List.{list_any};
+ghost use Rattle.board_model.specs.Tables as tables;
+ghost use Rattle.board_script.specs.Counts.{is_of_writer};
+
+use crate::machine::Held;
+use board_model::Kind;
+
+// Whether a thing keeps a writer slot.
+fn has_port(kind: &Kind) -> bool
+    ensures { result ≡ tables.holds_at (tables.writer_port kind.now) (λ p. true) }
+{
+    match kind {
+        Kind::Writer { port: _ } => true,
+        Kind::WriteHandle { entry: _, port: _ } => true,
+        _ => false,
+    }
+}
+
+/// Whether the writer slot of the board is taken.
+pub(crate) fn has_writer(board: u64, things: &[Held]) -> bool
+    ensures { result ≡ list_any (is_of_writer board) things.now }
+{
+    things.iter().any(|t| t.board == board && has_port(&t.kind))
+}
+
+fn writes_entry(entry: u64, kind: &Kind) -> bool
+    ensures { result ≡ tables.writes_entry entry kind.now }
+{
+    match kind {
+        Kind::WriteHandle { entry: e, port: _ } => *e == entry,
+        _ => false,
+    }
+}
+
+/// Whether a write handle of the entry stands.
+pub(crate) fn has_write_handle(board: u64, entry: u64, things: &[Held]) -> bool
+    ensures { result ≡ list_any (tables.is_write_handle board entry) things.now }
+{
+    things
+        .iter()
+        .any(|t| t.board == board && writes_entry(entry, &t.kind))
+}

@@ -1,0 +1,24 @@
+//! The machine that runs the lines of a script, and the program's top call.
+#![tactic(auto)]
+
+mod begin;
+mod counts;
+mod create;
+mod line;
+mod lookups;
+mod machine;
+mod ports;
+mod script;
+mod step;
+mod top;
+mod values;
+
+pub use board_lines::{
+    Failed, MemorySink, MemorySource, RunsLines, ScriptError, Sink, SinkError, Source,
+};
+pub use machine::Machine;
+pub use script::run_script;
+pub use top::run_words;
+
+#[cfg(test)]
+mod tests;

@@ -1,0 +1,133 @@
+//! The machine's one call: the line of a script, and the answer to it.
+ghost use Rattle.std.specs.Prelude.{◌≡◌, ◌++◌, ◌<◌, ◌^◌, [], true, false, IfNone, IfSome, IsErrOf, OnErr, OnOk, is_some};
+ghost use Rattle.std.specs.List.{AllByRecursion};
+ghost use Rattle.board_model.specs.LawfulSession.{Session, State, start};
+ghost use Rattle.board_model.specs.AnswerGrammar.{answer_line};
+ghost use Rattle.board_model.specs.LineGrammar.{IsLine, IsNumber};
+ghost use Rattle.board_model.specs.declared.answer.Answer.TheVariants as answer;
+ghost use Rattle.board_model.specs.Tables as tables;
+ghost use Rattle.board_lines.specs.Runs.{HasAnswered, SpellsNone, StandsFor};
+ghost use Rattle.board_script.specs.Machine.{IsLed, Represents, Tells};
+
+use crate::lookups::place_of_board;
+use crate::machine::Machine;
+use board_lines::{LineError, RunsLines, parse_line, push_answer, push_refused, push_words};
+use board_model::{Line, Reason};
+use std::alloc::{AllocError, Global};
+
+// Tells the words of a board.
+fn push_listing(words: &[u64], out: &mut Vec<u8>) -> Result<(), AllocError>
+    ensures numbers { AllByRecursion IsNumber words.now }
+    ensures told { OnOk result (out.new.items ≡ out.old.items ++ answer_line (answer.Words words.now)) }
+{
+    push_words(words, out)
+}
+
+impl Machine {
+    /// A machine that stands for the empty session. It takes no memory.
+    pub fn new(alloc: Global) -> Machine
+        ensures { Represents result start }
+    {
+        Machine {
+            alloc,
+            boards: Vec::new(alloc),
+            things: Vec::new(alloc),
+            words: Vec::new(alloc),
+            last_board: 0,
+            last_port: 0,
+            parties: Vec::new(alloc),
+            spent: false,
+        }
+    }
+
+    /// Whether memory was refused in an earlier line. Then no further line may be run.
+    pub fn is_spent(&self) -> bool
+        ensures { result ≡ self.now.spent }
+    {
+        self.spent
+    }
+
+    // The words of a board, where it stands.
+    fn words_of(&self, number: u64) -> Option<&[u64]>
+        requires { IsLed self.now }
+        ensures none { IfNone result ((s : State) → Represents self.now s → is_some (tables.board_at s.standing.tables number) ≡ false) }
+        ensures stands { IfSome result (λ words. (s : State) → Represents self.now s → is_some (tables.board_at s.standing.tables number) ≡ true) }
+        ensures words { IfSome result (λ words. (s : State) → Represents self.now s → words.now ≡ s.memory number) }
+    {
+        match place_of_board(number, &self.boards) {
+            Some(place) => Some(self.words[place].as_slice()),
+            None => None,
+        }
+    }
+
+    // Answers a line of the grammar.
+    fn answer(&mut self, line: Line, out: &mut Vec<u8>) -> Result<(), AllocError>
+        requires led { IsLed self.old }
+        requires line { IsLine line }
+        requires empty { out.old.items ≡ [] }
+        ensures { OnOk result (Tells self.old self.new line out.new.items) }
+    {
+        match line {
+            Line::Begin { party, call } => {
+                let answer = self.begin(party, call)?;
+                push_answer(&answer, out)
+            }
+            Line::Step { party } => {
+                let answer = self.step(&party)?;
+                push_answer(&answer, out)
+            }
+            Line::Words { board } => match self.words_of(board) {
+                Some(words) => push_listing(words, out),
+                None => push_refused(Reason::NoBoard, out),
+            },
+            _ => unreachable!(),
+        }
+    }
+
+    /// Answers a line: `answer` then has the answer and its newline, and nothing else.
+    ///
+    /// It is `Bad` exactly where the line is outside the grammar, and then nothing changes. After `OutOfMemory` the
+    /// machine is spent. On both `answer` is empty.
+    pub fn line(&mut self, line: &[u8], answer: &mut Vec<u8>) -> Result<(), LineError>
+        // The machine isn't spent, and it stands for a lawful session of fewer than 2^63 lines.
+        requires { (session : Session) × StandsFor Represents self.old session }
+
+        // For each session that it stands for the answer is right, and it stands for the session with this pair.
+        ensures ok { OnOk result ((session : Session) → StandsFor Represents self.old session → HasAnswered Represents self.new session line.now answer.new.items) }
+
+        // A line outside the grammar is refused, no other one is, and nothing changes.
+        ensures bad { IsErrOf result LineError.Bad → SpellsNone line.now }
+        ensures same { IsErrOf result LineError.Bad → (s : State) → Represents self.old s → Represents self.new s }
+
+        ensures spent { IsErrOf result LineError.OutOfMemory → self.new.spent ≡ true }
+        ensures err { OnErr result (answer.new.items ≡ []) }
+    {
+        answer.clear();
+        let parsed = match parse_line(self.alloc, line) {
+            Ok(parsed) => parsed,
+            Err(_) => {
+                self.spent = true;
+                return Err(LineError::OutOfMemory);
+            }
+        };
+        let Some(parsed) = parsed else {
+            return Err(LineError::Bad);
+        };
+        match self.answer(parsed, answer) {
+            Ok(()) => Ok(()),
+            Err(_) => {
+                answer.clear();
+                self.spent = true;
+                Err(LineError::OutOfMemory)
+            }
+        }
+    }
+}
+
+impl RunsLines for Machine {
+    ghost stands = { Represents };
+
+    fn line(&mut self, line: &[u8], answer: &mut Vec<u8>) -> Result<(), LineError> {
+        Machine::line(self, line, answer)
+    }
+}

@@ -1,0 +1,93 @@
+//! The program's top call, its statuses and its notes.
+ghost use Rattle.std.specs.Prelude.{◌≡◌, ◌≤◌, ◌<◌, [], length, Ok, Err};
+ghost use Rattle.std.specs.Io.KnownBytes.{IsAtEnd};
+ghost use Rattle.board_lines.specs.Runs.{IsRunOf};
+ghost use Rattle.board_script.specs.Top.{IsAnswered, IsNoted, note_of, status_of, usage_note};
+
+use crate::script::run_script;
+use board_layout::Text;
+use board_lines::{ScriptError, Sink, Source, write_whole};
+use itoa::Buffer;
+use std::alloc::Global;
+
+// Writes a note. That it fails changes nothing else.
+fn note<N: Sink>(notes: &mut N, text: &[u8])
+    ensures { IsNoted (N.held notes.old) (N.held notes.new) (N.faults notes.old) (N.faults notes.new) text.now }
+{
+    let _ = write_whole(notes, text);
+}
+
+// The note of a line outside the grammar.
+fn bad_line(n: u64) -> Text<80>
+    ensures { result ≡ note_of (Err (ScriptError.BadLine n)) }
+{
+    let mut text: Text<80> = Text::of(b"line ");
+    let mut buffer = Buffer::new();
+    text.push(buffer.format(n).as_bytes());
+    text.push(b": not in the grammar\n");
+    text
+}
+
+// The note of an error, with its newline.
+fn note_text(error: ScriptError) -> Text<80>
+    ensures { result ≡ note_of (Err error) }
+{
+    match error {
+        ScriptError::ReadFault => Text::of(b"read fault\n"),
+        ScriptError::WriteFault => Text::of(b"write fault\n"),
+        ScriptError::BadLine(n) => bad_line(n),
+        ScriptError::TooLong => Text::of(b"too long\n"),
+        ScriptError::OutOfMemory => Text::of(b"out of memory\n"),
+    }
+}
+
+fn status(error: ScriptError) -> u8
+    ensures { result ≡ status_of (Err error) }
+{
+    match error {
+        ScriptError::ReadFault => 3,
+        ScriptError::WriteFault => 4,
+        ScriptError::BadLine(_) => 5,
+        ScriptError::TooLong => 6,
+        ScriptError::OutOfMemory => 7,
+    }
+}
+
+/// Runs the script of the source where there are no words on the command line, and gives the status.
+///
+/// The status is 0 where the script was run to its end, 2 where there are words, 3 and 4 where the source and the sink
+/// failed, 5 and 6 where a line is outside the grammar and where there are too many, and 7 where memory was refused.
+/// Each but 0 has a note of one line.
+pub fn run_words<S: Source, K: Sink, N: Sink>(
+    alloc: Global,
+    words: &Vec<String>,
+    source: &mut S,
+    sink: &mut K,
+    notes: &mut N,
+) -> u8
+    // With status 0 the sink gained the output of the lawful session of the input's lines, which was read to its end.
+    ensures ok { result ≡ 0 → IsRunOf 4294967295 (S.left source.old) (K.held sink.old) (K.held sink.new) }
+    ensures end { result ≡ 0 → IsAtEnd (S.left source.new) }
+
+    // Without words the status and the note are those of the script's answer, which comes where `IsAnswered` says.
+    ensures ran { length words.now.items ≡ 0 → IsAnswered result (S.left source.old) (S.left source.new) (S.faults source.old) (S.faults source.new) (K.held sink.old) (K.held sink.new) (K.faults sink.old) (K.faults sink.new) (N.held notes.old) (N.held notes.new) (N.faults notes.old) (N.faults notes.new) }
+
+    // With any word nothing is read and nothing run.
+    ensures usage { 0 < length words.now.items → result ≡ 2 }
+    ensures usage_note { 0 < length words.now.items → IsNoted (N.held notes.old) (N.held notes.new) (N.faults notes.old) (N.faults notes.new) usage_note }
+    ensures unread { 0 < length words.now.items → source.new ≡ source.old }
+    ensures unwritten { 0 < length words.now.items → sink.new ≡ sink.old }
+{
+    if !words.is_empty() {
+        note(notes, b"usage: board_run [gen N]\n");
+        return 2;
+    }
+    match run_script(alloc, source, sink) {
+        Ok(()) => 0,
+        Err(error) => {
+            let text = note_text(error);
+            note(notes, text.as_bytes());
+            status(error)
+        }
+    }
+}

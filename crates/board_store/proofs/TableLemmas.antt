@@ -1,0 +1,62 @@
+-- What a table holds after a change. For this crate and for all whose values stand in tables.
+use Rattle.std.specs.Prelude.{◌≡◌, ℕ, List, [], ◌∷◌, Option, Some, None, Result, Ok, Err, is_some, false, refl}
+use Rattle.std.proofs.Common.{ap}
+use Rattle.std.specs.declared.cmp.Ordering.{Ordering}
+use Rattle.std.specs.declared.cmp.Ordering.TheVariants.{Less, Equal, Greater}
+use Rattle.std.specs.Ordering.{nat_cmp, match_ordering}
+use Rattle.std.specs.Cmp.Lexicographic.{slice_cmp, nat_list_cmp_total}
+use Rattle.std.specs.Map.{lookup}
+use Rattle.std.specs.BTreeMap.{insert_entry, is_at}
+use Rattle.std.proofs.lemmas.Cmp.{tied_itself}
+use Rattle.board_layout.specs.Answer.{Answers, Refuses}
+use Rattle.board_store.specs.Table.{at, putting, taking}
+
+-- a later entry under a key takes the place of an earlier one
+insert_entry_twice : {K X : Type 0} (cmp : K → K → Ordering) (self : (k : K) → cmp k k ≡ Equal) (es : List (K × X)) (k : K) (x y : X) →
+    insert_entry cmp (insert_entry cmp es k x) k y ≡ insert_entry cmp es k y
+insert_entry_twice cmp self [] k x y = rw (self k)
+insert_entry_twice cmp self (e ∷ es) k x y =
+    elim (cmp k e.0) as (λ o. cmp k e.0 ≡ o →
+    insert_entry cmp (match_ordering o ((k, x) ∷ e ∷ es) ((e.0, x) ∷ es) (e ∷ insert_entry cmp es k x)) k y
+    ≡ match_ordering o ((k, y) ∷ e ∷ es) ((e.0, y) ∷ es) (e ∷ insert_entry cmp es k y)) [
+      | Less ↦ λ h. rw (self k)
+      | Equal ↦ λ h. rw h
+      | Greater ↦ λ h. rw h (ap (λ l. e ∷ l) (insert_entry_twice cmp self es k x y))
+    ] refl
+
+-- a key has the entry that was put there
+lookup-insert_entry : {K X : Type 0} (cmp : K → K → Ordering) (self : (k : K) → cmp k k ≡ Equal) (es : List (K × X)) (k : K) (x : X) →
+    lookup (is_at (cmp k)) (insert_entry cmp es k x) ≡ Some x
+lookup-insert_entry cmp self [] k x = rw (self k)
+lookup-insert_entry cmp self (e ∷ es) k x =
+    elim (cmp k e.0) as (λ o. cmp k e.0 ≡ o →
+    lookup (is_at (cmp k)) (match_ordering o ((k, x) ∷ e ∷ es) ((e.0, x) ∷ es) (e ∷ insert_entry cmp es k x)) ≡ Some x) [
+      | Less ↦ λ h. rw (self k)
+      | Equal ↦ λ h. rw h
+      | Greater ↦ λ h. rw h (lookup-insert_entry cmp self es k x)
+    ] refl
+
+-- of two values put under a name, the later one stands
+pub putting-putting : {X : Type 0} (table : List (List ℕ × X)) (name : List ℕ) (x y : X) → putting (putting table name x) name y ≡ putting table name y
+putting-putting table name x y = insert_entry_twice (slice_cmp nat_cmp) (tied_itself nat_list_cmp_total) table name x y
+
+-- what was put under a name stands there
+pub at-putting : {X : Type 0} (table : List (List ℕ × X)) (name : List ℕ) (x : X) → at (putting table name x) name ≡ Some x
+at-putting table name x = lookup-insert_entry (slice_cmp nat_cmp) (tied_itself nat_list_cmp_total) table name x
+
+-- a name that isn't held can be taken
+pub taking-free : {X T E : Type 0} (value : T) (already : E) (one : Option X) → is_some one ≡ false → taking value already one ≡ Ok value
+taking-free value already None free = refl
+taking-free value already (Some one) free = cc free
+
+-- the refusal of a call that took the name is handed on
+pub taking-passed : {X T U E : Type 0} (value : T) (other : U) (already : E) (one : Option X) (made : Result T E) (result : Result U E) (e : E) →
+    Refuses made (taking value already one) → made ≡ Err e → result ≡ Err e → Refuses result (taking other already one)
+taking-passed value other already None made result e refuses is passed = λ d refused. cc refused
+taking-passed value other already (Some one) made result e refuses is passed = λ d refused. let met = refuses already refl in cc (met, is, passed, refused)
+
+-- the name was taken, so no refusal is expected
+pub taking-kept : {X T U E : Type 0} (value : T) (other : U) (already : E) (one : Option X) (made : Result T E) (result : Result U E) (had : T) (out_of_memory : E) →
+    Answers made out_of_memory (taking value already one) → made ≡ Ok had → Refuses result (taking other already one)
+taking-kept value other already None made result had m answers is = λ d refused. cc refused
+taking-kept value other already (Some one) made result had m answers is = λ d refused. let same : made ≡ Err already = answers (λ e. cc (e, is)) in cc (same, is)

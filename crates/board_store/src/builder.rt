@@ -1,0 +1,239 @@
+//! How a static storage is made or opened.
+ghost use Rattle.std.specs.Prelude.{◌≡◌, ℕ, ◌∷◌, ◌++◌, List, Some, None, true, codes, IfOk, OnOk, OnErr, IsErrOf};
+ghost use Rattle.board_layout.specs.Answer.{Answers, Refuses};
+ghost use Rattle.board_names.specs.Configuration.{full_name, started};
+ghost use Rattle.board_store.specs.Table.{at, putting};
+ghost use Rattle.board_store.specs.Statics.{create_answer, open_answer};
+ghost use Rattle.board_store.specs.Storage.{path_of, storage_of, create_storage_answer, create_content_answer, take_answer, StaysOrIsLocked, create_locked_answer, open_storage_answer};
+ghost use Rattle.board_store.specs.declared.statics.Stored.TheVariants.{Locked as Stood, Final};
+
+use crate::content::Content;
+use crate::locked::Locked;
+use crate::registry::StaticRegistry;
+use crate::static_storage::{StaticStorage, StaticStorageBuilder};
+use crate::statics::Statics;
+use crate::storage::Storage;
+use board_names::{
+    Configuration, FileName, FilePath, NamedConceptBuilder, NamedConceptConfiguration,
+    RegistryError, StaticStorageCreateError, StaticStorageOpenError,
+};
+use std::alloc::Global;
+use std::marker::Model;
+use std::sync::Wait;
+
+/// A builder of a static storage. Clauses see its name, its configuration and whether what it makes owns the name.
+#[derive(Drop)]
+pub struct Builder {
+    name: FileName,
+    config: Configuration,
+    owns: bool,
+    registry: StaticRegistry,
+}
+
+impl Model for Builder {
+    ghost use Rattle.board_store.specs.Storage.{BuilderView};
+
+    ghost Value = { BuilderView };
+
+    ghost view = { λ b. record { name = b.name; config = b.config; owns = b.owns } };
+}
+
+impl Builder {
+    /// `create` over the storages themselves.
+    ///
+    /// # Errors
+    /// `AlreadyExists` where the name is held. `OutOfMemory`; the name may then be held, locked.
+    pub fn create_in(
+        self,
+        state: &mut Statics,
+        alloc: Global,
+        contents: &[u8],
+    ) -> Result<Storage, StaticStorageCreateError>
+        ensures answer { Answers result StaticStorageCreateError.OutOfMemory (create_storage_answer self contents.now (at state.old (path_of self))) }
+        ensures refused { Refuses result (create_storage_answer self contents.now (at state.old (path_of self))) }
+        ensures ok { OnOk result (state.new ≡ putting state.old (path_of self) (Final contents.now)) }
+        ensures already { IsErrOf result StaticStorageCreateError.AlreadyExists → state.new ≡ state.old }
+        ensures memory { IsErrOf result StaticStorageCreateError.OutOfMemory → StaysOrIsLocked state.old state.new (path_of self) }
+    {
+        let content = self.create_content(state, contents)?;
+        Ok(self.into_storage(content))
+    }
+
+    /// `create_locked` over the storages themselves.
+    ///
+    /// # Errors
+    /// `AlreadyExists` where the name is held; `OutOfMemory`. The storages stay as they were.
+    pub fn create_locked_in(
+        self,
+        state: &mut Statics,
+        alloc: Global,
+    ) -> Result<Locked, StaticStorageCreateError>
+        ensures answer { Answers result StaticStorageCreateError.OutOfMemory (create_locked_answer self (at state.old (path_of self))) }
+        ensures refused { Refuses result (create_locked_answer self (at state.old (path_of self))) }
+        ensures ok { OnOk result (state.new ≡ putting state.old (path_of self) Stood) }
+        ensures err { OnErr result (state.new ≡ state.old) }
+    {
+        let path = self.take(state)?;
+        Ok(Locked::at(self.name, path, self.owns, self.registry))
+    }
+
+    /// One look of `open`, over the storages themselves.
+    ///
+    /// # Errors
+    /// `DoesNotExist` where the name isn't held; `InitializationNotYetFinalized` where it is locked; `OutOfMemory`.
+    pub fn open_in(self, state: &mut Statics) -> Result<Storage, StaticStorageOpenError>
+        ensures answer { Answers result StaticStorageOpenError.OutOfMemory (open_storage_answer self (at state.old (path_of self))) }
+        ensures refused { Refuses result (open_storage_answer self (at state.old (path_of self))) }
+        ensures stays { state.new ≡ state.old }
+    {
+        let content = self.look_in(state)?;
+        Ok(self.into_storage(content))
+    }
+
+    fn take(&self, state: &mut Statics) -> Result<FilePath, StaticStorageCreateError>
+        ensures answer { Answers result StaticStorageCreateError.OutOfMemory (take_answer self.now (at state.old (path_of self.now))) }
+        ensures refused { Refuses result (take_answer self.now (at state.old (path_of self.now))) }
+        ensures path { IfOk result (λ path. path ≡ path_of self.now) }
+        ensures ok { OnOk result (state.new ≡ putting state.old (path_of self.now) Stood) }
+        ensures err { OnErr result (state.new ≡ state.old) }
+    {
+        let path = self.path();
+        state.create_locked(&path)?;
+        Ok(path)
+    }
+
+    fn take_locking<R: Wait>(&self, rt: &R) -> Result<FilePath, StaticStorageCreateError> {
+        let mut state = self.registry.state.lock(rt);
+        self.take(&mut state)
+    }
+
+    fn create_locking<R: Wait>(
+        &self,
+        rt: &R,
+        contents: &[u8],
+    ) -> Result<Content, StaticStorageCreateError> {
+        let mut state = self.registry.state.lock(rt);
+        self.create_content(&mut state, contents)
+    }
+
+    fn create_content(
+        &self,
+        state: &mut Statics,
+        contents: &[u8],
+    ) -> Result<Content, StaticStorageCreateError>
+        ensures answer { Answers result StaticStorageCreateError.OutOfMemory (create_content_answer contents.now (at state.old (path_of self.now))) }
+        ensures refused { Refuses result (create_content_answer contents.now (at state.old (path_of self.now))) }
+        ensures ok { OnOk result (state.new ≡ putting state.old (path_of self.now) (Final contents.now)) }
+        ensures already { IsErrOf result StaticStorageCreateError.AlreadyExists → state.new ≡ state.old }
+        ensures memory { IsErrOf result StaticStorageCreateError.OutOfMemory → StaysOrIsLocked state.old state.new (path_of self.now) }
+    {
+        let path = self.take(state)?;
+        match state.fill(&path, contents) {
+            Ok(content) => Ok(content),
+            Err(_) => Err(StaticStorageCreateError::OutOfMemory),
+        }
+    }
+
+    fn look_in(&self, state: &mut Statics) -> Result<Content, StaticStorageOpenError>
+        ensures answer { Answers result StaticStorageOpenError.OutOfMemory (open_answer (at state.old (path_of self.now))) }
+        ensures refused { Refuses result (open_answer (at state.old (path_of self.now))) }
+        ensures stays { state.new ≡ state.old }
+    {
+        state.try_open(&self.path())
+    }
+
+    fn look<R: Wait>(&self, rt: &R) -> Result<Content, StaticStorageOpenError> {
+        let mut state = self.registry.state.lock(rt);
+        self.look_in(&mut state)
+    }
+
+    /// Looks once more than `polls`, or until the name isn't locked.
+    fn poll<R: Wait>(&self, rt: &R, polls: u32) -> Result<Content, StaticStorageOpenError> {
+        for _ in 0..polls {
+            match self.look(rt) {
+                Err(StaticStorageOpenError::InitializationNotYetFinalized) => {}
+                answer => return answer,
+            }
+        }
+        self.look(rt)
+    }
+
+    fn path(&self) -> FilePath
+        ensures { result ≡ path_of self.now }
+    {
+        self.config.path_for(&self.name)
+    }
+
+    fn into_storage(self, content: Content) -> Storage
+        ensures { result ≡ storage_of self content }
+    {
+        let path = self.path();
+        Storage::at(self.name, path, self.owns, content, self.registry)
+    }
+}
+
+impl NamedConceptBuilder for Builder {
+    type Registry = StaticRegistry;
+
+    ghost named = { λ b. record { name = b.name; config = b.config } };
+
+    fn new(name: &FileName, registry: &StaticRegistry) -> Result<Builder, RegistryError>
+        ensures { IfOk result (λ b. b ≡ record { name = name.now; config = started (codes ".static_storage"); owns = true }) }
+    {
+        let registry = registry.share()?;
+        Ok(Builder {
+            name: *name,
+            config: Configuration::with_suffix(&Storage::default_suffix()),
+            owns: true,
+            registry,
+        })
+    }
+
+    fn config(mut self, config: &Configuration) -> Builder
+        ensures { result ≡ record self { config = config.now } }
+    {
+        self.config = Configuration {
+            prefix: config.prefix,
+            suffix: config.suffix,
+            path_hint: config.path_hint,
+        };
+        self
+    }
+}
+
+impl StaticStorageBuilder for Builder {
+    type Storage = Storage;
+
+    type Locked = Locked;
+
+    fn has_ownership(mut self, value: bool) -> Builder
+        ensures { result ≡ record self { owns = value } }
+    {
+        self.owns = value;
+        self
+    }
+
+    fn create<R: Wait>(
+        self,
+        rt: &R,
+        alloc: Global,
+        contents: &[u8],
+    ) -> Result<Storage, StaticStorageCreateError> {
+        let content = self.create_locking(rt, contents)?;
+        Ok(self.into_storage(content))
+    }
+
+    fn create_locked<R: Wait>(
+        self,
+        rt: &R,
+        alloc: Global,
+    ) -> Result<Locked, StaticStorageCreateError> {
+        let path = self.take_locking(rt)?;
+        Ok(Locked::at(self.name, path, self.owns, self.registry))
+    }
+
+    fn open<R: Wait>(self, rt: &R, polls: u32) -> Result<Storage, StaticStorageOpenError> {
+        let content = self.poll(rt, polls)?;
+        Ok(self.into_storage(content))
+    }
+}

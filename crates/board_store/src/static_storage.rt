@@ -1,0 +1,116 @@
+//! What a static storage does: bytes are written once under a name, and then read by whoever opens it.
+ghost use Rattle.std.specs.Prelude.{◌≡◌, ℕ, ◌==◌, ◌<◌, ◌++◌, ◌↔◌, List, Bool, true, false, length, drop, codes, IsErrOf, OnOk, OnErr};
+
+use board_names::{
+    FileName, NamedConcept, NamedConceptBuilder, NamedConceptMgmt, StaticStorageCreateError,
+    StaticStorageOpenError, StaticStorageReadError, StaticStorageUnlockError,
+};
+use std::alloc::Global;
+use std::sync::Wait;
+
+/// The static storage of this process.
+pub type Local = crate::storage::Storage;
+
+/// A static storage that has its bytes.
+pub trait StaticStorage: NamedConceptMgmt + NamedConcept + Sized {
+    /// What makes it.
+    type Builder;
+
+    /// It, before it has its bytes.
+    type Locked;
+
+    ghost content_of: { Self → List ℕ };
+
+    ghost is_owner: { Self → Bool };
+
+    /// How many bytes there are.
+    fn len(&self) -> u64
+        ensures { result ≡ length (content_of self.now) };
+
+    /// Whether there is no byte.
+    fn is_empty(&self) -> bool
+        ensures { result ≡ (length (content_of self.now) == 0) };
+
+    /// Fills the front of `buffer` with the bytes. The rest of it stays.
+    ///
+    /// # Errors
+    /// `BufferTooSmall` where the buffer is shorter.
+    fn read(&self, buffer: &mut [u8]) -> Result<(), StaticStorageReadError>
+        ensures small { IsErrOf result StaticStorageReadError.BufferTooSmall ↔ (length buffer.old < length (content_of self.now)) }
+        ensures ok { OnOk result (buffer.new ≡ content_of self.now ++ drop (length (content_of self.now)) buffer.old) }
+        ensures err { OnErr result ((buffer.new ≡ buffer.old) × (length buffer.old < length (content_of self.now))) };
+
+    /// Leaves the name when the storage is released.
+    fn release_ownership(&mut self)
+        ensures content { content_of self.new ≡ content_of self.old }
+        ensures owns { is_owner self.new ≡ false };
+
+    /// Lets the name go when the storage is released.
+    fn acquire_ownership(&mut self)
+        ensures content { content_of self.new ≡ content_of self.old }
+        ensures owns { is_owner self.new ≡ true };
+
+    /// Gives the storage up, and its name where it owns it.
+    fn release<R: Wait>(self, rt: &R);
+
+    /// The suffix that a builder starts with.
+    fn default_suffix() -> FileName
+        ensures { result ≡ codes ".static_storage" };
+}
+
+/// A builder of a static storage, which owns its name unless told otherwise.
+pub trait StaticStorageBuilder: NamedConceptBuilder {
+    type Storage: StaticStorage;
+
+    type Locked: StaticStorageLocked<Storage = Self::Storage>;
+
+    /// Whether what is made owns its name.
+    fn has_ownership(self, value: bool) -> Self;
+
+    /// A storage with these bytes.
+    ///
+    /// # Errors
+    /// `AlreadyExists` where the name is held. `OutOfMemory`; the name may then be held, locked.
+    fn create<R: Wait>(
+        self,
+        rt: &R,
+        alloc: Global,
+        contents: &[u8],
+    ) -> Result<Self::Storage, StaticStorageCreateError>;
+
+    /// A storage that is still to be filled.
+    ///
+    /// # Errors
+    /// `AlreadyExists` where the name is held; `OutOfMemory`.
+    fn create_locked<R: Wait>(
+        self,
+        rt: &R,
+        alloc: Global,
+    ) -> Result<Self::Locked, StaticStorageCreateError>;
+
+    /// The storage that stands under the name. Looks `polls + 1` times at most, and gives the lock back in between.
+    ///
+    /// # Errors
+    /// `DoesNotExist` where the name isn't held; `InitializationNotYetFinalized` where each look found it locked;
+    /// `OutOfMemory`.
+    fn open<R: Wait>(self, rt: &R, polls: u32) -> Result<Self::Storage, StaticStorageOpenError>;
+}
+
+/// A static storage that is still to be filled.
+pub trait StaticStorageLocked: NamedConcept + Sized {
+    type Storage: StaticStorage;
+
+    /// The storage with these bytes.
+    ///
+    /// # Errors
+    /// `InternalError` where the name isn't held locked; `OutOfMemory`. The name stays as it is.
+    fn unlock<R: Wait>(
+        self,
+        rt: &R,
+        alloc: Global,
+        contents: &[u8],
+    ) -> Result<Self::Storage, StaticStorageUnlockError>;
+
+    /// Gives the storage up, and its name where it owns it.
+    fn release<R: Wait>(self, rt: &R);
+}

@@ -1,0 +1,171 @@
+//! Static storages by full names.
+ghost use Rattle.std.specs.Prelude.{◌≡◌, ◌≢◌, ℕ, ◌+◌, ◌-◌, ◌<◌, ◌≤◌, ◌==◌, ◌↔◌, List, [], ◌∷◌, ◌++◌, length, Some, None, true, is_some, IfOk, IsErrOf, OnOk, OnErr, IsTrue, IsSome, IfSome, option_map};
+ghost use Rattle.board_layout.specs.Answer.{Answers, Refuses};
+ghost use Rattle.board_store.specs.Table.{at, putting, without, name_at};
+ghost use Rattle.board_store.specs.Statics.{bytes_of, locked_of, create_answer, open_answer, unlock_answer};
+ghost use Rattle.board_store.specs.Storage.{released};
+
+use crate::content::Content;
+use crate::table::Table;
+use board_names::{
+    FilePath, StaticStorageCreateError, StaticStorageOpenError, StaticStorageUnlockError,
+};
+use std::alloc::{AllocError, Global};
+use std::collections::BTreeMap;
+use std::marker::Model;
+
+/// What stands under a name: a storage that is still to be filled, or one with its bytes.
+#[derive(Drop)]
+pub enum Stored {
+    Locked,
+    Final(Content),
+}
+
+/// Static storages by full names. Clauses see the pairs of name and storage, in the order of the names.
+#[derive(Drop)]
+pub struct Statics {
+    pub(crate) names: Table<Stored>,
+    alloc: Global,
+}
+
+impl Model for Statics {
+    ghost use Rattle.std.specs.Prelude.{ℕ, List};
+    ghost use Rattle.board_store.specs.declared.statics.Stored.{Stored};
+
+    ghost Value = { List (List ℕ × Stored) };
+
+    ghost view = { λ s. s.names.entries };
+}
+
+impl Statics {
+    /// No storages. Takes no memory.
+    pub fn new(alloc: Global) -> Statics
+        ensures { result ≡ [] }
+    {
+        Statics {
+            names: BTreeMap::new(alloc),
+            alloc,
+        }
+    }
+
+    /// Takes a name for a storage that is still to be filled.
+    ///
+    /// # Errors
+    /// `AlreadyExists` where the name is held; `OutOfMemory`. The storages stay as they were.
+    pub fn create_locked(&mut self, name: &FilePath) -> Result<(), StaticStorageCreateError>
+        ensures answer { Answers result StaticStorageCreateError.OutOfMemory (create_answer (at self.old name.now)) }
+        ensures refused { Refuses result (create_answer (at self.old name.now)) }
+        ensures ok { OnOk result (self.new ≡ putting self.old name.now Stored.Locked) }
+        ensures err { OnErr result (self.new ≡ self.old) }
+    {
+        if self.names.contains_key(name) {
+            return Err(StaticStorageCreateError::AlreadyExists);
+        }
+        match self.names.insert(*name, Stored::Locked) {
+            Ok(_) => Ok(()),
+            Err(_) => Err(StaticStorageCreateError::OutOfMemory),
+        }
+    }
+
+    /// Gives the storage of a locked name its bytes, and hands them back, shared.
+    ///
+    /// # Errors
+    /// `InternalError` where the name isn't held locked; `OutOfMemory`. The storages stay as they were.
+    pub fn unlock(
+        &mut self,
+        name: &FilePath,
+        contents: &[u8],
+    ) -> Result<Content, StaticStorageUnlockError>
+        ensures answer { Answers result StaticStorageUnlockError.OutOfMemory (unlock_answer contents.now (locked_of self.old name.now)) }
+        ensures refused { Refuses result (unlock_answer contents.now (locked_of self.old name.now)) }
+        ensures ok { OnOk result (self.new ≡ putting self.old name.now (Stored.Final contents.now)) }
+        ensures err { OnErr result (self.new ≡ self.old) }
+    {
+        if self.is_locked(name) != Some(true) {
+            return Err(StaticStorageUnlockError::InternalError);
+        }
+        match self.fill(name, contents) {
+            Ok(content) => Ok(content),
+            Err(_) => Err(StaticStorageUnlockError::OutOfMemory),
+        }
+    }
+
+    /// Gives the storage of a name that is known to be locked its bytes, and hands them back, shared.
+    pub(crate) fn fill(&mut self, name: &FilePath, contents: &[u8]) -> Result<Content, AllocError>
+        requires { locked_of self.old name.now ≡ Some true }
+        ensures value { IfOk result (λ content. content ≡ contents.now) }
+        ensures ok { OnOk result (self.new ≡ putting self.old name.now (Stored.Final contents.now)) }
+        ensures err { OnErr result (self.new ≡ self.old) }
+    {
+        let content = Content::of(self.alloc, contents)?;
+        let shared = content.share()?;
+        // The name is held, so the table doesn't grow.
+        let Ok(_) = self.names.insert(*name, Stored::Final(content)) else {
+            unreachable!()
+        };
+        Ok(shared)
+    }
+
+    /// The content of a name that isn't locked, shared.
+    ///
+    /// # Errors
+    /// `DoesNotExist` where the name isn't held; `InitializationNotYetFinalized` where it is locked; `OutOfMemory`.
+    pub fn try_open(&self, name: &FilePath) -> Result<Content, StaticStorageOpenError>
+        ensures answer { Answers result StaticStorageOpenError.OutOfMemory (open_answer (at self.now name.now)) }
+        ensures refused { Refuses result (open_answer (at self.now name.now)) }
+    {
+        match self.names.get(name) {
+            None => Err(StaticStorageOpenError::DoesNotExist),
+            Some(Stored::Locked) => Err(StaticStorageOpenError::InitializationNotYetFinalized),
+            Some(Stored::Final(content)) => match content.share() {
+                Ok(shared) => Ok(shared),
+                Err(_) => Err(StaticStorageOpenError::OutOfMemory),
+            },
+        }
+    }
+
+    /// The bytes of a name that isn't locked.
+    pub fn bytes_of(&self, name: &FilePath) -> Option<&[u8]>
+        ensures { option_map (λ b. b.now) result ≡ bytes_of self.now name.now }
+    {
+        match self.names.get(name) {
+            Some(Stored::Final(content)) => Some(content.as_bytes()),
+            _ => None,
+        }
+    }
+
+    /// Whether a name is locked, where it is held.
+    pub fn is_locked(&self, name: &FilePath) -> Option<bool>
+        ensures { result ≡ locked_of self.now name.now }
+    {
+        match self.names.get(name) {
+            None => None,
+            Some(Stored::Locked) => Some(true),
+            Some(Stored::Final(_)) => Some(false),
+        }
+    }
+
+    /// Lets a name go, and tells whether it was held.
+    pub fn remove(&mut self, name: &FilePath) -> bool
+        ensures value { result ≡ is_some (at self.old name.now) }
+        ensures after { self.new ≡ without self.old name.now }
+    {
+        self.names.remove(name).is_some()
+    }
+
+    /// Lets a name go where it is owned.
+    pub(crate) fn let_go(&mut self, name: &FilePath, owns: bool)
+        ensures { self.new ≡ released self.old owns name.now }
+    {
+        if owns {
+            let _ = self.remove(name);
+        }
+    }
+
+    /// The name at an index, counted from 0 in the order of the names.
+    pub fn name_at(&self, index: usize) -> Option<FilePath>
+        ensures { result ≡ name_at self.now index }
+    {
+        self.names.keys().nth(index).copied()
+    }
+}

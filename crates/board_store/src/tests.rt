@@ -1,0 +1,293 @@
+//! Static storage by the typed calls, and again by the lent forms.
+use crate::{
+    Builder, Locked, StaticRegistry, StaticStorage, StaticStorageBuilder, StaticStorageLocked,
+    Statics, Storage,
+};
+use board_names::{
+    Configuration, FileName, FilePath, NamedConcept, NamedConceptBuilder,
+    NamedConceptConfiguration, NamedConceptDoesExistError, NamedConceptMgmt, Path,
+    StaticStorageCreateError, StaticStorageOpenError, StaticStorageReadError,
+    StaticStorageUnlockError,
+};
+use std::alloc::Global;
+use std::process::Abort;
+use std::sync::Wait;
+use std::test::Fail;
+
+fn builder(value: &[u8], registry: &StaticRegistry) -> Result<Builder, Fail> {
+    let name = FileName::new(value)?;
+    Ok(Builder::new(&name, registry)?)
+}
+
+fn usual() -> Configuration {
+    Configuration::with_suffix(&Storage::default_suffix())
+}
+
+fn exists<R: Wait>(
+    rt: &R,
+    value: &[u8],
+    registry: &StaticRegistry,
+) -> Result<Result<bool, NamedConceptDoesExistError>, Fail> {
+    let name = FileName::new(value)?;
+    Ok(Storage::does_exist_cfg(rt, registry, &name, &usual()))
+}
+
+fn shows_its_bytes<R: Abort>(rt: &R, storage: &Storage) {
+    assert_eq!(rt; storage.len(), 3);
+    assert!(rt; !storage.is_empty());
+    let mut small = [0u8; 2];
+    assert_eq!(rt;
+        storage.read(&mut small),
+        Err(StaticStorageReadError::BufferTooSmall)
+    );
+    let mut large = [9u8; 5];
+    assert_eq!(rt; storage.read(&mut large), Ok(()));
+    assert_eq!(rt; large, [1, 2, 3, 9, 9]);
+}
+
+fn locks<R: Wait + Abort>(
+    rt: &R,
+    alloc: Global,
+    registry: &StaticRegistry,
+) -> Result<Locked, Fail> {
+    let locked = builder(b"x", registry)?.create_locked(rt, alloc)?;
+    let again = builder(b"x", registry)?.create_locked(rt, alloc);
+    assert_eq!(rt; again.err(), Some(StaticStorageCreateError::AlreadyExists));
+    Ok(locked)
+}
+
+fn early<R: Wait + Abort>(rt: &R, registry: &StaticRegistry) -> Result<(), Fail> {
+    let shared = registry.share()?;
+    assert_eq!(rt;
+        exists(rt, b"x", &shared)?,
+        Err(NamedConceptDoesExistError::UnderlyingResourcesBeingSetUp)
+    );
+    let early = builder(b"x", registry)?.open(rt, 2);
+    assert_eq!(rt;
+        early.err(),
+        Some(StaticStorageOpenError::InitializationNotYetFinalized)
+    );
+    Ok(())
+}
+
+#[test]
+fn a_storage_is_filled_once(rt: HostRuntime) -> Result<(), Fail> {
+    let alloc = rt.alloc();
+    let registry = StaticRegistry::new(alloc)?;
+    let locked = locks(&rt, alloc, &registry)?;
+    early(&rt, &registry)?;
+    let storage = locked.unlock(&rt, alloc, &[1, 2, 3])?;
+    shows_its_bytes(&rt, &storage);
+    storage.release(&rt);
+    let gone = builder(b"x", &registry)?.open(&rt, 0);
+    assert_eq!(rt; gone.err(), Some(StaticStorageOpenError::DoesNotExist));
+    Ok(())
+}
+
+#[test]
+fn a_storage_is_filled_once_in_lent_storages(rt: HostRuntime) -> Result<(), Fail> {
+    let alloc = rt.alloc();
+    let registry = StaticRegistry::new(alloc)?;
+    let mut state = Statics::new(alloc);
+    let locked = builder(b"x", &registry)?.create_locked_in(&mut state, alloc)?;
+    let again = builder(b"x", &registry)?.create_locked_in(&mut state, alloc);
+    assert_eq!(rt; again.err(), Some(StaticStorageCreateError::AlreadyExists));
+    let storage = locked.unlock_in(&mut state, alloc, &[1, 2, 3])?;
+    shows_its_bytes(&rt, &storage);
+    storage.release_in(&mut state);
+    let gone = builder(b"x", &registry)?.open_in(&mut state);
+    assert_eq!(rt; gone.err(), Some(StaticStorageOpenError::DoesNotExist));
+    Ok(())
+}
+
+#[test]
+fn locked_names_are_listed(rt: HostRuntime) -> Result<(), Fail> {
+    let alloc = rt.alloc();
+    let registry = StaticRegistry::new(alloc)?;
+    let _locked = builder(b"x", &registry)?.create_locked(&rt, alloc)?;
+    let names = Storage::list_cfg(&rt, alloc, &registry, &usual())?;
+    assert_eq!(rt; names.as_slice(), [FileName::new(b"x")?].as_slice());
+    Ok(())
+}
+
+#[test]
+fn locked_names_are_listed_in_lent_storages(rt: HostRuntime) -> Result<(), Fail> {
+    let alloc = rt.alloc();
+    let registry = StaticRegistry::new(alloc)?;
+    let mut state = Statics::new(alloc);
+    let _locked = builder(b"x", &registry)?.create_locked_in(&mut state, alloc)?;
+    let names = Storage::list_cfg_in(&mut state, alloc, &usual())?;
+    let x = FileName::new(b"x")?;
+    assert_eq!(rt; names.as_slice(), [x].as_slice());
+    assert_eq!(rt;
+        Storage::does_exist_cfg_in(&mut state, &x, &usual()),
+        Err(NamedConceptDoesExistError::UnderlyingResourcesBeingSetUp)
+    );
+    let early = builder(b"x", &registry)?.open_in(&mut state);
+    assert_eq!(rt;
+        early.err(),
+        Some(StaticStorageOpenError::InitializationNotYetFinalized)
+    );
+    Ok(())
+}
+
+#[test]
+fn an_owner_frees_its_name(rt: HostRuntime) -> Result<(), Fail> {
+    let alloc = rt.alloc();
+    let registry = StaticRegistry::new(alloc)?;
+    let empty = builder(b"x", &registry)?.create(&rt, alloc, &[])?;
+    assert!(rt; empty.is_empty());
+    let other = builder(b"y", &registry)?.create_locked(&rt, alloc)?;
+    assert_eq!(rt; *other.name(), FileName::new(b"y")?);
+    other.release(&rt);
+    assert_eq!(rt; exists(&rt, b"y", &registry)?, Ok(false));
+    Ok(())
+}
+
+#[test]
+fn an_owner_frees_its_name_in_lent_storages(rt: HostRuntime) -> Result<(), Fail> {
+    let alloc = rt.alloc();
+    let registry = StaticRegistry::new(alloc)?;
+    let mut state = Statics::new(alloc);
+    let empty = builder(b"x", &registry)?.create_in(&mut state, alloc, &[])?;
+    assert!(rt; empty.is_empty());
+    let other = builder(b"y", &registry)?.create_locked_in(&mut state, alloc)?;
+    other.release_in(&mut state);
+    let y = FileName::new(b"y")?;
+    assert_eq!(rt;
+        Storage::does_exist_cfg_in(&mut state, &y, &usual()),
+        Ok(false)
+    );
+    Ok(())
+}
+
+fn opened<R: Wait>(rt: &R, alloc: Global, registry: &StaticRegistry) -> Result<Storage, Fail> {
+    let _made = builder(b"x", registry)?.create(rt, alloc, &[1, 2, 3])?;
+    Ok(builder(b"x", registry)?.open(rt, 0)?)
+}
+
+#[test]
+fn a_storage_stays_where_it_is_not_owned(rt: HostRuntime) -> Result<(), Fail> {
+    let alloc = rt.alloc();
+    let registry = StaticRegistry::new(alloc)?;
+    let mut storage = opened(&rt, alloc, &registry)?;
+    shows_its_bytes(&rt, &storage);
+    assert_eq!(rt; *storage.name(), FileName::new(b"x")?);
+    storage.release_ownership();
+    storage.release(&rt);
+    assert_eq!(rt; exists(&rt, b"x", &registry)?, Ok(true));
+    let mut storage = builder(b"x", &registry)?.open(&rt, 0)?;
+    storage.acquire_ownership();
+    storage.release(&rt);
+    assert_eq!(rt; exists(&rt, b"x", &registry)?, Ok(false));
+    Ok(())
+}
+
+#[test]
+fn a_storage_goes_on_without_its_name(rt: HostRuntime) -> Result<(), Fail> {
+    let alloc = rt.alloc();
+    let registry = StaticRegistry::new(alloc)?;
+    let storage = opened(&rt, alloc, &registry)?;
+    let x = FileName::new(b"x")?;
+    assert_eq!(rt; Storage::remove_cfg(&rt, &registry, &x, &usual()), Ok(true));
+    assert_eq!(rt;
+        Storage::remove_cfg(&rt, &registry, &x, &usual()),
+        Ok(false)
+    );
+    shows_its_bytes(&rt, &storage);
+    Ok(())
+}
+
+#[test]
+fn names_and_configurations_differ(rt: HostRuntime) -> Result<(), Fail> {
+    let alloc = rt.alloc();
+    let registry = StaticRegistry::new(alloc)?;
+    let other = Configuration::with_suffix(&FileName::new(b".other")?);
+    let locked = builder(b"x", &registry)?
+        .config(&other)
+        .has_ownership(false)
+        .create_locked(&rt, alloc)?;
+    assert_eq!(rt; exists(&rt, b"x", &registry)?, Ok(false));
+    locked.release(&rt);
+    let taken = builder(b"x", &registry)?
+        .config(&other)
+        .create(&rt, alloc, &[]);
+    assert_eq!(rt; taken.err(), Some(StaticStorageCreateError::AlreadyExists));
+    Ok(())
+}
+
+#[test]
+fn what_is_gone_is_not_unlocked(rt: HostRuntime) -> Result<(), Fail> {
+    let alloc = rt.alloc();
+    let registry = StaticRegistry::new(alloc)?;
+    let locked = builder(b"x", &registry)?.create_locked(&rt, alloc)?;
+    let x = FileName::new(b"x")?;
+    assert_eq!(rt; Storage::remove_cfg(&rt, &registry, &x, &usual()), Ok(true));
+    let gone = locked.unlock(&rt, alloc, &[1]);
+    assert_eq!(rt; gone.err(), Some(StaticStorageUnlockError::InternalError));
+    Ok(())
+}
+
+#[test]
+fn defaults_are_the_usual_parts(rt: HostRuntime) -> Result<(), Fail> {
+    assert_eq!(rt; Storage::default_prefix(), FileName::new(b"iox2_")?);
+    assert_eq!(rt; Storage::default_path_hint(), Path::new(b"/tmp/iceoryx2")?);
+    assert_eq!(rt;
+        Storage::default_suffix(),
+        FileName::new(b".static_storage")?
+    );
+    assert_eq!(rt; Storage::remove_path_hint(&Path::new(b"/tmp")?), Ok(()));
+    Ok(())
+}
+
+fn len_when_made<R: Wait, S: StaticStorage>(
+    rt: &R,
+    alloc: Global,
+    builder: S::Builder,
+) -> Result<u64, StaticStorageCreateError>
+where
+    S::Builder: StaticStorageBuilder<Storage = S>,
+{
+    let storage = builder.has_ownership(true).create(rt, alloc, &[4, 5])?;
+    let len = storage.len();
+    storage.release(rt);
+    Ok(len)
+}
+
+#[test]
+fn any_static_storage_is_made_by_the_traits(rt: HostRuntime) -> Result<(), Fail> {
+    let alloc = rt.alloc();
+    let registry = StaticRegistry::new(alloc)?;
+    let builder = builder(b"z", &registry)?;
+    assert_eq!(rt; len_when_made::<_, Storage>(&rt, alloc, builder)?, 2);
+    Ok(())
+}
+
+fn sent<T: Send>(value: T) -> T {
+    value
+}
+
+fn are_sent(builder: Builder, locked: Locked, storage: Storage) -> (Builder, Locked, Storage) {
+    (sent(builder), sent(locked), sent(storage))
+}
+
+#[test]
+fn storages_are_kept_by_name(rt: HostRuntime) -> Result<(), Fail> {
+    let alloc = rt.alloc();
+    let mut state = Statics::new(alloc);
+    let name = path_of(b"x")?;
+    assert_eq!(rt; state.create_locked(&name), Ok(()));
+    assert_eq!(rt; state.is_locked(&name), Some(true));
+    let content = state.unlock(&name, &[1, 2])?;
+    assert_eq!(rt; content.as_bytes(), [1, 2].as_slice());
+    assert_eq!(rt; state.bytes_of(&name), Some([1, 2].as_slice()));
+    assert_eq!(rt; state.try_open(&name)?.len(), 2);
+    assert_eq!(rt; state.name_at(0), Some(name));
+    assert!(rt; state.remove(&name));
+    assert!(rt; !state.remove(&name));
+    Ok(())
+}
+
+fn path_of(value: &[u8]) -> Result<FilePath, Fail> {
+    Ok(usual().path_for(&FileName::new(value)?))
+}
