@@ -1,6 +1,4 @@
 use crate::parse_line;
-use board_layout::Text;
-use board_model::{Call, Key, Line, Value, ValueType};
 use std::alloc::{AllocError, Global};
 use std::test::Fail;
 
@@ -82,50 +80,5 @@ fn a_line_has_at_most_4096_bytes(rt: HostRuntime) -> Result<(), Fail> {
     let long = create_line(rt.alloc(), b"twelve_bytes")?;
     assert_eq!(rt; long.len(), 4097);
     assert!(rt; parse_line(rt.alloc(), &long)?.is_none());
-    Ok(())
-}
-
-#[test]
-fn names_and_numbers_are_kept(rt: HostRuntime) -> Result<(), Fail> {
-    let line = parse_line(rt.alloc(), b"begin p entrymut m w u64:12 u64")?.ok_or("a line")?;
-    let Line::Begin {
-        party,
-        call: Call::EntryMut {
-            handle,
-            writer,
-            key,
-            value_type,
-        },
-    } = line
-    else {
-        return Err("another line")?;
-    };
-    assert_eq!(rt;
-        [party, handle, writer],
-        [Text::of(b"p"), Text::of(b"m"), Text::of(b"w")]
-    );
-    assert_eq!(rt; (key, value_type), (Key::U64(12), ValueType::U64));
-    Ok(())
-}
-
-#[test]
-fn entries_are_kept_in_order(rt: HostRuntime) -> Result<(), Fail> {
-    let line = parse_line(
-        rt.alloc(),
-        b"begin p create f b u64 add u64:7 u64:8 add u64:6 u64:9",
-    )?
-    .ok_or("a line")?;
-    let Line::Begin {
-        call: Call::Create { entries, .. },
-        ..
-    } = line
-    else {
-        return Err("another line")?;
-    };
-    let pairs: [(Key, Value); 2] = [(Key::U64(7), Value::U64(8)), (Key::U64(6), Value::U64(9))];
-    assert_eq!(rt; entries.as_slice().len(), 2);
-    for (entry, pair) in entries.as_slice().iter().zip(pairs) {
-        assert_eq!(rt; (entry.key, entry.value), pair);
-    }
     Ok(())
 }
