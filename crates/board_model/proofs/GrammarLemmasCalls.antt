@@ -1,18 +1,19 @@
 -- Calls are read back from their tokens.
-use Rattle.std.proofs.Common.{◌≡◌, ℕ, ◌≤◌, arith, true, List, [], ◌∷◌, ◌++◌, length, Option, Some, None, refl, sym, ap, subst, ◌∙◌, eqb, inl, inr}
-use Rattle.std.specs.Prelude.{◌&&◌, codes}
+use Rattle.std.proofs.Common.{◌≡◌, ℕ, ◌≤◌, arith, Bool, true, List, [], ◌∷◌, ◌++◌, length, Option, Some, None, refl, sym, ap, subst, ◌∙◌, eqb, inl, inr}
+use Rattle.std.specs.Prelude.{◌&&◌, codes, decimal}
 use Rattle.std.specs.Str.{bytes_eq}
 use Rattle.std.specs.List.{flat_map, list_all, AllByRecursion}
 use Rattle.std.proofs.lemmas.List.Concat.{flat_map-cons}
 use Rattle.board_model.specs.declared.attributes.Attribute.{Attribute}
+use Rattle.board_model.specs.declared.attributes.Requirements.{Requirements}
 use Rattle.board_model.specs.declared.tables.Limits.{Limits}
 use Rattle.board_model.specs.declared.value.AddedEntry.{AddedEntry}
 use Rattle.board_model.specs.declared.value.KeyType.{KeyType}
 use Rattle.board_model.specs.declared.line.Call.{Call}
 use Rattle.board_model.specs.declared.line.Call.TheVariants as call
-use Rattle.board_model.specs.LineGrammar.{is_name, is_board_name, key_text, key_type_text, value_text, value_type_text, entry_tokens, call_tokens, IsAddedEntry, IsCall, runs_call, is_number_key_type, is_none, is_plain_entry}
-use Rattle.board_model.specs.LineReading.{◌>>=◌, guard, first_by, is_end, read_name, read_board_name, read_key_type, read_value_type, read_key, read_value, no_limits, read_entry, read_entries, read_create, read_one_name, read_two_names, read_entry_mut, read_update, read_plain_call, read_call}
-use Rattle.board_model.proofs.GrammarLemmasNumbers.{some_is, bind_some, guard_some, both}
+use Rattle.board_model.specs.LineGrammar.{is_name, is_board_name, key_text, key_type_text, value_text, value_type_text, entry_tokens, call_tokens, name_tokens, IsNameIfAny, IsAddedEntry, IsCall, runs_call, is_number_key_type, is_none, is_plain_entry}
+use Rattle.board_model.specs.LineReading.{◌>>=◌, guard, first_by, is_end, read_name, read_board_name, read_key_type, read_value_type, read_key, read_value, no_limits, read_number, no_needs, read_entry, read_entries, read_create, read_one_name, read_two_names, read_name_if_any, read_open, read_entry_call, read_entry_mut, read_get, read_update, read_put, read_fill, is_single, single_call, pair_call, read_named_call, read_plain_call, read_call}
+use Rattle.board_model.proofs.GrammarLemmasNumbers.{some_is, bind_some, guard_some, both, number_again, number_takes}
 use Rattle.board_model.proofs.GrammarLemmasTokens.{word_is, chosen, first_takes, end_takes, name_again, name_takes, board_name_again, board_name_takes, key_type_again, key_type_takes, value_type_again, value_type_takes, key_again, key_takes, value_again, value_takes}
 
 -- ---- entries
@@ -64,6 +65,9 @@ entries_take (w ∷ k ∷ v ∷ rest) es e =
 pub record Takes (word : List ℕ) (ts : List (List ℕ)) (c : Call) : Type 0 where
   pub tokens : word ∷ ts ≡ call_tokens c
   pub is : IsCall c
+
+head_of : (word v : List ℕ) (rest : List (List ℕ)) (c : Call) → bytes_eq word v ≡ true → Takes v rest c → Takes word rest c
+head_of word v rest c e t = subst (λ (w : List ℕ). Takes w rest c) (sym (word_is word v e)) t
 
 -- ---- create
 
@@ -156,19 +160,102 @@ two_take ts p e =
     chain : (t0 t1 t2 : List (List ℕ)) (a b x y : List ℕ) → t0 ≡ a ∷ t1 → t1 ≡ b ∷ t2 → t2 ≡ [] → a ≡ x → b ≡ y → t0 ≡ x ∷ y ∷ []
     chain t0 t1 t2 a b x y e0 e1 e2 ea eb = cc
 
-writer_takes : (ts : List (List ℕ)) (c : Call) → (read_two_names ts >>= λ p. Some (call.Writer p.0 p.1)) ≡ Some c → Takes (codes "writer") ts c
-writer_takes ts c e =
-    let p = bind_some (read_two_names ts) (λ p. Some (call.Writer p.0 p.1)) c e in
-    let t = two_take ts p.0 p.1 in
-    subst (Takes (codes "writer") ts) (some_is (call.Writer p.0.0 p.0.1) c p.2)
-    (record { tokens = ap (λ (x : List (List ℕ)). codes "writer" ∷ x) t.tokens; is = (t.first, t.second) })
+single_takes : (word a : List ℕ) (c : Call) → is_name a ≡ true → single_call word a ≡ Some c → Takes word (a ∷ []) c
+unfolding single_call
+single_takes word a c h e =
+    elim (chosen (bytes_eq word (codes "gen")) _ _ _ e) [
+      | inl w ↦ head_of word (codes "gen") (a ∷ []) c w.0 (subst (Takes (codes "gen") (a ∷ [])) (some_is (call.Gen a) c w.1) (record { tokens = refl; is = h }))
+      | inr i ↦ elim (chosen (bytes_eq word (codes "keys")) _ _ _ i.1) [
+          | inl w ↦ head_of word (codes "keys") (a ∷ []) c w.0 (subst (Takes (codes "keys") (a ∷ [])) (some_is (call.Keys a) c w.1) (record { tokens = refl; is = h }))
+          | inr j ↦ elim (chosen (bytes_eq word (codes "nodes")) _ _ _ j.1) [
+              | inl w ↦ head_of word (codes "nodes") (a ∷ []) c w.0 (subst (Takes (codes "nodes") (a ∷ [])) (some_is (call.Nodes a) c w.1) (record { tokens = refl; is = h }))
+              | inr k ↦ elim (chosen (bytes_eq word (codes "info")) _ _ _ k.1) [
+                  | inl w ↦ head_of word (codes "info") (a ∷ []) c w.0 (subst (Takes (codes "info") (a ∷ [])) (some_is (call.Info a) c w.1) (record { tokens = refl; is = h }))
+                  | inr l ↦ elim (chosen (bytes_eq word (codes "id")) _ _ _ l.1) [
+                      | inl w ↦ head_of word (codes "id") (a ∷ []) c w.0 (subst (Takes (codes "id") (a ∷ [])) (some_is (call.Id a) c w.1) (record { tokens = refl; is = h }))
+                      | inr m ↦ absurd (let bad = m.1 in cc)
+                    ]
+                ]
+            ]
+        ]
+    ]
 
-gen_takes : (ts : List (List ℕ)) (c : Call) → (read_one_name ts >>= λ m. Some (call.Gen m)) ≡ Some c → Takes (codes "gen") ts c
-gen_takes ts c e =
-    let m = bind_some (read_one_name ts) (λ m. Some (call.Gen m)) c e in
-    let t = one_takes ts m.0 m.1 in
-    subst (Takes (codes "gen") ts) (some_is (call.Gen m.0) c m.2)
-    (record { tokens = ap (λ (x : List (List ℕ)). codes "gen" ∷ x) t.tokens; is = t.named })
+pair_takes : (word : List ℕ) (p : List ℕ × List ℕ) (c : Call) → is_name p.0 ≡ true → is_name p.1 ≡ true → pair_call word p ≡ Some c → Takes word (p.0 ∷ p.1 ∷ []) c
+unfolding pair_call
+pair_takes word p c h k e =
+    elim (chosen (bytes_eq word (codes "reader")) _ _ _ e) [
+      | inl w ↦ head_of word (codes "reader") (p.0 ∷ p.1 ∷ []) c w.0 (subst (Takes (codes "reader") (p.0 ∷ p.1 ∷ [])) (some_is (call.Reader p.0 p.1) c w.1) (record { tokens = refl; is = (h, k) }))
+      | inr i ↦ elim (chosen (bytes_eq word (codes "writer")) _ _ _ i.1) [
+          | inl w ↦ head_of word (codes "writer") (p.0 ∷ p.1 ∷ []) c w.0 (subst (Takes (codes "writer") (p.0 ∷ p.1 ∷ [])) (some_is (call.Writer p.0 p.1) c w.1) (record { tokens = refl; is = (h, k) }))
+          | inr j ↦ elim (chosen (bytes_eq word (codes "fresh")) _ _ _ j.1) [
+              | inl w ↦ head_of word (codes "fresh") (p.0 ∷ p.1 ∷ []) c w.0 (subst (Takes (codes "fresh") (p.0 ∷ p.1 ∷ [])) (some_is (call.Fresh p.0 p.1) c w.1) (record { tokens = refl; is = (h, k) }))
+              | inr l ↦ elim (chosen (bytes_eq word (codes "loan")) _ _ _ l.1) [
+                  | inl w ↦ head_of word (codes "loan") (p.0 ∷ p.1 ∷ []) c w.0 (subst (Takes (codes "loan") (p.0 ∷ p.1 ∷ [])) (some_is (call.Loan p.0 p.1) c w.1) (record { tokens = refl; is = (h, k) }))
+                  | inr m ↦ elim (chosen (bytes_eq word (codes "discard")) _ _ _ m.1) [
+                      | inl w ↦ head_of word (codes "discard") (p.0 ∷ p.1 ∷ []) c w.0 (subst (Takes (codes "discard") (p.0 ∷ p.1 ∷ [])) (some_is (call.Discard p.0 p.1) c w.1) (record { tokens = refl; is = (h, k) }))
+                      | inr n ↦ elim (chosen (bytes_eq word (codes "publish")) _ _ _ n.1) [
+                          | inl w ↦ head_of word (codes "publish") (p.0 ∷ p.1 ∷ []) c w.0 (subst (Takes (codes "publish") (p.0 ∷ p.1 ∷ [])) (some_is (call.Publish p.0 p.1) c w.1) (record { tokens = refl; is = (h, k) }))
+                          | inr o ↦ absurd (let bad = o.1 in cc)
+                        ]
+                    ]
+                ]
+            ]
+        ]
+    ]
+
+behind_word : (word : List ℕ) (ts us : List (List ℕ)) (c : Call) → ts ≡ us → Takes word us c → Takes word ts c
+behind_word word ts us c e t = subst (λ (x : List (List ℕ)). Takes word x c) (sym e) t
+
+named_takes : (word : List ℕ) (ts : List (List ℕ)) (c : Call) → read_named_call word ts ≡ Some c → Takes word ts c
+unfolding read_named_call
+named_takes word ts c e =
+    elim (chosen (is_single word) _ _ _ e) [
+      | inl h ↦
+          let a = bind_some (read_one_name ts) (single_call word) c h.1 in
+          let t = one_takes ts a.0 a.1 in
+          behind_word word ts (a.0 ∷ []) c t.tokens (single_takes word a.0 c t.named a.2)
+      | inr h ↦
+          let p = bind_some (read_two_names ts) (pair_call word) c h.1 in
+          let t = two_take ts p.0 p.1 in
+          behind_word word ts (p.0.0 ∷ p.0.1 ∷ []) c t.tokens (pair_takes word p.0 c t.first t.second p.2)
+    ]
+
+-- ---- a name at the end
+
+pub name_if_any_again : (v : Option (List ℕ)) → IsNameIfAny v → read_name_if_any (name_tokens v) ≡ Some v
+unfolding read_name_if_any
+name_if_any_again None h = refl
+name_if_any_again (Some v) h = rw (name_again v h) refl
+
+record IsTakenName (ts : List (List ℕ)) (v : Option (List ℕ)) : Type 0 where
+  pub tokens : ts ≡ name_tokens v
+  pub is : IsNameIfAny v
+
+name_if_any_takes : (ts : List (List ℕ)) (v : Option (List ℕ)) → read_name_if_any ts ≡ Some v → IsTakenName ts v
+unfolding read_name_if_any
+name_if_any_takes [] v e = subst (IsTakenName []) (some_is None v e) (record { tokens = refl; is = tt })
+name_if_any_takes (t ∷ ts) v e =
+    let n = bind_some (read_name t) (λ n. guard (is_end ts) (Some (Some n))) v e in
+    let g = guard_some (is_end ts) (Some (Some n.0)) v n.2 in
+    let nn = name_takes t n.0 n.1 in
+    subst (IsTakenName (t ∷ ts)) (some_is (Some n.0) v g.1) (record { tokens = chain t n.0 ts nn.token (end_takes ts g.0); is = nn.named })
+  where
+  chain : (t n : List ℕ) (ts : List (List ℕ)) → t ≡ n → ts ≡ [] → t ∷ ts ≡ n ∷ []
+  chain t n ts e f = cc
+
+get_takes : (ts : List (List ℕ)) (c : Call) → read_get ts ≡ Some c → Takes (codes "get") ts c
+unfolding read_get
+get_takes ts c e =
+    let h = bind_some (first_by read_name ts) _ c e in
+    let v = bind_some (read_name_if_any h.0.1) _ c h.2 in
+    let th = first_takes read_name ts h.0 h.1 in
+    let nh = name_takes th.token h.0.0 th.is in
+    let tv = name_if_any_takes h.0.1 v.0 v.1 in
+    subst (Takes (codes "get") ts) (some_is (call.Get h.0.0 v.0) c v.2)
+      (record { tokens = chain ts h.0.1 th.token h.0.0 (name_tokens v.0) th.all tv.tokens nh.token; is = (nh.named, tv.is) })
+  where
+  chain : (t0 t1 : List (List ℕ)) (a x : List ℕ) (vs : List (List ℕ)) → t0 ≡ a ∷ t1 → t1 ≡ vs → a ≡ x → codes "get" ∷ t0 ≡ codes "get" ∷ x ∷ vs
+  chain t0 t1 a x vs e0 e1 ea = cc
 
 -- ---- calls with keys and values
 
@@ -197,6 +284,97 @@ entry_mut_takes ts c e =
     chain : (t0 t1 t2 t3 t4 : List (List ℕ)) (a b c d x y z u : List ℕ) → t0 ≡ a ∷ t1 → t1 ≡ b ∷ t2 → t2 ≡ c ∷ t3 → t3 ≡ d ∷ t4 → t4 ≡ [] → a ≡ x → b ≡ y → c ≡ z → d ≡ u → codes "entrymut" ∷ t0 ≡ codes "entrymut" ∷ x ∷ y ∷ z ∷ u ∷ []
     chain t0 t1 t2 t3 t4 a b c d x y z u e0 e1 e2 e3 e4 ea eb ec ed = cc
 
+entry_call_takes : (ts : List (List ℕ)) (c : Call) → read_entry_call ts ≡ Some c → Takes (codes "entry") ts c
+unfolding read_entry_call
+entry_call_takes ts c e =
+    let m = bind_some (first_by read_name ts) _ c e in
+    let w = bind_some (first_by read_name m.0.1) _ c m.2 in
+    let k = bind_some (first_by read_key w.0.1) _ c w.2 in
+    let t = bind_some (first_by read_value_type k.0.1) _ c k.2 in
+    let g = guard_some (is_end t.0.1) (Some (call.Entry m.0.0 w.0.0 k.0.0 t.0.0)) c t.2 in
+    let tm = first_takes read_name ts m.0 m.1 in
+    let tw = first_takes read_name m.0.1 w.0 w.1 in
+    let tk = first_takes read_key w.0.1 k.0 k.1 in
+    let tv = first_takes read_value_type k.0.1 t.0 t.1 in
+    let nm = name_takes tm.token m.0.0 tm.is in
+    let nw = name_takes tw.token w.0.0 tw.is in
+    let nk = key_takes tk.token k.0.0 tk.is in
+    let nv = value_type_takes tv.token t.0.0 tv.is in
+    subst (Takes (codes "entry") ts) (some_is (call.Entry m.0.0 w.0.0 k.0.0 t.0.0) c g.1)
+      (record {
+        tokens = chain ts m.0.1 w.0.1 k.0.1 t.0.1 tm.token tw.token tk.token tv.token m.0.0 w.0.0 (key_text k.0.0) (value_type_text t.0.0) tm.all tw.all tk.all tv.all (end_takes t.0.1 g.0) nm.token nw.token nk.token nv;
+        is = (nm.named, nw.named, nk.is);
+      })
+  where
+  chain : (t0 t1 t2 t3 t4 : List (List ℕ)) (a b c d x y z u : List ℕ) → t0 ≡ a ∷ t1 → t1 ≡ b ∷ t2 → t2 ≡ c ∷ t3 → t3 ≡ d ∷ t4 → t4 ≡ [] → a ≡ x → b ≡ y → c ≡ z → d ≡ u → codes "entry" ∷ t0 ≡ codes "entry" ∷ x ∷ y ∷ z ∷ u ∷ []
+  chain t0 t1 t2 t3 t4 a b c d x y z u e0 e1 e2 e3 e4 ea eb ec ed = cc
+
+-- three tokens and no more
+three_tokens : (word : List ℕ) (t0 t1 t2 t3 : List (List ℕ)) (a b c x y z : List ℕ) → t0 ≡ a ∷ t1 → t1 ≡ b ∷ t2 → t2 ≡ c ∷ t3 → t3 ≡ [] → a ≡ x → b ≡ y → c ≡ z → word ∷ t0 ≡ word ∷ x ∷ y ∷ z ∷ []
+three_tokens word t0 t1 t2 t3 a b c x y z e0 e1 e2 e3 ea eb ec = cc
+
+open_takes : (ts : List (List ℕ)) (c : Call) → read_open ts ≡ Some c → Takes (codes "open") ts c
+unfolding read_open
+open_takes ts c e =
+    let f = bind_some (first_by read_name ts) _ c e in
+    let n = bind_some (first_by read_board_name f.0.1) _ c f.2 in
+    let k = bind_some (first_by read_key_type n.0.1) _ c n.2 in
+    let g = guard_some (is_end k.0.1) (Some (call.Open f.0.0 n.0.0 k.0.0 no_limits no_needs)) c k.2 in
+    let tf = first_takes read_name ts f.0 f.1 in
+    let tn = first_takes read_board_name f.0.1 n.0 n.1 in
+    let tk = first_takes read_key_type n.0.1 k.0 k.1 in
+    let nf = name_takes tf.token f.0.0 tf.is in
+    let nn = board_name_takes tn.token n.0.0 tn.is in
+    let nk = key_type_takes tk.token k.0.0 tk.is in
+    subst (Takes (codes "open") ts) (some_is (call.Open f.0.0 n.0.0 k.0.0 no_limits no_needs) c g.1)
+      (record {
+        tokens = three_tokens (codes "open") ts f.0.1 n.0.1 k.0.1 tf.token tn.token tk.token f.0.0 n.0.0 (key_type_text k.0.0) tf.all tn.all tk.all (end_takes k.0.1 g.0) nf.token nn.token nk;
+        is = (nf.named, nn.named, record { readers = tt; nodes = tt }, record { pairs = record { few = few_pairs; each = tt }; few = few_keys; each = tt });
+      })
+  where
+  few_pairs : length {A = Attribute} [] ≤ 8
+  few_pairs = omega arith
+  few_keys : length {A = List ℕ} [] ≤ 8
+  few_keys = omega arith
+
+put_takes : (ts : List (List ℕ)) (c : Call) → read_put ts ≡ Some c → Takes (codes "put") ts c
+unfolding read_put
+put_takes ts c e =
+    let l = bind_some (first_by read_name ts) _ c e in
+    let i = bind_some (first_by read_number l.0.1) _ c l.2 in
+    let w = bind_some (first_by read_number i.0.1) _ c i.2 in
+    let g = guard_some (is_end w.0.1) (Some (call.Put l.0.0 i.0.0 w.0.0)) c w.2 in
+    let tl = first_takes read_name ts l.0 l.1 in
+    let ti = first_takes read_number l.0.1 i.0 i.1 in
+    let tw = first_takes read_number i.0.1 w.0 w.1 in
+    let nl = name_takes tl.token l.0.0 tl.is in
+    let ni = number_takes ti.token i.0.0 ti.is in
+    let nw = number_takes tw.token w.0.0 tw.is in
+    subst (Takes (codes "put") ts) (some_is (call.Put l.0.0 i.0.0 w.0.0) c g.1)
+      (record {
+        tokens = three_tokens (codes "put") ts l.0.1 i.0.1 w.0.1 tl.token ti.token tw.token l.0.0 (decimal i.0.0) (decimal w.0.0) tl.all ti.all tw.all (end_takes w.0.1 g.0) nl.token ni.0 nw.0;
+        is = (nl.named, ni.1, nw.1);
+      })
+
+fill_takes : (ts : List (List ℕ)) (c : Call) → read_fill ts ≡ Some c → Takes (codes "fill") ts c
+unfolding read_fill
+fill_takes ts c e =
+    let l = bind_some (first_by read_name ts) _ c e in
+    let m = bind_some (first_by read_name l.0.1) _ c l.2 in
+    let v = bind_some (first_by read_value m.0.1) _ c m.2 in
+    let g = guard_some (is_end v.0.1) (Some (call.Fill l.0.0 m.0.0 v.0.0)) c v.2 in
+    let tl = first_takes read_name ts l.0 l.1 in
+    let tm = first_takes read_name l.0.1 m.0 m.1 in
+    let tv = first_takes read_value m.0.1 v.0 v.1 in
+    let nl = name_takes tl.token l.0.0 tl.is in
+    let nm = name_takes tm.token m.0.0 tm.is in
+    let nv = value_takes tv.token v.0.0 tv.is in
+    subst (Takes (codes "fill") ts) (some_is (call.Fill l.0.0 m.0.0 v.0.0) c g.1)
+      (record {
+        tokens = three_tokens (codes "fill") ts l.0.1 m.0.1 v.0.1 tl.token tm.token tv.token l.0.0 m.0.0 (value_text v.0.0) tl.all tm.all tv.all (end_takes v.0.1 g.0) nl.token nm.token nv.token;
+        is = (nl.named, nm.named, nv.is);
+      })
+
 update_takes : (ts : List (List ℕ)) (c : Call) → read_update ts ≡ Some c → Takes (codes "update") ts c
 unfolding read_update
 update_takes ts c e =
@@ -215,24 +393,30 @@ update_takes ts c e =
 
 -- ---- all calls
 
-head_of : (word v : List ℕ) (rest : List (List ℕ)) (c : Call) → bytes_eq word v ≡ true → Takes v rest c → Takes word rest c
-head_of word v rest c e t = subst (λ (w : List ℕ). Takes w rest c) (sym (word_is word v e)) t
-
 plain_call_takes : (word : List ℕ) (ts : List (List ℕ)) (c : Call) → read_plain_call word ts ≡ Some c → Takes word ts c
 unfolding read_plain_call
 plain_call_takes word ts c e =
-    elim (chosen (bytes_eq word (codes "writer")) _ _ _ e) [
-      | inl h ↦ head_of word (codes "writer") ts c h.0 (writer_takes ts c h.1)
-      | inr h ↦ elim (chosen (bytes_eq word (codes "entrymut")) _ _ _ h.1) [
-        | inl i ↦ head_of word (codes "entrymut") ts c i.0 (entry_mut_takes ts c i.1)
-        | inr i ↦ elim (chosen (bytes_eq word (codes "update")) _ _ _ i.1) [
-          | inl j ↦ head_of word (codes "update") ts c j.0 (update_takes ts c j.1)
-          | inr j ↦ elim (chosen (bytes_eq word (codes "gen")) _ _ _ j.1) [
-            | inl k ↦ head_of word (codes "gen") ts c k.0 (gen_takes ts c k.1)
-            | inr k ↦ absurd (let bad = k.1 in cc)
-          ]
+    elim (chosen (bytes_eq word (codes "open")) _ _ _ e) [
+      | inl a ↦ head_of word (codes "open") ts c a.0 (open_takes ts c a.1)
+      | inr a ↦ elim (chosen (bytes_eq word (codes "entry")) _ _ _ a.1) [
+          | inl b ↦ head_of word (codes "entry") ts c b.0 (entry_call_takes ts c b.1)
+          | inr b ↦ elim (chosen (bytes_eq word (codes "entrymut")) _ _ _ b.1) [
+              | inl d ↦ head_of word (codes "entrymut") ts c d.0 (entry_mut_takes ts c d.1)
+              | inr d ↦ elim (chosen (bytes_eq word (codes "get")) _ _ _ d.1) [
+                  | inl f ↦ head_of word (codes "get") ts c f.0 (get_takes ts c f.1)
+                  | inr f ↦ elim (chosen (bytes_eq word (codes "update")) _ _ _ f.1) [
+                      | inl g ↦ head_of word (codes "update") ts c g.0 (update_takes ts c g.1)
+                      | inr g ↦ elim (chosen (bytes_eq word (codes "put")) _ _ _ g.1) [
+                          | inl h ↦ head_of word (codes "put") ts c h.0 (put_takes ts c h.1)
+                          | inr h ↦ elim (chosen (bytes_eq word (codes "fill")) _ _ _ h.1) [
+                              | inl k ↦ head_of word (codes "fill") ts c k.0 (fill_takes ts c k.1)
+                              | inr k ↦ named_takes word ts c k.1
+                            ]
+                        ]
+                    ]
+                ]
+            ]
         ]
-      ]
     ]
 
 pub call_takes : (word : List ℕ) (ts : List (List ℕ)) (c : Call) → read_call word ts ≡ Some c → Takes word ts c
@@ -248,23 +432,72 @@ abbrev pub read_call_tokens : List (List ℕ) → Option Call
 read_call_tokens [] = None
 read_call_tokens (word ∷ ts) = read_call word ts
 
-create_again : (f n : List ℕ) (k : KeyType) (l : Limits) (attrs : List Attribute) (es : List AddedEntry) → IsCall (call.Create f n k l attrs es) → runs_call (call.Create f n k l attrs es) ≡ true → read_call_tokens (call_tokens (call.Create f n k l attrs es)) ≡ Some (call.Create f n k l attrs es)
+-- a call without its optional parts, which are not read yet
+abbrev pub is_bare : Call → Bool
+is_bare (call.Create f n k l attrs es) = is_none l.max_readers && is_none l.max_nodes && eqb (length attrs) 0
+is_bare (call.Open f n k l needs) = is_none l.max_readers && is_none l.max_nodes && eqb (length needs.pairs) 0 && eqb (length needs.keys) 0
+is_bare c = true
+
+create_again : (f n : List ℕ) (k : KeyType) (l : Limits) (attrs : List Attribute) (es : List AddedEntry) → IsCall (call.Create f n k l attrs es) → is_bare (call.Create f n k l attrs es) ≡ true → read_call_tokens (call_tokens (call.Create f n k l attrs es)) ≡ Some (call.Create f n k l attrs es)
 unfolding read_call
 create_again f n k l attrs es h r =
+    let b1 = both (is_none l.max_readers && is_none l.max_nodes) (eqb (length attrs) 0) r in
+    let b2 = both (is_none l.max_readers) (is_none l.max_nodes) b1.0 in
+    alike l attrs (no_limit l b2.0 b2.1) (no_items attrs b1.1)
+  where
+  alike : (l : Limits) (attrs : List Attribute) → l ≡ no_limits → attrs ≡ [] → read_call_tokens (call_tokens (call.Create f n k l attrs es)) ≡ Some (call.Create f n k l attrs es)
+  alike l attrs el ea = rw (el, ea) (create_plain_again f n k es h.0 h.1 h.4)
+
+open_plain_again : (f n : List ℕ) (k : KeyType) → is_name f ≡ true → is_board_name n ≡ true → read_open (f ∷ n ∷ key_type_text k ∷ []) ≡ Some (call.Open f n k no_limits no_needs)
+unfolding read_open
+open_plain_again f n k hf hn = rw (name_again f hf, board_name_again n hn, key_type_again k) refl
+
+no_need : (needs : Requirements) → needs.pairs ≡ [] → needs.keys ≡ [] → needs ≡ no_needs
+no_need needs p k = rw (p, k) refl
+
+open_again : (f n : List ℕ) (k : KeyType) (l : Limits) (needs : Requirements) → IsCall (call.Open f n k l needs) → is_bare (call.Open f n k l needs) ≡ true → read_call_tokens (call_tokens (call.Open f n k l needs)) ≡ Some (call.Open f n k l needs)
+unfolding read_call read_plain_call
+open_again f n k l needs h r =
+    let b1 = both (is_none l.max_readers && is_none l.max_nodes && eqb (length needs.pairs) 0) (eqb (length needs.keys) 0) r in
+    let b2 = both (is_none l.max_readers && is_none l.max_nodes) (eqb (length needs.pairs) 0) b1.0 in
+    let b3 = both (is_none l.max_readers) (is_none l.max_nodes) b2.0 in
+    alike l needs (no_limit l b3.0 b3.1) (no_need needs (no_items needs.pairs b2.1) (no_items needs.keys b1.1))
+  where
+  alike : (l : Limits) (needs : Requirements) → l ≡ no_limits → needs ≡ no_needs → read_call_tokens (call_tokens (call.Open f n k l needs)) ≡ Some (call.Open f n k l needs)
+  alike l needs el en = rw (el, en) (open_plain_again f n k h.0 h.1)
+
+pub bare_again : (c : Call) → IsCall c → is_bare c ≡ true → read_call_tokens (call_tokens c) ≡ Some c
+unfolding read_call read_plain_call read_entry_call read_entry_mut read_get read_update read_put read_fill read_named_call single_call pair_call
+bare_again (call.Create f n k l attrs es) h r = create_again f n k l attrs es h r
+bare_again (call.Open f n k l needs) h r = open_again f n k l needs h r
+bare_again (call.Reader x f) h r = rw (two_again x f h.0 h.1) refl
+bare_again (call.Writer w f) h r = rw (two_again w f h.0 h.1) refl
+bare_again (call.Entry x y k t) h r = rw (name_again x h.0, name_again y h.1, key_again k h.2, value_type_again t) refl
+bare_again (call.EntryMut m w k t) h r = rw (name_again m h.0, name_again w h.1, key_again k h.2, value_type_again t) refl
+bare_again (call.Get x v) h r = rw (name_again x h.0, name_if_any_again v h.1) refl
+bare_again (call.Fresh x v) h r = rw (two_again x v h.0 h.1) refl
+bare_again (call.Update m v) h r = rw (name_again m h.0, value_again v h.1) refl
+bare_again (call.Loan l m) h r = rw (two_again l m h.0 h.1) refl
+bare_again (call.Discard l m) h r = rw (two_again l m h.0 h.1) refl
+bare_again (call.Put l i w) h r = rw (name_again l h.0, number_again i h.1, number_again w h.2) refl
+bare_again (call.Publish l m) h r = rw (two_again l m h.0 h.1) refl
+bare_again (call.Fill l m v) h r = rw (name_again l h.0, name_again m h.1, value_again v h.2) refl
+bare_again (call.Keys f) h r = rw (one_again f h) refl
+bare_again (call.Nodes f) h r = rw (one_again f h) refl
+bare_again (call.Info f) h r = rw (one_again f h) refl
+bare_again (call.Id t) h r = rw (one_again t h) refl
+bare_again (call.Gen m) h r = rw (one_again m h) refl
+
+-- what runs so far has no optional part
+runs_bare : (c : Call) → runs_call c ≡ true → is_bare c ≡ true
+runs_bare (call.Create f n k l attrs es) r =
     let b1 = both (is_number_key_type k && is_none l.max_readers && is_none l.max_nodes && eqb (length attrs) 0) (list_all is_plain_entry es) r in
     let b2 = both (is_number_key_type k && is_none l.max_readers && is_none l.max_nodes) (eqb (length attrs) 0) b1.0 in
     let b3 = both (is_number_key_type k && is_none l.max_readers) (is_none l.max_nodes) b2.0 in
     let b4 = both (is_number_key_type k) (is_none l.max_readers) b3.0 in
-    alike l attrs (no_limit l b4.1 b3.1) (no_items attrs b2.1)
-  where
-    alike : (l : Limits) (attrs : List Attribute) → l ≡ no_limits → attrs ≡ [] → read_call_tokens (call_tokens (call.Create f n k l attrs es)) ≡ Some (call.Create f n k l attrs es)
-    alike l attrs el ea = rw (el, ea) (create_plain_again f n k es h.0 h.1 h.4)
+    rw (b4.1, b3.1, b2.1) refl
+runs_bare (call.Open f n k l needs) r = absurd cc
+runs_bare c r = refl
 
 pub call_again : (c : Call) → IsCall c → runs_call c ≡ true → read_call_tokens (call_tokens c) ≡ Some c
-unfolding read_call read_plain_call read_entry_mut read_update
-call_again (call.Create f n k l attrs es) h r = create_again f n k l attrs es h r
-call_again (call.Writer w f) h r = rw (two_again w f h.0 h.1) refl
-call_again (call.EntryMut m w k t) h r = rw (name_again m h.0, name_again w h.1, key_again k h.2, value_type_again t) refl
-call_again (call.Update m v) h r = rw (name_again m h.0, value_again v h.1) refl
-call_again (call.Gen m) h r = rw (one_again m h) refl
-call_again c h r = absurd cc
+call_again c h r = bare_again c h (runs_bare c r)

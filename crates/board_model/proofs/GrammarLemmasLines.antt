@@ -6,10 +6,10 @@ use Rattle.board_model.specs.declared.line.Call.{Call}
 use Rattle.board_model.specs.declared.line.Line.{Line}
 use Rattle.board_model.specs.declared.line.Line.TheVariants as line
 use Rattle.board_model.specs.LineGrammar.{is_name, call_tokens, tokens, IsWellFormed, IsLine, runs}
-use Rattle.board_model.specs.LineReading.{◌>>=◌, guard, first_by, is_end, read_number, read_name, read_call, read_one_name, read_begin, read_words, read_plain_line, read_formed, read_line}
+use Rattle.board_model.specs.LineReading.{◌>>=◌, guard, first_by, is_end, read_number, read_name, read_call, read_one_name, read_two_names, read_begin, read_words, read_plain_line, read_formed, read_line}
 use Rattle.board_model.proofs.GrammarLemmasNumbers.{some_is, bind_some, guard_some, number_again, number_takes}
 use Rattle.board_model.proofs.GrammarLemmasTokens.{word_is, chosen, first_takes, end_takes, name_again, name_takes}
-use Rattle.board_model.proofs.GrammarLemmasCalls.{call_takes, read_call_tokens, call_again, one_again, one_takes}
+use Rattle.board_model.proofs.GrammarLemmasCalls.{call_takes, read_call_tokens, call_again, one_again, one_takes, two_again, two_take}
 
 -- ---- lines from tokens
 
@@ -36,6 +36,20 @@ step_takes ts l e =
     subst (TakesLine (codes "step" ∷ ts)) (some_is (line.Step p.0) l p.2)
     (record { tokens = ap (λ (x : List (List ℕ)). codes "step" ∷ x) t.tokens; is = t.named })
 
+abandon_takes : (ts : List (List ℕ)) (l : Line) → (read_one_name ts >>= λ p. Some (line.Abandon p)) ≡ Some l → TakesLine (codes "abandon" ∷ ts) l
+abandon_takes ts l e =
+    let p = bind_some (read_one_name ts) (λ p. Some (line.Abandon p)) l e in
+    let t = one_takes ts p.0 p.1 in
+    subst (TakesLine (codes "abandon" ∷ ts)) (some_is (line.Abandon p.0) l p.2)
+      (record { tokens = ap (λ (x : List (List ℕ)). codes "abandon" ∷ x) t.tokens; is = t.named })
+
+drop_takes : (ts : List (List ℕ)) (l : Line) → (read_two_names ts >>= λ p. Some (line.Release p.0 p.1)) ≡ Some l → TakesLine (codes "drop" ∷ ts) l
+drop_takes ts l e =
+    let p = bind_some (read_two_names ts) (λ p. Some (line.Release p.0 p.1)) l e in
+    let t = two_take ts p.0 p.1 in
+    subst (TakesLine (codes "drop" ∷ ts)) (some_is (line.Release p.0.0 p.0.1) l p.2)
+      (record { tokens = ap (λ (x : List (List ℕ)). codes "drop" ∷ x) t.tokens; is = (t.first, t.second) })
+
 words_takes : (ts : List (List ℕ)) (l : Line) → read_words ts ≡ Some l → TakesLine (codes "words" ∷ ts) l
 unfolding read_words
 words_takes ts l e =
@@ -57,10 +71,16 @@ unfolding read_plain_line
 plain_line_takes word ts l e =
     elim (chosen (bytes_eq word (codes "step")) _ _ _ e) [
       | inl h ↦ head_of word (codes "step") ts l h.0 (step_takes ts l h.1)
-      | inr h ↦ elim (chosen (bytes_eq word (codes "words")) _ _ _ h.1) [
-        | inl i ↦ head_of word (codes "words") ts l i.0 (words_takes ts l i.1)
-        | inr i ↦ absurd (let bad = i.1 in cc)
-      ]
+      | inr h ↦ elim (chosen (bytes_eq word (codes "drop")) _ _ _ h.1) [
+          | inl i ↦ head_of word (codes "drop") ts l i.0 (drop_takes ts l i.1)
+          | inr i ↦ elim (chosen (bytes_eq word (codes "abandon")) _ _ _ i.1) [
+              | inl j ↦ head_of word (codes "abandon") ts l j.0 (abandon_takes ts l j.1)
+              | inr j ↦ elim (chosen (bytes_eq word (codes "words")) _ _ _ j.1) [
+                  | inl k ↦ head_of word (codes "words") ts l k.0 (words_takes ts l k.1)
+                  | inr k ↦ absurd (let bad = k.1 in cc)
+                ]
+            ]
+        ]
     ]
 
 formed_takes : (ts : List (List ℕ)) (l : Line) → read_formed ts ≡ Some l → TakesLine ts l
@@ -91,8 +111,8 @@ unfolding read_formed read_plain_line read_words
 formed_again (line.Begin p c) h r = begin_again p c (call_tokens c) h.0 (call_again c h.1 r)
 formed_again (line.Step p) h r = rw (one_again p h) refl
 formed_again (line.Words b) h r = rw (number_again b h) refl
-formed_again (line.Release p t) h r = absurd cc
-formed_again (line.Abandon p) h r = absurd cc
+formed_again (line.Release p t) h r = rw (two_again p t h.0 h.1) refl
+formed_again (line.Abandon p) h r = rw (one_again p h) refl
 
 -- what is spelled so is read
 pub line_again : (l : Line) → IsLine l → read_line (tokens l) ≡ Some l

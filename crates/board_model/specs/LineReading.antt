@@ -1,7 +1,8 @@
 -- A reader of lines. It goes through the tokens of a line from the front, and gives the line that they are, where there is one.
-use Rattle.std.specs.Prelude.{ℕ, ◌+◌, ◌-◌, ◌*◌, Bool, true, false, not, ◌&&◌, nat_lt, ◌==◌, if◌then◌else◌, List, [], ◌∷◌, codes, Option, Some, None}
+use Rattle.std.specs.Prelude.{ℕ, ◌+◌, ◌-◌, ◌*◌, Bool, true, false, not, ◌&&◌, ◌||◌, nat_lt, ◌==◌, if◌then◌else◌, List, [], ◌∷◌, codes, Option, Some, None}
 use Rattle.std.specs.Str.{bytes_eq, all_ascii_digits}
 use Rattle.std.specs.List.{slice_split}
+use Rattle.board_model.specs.declared.attributes.Requirements.{Requirements}
 use Rattle.board_model.specs.declared.tables.Limits.{Limits}
 use Rattle.board_model.specs.declared.value.AddedEntry.{AddedEntry}
 use Rattle.board_model.specs.declared.value.KeyType.{KeyType}
@@ -113,6 +114,9 @@ read_value text =
 abbrev pub no_limits : Limits
 no_limits = record { max_readers = None; max_nodes = None }
 
+abbrev pub no_needs : Requirements
+no_needs = record { pairs = []; keys = [] }
+
 unfoldable pub read_entry : List ℕ → List ℕ → List ℕ → Option AddedEntry
 read_entry word k v = guard (bytes_eq word (codes "add")) (read_key k >>= λ key. read_value v >>= λ value. Some (record { key = key; value = value }))
 
@@ -133,21 +137,78 @@ read_one_name ts = first_by read_name ts >>= λ a. guard (is_end a.1) (Some a.0)
 unfoldable pub read_two_names : List (List ℕ) → Option (List ℕ × List ℕ)
 read_two_names ts = first_by read_name ts >>= λ a. first_by read_name a.1 >>= λ b. guard (is_end b.1) (Some (a.0, b.0))
 
+-- the name that may stand at the end
+unfoldable pub read_name_if_any : List (List ℕ) → Option (Option (List ℕ))
+read_name_if_any [] = Some None
+read_name_if_any (t ∷ ts) = read_name t >>= λ n. guard (is_end ts) (Some (Some n))
+
+unfoldable pub read_open : List (List ℕ) → Option Call
+read_open ts =
+    first_by read_name ts >>= λ f. first_by read_board_name f.1 >>= λ n. first_by read_key_type n.1 >>= λ k.
+    guard (is_end k.1) (Some (call.Open f.0 n.0 k.0 no_limits no_needs))
+
+unfoldable pub read_entry_call : List (List ℕ) → Option Call
+read_entry_call ts =
+    first_by read_name ts >>= λ h. first_by read_name h.1 >>= λ r. first_by read_key r.1 >>= λ k. first_by read_value_type k.1 >>= λ t.
+    guard (is_end t.1) (Some (call.Entry h.0 r.0 k.0 t.0))
+
 unfoldable pub read_entry_mut : List (List ℕ) → Option Call
 read_entry_mut ts =
     first_by read_name ts >>= λ m. first_by read_name m.1 >>= λ w. first_by read_key w.1 >>= λ k. first_by read_value_type k.1 >>= λ t.
     guard (is_end t.1) (Some (call.EntryMut m.0 w.0 k.0 t.0))
 
+unfoldable pub read_get : List (List ℕ) → Option Call
+read_get ts = first_by read_name ts >>= λ h. read_name_if_any h.1 >>= λ v. Some (call.Get h.0 v)
+
 unfoldable pub read_update : List (List ℕ) → Option Call
 read_update ts = first_by read_name ts >>= λ m. first_by read_value m.1 >>= λ v. guard (is_end v.1) (Some (call.Update m.0 v.0))
+
+unfoldable pub read_put : List (List ℕ) → Option Call
+read_put ts =
+    first_by read_name ts >>= λ l. first_by read_number l.1 >>= λ i. first_by read_number i.1 >>= λ w.
+    guard (is_end w.1) (Some (call.Put l.0 i.0 w.0))
+
+unfoldable pub read_fill : List (List ℕ) → Option Call
+read_fill ts =
+    first_by read_name ts >>= λ l. first_by read_name l.1 >>= λ m. first_by read_value m.1 >>= λ v.
+    guard (is_end v.1) (Some (call.Fill l.0 m.0 v.0))
+
+-- a word with one name behind it
+abbrev pub is_single : List ℕ → Bool
+is_single word = bytes_eq word (codes "gen") || bytes_eq word (codes "keys") || bytes_eq word (codes "nodes") || bytes_eq word (codes "info") || bytes_eq word (codes "id")
+
+unfoldable pub single_call : List ℕ → List ℕ → Option Call
+single_call word a =
+    if bytes_eq word (codes "gen") then Some (call.Gen a) else
+    if bytes_eq word (codes "keys") then Some (call.Keys a) else
+    if bytes_eq word (codes "nodes") then Some (call.Nodes a) else
+    if bytes_eq word (codes "info") then Some (call.Info a) else
+    if bytes_eq word (codes "id") then Some (call.Id a) else None
+
+unfoldable pub pair_call : List ℕ → List ℕ × List ℕ → Option Call
+pair_call word p =
+    if bytes_eq word (codes "reader") then Some (call.Reader p.0 p.1) else
+    if bytes_eq word (codes "writer") then Some (call.Writer p.0 p.1) else
+    if bytes_eq word (codes "fresh") then Some (call.Fresh p.0 p.1) else
+    if bytes_eq word (codes "loan") then Some (call.Loan p.0 p.1) else
+    if bytes_eq word (codes "discard") then Some (call.Discard p.0 p.1) else
+    if bytes_eq word (codes "publish") then Some (call.Publish p.0 p.1) else None
+
+-- a call of names alone
+unfoldable pub read_named_call : List ℕ → List (List ℕ) → Option Call
+read_named_call word ts = if is_single word then (read_one_name ts >>= single_call word) else (read_two_names ts >>= pair_call word)
 
 -- the call of a word, but for `create`
 unfoldable pub read_plain_call : List ℕ → List (List ℕ) → Option Call
 read_plain_call word ts =
-    if bytes_eq word (codes "writer") then (read_two_names ts >>= λ p. Some (call.Writer p.0 p.1)) else
+    if bytes_eq word (codes "open") then read_open ts else
+    if bytes_eq word (codes "entry") then read_entry_call ts else
     if bytes_eq word (codes "entrymut") then read_entry_mut ts else
+    if bytes_eq word (codes "get") then read_get ts else
     if bytes_eq word (codes "update") then read_update ts else
-    if bytes_eq word (codes "gen") then (read_one_name ts >>= λ m. Some (call.Gen m)) else None
+    if bytes_eq word (codes "put") then read_put ts else
+    if bytes_eq word (codes "fill") then read_fill ts else
+    read_named_call word ts
 
 unfoldable pub read_call : List ℕ → List (List ℕ) → Option Call
 read_call word ts = if bytes_eq word (codes "create") then read_create ts else read_plain_call word ts
@@ -166,6 +227,8 @@ read_words ts = first_by read_number ts >>= λ n. guard (is_end n.1) (Some (line
 unfoldable pub read_plain_line : List ℕ → List (List ℕ) → Option Line
 read_plain_line word ts =
     if bytes_eq word (codes "step") then (read_one_name ts >>= λ p. Some (line.Step p)) else
+    if bytes_eq word (codes "drop") then (read_two_names ts >>= λ p. Some (line.Release p.0 p.1)) else
+    if bytes_eq word (codes "abandon") then (read_one_name ts >>= λ p. Some (line.Abandon p)) else
     if bytes_eq word (codes "words") then read_words ts else None
 
 -- a line of any form

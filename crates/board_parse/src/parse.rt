@@ -7,7 +7,7 @@ ghost use Rattle.board_model.specs.LineReading.{read_begin, read_formed, read_li
 
 use crate::atoms::name_of;
 use crate::bytes::is_word;
-use crate::calls::{call_of, one_name};
+use crate::calls::{call_of, one_name, two_names};
 use crate::tokens::Tokens;
 use board_model::{AddedEntry, Call, Key, KeyType, Line, Value, ValueType};
 use std::alloc::{AllocError, Global};
@@ -53,6 +53,14 @@ fn plain_line_of(word: &[u8], tokens: &mut Tokens) -> Option<Line>
     if is_word(word, b"step") {
         let party = one_name(tokens)?;
         return Some(Line::Step { party });
+    }
+    if is_word(word, b"drop") {
+        let (party, thing) = two_names(tokens)?;
+        return Some(Line::Release { party, thing });
+    }
+    if is_word(word, b"abandon") {
+        let party = one_name(tokens)?;
+        return Some(Line::Abandon { party });
     }
     if is_word(word, b"words") {
         return words_of(tokens);
