@@ -11,7 +11,7 @@ use Rattle.board_model.specs.declared.value.AddedEntry.{AddedEntry}
 use Rattle.board_model.specs.declared.value.KeyType.{KeyType}
 use Rattle.board_model.specs.declared.line.Call.{Call}
 use Rattle.board_model.specs.declared.line.Call.TheVariants as call
-use Rattle.board_model.specs.LineGrammar.{is_name, is_board_name, key_text, key_type_text, value_text, value_type_text, entry_tokens, call_tokens, name_tokens, IsNameIfAny, IsAddedEntry, IsCall, runs_call, is_number_key_type, is_none, is_plain_entry}
+use Rattle.board_model.specs.LineGrammar.{is_name, is_board_name, key_text, key_type_text, value_text, value_type_text, entry_tokens, call_tokens, name_tokens, IsNameIfAny, IsAddedEntry, IsCall, runs_call, is_number_key_type, is_none, has_number_key, has_no_limit}
 use Rattle.board_model.specs.LineReading.{◌>>=◌, guard, first_by, is_end, read_name, read_board_name, read_key_type, read_value_type, read_key, read_value, no_limits, read_number, no_needs, read_entry, read_entries, read_create, read_one_name, read_two_names, read_name_if_any, read_open, read_entry_call, read_entry_mut, read_get, read_update, read_put, read_fill, is_single, single_call, pair_call, read_named_call, read_plain_call, read_call}
 use Rattle.board_model.proofs.GrammarLemmasNumbers.{some_is, bind_some, guard_some, both, number_again, number_takes}
 use Rattle.board_model.proofs.GrammarLemmasTokens.{word_is, chosen, first_takes, end_takes, name_again, name_takes, board_name_again, board_name_takes, key_type_again, key_type_takes, value_type_again, value_type_takes, key_again, key_takes, value_again, value_takes}
@@ -489,14 +489,22 @@ bare_again (call.Id t) h r = rw (one_again t h) refl
 bare_again (call.Gen m) h r = rw (one_again m h) refl
 
 -- what runs so far has no optional part
+unlimited : (l : Limits) → has_no_limit l ≡ true → (is_none l.max_readers ≡ true) × (is_none l.max_nodes ≡ true)
+unlimited l r = both (is_none l.max_readers) (is_none l.max_nodes) r
+
 runs_bare : (c : Call) → runs_call c ≡ true → is_bare c ≡ true
 runs_bare (call.Create f n k l attrs es) r =
-    let b1 = both (is_number_key_type k && is_none l.max_readers && is_none l.max_nodes && eqb (length attrs) 0) (list_all is_plain_entry es) r in
-    let b2 = both (is_number_key_type k && is_none l.max_readers && is_none l.max_nodes) (eqb (length attrs) 0) b1.0 in
-    let b3 = both (is_number_key_type k && is_none l.max_readers) (is_none l.max_nodes) b2.0 in
-    let b4 = both (is_number_key_type k) (is_none l.max_readers) b3.0 in
-    rw (b4.1, b3.1, b2.1) refl
-runs_bare (call.Open f n k l needs) r = absurd cc
+    let b1 = both (is_number_key_type k && has_no_limit l && eqb (length attrs) 0) (list_all has_number_key es) r in
+    let b2 = both (is_number_key_type k && has_no_limit l) (eqb (length attrs) 0) b1.0 in
+    let b3 = both (is_number_key_type k) (has_no_limit l) b2.0 in
+    let b4 = unlimited l b3.1 in
+    rw (b4.0, b4.1, b2.1) refl
+runs_bare (call.Open f n k l needs) r =
+    let b1 = both (is_number_key_type k && has_no_limit l && eqb (length needs.pairs) 0) (eqb (length needs.keys) 0) r in
+    let b2 = both (is_number_key_type k && has_no_limit l) (eqb (length needs.pairs) 0) b1.0 in
+    let b3 = both (is_number_key_type k) (has_no_limit l) b2.0 in
+    let b4 = unlimited l b3.1 in
+    rw (b4.0, b4.1, b2.1, b1.1) refl
 runs_bare c r = refl
 
 pub call_again : (c : Call) → IsCall c → runs_call c ≡ true → read_call_tokens (call_tokens c) ≡ Some c

@@ -190,16 +190,6 @@ abbrev pub is_number_key : Key → Bool
 is_number_key (key.U64 n) = true
 is_number_key (key.F8 text) = false
 
-abbrev pub is_number_value : Value → Bool
-is_number_value (value.Bool b) = false
-is_number_value (value.U64 n) = true
-is_number_value (value.Q4 a b c d) = false
-
-abbrev pub is_number_type : ValueType → Bool
-is_number_type type.Bool = false
-is_number_type type.U64 = true
-is_number_type type.Q4 = false
-
 abbrev pub is_none : {A : Type 0} → Option A → Bool
 is_none None = true
 is_none (Some x) = false
@@ -208,21 +198,29 @@ abbrev pub is_number_key_type : KeyType → Bool
 is_number_key_type key_type.U64 = true
 is_number_key_type key_type.F8 = false
 
-abbrev pub is_plain_entry : AddedEntry → Bool
-is_plain_entry e = is_number_key e.key && is_number_value e.value
+abbrev pub has_number_key : AddedEntry → Bool
+has_number_key e = is_number_key e.key
+
+abbrev pub has_no_limit : Limits → Bool
+has_no_limit l = is_none l.max_readers && is_none l.max_nodes
 
 abbrev pub runs_call : Call → Bool
-runs_call (call.Create f name k limits attributes entries) =
-    is_number_key_type k && is_none limits.max_readers && is_none limits.max_nodes && (length attributes == 0) && list_all is_plain_entry entries
+runs_call (call.Create f name k limits attributes entries) = is_number_key_type k && has_no_limit limits && (length attributes == 0) && list_all has_number_key entries
+runs_call (call.Open f name k limits needs) = is_number_key_type k && has_no_limit limits && (length needs.pairs == 0) && (length needs.keys == 0)
+runs_call (call.Reader r f) = true
 runs_call (call.Writer w f) = true
-runs_call (call.EntryMut m w k t) = is_number_key k && is_number_type t
-runs_call (call.Update m v) = is_number_value v
+runs_call (call.Entry h r k t) = is_number_key k
+runs_call (call.EntryMut m w k t) = is_number_key k
+runs_call (call.Get h v) = true
+runs_call (call.Fresh h v) = true
+runs_call (call.Update m v) = true
 runs_call (call.Gen m) = true
 runs_call c = false
 
 abbrev pub runs : Line → Bool
 runs (line.Begin p c) = runs_call c
 runs (line.Step p) = true
+runs (line.Abandon p) = true
 runs (line.Words b) = true
 runs l = false
 

@@ -2,14 +2,14 @@
 ghost use Rattle.std.specs.Prelude.{◌≡◌, IfNone, IfOk, IfSome, length, ◌==◌};
 ghost use Rattle.std.specs.List.{list_all};
 ghost use Rattle.board_model.specs.declared.line.Line.{Line};
-ghost use Rattle.board_model.specs.LineGrammar.{Spells, is_number_key, is_number_key_type, is_number_type, is_number_value, is_plain_entry, runs, runs_call};
+ghost use Rattle.board_model.specs.LineGrammar.{Spells, has_no_limit, has_number_key, is_number_key, is_number_key_type, runs, runs_call};
 ghost use Rattle.board_model.specs.LineReading.{read_begin, read_formed, read_line, read_plain_line, read_words, split_tokens};
 
 use crate::atoms::name_of;
 use crate::bytes::is_word;
 use crate::calls::{call_of, one_name, two_names};
 use crate::tokens::Tokens;
-use board_model::{AddedEntry, Call, Key, KeyType, Line, Value, ValueType};
+use board_model::{AddedEntry, Call, Key, KeyType, Limits, Line};
 use std::alloc::{AllocError, Global};
 
 // A line has no more bytes than these.
@@ -88,28 +88,22 @@ fn is_number_key(key: &Key) -> bool
     matches!(key, Key::U64(_))
 }
 
-fn is_number_value(value: &Value) -> bool
-    ensures { result ≡ is_number_value value.now }
-{
-    matches!(value, Value::U64(_))
-}
-
 fn is_number_key_type(key_type: KeyType) -> bool
     ensures { result ≡ is_number_key_type key_type }
 {
     matches!(key_type, KeyType::U64)
 }
 
-fn is_number_type(value_type: ValueType) -> bool
-    ensures { result ≡ is_number_type value_type }
+fn have_number_keys(entries: &[AddedEntry]) -> bool
+    ensures { result ≡ list_all has_number_key entries.now }
 {
-    matches!(value_type, ValueType::U64)
+    entries.iter().all(|entry| is_number_key(&entry.key))
 }
 
-fn are_number_entries(entries: &[AddedEntry]) -> bool
-    ensures { result ≡ list_all is_plain_entry entries.now }
+fn has_no_limit(limits: &Limits) -> bool
+    ensures { result ≡ has_no_limit limits.now }
 {
-    entries.iter().all(|entry| is_number_key(&entry.key) && is_number_value(&entry.value))
+    limits.max_readers.is_none() && limits.max_nodes.is_none()
 }
 
 fn runs_call(call: &Call) -> bool
@@ -123,24 +117,35 @@ fn runs_call(call: &Call) -> bool
             entries,
             ..
         } => {
-            if !is_number_key_type(*key_type)
-                || limits.max_readers.is_some()
-                || limits.max_nodes.is_some()
-            {
+            if !is_number_key_type(*key_type) || !has_no_limit(limits) {
                 return false;
             }
             if !attributes.as_slice().is_empty() {
                 return false;
             }
-            are_number_entries(entries.as_slice())
+            have_number_keys(entries.as_slice())
         }
-        Call::EntryMut {
-            key,
-            value_type,
+        Call::Open {
+            key_type,
+            limits,
+            needs,
             ..
-        } => is_number_key(key) && is_number_type(*value_type),
-        Call::Update { value, .. } => is_number_value(value),
-        Call::Writer { .. } | Call::Gen { .. } => true,
+        } => {
+            if !is_number_key_type(*key_type) || !has_no_limit(limits) {
+                return false;
+            }
+            if !needs.pairs.as_slice().is_empty() {
+                return false;
+            }
+            needs.keys.as_slice().is_empty()
+        }
+        Call::Entry { key, .. } | Call::EntryMut { key, .. } => is_number_key(key),
+        Call::Reader { .. }
+        | Call::Writer { .. }
+        | Call::Get { .. }
+        | Call::Fresh { .. }
+        | Call::Update { .. }
+        | Call::Gen { .. } => true,
         _ => false,
     }
 }
@@ -151,8 +156,8 @@ fn runs(line: &Line) -> bool
 {
     match line {
         Line::Begin { call, .. } => runs_call(call),
-        Line::Step { .. } | Line::Words { .. } => true,
-        _ => false,
+        Line::Step { .. } | Line::Abandon { .. } | Line::Words { .. } => true,
+        Line::Release { .. } => false,
     }
 }
 
