@@ -46,14 +46,43 @@ fn lines_of_the_grammar_are_told_from_others(rt: HostRuntime) -> Result<(), Fail
 }
 
 #[test]
+fn lines_of_readers_and_values_are_in_the_grammar(rt: HostRuntime) -> Result<(), Fail> {
+    let cases: [(&[u8], bool); 16] = [
+        (b"begin p open f board u64", true),
+        (b"begin p reader r f", true),
+        (b"begin p entry h r u64:1 q4", true),
+        (b"begin p get h", true),
+        (b"begin p get h v", true),
+        (b"begin p fresh h v", true),
+        (b"abandon p", true),
+        (b"begin p update m bool:true", true),
+        (b"begin p update m q4:1,2,3,4", true),
+        (
+            b"begin p create f b u64 add u64:1 bool:false add u64:2 q4:0,0,0,0",
+            true,
+        ),
+        (b"begin p entrymut m w u64:0 bool", true),
+        (b"begin p get h v w", false),
+        (b"begin p fresh h", false),
+        (b"begin p update m bool:maybe", false),
+        (b"begin p update m q4:1,2,3", false),
+        (b"begin p update m q4:1,2,3,04", false),
+    ];
+    for (bytes, is_line) in cases {
+        assert_eq!(rt; parse_line(rt.alloc(), bytes)?.is_some(), is_line);
+    }
+    Ok(())
+}
+
+#[test]
 fn forms_that_do_not_run_yet_are_outside_the_grammar(rt: HostRuntime) -> Result<(), Fail> {
     let cases: [&[u8]; 6] = [
-        b"begin p update m bool:true",
-        b"begin p update m q4:1,2,3,4",
         b"begin p create f b f8 add f8:a u64:1",
         b"begin p create f b u64 readers 3",
-        b"abandon p",
-        b"begin p entrymut m w u64:0 bool",
+        b"begin p open f b f8",
+        b"begin p entry h r f8:x u64",
+        b"begin p loan l m",
+        b"drop p t",
     ];
     for bytes in cases {
         assert!(rt; parse_line(rt.alloc(), bytes)?.is_none());
