@@ -1,6 +1,6 @@
 -- Lines that begin a call.
 use Rattle.std.proofs.Common.{◌≡◌, ℕ, zero, suc, ◌+◌, ◌-◌, ◌*◌, ◌^◌, ◌<◌, ◌≤◌, Bool, true, false, cond, List, [], ◌∷◌, ◌++◌, length, map, arith, rules, refl, sym, ap, subst, ◌∙◌, Option, Some, None}
-use Rattle.std.specs.Prelude.{find, is_some}
+use Rattle.std.specs.Prelude.{◌||◌, find, is_some}
 use Rattle.std.specs.List.{filter, position_from}
 use Rattle.board_layout.specs.declared.type_detail.TypeDetail.{TypeDetail}
 use Rattle.board_model.specs.declared.answer.Answer.TheVariants as answer
@@ -10,31 +10,66 @@ use Rattle.board_model.specs.declared.line.Call.{Call}
 use Rattle.board_model.specs.declared.line.Call.TheVariants as call
 use Rattle.board_model.specs.declared.line.Line.TheVariants as line
 use Rattle.board_model.specs.declared.tables.Entry.{Entry}
+use Rattle.board_model.specs.declared.tables.ThingKind.{ThingKind}
 use Rattle.board_model.specs.declared.tables.ThingKind.TheVariants as thing_kind
 use Rattle.board_model.specs.declared.value.Value.{Value}
 use Rattle.board_model.specs.declared.value.ValueType.{ValueType}
 use Rattle.board_model.specs.declared.value.ValueType.TheVariants as type
 use Rattle.board_model.specs.Copies.{cell_end}
-use Rattle.board_model.specs.LineGrammar.{IsLine}
-use Rattle.board_model.specs.Requests.{Publication, Request, request_of, update}
+use Rattle.board_model.specs.LineGrammar.{IsLine, runs_call}
+use Rattle.board_model.specs.Requests.{Fetch, Look, Publication, Request, fresh, get, request_of, update}
 use Rattle.board_model.specs.Tables.{entry_at, entry_of}
-use Rattle.board_model.specs.Things.{Held, cell_shape, of_kind, thing_of}
-use Rattle.board_model.specs.TypeTable.{same_type, type_of, value_detail, value_words, word_count}
-use Rattle.board_model.specs.Parties.{Party, Running, begun, free, running, with_party}
-use Rattle.board_model.specs.LawfulSession.{IsReasoned, IsRight, State, after, call_reason, free_reason}
+use Rattle.board_model.specs.Things.{Held, Kept, cell_shape, of_kind, thing_of}
+use Rattle.board_model.specs.TypeTable.{same_type, type_of, value_detail, value_type_of, value_words, word_count}
+use Rattle.board_model.specs.OwedAccesses.{opening}
+use Rattle.board_model.specs.Parties.{Party, Running, begun, free, gone, running, with_party}
+use Rattle.board_model.specs.LawfulSession.{IsReasoned, IsRight, State, after, call_reason, free_reason, is_taken}
 use Rattle.board_model.specs.Sound.{IsTyped, Sound}
 use Rattle.board_model.proofs.OpeningLemmas.{sized}
-use Rattle.board_cell.specs.Calls.{Updating}
+use Rattle.board_cell.specs.Calls.{Asking, Getting, Updating}
 use Rattle.board_script.specs.declared.begin.Checked.TheVariants as checked
+use Rattle.board_script.specs.declared.machine.KeptValue.{KeptValue}
 use Rattle.board_script.specs.declared.machine.Machine.{Machine}
 use Rattle.board_script.specs.declared.machine.PartyRow.{PartyRow}
 use Rattle.board_script.specs.declared.machine.Task.{Task}
 use Rattle.board_script.specs.declared.machine.Task.TheVariants as task
-use Rattle.board_script.specs.Begins.{IsChecked, IsTaskFor}
-use Rattle.board_script.specs.Machine.{AreRowsOf, IsBounded, Represents, is_row_of, tables_of, updating, words_of}
+use Rattle.board_script.specs.Begins.{IsChecked, IsTaskFor, holds_any, serves_call}
+use Rattle.board_script.specs.Machine.{AreRowsOf, IsBounded, Represents, is_row_of, kept, tables_of, updating, words_of}
 use Rattle.board_script.specs.Steps.{HasCounter, IsCounter}
 use Rattle.board_script.proofs.PartyRows.{started}
 use Rattle.board_script.proofs.TableSteps.{counter_at}
+
+-- ---- the calls of the grammar
+
+-- each call of the grammar is one that the machine runs
+pub serves : (c : Call) → runs_call c ≡ true → serves_call c ≡ true
+serves (call.Create f name k limits attributes entries) h = refl
+serves (call.Open f name k limits needs) h = refl
+serves (call.Reader r f) h = refl
+serves (call.Writer w f) h = refl
+serves (call.Entry t r k type) h = refl
+serves (call.EntryMut m w k type) h = refl
+serves (call.Get t v) h = refl
+serves (call.Fresh t v) h = refl
+serves (call.Update m v) h = refl
+serves (call.Loan l m) h = h
+serves (call.Discard l m) h = h
+serves (call.Put l i w) h = h
+serves (call.Publish l m) h = h
+serves (call.Fill l m v) h = h
+serves (call.Keys f) h = h
+serves (call.Nodes f) h = h
+serves (call.Info f) h = h
+serves (call.Id t) h = h
+serves (call.Gen m) h = refl
+
+-- ---- what a party holds
+
+pub taken_is : (m : Machine) (s : State) → Represents m s → (party : List ℕ) (name : Option (List ℕ)) → is_taken s.standing party name ≡ holds_any m party name
+taken_is m s rep party None = refl
+taken_is m s rep party (Some name) =
+    ap (λ t. is_some (thing_of t.things party name) || is_some (s.standing.values party name)) rep.tables
+    ∙ ap (λ (k : Option Kept). is_some (thing_of m.things.items party name) || is_some k) (rep.values party name)
 
 -- ---- updates
 
@@ -73,6 +108,52 @@ module _ (m : Machine) (s : State) (rep : Represents m s) (sound : Sound s) (n i
   pub counter_is_low : (g : ℕ) → IsBounded s → IsCounter m n i g → g + 1 < 2 ^ 64
   counter_is_low g b c = subst (λ (k : ℕ). k + 1 < 2 ^ 64) (sym ((counter_at m s rep sound n i e in_state).is_length g c)) (b.lists n i)
 
+  -- the thing under a handle's name, and its entry, in the state
+  handle_in : (party handle : List ℕ) (k : ThingKind) (x : Held) → of_kind k (thing_of m.things.items party handle) ≡ Some x → of_kind k (thing_of s.standing.tables.things party handle) ≡ Some x
+  handle_in party handle k x held = ap (λ t. of_kind k (thing_of t.things party handle)) rep.tables ∙ held
+
+  entry_in_state : (x : Held) → n ≡ x.board → i ≡ entry_of x.kind → entry_at s.standing.tables x.board (entry_of x.kind) ≡ Some e
+  entry_in_state x nb ib = ap (λ (k : ℕ). entry_at s.standing.tables x.board k) (sym ib) ∙ ap (λ (k : ℕ). entry_at s.standing.tables k i) (sym nb) ∙ in_state
+
+  module _ (party handle : List ℕ) (x : Held) (nb : n ≡ x.board) (ib : i ≡ entry_of x.kind) (held : of_kind thing_kind.ReadHandle (thing_of m.things.items party handle) ≡ Some x) where
+    abbrev fetched : Option (List ℕ) → Fetch
+    fetched name = record { board = x.board; entry = entry_of x.kind; shape = cell_shape e.cell; type = e.value; handle = handle; name = name }
+
+    fetch_asked : (name : Option (List ℕ)) → request_of s.standing s.published party (call.Get handle name) ≡ Some (get (fetched name))
+    fetch_asked name = rw (handle_in party handle thing_kind.ReadHandle x held, entry_in_state x nb ib) refl
+
+    -- a get that begins
+    pub get_begins : (name : Option (List ℕ)) (begun : Getting) (type : ValueType) → begun ≡ record { shape = cell_shape e.cell; reading = opening } → holds_any m party name ≡ false → type ≡ value_type_of e.value
+        → IsChecked (call_reason s.standing party (call.Get handle name) (request_of s.standing s.published party (call.Get handle name))) (request_of s.standing s.published party (call.Get handle name))
+            (checked.Accepted (task.Get n begun type name))
+    get_begins name begun type is untaken t =
+        rw (fetch_asked name) (rw (taken_is m s rep party name ∙ untaken) refl, record { fetch = fetched name; request = refl; board_is = nb; call_is = is; type_is = t; name_is = refl })
+
+    -- a get whose name is taken
+    pub get_taken : (name : Option (List ℕ)) → holds_any m party name ≡ true
+        → IsChecked (call_reason s.standing party (call.Get handle name) (request_of s.standing s.published party (call.Get handle name))) (request_of s.standing s.published party (call.Get handle name))
+            (checked.Refused reason.Taken)
+    get_taken name taken = rw (fetch_asked name) (rw (taken_is m s rep party name ∙ taken) refl)
+
+    module _ (name : List ℕ) (k : Kept) (stands : kept m.values.items party name ≡ Some k) where
+      abbrev looked : Look
+      looked = record { board = x.board; entry = entry_of x.kind; shape = cell_shape e.cell; type = e.value; handle = handle; kept = k.type; generation = k.generation }
+
+      look_asked : request_of s.standing s.published party (call.Fresh handle name) ≡ Some (fresh looked)
+      look_asked = rw (handle_in party handle thing_kind.ReadHandle x held, entry_in_state x nb ib, rep.values party name ∙ stands) refl
+
+      -- a look that begins
+      pub fresh_begins : (begun : Asking) → begun ≡ record { shape = cell_shape e.cell; generation = k.generation; counter = None } → same_type (value_detail k.type) e.value ≡ true
+          → IsChecked (call_reason s.standing party (call.Fresh handle name) (request_of s.standing s.published party (call.Fresh handle name))) (request_of s.standing s.published party (call.Fresh handle name))
+              (checked.Accepted (task.Fresh n begun))
+      fresh_begins begun is typed = rw look_asked (rw typed refl, record { look = looked; request = refl; board_is = nb; call_is = is })
+
+      -- a look at a value of another type
+      pub fresh_mistyped : same_type (value_detail k.type) e.value ≡ false
+          → IsChecked (call_reason s.standing party (call.Fresh handle name) (request_of s.standing s.published party (call.Fresh handle name))) (request_of s.standing s.published party (call.Fresh handle name))
+              (checked.Refused reason.Type)
+      fresh_mistyped typed = rw look_asked (rw typed refl)
+
   -- an update that begins
   pub update_begins : (party handle : List ℕ) (x : Held) (v : Value) (g : ℕ) (words : List ℕ) (begun : Updating) → begun ≡ record { shape = cell_shape e.cell; generation = g; words = words; written = 0 } → n ≡ x.board → i ≡ entry_of x.kind
       → of_kind thing_kind.WriteHandle (thing_of m.things.items party handle) ≡ Some x → same_type (value_detail (type_of v)) e.value ≡ true → IsCounter m n i g → words ≡ value_words v
@@ -94,6 +175,16 @@ module _ (m : Machine) (s : State) (rep : Represents m s) (sound : Sound s) (n i
 
 pub begin_busy : (s : State) (party : List ℕ) (c : Call) (r : Running) → s.parties party ≡ running r → IsLine (line.Begin party c) → IsRight s (line.Begin party c) (answer.Refused reason.Busy)
 begin_busy s party c r e l = record {
+  line = l;
+  answer = tt;
+  reason = rw e refl;
+  owed = rw e (λ h. absurd cc);
+  word = λ _. tt;
+  reply = λ _. tt;
+}
+
+pub begin_gone : (s : State) (party : List ℕ) (c : Call) → s.parties party ≡ gone → IsLine (line.Begin party c) → IsRight s (line.Begin party c) (answer.Refused reason.Abandoned)
+begin_gone s party c e l = record {
   line = l;
   answer = tt;
   reason = rw e refl;
@@ -124,9 +215,9 @@ some_request t (Some q) h = (q, refl, h)
 
 pub begin_begun : (m new : Machine) (s : State) (rep : Represents m s) (party : List ℕ) (c : Call) (t : Task) → s.parties party ≡ free
     → IsChecked (call_reason s.standing party c (request_of s.standing s.published party c)) (request_of s.standing s.published party c) (checked.Accepted t)
-    → tables_of new ≡ tables_of m → new.words.items ≡ m.words.items → new.spent ≡ m.spent → new.parties.items ≡ m.parties.items ++ record { name = party; task = t } ∷ []
+    → tables_of new ≡ tables_of m → new.words.items ≡ m.words.items → new.values.items ≡ m.values.items → new.spent ≡ m.spent → new.parties.items ≡ m.parties.items ++ record { name = party; task = t } ∷ []
     → IsLine (line.Begin party c) → IsRight s (line.Begin party c) answer.Begun × Represents new (after s (line.Begin party c) answer.Begun)
-begin_begun m new s rep party c t e h tables words spent parties l =
+begin_begun m new s rep party c t e h tables words values spent parties l =
     let r : free_reason (s.parties party) (call_reason s.standing party c (request_of s.standing s.published party c)) ≡ None = rw e h.0 in
     let q = some_request t (request_of s.standing s.published party c) h.1 in (
       record {
@@ -145,6 +236,6 @@ begin_begun m new s rep party c t e h tables words spent parties l =
             (subst (λ (xs : List PartyRow). (p : List ℕ) → AreRowsOf (filter (is_row_of p) xs) (with_party s.parties party (begun (Some q.0)) p)) (sym parties)
             (started m.parties.items s.parties rep.parties party e t q.0 q.2));
         loans = rep.loans;
-        values = rep.values;
+        values = λ p n. rep.values p n ∙ ap (λ (vs : List KeptValue). kept vs p n) (sym values);
       },
     )

@@ -1,9 +1,12 @@
+pub mod Abandonments
 pub mod CallChecks
 pub mod Listings
 pub mod Memories
 pub mod Notes
+pub mod OwedRows
 pub mod PartyRows
 pub mod Places
+pub mod ReadSteps
 pub mod Rows
 pub mod Slots
 pub mod StepRefusals

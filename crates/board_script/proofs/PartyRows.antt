@@ -7,14 +7,16 @@ use Rattle.std.specs.List.{filter, position_from, remove}
 use Rattle.std.proofs.lemmas.List.Elements.{filter-append}
 use Rattle.board_model.specs.declared.access.Access.{Access}
 use Rattle.board_model.specs.declared.access.Access.TheVariants as access
-use Rattle.board_model.specs.Requests.{Request, table}
+use Rattle.board_model.specs.Requests.{Request}
 use Rattle.board_model.specs.Parties.{Party, Running, begun, free, gone, notice, running, with_party}
 use Rattle.board_model.proofs.ListLemmas.{same_bytes}
 use Rattle.board_model.proofs.ThingLemmas.{same_to_itself}
 use Rattle.board_script.specs.declared.machine.PartyRow.{PartyRow}
 use Rattle.board_script.specs.declared.machine.Task.{Task}
+use Rattle.board_script.specs.declared.machine.Task.TheVariants as task
 use Rattle.board_script.specs.Machine.{AreRowsOf, IsRowOf, IsTaskOf, is_row_of}
-use Rattle.board_script.proofs.Rows.{IsFirst, filter-remove_only, filter-remove_other, filter-set_only, filter-set_other, first_at, none_passes, only_at, passes_none, some_at}
+use Rattle.board_script.specs.Steps.{is_gone}
+use Rattle.board_script.proofs.Rows.{IsFirst, filter-remove_only, filter-remove_other, filter-set_only, filter-set_other, first_at, none_passes, only_at, some_at}
 
 -- the rows are those of the parties
 abbrev pub AreParties : List PartyRow → (List ℕ → Party) → Type 0
@@ -30,31 +32,23 @@ pub record RunsAt (rows : List PartyRow) (parties : List ℕ → Party) (party :
   pub name : row.name ≡ party
   pub task : IsTaskOf row.task r.request r.so_far
 
+-- a party that is gone runs nothing
+no_call : (t : Task) (q : Request) (so_far : List Access) → is_gone t ≡ true → IsTaskOf t q so_far → ⊥
+no_call (task.Table t) q so_far g h = absurd cc
+no_call (task.Get b c type n) q so_far g h = absurd cc
+no_call (task.Fresh b c) q so_far g h = absurd cc
+no_call (task.Update b c) q so_far g h = absurd cc
+no_call task.Gone q so_far g h = h
+
 module _ (rows : List PartyRow) (parties : List ℕ → Party) (are : AreParties rows parties) (party : List ℕ) where
   -- a party without a row is free
   no_row : (x : Party) → AreRowsOf [] x → x ≡ free
   no_row free h = refl
   no_row (running r) h = absurd (let e = h.only in cc)
-  no_row gone h = absurd h
+  no_row gone h = absurd (let e = h.only in cc)
 
   pub is_free : None ≡ position_from (is_row_of party) 0 rows → parties party ≡ free
   is_free e = no_row (parties party) (subst (λ (xs : List PartyRow). AreRowsOf xs (parties party)) (none_passes (is_row_of party) rows e) (are party))
-
-  -- a party with a row runs the row's call
-  busy_in : (x : Party) → parties party ≡ x → AreRowsOf (filter (is_row_of party) rows) x → is_some (position_from (is_row_of party) 0 rows) ≡ true → (r : Running) × (parties party ≡ running r)
-  busy_in free h t e =
-      let none : position_from (is_row_of party) 0 rows ≡ None = passes_none (is_row_of party) 0 rows t in
-      absurd (some_none (position_from (is_row_of party) 0 rows) e none)
-    where
-      some_none : (o : Option ℕ) → is_some o ≡ true → o ≡ None → ⊥
-      some_none None e n = absurd cc
-      some_none (Some k) e n = absurd cc
-  busy_in (running r) h t e = (r, h)
-  busy_in gone h t e = absurd t
-
-  -- a party with a row runs
-  pub is_busy : is_some (position_from (is_row_of party) 0 rows) ≡ true → (r : Running) × (parties party ≡ running r)
-  is_busy e = busy_in (parties party) refl (are party) e
 
   none_of : (o : Option ℕ) → is_some o ≡ false → None ≡ o
   none_of None e = refl
@@ -63,10 +57,10 @@ module _ (rows : List PartyRow) (parties : List ℕ → Party) (are : AreParties
   pub is_idle : is_some (position_from (is_row_of party) 0 rows) ≡ false → parties party ≡ free
   is_idle e = is_free (none_of (position_from (is_row_of party) 0 rows) e)
 
-  runs_in : (place : ℕ) (row : PartyRow) → row ≡ get_or rows place row → IsFirst (is_row_of party) rows place → (x : Party) → parties party ≡ x → AreRowsOf (filter (is_row_of party) rows) x
+  runs_in : (place : ℕ) (row : PartyRow) → row ≡ get_or rows place row → is_gone row.task ≡ false → IsFirst (is_row_of party) rows place → (x : Party) → parties party ≡ x → AreRowsOf (filter (is_row_of party) rows) x
       → RunsAt rows parties party place row
-  runs_in place row e first free h t = absurd (some_at (is_row_of party) rows place row first.inside (first.passes row) t)
-  runs_in place row e first (running r) h t =
+  runs_in place row e n first free h t = absurd (some_at (is_row_of party) rows place row first.inside (first.passes row) t)
+  runs_in place row e n first (running r) h t =
       let alone = only_at (is_row_of party) rows place row first.inside t.row (first.passes row) t.only in
       let same : row ≡ t.row = e ∙ alone.same in
       record {
@@ -78,10 +72,27 @@ module _ (rows : List PartyRow) (parties : List ℕ → Party) (are : AreParties
         name = sym (same_bytes party row.name (ap (is_row_of party) e ∙ first.passes row));
         task = subst (λ (y : PartyRow). IsTaskOf y.task r.request r.so_far) (sym same) t.task;
       }
-  runs_in place row e first gone h t = absurd t
+  runs_in place row e n first gone h t =
+      let alone = only_at (is_row_of party) rows place row first.inside t.row (first.passes row) t.only in
+      let same : row ≡ t.row = e ∙ alone.same in
+      let g : is_gone row.task ≡ true = ap (λ (y : PartyRow). is_gone y.task) same ∙ ap is_gone t.task in
+      absurd (let x : true ≡ false = sym g ∙ n in cc)
 
-  pub runs_at : (place : ℕ) (row : PartyRow) → Some place ≡ position_from (is_row_of party) 0 rows → row ≡ get_or rows place row → RunsAt rows parties party place row
-  runs_at place row p e = runs_in place row e (first_at (is_row_of party) place rows p) (parties party) refl (are party)
+  -- a row whose party isn't gone is that of a running call
+  pub runs_at : (place : ℕ) (row : PartyRow) → Some place ≡ position_from (is_row_of party) 0 rows → row ≡ get_or rows place row → is_gone row.task ≡ false → RunsAt rows parties party place row
+  runs_at place row p e n = runs_in place row e n (first_at (is_row_of party) place rows p) (parties party) refl (are party)
+
+  gone_in : (place : ℕ) (row : PartyRow) → row ≡ get_or rows place row → is_gone row.task ≡ true → IsFirst (is_row_of party) rows place → (x : Party) → parties party ≡ x → AreRowsOf (filter (is_row_of party) rows) x
+      → parties party ≡ gone
+  gone_in place row e g first free h t = absurd (some_at (is_row_of party) rows place row first.inside (first.passes row) t)
+  gone_in place row e g first (running r) h t =
+      let alone = only_at (is_row_of party) rows place row first.inside t.row (first.passes row) t.only in
+      let same : row ≡ t.row = e ∙ alone.same in
+      absurd (no_call row.task r.request r.so_far g (subst (λ (y : PartyRow). IsTaskOf y.task r.request r.so_far) (sym same) t.task))
+  gone_in place row e g first gone h t = h
+
+  pub gone_at : (place : ℕ) (row : PartyRow) → Some place ≡ position_from (is_row_of party) 0 rows → row ≡ get_or rows place row → is_gone row.task ≡ true → parties party ≡ gone
+  gone_at place row p e g = gone_in place row e g (first_at (is_row_of party) place rows p) (parties party) refl (are party)
 
 -- one row stands at a place
 pub same_row : (rows : List PartyRow) (parties : List ℕ → Party) (party : List ℕ) (place : ℕ) (x y : PartyRow) → RunsAt rows parties party place x → RunsAt rows parties party place y → x ≡ y
@@ -123,14 +134,11 @@ module _ (rows : List PartyRow) (parties : List ℕ → Party) (are : AreParties
   pub ended : (a : Access) → AreParties (remove rows place) (with_party (λ p. notice a (parties p)) party free)
   ended a p = removed a p (bytes_eq p party) refl
 
-  changed : (a : Access) (y : PartyRow) (r : Running) → y.name ≡ row.name → IsTaskOf y.task r.request r.so_far → (p : List ℕ) (b : Bool) → bytes_eq p party ≡ b
-      → AreRowsOf (filter (is_row_of p) (set rows place y)) (cond b (running r) (notice a (parties p)))
-  changed a y r n t p true h = record {
-    row = y;
-    only = filter-set_only (is_row_of p) rows place row at.inside y row (own_row p h) (own_only p h) (ap (bytes_eq p) (n ∙ at.name) ∙ h);
-    task = t;
-  }
-  changed a y r n t p false h =
+  changed : (a : Access) (y : PartyRow) (x : Party) → y.name ≡ row.name → AreRowsOf (y ∷ []) x → (p : List ℕ) (b : Bool) → bytes_eq p party ≡ b
+      → AreRowsOf (filter (is_row_of p) (set rows place y)) (cond b x (notice a (parties p)))
+  changed a y x n t p true h =
+      subst (λ (ys : List PartyRow). AreRowsOf ys x) (sym (filter-set_only (is_row_of p) rows place row at.inside y row (own_row p h) (own_only p h) (ap (bytes_eq p) (n ∙ at.name) ∙ h))) t
+  changed a y x n t p false h =
       subst (λ (xs : List PartyRow). AreRowsOf xs (notice a (parties p)))
       (sym (filter-set_other (is_row_of p) rows place row at.inside y (other_row p h) (ap (bytes_eq p) (n ∙ at.name) ∙ h)))
       (noticed a _ (parties p) (are p))
@@ -138,26 +146,33 @@ module _ (rows : List PartyRow) (parties : List ℕ → Party) (are : AreParties
   -- a call goes on
   pub went_on : (a : Access) (y : PartyRow) (r : Running) → y.name ≡ row.name → IsTaskOf y.task r.request r.so_far
       → AreParties (set rows place y) (with_party (λ p. notice a (parties p)) party (running r))
-  went_on a y r n t p = changed a y r n t p (bytes_eq p party) refl
+  went_on a y r n t p = changed a y (running r) n (record { row = y; only = refl; task = t }) p (bytes_eq p party) refl
 
-module _ (rows : List PartyRow) (parties : List ℕ → Party) (are : AreParties rows parties) (party : List ℕ) (is : parties party ≡ free) (t : Task) (q : Request) (of : IsTaskOf t q []) where
-  begins_for : (p : List ℕ) (b : Bool) → bytes_eq p party ≡ b → AreRowsOf (filter (is_row_of p) (rows ++ record { name = party; task = t } ∷ [])) (cond b (begun (Some q)) (parties p))
-  begins_for p true h =
-      let new : PartyRow = record { name = party; task = t } in
+  -- a party that runs is abandoned
+  pub left_behind : (y : PartyRow) → y.name ≡ row.name → y.task ≡ task.Gone → AreParties (set rows place y) (with_party parties party gone)
+  left_behind y n t p = changed access.Table y gone n (record { row = y; only = refl; task = t }) p (bytes_eq p party) refl
+
+module _ (rows : List PartyRow) (parties : List ℕ → Party) (are : AreParties rows parties) (party : List ℕ) (is : parties party ≡ free) (t : Task) where
+  abbrev new : PartyRow
+  new = record { name = party; task = t }
+
+  added : (x : Party) → AreRowsOf (new ∷ []) x → (p : List ℕ) (b : Bool) → bytes_eq p party ≡ b → AreRowsOf (filter (is_row_of p) (rows ++ new ∷ [])) (cond b x (parties p))
+  added x a p true h =
       let none : filter (is_row_of p) rows ≡ [] =
-      ap (λ (n : List ℕ). filter (is_row_of n) rows) (same_bytes p party h)
-      ∙ subst (λ (x : Party). AreRowsOf (filter (is_row_of party) rows) x) is (are party) in
-      record {
-        row = new;
-        only = filter-append (is_row_of p) rows (new ∷ []) ∙ ap (λ (xs : List PartyRow). xs ++ filter (is_row_of p) (new ∷ [])) none ∙ ap (λ (b : Bool). cond b (new ∷ []) []) h;
-        task = of;
-      }
-  begins_for p false h =
-      let new : PartyRow = record { name = party; task = t } in
+          ap (λ (n : List ℕ). filter (is_row_of n) rows) (same_bytes p party h)
+          ∙ subst (λ (y : Party). AreRowsOf (filter (is_row_of party) rows) y) is (are party) in
+      let one : filter (is_row_of p) (rows ++ new ∷ []) ≡ new ∷ [] =
+          filter-append (is_row_of p) rows (new ∷ []) ∙ ap (λ (xs : List PartyRow). xs ++ filter (is_row_of p) (new ∷ [])) none ∙ ap (λ (b : Bool). cond b (new ∷ []) []) h in
+      subst (λ (ys : List PartyRow). AreRowsOf ys x) (sym one) a
+  added x a p false h =
       subst (λ (xs : List PartyRow). AreRowsOf xs (parties p))
       (sym (filter-append (is_row_of p) rows (new ∷ []) ∙ ap (λ (b : Bool). filter (is_row_of p) rows ++ cond b (new ∷ []) []) h ∙ append-nil (filter (is_row_of p) rows)))
       (are p)
 
   -- a call begins
-  pub started : AreParties (rows ++ record { name = party; task = t } ∷ []) (with_party parties party (begun (Some q)))
-  started p = begins_for p (bytes_eq p party) refl
+  pub started : (q : Request) → IsTaskOf t q [] → AreParties (rows ++ new ∷ []) (with_party parties party (begun (Some q)))
+  started q of p = added (begun (Some q)) (record { row = new; only = refl; task = of }) p (bytes_eq p party) refl
+
+  -- a party that is free is abandoned
+  pub left_idle : t ≡ task.Gone → AreParties (rows ++ new ∷ []) (with_party parties party gone)
+  left_idle e p = added gone (record { row = new; only = refl; task = e }) p (bytes_eq p party) refl

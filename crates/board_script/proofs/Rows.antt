@@ -163,3 +163,24 @@ module _ {X : Type 0} (q : X → Bool) (xs : List X) (k : ℕ) (d : X) (inside :
       filter-append q (take k xs) (drop (suc k) xs)
       ∙ ap (λ (front : List X). front ++ filter q (drop (suc k) xs)) a.front_empty
       ∙ a.behind_empty
+
+-- what was set at a place goes with it
+pub remove-set : {X : Type 0} (xs : List X) (k : ℕ) (y : X) → remove (set xs k y) k ≡ remove xs k
+remove-set [] k y = refl
+remove-set (x ∷ xs) zero y = refl
+remove-set {X = X} (x ∷ xs) (suc k) y = ap (λ (ys : List X). x ∷ ys) (remove-set xs k y)
+
+pub set-same : {X : Type 0} (xs : List X) (k : ℕ) (y : X) → y ≡ get_or xs k y → set xs k y ≡ xs
+set-same [] k y e = refl
+set-same {X = X} (x ∷ xs) zero y e = ap (λ (z : X). z ∷ xs) e
+set-same {X = X} (x ∷ xs) (suc k) y e = ap (λ (ys : List X). x ∷ ys) (set-same xs k y e)
+
+pub set-there : {X : Type 0} (xs : List X) (k : ℕ) (y d : X) → k < length xs → get_or (set xs k y) k d ≡ y
+set-there [] k y d h = absurd (omega (arith, h))
+set-there (x ∷ xs) zero y d h = refl
+set-there (x ∷ xs) (suc k) y d h = set-there xs k y d (omega (arith, h))
+
+pub get_or-inside : {X : Type 0} (xs : List X) (k : ℕ) (d e : X) → k < length xs → get_or xs k d ≡ get_or xs k e
+get_or-inside [] k d e h = absurd (omega (arith, h))
+get_or-inside (x ∷ xs) zero d e h = refl
+get_or-inside (x ∷ xs) (suc k) d e h = get_or-inside xs k d e (omega (arith, h))

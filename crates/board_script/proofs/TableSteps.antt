@@ -1,6 +1,7 @@
 -- The step of a call on the tables is right, and the machine stands for what follows.
 use Rattle.std.proofs.Common.{◌≡◌, ℕ, zero, suc, ◌+◌, ◌-◌, ◌^◌, ◌<◌, ◌≤◌, Bool, true, false, cond, List, [], ◌∷◌, ◌++◌, length, get_or, set, map, arith, rules, refl, sym, ap, subst, ◌∙◌, Option, Some, None}
 use Rattle.std.specs.Prelude.{◌==◌, nat_le, find, is_some, Result, Ok, Err, slice_index}
+use Rattle.std.specs.Str.{bytes_eq}
 use Rattle.std.specs.List.{AllByRecursion, count_by, filter, position_from, remove}
 use Rattle.std.proofs.lemmas.Bool.{eq-eqb, le-leb}
 use Rattle.std.proofs.lemmas.List.{length-append, map_push}
@@ -25,10 +26,10 @@ use Rattle.board_model.specs.declared.value.ValueType.{ValueType}
 use Rattle.board_model.specs.AnswerGrammar.{IsReply}
 use Rattle.board_model.specs.LineGrammar.{IsLine}
 use Rattle.board_model.specs.Memory.{memory_after, opening_of, with_board}
-use Rattle.board_model.specs.Requests.{Request, TableCall, create, entry_mut, table, tell, writer}
-use Rattle.board_model.specs.Replies.{added_of, ask_tables, is_key, number_or, told_by}
+use Rattle.board_model.specs.Requests.{Request, TableCall, create, entry, entry_mut, join, reader, table, tell, writer}
+use Rattle.board_model.specs.Replies.{Asked, added_of, ask_tables, is_key, number_or, told_by}
 use Rattle.board_model.specs.Tables.{Tables, board_at, entry_at, entry_found, entry_in, entry_of, is_numbered, kind_of, new_board}
-use Rattle.board_model.specs.TableCalls.{asked, create_asked, create_refusals, created, entry_mut_asked, first_of, writer_asked}
+use Rattle.board_model.specs.TableCalls.{asked, create_asked, create_refusals, created, entry_asked, entry_mut_asked, first_of, open_asked, reader_asked, writer_asked}
 use Rattle.board_model.specs.Things.{Held, Standing, thing_of}
 use Rattle.board_model.specs.TypeTable.{key_detail, same_key, value_detail}
 use Rattle.board_model.specs.Parties.{Party, Running, free, notice, running, with_party}
@@ -40,10 +41,11 @@ use Rattle.board_model.proofs.KeptLemmas.{entry_board}
 use Rattle.board_model.proofs.ThingLemmas.{all_found}
 use Rattle.board_script.specs.declared.machine.Machine.{Machine}
 use Rattle.board_script.specs.declared.machine.PartyRow.{PartyRow}
-use Rattle.board_script.specs.declared.machine.Task.{Task}
-use Rattle.board_script.specs.declared.machine.Task.TheVariants as task
-use Rattle.board_script.specs.Machine.{AreRowsOf, IsBounded, IsTaskOf, Represents, is_row_of, tables_of, words_of}
-use Rattle.board_script.specs.Steps.{CanRun, HasCounter, IsCounter, IsGen, IsOwedBy, IsTold}
+use Rattle.board_script.specs.declared.machine.KeptValue.{KeptValue}
+use Rattle.board_script.specs.declared.machine.TableTask.{TableTask}
+use Rattle.board_script.specs.declared.machine.TableTask.TheVariants as table_task
+use Rattle.board_script.specs.Machine.{AreRowsOf, IsBounded, Represents, call_of, is_row_of, kept, tables_of, words_of}
+use Rattle.board_script.specs.Steps.{CanRun, HasCounter, IsCounter, IsGen, IsTold}
 use Rattle.board_script.specs.TableCalls.{IsAsked, IsCreate, words_with}
 use Rattle.board_script.proofs.Memories.{same_words}
 use Rattle.board_script.proofs.PartyRows.{RunsAt, ended}
@@ -95,7 +97,7 @@ module _ (m : Machine) (s : State) (rep : Represents m s) (sound : Sound s) (par
     pub is_reply : IsReply told
     pub tables : (ask_tables s.standing s.published party c).standing.tables ≡ tables_of new
     pub loans : (p n : List ℕ) → (ask_tables s.standing s.published party c).standing.loans p n ≡ None
-    pub values : (p n : List ℕ) → (ask_tables s.standing s.published party c).standing.values p n ≡ None
+    pub values : (p n : List ℕ) → (ask_tables s.standing s.published party c).standing.values p n ≡ kept new.values.items p n
     pub words : new.words.items ≡ words_of (memory_after s.memory (table c) told) new.boards.items
     pub parties : new.parties.items ≡ remove m.parties.items place
     pub alive : new.spent ≡ false
@@ -131,7 +133,7 @@ module _ (m : Machine) (s : State) (rep : Represents m s) (sound : Sound s) (par
 
   -- ---- one call after another
 
-  module _ (mid new : Machine) (same : tables_of mid ≡ tables_of m) (same_list : mid.words.items ≡ m.words.items) (rows : mid.parties.items ≡ remove m.parties.items place) (alive : mid.spent ≡ false) where
+  module _ (mid new : Machine) (same : tables_of mid ≡ tables_of m) (same_list : mid.words.items ≡ m.words.items) (rows : mid.parties.items ≡ remove m.parties.items place) (same_values : mid.values.items ≡ m.values.items) (alive : mid.spent ≡ false) where
     tables_are : s.standing.tables ≡ tables_of mid
     tables_are = rep.tables ∙ sym same
 
@@ -143,28 +145,22 @@ module _ (m : Machine) (s : State) (rep : Represents m s) (sound : Sound s) (par
     kept_words b w =
         w ∙ same_list ∙ rep.words ∙ ap (λ (bs : List Board). words_of s.memory bs) (ap (λ t. t.boards) (sym same) ∙ sym b)
 
-    pub writer_served : (n : List ℕ) (x : Held) (told : Reply) → IsAsked mid new reply.WriterError (writer_asked (tables_of mid) x n) told → IsReply told → IsServed new (writer n x) told
-    writer_served n x told h r = record {
-      told_is = h.told_is ∙ ap (λ t. number_or reply.WriterError (writer_asked t x n).0) (sym tables_are);
-      is_reply = r;
-      tables = ap (λ t. (writer_asked t x n).1) tables_are ∙ sym h.tables;
-      loans = rep.loans;
-      values = rep.values;
-      words = kept_words (ap (λ t. t.boards) h.tables ∙ kept_boards _ _ _ _ refl) h.words;
-      parties = h.parties ∙ rows;
-      alive = h.spent ∙ alive;
-    }
+    kept_values : new.values.items ≡ mid.values.items → (p n : List ℕ) → s.standing.values p n ≡ kept new.values.items p n
+    kept_values v p n = rep.values p n ∙ ap (λ (vs : List KeptValue). kept vs p n) (sym same_values ∙ sym v)
 
-    pub entry_mut_served : (n : List ℕ) (x : Held) (k : Key) (type : ValueType) (told : Reply)
-        → IsAsked mid new reply.EntryMutError (entry_mut_asked (tables_of mid) x n (entry_found (board_at (tables_of mid) x.board) (is_key k) (value_detail type))) told → IsReply told
-        → IsServed new (entry_mut n x k type) told
-    entry_mut_served n x k type told h r = record {
-      told_is = h.told_is ∙ ap (λ t. number_or reply.EntryMutError (entry_mut_asked t x n (entry_found (board_at t x.board) (is_key k) (value_detail type))).0) (sym tables_are);
+    -- a call that changes only the tables
+    asked_served : {E : Type 0} (c : TableCall) (error : E → Reply) (f : BoardTables → Result ℕ E × BoardTables) (told : Reply)
+        → ask_tables s.standing s.published party c ≡ told_by s.standing error (f s.standing.tables)
+        → (f (tables_of mid)).1.boards ≡ mid.boards.items
+        → memory_after s.memory (table c) told ≡ s.memory
+        → IsAsked mid new error (f (tables_of mid)) told → IsReply told → IsServed new c told
+    asked_served c error f told asks boards memory h r = record {
+      told_is = h.told_is ∙ ap (λ t. number_or error (f t).0) (sym tables_are) ∙ ap (λ (x : Asked). x.reply) (sym asks);
       is_reply = r;
-      tables = ap (λ t. (entry_mut_asked t x n (entry_found (board_at t x.board) (is_key k) (value_detail type))).1) tables_are ∙ sym h.tables;
-      loans = rep.loans;
-      values = rep.values;
-      words = kept_words (ap (λ t. t.boards) h.tables ∙ kept_boards _ _ _ _ refl) h.words;
+      tables = ap (λ (x : Asked). x.standing.tables) asks ∙ ap (λ t. (f t).1) tables_are ∙ sym h.tables;
+      loans = λ p n. ap (λ (x : Asked). x.standing.loans p n) asks ∙ rep.loans p n;
+      values = λ p n. ap (λ (x : Asked). x.standing.values p n) asks ∙ kept_values h.values p n;
+      words = kept_words (ap (λ t. t.boards) h.tables ∙ boards) h.words ∙ ap (λ (x : ℕ → List ℕ). words_of x new.boards.items) (sym memory);
       parties = h.parties ∙ rows;
       alive = h.spent ∙ alive;
     }
@@ -207,7 +203,7 @@ module _ (m : Machine) (s : State) (rep : Represents m s) (sound : Sound s) (par
       is_reply = r;
       tables = tables_are ∙ ap tables_of (sym h.same);
       loans = rep.loans;
-      values = rep.values;
+      values = kept_values (ap (λ (y : Machine). y.values.items) h.same);
       words = kept_words (ap (λ (y : Machine). y.boards.items) h.same) (ap (λ (y : Machine). y.words.items) h.same);
       parties = ap (λ (y : Machine). y.parties.items) h.same ∙ rows;
       alive = ap (λ (y : Machine). y.spent) h.same ∙ alive;
@@ -263,7 +259,7 @@ module _ (m : Machine) (s : State) (rep : Represents m s) (sound : Sound s) (par
             is_reply = r;
             tables = sym tables_same;
             loans = rep.loans;
-            values = rep.values;
+            values = kept_values h.values;
             words =
                 h.words ∙ ap (λ (ws : List (List ℕ)). words_with ws entries told) same_list
                 ∙ subst (λ (t : Reply). words_with m.words.items entries t ≡ words_of (memory_after s.memory (table (create f n k limits attributes entries)) t) new.boards.items) (sym told_same)
@@ -272,19 +268,29 @@ module _ (m : Machine) (s : State) (rep : Represents m s) (sound : Sound s) (par
             alive = h.spent ∙ alive;
           }
 
+    served : (t : TableTask) (told : Reply) → at.r.request ≡ table (call_of t) → IsTold mid new party t told → IsReply told → IsServed new (call_of t) told
+    served (table_task.Create f n k limits attributes entries) told e h r = create_served f n k limits attributes entries told h r
+    served (table_task.Open f n k limits needs) told e h r =
+        asked_served (join f n k limits needs) reply.OpenError (λ t. open_asked bytes_eq t party f n (key_detail k) limits needs) told refl (kept_boards _ _ _ _ refl) refl h r
+    served (table_task.Reader n x) told e h r = asked_served (reader n x) reply.ReaderError (λ t. reader_asked t x n) told refl (kept_boards _ _ _ _ refl) refl h r
+    served (table_task.Writer n x) told e h r = asked_served (writer n x) reply.WriterError (λ t. writer_asked t x n) told refl (kept_boards _ _ _ _ refl) refl h r
+    served (table_task.Entry n x k type) told e h r =
+        asked_served (entry n x k type) reply.EntryError (λ t. entry_asked t x n (entry_found (board_at t x.board) (is_key k) (value_detail type))) told refl (kept_boards _ _ _ _ refl) refl h r
+    served (table_task.EntryMut n x k type) told e h r =
+        asked_served (entry_mut n x k type) reply.EntryMutError (λ t. entry_mut_asked t x n (entry_found (board_at t x.board) (is_key k) (value_detail type))) told refl (kept_boards _ _ _ _ refl) refl h r
+    served (table_task.Gen x) told e h r = gen_served x told e h r
+
     -- the step of the task is right
-    pub task_right : (t : Task) (told : Reply) → IsTaskOf t at.r.request at.r.so_far → IsTold mid new party t told → IsReply told → IsLine (line.Step party)
+    pub task_right : (t : TableTask) (told : Reply) → at.r.request ≡ table (call_of t) → IsTold mid new party t told → IsReply told → IsLine (line.Step party)
         → IsRight s (line.Step party) (answer.Step access.Table (Some told)) × Represents new (after s (line.Step party) (answer.Step access.Table (Some told)))
-    task_right (task.Create f n k limits attributes entries) told e h r l = table_right new (create f n k limits attributes entries) told e (create_served f n k limits attributes entries told h r) l
-    task_right (task.Writer n x) told e h r l = table_right new (writer n x) told e (writer_served n x told h r) l
-    task_right (task.EntryMut n x k type) told e h r l = table_right new (entry_mut n x k type) told e (entry_mut_served n x k type told h r) l
-    task_right (task.Gen x) told e h r l = table_right new (tell x) told e (gen_served x told e h r) l
-    task_right (task.Update board call) told e h r l = absurd h
+    task_right t told e h r l = table_right new (call_of t) told e (served t told e h r) l
 
     -- and it can be made
-    pub task_can_run : (t : Task) → IsBounded s → IsTaskOf t at.r.request at.r.so_far → IsOwedBy t None → CanRun mid t
-    task_can_run (task.Create f n k limits attributes entries) b e o = subst (λ (t : BoardTables). t.last_board + 1 < 2 ^ 64) tables_are b.boards
-    task_can_run (task.Writer n x) b e o = subst (λ (t : BoardTables). t.last_port + 1 < 2 ^ 64) tables_are b.ports
-    task_can_run (task.EntryMut n x k type) b e o = tt
-    task_can_run (task.Gen x) b e o = gen_has x e
-    task_can_run (task.Update board call) b e o = absurd o
+    pub task_can_run : (t : TableTask) → IsBounded s → at.r.request ≡ table (call_of t) → CanRun mid t
+    task_can_run (table_task.Create f n k limits attributes entries) b e = subst (λ (t : BoardTables). t.last_board + 1 < 2 ^ 64) tables_are b.boards
+    task_can_run (table_task.Open f n k limits needs) b e = tt
+    task_can_run (table_task.Reader n x) b e = subst (λ (t : BoardTables). t.last_port + 1 < 2 ^ 64) tables_are b.ports
+    task_can_run (table_task.Writer n x) b e = subst (λ (t : BoardTables). t.last_port + 1 < 2 ^ 64) tables_are b.ports
+    task_can_run (table_task.Entry n x k type) b e = tt
+    task_can_run (table_task.EntryMut n x k type) b e = tt
+    task_can_run (table_task.Gen x) b e = gen_has x e

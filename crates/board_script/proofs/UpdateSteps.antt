@@ -12,25 +12,27 @@ use Rattle.board_model.specs.declared.answer.Reply.TheVariants as reply
 use Rattle.board_model.specs.declared.line.Line.TheVariants as line
 use Rattle.board_model.specs.declared.tables.Board.{Board}
 use Rattle.board_model.specs.LineGrammar.{IsLine, IsNumber}
-use Rattle.board_model.specs.OwedAccesses.{owed_of, owed_write, to_write}
+use Rattle.board_model.specs.OwedAccesses.{Reading, finished, is_finished, opening, owed_of, owed_write, to_write, trying}
 use Rattle.board_model.specs.Memory.{store}
-use Rattle.board_model.specs.Requests.{Publication, Request, update}
+use Rattle.board_model.specs.Requests.{Publication, Request, get, update}
 use Rattle.board_model.specs.Tables.{board_at, is_numbered}
 use Rattle.board_model.specs.TypeTable.{value_words}
-use Rattle.board_model.specs.Parties.{Party, Running, free, is_done, notice, owed, running, with_party}
+use Rattle.board_model.specs.Parties.{Party, Running, free, is_done, notice, owed, reading, running, with_party}
 use Rattle.board_model.specs.LawfulSession.{IsRight, State, after}
-use Rattle.board_model.specs.Sound.{IsCalling, IsPublishing, Sound}
+use Rattle.board_model.specs.Sound.{IsCalling, IsPublishing, IsReading, Sound}
 use Rattle.board_model.proofs.RunningLemmas.{runs}
 use Rattle.board_model.proofs.KeptLemmas.{entry_board}
 use Rattle.board_model.proofs.StoreLemmas.{store_here}
 use Rattle.board_model.proofs.BoundLaws.{write_in_board}
-use Rattle.board_cell.specs.Calls.{Updating}
+use Rattle.board_cell.specs.Calls.{Asking, Getting, Updating}
+use Rattle.board_script.specs.declared.machine.KeptValue.{KeptValue}
 use Rattle.board_script.specs.declared.machine.Machine.{Machine}
 use Rattle.board_script.specs.declared.machine.PartyRow.{PartyRow}
 use Rattle.board_script.specs.declared.machine.Task.{Task}
 use Rattle.board_script.specs.declared.machine.Task.TheVariants as task
+use Rattle.board_script.specs.declared.step.OwedAccess.TheVariants as owed_access
 use Rattle.board_script.specs.declared.step.OwedWrite.{OwedWrite}
-use Rattle.board_script.specs.Machine.{AreRowsOf, IsTaskOf, Represents, is_row_of, tables_of, updating, words_of}
+use Rattle.board_script.specs.Machine.{AreRowsOf, IsTaskOf, Represents, is_row_of, kept, tables_of, updating, words_of}
 use Rattle.board_script.specs.Steps.{CanGoOn, HasWord, IsOwedBy, IsOwedWrite, IsStored, ticked}
 use Rattle.board_script.proofs.Memories.{words-set, words_at}
 use Rattle.board_script.proofs.PartyRows.{RunsAt, ended, went_on}
@@ -47,14 +49,10 @@ pub record IsUpdateStep (t : Task) (q : Request) (k : ℕ) (w : OwedWrite) : Typ
   pub board : w.board ≡ u.board
   pub last : w.is_last ≡ (k == length (value_words u.value))
 
-abbrev some_write : OwedWrite → Option OwedWrite
-some_write w = Some w
-
-pub update_step : (t : Task) (r : Running) (w : OwedWrite) → IsTaskOf t r.request r.so_far → IsOwedBy t (Some w) → IsUpdateStep t r.request (length r.so_far) w
-update_step (task.Create f n key l attributes entries) r w h o = absurd (let e : some_write w ≡ None = o in cc)
-update_step (task.Writer n x) r w h o = absurd (let e : some_write w ≡ None = o in cc)
-update_step (task.EntryMut n x key type) r w h o = absurd (let e : some_write w ≡ None = o in cc)
-update_step (task.Gen x) r w h o = absurd (let e : some_write w ≡ None = o in cc)
+pub update_step : (t : Task) (r : Running) (w : OwedWrite) → IsTaskOf t r.request r.so_far → IsOwedBy t (owed_access.Write w) → IsUpdateStep t r.request (length r.so_far) w
+update_step (task.Table t) r w h o = absurd o
+update_step (task.Get board call type name) r w h o = absurd o
+update_step (task.Fresh board call) r w h o = absurd o
 update_step (task.Update board call) r w h o =
     let u = h.publication in
     let k = length r.so_far in
@@ -67,15 +65,25 @@ update_step (task.Update board call) r w h o =
       board = o.board_is ∙ h.board_is;
       last = o.last ∙ ap (λ (c : Updating). c.written == length c.words) h.call_is;
     }
+update_step task.Gone r w h o = absurd h
+
+-- a get that runs isn't finished
+not_finished : (list : List (List ℕ)) (w n p : ℕ) (x : Reading) → IsReading list w n p x → is_finished x ≡ false
+not_finished list w n p opening h = refl
+not_finished list w n p (trying c words) h = refl
+not_finished list w n p (finished c words) h = absurd h
 
 goes_on : (s : State) (party : List ℕ) (r : Running) (t : Task) → IsTaskOf t r.request r.so_far → IsCalling s party r r.request → CanGoOn t
-goes_on s party r (task.Create f n key l attributes entries) h c = tt
-goes_on s party r (task.Writer n x) h c = tt
-goes_on s party r (task.EntryMut n x key type) h c = tt
-goes_on s party r (task.Gen x) h c = tt
+goes_on s party r (task.Table t) h c = tt
+goes_on s party r (task.Get board call type name) h c =
+    let f = h.fetch in
+    let p : IsCalling s party r (get f) = subst (λ (q : Request). IsCalling s party r q) h.request c in
+    subst (λ (x : Getting). is_finished x.reading ≡ false) (sym h.call_is) (not_finished (s.published f.board f.entry) f.shape.words (length r.so_far) r.passed (reading f.shape.words r.so_far) p.try)
+goes_on s party r (task.Fresh board call) h c = ap (λ (x : Asking). x.counter) h.call_is
 goes_on s party r (task.Update board call) h c =
     let p : IsCalling s party r (update h.publication) = subst (λ (q : Request). IsCalling s party r q) h.request c in
     subst (λ (x : Updating). x.written ≤ length x.words) (sym h.call_is) (omega (arith, p.steps, p.size))
+goes_on s party r task.Gone h c = absurd h
 
 abbrev a_board : Board → Option Board
 a_board b = Some b
@@ -139,7 +147,7 @@ module _ (m : Machine) (s : State) (rep : Represents m s) (sound : Sound s) (par
   pub row_goes_on : CanGoOn row.task
   row_goes_on = goes_on s party at.r row.task at.task calling
 
-  module _ (w : OwedWrite) (o : IsOwedBy row.task (Some w)) where
+  module _ (w : OwedWrite) (o : IsOwedBy row.task (owed_access.Write w)) where
     step : IsUpdateStep row.task at.r.request (length at.r.so_far) w
     step = update_step row.task at.r w at.task o
 
@@ -185,12 +193,15 @@ module _ (m : Machine) (s : State) (rep : Represents m s) (sound : Sound s) (par
       pub value : IsNumber w.value
 
     module _ (stored new : Machine) (is_stored : IsStored m stored w.board w.word w.value) (numbers : AreWritten) (l : IsLine (line.Step party))
-        (tables : tables_of new ≡ tables_of stored) (words : new.words.items ≡ stored.words.items) (spent : new.spent ≡ stored.spent) where
+      (tables : tables_of new ≡ tables_of stored) (words : new.words.items ≡ stored.words.items) (values : new.values.items ≡ stored.values.items) (spent : new.spent ≡ stored.spent) where
       still_alive : new.spent ≡ false
       still_alive = spent ∙ is_stored.spent ∙ rep.alive
 
       all_tables : s.standing.tables ≡ tables_of new
       all_tables = rep.tables ∙ sym is_stored.tables ∙ sym tables
+
+      all_values : (p n : List ℕ) → s.standing.values p n ≡ kept new.values.items p n
+      all_values p n = rep.values p n ∙ ap (λ (vs : List KeptValue). kept vs p n) (sym is_stored.values ∙ sym values)
 
       all_words : new.words.items ≡ words_of (store s.memory w.board w.word w.value) new.boards.items
       all_words =
@@ -217,19 +228,20 @@ module _ (m : Machine) (s : State) (rep : Represents m s) (sound : Sound s) (par
               (ap (λ (xs : List PartyRow). remove xs place) (sym is_stored.parties) ∙ sym rows)
               (ended m.parties.items s.parties rep.parties party place row at made);
           loans = rep.loans;
-          values = rep.values;
+          values = all_values;
         }),
       )
 
       -- another write leaves the rest of the call
-      pub update_goes_on : (y : PartyRow) → y.name ≡ row.name → y.task ≡ ticked row.task → w.is_last ≡ false → new.parties.items ≡ set stored.parties.items place y
+      pub update_goes_on : (y : PartyRow) → y.name ≡ row.name → y.task ≡ ticked row.task 0 → w.is_last ≡ false → new.parties.items ≡ set stored.parties.items place y
           → IsRight s (line.Step party) (answer.Step made None) × Represents new (after s (line.Step party) (answer.Step made None))
       update_goes_on y n t e rows =
           let next : Running = record of_update { so_far = at.r.so_far ++ made ∷ [] } in
           let rest : y.task ≡ task.Update step.u.board (updating step.u (length next.so_far)) =
-          t ∙ ap ticked step.task ∙ ap (λ (k : ℕ). task.Update step.u.board (updating step.u k)) (sym length_more) in
+              t ∙ ap (λ (x : Task). ticked x 0) step.task ∙ ap (λ (k : ℕ). task.Update step.u.board (updating step.u k)) (sym length_more) in
           let of : IsTaskOf y.task next.request next.so_far =
-          subst (λ (x : Task). IsTaskOf x next.request next.so_far) (sym rest) (record { publication = step.u; request = refl; board_is = refl; call_is = refl }) in (
+              subst (λ (x : Task). IsTaskOf x next.request next.so_far) (sym rest) (record { publication = step.u; request = refl; board_is = refl; call_is = refl }) in
+          (
             record {
               line = l;
               answer = ((numbers.board, numbers.word, numbers.value), tt);
@@ -246,6 +258,6 @@ module _ (m : Machine) (s : State) (rep : Represents m s) (sound : Sound s) (par
                   (ap (λ (xs : List PartyRow). set xs place y) (sym is_stored.parties) ∙ sym rows)
                   (went_on m.parties.items s.parties rep.parties party place row at made y next n of);
               loans = rep.loans;
-              values = rep.values;
+              values = all_values;
             }),
           )

@@ -1,15 +1,44 @@
 -- Whether a call may begin.
-use Rattle.std.specs.Prelude.{◌≡◌, ℕ, List, [], Option, Some, None}
+use Rattle.std.specs.Prelude.{◌≡◌, ℕ, Bool, true, false, ◌||◌, List, [], Option, Some, None, is_some}
 use Rattle.board_model.specs.declared.answer.Reason.{Reason}
 use Rattle.board_model.specs.declared.line.Call.{Call}
+use Rattle.board_model.specs.declared.line.Call.TheVariants as call
 use Rattle.board_model.specs.Requests.{Request, request_of}
 use Rattle.board_model.specs.LawfulSession.{State, call_reason}
 use Rattle.board_model.specs.Sound.{Sound}
+use Rattle.board_model.specs.Things.{thing_of}
 use Rattle.board_script.specs.declared.begin.Checked.{Checked}
 use Rattle.board_script.specs.declared.begin.Checked.TheVariants as checked
 use Rattle.board_script.specs.declared.machine.Machine.{Machine}
 use Rattle.board_script.specs.declared.machine.Task.{Task}
-use Rattle.board_script.specs.Machine.{IsTaskOf, Represents}
+use Rattle.board_script.specs.Machine.{IsTaskOf, Represents, kept}
+
+-- ---- the calls that the machine runs
+
+abbrev pub serves_call : Call → Bool
+serves_call (call.Create f name k limits attributes entries) = true
+serves_call (call.Open f name k limits needs) = true
+serves_call (call.Reader r f) = true
+serves_call (call.Writer w f) = true
+serves_call (call.Entry h r k type) = true
+serves_call (call.EntryMut m w k type) = true
+serves_call (call.Get h v) = true
+serves_call (call.Fresh h v) = true
+serves_call (call.Update m v) = true
+serves_call (call.Gen m) = true
+serves_call c = false
+
+-- ---- what a party holds
+
+-- a thing or a value
+abbrev pub holds : Machine → List ℕ → List ℕ → Bool
+holds m party name = is_some (thing_of m.things.items party name) || is_some (kept m.values.items party name)
+
+abbrev pub holds_any : Machine → List ℕ → Option (List ℕ) → Bool
+holds_any m party None = false
+holds_any m party (Some name) = holds m party name
+
+-- ---- checks
 
 -- the task is what the call has to do
 abbrev pub IsTaskFor : Task → Option Request → Type 0

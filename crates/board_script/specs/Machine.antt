@@ -1,29 +1,67 @@
 -- The state of a script that a machine stands for.
-use Rattle.std.specs.Prelude.{◌≡◌, ℕ, ◌+◌, ◌<◌, ◌^◌, Bool, false, List, [], ◌∷◌, length, map, Option, Some, None}
+use Rattle.std.specs.Prelude.{◌≡◌, ℕ, ◌+◌, ◌<◌, ◌^◌, Bool, true, false, ◌&&◌, if◌then◌else◌, List, [], ◌∷◌, length, map, Option, Some, None}
 use Rattle.std.specs.List.{filter}
 use Rattle.std.specs.Str.{bytes_eq}
 use Rattle.board_model.specs.declared.access.Access.{Access}
 use Rattle.board_model.specs.declared.answer.Answer.{Answer}
 use Rattle.board_model.specs.declared.line.Line.{Line}
 use Rattle.board_model.specs.declared.tables.Board.{Board}
-use Rattle.board_model.specs.TypeTable.{value_words}
+use Rattle.board_model.specs.declared.value.ValueType.{ValueType}
+use Rattle.board_model.specs.TypeTable.{value_type_of, value_words}
 use Rattle.board_model.specs.Tables.{Tables}
-use Rattle.board_model.specs.Requests.{Publication, Request, create, entry_mut, table, tell, update, writer}
-use Rattle.board_model.specs.Parties.{Party, Running, free, gone, running}
+use Rattle.board_model.specs.Things.{Kept}
+use Rattle.board_model.specs.Requests.{Fetch, Look, Publication, Request, TableCall, create, entry, entry_mut, fresh, get, join, reader, table, tell, update, writer}
+use Rattle.board_model.specs.Parties.{Party, Running, free, gone, reading, running}
 use Rattle.board_model.specs.AnswerGrammar.{answer_line}
 use Rattle.board_model.specs.LineGrammar.{IsLine}
 use Rattle.board_model.specs.LawfulSession.{IsRight, State, after}
 use Rattle.board_model.specs.Sound.{Sound}
-use Rattle.board_cell.specs.Calls.{Updating}
+use Rattle.board_cell.specs.Calls.{Asking, Getting, Updating}
+use Rattle.board_script.specs.declared.machine.KeptValue.{KeptValue}
 use Rattle.board_script.specs.declared.machine.Machine.{Machine}
 use Rattle.board_script.specs.declared.machine.PartyRow.{PartyRow}
 use Rattle.board_script.specs.declared.machine.Task.{Task}
 use Rattle.board_script.specs.declared.machine.Task.TheVariants as task
+use Rattle.board_script.specs.declared.machine.TableTask.{TableTask}
+use Rattle.board_script.specs.declared.machine.TableTask.TheVariants as table_task
 
 -- ---- running calls
 
 abbrev pub is_row_of : List ℕ → PartyRow → Bool
 is_row_of party row = bytes_eq party row.name
+
+-- the call that a task on the tables is
+abbrev pub call_of : TableTask → TableCall
+call_of (table_task.Create f n k l attributes entries) = create f n k l attributes entries
+call_of (table_task.Open f n k l needs) = join f n k l needs
+call_of (table_task.Reader n x) = reader n x
+call_of (table_task.Writer n x) = writer n x
+call_of (table_task.Entry n x k type) = entry n x k type
+call_of (table_task.EntryMut n x k type) = entry_mut n x k type
+call_of (table_task.Gen x) = tell x
+
+-- a get after these accesses
+abbrev pub getting : Fetch → List Access → Getting
+getting f so_far = record { shape = f.shape; reading = reading f.shape.words so_far }
+
+-- a get that runs is what is left of this fetch
+pub record IsGet (board : ℕ) (call : Getting) (type : ValueType) (name : Option (List ℕ)) (q : Request) (so_far : List Access) : Type 0 where
+  pub fetch : Fetch
+  pub request : q ≡ get fetch
+  pub board_is : board ≡ fetch.board
+  pub call_is : call ≡ getting fetch so_far
+  pub type_is : type ≡ value_type_of fetch.type
+  pub name_is : name ≡ fetch.name
+
+abbrev pub asking : Look → Asking
+asking l = record { shape = l.shape; generation = l.generation; counter = None }
+
+-- a look that runs is this one
+pub record IsFresh (board : ℕ) (call : Asking) (q : Request) : Type 0 where
+  pub look : Look
+  pub request : q ≡ fresh look
+  pub board_is : board ≡ look.board
+  pub call_is : call ≡ asking look
 
 -- an update after so many accesses
 abbrev pub updating : Publication → ℕ → Updating
@@ -38,11 +76,11 @@ pub record IsUpdate (board : ℕ) (call : Updating) (q : Request) (k : ℕ) : Ty
 
 -- the task is what a call has still to do after these accesses
 abbrev pub IsTaskOf : Task → Request → List Access → Type 0
-IsTaskOf (task.Create f n k l attributes entries) q so_far = q ≡ table (create f n k l attributes entries)
-IsTaskOf (task.Writer n x) q so_far = q ≡ table (writer n x)
-IsTaskOf (task.EntryMut n x k type) q so_far = q ≡ table (entry_mut n x k type)
-IsTaskOf (task.Gen x) q so_far = q ≡ table (tell x)
+IsTaskOf (task.Table t) q so_far = q ≡ table (call_of t)
+IsTaskOf (task.Get board call type name) q so_far = IsGet board call type name q so_far
+IsTaskOf (task.Fresh board call) q so_far = IsFresh board call q
 IsTaskOf (task.Update board call) q so_far = IsUpdate board call q (length so_far)
+IsTaskOf task.Gone q so_far = ⊥
 
 -- the one row of a party whose call runs
 pub record IsRowOf (rows : List PartyRow) (r : Running) : Type 0 where
@@ -50,11 +88,33 @@ pub record IsRowOf (rows : List PartyRow) (r : Running) : Type 0 where
   pub only : rows ≡ row ∷ []
   pub task : IsTaskOf row.task r.request r.so_far
 
+-- the one row of a party that is gone
+pub record IsGoneRow (rows : List PartyRow) : Type 0 where
+  pub row : PartyRow
+  pub only : rows ≡ row ∷ []
+  pub task : row.task ≡ task.Gone
+
 -- the rows of a party
 abbrev pub AreRowsOf : List PartyRow → Party → Type 0
 AreRowsOf rows free = rows ≡ []
 AreRowsOf rows (running r) = IsRowOf rows r
-AreRowsOf rows gone = ⊥
+AreRowsOf rows gone = IsGoneRow rows
+
+-- ---- values
+
+abbrev pub is_kept_as : List ℕ → List ℕ → KeptValue → Bool
+is_kept_as party name v = bytes_eq party v.party && bytes_eq name v.name
+
+abbrev pub kept_of : KeptValue → Kept
+kept_of v = record { type = v.value_type; words = v.words; generation = v.generation }
+
+-- the value that a party kept last under a name, or what was found before
+abbrev pub kept_from : Option Kept → List ℕ → List ℕ → List KeptValue → Option Kept
+kept_from found party name [] = found
+kept_from found party name (v ∷ vs) = kept_from (if is_kept_as party name v then Some (kept_of v) else found) party name vs
+
+abbrev pub kept : List KeptValue → List ℕ → List ℕ → Option Kept
+kept values party name = kept_from None party name values
 
 -- ---- the machine
 
@@ -72,7 +132,7 @@ pub record Represents (m : Machine) (s : State) : Type 0 where
   pub words : m.words.items ≡ words_of s.memory m.boards.items
   pub parties : (p : List ℕ) → AreRowsOf (filter (is_row_of p) m.parties.items) (s.parties p)
   pub loans : (p n : List ℕ) → s.standing.loans p n ≡ None
-  pub values : (p n : List ℕ) → s.standing.values p n ≡ None
+  pub values : (p n : List ℕ) → s.standing.values p n ≡ kept m.values.items p n
 
 -- the numbers of a state are far from their end
 pub record IsBounded (s : State) : Type 0 where

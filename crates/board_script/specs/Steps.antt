@@ -1,30 +1,43 @@
 -- What the parts of a step do to a machine.
-use Rattle.std.specs.Prelude.{◌≡◌, ℕ, ◌+◌, ◌<◌, ◌≤◌, ◌^◌, ◌==◌, Bool, List, length, find, Option, Some, None, slice_index, slice_index_or, slice_set}
+use Rattle.std.specs.Prelude.{◌≡◌, ℕ, ◌+◌, ◌<◌, ◌≤◌, ◌^◌, ◌==◌, Bool, true, false, List, [], ◌∷◌, ◌++◌, length, find, Option, Some, None, IsSome, option_map, slice_index, slice_index_or, slice_set}
 use Rattle.std.specs.List.{position_from}
 use Rattle.board_model.specs.declared.answer.Reply.{Reply}
 use Rattle.board_model.specs.declared.answer.Reply.TheVariants as reply
 use Rattle.board_model.specs.declared.tables.Entry.{Entry}
-use Rattle.board_model.specs.OwedAccesses.{owed_write, to_write}
+use Rattle.board_model.specs.declared.value.ValueType.{ValueType}
+use Rattle.board_model.specs.OwedAccesses.{hear, is_finished, owed_read, owed_write, to_read, to_write}
 use Rattle.board_model.specs.Tables.{board_at, entry_at, entry_of, is_numbered}
 use Rattle.board_model.specs.Things.{Held}
-use Rattle.board_cell.specs.Calls.{Updating}
+use Rattle.board_cell.specs.Calls.{Getting, Updating, counter_of, words_of}
+use Rattle.board_script.specs.declared.machine.KeptValue.{KeptValue}
 use Rattle.board_script.specs.declared.machine.Machine.{Machine}
 use Rattle.board_script.specs.declared.machine.PartyRow.{PartyRow}
+use Rattle.board_script.specs.declared.machine.TableTask.{TableTask}
+use Rattle.board_script.specs.declared.machine.TableTask.TheVariants as table_task
 use Rattle.board_script.specs.declared.machine.Task.{Task}
 use Rattle.board_script.specs.declared.machine.Task.TheVariants as task
+use Rattle.board_script.specs.declared.step.OwedAccess.{OwedAccess}
+use Rattle.board_script.specs.declared.step.OwedAccess.TheVariants as owed
 use Rattle.board_script.specs.declared.step.OwedWrite.{OwedWrite}
-use Rattle.board_script.specs.Machine.{tables_of}
-use Rattle.board_script.specs.TableCalls.{IsCreate, IsEntryMut, IsWriter}
+use Rattle.board_script.specs.Machine.{is_row_of, tables_of}
+use Rattle.board_script.specs.TableCalls.{IsCreate, IsEntry, IsEntryMut, IsOpen, IsReader, IsWriter}
 
--- ---- updates
+-- ---- the access that is owed
 
--- an update owes an access
+abbrev pub is_gone : Task → Bool
+is_gone (task.Table t) = false
+is_gone (task.Get board call type name) = false
+is_gone (task.Fresh board call) = false
+is_gone (task.Update board call) = false
+is_gone task.Gone = true
+
+-- the call owes an access
 abbrev pub CanGoOn : Task → Type 0
-CanGoOn (task.Create f n k l attributes entries) = Unit {0}
-CanGoOn (task.Writer n x) = Unit {0}
-CanGoOn (task.EntryMut n x k type) = Unit {0}
-CanGoOn (task.Gen x) = Unit {0}
+CanGoOn (task.Table t) = Unit {0}
+CanGoOn (task.Get board call type name) = is_finished call.reading ≡ false
+CanGoOn (task.Fresh board call) = call.counter ≡ None
 CanGoOn (task.Update board call) = call.written ≤ length call.words
+CanGoOn task.Gone = ⊥
 
 -- the write is the one that the update owes
 pub record IsOwedWrite (board : ℕ) (call : Updating) (w : OwedWrite) : Type 0 where
@@ -32,25 +45,31 @@ pub record IsOwedWrite (board : ℕ) (call : Updating) (w : OwedWrite) : Type 0 
   pub access : to_write w.board w.word w.value ≡ owed_write board call.shape call.generation call.words call.written
   pub last : w.is_last ≡ (call.written == length call.words)
 
-abbrev pub IsOwedByUpdate : ℕ → Updating → Option OwedWrite → Type 0
-IsOwedByUpdate board call None = ⊥
-IsOwedByUpdate board call (Some w) = IsOwedWrite board call w
+-- the call owes this access
+abbrev pub IsOwedBy : Task → OwedAccess → Type 0
+IsOwedBy (task.Table t) owed.Table = Unit {0}
+IsOwedBy (task.Get board call type name) (owed.Read r) = to_read r.board r.word ≡ owed_read board call.shape call.reading
+IsOwedBy (task.Fresh board call) (owed.Read r) = to_read r.board r.word ≡ to_read board call.shape.first
+IsOwedBy (task.Update board call) (owed.Write w) = IsOwedWrite board call w
+IsOwedBy t o = ⊥
 
--- an update owes this write, and another call none
-abbrev pub IsOwedBy : Task → Option OwedWrite → Type 0
-IsOwedBy (task.Create f n k l attributes entries) o = o ≡ None
-IsOwedBy (task.Writer n x) o = o ≡ None
-IsOwedBy (task.EntryMut n x k type) o = o ≡ None
-IsOwedBy (task.Gen x) o = o ≡ None
-IsOwedBy (task.Update board call) o = IsOwedByUpdate board call o
+-- the party's row stands here, and its call owes this access
+pub record OwesAt (m : Machine) (party : List ℕ) (at : ℕ) (o : OwedAccess) : Type 0 where
+  pub stands : Some at ≡ position_from (is_row_of party) 0 m.parties.items
+  pub owes : (d : PartyRow) → IsOwedBy (slice_index_or m.parties.items at d).task o
 
--- one more access was made
-abbrev pub ticked : Task → Task
-ticked (task.Create f n k l attributes entries) = task.Create f n k l attributes entries
-ticked (task.Writer n x) = task.Writer n x
-ticked (task.EntryMut n x k type) = task.EntryMut n x k type
-ticked (task.Gen x) = task.Gen x
-ticked (task.Update board call) = task.Update board (record call { written = call.written + 1 })
+-- an access was made, and a read gave this word
+abbrev pub ticked : Task → ℕ → Task
+ticked (task.Get board call type name) v = task.Get board (record call { reading = hear call.shape.words call.reading v }) type name
+ticked (task.Fresh board call) v = task.Fresh board (record call { counter = Some v })
+ticked (task.Update board call) v = task.Update board (record call { written = call.written + 1 })
+ticked t v = t
+
+-- the access is the last of its call
+abbrev pub is_last : Task → ℕ → Bool
+is_last (task.Get board call type name) v = is_finished (hear call.shape.words call.reading v)
+is_last (task.Update board call) v = call.written == length call.words
+is_last t v = true
 
 -- ---- words
 
@@ -61,13 +80,26 @@ pub record HasWord (m : Machine) (board word : ℕ) : Type 0 where
   pub inside : place < length m.words.items
   pub word_inside : (d : List ℕ) → word < length (slice_index_or m.words.items place d)
 
+-- nothing of it changed
+pub record IsSame (old new : Machine) : Type 0 where
+  pub tables : tables_of new ≡ tables_of old
+  pub words : new.words.items ≡ old.words.items
+  pub parties : new.parties.items ≡ old.parties.items
+  pub values : new.values.items ≡ old.values.items
+  pub spent : new.spent ≡ old.spent
+
 -- one word of the board's words is set
 pub record IsStored (old new : Machine) (board word value : ℕ) : Type 0 where
   pub tables : tables_of new ≡ tables_of old
   pub parties : new.parties.items ≡ old.parties.items
+  pub values : new.values.items ≡ old.values.items
   pub spent : new.spent ≡ old.spent
   pub words : (place : ℕ) (d : List ℕ) → Some place ≡ position_from (is_numbered board) 0 old.boards.items
       → new.words.items ≡ slice_set old.words.items place (slice_set (slice_index_or old.words.items place d) word value)
+
+-- the word is this one
+abbrev pub IsLoaded : Machine → ℕ → ℕ → ℕ → Type 0
+IsLoaded m board word v = (place : ℕ) (d : List ℕ) → Some place ≡ position_from (is_numbered board) 0 m.boards.items → v ≡ slice_index (slice_index_or m.words.items place d) word
 
 -- the board and the entry stand, and the entry's counter is a word of the board
 pub record HasCounter (m : Machine) (board i : ℕ) : Type 0 where
@@ -86,12 +118,14 @@ IsCounter m board i g = (place : ℕ) (e : Entry) (d : List ℕ) → Some place 
 -- ---- calls on the tables
 
 -- a number can be drawn for what the call makes, and what it reads stands
-abbrev pub CanRun : Machine → Task → Type 0
-CanRun m (task.Create f n k l attributes entries) = m.last_board + 1 < 2 ^ 64
-CanRun m (task.Writer n x) = m.last_port + 1 < 2 ^ 64
-CanRun m (task.EntryMut n x k type) = Unit {0}
-CanRun m (task.Gen x) = HasCounter m x.board (entry_of x.kind)
-CanRun m (task.Update board call) = ⊥
+abbrev pub CanRun : Machine → TableTask → Type 0
+CanRun m (table_task.Create f n k l attributes entries) = m.last_board + 1 < 2 ^ 64
+CanRun m (table_task.Open f n k l needs) = Unit {0}
+CanRun m (table_task.Reader n x) = m.last_port + 1 < 2 ^ 64
+CanRun m (table_task.Writer n x) = m.last_port + 1 < 2 ^ 64
+CanRun m (table_task.Entry n x k type) = Unit {0}
+CanRun m (table_task.EntryMut n x k type) = Unit {0}
+CanRun m (table_task.Gen x) = HasCounter m x.board (entry_of x.kind)
 
 -- the counter is told, and nothing changes
 pub record IsGen (old new : Machine) (x : Held) (told : Reply) : Type 0 where
@@ -101,9 +135,44 @@ pub record IsGen (old new : Machine) (x : Held) (told : Reply) : Type 0 where
   pub same : new ≡ old
 
 -- what a call on the tables is told, and what it changes
-abbrev pub IsTold : Machine → Machine → List ℕ → Task → Reply → Type 0
-IsTold old new party (task.Create f n k l attributes entries) told = IsCreate old new party f n k l attributes entries told
-IsTold old new party (task.Writer n x) told = IsWriter old new n x told
-IsTold old new party (task.EntryMut n x k type) told = IsEntryMut old new n x k type told
-IsTold old new party (task.Gen x) told = IsGen old new x told
-IsTold old new party (task.Update board call) told = ⊥
+abbrev pub IsTold : Machine → Machine → List ℕ → TableTask → Reply → Type 0
+IsTold old new party (table_task.Create f n k l attributes entries) told = IsCreate old new party f n k l attributes entries told
+IsTold old new party (table_task.Open f n k l needs) told = IsOpen old new party f n k l needs told
+IsTold old new party (table_task.Reader n x) told = IsReader old new n x told
+IsTold old new party (table_task.Writer n x) told = IsWriter old new n x told
+IsTold old new party (table_task.Entry n x k type) told = IsEntry old new n x k type told
+IsTold old new party (table_task.EntryMut n x k type) told = IsEntryMut old new n x k type told
+IsTold old new party (table_task.Gen x) told = IsGen old new x told
+
+-- ---- reads that end
+
+-- the read has all of its words
+abbrev pub HasRead : Task → Type 0
+HasRead (task.Get board call type name) = is_finished call.reading ≡ true
+HasRead (task.Fresh board call) = IsSome call.counter
+HasRead t = ⊥
+
+-- the value, where it is to be kept
+abbrev pub kept_anew : List ℕ → Option (List ℕ) → ValueType → Getting → List KeptValue
+kept_anew party None type call = []
+kept_anew party (Some name) type call = record { party = party; name = name; value_type = type; words = words_of call.reading; generation = counter_of call.reading } ∷ []
+
+-- what a finished read tells
+abbrev pub read_told : Task → Option Reply
+read_told (task.Get board call type name) = Some (reply.Got type (words_of call.reading) (counter_of call.reading))
+read_told (task.Fresh board call) = option_map (λ v. reply.Fresh (v == call.generation)) call.counter
+read_told t = None
+
+-- the values that a finished read adds
+abbrev pub values_read : List ℕ → Task → List KeptValue
+values_read party (task.Get board call type name) = kept_anew party name type call
+values_read party t = []
+
+-- a finished read is told so, and its value is kept
+pub record IsReadTold (old new : Machine) (party : List ℕ) (t : Task) (told : Reply) : Type 0 where
+  pub told_is : read_told t ≡ Some told
+  pub values : new.values.items ≡ old.values.items ++ values_read party t
+  pub tables : tables_of new ≡ tables_of old
+  pub words : new.words.items ≡ old.words.items
+  pub parties : new.parties.items ≡ old.parties.items
+  pub spent : new.spent ≡ old.spent

@@ -1,15 +1,17 @@
 -- What the calls on the machine's tables do: they are those of the definitions.
 use Rattle.std.specs.Prelude.{◌≡◌, ℕ, List, Result, ◌++◌, ◌∷◌, [], map}
+use Rattle.std.specs.Str.{bytes_eq}
 use Rattle.board_model.specs.declared.answer.Reply.{Reply}
 use Rattle.board_model.specs.declared.answer.Reply.TheVariants as reply
 use Rattle.board_model.specs.declared.attributes.Attribute.{Attribute}
+use Rattle.board_model.specs.declared.attributes.Requirements.{Requirements}
 use Rattle.board_model.specs.declared.tables.Limits.{Limits}
 use Rattle.board_model.specs.declared.value.AddedEntry.{AddedEntry}
 use Rattle.board_model.specs.declared.value.Key.{Key}
 use Rattle.board_model.specs.declared.value.KeyType.{KeyType}
 use Rattle.board_model.specs.declared.value.ValueType.{ValueType}
 use Rattle.board_model.specs.Tables.{Tables, board_at, entry_found}
-use Rattle.board_model.specs.TableCalls.{create_asked, entry_mut_asked, writer_asked}
+use Rattle.board_model.specs.TableCalls.{create_asked, entry_asked, entry_mut_asked, open_asked, reader_asked, writer_asked}
 use Rattle.board_model.specs.Memory.{opening_of}
 use Rattle.board_model.specs.Things.{Held}
 use Rattle.board_model.specs.TypeTable.{key_detail, same_key, value_detail}
@@ -23,10 +25,21 @@ pub record IsAsked {E : Type 0} (old new : Machine) (error : E → Reply) (asked
   pub tables : tables_of new ≡ asked.1
   pub words : new.words.items ≡ old.words.items
   pub parties : new.parties.items ≡ old.parties.items
+  pub values : new.values.items ≡ old.values.items
   pub spent : new.spent ≡ old.spent
+
+abbrev pub IsOpen : Machine → Machine → List ℕ → List ℕ → List ℕ → KeyType → Limits → Requirements → Reply → Type 0
+IsOpen old new party factory name k limits needs told = IsAsked old new reply.OpenError (open_asked bytes_eq (tables_of old) party factory name (key_detail k) limits needs) told
+
+abbrev pub IsReader : Machine → Machine → List ℕ → Held → Reply → Type 0
+IsReader old new name x told = IsAsked old new reply.ReaderError (reader_asked (tables_of old) x name) told
 
 abbrev pub IsWriter : Machine → Machine → List ℕ → Held → Reply → Type 0
 IsWriter old new name x told = IsAsked old new reply.WriterError (writer_asked (tables_of old) x name) told
+
+abbrev pub IsEntry : Machine → Machine → List ℕ → Held → Key → ValueType → Reply → Type 0
+IsEntry old new name x k type told =
+    IsAsked old new reply.EntryError (entry_asked (tables_of old) x name (entry_found (board_at (tables_of old) x.board) (is_key k) (value_detail type))) told
 
 abbrev pub IsEntryMut : Machine → Machine → List ℕ → Held → Key → ValueType → Reply → Type 0
 IsEntryMut old new name x k type told =
@@ -43,4 +56,5 @@ pub record IsCreate (old new : Machine) (party factory name : List ℕ) (k : Key
   pub tables : tables_of new ≡ (create_asked (same_key k) (tables_of old) party factory name (key_detail k) limits attributes (map added_of entries)).1
   pub words : new.words.items ≡ words_with old.words.items entries told
   pub parties : new.parties.items ≡ old.parties.items
+  pub values : new.values.items ≡ old.values.items
   pub spent : new.spent ≡ old.spent

@@ -1,25 +1,19 @@
 //! Lines `begin P CALL`.
-ghost use Rattle.std.specs.Prelude.{◌≡◌, ◌+◌, ◌<◌, ◌≤◌, ◌^◌, true, IfOk, find, is_some};
+ghost use Rattle.std.specs.Prelude.{◌≡◌, ◌+◌, ◌<◌, ◌≤◌, ◌^◌, ◌||◌, true, IfOk, find, is_some};
 ghost use Rattle.std.specs.List.{list_all};
 ghost use Rattle.board_model.specs.LawfulSession.{has_key_type, is_typed_key};
-ghost use Rattle.board_model.specs.LineGrammar.{runs_call};
 ghost use Rattle.board_model.specs.Tables as tables;
 ghost use Rattle.board_model.specs.Things as held;
 ghost use Rattle.board_model.specs.declared.line.Call.TheVariants as call;
 ghost use Rattle.board_model.specs.declared.line.Line.TheVariants as line;
-ghost use Rattle.board_script.specs.Machine.{IsLed, Serves};
-ghost use Rattle.board_script.specs.Begins.{Checks};
+ghost use Rattle.board_script.specs.Machine.{IsLed, Serves, kept};
+ghost use Rattle.board_script.specs.Begins.{Checks, holds, holds_any, serves_call};
 
-use crate::lookups::{board_at, entry_at, entry_of, held_of_kind, place_of_party, thing_of};
-use crate::machine::{Held, Machine, PartyRow, Task};
-use crate::values::{
-    key_detail, same_key_type, same_type, type_of, type_of_key, value_detail, value_words,
-};
-use board_cell::{CellShape, UpdateCall};
-use board_model::{
-    AddedEntries, AddedEntry, Answer, Attributes, Board, BoardName, Call, Key, KeyType, Limits,
-    Name, Reason, ThingKind, Value, ValueType,
-};
+use crate::lookups::{board_at, entry_at, entry_of, held_of_kind, place_of_party, thing_of, value_of};
+use crate::machine::{Machine, PartyRow, TableTask, Task};
+use crate::values::{key_detail, same_key_type, same_type, type_of, type_of_key, value_detail, value_type_of, value_words};
+use board_cell::{CellShape, FreshCall, GetCall, UpdateCall};
+use board_model::{AddedEntries, AddedEntry, Answer, Attributes, Board, BoardName, Call, Entry, Key, KeyType, Limits, Name, Reason, Requirements, ThingKind, Value, ValueType};
 use std::alloc::AllocError;
 
 /// Whether a call may begin: what it has to do, or why not.
@@ -47,14 +41,35 @@ fn is_key_of(number: u64, key: &Key, boards: &[Board]) -> bool
     }
 }
 
-// Whether the party has a thing of this name.
-fn is_held(party: &Name, name: &Name, things: &[Held]) -> bool
-    ensures { result ≡ is_some (held.thing_of things.now party.now name.now) }
+// Where the words of an entry lie.
+fn shape_of(entry: &Entry) -> CellShape
+    ensures { result ≡ held.cell_shape entry.now.cell }
 {
-    thing_of(party, name, things).is_some()
+    CellShape {
+        first: entry.cell.first,
+        head: entry.cell.head,
+        words: entry.cell.words,
+    }
 }
 
 impl Machine {
+    // Whether the party has a thing or a value of this name.
+    fn holds(&self, party: &Name, name: &Name) -> bool
+        ensures { result ≡ holds self.now party.now name.now }
+    {
+        thing_of(party, name, &self.things).is_some() || value_of(party, name, &self.values).is_some()
+    }
+
+    // The same, where there is a name.
+    fn holds_any(&self, party: &Name, name: &Option<Name>) -> bool
+        ensures { result ≡ holds_any self.now party.now name.now }
+    {
+        match name {
+            Some(name) => self.holds(party, name),
+            None => false,
+        }
+    }
+
     fn check_create(
         &self,
         party: &Name,
@@ -67,20 +82,58 @@ impl Machine {
     ) -> Checked
         ensures { Checks self.now party.now (call.Create factory name key_type limits attributes entries) result }
     {
-        if is_held(party, &factory, &self.things) {
+        if self.holds(party, &factory) {
             return Checked::Refused(Reason::Taken);
         }
         if !have_key_type(key_type, entries.as_slice()) {
             return Checked::Refused(Reason::Type);
         }
-        Checked::Accepted(Task::Create {
+        Checked::Accepted(Task::Table(TableTask::Create {
             factory,
             name,
             key_type,
             limits,
             attributes,
             entries,
-        })
+        }))
+    }
+
+    fn check_open(
+        &self,
+        party: &Name,
+        factory: Name,
+        name: BoardName,
+        key_type: KeyType,
+        limits: Limits,
+        needs: Requirements,
+    ) -> Checked
+        ensures { Checks self.now party.now (call.Open factory name key_type limits needs) result }
+    {
+        if self.holds(party, &factory) {
+            return Checked::Refused(Reason::Taken);
+        }
+        Checked::Accepted(Task::Table(TableTask::Open {
+            factory,
+            name,
+            key_type,
+            limits,
+            needs,
+        }))
+    }
+
+    fn check_reader(&self, party: &Name, name: Name, factory: &Name) -> Checked
+        ensures { Checks self.now party.now (call.Reader name factory.now) result }
+    {
+        let Some(found) = held_of_kind(ThingKind::Factory, party, factory, &self.things) else {
+            return Checked::Refused(Reason::Unknown);
+        };
+        if self.holds(party, &name) {
+            return Checked::Refused(Reason::Taken);
+        }
+        Checked::Accepted(Task::Table(TableTask::Reader {
+            name,
+            factory: found,
+        }))
     }
 
     fn check_writer(&self, party: &Name, name: Name, factory: &Name) -> Checked
@@ -89,13 +142,40 @@ impl Machine {
         let Some(found) = held_of_kind(ThingKind::Factory, party, factory, &self.things) else {
             return Checked::Refused(Reason::Unknown);
         };
-        if is_held(party, &name, &self.things) {
+        if self.holds(party, &name) {
             return Checked::Refused(Reason::Taken);
         }
-        Checked::Accepted(Task::Writer {
+        Checked::Accepted(Task::Table(TableTask::Writer {
             name,
             factory: found,
-        })
+        }))
+    }
+
+    fn check_entry(
+        &self,
+        party: &Name,
+        name: Name,
+        reader: &Name,
+        key: Key,
+        value_type: ValueType,
+    ) -> Checked
+        ensures { Checks self.now party.now (call.Entry name reader.now key value_type) result }
+    {
+        let Some(found) = held_of_kind(ThingKind::Reader, party, reader, &self.things) else {
+            return Checked::Refused(Reason::Unknown);
+        };
+        if self.holds(party, &name) {
+            return Checked::Refused(Reason::Taken);
+        }
+        if !is_key_of(found.board, &key, &self.boards) {
+            return Checked::Refused(Reason::Type);
+        }
+        Checked::Accepted(Task::Table(TableTask::Entry {
+            name,
+            reader: found,
+            key,
+            value_type,
+        }))
     }
 
     fn check_entry_mut(
@@ -111,17 +191,61 @@ impl Machine {
         let Some(found) = held_of_kind(ThingKind::Writer, party, writer, &self.things) else {
             return Checked::Refused(Reason::Unknown);
         };
-        if is_held(party, &name, &self.things) {
+        if self.holds(party, &name) {
             return Checked::Refused(Reason::Taken);
         }
         if !is_key_of(found.board, &key, &self.boards) {
             return Checked::Refused(Reason::Type);
         }
-        Checked::Accepted(Task::EntryMut {
+        Checked::Accepted(Task::Table(TableTask::EntryMut {
             name,
             writer: found,
             key,
             value_type,
+        }))
+    }
+
+    fn check_get(&self, party: &Name, handle: &Name, name: Option<Name>) -> Result<Checked, AllocError>
+        requires { IsLed self.now }
+        ensures { IfOk result (Checks self.now party.now (call.Get handle.now name)) }
+    {
+        let Some(found) = held_of_kind(ThingKind::ReadHandle, party, handle, &self.things) else {
+            return Ok(Checked::Refused(Reason::Unknown));
+        };
+        let Some(entry) = entry_at(found.board, entry_of(&found.kind), &self.boards) else {
+            return Ok(Checked::Refused(Reason::Unknown));
+        };
+        if self.holds_any(party, &name) {
+            return Ok(Checked::Refused(Reason::Taken));
+        }
+        let shape = shape_of(entry);
+        let buffer = Vec::from_elem(self.alloc, 0, shape.words as usize)?;
+        Ok(Checked::Accepted(Task::Get {
+            board: found.board,
+            call: GetCall::new(shape, buffer),
+            value_type: value_type_of(&entry.value),
+            name,
+        }))
+    }
+
+    fn check_fresh(&self, party: &Name, handle: &Name, value: &Name) -> Checked
+        ensures { Checks self.now party.now (call.Fresh handle.now value.now) result }
+    {
+        let Some(found) = held_of_kind(ThingKind::ReadHandle, party, handle, &self.things) else {
+            return Checked::Refused(Reason::Unknown);
+        };
+        let Some(entry) = entry_at(found.board, entry_of(&found.kind), &self.boards) else {
+            return Checked::Refused(Reason::Unknown);
+        };
+        let Some(kept) = value_of(party, value, &self.values) else {
+            return Checked::Refused(Reason::Unknown);
+        };
+        if !same_type(&value_detail(kept.value_type), &entry.value) {
+            return Checked::Refused(Reason::Type);
+        }
+        Checked::Accepted(Task::Fresh {
+            board: found.board,
+            call: FreshCall::new(shape_of(entry), kept.generation),
         })
     }
 
@@ -139,11 +263,7 @@ impl Machine {
         if !same_type(&value_detail(type_of(value)), &entry.value) {
             return Ok(Checked::Refused(Reason::Type));
         }
-        let shape = CellShape {
-            first: entry.cell.first,
-            head: entry.cell.head,
-            words: entry.cell.words,
-        };
+        let shape = shape_of(entry);
         let generation = self.counter(found.board, place);
         let words = value_words(self.alloc, value)?;
         Ok(Checked::Accepted(Task::Update {
@@ -156,7 +276,7 @@ impl Machine {
         ensures { Checks self.now party.now (call.Gen handle.now) result }
     {
         match held_of_kind(ThingKind::WriteHandle, party, handle, &self.things) {
-            Some(handle) => Checked::Accepted(Task::Gen { handle }),
+            Some(handle) => Checked::Accepted(Task::Table(TableTask::Gen { handle })),
             None => Checked::Refused(Reason::Unknown),
         }
     }
@@ -164,7 +284,7 @@ impl Machine {
     // Whether the call may begin.
     fn check(&self, party: &Name, call: Call) -> Result<Checked, AllocError>
         requires led { IsLed self.now }
-        requires runs { runs_call call ≡ true }
+        requires served { serves_call call ≡ true }
         ensures { IfOk result (Checks self.now party.now call) }
     {
         match call {
@@ -176,13 +296,29 @@ impl Machine {
                 attributes,
                 entries,
             } => Ok(self.check_create(party, factory, name, key_type, limits, attributes, entries)),
+            Call::Open {
+                factory,
+                name,
+                key_type,
+                limits,
+                needs,
+            } => Ok(self.check_open(party, factory, name, key_type, limits, needs)),
+            Call::Reader { reader, factory } => Ok(self.check_reader(party, reader, &factory)),
             Call::Writer { writer, factory } => Ok(self.check_writer(party, writer, &factory)),
+            Call::Entry {
+                handle,
+                reader,
+                key,
+                value_type,
+            } => Ok(self.check_entry(party, handle, &reader, key, value_type)),
             Call::EntryMut {
                 handle,
                 writer,
                 key,
                 value_type,
             } => Ok(self.check_entry_mut(party, handle, &writer, key, value_type)),
+            Call::Get { handle, value } => self.check_get(party, &handle, value),
+            Call::Fresh { handle, value } => Ok(self.check_fresh(party, &handle, &value)),
             Call::Update { handle, value } => self.check_update(party, &handle, value),
             Call::Gen { handle } => Ok(self.check_gen(party, &handle)),
             _ => unreachable!(),
@@ -192,10 +328,13 @@ impl Machine {
     /// A line `begin P CALL`.
     pub(crate) fn begin(&mut self, party: Name, call: Call) -> Result<Answer, AllocError>
         requires led { IsLed self.old }
-        requires runs { runs_call call ≡ true }
+        requires served { serves_call call ≡ true }
         ensures { IfOk result (λ a. Serves self.old self.new (line.Begin party call) a) }
     {
-        if place_of_party(&party, &self.parties).is_some() {
+        if let Some(at) = place_of_party(&party, &self.parties) {
+            if self.parties[at].task.is_gone() {
+                return Ok(Answer::Refused(Reason::Abandoned));
+            }
             return Ok(Answer::Refused(Reason::Busy));
         }
         match self.check(&party, call)? {

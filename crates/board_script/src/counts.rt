@@ -1,11 +1,12 @@
 //! What is counted over the things.
 ghost use Rattle.std.specs.Prelude.{◌≡◌, true};
 ghost use Rattle.std.specs.List.{list_any};
+ghost use Rattle.std.specs.Str.{bytes_eq};
 ghost use Rattle.board_model.specs.Tables as tables;
 ghost use Rattle.board_script.specs.Counts.{is_of_writer};
 
 use crate::machine::Held;
-use board_model::Kind;
+use board_model::{Kind, Name};
 
 // Whether a thing keeps a writer slot.
 fn has_port(kind: &Kind) -> bool
@@ -41,4 +42,45 @@ pub(crate) fn has_write_handle(board: u64, entry: u64, things: &[Held]) -> bool
     things
         .iter()
         .any(|t| t.board == board && writes_entry(entry, &t.kind))
+}
+
+fn is_reader(kind: &Kind) -> bool
+    ensures { result ≡ tables.is_reader kind.now }
+{
+    match kind {
+        Kind::Reader { port: _ } => true,
+        _ => false,
+    }
+}
+
+/// The readers of the board.
+pub(crate) fn reader_slots(board: u64, things: &[Held]) -> u64
+    ensures { result ≡ tables.reader_slots board things.now }
+{
+    things
+        .iter()
+        .filter(|t| t.board == board && is_reader(&t.kind))
+        .count() as u64
+}
+
+/// Whether the party has a thing of the board.
+pub(crate) fn is_node(board: u64, party: &Name, things: &[Held]) -> bool
+    ensures { result ≡ tables.is_node bytes_eq board party.now things.now }
+{
+    things
+        .iter()
+        .any(|t| t.board == board && t.holder == *party)
+}
+
+/// The different parties with a thing of the board.
+pub(crate) fn nodes_taken(board: u64, things: &[Held]) -> u64
+    ensures { result ≡ tables.nodes_taken bytes_eq board things.now }
+{
+    let mut count: u64 = 0;
+    for (i, thing) in things.iter().enumerate() {
+        if thing.board == board && !is_node(board, &thing.holder, &things[i + 1..]) {
+            count += 1;
+        }
+    }
+    count
 }

@@ -1,12 +1,14 @@
 //! The machine that runs the lines of a script, and the program's top call.
 #![tactic(auto)]
 
+mod abandon;
 mod begin;
 mod counts;
 mod create;
 mod line;
 mod lookups;
 mod machine;
+mod open;
 mod ports;
 mod script;
 mod step;

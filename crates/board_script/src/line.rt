@@ -36,6 +36,7 @@ impl Machine {
             last_board: 0,
             last_port: 0,
             parties: Vec::new(alloc),
+            values: Vec::new(alloc),
             spent: false,
         }
     }
@@ -74,6 +75,10 @@ impl Machine {
             }
             Line::Step { party } => {
                 let answer = self.step(&party)?;
+                push_answer(&answer, out)
+            }
+            Line::Abandon { party } => {
+                let answer = self.abandon(party)?;
                 push_answer(&answer, out)
             }
             Line::Words { board } => match self.words_of(board) {

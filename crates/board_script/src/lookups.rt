@@ -5,12 +5,19 @@ ghost use Rattle.board_model.specs.Tables as tables;
 ghost use Rattle.board_model.specs.Things as held;
 ghost use Rattle.board_model.specs.Replies as replies;
 ghost use Rattle.board_model.specs.TypeTable as types;
-ghost use Rattle.board_script.specs.Machine.{is_row_of};
+ghost use Rattle.board_script.specs.Machine.{is_row_of, kept, kept_of};
 
-use crate::machine::{Held, PartyRow};
+use crate::machine::{Held, KeptValue, PartyRow};
 use crate::values::{key_bytes, same_key, same_type, type_of_key};
 use board_layout::{KeyMemory, TypeDetail};
-use board_model::{Board, Entry, Key, KeyType, Kind, Name, ThingKind};
+use board_model::{Board, BoardName, Entry, Key, KeyType, Kind, Name, ThingKind};
+
+/// The board with the name.
+pub(crate) fn board_named<'a>(name: &BoardName, boards: &'a [Board]) -> Option<&'a Board>
+    ensures { option_map (λ b. b.now) result ≡ find (tables.has_name name.now) boards.now }
+{
+    boards.iter().find(|b| b.name == *name)
+}
 
 /// The board with the number.
 pub(crate) fn board_at(number: u64, boards: &[Board]) -> Option<&Board>
@@ -50,6 +57,19 @@ pub(crate) fn thing_of<'a>(party: &Name, name: &Name, things: &'a [Held]) -> Opt
     things
         .iter()
         .find(|t| t.holder == *party && t.name == *name)
+}
+
+/// The value that a party kept last under a name.
+pub(crate) fn value_of<'a>(party: &Name, name: &Name, values: &'a [KeptValue]) -> Option<&'a KeptValue>
+    ensures { option_map (λ v. kept_of v.now) result ≡ kept values.now party.now name.now }
+{
+    let mut found = None;
+    for value in values {
+        if *party == value.party && *name == value.name {
+            found = Some(value);
+        }
+    }
+    found
 }
 
 fn is_kind(kind: ThingKind, of: &Kind) -> bool

@@ -1,16 +1,14 @@
 //! The machine: the tables, the words of each board, and the calls that run.
-use board_cell::{PlainWords, UpdateCall};
-use board_model::{
-    AddedEntries, Attributes, Board, BoardName, Key, KeyType, Limits, Name, Thing, ValueType,
-};
+use board_cell::{FreshCall, GetCall, PlainWords, UpdateCall};
+use board_model::{AddedEntries, Attributes, Board, BoardName, Key, KeyType, Limits, Name, Requirements, Thing, ValueType, Words};
 use std::alloc::Global;
 
 /// A thing of a board, under its party and its name.
 pub(crate) type Held = Thing<Name, Name>;
 
-/// What a call that runs has still to do.
+/// A call on the tables, with the things that it uses found.
 #[derive(Drop, Debug)]
-pub(crate) enum Task {
+pub(crate) enum TableTask {
     Create {
         factory: Name,
         name: BoardName,
@@ -19,9 +17,26 @@ pub(crate) enum Task {
         attributes: Attributes,
         entries: AddedEntries,
     },
+    Open {
+        factory: Name,
+        name: BoardName,
+        key_type: KeyType,
+        limits: Limits,
+        needs: Requirements,
+    },
+    Reader {
+        name: Name,
+        factory: Held,
+    },
     Writer {
         name: Name,
         factory: Held,
+    },
+    Entry {
+        name: Name,
+        reader: Held,
+        key: Key,
+        value_type: ValueType,
     },
     EntryMut {
         name: Name,
@@ -32,17 +47,46 @@ pub(crate) enum Task {
     Gen {
         handle: Held,
     },
+}
+
+/// What a call that runs has still to do.
+#[derive(Drop, Debug)]
+pub(crate) enum Task {
+    Table(TableTask),
+    /// The value is kept under the name, where there is one.
+    Get {
+        board: u64,
+        call: GetCall,
+        value_type: ValueType,
+        name: Option<Name>,
+    },
+    Fresh {
+        board: u64,
+        call: FreshCall,
+    },
     Update {
         board: u64,
         call: UpdateCall,
     },
+    /// Nothing, ever: the party was abandoned.
+    Gone,
 }
 
-/// A party whose call runs.
+/// A party whose call runs, or that is gone.
 #[derive(Drop, Debug)]
 pub(crate) struct PartyRow {
     pub(crate) name: Name,
     pub(crate) task: Task,
+}
+
+/// A value that a party read and kept under a name.
+#[derive(Drop, Debug)]
+pub(crate) struct KeptValue {
+    pub(crate) party: Name,
+    pub(crate) name: Name,
+    pub(crate) value_type: ValueType,
+    pub(crate) words: Words,
+    pub(crate) generation: u64,
 }
 
 /// Runs the lines of one script, one after another.
@@ -55,7 +99,8 @@ pub struct Machine {
     pub(crate) words: Vec<PlainWords>,
     pub(crate) last_board: u64,
     pub(crate) last_port: u64,
-    /// The parties that run a call, each once.
+    /// The parties that run a call or are gone, each once.
     pub(crate) parties: Vec<PartyRow>,
+    pub(crate) values: Vec<KeptValue>,
     pub(crate) spent: bool,
 }

@@ -1,16 +1,14 @@
-//! Writers and write handles.
-ghost use Rattle.std.specs.Prelude.{◌≡◌, ◌+◌, ◌^◌, ◌<◌, IfOk};
+//! Readers, writers and their handles.
+ghost use Rattle.std.specs.Prelude.{◌≡◌, ◌+◌, ◌^◌, ◌<◌, nat_le, find, IfOk};
 ghost use Rattle.board_model.specs.AnswerGrammar.{IsReply};
 ghost use Rattle.board_model.specs.Tables as tables;
-ghost use Rattle.board_script.specs.TableCalls.{IsWriter, IsEntryMut};
+ghost use Rattle.board_script.specs.TableCalls.{IsEntry, IsEntryMut, IsReader, IsWriter};
 
-use crate::counts::{has_write_handle, has_writer};
-use crate::lookups::find_entry;
+use crate::counts::{has_write_handle, has_writer, reader_slots};
+use crate::lookups::{board_at, find_entry};
 use crate::machine::{Held, Machine};
 use crate::values::value_detail;
-use board_model::{
-    Entry, EntryHandleMutError, Key, Kind, Name, Reply, Thing, ValueType, WriterCreateError,
-};
+use board_model::{Board, Entry, EntryHandleError, EntryHandleMutError, Key, Kind, Name, ReaderCreateError, Reply, Thing, ValueType, WriterCreateError};
 use std::alloc::AllocError;
 
 /// The port of a writer of a factory's board, or of the handles made from it.
@@ -33,7 +31,37 @@ fn entry_id(entry: &Entry) -> u64
     entry.cell.place
 }
 
+// Whether the board has as many readers as it may have.
+fn has_all_readers(number: u64, boards: &[Board], things: &[Held]) -> bool
+    ensures { result ≡ tables.holds_at (find (tables.is_numbered number) boards.now) (λ b. nat_le b.max_readers (tables.reader_slots b.number things.now)) }
+{
+    match board_at(number, boards) {
+        Some(board) => board.max_readers <= reader_slots(board.number, things),
+        None => false,
+    }
+}
+
 impl Machine {
+    /// Makes a reader, at a factory.
+    pub(crate) fn make_reader(&mut self, name: Name, factory: &Held) -> Result<Reply, AllocError>
+        requires { self.old.last_port + 1 < 2 ^ 64 }
+        ensures told { IfOk result (IsReader self.old self.new name factory.now) }
+        ensures is_reply { IfOk result IsReply }
+    {
+        if has_all_readers(factory.board, &self.boards, &self.things) {
+            return Ok(Reply::ReaderError(ReaderCreateError::ExceedsMaxSupportedReaders));
+        }
+        let port = self.last_port + 1;
+        self.things.push(Thing {
+            holder: factory.holder,
+            name,
+            board: factory.board,
+            kind: Kind::Reader { port },
+        })?;
+        self.last_port = port;
+        Ok(Reply::Number(port))
+    }
+
     /// Makes a writer, at a factory.
     pub(crate) fn make_writer(&mut self, name: Name, factory: &Held) -> Result<Reply, AllocError>
         requires { self.old.last_port + 1 < 2 ^ 64 }
@@ -54,6 +82,30 @@ impl Machine {
         Ok(Reply::Number(port))
     }
 
+    /// Makes a read handle, at a reader.
+    pub(crate) fn make_read_handle(
+        &mut self,
+        name: Name,
+        reader: &Held,
+        key: &Key,
+        value_type: ValueType,
+    ) -> Result<Reply, AllocError>
+        ensures told { IfOk result (IsEntry self.old self.new name reader.now key.now value_type) }
+        ensures is_reply { IfOk result IsReply }
+    {
+        let Some((entry, found)) = find_entry(reader.board, key, &value_detail(value_type), &self.boards) else {
+            return Ok(Reply::EntryError(EntryHandleError::EntryDoesNotExist));
+        };
+        let id = entry_id(found);
+        self.things.push(Thing {
+            holder: reader.holder,
+            name,
+            board: reader.board,
+            kind: Kind::ReadHandle { entry },
+        })?;
+        Ok(Reply::Number(id))
+    }
+
     /// Makes a write handle, at a writer.
     pub(crate) fn make_write_handle(
         &mut self,
@@ -65,12 +117,7 @@ impl Machine {
         ensures told { IfOk result (IsEntryMut self.old self.new name writer.now key.now value_type) }
         ensures is_reply { IfOk result IsReply }
     {
-        let Some((entry, found)) = find_entry(
-            writer.board,
-            key,
-            &value_detail(value_type),
-            &self.boards,
-        ) else {
+        let Some((entry, found)) = find_entry(writer.board, key, &value_detail(value_type), &self.boards) else {
             return Ok(Reply::EntryMutError(EntryHandleMutError::EntryDoesNotExist));
         };
         if has_write_handle(writer.board, entry, &self.things) {

@@ -1,16 +1,26 @@
 //! Lines `step P`.
 ghost use Rattle.std.specs.Prelude.{◌≡◌, ◌+◌, ◌<◌, ◌≤◌, ◌^◌, ◌==◌, IfOk, length, slice_set, slice_index_or};
 ghost use Rattle.std.specs.List.{remove};
+ghost use Rattle.board_cell.specs.Calls.{progress_of};
 ghost use Rattle.board_model.specs.AnswerGrammar.{IsReply};
 ghost use Rattle.board_model.specs.declared.line.Line.TheVariants as line;
 ghost use Rattle.board_script.specs.Machine.{IsLed, Serves};
-ghost use Rattle.board_script.specs.Steps.{CanGoOn, CanRun, HasCounter, HasWord, IsCounter, IsOwedBy, IsStored, IsTold, ticked};
+ghost use Rattle.board_script.specs.Steps as steps;
+ghost use Rattle.board_script.specs.Steps.{CanGoOn, CanRun, HasCounter, HasRead, HasWord, IsCounter, IsLoaded, IsOwedBy, IsReadTold, IsSame, IsStored, IsTold, OwesAt, ticked};
+ghost use Rattle.board_script.specs.declared.step.OwedAccess.TheVariants as owed;
 
 use crate::lookups::{entry_at, entry_of, place_of_board, place_of_party};
-use crate::machine::{Machine, PartyRow, Task};
-use board_cell::{Access as CellAccess, Words};
-use board_model::{Access, Answer, Name, Reason, Reply};
+use crate::machine::{KeptValue, Machine, PartyRow, TableTask, Task};
+use board_cell::{Access as CellAccess, Progress, Words as CellWords};
+use board_model::{Access, Answer, Name, Reason, Reply, Words};
 use std::alloc::AllocError;
+
+/// The read that a call owes.
+#[derive(Clone, Copy, Debug, PartialEq, Eq)]
+pub(crate) struct OwedRead {
+    pub(crate) board: u64,
+    pub(crate) word: u64,
+}
 
 /// The write that an update owes, and whether it is its last.
 #[derive(Clone, Copy, Debug, PartialEq, Eq)]
@@ -21,15 +31,53 @@ pub(crate) struct OwedWrite {
     pub(crate) is_last: bool,
 }
 
+/// The access that a call owes next.
+#[derive(Clone, Copy, Debug, PartialEq, Eq)]
+pub(crate) enum OwedAccess {
+    Table,
+    Read(OwedRead),
+    Write(OwedWrite),
+}
+
 impl Task {
-    /// The write that is owed, where the call is an update.
-    fn owed_write(&self) -> Option<OwedWrite>
+    /// Whether the party was abandoned.
+    pub(crate) fn is_gone(&self) -> bool
+        ensures { result ≡ steps.is_gone self.now }
+    {
+        match self {
+            Task::Gone => true,
+            _ => false,
+        }
+    }
+
+    /// The access that is owed.
+    fn owed(&self) -> OwedAccess
         requires { CanGoOn self.now }
         ensures { IsOwedBy self.now result }
     {
         match self {
+            Task::Table(_) => OwedAccess::Table,
+            Task::Get {
+                board,
+                call,
+                value_type: _,
+                name: _,
+            } => match call.next() {
+                CellAccess::Read { word } => OwedAccess::Read(OwedRead {
+                    board: *board,
+                    word,
+                }),
+                CellAccess::Write { word: _, value: _ } => unreachable!(),
+            },
+            Task::Fresh { board, call } => match call.next() {
+                CellAccess::Read { word } => OwedAccess::Read(OwedRead {
+                    board: *board,
+                    word,
+                }),
+                CellAccess::Write { word: _, value: _ } => unreachable!(),
+            },
             Task::Update { board, call } => match call.next() {
-                CellAccess::Write { word, value } => Some(OwedWrite {
+                CellAccess::Write { word, value } => OwedAccess::Write(OwedWrite {
                     board: *board,
                     word,
                     value,
@@ -37,20 +85,26 @@ impl Task {
                 }),
                 CellAccess::Read { word: _ } => unreachable!(),
             },
-            _ => None,
+            Task::Gone => unreachable!(),
         }
     }
 
-    /// An access of an update was made.
-    fn took(&mut self)
+    /// An access was made; a read gave this word.
+    fn took(&mut self, word: u64) -> Progress
         requires { CanGoOn self.old }
-        ensures { self.new ≡ ticked self.old }
+        ensures call { self.new ≡ ticked self.old word }
+        ensures progress { result ≡ progress_of (steps.is_last self.old word) }
     {
         match self {
-            Task::Update { board: _, call } => {
-                let _ = call.took(0);
-            }
-            _ => {}
+            Task::Get {
+                board: _,
+                call,
+                value_type: _,
+                name: _,
+            } => call.took(word),
+            Task::Fresh { board: _, call } => call.took(word),
+            Task::Update { board: _, call } => call.took(word),
+            _ => Progress::Done,
         }
     }
 }
@@ -61,15 +115,24 @@ impl Machine {
         requires { HasCounter self.now board entry }
         ensures { IsCounter self.now board entry result }
     {
-        match (
-            place_of_board(board, &self.boards),
-            entry_at(board, entry, &self.boards),
-        ) {
+        match (place_of_board(board, &self.boards), entry_at(board, entry, &self.boards)) {
             (Some(place), Some(entry)) => {
                 let words = self.words[place].as_slice();
                 words[entry.cell.first as usize]
             }
             _ => unreachable!(),
+        }
+    }
+
+    // Reads a word of a board.
+    fn read_word(&mut self, board: u64, word: u64) -> u64
+        requires { HasWord self.old board word }
+        ensures value { IsLoaded self.old board word result }
+        ensures same { IsSame self.old self.new }
+    {
+        match place_of_board(board, &self.boards) {
+            Some(place) => self.words[place].load(word),
+            None => unreachable!(),
         }
     }
 
@@ -85,13 +148,13 @@ impl Machine {
     }
 
     // The one step of a call on the tables.
-    fn run_table(&mut self, party: Name, task: Task) -> Result<Reply, AllocError>
+    fn run_table(&mut self, party: Name, task: TableTask) -> Result<Reply, AllocError>
         requires { CanRun self.old task }
         ensures told { IfOk result (IsTold self.old self.new party task) }
         ensures is_reply { IfOk result IsReply }
     {
         match task {
-            Task::Create {
+            TableTask::Create {
                 factory,
                 name,
                 key_type,
@@ -99,18 +162,138 @@ impl Machine {
                 attributes,
                 entries,
             } => self.make_board(party, factory, name, key_type, limits, attributes, entries),
-            Task::Writer { name, factory } => self.make_writer(name, &factory),
-            Task::EntryMut {
+            TableTask::Open {
+                factory,
+                name,
+                key_type,
+                limits,
+                needs,
+            } => self.make_factory(party, factory, &name, key_type, limits, &needs),
+            TableTask::Reader { name, factory } => self.make_reader(name, &factory),
+            TableTask::Writer { name, factory } => self.make_writer(name, &factory),
+            TableTask::Entry {
+                name,
+                reader,
+                key,
+                value_type,
+            } => self.make_read_handle(name, &reader, &key, value_type),
+            TableTask::EntryMut {
                 name,
                 writer,
                 key,
                 value_type,
             } => self.make_write_handle(name, &writer, &key, value_type),
-            Task::Gen { handle } => Ok(Reply::Generation(self.counter(
-                handle.board,
-                entry_of(&handle.kind),
-            ))),
-            Task::Update { .. } => unreachable!(),
+            TableTask::Gen { handle } => Ok(Reply::Generation(self.counter(handle.board, entry_of(&handle.kind)))),
+        }
+    }
+
+    // What a call that has read its last word is told. The value read is kept where the call names it.
+    fn tell_read(&mut self, party: Name, task: Task) -> Result<Reply, AllocError>
+        requires { HasRead task }
+        ensures told { IfOk result (IsReadTold self.old self.new party task) }
+        ensures is_reply { IfOk result IsReply }
+    {
+        match task {
+            Task::Get {
+                board: _,
+                call,
+                value_type,
+                name,
+            } => {
+                let generation = call.generation();
+                let words = call.into_buffer();
+                if let Some(name) = name {
+                    let copy = Vec::from_slice(self.alloc, &words)?;
+                    self.values.push(KeptValue {
+                        party,
+                        name,
+                        value_type,
+                        words: Words::from_vec(copy),
+                        generation,
+                    })?;
+                }
+                Ok(Reply::Got {
+                    value_type,
+                    words: Words::from_vec(words),
+                    generation,
+                })
+            }
+            Task::Fresh { board: _, call } => Ok(Reply::Fresh(call.answer())),
+            _ => unreachable!(),
+        }
+    }
+
+    // A step of a call on the tables.
+    fn step_table(&mut self, party: &Name, at: usize) -> Result<Answer, AllocError>
+        requires led { IsLed self.old }
+        requires owes { OwesAt self.old party.now at owed.Table }
+        ensures { IfOk result (λ a. Serves self.old self.new (line.Step party.now) a) }
+    {
+        let PartyRow { name, task } = self.parties.remove(at);
+        match task {
+            Task::Table(task) => {
+                let told = self.run_table(name, task)?;
+                Ok(Answer::Step {
+                    access: Access::Table,
+                    reply: Some(told),
+                })
+            }
+            _ => unreachable!(),
+        }
+    }
+
+    // A step of a call that reads a word.
+    fn step_read(&mut self, party: &Name, at: usize, read: OwedRead) -> Result<Answer, AllocError>
+        requires led { IsLed self.old }
+        requires owes { OwesAt self.old party.now at (owed.Read read) }
+        ensures { IfOk result (λ a. Serves self.old self.new (line.Step party.now) a) }
+    {
+        let value = self.read_word(read.board, read.word);
+        let access = Access::Read {
+            board: read.board,
+            word: read.word,
+            value,
+        };
+        match self.parties[at].task.took(value) {
+            Progress::More => Ok(Answer::Step {
+                access,
+                reply: None,
+            }),
+            Progress::Done => {
+                let PartyRow { name, task } = self.parties.remove(at);
+                let told = self.tell_read(name, task)?;
+                Ok(Answer::Step {
+                    access,
+                    reply: Some(told),
+                })
+            }
+        }
+    }
+
+    // A step of an update.
+    fn step_write(&mut self, party: &Name, at: usize, write: OwedWrite) -> Answer
+        requires led { IsLed self.old }
+        requires owes { OwesAt self.old party.now at (owed.Write write) }
+        ensures { Serves self.old self.new (line.Step party.now) result }
+    {
+        self.write_word(write.board, write.word, write.value);
+        let access = Access::Write {
+            board: write.board,
+            word: write.word,
+            value: write.value,
+        };
+        if write.is_last {
+            let _ = self.parties.remove(at);
+            Answer::Step {
+                access,
+                reply: Some(Reply::Done),
+            }
+        } else {
+            let _ = self.parties[at].task.took(0);
+            Answer::Step {
+                access,
+                reply: None,
+            }
         }
     }
 
@@ -122,36 +305,14 @@ impl Machine {
         let Some(at) = place_of_party(party, &self.parties) else {
             return Ok(Answer::Refused(Reason::Idle));
         };
-        match self.parties[at].task.owed_write() {
-            Some(write) => {
-                self.write_word(write.board, write.word, write.value);
-                let access = Access::Write {
-                    board: write.board,
-                    word: write.word,
-                    value: write.value,
-                };
-                if write.is_last {
-                    let _ = self.parties.remove(at);
-                    Ok(Answer::Step {
-                        access,
-                        reply: Some(Reply::Done),
-                    })
-                } else {
-                    self.parties[at].task.took();
-                    Ok(Answer::Step {
-                        access,
-                        reply: None,
-                    })
-                }
-            }
-            None => {
-                let PartyRow { name, task } = self.parties.remove(at);
-                let told = self.run_table(name, task)?;
-                Ok(Answer::Step {
-                    access: Access::Table,
-                    reply: Some(told),
-                })
-            }
+        let task = &self.parties[at].task;
+        if task.is_gone() {
+            return Ok(Answer::Refused(Reason::Abandoned));
+        }
+        match task.owed() {
+            OwedAccess::Table => self.step_table(party, at),
+            OwedAccess::Read(read) => self.step_read(party, at, read),
+            OwedAccess::Write(write) => Ok(self.step_write(party, at, write)),
         }
     }
 }

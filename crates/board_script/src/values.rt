@@ -19,6 +19,19 @@ pub(crate) fn value_detail(value_type: ValueType) -> TypeDetail
     }
 }
 
+/// The value type with these details.
+pub(crate) fn value_type_of(detail: &TypeDetail) -> ValueType
+    ensures { result ≡ types.value_type_of detail.now }
+{
+    if same_type(detail, &value_detail(ValueType::Bool)) {
+        ValueType::Bool
+    } else if same_type(detail, &value_detail(ValueType::U64)) {
+        ValueType::U64
+    } else {
+        ValueType::Q4
+    }
+}
+
 /// The type of a value.
 pub(crate) fn type_of(value: Value) -> ValueType
     ensures { result ≡ types.type_of value }

@@ -3,8 +3,14 @@ use Rattle.std.specs.Prelude.{OnOk}
 use Rattle.board_model.specs.declared.line.Line.{Line}
 use Rattle.board_model.specs.LineGrammar.{IsLine}
 use Rattle.board_script.specs.Machine.{Tells}
+use Rattle.board_script.proofs.CallChecks.{serves}
 use Rattle.board_script.proofs.Listings.{listed, not_listed, on_ok}
 use Rattle.board_script.proofs.machine.Machine.answer.Goals as goal
+
+pub begin-requires-clause-served : goal.begin-requires-clause-served
+begin-requires-clause-served c =
+    let l = subst IsLine c.in-Begin.is c.requires.line in
+    serves c.in-Begin.call l.runs
 
 pub returns-in-Some : goal.returns-in-Some
 returns-in-Some c =

@@ -1,4 +1,7 @@
-use Rattle.std.proofs.Common.{◌≡◌, ℕ, List, length, rules, refl, sym, ap, ◌∙◌, Option, Some, true}
+use Rattle.std.proofs.Common.{◌≡◌, ℕ, ◌<◌, ◌^◌, List, length, rules, refl, sym, ap, subst, ◌∙◌, Option, Some, true}
+use Rattle.board_layout.specs.declared.shape.CellShape.{CellShape}
+use Rattle.board_model.specs.Copies.{cell_end}
+use Rattle.board_cell.specs.Calls.{Updating}
 use Rattle.board_model.specs.declared.tables.Entry.{Entry}
 use Rattle.board_model.specs.declared.tables.ThingKind.TheVariants as thing_kind
 use Rattle.board_model.specs.Tables.{entry_at}
@@ -10,6 +13,9 @@ use Rattle.board_script.proofs.machine.Machine.check_update.Goals as goal
 
 abbrev an_entry : Entry → Option Entry
 an_entry e = Some e
+
+abbrev an_update : CellShape → ℕ → List ℕ → Updating
+an_update x g words = record { shape = x; generation = g; words = words; written = 0 }
 
 abbrev a_thing : Held → Option Held
 a_thing x = Some x
@@ -27,12 +33,14 @@ new-requires-clause-words c =
     let w : c.in_ok-words.words.items ≡ value_words c.args.value = search rules in
     let led = c.requires in
     ap (λ (ws : List ℕ). length ws) w ∙ value_fits c.args.self.now led.state led.represents led.sound c.in-Some.found.board c.entry_of-place.result c.in-Some-entry_at.entry.now e c.args.value t
+    ∙ ap (λ (x : CellShape). x.words) (sym c.shape_of-shape.ensures)
 
 pub new-requires-clause-shape : goal.new-requires-clause-shape
 new-requires-clause-shape c =
     let e : entry_at (tables_of c.args.self.now) c.in-Some.found.board c.entry_of-place.result ≡ an_entry c.in-Some-entry_at.entry.now = search rules in
     let led = c.requires in
-    cell_is_low c.args.self.now led.state led.represents led.sound c.in-Some.found.board c.entry_of-place.result c.in-Some-entry_at.entry.now e
+    subst (λ (x : CellShape). cell_end x < 2 ^ 64) (sym c.shape_of-shape.ensures)
+    (cell_is_low c.args.self.now led.state led.represents led.sound c.in-Some.found.board c.entry_of-place.result c.in-Some-entry_at.entry.now e)
 
 pub new-requires-clause-room : goal.new-requires-clause-room
 new-requires-clause-room c =
@@ -46,4 +54,5 @@ returns c =
     let t : same_type (value_detail (type_of c.args.value)) c.in-Some-entry_at.entry.now.value ≡ true = search rules in
     let w : c.in_ok-words.words.items ≡ value_words c.args.value = search rules in
     let h : of_kind thing_kind.WriteHandle (thing_of c.args.self.now.things.items c.args.party.now c.args.handle.now) ≡ a_thing c.in-Some.found = search rules in
-    λ s rep sound. update_begins c.args.self.now s rep sound c.in-Some.found.board c.entry_of-place.result c.in-Some-entry_at.entry.now e c.args.party.now c.args.handle.now c.in-Some.found c.args.value c.counter-generation.result c.in_ok-words.words.items c.new.result c.new.ensures refl c.entry_of-place.ensures h t c.counter-generation.ensures w
+    λ s rep sound. update_begins c.args.self.now s rep sound c.in-Some.found.board c.entry_of-place.result c.in-Some-entry_at.entry.now e c.args.party.now c.args.handle.now c.in-Some.found c.args.value c.counter-generation.result c.in_ok-words.words.items c.new.result
+    (c.new.ensures ∙ ap (λ (x : CellShape). an_update x c.counter-generation.result c.in_ok-words.words.items) c.shape_of-shape.ensures) refl c.entry_of-place.ensures h t c.counter-generation.ensures w

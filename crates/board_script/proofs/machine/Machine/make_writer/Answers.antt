@@ -19,6 +19,7 @@ returns-then-has_writer-clause-told c =
       tables = ap (λ p. p.1) (sym e);
       words = refl;
       parties = refl;
+      values = refl;
       spent = refl;
     }
 
@@ -31,5 +32,6 @@ returns-clause-told c =
       tables = ap (λ (ts : List Held). record (tables_of c.args.self.now) { things = ts; last_port = c.args.self.now.last_port + 1 }) c.in_ok-push.ensures.items ∙ ap (λ p. p.1) (sym e);
       words = refl;
       parties = refl;
+      values = refl;
       spent = refl;
     }

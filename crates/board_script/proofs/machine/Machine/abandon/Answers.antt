@@ -1,0 +1,48 @@
+use Rattle.std.proofs.Common.{◌≡◌, ℕ, ◌<◌, List, length, get_or, set, rules, refl, sym, ap, ◌∙◌, true, false, Option, Some, None}
+use Rattle.std.specs.List.{position_from}
+use Rattle.board_script.specs.declared.machine.PartyRow.{PartyRow}
+use Rattle.board_script.specs.Machine.{is_row_of}
+use Rattle.board_script.specs.Steps.{is_gone}
+use Rattle.board_script.proofs.Abandonments.{abandon_again, free_leaves, running_leaves}
+use Rattle.board_script.proofs.PartyRows.{gone_at, is_free, runs_at}
+use Rattle.board_script.proofs.Rows.{first_at, get_or-inside}
+use Rattle.board_script.proofs.machine.Machine.abandon.Goals as goal
+
+abbrev a_place : ℕ → Option ℕ
+a_place n = Some n
+
+pub index-requires : goal.index-requires
+index-requires c =
+    let place : a_place c.in-Some.at ≡ position_from (is_row_of c.args.party) 0 c.args.self.now.parties.items = search rules in
+    let first = first_at (is_row_of c.args.party) c.in-Some.at c.args.self.now.parties.items place in
+    search (rules, first.inside)
+
+pub index_mut-requires : goal.index_mut-requires
+index_mut-requires c =
+    let place : a_place c.in-Some.at ≡ position_from (is_row_of c.args.party) 0 c.args.self.now.parties.items = search rules in
+    let first = first_at (is_row_of c.args.party) c.in-Some.at c.args.self.now.parties.items place in
+    search (rules, first.inside)
+
+pub returns-in_default : goal.returns-in_default
+returns-in_default c =
+    let none : None ≡ position_from (is_row_of c.args.party) 0 c.args.self.now.parties.items = search rules in
+    λ s rep sound l. free_leaves c.args.self.now _ s rep c.args.party l refl refl refl refl (is_free c.args.self.now.parties.items s.parties rep.parties c.args.party none) c.in_ok-push.ensures.items
+
+pub returns-then-is_gone : goal.returns-then-is_gone
+returns-then-is_gone c =
+    let place : a_place c.in-Some.at ≡ position_from (is_row_of c.args.party) 0 c.args.self.now.parties.items = search rules in
+    let g : is_gone c.index.result.now.task ≡ true = search rules in
+    λ s rep sound l. (abandon_again s c.args.party (gone_at c.args.self.now.parties.items s.parties rep.parties c.args.party c.in-Some.at c.index.result.now place c.index.ensures g) l, rep)
+
+pub returns : goal.returns
+returns c =
+    let place : a_place c.in-Some.at ≡ position_from (is_row_of c.args.party) 0 c.args.self.now.parties.items = search rules in
+    let g : is_gone c.index.result.now.task ≡ false = search rules in
+    let items = c.args.self.now.parties.items in
+    let x = c.index.result.now in
+    let y = c.index_mut.result.now in
+    let first = first_at (is_row_of c.args.party) c.in-Some.at items place in
+    let same : y ≡ x = c.index_mut.ensures.value ∙ get_or-inside items c.in-Some.at y x first.inside ∙ sym c.index.ensures in
+    let not_gone : is_gone y.task ≡ false = ap (λ (z : PartyRow). is_gone z.task) same ∙ g in
+    λ s rep sound l.
+    running_leaves c.args.self.now _ s rep c.args.party l refl refl refl refl c.in-Some.at y (runs_at items s.parties rep.parties c.args.party c.in-Some.at y place c.index_mut.ensures.value not_gone) refl

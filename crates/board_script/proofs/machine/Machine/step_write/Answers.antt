@@ -1,0 +1,68 @@
+use Rattle.std.proofs.Common.{◌≡◌, ℕ, ◌<◌, ◌^◌, List, length, get_or, set, rules, refl, sym, ap, subst, ◌∙◌}
+use Rattle.board_script.specs.declared.machine.PartyRow.{PartyRow}
+use Rattle.board_script.specs.declared.step.OwedAccess.TheVariants as owed
+use Rattle.board_script.specs.Steps.{CanGoOn, ticked}
+use Rattle.board_script.proofs.OwedRows.{owed_row, row_inside, row_is, row_owes, row_runs}
+use Rattle.board_script.proofs.UpdateSteps.{row_goes_on, row_has_word, update_ends, update_goes_on}
+use Rattle.board_script.proofs.machine.Machine.step_write.Goals as goal
+
+pub write_word-requires : goal.write_word-requires
+write_word-requires c =
+    let m = c.args.self.now in
+    let party = c.args.party.now in
+    let o = owed.Write c.args.write in
+    let owes = c.requires.owes in
+    let led = c.requires.led in
+    row_has_word m led.state led.represents led.sound party c.args.at (owed_row m party c.args.at o owes) (row_runs m party c.args.at o owes led.state led.represents) c.args.write (row_owes m party c.args.at o owes)
+
+pub remove-requires : goal.remove-requires
+remove-requires c =
+    let inside = row_inside c.args.self.now c.args.party.now c.args.at (owed.Write c.args.write) c.requires.owes in
+    let still : c.args.at < length c.write_word.new.self.parties.items = subst (λ (xs : List PartyRow). c.args.at < length xs) (sym c.write_word.ensures.parties) inside in
+    search (rules, still)
+
+pub index_mut-requires : goal.index_mut-requires
+index_mut-requires c =
+    let inside = row_inside c.args.self.now c.args.party.now c.args.at (owed.Write c.args.write) c.requires.owes in
+    let still : c.args.at < length c.write_word.new.self.parties.items = subst (λ (xs : List PartyRow). c.args.at < length xs) (sym c.write_word.ensures.parties) inside in
+    search (rules, still)
+
+pub took-requires : goal.took-requires
+took-requires c =
+    let m = c.args.self.now in
+    let party = c.args.party.now in
+    let o = owed.Write c.args.write in
+    let owes = c.requires.owes in
+    let led = c.requires.led in
+    let y = c.index_mut.result.now in
+    let is = row_is m party c.args.at o owes y (c.index_mut.ensures.value ∙ ap (λ (xs : List PartyRow). get_or xs c.args.at y) c.write_word.ensures.parties) in
+    subst (λ (x : PartyRow). CanGoOn x.task) (sym is) (row_goes_on m led.state led.represents led.sound party c.args.at (owed_row m party c.args.at o owes) (row_runs m party c.args.at o owes led.state led.represents))
+
+pub returns-then-write : goal.returns-then-write
+returns-then-write c =
+    let m = c.args.self.now in
+    let party = c.args.party.now in
+    let o = owed.Write c.args.write in
+    let owes = c.requires.owes in
+    let board : c.args.write.board < 2 ^ 64 = search rules in
+    let word : c.args.write.word < 2 ^ 64 = search rules in
+    let value : c.args.write.value < 2 ^ 64 = search rules in
+    λ s rep sound l.
+    update_ends m s rep sound party c.args.at (owed_row m party c.args.at o owes) (row_runs m party c.args.at o owes s rep) c.args.write (row_owes m party c.args.at o owes) c.write_word.new.self _ c.write_word.ensures
+    (record { board = board; word = word; value = value }) l refl refl refl refl c.if-write.true c.remove.ensures.items
+
+pub returns-else-write : goal.returns-else-write
+returns-else-write c =
+    let m = c.args.self.now in
+    let party = c.args.party.now in
+    let o = owed.Write c.args.write in
+    let owes = c.requires.owes in
+    let y = c.index_mut.result.now in
+    let is = row_is m party c.args.at o owes y (c.index_mut.ensures.value ∙ ap (λ (xs : List PartyRow). get_or xs c.args.at y) c.write_word.ensures.parties) in
+    let board : c.args.write.board < 2 ^ 64 = search rules in
+    let word : c.args.write.word < 2 ^ 64 = search rules in
+    let value : c.args.write.value < 2 ^ 64 = search rules in
+    λ s rep sound l.
+    update_goes_on m s rep sound party c.args.at (owed_row m party c.args.at o owes) (row_runs m party c.args.at o owes s rep) c.args.write (row_owes m party c.args.at o owes) c.write_word.new.self _ c.write_word.ensures
+    (record { board = board; word = word; value = value }) l refl refl refl refl
+    (record { name = y.name; task = c.took.new.self }) (ap (λ (z : PartyRow). z.name) is) (c.took.ensures.call ∙ ap (λ (z : PartyRow). ticked z.task 0) is) c.if-write.false refl

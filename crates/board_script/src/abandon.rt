@@ -1,0 +1,30 @@
+//! Lines `abandon P`.
+ghost use Rattle.std.specs.Prelude.{◌≡◌, IfOk};
+ghost use Rattle.board_model.specs.declared.line.Line.TheVariants as line;
+ghost use Rattle.board_script.specs.Machine.{IsLed, Serves};
+
+use crate::lookups::place_of_party;
+use crate::machine::{Machine, PartyRow, Task};
+use board_model::{Answer, Name, Reason};
+use std::alloc::AllocError;
+
+impl Machine {
+    /// A line `abandon P`. The call of the party runs no more, and what it holds stands for good.
+    pub(crate) fn abandon(&mut self, party: Name) -> Result<Answer, AllocError>
+        requires { IsLed self.old }
+        ensures { IfOk result (λ a. Serves self.old self.new (line.Abandon party) a) }
+    {
+        let Some(at) = place_of_party(&party, &self.parties) else {
+            self.parties.push(PartyRow {
+                name: party,
+                task: Task::Gone,
+            })?;
+            return Ok(Answer::Gone);
+        };
+        if self.parties[at].task.is_gone() {
+            return Ok(Answer::Refused(Reason::Abandoned));
+        }
+        self.parties[at].task = Task::Gone;
+        Ok(Answer::Gone)
+    }
+}
