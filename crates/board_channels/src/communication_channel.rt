@@ -1,5 +1,5 @@
 //! What a channel does: senders add numbers to a queue under a name, and a receiver takes them in their order.
-ghost use Rattle.std.specs.Prelude.{◌≡◌, ℕ, List, Bool, codes};
+ghost use Rattle.std.specs.Prelude.{◌≡◌, ℕ, List, Bool, true, codes};
 
 use board_names::{
     CommunicationChannelCreateError, CommunicationChannelOpenError,
@@ -90,11 +90,19 @@ pub trait CommunicationChannelReceiver: CommunicationChannelParticipant + NamedC
 pub trait CommunicationChannelCreator: NamedConceptBuilder {
     type Receiver: CommunicationChannelReceiver;
 
+    ghost asked_capacity: { Self → ℕ };
+
+    ghost asked_overflow: { Self → Bool };
+
     /// A full channel gives its oldest number back in place of a refusal.
-    fn enable_safe_overflow(self) -> Self;
+    fn enable_safe_overflow(self) -> Self
+        ensures capacity { asked_capacity result ≡ asked_capacity self }
+        ensures overflow { asked_overflow result ≡ true };
 
     /// How many numbers the channel holds; 0 counts as 1.
-    fn buffer_size(self, value: usize) -> Self;
+    fn buffer_size(self, value: usize) -> Self
+        ensures capacity { asked_capacity result ≡ value }
+        ensures overflow { asked_overflow result ≡ asked_overflow self };
 
     /// The channel, and its receiver.
     ///

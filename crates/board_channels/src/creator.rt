@@ -108,6 +108,10 @@ impl NamedConceptBuilder for Creator {
 impl CommunicationChannelCreator for Creator {
     type Receiver = Duplex;
 
+    ghost asked_capacity = { λ c. c.capacity };
+
+    ghost asked_overflow = { λ c. c.overflow };
+
     fn enable_safe_overflow(mut self) -> Creator
         ensures { result ≡ record self { overflow = true } }
     {

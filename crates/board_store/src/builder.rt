@@ -206,6 +206,8 @@ impl StaticStorageBuilder for Builder {
 
     type Locked = Locked;
 
+    ghost owns_it = { λ b. b.owns };
+
     fn has_ownership(mut self, value: bool) -> Builder
         ensures { result ≡ record self { owns = value } }
     {

@@ -64,8 +64,11 @@ pub trait StaticStorageBuilder: NamedConceptBuilder {
 
     type Locked: StaticStorageLocked<Storage = Self::Storage>;
 
+    ghost owns_it: { Self → Bool };
+
     /// Whether what is made owns its name.
-    fn has_ownership(self, value: bool) -> Self;
+    fn has_ownership(self, value: bool) -> Self
+        ensures { owns_it result ≡ value };
 
     /// A storage with these bytes.
     ///
