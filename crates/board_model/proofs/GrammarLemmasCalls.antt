@@ -166,18 +166,18 @@ single_takes word a c h e =
     elim (chosen (bytes_eq word (codes "gen")) _ _ _ e) [
       | inl w ↦ head_of word (codes "gen") (a ∷ []) c w.0 (subst (Takes (codes "gen") (a ∷ [])) (some_is (call.Gen a) c w.1) (record { tokens = refl; is = h }))
       | inr i ↦ elim (chosen (bytes_eq word (codes "keys")) _ _ _ i.1) [
-          | inl w ↦ head_of word (codes "keys") (a ∷ []) c w.0 (subst (Takes (codes "keys") (a ∷ [])) (some_is (call.Keys a) c w.1) (record { tokens = refl; is = h }))
-          | inr j ↦ elim (chosen (bytes_eq word (codes "nodes")) _ _ _ j.1) [
-              | inl w ↦ head_of word (codes "nodes") (a ∷ []) c w.0 (subst (Takes (codes "nodes") (a ∷ [])) (some_is (call.Nodes a) c w.1) (record { tokens = refl; is = h }))
-              | inr k ↦ elim (chosen (bytes_eq word (codes "info")) _ _ _ k.1) [
-                  | inl w ↦ head_of word (codes "info") (a ∷ []) c w.0 (subst (Takes (codes "info") (a ∷ [])) (some_is (call.Info a) c w.1) (record { tokens = refl; is = h }))
-                  | inr l ↦ elim (chosen (bytes_eq word (codes "id")) _ _ _ l.1) [
-                      | inl w ↦ head_of word (codes "id") (a ∷ []) c w.0 (subst (Takes (codes "id") (a ∷ [])) (some_is (call.Id a) c w.1) (record { tokens = refl; is = h }))
-                      | inr m ↦ absurd (let bad = m.1 in cc)
-                    ]
-                ]
+        | inl w ↦ head_of word (codes "keys") (a ∷ []) c w.0 (subst (Takes (codes "keys") (a ∷ [])) (some_is (call.Keys a) c w.1) (record { tokens = refl; is = h }))
+        | inr j ↦ elim (chosen (bytes_eq word (codes "nodes")) _ _ _ j.1) [
+          | inl w ↦ head_of word (codes "nodes") (a ∷ []) c w.0 (subst (Takes (codes "nodes") (a ∷ [])) (some_is (call.Nodes a) c w.1) (record { tokens = refl; is = h }))
+          | inr k ↦ elim (chosen (bytes_eq word (codes "info")) _ _ _ k.1) [
+            | inl w ↦ head_of word (codes "info") (a ∷ []) c w.0 (subst (Takes (codes "info") (a ∷ [])) (some_is (call.Info a) c w.1) (record { tokens = refl; is = h }))
+            | inr l ↦ elim (chosen (bytes_eq word (codes "id")) _ _ _ l.1) [
+              | inl w ↦ head_of word (codes "id") (a ∷ []) c w.0 (subst (Takes (codes "id") (a ∷ [])) (some_is (call.Id a) c w.1) (record { tokens = refl; is = h }))
+              | inr m ↦ absurd (let bad = m.1 in cc)
             ]
+          ]
         ]
+      ]
     ]
 
 pair_takes : (word : List ℕ) (p : List ℕ × List ℕ) (c : Call) → is_name p.0 ≡ true → is_name p.1 ≡ true → pair_call word p ≡ Some c → Takes word (p.0 ∷ p.1 ∷ []) c
@@ -186,21 +186,21 @@ pair_takes word p c h k e =
     elim (chosen (bytes_eq word (codes "reader")) _ _ _ e) [
       | inl w ↦ head_of word (codes "reader") (p.0 ∷ p.1 ∷ []) c w.0 (subst (Takes (codes "reader") (p.0 ∷ p.1 ∷ [])) (some_is (call.Reader p.0 p.1) c w.1) (record { tokens = refl; is = (h, k) }))
       | inr i ↦ elim (chosen (bytes_eq word (codes "writer")) _ _ _ i.1) [
-          | inl w ↦ head_of word (codes "writer") (p.0 ∷ p.1 ∷ []) c w.0 (subst (Takes (codes "writer") (p.0 ∷ p.1 ∷ [])) (some_is (call.Writer p.0 p.1) c w.1) (record { tokens = refl; is = (h, k) }))
-          | inr j ↦ elim (chosen (bytes_eq word (codes "fresh")) _ _ _ j.1) [
-              | inl w ↦ head_of word (codes "fresh") (p.0 ∷ p.1 ∷ []) c w.0 (subst (Takes (codes "fresh") (p.0 ∷ p.1 ∷ [])) (some_is (call.Fresh p.0 p.1) c w.1) (record { tokens = refl; is = (h, k) }))
-              | inr l ↦ elim (chosen (bytes_eq word (codes "loan")) _ _ _ l.1) [
-                  | inl w ↦ head_of word (codes "loan") (p.0 ∷ p.1 ∷ []) c w.0 (subst (Takes (codes "loan") (p.0 ∷ p.1 ∷ [])) (some_is (call.Loan p.0 p.1) c w.1) (record { tokens = refl; is = (h, k) }))
-                  | inr m ↦ elim (chosen (bytes_eq word (codes "discard")) _ _ _ m.1) [
-                      | inl w ↦ head_of word (codes "discard") (p.0 ∷ p.1 ∷ []) c w.0 (subst (Takes (codes "discard") (p.0 ∷ p.1 ∷ [])) (some_is (call.Discard p.0 p.1) c w.1) (record { tokens = refl; is = (h, k) }))
-                      | inr n ↦ elim (chosen (bytes_eq word (codes "publish")) _ _ _ n.1) [
-                          | inl w ↦ head_of word (codes "publish") (p.0 ∷ p.1 ∷ []) c w.0 (subst (Takes (codes "publish") (p.0 ∷ p.1 ∷ [])) (some_is (call.Publish p.0 p.1) c w.1) (record { tokens = refl; is = (h, k) }))
-                          | inr o ↦ absurd (let bad = o.1 in cc)
-                        ]
-                    ]
-                ]
+        | inl w ↦ head_of word (codes "writer") (p.0 ∷ p.1 ∷ []) c w.0 (subst (Takes (codes "writer") (p.0 ∷ p.1 ∷ [])) (some_is (call.Writer p.0 p.1) c w.1) (record { tokens = refl; is = (h, k) }))
+        | inr j ↦ elim (chosen (bytes_eq word (codes "fresh")) _ _ _ j.1) [
+          | inl w ↦ head_of word (codes "fresh") (p.0 ∷ p.1 ∷ []) c w.0 (subst (Takes (codes "fresh") (p.0 ∷ p.1 ∷ [])) (some_is (call.Fresh p.0 p.1) c w.1) (record { tokens = refl; is = (h, k) }))
+          | inr l ↦ elim (chosen (bytes_eq word (codes "loan")) _ _ _ l.1) [
+            | inl w ↦ head_of word (codes "loan") (p.0 ∷ p.1 ∷ []) c w.0 (subst (Takes (codes "loan") (p.0 ∷ p.1 ∷ [])) (some_is (call.Loan p.0 p.1) c w.1) (record { tokens = refl; is = (h, k) }))
+            | inr m ↦ elim (chosen (bytes_eq word (codes "discard")) _ _ _ m.1) [
+              | inl w ↦ head_of word (codes "discard") (p.0 ∷ p.1 ∷ []) c w.0 (subst (Takes (codes "discard") (p.0 ∷ p.1 ∷ [])) (some_is (call.Discard p.0 p.1) c w.1) (record { tokens = refl; is = (h, k) }))
+              | inr n ↦ elim (chosen (bytes_eq word (codes "publish")) _ _ _ n.1) [
+                | inl w ↦ head_of word (codes "publish") (p.0 ∷ p.1 ∷ []) c w.0 (subst (Takes (codes "publish") (p.0 ∷ p.1 ∷ [])) (some_is (call.Publish p.0 p.1) c w.1) (record { tokens = refl; is = (h, k) }))
+                | inr o ↦ absurd (let bad = o.1 in cc)
+              ]
             ]
+          ]
         ]
+      ]
     ]
 
 behind_word : (word : List ℕ) (ts us : List (List ℕ)) (c : Call) → ts ≡ us → Takes word us c → Takes word ts c
@@ -240,8 +240,8 @@ name_if_any_takes (t ∷ ts) v e =
     let nn = name_takes t n.0 n.1 in
     subst (IsTakenName (t ∷ ts)) (some_is (Some n.0) v g.1) (record { tokens = chain t n.0 ts nn.token (end_takes ts g.0); is = nn.named })
   where
-  chain : (t n : List ℕ) (ts : List (List ℕ)) → t ≡ n → ts ≡ [] → t ∷ ts ≡ n ∷ []
-  chain t n ts e f = cc
+    chain : (t n : List ℕ) (ts : List (List ℕ)) → t ≡ n → ts ≡ [] → t ∷ ts ≡ n ∷ []
+    chain t n ts e f = cc
 
 get_takes : (ts : List (List ℕ)) (c : Call) → read_get ts ≡ Some c → Takes (codes "get") ts c
 unfolding read_get
@@ -252,10 +252,10 @@ get_takes ts c e =
     let nh = name_takes th.token h.0.0 th.is in
     let tv = name_if_any_takes h.0.1 v.0 v.1 in
     subst (Takes (codes "get") ts) (some_is (call.Get h.0.0 v.0) c v.2)
-      (record { tokens = chain ts h.0.1 th.token h.0.0 (name_tokens v.0) th.all tv.tokens nh.token; is = (nh.named, tv.is) })
+    (record { tokens = chain ts h.0.1 th.token h.0.0 (name_tokens v.0) th.all tv.tokens nh.token; is = (nh.named, tv.is) })
   where
-  chain : (t0 t1 : List (List ℕ)) (a x : List ℕ) (vs : List (List ℕ)) → t0 ≡ a ∷ t1 → t1 ≡ vs → a ≡ x → codes "get" ∷ t0 ≡ codes "get" ∷ x ∷ vs
-  chain t0 t1 a x vs e0 e1 ea = cc
+    chain : (t0 t1 : List (List ℕ)) (a x : List ℕ) (vs : List (List ℕ)) → t0 ≡ a ∷ t1 → t1 ≡ vs → a ≡ x → codes "get" ∷ t0 ≡ codes "get" ∷ x ∷ vs
+    chain t0 t1 a x vs e0 e1 ea = cc
 
 -- ---- calls with keys and values
 
@@ -301,13 +301,13 @@ entry_call_takes ts c e =
     let nk = key_takes tk.token k.0.0 tk.is in
     let nv = value_type_takes tv.token t.0.0 tv.is in
     subst (Takes (codes "entry") ts) (some_is (call.Entry m.0.0 w.0.0 k.0.0 t.0.0) c g.1)
-      (record {
-        tokens = chain ts m.0.1 w.0.1 k.0.1 t.0.1 tm.token tw.token tk.token tv.token m.0.0 w.0.0 (key_text k.0.0) (value_type_text t.0.0) tm.all tw.all tk.all tv.all (end_takes t.0.1 g.0) nm.token nw.token nk.token nv;
-        is = (nm.named, nw.named, nk.is);
-      })
+    (record {
+      tokens = chain ts m.0.1 w.0.1 k.0.1 t.0.1 tm.token tw.token tk.token tv.token m.0.0 w.0.0 (key_text k.0.0) (value_type_text t.0.0) tm.all tw.all tk.all tv.all (end_takes t.0.1 g.0) nm.token nw.token nk.token nv;
+      is = (nm.named, nw.named, nk.is);
+    })
   where
-  chain : (t0 t1 t2 t3 t4 : List (List ℕ)) (a b c d x y z u : List ℕ) → t0 ≡ a ∷ t1 → t1 ≡ b ∷ t2 → t2 ≡ c ∷ t3 → t3 ≡ d ∷ t4 → t4 ≡ [] → a ≡ x → b ≡ y → c ≡ z → d ≡ u → codes "entry" ∷ t0 ≡ codes "entry" ∷ x ∷ y ∷ z ∷ u ∷ []
-  chain t0 t1 t2 t3 t4 a b c d x y z u e0 e1 e2 e3 e4 ea eb ec ed = cc
+    chain : (t0 t1 t2 t3 t4 : List (List ℕ)) (a b c d x y z u : List ℕ) → t0 ≡ a ∷ t1 → t1 ≡ b ∷ t2 → t2 ≡ c ∷ t3 → t3 ≡ d ∷ t4 → t4 ≡ [] → a ≡ x → b ≡ y → c ≡ z → d ≡ u → codes "entry" ∷ t0 ≡ codes "entry" ∷ x ∷ y ∷ z ∷ u ∷ []
+    chain t0 t1 t2 t3 t4 a b c d x y z u e0 e1 e2 e3 e4 ea eb ec ed = cc
 
 -- three tokens and no more
 three_tokens : (word : List ℕ) (t0 t1 t2 t3 : List (List ℕ)) (a b c x y z : List ℕ) → t0 ≡ a ∷ t1 → t1 ≡ b ∷ t2 → t2 ≡ c ∷ t3 → t3 ≡ [] → a ≡ x → b ≡ y → c ≡ z → word ∷ t0 ≡ word ∷ x ∷ y ∷ z ∷ []
@@ -327,15 +327,16 @@ open_takes ts c e =
     let nn = board_name_takes tn.token n.0.0 tn.is in
     let nk = key_type_takes tk.token k.0.0 tk.is in
     subst (Takes (codes "open") ts) (some_is (call.Open f.0.0 n.0.0 k.0.0 no_limits no_needs) c g.1)
-      (record {
-        tokens = three_tokens (codes "open") ts f.0.1 n.0.1 k.0.1 tf.token tn.token tk.token f.0.0 n.0.0 (key_type_text k.0.0) tf.all tn.all tk.all (end_takes k.0.1 g.0) nf.token nn.token nk;
-        is = (nf.named, nn.named, record { readers = tt; nodes = tt }, record { pairs = record { few = few_pairs; each = tt }; few = few_keys; each = tt });
-      })
+    (record {
+      tokens = three_tokens (codes "open") ts f.0.1 n.0.1 k.0.1 tf.token tn.token tk.token f.0.0 n.0.0 (key_type_text k.0.0) tf.all tn.all tk.all (end_takes k.0.1 g.0) nf.token nn.token nk;
+      is = (nf.named, nn.named, record { readers = tt; nodes = tt }, record { pairs = record { few = few_pairs; each = tt }; few = few_keys; each = tt });
+    })
   where
-  few_pairs : length {A = Attribute} [] ≤ 8
-  few_pairs = omega arith
-  few_keys : length {A = List ℕ} [] ≤ 8
-  few_keys = omega arith
+    few_pairs : length {A = Attribute} [] ≤ 8
+    few_pairs = omega arith
+
+    few_keys : length {A = List ℕ} [] ≤ 8
+    few_keys = omega arith
 
 put_takes : (ts : List (List ℕ)) (c : Call) → read_put ts ≡ Some c → Takes (codes "put") ts c
 unfolding read_put
@@ -351,10 +352,10 @@ put_takes ts c e =
     let ni = number_takes ti.token i.0.0 ti.is in
     let nw = number_takes tw.token w.0.0 tw.is in
     subst (Takes (codes "put") ts) (some_is (call.Put l.0.0 i.0.0 w.0.0) c g.1)
-      (record {
-        tokens = three_tokens (codes "put") ts l.0.1 i.0.1 w.0.1 tl.token ti.token tw.token l.0.0 (decimal i.0.0) (decimal w.0.0) tl.all ti.all tw.all (end_takes w.0.1 g.0) nl.token ni.0 nw.0;
-        is = (nl.named, ni.1, nw.1);
-      })
+    (record {
+      tokens = three_tokens (codes "put") ts l.0.1 i.0.1 w.0.1 tl.token ti.token tw.token l.0.0 (decimal i.0.0) (decimal w.0.0) tl.all ti.all tw.all (end_takes w.0.1 g.0) nl.token ni.0 nw.0;
+      is = (nl.named, ni.1, nw.1);
+    })
 
 fill_takes : (ts : List (List ℕ)) (c : Call) → read_fill ts ≡ Some c → Takes (codes "fill") ts c
 unfolding read_fill
@@ -370,10 +371,10 @@ fill_takes ts c e =
     let nm = name_takes tm.token m.0.0 tm.is in
     let nv = value_takes tv.token v.0.0 tv.is in
     subst (Takes (codes "fill") ts) (some_is (call.Fill l.0.0 m.0.0 v.0.0) c g.1)
-      (record {
-        tokens = three_tokens (codes "fill") ts l.0.1 m.0.1 v.0.1 tl.token tm.token tv.token l.0.0 m.0.0 (value_text v.0.0) tl.all tm.all tv.all (end_takes v.0.1 g.0) nl.token nm.token nv.token;
-        is = (nl.named, nm.named, nv.is);
-      })
+    (record {
+      tokens = three_tokens (codes "fill") ts l.0.1 m.0.1 v.0.1 tl.token tm.token tv.token l.0.0 m.0.0 (value_text v.0.0) tl.all tm.all tv.all (end_takes v.0.1 g.0) nl.token nm.token nv.token;
+      is = (nl.named, nm.named, nv.is);
+    })
 
 update_takes : (ts : List (List ℕ)) (c : Call) → read_update ts ≡ Some c → Takes (codes "update") ts c
 unfolding read_update
@@ -399,24 +400,24 @@ plain_call_takes word ts c e =
     elim (chosen (bytes_eq word (codes "open")) _ _ _ e) [
       | inl a ↦ head_of word (codes "open") ts c a.0 (open_takes ts c a.1)
       | inr a ↦ elim (chosen (bytes_eq word (codes "entry")) _ _ _ a.1) [
-          | inl b ↦ head_of word (codes "entry") ts c b.0 (entry_call_takes ts c b.1)
-          | inr b ↦ elim (chosen (bytes_eq word (codes "entrymut")) _ _ _ b.1) [
-              | inl d ↦ head_of word (codes "entrymut") ts c d.0 (entry_mut_takes ts c d.1)
-              | inr d ↦ elim (chosen (bytes_eq word (codes "get")) _ _ _ d.1) [
-                  | inl f ↦ head_of word (codes "get") ts c f.0 (get_takes ts c f.1)
-                  | inr f ↦ elim (chosen (bytes_eq word (codes "update")) _ _ _ f.1) [
-                      | inl g ↦ head_of word (codes "update") ts c g.0 (update_takes ts c g.1)
-                      | inr g ↦ elim (chosen (bytes_eq word (codes "put")) _ _ _ g.1) [
-                          | inl h ↦ head_of word (codes "put") ts c h.0 (put_takes ts c h.1)
-                          | inr h ↦ elim (chosen (bytes_eq word (codes "fill")) _ _ _ h.1) [
-                              | inl k ↦ head_of word (codes "fill") ts c k.0 (fill_takes ts c k.1)
-                              | inr k ↦ named_takes word ts c k.1
-                            ]
-                        ]
-                    ]
+        | inl b ↦ head_of word (codes "entry") ts c b.0 (entry_call_takes ts c b.1)
+        | inr b ↦ elim (chosen (bytes_eq word (codes "entrymut")) _ _ _ b.1) [
+          | inl d ↦ head_of word (codes "entrymut") ts c d.0 (entry_mut_takes ts c d.1)
+          | inr d ↦ elim (chosen (bytes_eq word (codes "get")) _ _ _ d.1) [
+            | inl f ↦ head_of word (codes "get") ts c f.0 (get_takes ts c f.1)
+            | inr f ↦ elim (chosen (bytes_eq word (codes "update")) _ _ _ f.1) [
+              | inl g ↦ head_of word (codes "update") ts c g.0 (update_takes ts c g.1)
+              | inr g ↦ elim (chosen (bytes_eq word (codes "put")) _ _ _ g.1) [
+                | inl h ↦ head_of word (codes "put") ts c h.0 (put_takes ts c h.1)
+                | inr h ↦ elim (chosen (bytes_eq word (codes "fill")) _ _ _ h.1) [
+                  | inl k ↦ head_of word (codes "fill") ts c k.0 (fill_takes ts c k.1)
+                  | inr k ↦ named_takes word ts c k.1
                 ]
+              ]
             ]
+          ]
         ]
+      ]
     ]
 
 pub call_takes : (word : List ℕ) (ts : List (List ℕ)) (c : Call) → read_call word ts ≡ Some c → Takes word ts c
@@ -445,8 +446,8 @@ create_again f n k l attrs es h r =
     let b2 = both (is_none l.max_readers) (is_none l.max_nodes) b1.0 in
     alike l attrs (no_limit l b2.0 b2.1) (no_items attrs b1.1)
   where
-  alike : (l : Limits) (attrs : List Attribute) → l ≡ no_limits → attrs ≡ [] → read_call_tokens (call_tokens (call.Create f n k l attrs es)) ≡ Some (call.Create f n k l attrs es)
-  alike l attrs el ea = rw (el, ea) (create_plain_again f n k es h.0 h.1 h.4)
+    alike : (l : Limits) (attrs : List Attribute) → l ≡ no_limits → attrs ≡ [] → read_call_tokens (call_tokens (call.Create f n k l attrs es)) ≡ Some (call.Create f n k l attrs es)
+    alike l attrs el ea = rw (el, ea) (create_plain_again f n k es h.0 h.1 h.4)
 
 open_plain_again : (f n : List ℕ) (k : KeyType) → is_name f ≡ true → is_board_name n ≡ true → read_open (f ∷ n ∷ key_type_text k ∷ []) ≡ Some (call.Open f n k no_limits no_needs)
 unfolding read_open
@@ -463,8 +464,8 @@ open_again f n k l needs h r =
     let b3 = both (is_none l.max_readers) (is_none l.max_nodes) b2.0 in
     alike l needs (no_limit l b3.0 b3.1) (no_need needs (no_items needs.pairs b2.1) (no_items needs.keys b1.1))
   where
-  alike : (l : Limits) (needs : Requirements) → l ≡ no_limits → needs ≡ no_needs → read_call_tokens (call_tokens (call.Open f n k l needs)) ≡ Some (call.Open f n k l needs)
-  alike l needs el en = rw (el, en) (open_plain_again f n k h.0 h.1)
+    alike : (l : Limits) (needs : Requirements) → l ≡ no_limits → needs ≡ no_needs → read_call_tokens (call_tokens (call.Open f n k l needs)) ≡ Some (call.Open f n k l needs)
+    alike l needs el en = rw (el, en) (open_plain_again f n k h.0 h.1)
 
 pub bare_again : (c : Call) → IsCall c → is_bare c ≡ true → read_call_tokens (call_tokens c) ≡ Some c
 unfolding read_call read_plain_call read_entry_call read_entry_mut read_get read_update read_put read_fill read_named_call single_call pair_call

@@ -41,14 +41,14 @@ abandon_takes ts l e =
     let p = bind_some (read_one_name ts) (λ p. Some (line.Abandon p)) l e in
     let t = one_takes ts p.0 p.1 in
     subst (TakesLine (codes "abandon" ∷ ts)) (some_is (line.Abandon p.0) l p.2)
-      (record { tokens = ap (λ (x : List (List ℕ)). codes "abandon" ∷ x) t.tokens; is = t.named })
+    (record { tokens = ap (λ (x : List (List ℕ)). codes "abandon" ∷ x) t.tokens; is = t.named })
 
 drop_takes : (ts : List (List ℕ)) (l : Line) → (read_two_names ts >>= λ p. Some (line.Release p.0 p.1)) ≡ Some l → TakesLine (codes "drop" ∷ ts) l
 drop_takes ts l e =
     let p = bind_some (read_two_names ts) (λ p. Some (line.Release p.0 p.1)) l e in
     let t = two_take ts p.0 p.1 in
     subst (TakesLine (codes "drop" ∷ ts)) (some_is (line.Release p.0.0 p.0.1) l p.2)
-      (record { tokens = ap (λ (x : List (List ℕ)). codes "drop" ∷ x) t.tokens; is = (t.first, t.second) })
+    (record { tokens = ap (λ (x : List (List ℕ)). codes "drop" ∷ x) t.tokens; is = (t.first, t.second) })
 
 words_takes : (ts : List (List ℕ)) (l : Line) → read_words ts ≡ Some l → TakesLine (codes "words" ∷ ts) l
 unfolding read_words
@@ -72,15 +72,15 @@ plain_line_takes word ts l e =
     elim (chosen (bytes_eq word (codes "step")) _ _ _ e) [
       | inl h ↦ head_of word (codes "step") ts l h.0 (step_takes ts l h.1)
       | inr h ↦ elim (chosen (bytes_eq word (codes "drop")) _ _ _ h.1) [
-          | inl i ↦ head_of word (codes "drop") ts l i.0 (drop_takes ts l i.1)
-          | inr i ↦ elim (chosen (bytes_eq word (codes "abandon")) _ _ _ i.1) [
-              | inl j ↦ head_of word (codes "abandon") ts l j.0 (abandon_takes ts l j.1)
-              | inr j ↦ elim (chosen (bytes_eq word (codes "words")) _ _ _ j.1) [
-                  | inl k ↦ head_of word (codes "words") ts l k.0 (words_takes ts l k.1)
-                  | inr k ↦ absurd (let bad = k.1 in cc)
-                ]
-            ]
+        | inl i ↦ head_of word (codes "drop") ts l i.0 (drop_takes ts l i.1)
+        | inr i ↦ elim (chosen (bytes_eq word (codes "abandon")) _ _ _ i.1) [
+          | inl j ↦ head_of word (codes "abandon") ts l j.0 (abandon_takes ts l j.1)
+          | inr j ↦ elim (chosen (bytes_eq word (codes "words")) _ _ _ j.1) [
+            | inl k ↦ head_of word (codes "words") ts l k.0 (words_takes ts l k.1)
+            | inr k ↦ absurd (let bad = k.1 in cc)
+          ]
         ]
+      ]
     ]
 
 formed_takes : (ts : List (List ℕ)) (l : Line) → read_formed ts ≡ Some l → TakesLine ts l

@@ -125,14 +125,14 @@ module _ (m : Machine) (s : State) (rep : Represents m s) (sound : Sound s) (n i
     -- a get that begins
     pub get_begins : (name : Option (List ℕ)) (begun : Getting) (type : ValueType) → begun ≡ record { shape = cell_shape e.cell; reading = opening } → holds_any m party name ≡ false → type ≡ value_type_of e.value
         → IsChecked (call_reason s.standing party (call.Get handle name) (request_of s.standing s.published party (call.Get handle name))) (request_of s.standing s.published party (call.Get handle name))
-            (checked.Accepted (task.Get n begun type name))
+        (checked.Accepted (task.Get n begun type name))
     get_begins name begun type is untaken t =
         rw (fetch_asked name) (rw (taken_is m s rep party name ∙ untaken) refl, record { fetch = fetched name; request = refl; board_is = nb; call_is = is; type_is = t; name_is = refl })
 
     -- a get whose name is taken
     pub get_taken : (name : Option (List ℕ)) → holds_any m party name ≡ true
         → IsChecked (call_reason s.standing party (call.Get handle name) (request_of s.standing s.published party (call.Get handle name))) (request_of s.standing s.published party (call.Get handle name))
-            (checked.Refused reason.Taken)
+        (checked.Refused reason.Taken)
     get_taken name taken = rw (fetch_asked name) (rw (taken_is m s rep party name ∙ taken) refl)
 
     module _ (name : List ℕ) (k : Kept) (stands : kept m.values.items party name ≡ Some k) where
@@ -145,13 +145,13 @@ module _ (m : Machine) (s : State) (rep : Represents m s) (sound : Sound s) (n i
       -- a look that begins
       pub fresh_begins : (begun : Asking) → begun ≡ record { shape = cell_shape e.cell; generation = k.generation; counter = None } → same_type (value_detail k.type) e.value ≡ true
           → IsChecked (call_reason s.standing party (call.Fresh handle name) (request_of s.standing s.published party (call.Fresh handle name))) (request_of s.standing s.published party (call.Fresh handle name))
-              (checked.Accepted (task.Fresh n begun))
+          (checked.Accepted (task.Fresh n begun))
       fresh_begins begun is typed = rw look_asked (rw typed refl, record { look = looked; request = refl; board_is = nb; call_is = is })
 
       -- a look at a value of another type
       pub fresh_mistyped : same_type (value_detail k.type) e.value ≡ false
           → IsChecked (call_reason s.standing party (call.Fresh handle name) (request_of s.standing s.published party (call.Fresh handle name))) (request_of s.standing s.published party (call.Fresh handle name))
-              (checked.Refused reason.Type)
+          (checked.Refused reason.Type)
       fresh_mistyped typed = rw look_asked (rw typed refl)
 
   -- an update that begins

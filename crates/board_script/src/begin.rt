@@ -9,11 +9,19 @@ ghost use Rattle.board_model.specs.declared.line.Line.TheVariants as line;
 ghost use Rattle.board_script.specs.Machine.{IsLed, Serves, kept};
 ghost use Rattle.board_script.specs.Begins.{Checks, holds, holds_any, serves_call};
 
-use crate::lookups::{board_at, entry_at, entry_of, held_of_kind, place_of_party, thing_of, value_of};
+use crate::lookups::{
+    board_at, entry_at, entry_of, held_of_kind, place_of_party, thing_of, value_of,
+};
 use crate::machine::{Machine, PartyRow, TableTask, Task};
-use crate::values::{key_detail, same_key_type, same_type, type_of, type_of_key, value_detail, value_type_of, value_words};
+use crate::values::{
+    key_detail, same_key_type, same_type, type_of, type_of_key, value_detail, value_type_of,
+    value_words,
+};
 use board_cell::{CellShape, FreshCall, GetCall, UpdateCall};
-use board_model::{AddedEntries, AddedEntry, Answer, Attributes, Board, BoardName, Call, Entry, Key, KeyType, Limits, Name, Reason, Requirements, ThingKind, Value, ValueType};
+use board_model::{
+    AddedEntries, AddedEntry, Answer, Attributes, Board, BoardName, Call, Entry, Key, KeyType,
+    Limits, Name, Reason, Requirements, ThingKind, Value, ValueType,
+};
 use std::alloc::AllocError;
 
 /// Whether a call may begin: what it has to do, or why not.
@@ -57,7 +65,8 @@ impl Machine {
     fn holds(&self, party: &Name, name: &Name) -> bool
         ensures { result ≡ holds self.now party.now name.now }
     {
-        thing_of(party, name, &self.things).is_some() || value_of(party, name, &self.values).is_some()
+        thing_of(party, name, &self.things).is_some()
+            || value_of(party, name, &self.values).is_some()
     }
 
     // The same, where there is a name.
@@ -205,7 +214,12 @@ impl Machine {
         }))
     }
 
-    fn check_get(&self, party: &Name, handle: &Name, name: Option<Name>) -> Result<Checked, AllocError>
+    fn check_get(
+        &self,
+        party: &Name,
+        handle: &Name,
+        name: Option<Name>,
+    ) -> Result<Checked, AllocError>
         requires { IsLed self.now }
         ensures { IfOk result (Checks self.now party.now (call.Get handle.now name)) }
     {

@@ -60,7 +60,11 @@ pub(crate) fn thing_of<'a>(party: &Name, name: &Name, things: &'a [Held]) -> Opt
 }
 
 /// The value that a party kept last under a name.
-pub(crate) fn value_of<'a>(party: &Name, name: &Name, values: &'a [KeptValue]) -> Option<&'a KeptValue>
+pub(crate) fn value_of<'a>(
+    party: &Name,
+    name: &Name,
+    values: &'a [KeptValue],
+) -> Option<&'a KeptValue>
     ensures { option_map (λ v. kept_of v.now) result ≡ kept values.now party.now name.now }
 {
     let mut found = None;
