@@ -1,4 +1,6 @@
 //! Worked scripts, from their bytes to the bytes of their output.
+mod readers;
+
 use crate::{MemorySink, MemorySource, run_words};
 use std::alloc::Global;
 use std::process::Abort;
