@@ -18,14 +18,17 @@ use Rattle.board_model.specs.declared.value.ValueType.TheVariants as type
 use Rattle.board_model.specs.Copies.{cell_end}
 use Rattle.board_model.specs.LineGrammar.{IsLine, runs_call}
 use Rattle.board_model.specs.Requests.{Fetch, Look, Publication, Request, fresh, get, request_of, update}
-use Rattle.board_model.specs.Tables.{entry_at, entry_of}
+use Rattle.board_model.specs.declared.tables.Kind.{Kind}
+use Rattle.board_model.specs.declared.tables.Kind.TheVariants as kind
+use Rattle.board_model.specs.Tables.{entry_at, entry_of, kind_of, same_kind}
 use Rattle.board_model.specs.Things.{Held, Kept, cell_shape, of_kind, thing_of}
 use Rattle.board_model.specs.TypeTable.{same_type, type_of, value_detail, value_type_of, value_words, word_count}
 use Rattle.board_model.specs.OwedAccesses.{opening}
 use Rattle.board_model.specs.Parties.{Party, Running, begun, free, gone, running, with_party}
 use Rattle.board_model.specs.LawfulSession.{IsReasoned, IsRight, State, after, call_reason, free_reason, is_taken}
-use Rattle.board_model.specs.Sound.{IsTyped, Sound}
+use Rattle.board_model.specs.Sound.{BoardTables, HasEntry, HasEntryAt, IsTyped, Sound}
 use Rattle.board_model.proofs.OpeningLemmas.{sized}
+use Rattle.board_model.proofs.ThingLemmas.{all_found}
 use Rattle.board_cell.specs.Calls.{Asking, Getting, Updating}
 use Rattle.board_script.specs.declared.begin.Checked.TheVariants as checked
 use Rattle.board_script.specs.declared.machine.KeptValue.{KeptValue}
@@ -33,11 +36,17 @@ use Rattle.board_script.specs.declared.machine.Machine.{Machine}
 use Rattle.board_script.specs.declared.machine.PartyRow.{PartyRow}
 use Rattle.board_script.specs.declared.machine.Task.{Task}
 use Rattle.board_script.specs.declared.machine.Task.TheVariants as task
-use Rattle.board_script.specs.Begins.{IsChecked, IsTaskFor, holds_any, serves_call}
+use Rattle.board_script.specs.Begins.{IsChecked, IsHandle, IsTaskFor, holds_any, is_handle, serves_call}
 use Rattle.board_script.specs.Machine.{AreRowsOf, IsBounded, Represents, is_row_of, kept, tables_of, updating, words_of}
 use Rattle.board_script.specs.Steps.{HasCounter, IsCounter}
 use Rattle.board_script.proofs.PartyRows.{started}
 use Rattle.board_script.proofs.TableSteps.{counter_at}
+
+abbrev some_thing : Held → Option Held
+some_thing x = Some x
+
+some_same : (x y : Held) → some_thing x ≡ Some y → x ≡ y
+some_same x y e = cc
 
 -- ---- the calls of the grammar
 
@@ -70,6 +79,64 @@ taken_is m s rep party None = refl
 taken_is m s rep party (Some name) =
     ap (λ t. is_some (thing_of t.things party name) || is_some (s.standing.values party name)) rep.tables
     ∙ ap (λ (k : Option Kept). is_some (thing_of m.things.items party name) || is_some k) (rep.values party name)
+
+-- ---- handles
+
+-- a read handle that is found is a handle
+pub read_handle : (m : Machine) (party name : List ℕ) (x : Held) → of_kind thing_kind.ReadHandle (thing_of m.things.items party name) ≡ Some x → IsHandle m x
+read_handle m party name x e = at (thing_of m.things.items party name) refl e
+  where
+    is : (k : Kind) → same_kind (kind_of k) thing_kind.ReadHandle ≡ true → is_handle k ≡ true
+    is kind.Factory h = absurd cc
+    is (kind.Reader p) h = absurd cc
+    is (kind.Writer p) h = absurd cc
+    is (kind.ReadHandle i) h = refl
+    is (kind.WriteHandle i p) h = absurd cc
+
+    pick : (t : Held) (b : Bool) → same_kind (kind_of t.kind) thing_kind.ReadHandle ≡ b → thing_of m.things.items party name ≡ Some t → cond b (some_thing t) None ≡ Some x → IsHandle m x
+    pick t true h f q =
+        let same : t ≡ x = some_same t x q in
+        subst (λ (y : Held). IsHandle m y) same (record { party = party; name = name; found = f; handle = is t.kind h })
+    pick t false h f q = absurd cc
+
+    at : (o : Option Held) → thing_of m.things.items party name ≡ o → of_kind thing_kind.ReadHandle o ≡ Some x → IsHandle m x
+    at None f q = absurd cc
+    at (Some t) f q = pick t (same_kind (kind_of t.kind) thing_kind.ReadHandle) refl f q
+
+-- and so is a write handle
+pub write_handle : (m : Machine) (party name : List ℕ) (x : Held) → of_kind thing_kind.WriteHandle (thing_of m.things.items party name) ≡ Some x → IsHandle m x
+write_handle m party name x e = at (thing_of m.things.items party name) refl e
+  where
+    is : (k : Kind) → same_kind (kind_of k) thing_kind.WriteHandle ≡ true → is_handle k ≡ true
+    is kind.Factory h = absurd cc
+    is (kind.Reader p) h = absurd cc
+    is (kind.Writer p) h = absurd cc
+    is (kind.ReadHandle i) h = absurd cc
+    is (kind.WriteHandle i p) h = refl
+
+    pick : (t : Held) (b : Bool) → same_kind (kind_of t.kind) thing_kind.WriteHandle ≡ b → thing_of m.things.items party name ≡ Some t → cond b (some_thing t) None ≡ Some x → IsHandle m x
+    pick t true h f q =
+        let same : t ≡ x = some_same t x q in
+        subst (λ (y : Held). IsHandle m y) same (record { party = party; name = name; found = f; handle = is t.kind h })
+    pick t false h f q = absurd cc
+
+    at : (o : Option Held) → thing_of m.things.items party name ≡ o → of_kind thing_kind.WriteHandle o ≡ Some x → IsHandle m x
+    at None f q = absurd cc
+    at (Some t) f q = pick t (same_kind (kind_of t.kind) thing_kind.WriteHandle) refl f q
+
+-- the entry of a handle stands
+pub entry_stands : (m : Machine) (s : State) → Represents m s → Sound s → (x : Held) → IsHandle m x → is_some (entry_at (tables_of m) x.board (entry_of x.kind)) ≡ true
+entry_stands m s rep sound x h =
+    let found : thing_of s.standing.tables.things h.party h.name ≡ Some x = ap (λ t. thing_of t.things h.party h.name) rep.tables ∙ h.found in
+    ap (λ t. is_some (entry_at t x.board (entry_of x.kind))) (sym rep.tables)
+    ∙ of_handle s.standing.tables x.board x.kind h.handle (all_found (HasEntry s.standing.tables) _ s.standing.tables.things x sound.things.entries found)
+  where
+    of_handle : (t : BoardTables) (b : ℕ) (k : Kind) → is_handle k ≡ true → HasEntryAt t b k → is_some (entry_at t b (entry_of k)) ≡ true
+    of_handle t b kind.Factory e h = absurd cc
+    of_handle t b (kind.Reader p) e h = absurd cc
+    of_handle t b (kind.Writer p) e h = absurd cc
+    of_handle t b (kind.ReadHandle i) e h = h
+    of_handle t b (kind.WriteHandle i p) e h = h
 
 -- ---- updates
 
@@ -125,14 +192,14 @@ module _ (m : Machine) (s : State) (rep : Represents m s) (sound : Sound s) (n i
     -- a get that begins
     pub get_begins : (name : Option (List ℕ)) (begun : Getting) (type : ValueType) → begun ≡ record { shape = cell_shape e.cell; reading = opening } → holds_any m party name ≡ false → type ≡ value_type_of e.value
         → IsChecked (call_reason s.standing party (call.Get handle name) (request_of s.standing s.published party (call.Get handle name))) (request_of s.standing s.published party (call.Get handle name))
-            (checked.Accepted (task.Get n begun type name))
+        (checked.Accepted (task.Get n begun type name))
     get_begins name begun type is untaken t =
         rw (fetch_asked name) (rw (taken_is m s rep party name ∙ untaken) refl, record { fetch = fetched name; request = refl; board_is = nb; call_is = is; type_is = t; name_is = refl })
 
     -- a get whose name is taken
     pub get_taken : (name : Option (List ℕ)) → holds_any m party name ≡ true
         → IsChecked (call_reason s.standing party (call.Get handle name) (request_of s.standing s.published party (call.Get handle name))) (request_of s.standing s.published party (call.Get handle name))
-            (checked.Refused reason.Taken)
+        (checked.Refused reason.Taken)
     get_taken name taken = rw (fetch_asked name) (rw (taken_is m s rep party name ∙ taken) refl)
 
     module _ (name : List ℕ) (k : Kept) (stands : kept m.values.items party name ≡ Some k) where
@@ -145,30 +212,30 @@ module _ (m : Machine) (s : State) (rep : Represents m s) (sound : Sound s) (n i
       -- a look that begins
       pub fresh_begins : (begun : Asking) → begun ≡ record { shape = cell_shape e.cell; generation = k.generation; counter = None } → same_type (value_detail k.type) e.value ≡ true
           → IsChecked (call_reason s.standing party (call.Fresh handle name) (request_of s.standing s.published party (call.Fresh handle name))) (request_of s.standing s.published party (call.Fresh handle name))
-              (checked.Accepted (task.Fresh n begun))
+          (checked.Accepted (task.Fresh n begun))
       fresh_begins begun is typed = rw look_asked (rw typed refl, record { look = looked; request = refl; board_is = nb; call_is = is })
 
       -- a look at a value of another type
       pub fresh_mistyped : same_type (value_detail k.type) e.value ≡ false
           → IsChecked (call_reason s.standing party (call.Fresh handle name) (request_of s.standing s.published party (call.Fresh handle name))) (request_of s.standing s.published party (call.Fresh handle name))
-              (checked.Refused reason.Type)
+          (checked.Refused reason.Type)
       fresh_mistyped typed = rw look_asked (rw typed refl)
 
   -- an update that begins
   pub update_begins : (party handle : List ℕ) (x : Held) (v : Value) (g : ℕ) (words : List ℕ) (begun : Updating) → begun ≡ record { shape = cell_shape e.cell; generation = g; words = words; written = 0 } → n ≡ x.board → i ≡ entry_of x.kind
       → of_kind thing_kind.WriteHandle (thing_of m.things.items party handle) ≡ Some x → same_type (value_detail (type_of v)) e.value ≡ true → IsCounter m n i g → words ≡ value_words v
       → IsChecked (call_reason s.standing party (call.Update handle v) (request_of s.standing s.published party (call.Update handle v))) (request_of s.standing s.published party (call.Update handle v))
-          (checked.Accepted (task.Update n begun))
+      (checked.Accepted (task.Update n begun))
   update_begins party handle x v g words begun is nb ib held typed counter w =
       let u : Publication = record { board = x.board; entry = entry_of x.kind; shape = cell_shape e.cell; type = e.value; handle = handle; generation = length (s.published x.board (entry_of x.kind)); value = v } in
       let h : of_kind thing_kind.WriteHandle (thing_of s.standing.tables.things party handle) ≡ Some x = ap (λ t. of_kind thing_kind.WriteHandle (thing_of t.things party handle)) rep.tables ∙ held in
       let f : entry_at s.standing.tables x.board (entry_of x.kind) ≡ Some e = ap (λ (k : ℕ). entry_at s.standing.tables x.board k) (sym ib) ∙ ap (λ (k : ℕ). entry_at s.standing.tables k i) (sym nb) ∙ in_state in
       let count : g ≡ length (s.published x.board (entry_of x.kind)) =
-          (counter_at m s rep sound n i e in_state).is_length g counter ∙ ap (λ (k : ℕ). length (s.published k i)) nb ∙ ap (λ (k : ℕ). length (s.published x.board k)) ib in
+      (counter_at m s rep sound n i e in_state).is_length g counter ∙ ap (λ (k : ℕ). length (s.published k i)) nb ∙ ap (λ (k : ℕ). length (s.published x.board k)) ib in
       let asked : request_of s.standing s.published party (call.Update handle v) ≡ Some (update u) = rw (rep.loans party handle, h, f) refl in
       let call_is : begun ≡ updating u 0 =
-          is ∙ ap (λ (k : ℕ). record { shape = cell_shape e.cell; generation = k; words = words; written = 0 }) count
-          ∙ ap (λ (ws : List ℕ). record { shape = cell_shape e.cell; generation = u.generation; words = ws; written = 0 }) w in
+      is ∙ ap (λ (k : ℕ). record { shape = cell_shape e.cell; generation = k; words = words; written = 0 }) count
+      ∙ ap (λ (ws : List ℕ). record { shape = cell_shape e.cell; generation = u.generation; words = ws; written = 0 }) w in
       rw asked (rw typed refl, record { publication = u; request = refl; board_is = nb; call_is = call_is })
 
 -- ---- answers to the line
@@ -234,7 +301,7 @@ begin_begun m new s rep party c t e h tables words values spent parties l =
         words = words ∙ rep.words ∙ ap (λ x. words_of s.memory x.boards) (sym tables);
         parties = subst (λ (o : Option Request). (p : List ℕ) → AreRowsOf (filter (is_row_of p) new.parties.items) (with_party s.parties party (begun o) p)) (sym q.1)
             (subst (λ (xs : List PartyRow). (p : List ℕ) → AreRowsOf (filter (is_row_of p) xs) (with_party s.parties party (begun (Some q.0)) p)) (sym parties)
-              (started m.parties.items s.parties rep.parties party e t q.0 q.2));
+            (started m.parties.items s.parties rep.parties party e t q.0 q.2));
         loans = rep.loans;
         values = λ p n. rep.values p n ∙ ap (λ (vs : List KeptValue). kept vs p n) (sym values);
       },

@@ -159,10 +159,10 @@ module _ (rows : List PartyRow) (parties : List ℕ → Party) (are : AreParties
   added : (x : Party) → AreRowsOf (new ∷ []) x → (p : List ℕ) (b : Bool) → bytes_eq p party ≡ b → AreRowsOf (filter (is_row_of p) (rows ++ new ∷ [])) (cond b x (parties p))
   added x a p true h =
       let none : filter (is_row_of p) rows ≡ [] =
-          ap (λ (n : List ℕ). filter (is_row_of n) rows) (same_bytes p party h)
-          ∙ subst (λ (y : Party). AreRowsOf (filter (is_row_of party) rows) y) is (are party) in
+      ap (λ (n : List ℕ). filter (is_row_of n) rows) (same_bytes p party h)
+      ∙ subst (λ (y : Party). AreRowsOf (filter (is_row_of party) rows) y) is (are party) in
       let one : filter (is_row_of p) (rows ++ new ∷ []) ≡ new ∷ [] =
-          filter-append (is_row_of p) rows (new ∷ []) ∙ ap (λ (xs : List PartyRow). xs ++ filter (is_row_of p) (new ∷ [])) none ∙ ap (λ (b : Bool). cond b (new ∷ []) []) h in
+      filter-append (is_row_of p) rows (new ∷ []) ∙ ap (λ (xs : List PartyRow). xs ++ filter (is_row_of p) (new ∷ [])) none ∙ ap (λ (b : Bool). cond b (new ∷ []) []) h in
       subst (λ (ys : List PartyRow). AreRowsOf ys x) (sym one) a
   added x a p false h =
       subst (λ (xs : List PartyRow). AreRowsOf xs (parties p))

@@ -64,7 +64,7 @@ read_step (task.Table t) r x h o = absurd o
 read_step (task.Get board call type name) r x h o =
     let f = h.fetch in
     let e : to_read x.board x.word ≡ owed_read f.board f.shape (reading f.shape.words r.so_far) =
-        o ∙ ap (λ (b : ℕ). owed_read b call.shape call.reading) h.board_is ∙ ap (λ (c : Getting). owed_read f.board c.shape c.reading) h.call_is in
+    o ∙ ap (λ (b : ℕ). owed_read b call.shape call.reading) h.board_is ∙ ap (λ (c : Getting). owed_read f.board c.shape c.reading) h.call_is in
     subst (λ (q : Request). IsReadStep q r.so_far x) (sym h.request) (record { next = e; board = same_board f.board (reading f.shape.words r.so_far) e })
   where
     same_board : (b : ℕ) (y : Reading) → to_read x.board x.word ≡ owed_read b h.fetch.shape y → x.board ≡ b
@@ -74,7 +74,7 @@ read_step (task.Get board call type name) r x h o =
 read_step (task.Fresh board call) r x h o =
     let l = h.look in
     let e : to_read x.board x.word ≡ to_read l.board l.shape.first =
-        o ∙ ap (λ (b : ℕ). to_read b call.shape.first) h.board_is ∙ ap (λ (c : Asking). to_read l.board c.shape.first) h.call_is in
+    o ∙ ap (λ (b : ℕ). to_read b call.shape.first) h.board_is ∙ ap (λ (c : Asking). to_read l.board c.shape.first) h.call_is in
     subst (λ (q : Request). IsReadStep q r.so_far x) (sym h.request) (record { next = e; board = cc })
 read_step (task.Update board call) r x h o = absurd o
 read_step task.Gone r x h o = absurd o
@@ -192,8 +192,7 @@ module _ (m : Machine) (s : State) (rep : Represents m s) (sound : Sound s) (par
         → IsRight s (line.Step party) (answer.Step made None) × Represents new (after s (line.Step party) (answer.Step made None))
     read_goes_on new tables ws values spent y n t e rows =
         let next : Running = record at.r { so_far = more } in
-        let of : IsTaskOf y.task next.request next.so_far = subst (λ (z : Task). IsTaskOf z at.r.request more) (sym t) (rest_is row.task at.task o e) in
-        (
+        let of : IsTaskOf y.task next.request next.so_far = subst (λ (z : Task). IsTaskOf z at.r.request more) (sym t) (rest_is row.task at.task o e) in (
           record {
             line = l;
             answer = ((boards, words, small), tt);
@@ -292,8 +291,7 @@ module _ (m : Machine) (s : State) (rep : Represents m s) (sound : Sound s) (par
         → IsRight s (line.Step party) (answer.Step made (Some told)) × Represents new (after s (line.Step party) (answer.Step made (Some told)))
     read_ends mid new y t e tables ws values spent rows told h r =
         let read = told_is row.task told at.task o e h.told_is in
-        let left = left_is row.task told new.values.items at.task o e (h.values ∙ ap (λ (vs : List KeptValue). vs ++ values_read party (ticked row.task v)) values) in
-        (
+        let left = left_is row.task told new.values.items at.task o e (h.values ∙ ap (λ (vs : List KeptValue). vs ++ values_read party (ticked row.task v)) values) in (
           record {
             line = l;
             answer = ((boards, words, small), r);

@@ -107,8 +107,7 @@ module _ (m : Machine) (s : State) (rep : Represents m s) (sound : Sound s) (par
   table_right new c told request h l =
       let of_call : Running = record at.r { request = table c } in
       let runs_call : s.parties party ≡ running of_call = at.runs ∙ ap (λ (q : Request). running (record at.r { request = q })) request in
-      let done : nat_le 1 (length (at.r.so_far ++ access.Table ∷ [])) ≡ true = le-leb _ _ (omega (arith, length-append at.r.so_far (access.Table ∷ []))) in
-      (
+      let done : nat_le 1 (length (at.r.so_far ++ access.Table ∷ [])) ≡ true = le-leb _ _ (omega (arith, length-append at.r.so_far (access.Table ∷ []))) in (
         record {
           line = l;
           answer = (tt, h.is_reply);
@@ -264,7 +263,7 @@ module _ (m : Machine) (s : State) (rep : Represents m s) (sound : Sound s) (par
             words =
                 h.words ∙ ap (λ (ws : List (List ℕ)). words_with ws entries told) same_list
                 ∙ subst (λ (t : Reply). words_with m.words.items entries t ≡ words_of (memory_after s.memory (table (create f n k limits attributes entries)) t) new.boards.items) (sym told_same)
-                    (words_told (refusal s.standing.tables) new.boards.items (ap (λ t. t.boards) tables_same));
+                (words_told (refusal s.standing.tables) new.boards.items (ap (λ t. t.boards) tables_same));
             parties = h.parties ∙ rows;
             alive = h.spent ∙ alive;
           }

@@ -193,7 +193,7 @@ module _ (m : Machine) (s : State) (rep : Represents m s) (sound : Sound s) (par
       pub value : IsNumber w.value
 
     module _ (stored new : Machine) (is_stored : IsStored m stored w.board w.word w.value) (numbers : AreWritten) (l : IsLine (line.Step party))
-      (tables : tables_of new ≡ tables_of stored) (words : new.words.items ≡ stored.words.items) (values : new.values.items ≡ stored.values.items) (spent : new.spent ≡ stored.spent) where
+        (tables : tables_of new ≡ tables_of stored) (words : new.words.items ≡ stored.words.items) (values : new.values.items ≡ stored.values.items) (spent : new.spent ≡ stored.spent) where
       still_alive : new.spent ≡ false
       still_alive = spent ∙ is_stored.spent ∙ rep.alive
 
@@ -238,10 +238,9 @@ module _ (m : Machine) (s : State) (rep : Represents m s) (sound : Sound s) (par
       update_goes_on y n t e rows =
           let next : Running = record of_update { so_far = at.r.so_far ++ made ∷ [] } in
           let rest : y.task ≡ task.Update step.u.board (updating step.u (length next.so_far)) =
-              t ∙ ap (λ (x : Task). ticked x 0) step.task ∙ ap (λ (k : ℕ). task.Update step.u.board (updating step.u k)) (sym length_more) in
+          t ∙ ap (λ (x : Task). ticked x 0) step.task ∙ ap (λ (k : ℕ). task.Update step.u.board (updating step.u k)) (sym length_more) in
           let of : IsTaskOf y.task next.request next.so_far =
-              subst (λ (x : Task). IsTaskOf x next.request next.so_far) (sym rest) (record { publication = step.u; request = refl; board_is = refl; call_is = refl }) in
-          (
+          subst (λ (x : Task). IsTaskOf x next.request next.so_far) (sym rest) (record { publication = step.u; request = refl; board_is = refl; call_is = refl }) in (
             record {
               line = l;
               answer = ((numbers.board, numbers.word, numbers.value), tt);

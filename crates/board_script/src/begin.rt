@@ -1,19 +1,27 @@
 //! Lines `begin P CALL`.
-ghost use Rattle.std.specs.Prelude.{◌≡◌, ◌+◌, ◌<◌, ◌≤◌, ◌^◌, ◌||◌, true, IfOk, find, is_some};
+ghost use Rattle.std.specs.Prelude.{◌≡◌, ◌+◌, ◌<◌, ◌≤◌, ◌^◌, ◌||◌, true, Some, IfOk, find, is_some};
 ghost use Rattle.std.specs.List.{list_all};
 ghost use Rattle.board_model.specs.LawfulSession.{has_key_type, is_typed_key};
 ghost use Rattle.board_model.specs.Tables as tables;
 ghost use Rattle.board_model.specs.Things as held;
 ghost use Rattle.board_model.specs.declared.line.Call.TheVariants as call;
 ghost use Rattle.board_model.specs.declared.line.Line.TheVariants as line;
-ghost use Rattle.board_script.specs.Machine.{IsLed, Serves, kept};
-ghost use Rattle.board_script.specs.Begins.{Checks, holds, holds_any, serves_call};
+ghost use Rattle.board_script.specs.Machine.{IsLed, Serves, kept, tables_of};
+ghost use Rattle.board_script.specs.Begins.{Checks, IsHandle, holds, holds_any, serves_call};
 
-use crate::lookups::{board_at, entry_at, entry_of, held_of_kind, place_of_party, thing_of, value_of};
-use crate::machine::{Machine, PartyRow, TableTask, Task};
-use crate::values::{key_detail, same_key_type, same_type, type_of, type_of_key, value_detail, value_type_of, value_words};
+use crate::lookups::{
+    board_at, entry_at, entry_of, held_of_kind, place_of_party, thing_of, value_of,
+};
+use crate::machine::{Held, Machine, PartyRow, TableTask, Task};
+use crate::values::{
+    key_detail, same_key_type, same_type, type_of, type_of_key, value_detail, value_type_of,
+    value_words,
+};
 use board_cell::{CellShape, FreshCall, GetCall, UpdateCall};
-use board_model::{AddedEntries, AddedEntry, Answer, Attributes, Board, BoardName, Call, Entry, Key, KeyType, Limits, Name, Reason, Requirements, ThingKind, Value, ValueType};
+use board_model::{
+    AddedEntries, AddedEntry, Answer, Attributes, Board, BoardName, Call, Entry, Key, KeyType,
+    Limits, Name, Reason, Requirements, ThingKind, Value, ValueType,
+};
 use std::alloc::AllocError;
 
 /// Whether a call may begin: what it has to do, or why not.
@@ -57,7 +65,8 @@ impl Machine {
     fn holds(&self, party: &Name, name: &Name) -> bool
         ensures { result ≡ holds self.now party.now name.now }
     {
-        thing_of(party, name, &self.things).is_some() || value_of(party, name, &self.values).is_some()
+        thing_of(party, name, &self.things).is_some()
+            || value_of(party, name, &self.values).is_some()
     }
 
     // The same, where there is a name.
@@ -67,6 +76,18 @@ impl Machine {
         match name {
             Some(name) => self.holds(party, name),
             None => false,
+        }
+    }
+
+    // The entry of a handle that a party holds.
+    fn entry_held(&self, handle: &Held) -> &Entry
+        requires led { IsLed self.now }
+        requires held { IsHandle self.now handle.now }
+        ensures { tables.entry_at (tables_of self.now) handle.now.board (tables.entry_of handle.now.kind) ≡ Some result.now }
+    {
+        match entry_at(handle.board, entry_of(&handle.kind), &self.boards) {
+            Some(entry) => entry,
+            None => unreachable!(),
         }
     }
 
@@ -205,16 +226,19 @@ impl Machine {
         }))
     }
 
-    fn check_get(&self, party: &Name, handle: &Name, name: Option<Name>) -> Result<Checked, AllocError>
+    fn check_get(
+        &self,
+        party: &Name,
+        handle: &Name,
+        name: Option<Name>,
+    ) -> Result<Checked, AllocError>
         requires { IsLed self.now }
         ensures { IfOk result (Checks self.now party.now (call.Get handle.now name)) }
     {
         let Some(found) = held_of_kind(ThingKind::ReadHandle, party, handle, &self.things) else {
             return Ok(Checked::Refused(Reason::Unknown));
         };
-        let Some(entry) = entry_at(found.board, entry_of(&found.kind), &self.boards) else {
-            return Ok(Checked::Refused(Reason::Unknown));
-        };
+        let entry = self.entry_held(&found);
         if self.holds_any(party, &name) {
             return Ok(Checked::Refused(Reason::Taken));
         }
@@ -229,14 +253,13 @@ impl Machine {
     }
 
     fn check_fresh(&self, party: &Name, handle: &Name, value: &Name) -> Checked
+        requires { IsLed self.now }
         ensures { Checks self.now party.now (call.Fresh handle.now value.now) result }
     {
         let Some(found) = held_of_kind(ThingKind::ReadHandle, party, handle, &self.things) else {
             return Checked::Refused(Reason::Unknown);
         };
-        let Some(entry) = entry_at(found.board, entry_of(&found.kind), &self.boards) else {
-            return Checked::Refused(Reason::Unknown);
-        };
+        let entry = self.entry_held(&found);
         let Some(kept) = value_of(party, value, &self.values) else {
             return Checked::Refused(Reason::Unknown);
         };
@@ -256,15 +279,12 @@ impl Machine {
         let Some(found) = held_of_kind(ThingKind::WriteHandle, party, handle, &self.things) else {
             return Ok(Checked::Refused(Reason::Unknown));
         };
-        let place = entry_of(&found.kind);
-        let Some(entry) = entry_at(found.board, place, &self.boards) else {
-            return Ok(Checked::Refused(Reason::Unknown));
-        };
+        let entry = self.entry_held(&found);
         if !same_type(&value_detail(type_of(value)), &entry.value) {
             return Ok(Checked::Refused(Reason::Type));
         }
         let shape = shape_of(entry);
-        let generation = self.counter(found.board, place);
+        let generation = self.counter(found.board, entry_of(&found.kind));
         let words = value_words(self.alloc, value)?;
         Ok(Checked::Accepted(Task::Update {
             board: found.board,

@@ -60,7 +60,11 @@ pub(crate) fn thing_of<'a>(party: &Name, name: &Name, things: &'a [Held]) -> Opt
 }
 
 /// The value that a party kept last under a name.
-pub(crate) fn value_of<'a>(party: &Name, name: &Name, values: &'a [KeptValue]) -> Option<&'a KeptValue>
+pub(crate) fn value_of<'a>(
+    party: &Name,
+    name: &Name,
+    values: &'a [KeptValue],
+) -> Option<&'a KeptValue>
     ensures { option_map (λ v. kept_of v.now) result ≡ kept values.now party.now name.now }
 {
     let mut found = None;
@@ -86,7 +90,12 @@ fn is_kind(kind: ThingKind, of: &Kind) -> bool
 }
 
 /// The same, where it is of this kind.
-pub(crate) fn held_of_kind(kind: ThingKind, party: &Name, name: &Name, things: &[Held]) -> Option<Held>
+pub(crate) fn held_of_kind(
+    kind: ThingKind,
+    party: &Name,
+    name: &Name,
+    things: &[Held],
+) -> Option<Held>
     ensures { result ≡ held.of_kind kind (held.thing_of things.now party.now name.now) }
 {
     match thing_of(party, name, things) {
@@ -124,7 +133,11 @@ pub(crate) fn entry_at(number: u64, entry: u64, boards: &[Board]) -> Option<&Ent
     }
 }
 
-fn entry_from<'a>(key_type: KeyType, key: &KeyMemory<64>, entries: &'a [Entry]) -> Option<(u64, &'a Entry)>
+fn entry_from<'a>(
+    key_type: KeyType,
+    key: &KeyMemory<64>,
+    entries: &'a [Entry],
+) -> Option<(u64, &'a Entry)>
     ensures { option_map (λ f. (f.0, f.1.now)) result ≡ tables.entry_from 0 (λ bytes. types.same_key key_type bytes key.now.bytes) entries.now }
 {
     for (i, entry) in entries.iter().enumerate() {
@@ -151,7 +164,12 @@ fn of_type<'a>(value: &TypeDetail, found: Option<(u64, &'a Entry)>) -> Option<(u
 }
 
 /// The entry of a board with the key and the type, with its place.
-pub(crate) fn find_entry<'a>(number: u64, key: &Key, value: &TypeDetail, boards: &'a [Board]) -> Option<(u64, &'a Entry)>
+pub(crate) fn find_entry<'a>(
+    number: u64,
+    key: &Key,
+    value: &TypeDetail,
+    boards: &'a [Board],
+) -> Option<(u64, &'a Entry)>
     ensures { option_map (λ f. (f.0, f.1.now)) result ≡ tables.entry_found (find (tables.is_numbered number) boards.now) (replies.is_key key.now) value.now }
 {
     match board_at(number, boards) {

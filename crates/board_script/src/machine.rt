@@ -1,6 +1,9 @@
 //! The machine: the tables, the words of each board, and the calls that run.
 use board_cell::{FreshCall, GetCall, PlainWords, UpdateCall};
-use board_model::{AddedEntries, Attributes, Board, BoardName, Key, KeyType, Limits, Name, Requirements, Thing, ValueType, Words};
+use board_model::{
+    AddedEntries, Attributes, Board, BoardName, Key, KeyType, Limits, Name, Requirements, Thing,
+    ValueType, Words,
+};
 use std::alloc::Global;
 
 /// A thing of a board, under its party and its name.

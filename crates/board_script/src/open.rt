@@ -13,7 +13,10 @@ use crate::lookups::board_named;
 use crate::machine::{Held, Machine};
 use crate::values::{key_detail, same_type};
 use board_layout::Text;
-use board_model::{Attribute, BlackboardOpenError, Board, BoardName, KeyType, Kind, Limits, Name, Reply, Requirements, Thing};
+use board_model::{
+    Attribute, BlackboardOpenError, Board, BoardName, KeyType, Kind, Limits, Name, Reply,
+    Requirements, Thing,
+};
 use std::alloc::AllocError;
 
 fn has_pair(attributes: &[Attribute], pair: &Attribute) -> bool

@@ -8,7 +8,10 @@ use crate::counts::{has_write_handle, has_writer, reader_slots};
 use crate::lookups::{board_at, find_entry};
 use crate::machine::{Held, Machine};
 use crate::values::value_detail;
-use board_model::{Board, Entry, EntryHandleError, EntryHandleMutError, Key, Kind, Name, ReaderCreateError, Reply, Thing, ValueType, WriterCreateError};
+use board_model::{
+    Board, Entry, EntryHandleError, EntryHandleMutError, Key, Kind, Name, ReaderCreateError, Reply,
+    Thing, ValueType, WriterCreateError,
+};
 use std::alloc::AllocError;
 
 /// The port of a writer of a factory's board, or of the handles made from it.
@@ -93,7 +96,12 @@ impl Machine {
         ensures told { IfOk result (IsEntry self.old self.new name reader.now key.now value_type) }
         ensures is_reply { IfOk result IsReply }
     {
-        let Some((entry, found)) = find_entry(reader.board, key, &value_detail(value_type), &self.boards) else {
+        let Some((entry, found)) = find_entry(
+            reader.board,
+            key,
+            &value_detail(value_type),
+            &self.boards,
+        ) else {
             return Ok(Reply::EntryError(EntryHandleError::EntryDoesNotExist));
         };
         let id = entry_id(found);
@@ -117,7 +125,12 @@ impl Machine {
         ensures told { IfOk result (IsEntryMut self.old self.new name writer.now key.now value_type) }
         ensures is_reply { IfOk result IsReply }
     {
-        let Some((entry, found)) = find_entry(writer.board, key, &value_detail(value_type), &self.boards) else {
+        let Some((entry, found)) = find_entry(
+            writer.board,
+            key,
+            &value_detail(value_type),
+            &self.boards,
+        ) else {
             return Ok(Reply::EntryMutError(EntryHandleMutError::EntryDoesNotExist));
         };
         if has_write_handle(writer.board, entry, &self.things) {

@@ -115,7 +115,10 @@ impl Machine {
         requires { HasCounter self.now board entry }
         ensures { IsCounter self.now board entry result }
     {
-        match (place_of_board(board, &self.boards), entry_at(board, entry, &self.boards)) {
+        match (
+            place_of_board(board, &self.boards),
+            entry_at(board, entry, &self.boards),
+        ) {
             (Some(place), Some(entry)) => {
                 let words = self.words[place].as_slice();
                 words[entry.cell.first as usize]
@@ -183,7 +186,10 @@ impl Machine {
                 key,
                 value_type,
             } => self.make_write_handle(name, &writer, &key, value_type),
-            TableTask::Gen { handle } => Ok(Reply::Generation(self.counter(handle.board, entry_of(&handle.kind)))),
+            TableTask::Gen { handle } => Ok(Reply::Generation(self.counter(
+                handle.board,
+                entry_of(&handle.kind),
+            ))),
         }
     }
 
