@@ -1,7 +1,7 @@
 -- Lines that begin a call.
-use Rattle.std.proofs.Common.{◌≡◌, ℕ, zero, suc, ◌+◌, ◌-◌, ◌*◌, ◌^◌, ◌<◌, ◌≤◌, Bool, true, false, cond, List, [], ◌∷◌, ◌++◌, length, map, arith, rules, refl, sym, ap, subst, ◌∙◌, Option, Some, None}
-use Rattle.std.specs.Prelude.{◌||◌, find, is_some}
-use Rattle.std.specs.List.{filter, position_from}
+use Rattle.std.proofs.Common.{◌≡◌, ℕ, ◌+◌, ◌^◌, ◌<◌, Bool, true, false, cond, List, [], ◌∷◌, ◌++◌, length, arith, refl, sym, ap, subst, ◌∙◌, Option, Some, None}
+use Rattle.std.specs.Prelude.{◌||◌, is_some}
+use Rattle.std.specs.List.{filter}
 use Rattle.board_layout.specs.declared.type_detail.TypeDetail.{TypeDetail}
 use Rattle.board_model.specs.declared.answer.Answer.TheVariants as answer
 use Rattle.board_model.specs.declared.answer.Reason.{Reason}
@@ -24,8 +24,8 @@ use Rattle.board_model.specs.Tables.{entry_at, entry_of, kind_of, same_kind}
 use Rattle.board_model.specs.Things.{Held, Kept, cell_shape, of_kind, thing_of}
 use Rattle.board_model.specs.TypeTable.{same_type, type_of, value_detail, value_type_of, value_words, word_count}
 use Rattle.board_model.specs.OwedAccesses.{opening}
-use Rattle.board_model.specs.Parties.{Party, Running, begun, free, gone, running, with_party}
-use Rattle.board_model.specs.LawfulSession.{IsReasoned, IsRight, State, after, call_reason, free_reason, is_taken}
+use Rattle.board_model.specs.Parties.{Running, begun, free, gone, running, with_party}
+use Rattle.board_model.specs.LawfulSession.{IsRight, State, after, call_reason, free_reason, is_taken}
 use Rattle.board_model.specs.Sound.{BoardTables, HasEntry, HasEntryAt, IsTyped, Sound}
 use Rattle.board_model.proofs.OpeningLemmas.{sized}
 use Rattle.board_model.proofs.ThingLemmas.{all_found}

@@ -1,6 +1,6 @@
 -- The rows of the parties, and the parties that they stand for.
-use Rattle.std.proofs.Common.{◌≡◌, ℕ, zero, suc, ◌+◌, ◌-◌, ◌<◌, ◌≤◌, Bool, true, false, cond, List, [], ◌∷◌, ◌++◌, length, get_or, set, take, drop, map, arith, rules, refl, sym, ap, subst, ◌∙◌, Option, Some, None}
-use Rattle.std.specs.Prelude.{not, ◌&&◌, ◌==◌, is_some}
+use Rattle.std.proofs.Common.{◌≡◌, ℕ, ◌<◌, Bool, true, false, cond, List, [], ◌∷◌, ◌++◌, length, get_or, set, refl, sym, ap, subst, ◌∙◌, Option, Some, None}
+use Rattle.std.specs.Prelude.{is_some}
 use Rattle.std.specs.Str.{bytes_eq}
 use Rattle.std.proofs.lemmas.List.{append-nil}
 use Rattle.std.specs.List.{filter, position_from, remove}
@@ -10,11 +10,10 @@ use Rattle.board_model.specs.declared.access.Access.TheVariants as access
 use Rattle.board_model.specs.Requests.{Request}
 use Rattle.board_model.specs.Parties.{Party, Running, begun, free, gone, notice, running, with_party}
 use Rattle.board_model.proofs.ListLemmas.{same_bytes}
-use Rattle.board_model.proofs.ThingLemmas.{same_to_itself}
 use Rattle.board_script.specs.declared.machine.PartyRow.{PartyRow}
 use Rattle.board_script.specs.declared.machine.Task.{Task}
 use Rattle.board_script.specs.declared.machine.Task.TheVariants as task
-use Rattle.board_script.specs.Machine.{AreRowsOf, IsRowOf, IsTaskOf, is_row_of}
+use Rattle.board_script.specs.Machine.{AreRowsOf, IsTaskOf, is_row_of}
 use Rattle.board_script.specs.Steps.{is_gone}
 use Rattle.board_script.proofs.Rows.{IsFirst, filter-remove_only, filter-remove_other, filter-set_only, filter-set_other, first_at, none_passes, only_at, some_at}
 

@@ -1,4 +1,4 @@
-use Rattle.std.proofs.Common.{◌≡◌, ℕ, Bool, true, Option, Some, None, rules}
+use Rattle.std.proofs.Common.{◌≡◌, true, Option, Some, None, rules}
 use Rattle.std.specs.Prelude.{is_some}
 use Rattle.board_model.specs.declared.tables.Entry.{Entry}
 use Rattle.board_model.specs.Tables.{entry_at, entry_of}
