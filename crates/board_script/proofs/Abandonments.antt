@@ -1,17 +1,16 @@
 -- Lines that abandon a party.
-use Rattle.std.proofs.Common.{◌≡◌, ℕ, List, [], ◌∷◌, ◌++◌, set, refl, sym, ap, subst, ◌∙◌, Option, None}
-use Rattle.std.specs.List.{filter}
+use Rattle.std.proofs.Common.{◌≡◌, ℕ, List, [], ◌∷◌, ◌++◌, set, refl, sym, ap, subst, ◌∙◌, None}
 use Rattle.board_model.specs.declared.answer.Answer.TheVariants as answer
 use Rattle.board_model.specs.declared.answer.Reason.TheVariants as reason
 use Rattle.board_model.specs.declared.line.Line.TheVariants as line
 use Rattle.board_model.specs.LineGrammar.{IsLine}
-use Rattle.board_model.specs.Parties.{Party, Running, free, gone, running, with_party}
+use Rattle.board_model.specs.Parties.{free, gone, with_party}
 use Rattle.board_model.specs.LawfulSession.{IsRight, State, abandon_reason, after}
 use Rattle.board_script.specs.declared.machine.KeptValue.{KeptValue}
 use Rattle.board_script.specs.declared.machine.Machine.{Machine}
 use Rattle.board_script.specs.declared.machine.PartyRow.{PartyRow}
 use Rattle.board_script.specs.declared.machine.Task.TheVariants as task
-use Rattle.board_script.specs.Machine.{AreRowsOf, Represents, is_row_of, kept, tables_of, words_of}
+use Rattle.board_script.specs.Machine.{Represents, kept, tables_of, words_of}
 use Rattle.board_script.proofs.PartyRows.{AreParties, RunsAt, left_behind, left_idle}
 
 pub abandon_again : (s : State) (party : List ℕ) → s.parties party ≡ gone → IsLine (line.Abandon party) → IsRight s (line.Abandon party) (answer.Refused reason.Abandoned)

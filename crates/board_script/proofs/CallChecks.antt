@@ -1,7 +1,7 @@
 -- Lines that begin a call.
-use Rattle.std.proofs.Common.{◌≡◌, ℕ, zero, suc, ◌+◌, ◌-◌, ◌*◌, ◌^◌, ◌<◌, ◌≤◌, Bool, true, false, cond, List, [], ◌∷◌, ◌++◌, length, map, arith, rules, refl, sym, ap, subst, ◌∙◌, Option, Some, None}
-use Rattle.std.specs.Prelude.{◌||◌, find, is_some}
-use Rattle.std.specs.List.{filter, position_from}
+use Rattle.std.proofs.Common.{◌≡◌, ℕ, ◌+◌, ◌^◌, ◌<◌, Bool, true, false, cond, List, [], ◌∷◌, ◌++◌, length, arith, refl, sym, ap, subst, ◌∙◌, Option, Some, None}
+use Rattle.std.specs.Prelude.{◌||◌, is_some}
+use Rattle.std.specs.List.{filter}
 use Rattle.board_layout.specs.declared.type_detail.TypeDetail.{TypeDetail}
 use Rattle.board_model.specs.declared.answer.Answer.TheVariants as answer
 use Rattle.board_model.specs.declared.answer.Reason.{Reason}
@@ -18,14 +18,17 @@ use Rattle.board_model.specs.declared.value.ValueType.TheVariants as type
 use Rattle.board_model.specs.Copies.{cell_end}
 use Rattle.board_model.specs.LineGrammar.{IsLine, runs_call}
 use Rattle.board_model.specs.Requests.{Fetch, Look, Publication, Request, fresh, get, request_of, update}
-use Rattle.board_model.specs.Tables.{entry_at, entry_of}
+use Rattle.board_model.specs.declared.tables.Kind.{Kind}
+use Rattle.board_model.specs.declared.tables.Kind.TheVariants as kind
+use Rattle.board_model.specs.Tables.{entry_at, entry_of, kind_of, same_kind}
 use Rattle.board_model.specs.Things.{Held, Kept, cell_shape, of_kind, thing_of}
 use Rattle.board_model.specs.TypeTable.{same_type, type_of, value_detail, value_type_of, value_words, word_count}
 use Rattle.board_model.specs.OwedAccesses.{opening}
-use Rattle.board_model.specs.Parties.{Party, Running, begun, free, gone, running, with_party}
-use Rattle.board_model.specs.LawfulSession.{IsReasoned, IsRight, State, after, call_reason, free_reason, is_taken}
-use Rattle.board_model.specs.Sound.{IsTyped, Sound}
+use Rattle.board_model.specs.Parties.{Running, begun, free, gone, running, with_party}
+use Rattle.board_model.specs.LawfulSession.{IsRight, State, after, call_reason, free_reason, is_taken}
+use Rattle.board_model.specs.Sound.{BoardTables, HasEntry, HasEntryAt, IsTyped, Sound}
 use Rattle.board_model.proofs.OpeningLemmas.{sized}
+use Rattle.board_model.proofs.ThingLemmas.{all_found}
 use Rattle.board_cell.specs.Calls.{Asking, Getting, Updating}
 use Rattle.board_script.specs.declared.begin.Checked.TheVariants as checked
 use Rattle.board_script.specs.declared.machine.KeptValue.{KeptValue}
@@ -33,11 +36,17 @@ use Rattle.board_script.specs.declared.machine.Machine.{Machine}
 use Rattle.board_script.specs.declared.machine.PartyRow.{PartyRow}
 use Rattle.board_script.specs.declared.machine.Task.{Task}
 use Rattle.board_script.specs.declared.machine.Task.TheVariants as task
-use Rattle.board_script.specs.Begins.{IsChecked, IsTaskFor, holds_any, serves_call}
+use Rattle.board_script.specs.Begins.{IsChecked, IsHandle, IsTaskFor, holds_any, is_handle, serves_call}
 use Rattle.board_script.specs.Machine.{AreRowsOf, IsBounded, Represents, is_row_of, kept, tables_of, updating, words_of}
 use Rattle.board_script.specs.Steps.{HasCounter, IsCounter}
 use Rattle.board_script.proofs.PartyRows.{started}
 use Rattle.board_script.proofs.TableSteps.{counter_at}
+
+abbrev some_thing : Held → Option Held
+some_thing x = Some x
+
+some_same : (x y : Held) → some_thing x ≡ Some y → x ≡ y
+some_same x y e = cc
 
 -- ---- the calls of the grammar
 
@@ -70,6 +79,64 @@ taken_is m s rep party None = refl
 taken_is m s rep party (Some name) =
     ap (λ t. is_some (thing_of t.things party name) || is_some (s.standing.values party name)) rep.tables
     ∙ ap (λ (k : Option Kept). is_some (thing_of m.things.items party name) || is_some k) (rep.values party name)
+
+-- ---- handles
+
+-- a read handle that is found is a handle
+pub read_handle : (m : Machine) (party name : List ℕ) (x : Held) → of_kind thing_kind.ReadHandle (thing_of m.things.items party name) ≡ Some x → IsHandle m x
+read_handle m party name x e = at (thing_of m.things.items party name) refl e
+  where
+    is : (k : Kind) → same_kind (kind_of k) thing_kind.ReadHandle ≡ true → is_handle k ≡ true
+    is kind.Factory h = absurd cc
+    is (kind.Reader p) h = absurd cc
+    is (kind.Writer p) h = absurd cc
+    is (kind.ReadHandle i) h = refl
+    is (kind.WriteHandle i p) h = absurd cc
+
+    pick : (t : Held) (b : Bool) → same_kind (kind_of t.kind) thing_kind.ReadHandle ≡ b → thing_of m.things.items party name ≡ Some t → cond b (some_thing t) None ≡ Some x → IsHandle m x
+    pick t true h f q =
+        let same : t ≡ x = some_same t x q in
+        subst (λ (y : Held). IsHandle m y) same (record { party = party; name = name; found = f; handle = is t.kind h })
+    pick t false h f q = absurd cc
+
+    at : (o : Option Held) → thing_of m.things.items party name ≡ o → of_kind thing_kind.ReadHandle o ≡ Some x → IsHandle m x
+    at None f q = absurd cc
+    at (Some t) f q = pick t (same_kind (kind_of t.kind) thing_kind.ReadHandle) refl f q
+
+-- and so is a write handle
+pub write_handle : (m : Machine) (party name : List ℕ) (x : Held) → of_kind thing_kind.WriteHandle (thing_of m.things.items party name) ≡ Some x → IsHandle m x
+write_handle m party name x e = at (thing_of m.things.items party name) refl e
+  where
+    is : (k : Kind) → same_kind (kind_of k) thing_kind.WriteHandle ≡ true → is_handle k ≡ true
+    is kind.Factory h = absurd cc
+    is (kind.Reader p) h = absurd cc
+    is (kind.Writer p) h = absurd cc
+    is (kind.ReadHandle i) h = absurd cc
+    is (kind.WriteHandle i p) h = refl
+
+    pick : (t : Held) (b : Bool) → same_kind (kind_of t.kind) thing_kind.WriteHandle ≡ b → thing_of m.things.items party name ≡ Some t → cond b (some_thing t) None ≡ Some x → IsHandle m x
+    pick t true h f q =
+        let same : t ≡ x = some_same t x q in
+        subst (λ (y : Held). IsHandle m y) same (record { party = party; name = name; found = f; handle = is t.kind h })
+    pick t false h f q = absurd cc
+
+    at : (o : Option Held) → thing_of m.things.items party name ≡ o → of_kind thing_kind.WriteHandle o ≡ Some x → IsHandle m x
+    at None f q = absurd cc
+    at (Some t) f q = pick t (same_kind (kind_of t.kind) thing_kind.WriteHandle) refl f q
+
+-- the entry of a handle stands
+pub entry_stands : (m : Machine) (s : State) → Represents m s → Sound s → (x : Held) → IsHandle m x → is_some (entry_at (tables_of m) x.board (entry_of x.kind)) ≡ true
+entry_stands m s rep sound x h =
+    let found : thing_of s.standing.tables.things h.party h.name ≡ Some x = ap (λ t. thing_of t.things h.party h.name) rep.tables ∙ h.found in
+    ap (λ t. is_some (entry_at t x.board (entry_of x.kind))) (sym rep.tables)
+    ∙ of_handle s.standing.tables x.board x.kind h.handle (all_found (HasEntry s.standing.tables) _ s.standing.tables.things x sound.things.entries found)
+  where
+    of_handle : (t : BoardTables) (b : ℕ) (k : Kind) → is_handle k ≡ true → HasEntryAt t b k → is_some (entry_at t b (entry_of k)) ≡ true
+    of_handle t b kind.Factory e h = absurd cc
+    of_handle t b (kind.Reader p) e h = absurd cc
+    of_handle t b (kind.Writer p) e h = absurd cc
+    of_handle t b (kind.ReadHandle i) e h = h
+    of_handle t b (kind.WriteHandle i p) e h = h
 
 -- ---- updates
 

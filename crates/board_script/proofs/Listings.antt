@@ -1,9 +1,8 @@
 -- Lines that list the words of a board.
-use Rattle.std.proofs.Common.{◌≡◌, ℕ, zero, suc, ◌+◌, ◌^◌, ◌<◌, ◌≤◌, Bool, true, false, List, [], ◌∷◌, ◌++◌, length, get_or, map, arith, refl, sym, ap, subst, ◌∙◌, Option, Some, None}
+use Rattle.std.proofs.Common.{◌≡◌, ℕ, suc, ◌^◌, ◌<◌, true, false, List, [], ◌∷◌, ◌++◌, length, get_or, arith, refl, sym, ap, ◌∙◌, Some, None}
 use Rattle.std.specs.Prelude.{find, is_some, OnOk, Result, Ok, Err}
 use Rattle.std.specs.List.{AllByRecursion, position_from}
 use Rattle.std.proofs.lemmas.List.{length-map}
-use Rattle.board_model.specs.declared.answer.Answer.{Answer}
 use Rattle.board_model.specs.declared.answer.Answer.TheVariants as answer
 use Rattle.board_model.specs.declared.answer.Reason.TheVariants as reason
 use Rattle.board_model.specs.declared.line.Line.{Line}
@@ -13,12 +12,12 @@ use Rattle.board_model.specs.AnswerGrammar.{answer_line}
 use Rattle.board_model.specs.LineGrammar.{IsLine, IsNumber, Spells}
 use Rattle.board_model.specs.LawsOfBounds.{IsWithin}
 use Rattle.board_model.specs.Tables.{board_at, is_numbered}
-use Rattle.board_model.specs.LawfulSession.{IsRight, Session, State, start, state_after}
+use Rattle.board_model.specs.LawfulSession.{Session, State, start, state_after}
 use Rattle.board_model.proofs.DrawLemmas.{session_within}
 use Rattle.board_model.proofs.SoundLemmas.{sound_session}
 use Rattle.board_lines.specs.Runs.{HasAnswered, StandsFor}
 use Rattle.board_script.specs.declared.machine.Machine.{Machine}
-use Rattle.board_script.specs.Machine.{IsBounded, IsLed, IsTelling, Represents, Tells, words_of}
+use Rattle.board_script.specs.Machine.{IsBounded, IsLed, Represents, Tells}
 use Rattle.board_script.proofs.Memories.{words_at}
 use Rattle.board_script.proofs.Rows.{first_at, place_found, place_missing}
 

@@ -1,11 +1,10 @@
 -- The words of the boards, one after another.
-use Rattle.std.proofs.Common.{◌≡◌, ℕ, zero, suc, ◌+◌, ◌<◌, ◌≤◌, Bool, true, false, cond, List, [], ◌∷◌, ◌++◌, length, get_or, set, map, arith, rules, refl, sym, ap, subst, ◌∙◌, Option, Some, None, ◌⊎◌, inl, inr}
-use Rattle.std.specs.Prelude.{find, ◌==◌}
-use Rattle.std.specs.List.{position_from, count_by, sum_by}
+use Rattle.std.proofs.Common.{◌≡◌, ℕ, suc, ◌+◌, ◌≤◌, Bool, true, false, cond, List, [], ◌∷◌, get_or, set, arith, refl, sym, ap, ◌∙◌, Option, Some, ◌⊎◌, inl, inr}
+use Rattle.std.specs.Prelude.{◌==◌}
+use Rattle.std.specs.List.{position_from, count_by}
 use Rattle.std.proofs.lemmas.List.Sums.{sum_by-cons}
 use Rattle.std.proofs.lemmas.Bool.{eqb-true}
 use Rattle.board_model.specs.declared.tables.Board.{Board}
-use Rattle.board_model.specs.Memory.{store, with_board}
 use Rattle.board_model.specs.Tables.{is_numbered}
 use Rattle.board_script.specs.Machine.{words_of}
 

@@ -1,5 +1,5 @@
 -- Notes that were written whole, or in part.
-use Rattle.std.proofs.Common.{◌≡◌, ℕ, ◌+◌, ◌<◌, ◌≤◌, List, length, take, arith, refl, sym, ap, subst, Option}
+use Rattle.std.proofs.Common.{ℕ, List, length, take, arith, sym, subst, Option}
 use Rattle.std.specs.Prelude.{OnErr, OnOk, Result, Ok, Err}
 use Rattle.std.specs.Io.KnownBytes.{Appends}
 use Rattle.std.proofs.Math.Seq.{take-length}

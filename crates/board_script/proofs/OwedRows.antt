@@ -1,8 +1,7 @@
 -- The row of a party whose call owes an access.
-use Rattle.std.proofs.Common.{◌≡◌, ℕ, ◌<◌, ◌≤◌, Bool, true, false, List, ◌∷◌, length, get_or, arith, refl, sym, ap, subst, ◌∙◌, Option, Some}
+use Rattle.std.proofs.Common.{◌≡◌, ℕ, ◌<◌, Bool, true, false, List, length, get_or, refl, subst, ◌∙◌, Some}
 use Rattle.std.specs.List.{position_from}
 use Rattle.board_cell.specs.Calls.{progress_of}
-use Rattle.board_cell.specs.declared.access.Progress.{Progress}
 use Rattle.board_cell.specs.declared.access.Progress.TheVariants.{More, Done}
 use Rattle.board_model.specs.LawfulSession.{State}
 use Rattle.board_script.specs.declared.machine.Machine.{Machine}

@@ -1,6 +1,5 @@
 -- The rows of the parties, and the parties that they stand for.
-use Rattle.std.proofs.Common.{◌≡◌, ℕ, zero, suc, ◌+◌, ◌-◌, ◌<◌, ◌≤◌, Bool, true, false, cond, List, [], ◌∷◌, ◌++◌, length, get_or, set, take, drop, map, arith, rules, refl, sym, ap, subst, ◌∙◌, Option, Some, None}
-use Rattle.std.specs.Prelude.{not, ◌&&◌, ◌==◌, is_some}
+use Rattle.std.proofs.Common.{◌≡◌, ℕ, ◌<◌, Bool, true, false, cond, List, [], ◌∷◌, ◌++◌, length, get_or, set, refl, sym, ap, subst, ◌∙◌, Some, None}
 use Rattle.std.specs.Str.{bytes_eq}
 use Rattle.std.proofs.lemmas.List.{append-nil}
 use Rattle.std.specs.List.{filter, position_from, remove}
@@ -10,11 +9,10 @@ use Rattle.board_model.specs.declared.access.Access.TheVariants as access
 use Rattle.board_model.specs.Requests.{Request}
 use Rattle.board_model.specs.Parties.{Party, Running, begun, free, gone, notice, running, with_party}
 use Rattle.board_model.proofs.ListLemmas.{same_bytes}
-use Rattle.board_model.proofs.ThingLemmas.{same_to_itself}
 use Rattle.board_script.specs.declared.machine.PartyRow.{PartyRow}
 use Rattle.board_script.specs.declared.machine.Task.{Task}
 use Rattle.board_script.specs.declared.machine.Task.TheVariants as task
-use Rattle.board_script.specs.Machine.{AreRowsOf, IsRowOf, IsTaskOf, is_row_of}
+use Rattle.board_script.specs.Machine.{AreRowsOf, IsTaskOf, is_row_of}
 use Rattle.board_script.specs.Steps.{is_gone}
 use Rattle.board_script.proofs.Rows.{IsFirst, filter-remove_only, filter-remove_other, filter-set_only, filter-set_other, first_at, none_passes, only_at, some_at}
 
@@ -49,13 +47,6 @@ module _ (rows : List PartyRow) (parties : List ℕ → Party) (are : AreParties
 
   pub is_free : None ≡ position_from (is_row_of party) 0 rows → parties party ≡ free
   is_free e = no_row (parties party) (subst (λ (xs : List PartyRow). AreRowsOf xs (parties party)) (none_passes (is_row_of party) rows e) (are party))
-
-  none_of : (o : Option ℕ) → is_some o ≡ false → None ≡ o
-  none_of None e = refl
-  none_of (Some k) e = absurd cc
-
-  pub is_idle : is_some (position_from (is_row_of party) 0 rows) ≡ false → parties party ≡ free
-  is_idle e = is_free (none_of (position_from (is_row_of party) 0 rows) e)
 
   runs_in : (place : ℕ) (row : PartyRow) → row ≡ get_or rows place row → is_gone row.task ≡ false → IsFirst (is_row_of party) rows place → (x : Party) → parties party ≡ x → AreRowsOf (filter (is_row_of party) rows) x
       → RunsAt rows parties party place row
@@ -93,13 +84,6 @@ module _ (rows : List PartyRow) (parties : List ℕ → Party) (are : AreParties
 
   pub gone_at : (place : ℕ) (row : PartyRow) → Some place ≡ position_from (is_row_of party) 0 rows → row ≡ get_or rows place row → is_gone row.task ≡ true → parties party ≡ gone
   gone_at place row p e g = gone_in place row e g (first_at (is_row_of party) place rows p) (parties party) refl (are party)
-
--- one row stands at a place
-pub same_row : (rows : List PartyRow) (parties : List ℕ → Party) (party : List ℕ) (place : ℕ) (x y : PartyRow) → RunsAt rows parties party place x → RunsAt rows parties party place y → x ≡ y
-same_row rows parties party place x y a b = first_same x y (sym a.only ∙ b.only)
-  where
-    first_same : (x y : PartyRow) → x ∷ [] ≡ y ∷ [] → x ≡ y
-    first_same x y e = cc
 
 -- ---- changes
 

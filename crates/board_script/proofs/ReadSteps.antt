@@ -1,7 +1,7 @@
 -- A step of a call that reads a word is right, and the machine stands for what follows.
-use Rattle.std.proofs.Common.{◌≡◌, ℕ, zero, suc, ◌+◌, ◌<◌, ◌≤◌, Bool, true, false, cond, List, [], ◌∷◌, ◌++◌, length, map, get_or, set, arith, refl, sym, ap, subst, ◌∙◌, Option, Some, None}
-use Rattle.std.specs.Prelude.{◌==◌, ◌&&◌, nat_le, is_some, slice_get, option_map}
-use Rattle.std.specs.List.{AllByRecursion, filter, position_from, remove}
+use Rattle.std.proofs.Common.{◌≡◌, ℕ, zero, suc, ◌<◌, Bool, true, false, cond, List, [], ◌∷◌, ◌++◌, length, map, get_or, set, arith, refl, sym, ap, subst, ◌∙◌, Option, Some, None}
+use Rattle.std.specs.Prelude.{◌==◌, ◌&&◌, is_some, slice_get}
+use Rattle.std.specs.List.{filter, remove}
 use Rattle.std.specs.Str.{bytes_eq}
 use Rattle.std.proofs.lemmas.Bool.{eqb-false, eqb-true, le-leb}
 use Rattle.std.proofs.lemmas.List.{append-nil, length-append, nil_from_length}
@@ -15,21 +15,21 @@ use Rattle.board_model.specs.declared.line.Line.TheVariants as line
 use Rattle.board_model.specs.declared.value.ValueType.{ValueType}
 use Rattle.board_model.specs.AnswerGrammar.{IsReply}
 use Rattle.board_model.specs.LineGrammar.{IsLine, IsNumber}
-use Rattle.board_model.specs.OwedAccesses.{Owed, Reading, finished, hear, heard, is_finished, opening, owed_of, owed_read, to_read, trying}
-use Rattle.board_model.specs.Memory.{IsStanding, after_access, memory_after}
-use Rattle.board_model.specs.Requests.{Fetch, Look, Request, fresh, get}
-use Rattle.board_model.specs.Replies.{Asked, ask, latest, lists_after, with_value}
-use Rattle.board_model.specs.Tables.{board_at, is_numbered}
-use Rattle.board_model.specs.Things.{Kept, Standing, with_at}
+use Rattle.board_model.specs.OwedAccesses.{Reading, finished, hear, heard, is_finished, opening, owed_read, to_read, trying}
+use Rattle.board_model.specs.Memory.{memory_after}
+use Rattle.board_model.specs.Requests.{Fetch, Request, fresh, get}
+use Rattle.board_model.specs.Replies.{ask, latest, with_value}
+use Rattle.board_model.specs.Tables.{board_at}
+use Rattle.board_model.specs.Things.{Kept}
 use Rattle.board_model.specs.TypeTable.{value_type_of}
-use Rattle.board_model.specs.Parties.{Party, Running, free, is_done, notice, owed, reading, reply_of_look, reply_of_reading, reply_read, running, with_party}
+use Rattle.board_model.specs.Parties.{Running, free, is_done, notice, owed, reading, reply_of_look, reply_of_reading, reply_read, running, with_party}
 use Rattle.board_model.specs.LawfulSession.{IsRight, State, after}
 use Rattle.board_model.specs.LawsOfReads.{IsTaking}
 use Rattle.board_model.specs.Sound.{IsCalling, Sound}
 use Rattle.board_model.proofs.BoundLaws.{read_in_board}
 use Rattle.board_model.proofs.GetLemmas.{reading_push}
 use Rattle.board_model.proofs.KeptLemmas.{entry_board}
-use Rattle.board_model.proofs.ReadLaws.{last_value, reads_are_replies, reply_at_end}
+use Rattle.board_model.proofs.ReadLaws.{last_value, reads_are_replies}
 use Rattle.board_model.proofs.RunningLemmas.{runs}
 use Rattle.board_cell.specs.Calls.{Asking, Getting, counter_of, words_of}
 use Rattle.board_script.specs.declared.machine.KeptValue.{KeptValue}
@@ -41,10 +41,10 @@ use Rattle.board_script.specs.declared.step.OwedAccess.TheVariants as owed_acces
 use Rattle.board_script.specs.declared.step.OwedRead.{OwedRead}
 use Rattle.board_script.specs.Machine as machine
 use Rattle.board_script.specs.Machine.{AreRowsOf, IsTaskOf, Represents, getting, asking, is_row_of, kept, kept_from, kept_of, tables_of}
-use Rattle.board_script.specs.Steps.{HasRead, HasWord, IsLoaded, IsOwedBy, IsReadTold, is_last, kept_anew, read_told, ticked, values_read}
+use Rattle.board_script.specs.Steps.{HasWord, IsLoaded, IsOwedBy, IsReadTold, is_last, kept_anew, read_told, ticked, values_read}
 use Rattle.board_script.proofs.PartyRows.{RunsAt, ended, went_on}
 use Rattle.board_script.proofs.Rows.{remove-set}
-use Rattle.board_script.proofs.UpdateSteps.{StandsAt, has_word, stands_at}
+use Rattle.board_script.proofs.UpdateSteps.{has_word, stands_at}
 
 -- ---- what a read owes
 

@@ -1,5 +1,5 @@
 -- What passes a test in a list, where one place of the list changes or goes.
-use Rattle.std.proofs.Common.{◌≡◌, ℕ, zero, suc, ◌+◌, ◌-◌, ◌<◌, ◌≤◌, Bool, true, false, cond, List, [], ◌∷◌, ◌++◌, length, get_or, set, take, drop, map, arith, rules, refl, sym, ap, subst, ◌∙◌, Option, Some, None, ◌⊎◌, inl, inr, length-append}
+use Rattle.std.proofs.Common.{◌≡◌, ℕ, zero, suc, ◌+◌, ◌<◌, Bool, true, false, cond, List, [], ◌∷◌, ◌++◌, length, get_or, set, take, drop, arith, refl, sym, ap, ◌∙◌, Option, Some, None, ◌⊎◌, inl, inr}
 use Rattle.std.specs.Prelude.{find, is_some}
 use Rattle.std.specs.List.{filter, position_from, remove}
 use Rattle.std.proofs.lemmas.List.Elements.{filter-append}
@@ -45,15 +45,6 @@ none_from {X = X} p i (x ∷ xs) e =
 
 pub none_passes : {X : Type 0} (p : X → Bool) (xs : List X) → None ≡ position_from p 0 xs → filter p xs ≡ []
 none_passes p xs e = none_from p 0 xs (sym e)
-
--- and nothing is found where nothing passes
-pub passes_none : {X : Type 0} (p : X → Bool) (i : ℕ) (xs : List X) → filter p xs ≡ [] → position_from p i xs ≡ None
-passes_none p i [] e = refl
-passes_none {X = X} p i (x ∷ xs) e = split (p x) (passes_none p (i + 1) xs) e
-  where
-    split : (b : Bool) → (filter p xs ≡ [] → position_from p (i + 1) xs ≡ None) → cond b (x ∷ filter p xs) (filter p xs) ≡ [] → cond b (Some i) (position_from p (i + 1) xs) ≡ None
-    split true more e = absurd cc
-    split false more e = more e
 
 -- what stands somewhere is found
 pub place_found : {X : Type 0} (p : X → Bool) (i k : ℕ) (xs : List X) → position_from p i xs ≡ Some k → is_some (find p xs) ≡ true

@@ -1,8 +1,8 @@
 -- The step of a call on the tables is right, and the machine stands for what follows.
-use Rattle.std.proofs.Common.{◌≡◌, ℕ, zero, suc, ◌+◌, ◌-◌, ◌^◌, ◌<◌, ◌≤◌, Bool, true, false, cond, List, [], ◌∷◌, ◌++◌, length, get_or, set, map, arith, rules, refl, sym, ap, subst, ◌∙◌, Option, Some, None}
-use Rattle.std.specs.Prelude.{◌==◌, nat_le, find, is_some, Result, Ok, Err, slice_index}
+use Rattle.std.proofs.Common.{◌≡◌, ℕ, ◌+◌, ◌^◌, ◌<◌, true, false, List, [], ◌∷◌, ◌++◌, length, get_or, map, arith, refl, sym, ap, subst, ◌∙◌, Option, Some, None}
+use Rattle.std.specs.Prelude.{nat_le, is_some, Result, slice_index}
 use Rattle.std.specs.Str.{bytes_eq}
-use Rattle.std.specs.List.{AllByRecursion, count_by, filter, position_from, remove}
+use Rattle.std.specs.List.{filter, position_from, remove}
 use Rattle.std.proofs.lemmas.Bool.{eq-eqb, le-leb}
 use Rattle.std.proofs.lemmas.List.{length-append, map_push}
 use Rattle.board_model.specs.declared.access.Access.TheVariants as access
@@ -17,12 +17,9 @@ use Rattle.board_model.specs.declared.tables.Entry.{Entry}
 use Rattle.board_model.specs.declared.tables.Kind.{Kind}
 use Rattle.board_model.specs.declared.tables.Kind.TheVariants as kind
 use Rattle.board_model.specs.declared.tables.Limits.{Limits}
-use Rattle.board_model.specs.declared.tables.ThingKind.{ThingKind}
 use Rattle.board_model.specs.declared.tables.ThingKind.TheVariants as thing_kind
 use Rattle.board_model.specs.declared.value.AddedEntry.{AddedEntry}
-use Rattle.board_model.specs.declared.value.Key.{Key}
 use Rattle.board_model.specs.declared.value.KeyType.{KeyType}
-use Rattle.board_model.specs.declared.value.ValueType.{ValueType}
 use Rattle.board_model.specs.AnswerGrammar.{IsReply}
 use Rattle.board_model.specs.LineGrammar.{IsLine}
 use Rattle.board_model.specs.Memory.{memory_after, opening_of, with_board}
@@ -30,14 +27,13 @@ use Rattle.board_model.specs.Requests.{Request, TableCall, create, entry, entry_
 use Rattle.board_model.specs.Replies.{Asked, added_of, ask_tables, is_key, number_or, told_by}
 use Rattle.board_model.specs.Tables.{Tables, board_at, entry_at, entry_found, entry_in, entry_of, is_numbered, kind_of, new_board}
 use Rattle.board_model.specs.TableCalls.{asked, create_asked, create_refusals, created, entry_asked, entry_mut_asked, first_of, open_asked, reader_asked, writer_asked}
-use Rattle.board_model.specs.Things.{Held, Standing, thing_of}
+use Rattle.board_model.specs.Things.{Held}
 use Rattle.board_model.specs.TypeTable.{key_detail, same_key, value_detail}
-use Rattle.board_model.specs.Parties.{Party, Running, free, notice, running, with_party}
+use Rattle.board_model.specs.Parties.{Running, free, notice, running, with_party}
 use Rattle.board_model.specs.LawfulSession.{IsRight, State, after}
 use Rattle.board_model.specs.Sound.{HasEntry, HasEntryAt, IsCalling, Sound}
 use Rattle.board_model.proofs.ListLemmas.{any_missing, count_none}
 use Rattle.board_model.proofs.RunningLemmas.{runs}
-use Rattle.board_model.proofs.KeptLemmas.{entry_board}
 use Rattle.board_model.proofs.ThingLemmas.{all_found}
 use Rattle.board_script.specs.declared.machine.Machine.{Machine}
 use Rattle.board_script.specs.declared.machine.PartyRow.{PartyRow}
@@ -49,7 +45,7 @@ use Rattle.board_script.specs.Steps.{CanRun, HasCounter, IsCounter, IsGen, IsTol
 use Rattle.board_script.specs.TableCalls.{IsAsked, IsCreate, words_with}
 use Rattle.board_script.proofs.Memories.{same_words}
 use Rattle.board_script.proofs.PartyRows.{RunsAt, ended}
-use Rattle.board_script.proofs.UpdateSteps.{StandsAt, stands_at}
+use Rattle.board_script.proofs.UpdateSteps.{stands_at}
 
 abbrev BoardTables : Type 0
 BoardTables = Tables (List ℕ) (List ℕ)

@@ -1,25 +1,24 @@
 -- A step of an update is right, and the machine stands for what follows.
-use Rattle.std.proofs.Common.{◌≡◌, ℕ, zero, suc, ◌+◌, ◌-◌, ◌<◌, ◌≤◌, Bool, true, false, cond, List, [], ◌∷◌, ◌++◌, length, get_or, set, map, arith, rules, refl, sym, ap, subst, ◌∙◌, Option, Some, None}
-use Rattle.std.specs.Prelude.{◌==◌, nat_le, find, is_some}
+use Rattle.std.proofs.Common.{◌≡◌, ℕ, ◌+◌, ◌<◌, ◌≤◌, true, false, List, [], ◌∷◌, ◌++◌, length, get_or, set, arith, refl, sym, ap, subst, ◌∙◌, Option, Some, None}
+use Rattle.std.specs.Prelude.{◌==◌, find, is_some}
 use Rattle.std.specs.List.{count_by, filter, position_from, remove}
 use Rattle.std.proofs.lemmas.Bool.{eqb-true, eqb-false, le-leb, lt-leb}
 use Rattle.std.proofs.lemmas.List.{length-append, length-map}
 use Rattle.board_model.specs.declared.access.Access.{Access}
 use Rattle.board_model.specs.declared.access.Access.TheVariants as access
 use Rattle.board_model.specs.declared.answer.Answer.TheVariants as answer
-use Rattle.board_model.specs.declared.answer.Reply.{Reply}
 use Rattle.board_model.specs.declared.answer.Reply.TheVariants as reply
 use Rattle.board_model.specs.declared.line.Line.TheVariants as line
 use Rattle.board_model.specs.declared.tables.Board.{Board}
 use Rattle.board_model.specs.LineGrammar.{IsLine, IsNumber}
-use Rattle.board_model.specs.OwedAccesses.{Reading, finished, is_finished, opening, owed_of, owed_write, to_write, trying}
+use Rattle.board_model.specs.OwedAccesses.{Reading, finished, is_finished, opening, owed_write, to_write, trying}
 use Rattle.board_model.specs.Memory.{store}
 use Rattle.board_model.specs.Requests.{Publication, Request, get, update}
 use Rattle.board_model.specs.Tables.{board_at, is_numbered}
 use Rattle.board_model.specs.TypeTable.{value_words}
-use Rattle.board_model.specs.Parties.{Party, Running, free, is_done, notice, owed, reading, running, with_party}
+use Rattle.board_model.specs.Parties.{Running, free, is_done, notice, owed, reading, running, with_party}
 use Rattle.board_model.specs.LawfulSession.{IsRight, State, after}
-use Rattle.board_model.specs.Sound.{IsCalling, IsPublishing, IsReading, Sound}
+use Rattle.board_model.specs.Sound.{IsCalling, IsReading, Sound}
 use Rattle.board_model.proofs.RunningLemmas.{runs}
 use Rattle.board_model.proofs.KeptLemmas.{entry_board}
 use Rattle.board_model.proofs.StoreLemmas.{store_here}
@@ -33,7 +32,7 @@ use Rattle.board_script.specs.declared.machine.Task.TheVariants as task
 use Rattle.board_script.specs.declared.step.OwedAccess.TheVariants as owed_access
 use Rattle.board_script.specs.declared.step.OwedWrite.{OwedWrite}
 use Rattle.board_script.specs.Machine.{AreRowsOf, IsTaskOf, Represents, is_row_of, kept, tables_of, updating, words_of}
-use Rattle.board_script.specs.Steps.{CanGoOn, HasWord, IsOwedBy, IsOwedWrite, IsStored, ticked}
+use Rattle.board_script.specs.Steps.{CanGoOn, HasWord, IsOwedBy, IsStored, ticked}
 use Rattle.board_script.proofs.Memories.{words-set, words_at}
 use Rattle.board_script.proofs.PartyRows.{RunsAt, ended, went_on}
 use Rattle.board_script.proofs.Rows.{first_at, found_somewhere}

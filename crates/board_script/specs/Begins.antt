@@ -2,11 +2,13 @@
 use Rattle.std.specs.Prelude.{◌≡◌, ℕ, Bool, true, false, ◌||◌, List, [], Option, Some, None, is_some}
 use Rattle.board_model.specs.declared.answer.Reason.{Reason}
 use Rattle.board_model.specs.declared.line.Call.{Call}
+use Rattle.board_model.specs.declared.tables.Kind.{Kind}
+use Rattle.board_model.specs.declared.tables.Kind.TheVariants as kind
 use Rattle.board_model.specs.declared.line.Call.TheVariants as call
 use Rattle.board_model.specs.Requests.{Request, request_of}
 use Rattle.board_model.specs.LawfulSession.{State, call_reason}
 use Rattle.board_model.specs.Sound.{Sound}
-use Rattle.board_model.specs.Things.{thing_of}
+use Rattle.board_model.specs.Things.{Held, thing_of}
 use Rattle.board_script.specs.declared.begin.Checked.{Checked}
 use Rattle.board_script.specs.declared.begin.Checked.TheVariants as checked
 use Rattle.board_script.specs.declared.machine.Machine.{Machine}
@@ -37,6 +39,20 @@ holds m party name = is_some (thing_of m.things.items party name) || is_some (ke
 abbrev pub holds_any : Machine → List ℕ → Option (List ℕ) → Bool
 holds_any m party None = false
 holds_any m party (Some name) = holds m party name
+
+abbrev pub is_handle : Kind → Bool
+is_handle kind.Factory = false
+is_handle (kind.Reader port) = false
+is_handle (kind.Writer port) = false
+is_handle (kind.ReadHandle i) = true
+is_handle (kind.WriteHandle i port) = true
+
+-- a handle that some party holds
+pub record IsHandle (m : Machine) (x : Held) : Type 0 where
+  pub party : List ℕ
+  pub name : List ℕ
+  pub found : thing_of m.things.items party name ≡ Some x
+  pub handle : is_handle x.kind ≡ true
 
 -- ---- checks
 

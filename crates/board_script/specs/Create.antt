@@ -1,11 +1,10 @@
 -- The plan of a new board.
-use Rattle.std.specs.Prelude.{◌≡◌, ℕ, ◌*◌, ◌^◌, ◌<◌, List, map, All, Some, None, true}
+use Rattle.std.specs.Prelude.{◌≡◌, ℕ, List, map, All, Some, None, true}
 use Rattle.board_layout.specs.declared.plan_types.Plan.{Plan}
 use Rattle.board_layout.specs.Layout.{LiesWithin, places_from}
 use Rattle.board_model.specs.declared.tables.Board.{Board}
 use Rattle.board_model.specs.declared.value.AddedEntry.{AddedEntry}
 use Rattle.board_model.specs.declared.value.KeyType.{KeyType}
-use Rattle.board_model.specs.declared.errors.BlackboardCreateError.{BlackboardCreateError}
 use Rattle.board_model.specs.AnswerGrammar.{is_create_reply}
 use Rattle.board_model.specs.Replies.{added_of}
 use Rattle.board_model.specs.Tables.{shapes_of}

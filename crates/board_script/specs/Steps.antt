@@ -1,12 +1,12 @@
 -- What the parts of a step do to a machine.
-use Rattle.std.specs.Prelude.{◌≡◌, ℕ, ◌+◌, ◌<◌, ◌≤◌, ◌^◌, ◌==◌, Bool, true, false, List, [], ◌∷◌, ◌++◌, length, find, Option, Some, None, IsSome, option_map, slice_index, slice_index_or, slice_set}
+use Rattle.std.specs.Prelude.{◌≡◌, ℕ, ◌+◌, ◌<◌, ◌≤◌, ◌^◌, ◌==◌, Bool, true, false, List, [], ◌∷◌, ◌++◌, length, Option, Some, None, IsSome, option_map, slice_index, slice_index_or, slice_set}
 use Rattle.std.specs.List.{position_from}
 use Rattle.board_model.specs.declared.answer.Reply.{Reply}
 use Rattle.board_model.specs.declared.answer.Reply.TheVariants as reply
 use Rattle.board_model.specs.declared.tables.Entry.{Entry}
 use Rattle.board_model.specs.declared.value.ValueType.{ValueType}
 use Rattle.board_model.specs.OwedAccesses.{hear, is_finished, owed_read, owed_write, to_read, to_write}
-use Rattle.board_model.specs.Tables.{board_at, entry_at, entry_of, is_numbered}
+use Rattle.board_model.specs.Tables.{entry_at, entry_of, is_numbered}
 use Rattle.board_model.specs.Things.{Held}
 use Rattle.board_cell.specs.Calls.{Getting, Updating, counter_of, words_of}
 use Rattle.board_script.specs.declared.machine.KeptValue.{KeptValue}

@@ -1,18 +1,18 @@
 //! Lines `begin P CALL`.
-ghost use Rattle.std.specs.Prelude.{◌≡◌, ◌+◌, ◌<◌, ◌≤◌, ◌^◌, ◌||◌, true, IfOk, find, is_some};
+ghost use Rattle.std.specs.Prelude.{◌≡◌, ◌+◌, ◌<◌, ◌≤◌, ◌^◌, ◌||◌, true, Some, IfOk, find, is_some};
 ghost use Rattle.std.specs.List.{list_all};
 ghost use Rattle.board_model.specs.LawfulSession.{has_key_type, is_typed_key};
 ghost use Rattle.board_model.specs.Tables as tables;
 ghost use Rattle.board_model.specs.Things as held;
 ghost use Rattle.board_model.specs.declared.line.Call.TheVariants as call;
 ghost use Rattle.board_model.specs.declared.line.Line.TheVariants as line;
-ghost use Rattle.board_script.specs.Machine.{IsLed, Serves, kept};
-ghost use Rattle.board_script.specs.Begins.{Checks, holds, holds_any, serves_call};
+ghost use Rattle.board_script.specs.Machine.{IsLed, Serves, kept, tables_of};
+ghost use Rattle.board_script.specs.Begins.{Checks, IsHandle, holds, holds_any, serves_call};
 
 use crate::lookups::{
     board_at, entry_at, entry_of, held_of_kind, place_of_party, thing_of, value_of,
 };
-use crate::machine::{Machine, PartyRow, TableTask, Task};
+use crate::machine::{Held, Machine, PartyRow, TableTask, Task};
 use crate::values::{
     key_detail, same_key_type, same_type, type_of, type_of_key, value_detail, value_type_of,
     value_words,
@@ -76,6 +76,18 @@ impl Machine {
         match name {
             Some(name) => self.holds(party, name),
             None => false,
+        }
+    }
+
+    // The entry of a handle that a party holds.
+    fn entry_held(&self, handle: &Held) -> &Entry
+        requires led { IsLed self.now }
+        requires held { IsHandle self.now handle.now }
+        ensures { tables.entry_at (tables_of self.now) handle.now.board (tables.entry_of handle.now.kind) ≡ Some result.now }
+    {
+        match entry_at(handle.board, entry_of(&handle.kind), &self.boards) {
+            Some(entry) => entry,
+            None => unreachable!(),
         }
     }
 
@@ -226,9 +238,7 @@ impl Machine {
         let Some(found) = held_of_kind(ThingKind::ReadHandle, party, handle, &self.things) else {
             return Ok(Checked::Refused(Reason::Unknown));
         };
-        let Some(entry) = entry_at(found.board, entry_of(&found.kind), &self.boards) else {
-            return Ok(Checked::Refused(Reason::Unknown));
-        };
+        let entry = self.entry_held(&found);
         if self.holds_any(party, &name) {
             return Ok(Checked::Refused(Reason::Taken));
         }
@@ -243,14 +253,13 @@ impl Machine {
     }
 
     fn check_fresh(&self, party: &Name, handle: &Name, value: &Name) -> Checked
+        requires { IsLed self.now }
         ensures { Checks self.now party.now (call.Fresh handle.now value.now) result }
     {
         let Some(found) = held_of_kind(ThingKind::ReadHandle, party, handle, &self.things) else {
             return Checked::Refused(Reason::Unknown);
         };
-        let Some(entry) = entry_at(found.board, entry_of(&found.kind), &self.boards) else {
-            return Checked::Refused(Reason::Unknown);
-        };
+        let entry = self.entry_held(&found);
         let Some(kept) = value_of(party, value, &self.values) else {
             return Checked::Refused(Reason::Unknown);
         };
@@ -270,15 +279,12 @@ impl Machine {
         let Some(found) = held_of_kind(ThingKind::WriteHandle, party, handle, &self.things) else {
             return Ok(Checked::Refused(Reason::Unknown));
         };
-        let place = entry_of(&found.kind);
-        let Some(entry) = entry_at(found.board, place, &self.boards) else {
-            return Ok(Checked::Refused(Reason::Unknown));
-        };
+        let entry = self.entry_held(&found);
         if !same_type(&value_detail(type_of(value)), &entry.value) {
             return Ok(Checked::Refused(Reason::Type));
         }
         let shape = shape_of(entry);
-        let generation = self.counter(found.board, place);
+        let generation = self.counter(found.board, entry_of(&found.kind));
         let words = value_words(self.alloc, value)?;
         Ok(Checked::Accepted(Task::Update {
             board: found.board,

@@ -1,4 +1,4 @@
-use Rattle.std.proofs.Common.{◌≡◌, ℕ, ◌<◌, ◌^◌, length, get_or, rules, arith}
+use Rattle.std.proofs.Common.{arith}
 use Rattle.board_script.proofs.Listings.{numbers}
 use Rattle.board_script.proofs.line.push_listing.Goals as goal
 

@@ -1,4 +1,4 @@
-use Rattle.std.proofs.Common.{◌≡◌, ℕ, ◌<◌, List, length, get_or, set, rules, refl, sym, ap, ◌∙◌, true, false, Option, Some, None}
+use Rattle.std.proofs.Common.{◌≡◌, ℕ, rules, refl, sym, ap, ◌∙◌, true, false, Option, Some, None}
 use Rattle.std.specs.List.{position_from}
 use Rattle.board_script.specs.declared.machine.PartyRow.{PartyRow}
 use Rattle.board_script.specs.Machine.{is_row_of}

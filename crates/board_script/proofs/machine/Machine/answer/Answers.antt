@@ -1,4 +1,4 @@
-use Rattle.std.proofs.Common.{◌≡◌, List, ℕ, sym, subst}
+use Rattle.std.proofs.Common.{sym, subst}
 use Rattle.std.specs.Prelude.{OnOk}
 use Rattle.board_model.specs.declared.line.Line.{Line}
 use Rattle.board_model.specs.LineGrammar.{IsLine}

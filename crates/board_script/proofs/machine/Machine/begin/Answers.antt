@@ -1,4 +1,4 @@
-use Rattle.std.proofs.Common.{◌≡◌, ℕ, ◌<◌, List, length, rules, refl, subst, true, false, Option, Some, None}
+use Rattle.std.proofs.Common.{◌≡◌, ℕ, rules, refl, subst, true, false, Option, Some, None}
 use Rattle.std.specs.List.{position_from}
 use Rattle.board_model.specs.Requests.{request_of}
 use Rattle.board_model.specs.LawfulSession.{call_reason}

@@ -1,19 +1,14 @@
-use Rattle.std.proofs.Common.{◌≡◌, ℕ, ◌<◌, ◌^◌, List, length, rules, refl, sym, ap, subst, ◌∙◌, Option, Some, true, false}
+use Rattle.std.proofs.Common.{◌≡◌, ◌<◌, ◌^◌, rules, refl, sym, ap, subst, ◌∙◌, Option, Some, true, false}
 use Rattle.board_layout.specs.declared.shape.CellShape.{CellShape}
 use Rattle.board_model.specs.Copies.{cell_end}
 use Rattle.board_model.specs.OwedAccesses.{opening}
 use Rattle.board_cell.specs.Calls.{Getting}
-use Rattle.board_model.specs.declared.tables.Entry.{Entry}
 use Rattle.board_model.specs.declared.tables.ThingKind.TheVariants as thing_kind
-use Rattle.board_model.specs.Tables.{entry_at}
+use Rattle.board_model.specs.Tables.{entry_of}
 use Rattle.board_model.specs.Things.{Held, of_kind, thing_of}
 use Rattle.board_script.specs.Begins.{holds_any}
-use Rattle.board_script.specs.Machine.{tables_of}
-use Rattle.board_script.proofs.CallChecks.{cell_is_low, get_begins, get_taken}
+use Rattle.board_script.proofs.CallChecks.{cell_is_low, get_begins, get_taken, read_handle}
 use Rattle.board_script.proofs.machine.Machine.check_get.Goals as goal
-
-abbrev an_entry : Entry → Option Entry
-an_entry e = Some e
 
 abbrev a_get : CellShape → Getting
 a_get x = record { shape = x; reading = opening }
@@ -23,22 +18,24 @@ a_thing x = Some x
 
 pub returns-then-holds_any : goal.returns-then-holds_any
 returns-then-holds_any c =
-    let e : entry_at (tables_of c.args.self.now) c.in-Some.found.board c.entry_of.result ≡ an_entry c.in-Some-entry_at.entry.now = search rules in
     let h : of_kind thing_kind.ReadHandle (thing_of c.args.self.now.things.items c.args.party.now c.args.handle.now) ≡ a_thing c.in-Some.found = search rules in
     let t : holds_any c.args.self.now c.args.party.now c.args.name ≡ true = search rules in
-    λ s rep sound. get_taken c.args.self.now s rep sound c.in-Some.found.board c.entry_of.result c.in-Some-entry_at.entry.now e c.args.party.now c.args.handle.now c.in-Some.found refl c.entry_of.ensures h c.args.name t
+    λ s rep sound. get_taken c.args.self.now s rep sound c.in-Some.found.board (entry_of c.in-Some.found.kind) c.entry_held-entry.result.now c.entry_held-entry.ensures c.args.party.now c.args.handle.now c.in-Some.found refl refl h c.args.name t
 
 pub new-requires-clause-shape : goal.new-requires-clause-shape
 new-requires-clause-shape c =
-    let e : entry_at (tables_of c.args.self.now) c.in-Some.found.board c.entry_of.result ≡ an_entry c.in-Some-entry_at.entry.now = search rules in
     let led = c.requires in
     subst (λ (x : CellShape). cell_end x < 2 ^ 64) (sym c.shape_of-shape.ensures)
-    (cell_is_low c.args.self.now led.state led.represents led.sound c.in-Some.found.board c.entry_of.result c.in-Some-entry_at.entry.now e)
+    (cell_is_low c.args.self.now led.state led.represents led.sound c.in-Some.found.board (entry_of c.in-Some.found.kind) c.entry_held-entry.result.now c.entry_held-entry.ensures)
 
 pub returns : goal.returns
 returns c =
-    let e : entry_at (tables_of c.args.self.now) c.in-Some.found.board c.entry_of.result ≡ an_entry c.in-Some-entry_at.entry.now = search rules in
     let h : of_kind thing_kind.ReadHandle (thing_of c.args.self.now.things.items c.args.party.now c.args.handle.now) ≡ a_thing c.in-Some.found = search rules in
     let free : holds_any c.args.self.now c.args.party.now c.args.name ≡ false = search rules in
-    λ s rep sound. get_begins c.args.self.now s rep sound c.in-Some.found.board c.entry_of.result c.in-Some-entry_at.entry.now e c.args.party.now c.args.handle.now c.in-Some.found refl c.entry_of.ensures h c.args.name c.new.result c.value_type_of.result
+    λ s rep sound. get_begins c.args.self.now s rep sound c.in-Some.found.board (entry_of c.in-Some.found.kind) c.entry_held-entry.result.now c.entry_held-entry.ensures c.args.party.now c.args.handle.now c.in-Some.found refl refl h c.args.name c.new.result c.value_type_of.result
     (c.new.ensures ∙ ap (λ (x : CellShape). a_get x) c.shape_of-shape.ensures) free c.value_type_of.ensures
+
+pub entry_held-entry-requires-clause-held : goal.entry_held-entry-requires-clause-held
+entry_held-entry-requires-clause-held c =
+    let h : of_kind thing_kind.ReadHandle (thing_of c.args.self.now.things.items c.args.party.now c.args.handle.now) ≡ a_thing c.in-Some.found = search rules in
+    read_handle c.args.self.now c.args.party.now c.args.handle.now c.in-Some.found h

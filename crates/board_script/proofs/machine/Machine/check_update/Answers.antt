@@ -2,17 +2,13 @@ use Rattle.std.proofs.Common.{◌≡◌, ℕ, ◌<◌, ◌^◌, List, length, ru
 use Rattle.board_layout.specs.declared.shape.CellShape.{CellShape}
 use Rattle.board_model.specs.Copies.{cell_end}
 use Rattle.board_cell.specs.Calls.{Updating}
-use Rattle.board_model.specs.declared.tables.Entry.{Entry}
 use Rattle.board_model.specs.declared.tables.ThingKind.TheVariants as thing_kind
-use Rattle.board_model.specs.Tables.{entry_at}
+use Rattle.board_model.specs.Tables.{entry_of}
 use Rattle.board_model.specs.Things.{Held, of_kind, thing_of}
 use Rattle.board_model.specs.TypeTable.{same_type, type_of, value_detail, value_words}
-use Rattle.board_script.specs.Machine.{tables_of}
-use Rattle.board_script.proofs.CallChecks.{cell_is_low, counter_is_low, entry_has_counter, update_begins, value_fits}
+use Rattle.board_script.specs.Steps.{HasCounter, IsCounter}
+use Rattle.board_script.proofs.CallChecks.{cell_is_low, counter_is_low, entry_has_counter, update_begins, value_fits, write_handle}
 use Rattle.board_script.proofs.machine.Machine.check_update.Goals as goal
-
-abbrev an_entry : Entry → Option Entry
-an_entry e = Some e
 
 abbrev an_update : CellShape → ℕ → List ℕ → Updating
 an_update x g words = record { shape = x; generation = g; words = words; written = 0 }
@@ -22,37 +18,40 @@ a_thing x = Some x
 
 pub counter-generation-requires : goal.counter-generation-requires
 counter-generation-requires c =
-    let e : entry_at (tables_of c.args.self.now) c.in-Some.found.board c.entry_of-place.result ≡ an_entry c.in-Some-entry_at.entry.now = search rules in
     let led = c.requires in
-    entry_has_counter c.args.self.now led.state led.represents led.sound c.in-Some.found.board c.entry_of-place.result c.in-Some-entry_at.entry.now e
+    subst (λ (k : ℕ). HasCounter c.args.self.now c.in-Some.found.board k) (sym c.entry_of.ensures)
+    (entry_has_counter c.args.self.now led.state led.represents led.sound c.in-Some.found.board (entry_of c.in-Some.found.kind) c.entry_held-entry.result.now c.entry_held-entry.ensures)
 
 pub new-requires-clause-words : goal.new-requires-clause-words
 new-requires-clause-words c =
-    let e : entry_at (tables_of c.args.self.now) c.in-Some.found.board c.entry_of-place.result ≡ an_entry c.in-Some-entry_at.entry.now = search rules in
-    let t : same_type (value_detail (type_of c.args.value)) c.in-Some-entry_at.entry.now.value ≡ true = search rules in
+    let t : same_type (value_detail (type_of c.args.value)) c.entry_held-entry.result.now.value ≡ true = search rules in
     let w : c.in_ok-words.words.items ≡ value_words c.args.value = search rules in
     let led = c.requires in
-    ap (λ (ws : List ℕ). length ws) w ∙ value_fits c.args.self.now led.state led.represents led.sound c.in-Some.found.board c.entry_of-place.result c.in-Some-entry_at.entry.now e c.args.value t
+    ap (λ (ws : List ℕ). length ws) w ∙ value_fits c.args.self.now led.state led.represents led.sound c.in-Some.found.board (entry_of c.in-Some.found.kind) c.entry_held-entry.result.now c.entry_held-entry.ensures c.args.value t
     ∙ ap (λ (x : CellShape). x.words) (sym c.shape_of-shape.ensures)
 
 pub new-requires-clause-shape : goal.new-requires-clause-shape
 new-requires-clause-shape c =
-    let e : entry_at (tables_of c.args.self.now) c.in-Some.found.board c.entry_of-place.result ≡ an_entry c.in-Some-entry_at.entry.now = search rules in
     let led = c.requires in
     subst (λ (x : CellShape). cell_end x < 2 ^ 64) (sym c.shape_of-shape.ensures)
-    (cell_is_low c.args.self.now led.state led.represents led.sound c.in-Some.found.board c.entry_of-place.result c.in-Some-entry_at.entry.now e)
+    (cell_is_low c.args.self.now led.state led.represents led.sound c.in-Some.found.board (entry_of c.in-Some.found.kind) c.entry_held-entry.result.now c.entry_held-entry.ensures)
 
 pub new-requires-clause-room : goal.new-requires-clause-room
 new-requires-clause-room c =
-    let e : entry_at (tables_of c.args.self.now) c.in-Some.found.board c.entry_of-place.result ≡ an_entry c.in-Some-entry_at.entry.now = search rules in
     let led = c.requires in
-    counter_is_low c.args.self.now led.state led.represents led.sound c.in-Some.found.board c.entry_of-place.result c.in-Some-entry_at.entry.now e c.counter-generation.result led.bounded c.counter-generation.ensures
+    counter_is_low c.args.self.now led.state led.represents led.sound c.in-Some.found.board (entry_of c.in-Some.found.kind) c.entry_held-entry.result.now c.entry_held-entry.ensures c.counter-generation.result led.bounded
+    (subst (λ (k : ℕ). IsCounter c.args.self.now c.in-Some.found.board k c.counter-generation.result) c.entry_of.ensures c.counter-generation.ensures)
 
 pub returns : goal.returns
 returns c =
-    let e : entry_at (tables_of c.args.self.now) c.in-Some.found.board c.entry_of-place.result ≡ an_entry c.in-Some-entry_at.entry.now = search rules in
-    let t : same_type (value_detail (type_of c.args.value)) c.in-Some-entry_at.entry.now.value ≡ true = search rules in
+    let t : same_type (value_detail (type_of c.args.value)) c.entry_held-entry.result.now.value ≡ true = search rules in
     let w : c.in_ok-words.words.items ≡ value_words c.args.value = search rules in
     let h : of_kind thing_kind.WriteHandle (thing_of c.args.self.now.things.items c.args.party.now c.args.handle.now) ≡ a_thing c.in-Some.found = search rules in
-    λ s rep sound. update_begins c.args.self.now s rep sound c.in-Some.found.board c.entry_of-place.result c.in-Some-entry_at.entry.now e c.args.party.now c.args.handle.now c.in-Some.found c.args.value c.counter-generation.result c.in_ok-words.words.items c.new.result
-    (c.new.ensures ∙ ap (λ (x : CellShape). an_update x c.counter-generation.result c.in_ok-words.words.items) c.shape_of-shape.ensures) refl c.entry_of-place.ensures h t c.counter-generation.ensures w
+    λ s rep sound. update_begins c.args.self.now s rep sound c.in-Some.found.board (entry_of c.in-Some.found.kind) c.entry_held-entry.result.now c.entry_held-entry.ensures c.args.party.now c.args.handle.now c.in-Some.found c.args.value c.counter-generation.result c.in_ok-words.words.items c.new.result
+    (c.new.ensures ∙ ap (λ (x : CellShape). an_update x c.counter-generation.result c.in_ok-words.words.items) c.shape_of-shape.ensures) refl refl h t
+    (subst (λ (k : ℕ). IsCounter c.args.self.now c.in-Some.found.board k c.counter-generation.result) c.entry_of.ensures c.counter-generation.ensures) w
+
+pub entry_held-entry-requires-clause-held : goal.entry_held-entry-requires-clause-held
+entry_held-entry-requires-clause-held c =
+    let h : of_kind thing_kind.WriteHandle (thing_of c.args.self.now.things.items c.args.party.now c.args.handle.now) ≡ a_thing c.in-Some.found = search rules in
+    write_handle c.args.self.now c.args.party.now c.args.handle.now c.in-Some.found h

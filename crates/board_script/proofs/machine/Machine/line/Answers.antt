@@ -1,4 +1,4 @@
-use Rattle.std.proofs.Common.{◌≡◌, subst, Option}
+use Rattle.std.proofs.Common.{subst, Option}
 use Rattle.std.specs.Prelude.{IfSome}
 use Rattle.board_model.specs.declared.line.Line.{Line}
 use Rattle.board_model.specs.LineGrammar.{Spells}

@@ -1,6 +1,5 @@
-use Rattle.std.proofs.Common.{◌≡◌, rules, List, length, ap, subst, ◌∙◌, sym}
+use Rattle.std.proofs.Common.{List, length, ap, subst, ◌∙◌}
 use Rattle.board_layout.specs.declared.shape.CellPlace.{CellPlace}
-use Rattle.board_model.specs.declared.value.AddedEntry.{AddedEntry}
 use Rattle.board_script.specs.declared.create.Planned.{Planned}
 use Rattle.board_script.specs.Create.{IsPlanned}
 use Rattle.board_script.proofs.Places.{one_each}

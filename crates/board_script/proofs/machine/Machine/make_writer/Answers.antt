@@ -1,8 +1,7 @@
 use Rattle.board_model.specs.Things.{Held}
 use Rattle.std.proofs.Common.{List, ◌≡◌, rules, true, false, ap, sym, refl, ◌∙◌}
-use Rattle.std.specs.Prelude.{Result, ◌+◌}
+use Rattle.std.specs.Prelude.{◌+◌}
 use Rattle.std.specs.List.{list_any}
-use Rattle.board_model.specs.declared.answer.Reply.{Reply}
 use Rattle.board_model.specs.declared.answer.Reply.TheVariants as reply
 use Rattle.board_model.specs.Replies.{number_or}
 use Rattle.board_script.specs.Counts.{is_of_writer}

@@ -1,6 +1,5 @@
-use Rattle.std.proofs.Common.{◌≡◌, ℕ, ◌<◌, List, length, rules, refl, true, false, Option, Some, None}
+use Rattle.std.proofs.Common.{◌≡◌, ℕ, rules, true, false, Option, Some, None}
 use Rattle.std.specs.List.{position_from}
-use Rattle.board_script.specs.declared.step.OwedAccess.{OwedAccess}
 use Rattle.board_script.specs.declared.step.OwedAccess.TheVariants as owed
 use Rattle.board_script.specs.Machine.{is_row_of}
 use Rattle.board_script.specs.Steps.{is_gone}

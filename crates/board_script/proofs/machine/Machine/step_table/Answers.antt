@@ -1,13 +1,13 @@
-use Rattle.std.proofs.Common.{◌≡◌, ℕ, ◌<◌, List, length, rules, refl, sym, ap, subst, ◌∙◌}
-use Rattle.board_model.specs.Requests.{Request, table}
+use Rattle.std.proofs.Common.{◌≡◌, ℕ, List, rules, refl, sym, ap, subst, ◌∙◌}
+use Rattle.board_model.specs.Requests.{table}
 use Rattle.board_script.specs.declared.machine.Machine.{Machine}
 use Rattle.board_script.specs.declared.machine.PartyRow.{PartyRow}
 use Rattle.board_script.specs.declared.machine.Task.{Task}
 use Rattle.board_script.specs.declared.machine.Task.TheVariants as task
 use Rattle.board_script.specs.declared.step.OwedAccess.TheVariants as owed
 use Rattle.board_script.specs.Machine.{IsTaskOf, call_of}
-use Rattle.board_script.specs.Steps.{IsOwedBy, IsTold}
-use Rattle.board_script.proofs.OwedRows.{owed_row, row_inside, row_is, row_owes, row_runs}
+use Rattle.board_script.specs.Steps.{IsTold}
+use Rattle.board_script.proofs.OwedRows.{owed_row, row_inside, row_is, row_runs}
 use Rattle.board_script.proofs.TableSteps.{task_can_run, task_right}
 use Rattle.board_script.proofs.machine.Machine.step_table.Goals as goal
 

@@ -1,4 +1,4 @@
-use Rattle.std.proofs.Common.{◌≡◌, ℕ, ◌<◌, ◌^◌, List, length, get_or, set, rules, refl, sym, ap, subst, ◌∙◌}
+use Rattle.std.proofs.Common.{◌<◌, ◌^◌, List, length, get_or, rules, refl, sym, ap, subst, ◌∙◌}
 use Rattle.board_script.specs.declared.machine.PartyRow.{PartyRow}
 use Rattle.board_script.specs.declared.step.OwedAccess.TheVariants as owed
 use Rattle.board_script.specs.Steps.{CanGoOn, ticked}

@@ -1,4 +1,4 @@
-use Rattle.std.proofs.Common.{◌≡◌, ℕ, ◌<◌, length, rules, sym, ap, ◌∙◌, Option, Some, None}
+use Rattle.std.proofs.Common.{◌≡◌, ℕ, rules, ◌∙◌, Option, Some, None}
 use Rattle.std.specs.List.{position_from}
 use Rattle.board_model.specs.Tables.{is_numbered}
 use Rattle.board_script.proofs.Listings.{board_is_missing, board_stands, board_words, place_inside}
