@@ -37,8 +37,9 @@ use Rattle.board_script.specs.declared.machine.PartyRow.{PartyRow}
 use Rattle.board_script.specs.declared.machine.Task.{Task}
 use Rattle.board_script.specs.declared.machine.Task.TheVariants as task
 use Rattle.board_script.specs.Begins.{IsChecked, IsHandle, IsTaskFor, holds_any, is_handle, serves_call}
-use Rattle.board_script.specs.Machine.{AreRowsOf, IsBounded, Represents, is_row_of, kept, tables_of, updating, words_of}
+use Rattle.board_script.specs.Machine.{AreRowsOf, Represents, is_row_of, kept, tables_of, updating, words_of}
 use Rattle.board_script.specs.Steps.{HasCounter, IsCounter}
+use Rattle.board_script.proofs.Bounds.{IsBounded}
 use Rattle.board_script.proofs.PartyRows.{started}
 use Rattle.board_script.proofs.TableSteps.{counter_at}
 
@@ -66,10 +67,10 @@ serves (call.Discard l m) h = h
 serves (call.Put l i w) h = h
 serves (call.Publish l m) h = h
 serves (call.Fill l m v) h = h
-serves (call.Keys f) h = h
-serves (call.Nodes f) h = h
-serves (call.Info f) h = h
-serves (call.Id t) h = h
+serves (call.Keys f) h = refl
+serves (call.Nodes f) h = refl
+serves (call.Info f) h = refl
+serves (call.Id t) h = refl
 serves (call.Gen m) h = refl
 
 -- ---- what a party holds

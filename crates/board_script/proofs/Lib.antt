@@ -1,4 +1,5 @@
 pub mod Abandonments
+pub mod Bounds
 pub mod CallChecks
 pub mod Listings
 pub mod Memories
@@ -7,7 +8,9 @@ pub mod OwedRows
 pub mod PartyRows
 pub mod Places
 pub mod ReadSteps
+pub mod Releases
 pub mod Rows
+pub mod Shown
 pub mod Slots
 pub mod StepRefusals
 pub mod TableSteps

@@ -10,14 +10,15 @@ use Rattle.board_model.specs.declared.line.Line.TheVariants as line
 use Rattle.board_model.specs.declared.tables.Board.{Board}
 use Rattle.board_model.specs.AnswerGrammar.{answer_line}
 use Rattle.board_model.specs.LineGrammar.{IsLine, IsNumber, Spells}
-use Rattle.board_model.specs.LawsOfBounds.{IsWithin}
 use Rattle.board_model.specs.Tables.{board_at, is_numbered}
-use Rattle.board_model.specs.LawfulSession.{Session, State, start, state_after}
+use Rattle.board_model.specs.LawfulSession.{IsLawful, Session, State, start, state_after}
 use Rattle.board_model.proofs.DrawLemmas.{session_within}
+use Rattle.board_model.proofs.KeptFormLemmas.{session_formed}
+use Rattle.board_model.proofs.NumberLemmas.{session_numbers}
 use Rattle.board_model.proofs.SoundLemmas.{sound_session}
 use Rattle.board_lines.specs.Runs.{HasAnswered, StandsFor}
 use Rattle.board_script.specs.declared.machine.Machine.{Machine}
-use Rattle.board_script.specs.Machine.{IsBounded, IsLed, Represents, Tells}
+use Rattle.board_script.specs.Machine.{IsLed, IsReached, Represents, Tells}
 use Rattle.board_script.proofs.Memories.{words_at}
 use Rattle.board_script.proofs.Rows.{first_at, place_found, place_missing}
 
@@ -54,7 +55,7 @@ on_ok f (Err e) h = tt
 
 pub listed : (m : Machine) (n : ℕ) (ws old new : List ℕ) → ((s : State) → Represents m s → is_some (board_at s.standing.tables n) ≡ true) → ((s : State) → Represents m s → ws ≡ s.memory n)
     → AllByRecursion IsNumber ws → IsLine (line.Words n) → old ≡ [] → new ≡ old ++ answer_line (answer.Words ws) → Tells m m (line.Words n) new
-listed m n ws old new stands words small l e f = λ s rep sound. record {
+listed m n ws old new stands words small l e f = λ s rep reached. record {
   answer = answer.Words ws;
   right = record {
     line = l;
@@ -70,7 +71,7 @@ listed m n ws old new stands words small l e f = λ s rep sound. record {
 
 pub not_listed : (m : Machine) (n : ℕ) (old new : List ℕ) → ((s : State) → Represents m s → is_some (board_at s.standing.tables n) ≡ false)
     → IsLine (line.Words n) → old ≡ [] → new ≡ old ++ answer_line (answer.Refused reason.NoBoard) → Tells m m (line.Words n) new
-not_listed m n old new missing l e f = λ s rep sound. record {
+not_listed m n old new missing l e f = λ s rep reached. record {
   answer = answer.Refused reason.NoBoard;
   right = record {
     line = l;
@@ -86,11 +87,14 @@ not_listed m n old new missing l e f = λ s rep sound. record {
 
 -- ---- lawful sessions
 
-bounded : (s : State) (n : ℕ) → IsWithin s n → n < 2 ^ 63 → IsBounded s
-bounded s n w lt = record {
-  boards = omega (arith, w.boards, lt);
-  ports = omega (arith, w.ports, lt);
-  lists = λ b i. omega (arith, w.lists b i, lt);
+pub reached_by : (session : Session) → IsLawful session → length session < 2 ^ 63 → IsReached (state_after start session)
+reached_by session h lt = record {
+  sound = sound_session session h;
+  count = length session;
+  few = lt;
+  within = session_within session h;
+  numbers = session_numbers session h lt;
+  formed = session_formed session h;
 }
 
 -- a machine that stands for a lawful session is led
@@ -98,14 +102,13 @@ pub led : (m : Machine) (session : Session) → StandsFor Represents m session �
 led m session h = record {
   state = state_after start session;
   represents = h.state;
-  sound = sound_session session h.lawful;
-  bounded = bounded (state_after start session) (length session) (session_within session h.lawful) h.few;
+  reached = reached_by session h.lawful h.few;
 }
 
 -- so a right answer adds a pair to the session
 pub has_answered : (old new : Machine) (session : Session) (bytes text : List ℕ) (l : Line) → StandsFor Represents old session → Spells bytes l → Tells old new l text → HasAnswered Represents new session bytes text
 has_answered old new session bytes text l h spelled tells =
-    let t = tells (state_after start session) h.state (sound_session session h.lawful) in
+    let t = tells (state_after start session) h.state (reached_by session h.lawful h.few) in
     record {
       line = l;
       answer = t.answer;

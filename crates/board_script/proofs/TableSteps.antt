@@ -1,6 +1,6 @@
 -- The step of a call on the tables is right, and the machine stands for what follows.
 use Rattle.std.proofs.Common.{◌≡◌, ℕ, ◌+◌, ◌^◌, ◌<◌, true, false, List, [], ◌∷◌, ◌++◌, length, get_or, map, arith, refl, sym, ap, subst, ◌∙◌, Option, Some, None}
-use Rattle.std.specs.Prelude.{nat_le, is_some, Result, slice_index}
+use Rattle.std.specs.Prelude.{find, nat_le, is_some, Result, slice_index}
 use Rattle.std.specs.Str.{bytes_eq}
 use Rattle.std.specs.List.{filter, position_from, remove}
 use Rattle.std.proofs.lemmas.Bool.{eq-eqb, le-leb}
@@ -19,20 +19,23 @@ use Rattle.board_model.specs.declared.tables.Kind.TheVariants as kind
 use Rattle.board_model.specs.declared.tables.Limits.{Limits}
 use Rattle.board_model.specs.declared.tables.ThingKind.TheVariants as thing_kind
 use Rattle.board_model.specs.declared.value.AddedEntry.{AddedEntry}
+use Rattle.board_model.specs.declared.value.Key.{Key}
 use Rattle.board_model.specs.declared.value.KeyType.{KeyType}
 use Rattle.board_model.specs.AnswerGrammar.{IsReply}
 use Rattle.board_model.specs.LineGrammar.{IsLine}
 use Rattle.board_model.specs.Memory.{memory_after, opening_of, with_board}
-use Rattle.board_model.specs.Requests.{Request, TableCall, create, entry, entry_mut, join, reader, table, tell, writer}
-use Rattle.board_model.specs.Replies.{Asked, added_of, ask_tables, is_key, number_or, told_by}
+use Rattle.board_model.specs.Requests.{Request, TableCall, create, describe, entry, entry_mut, identify, join, list_keys, list_nodes, reader, table, tell, writer}
+use Rattle.board_model.specs.Replies.{Asked, added_of, ask_tables, id_number, info_of, is_key, keys_in, nodes_of, number_or, only_told, told_by}
 use Rattle.board_model.specs.Tables.{Tables, board_at, entry_at, entry_found, entry_in, entry_of, is_numbered, kind_of, new_board}
 use Rattle.board_model.specs.TableCalls.{asked, create_asked, create_refusals, created, entry_asked, entry_mut_asked, first_of, open_asked, reader_asked, writer_asked}
 use Rattle.board_model.specs.Things.{Held}
 use Rattle.board_model.specs.TypeTable.{key_detail, same_key, value_detail}
-use Rattle.board_model.specs.Parties.{Running, free, notice, running, with_party}
+use Rattle.board_model.specs.Parties.{Party, Running, free, notice, running, with_party}
 use Rattle.board_model.specs.LawfulSession.{IsRight, State, after}
-use Rattle.board_model.specs.Sound.{HasEntry, HasEntryAt, IsCalling, Sound}
+use Rattle.board_model.specs.LawsOfForms.{IsFormedParty, IsFormedRequest}
+use Rattle.board_model.specs.Sound.{HasBoard, HasEntry, HasEntryAt, IsCalling, Sound}
 use Rattle.board_model.proofs.ListLemmas.{any_missing, count_none}
+use Rattle.board_model.proofs.ReplyFormLemmas.{reply_told}
 use Rattle.board_model.proofs.RunningLemmas.{runs}
 use Rattle.board_model.proofs.ThingLemmas.{all_found}
 use Rattle.board_script.specs.declared.machine.Machine.{Machine}
@@ -40,11 +43,14 @@ use Rattle.board_script.specs.declared.machine.PartyRow.{PartyRow}
 use Rattle.board_script.specs.declared.machine.KeptValue.{KeptValue}
 use Rattle.board_script.specs.declared.machine.TableTask.{TableTask}
 use Rattle.board_script.specs.declared.machine.TableTask.TheVariants as table_task
-use Rattle.board_script.specs.Machine.{AreRowsOf, IsBounded, Represents, call_of, is_row_of, kept, tables_of, words_of}
-use Rattle.board_script.specs.Steps.{CanRun, HasCounter, IsCounter, IsGen, IsTold}
+use Rattle.board_script.specs.Listings.{keys_shown, standing_with}
+use Rattle.board_script.specs.Machine.{AreRowsOf, IsReached, Represents, call_of, is_row_of, kept, tables_of, words_of}
+use Rattle.board_script.specs.Steps.{CanRun, HasCounter, IsCounter, IsGen, IsShown, IsTold}
 use Rattle.board_script.specs.TableCalls.{IsAsked, IsCreate, words_with}
+use Rattle.board_script.proofs.Bounds.{IsBounded}
 use Rattle.board_script.proofs.Memories.{same_words}
 use Rattle.board_script.proofs.PartyRows.{RunsAt, ended}
+use Rattle.board_script.proofs.Shown.{board_shown}
 use Rattle.board_script.proofs.UpdateSteps.{stands_at}
 
 abbrev BoardTables : Type 0
@@ -86,17 +92,25 @@ module _ (m : Machine) (s : State) (rep : Represents m s) (sound : Sound s) wher
 
 -- ---- replies and what follows
 
-module _ (m : Machine) (s : State) (rep : Represents m s) (sound : Sound s) (party : List ℕ) (place : ℕ) (row : PartyRow) (at : RunsAt m.parties.items s.parties party place row) where
+module _ (m : Machine) (s : State) (rep : Represents m s) (reached : IsReached s) (party : List ℕ) (place : ℕ) (row : PartyRow) (at : RunsAt m.parties.items s.parties party place row) where
   -- a call on the tables is told so, and the machine has the tables after it
   pub record IsServed (new : Machine) (c : TableCall) (told : Reply) : Type 0 where
     pub told_is : told ≡ (ask_tables s.standing s.published party c).reply
-    pub is_reply : IsReply told
     pub tables : (ask_tables s.standing s.published party c).standing.tables ≡ tables_of new
     pub loans : (p n : List ℕ) → (ask_tables s.standing s.published party c).standing.loans p n ≡ None
     pub values : (p n : List ℕ) → (ask_tables s.standing s.published party c).standing.values p n ≡ kept new.values.items p n
     pub words : new.words.items ≡ words_of (memory_after s.memory (table c) told) new.boards.items
     pub parties : new.parties.items ≡ remove m.parties.items place
     pub alive : new.spent ≡ false
+
+  calling : (c : TableCall) → at.r.request ≡ table c → IsCalling s party at.r (table c)
+  calling c e = runs s party at.r (table c) reached.sound at.runs e
+
+  -- what the board asked one call at a time tells is of the answer grammar
+  is_told : (c : TableCall) → at.r.request ≡ table c → IsReply (ask_tables s.standing s.published party c).reply
+  is_told c e =
+      let f = subst (λ (x : Party). IsFormedParty reached.count party x) at.runs (reached.formed.parties party) in
+      reply_told s reached.sound reached.count reached.within reached.few reached.numbers reached.formed party at.r (table c) (subst (IsFormedRequest reached.count) e f.1) (calling c e)
 
   pub table_right : (new : Machine) (c : TableCall) (told : Reply) → at.r.request ≡ table c → IsServed new c told → IsLine (line.Step party)
       → IsRight s (line.Step party) (answer.Step access.Table (Some told)) × Represents new (after s (line.Step party) (answer.Step access.Table (Some told)))
@@ -106,7 +120,7 @@ module _ (m : Machine) (s : State) (rep : Represents m s) (sound : Sound s) (par
       let done : nat_le 1 (length (at.r.so_far ++ access.Table ∷ [])) ≡ true = le-leb _ _ (omega (arith, length-append at.r.so_far (access.Table ∷ []))) in (
         record {
           line = l;
-          answer = (tt, h.is_reply);
+          answer = (tt, subst IsReply (sym h.told_is) (is_told c request));
           reason = rw runs_call tt;
           owed = λ _. rw runs_call refl;
           word = λ _. tt;
@@ -123,9 +137,6 @@ module _ (m : Machine) (s : State) (rep : Represents m s) (sound : Sound s) (par
           values = h.values;
         }),
       )
-
-  calling : (c : TableCall) → at.r.request ≡ table c → IsCalling s party at.r (table c)
-  calling c e = runs s party at.r (table c) sound at.runs e
 
   -- ---- one call after another
 
@@ -149,10 +160,9 @@ module _ (m : Machine) (s : State) (rep : Represents m s) (sound : Sound s) (par
         → ask_tables s.standing s.published party c ≡ told_by s.standing error (f s.standing.tables)
         → (f (tables_of mid)).1.boards ≡ mid.boards.items
         → memory_after s.memory (table c) told ≡ s.memory
-        → IsAsked mid new error (f (tables_of mid)) told → IsReply told → IsServed new c told
-    asked_served c error f told asks boards memory h r = record {
+        → IsAsked mid new error (f (tables_of mid)) told → IsServed new c told
+    asked_served c error f told asks boards memory h = record {
       told_is = h.told_is ∙ ap (λ t. number_or error (f t).0) (sym tables_are) ∙ ap (λ (x : Asked). x.reply) (sym asks);
-      is_reply = r;
       tables = ap (λ (x : Asked). x.standing.tables) asks ∙ ap (λ t. (f t).1) tables_are ∙ sym h.tables;
       loans = λ p n. ap (λ (x : Asked). x.standing.loans p n) asks ∙ rep.loans p n;
       values = λ p n. ap (λ (x : Asked). x.standing.values p n) asks ∙ kept_values h.values p n;
@@ -160,6 +170,36 @@ module _ (m : Machine) (s : State) (rep : Represents m s) (sound : Sound s) (par
       parties = h.parties ∙ rows;
       alive = h.spent ∙ alive;
     }
+
+    -- a call that only tells
+    shown_served : (c : TableCall) (shown told : Reply) → ask_tables s.standing s.published party c ≡ only_told s.standing shown → memory_after s.memory (table c) told ≡ s.memory
+        → IsShown mid new shown told → IsServed new c told
+    shown_served c shown told asks memory h = record {
+      told_is = h.told_is ∙ ap (λ (x : Asked). x.reply) (sym asks);
+      tables = ap (λ (x : Asked). x.standing.tables) asks ∙ tables_are ∙ ap tables_of (sym h.same);
+      loans = λ p n. ap (λ (x : Asked). x.standing.loans p n) asks ∙ rep.loans p n;
+      values = λ p n. ap (λ (x : Asked). x.standing.values p n) asks ∙ kept_values (ap (λ (y : Machine). y.values.items) h.same) p n;
+      words = kept_words (ap (λ (y : Machine). y.boards.items) h.same) (ap (λ (y : Machine). y.words.items) h.same) ∙ ap (λ (x : ℕ → List ℕ). words_of x new.boards.items) (sym memory);
+      parties = ap (λ (y : Machine). y.parties.items) h.same ∙ rows;
+      alive = ap (λ (y : Machine). y.spent) h.same ∙ alive;
+    }
+
+    -- the keys of the machine's boards are told as they were added
+    keys_same : (x : Held) → keys_in (board_at s.standing.tables x.board) ≡ keys_shown (find (is_numbered x.board) mid.boards.items)
+    keys_same x = sym (board_shown x.board s.standing.tables.boards reached.formed.tables.boards) ∙ ap (λ t. keys_shown (find (is_numbered x.board) t.boards)) tables_are
+
+    same_id : (t : BoardTables) (x : Held) (k : Kind) → id_number (record s.standing { tables = t }) x k ≡ id_number (standing_with t) x k
+    same_id t x kind.Factory = refl
+    same_id t x (kind.Reader p) = refl
+    same_id t x (kind.Writer p) = refl
+    same_id t x (kind.ReadHandle i) = refl
+    same_id t x (kind.WriteHandle i p) = refl
+
+    -- the board of a factory stands
+    info_stands : (x : Held) → at.r.request ≡ table (describe x) → is_some (find (is_numbered x.board) mid.boards.items) ≡ true
+    info_stands x e =
+        let held = (calling (describe x) e).1 in
+        ap (λ t. is_some (find (is_numbered x.board) t.boards)) (sym tables_are) ∙ all_found (HasBoard s.standing.tables) _ s.standing.tables.things x reached.sound.things.standing held.found
 
     -- the entry of a write handle stands
     handle_entry : (x : Held) (k : Kind) → kind_of k ≡ thing_kind.WriteHandle → HasEntryAt s.standing.tables x.board k → is_some (entry_at s.standing.tables x.board (entry_of k)) ≡ true
@@ -169,12 +209,12 @@ module _ (m : Machine) (s : State) (rep : Represents m s) (sound : Sound s) (par
     handle_entry x (kind.ReadHandle i) e h = absurd cc
     handle_entry x (kind.WriteHandle i p) e h = h
 
-    handle_counter : (x : Held) → at.r.request ≡ table (tell x) → CounterAt m s rep sound x.board (entry_of x.kind)
+    handle_counter : (x : Held) → at.r.request ≡ table (tell x) → CounterAt m s rep reached.sound x.board (entry_of x.kind)
     handle_counter x e =
         let held = (calling (tell x) e).1 in
-        let has = all_found (HasEntry s.standing.tables) _ s.standing.tables.things x sound.things.entries held.found in
+        let has = all_found (HasEntry s.standing.tables) _ s.standing.tables.things x reached.sound.things.entries held.found in
         let entry = some_entry (entry_at s.standing.tables x.board (entry_of x.kind)) (handle_entry x x.kind held.kind has) in
-        counter_at m s rep sound x.board (entry_of x.kind) entry.0 entry.1
+        counter_at m s rep reached.sound x.board (entry_of x.kind) entry.0 entry.1
 
     pub gen_has : (x : Held) → at.r.request ≡ table (tell x) → HasCounter mid x.board (entry_of x.kind)
     gen_has x e =
@@ -193,10 +233,9 @@ module _ (m : Machine) (s : State) (rep : Represents m s) (sound : Sound s) (par
         c k e d (p ∙ ap (λ t. position_from (is_numbered x.board) 0 t.boards) (sym same)) (ap (λ t. entry_at t x.board (entry_of x.kind)) same ∙ f)
         ∙ ap (λ (ws : List (List ℕ)). slice_index (get_or ws k d) e.cell.first) same_list
 
-    pub gen_served : (x : Held) (told : Reply) → at.r.request ≡ table (tell x) → IsGen mid new x told → IsReply told → IsServed new (tell x) told
-    gen_served x told e h r = record {
+    pub gen_served : (x : Held) (told : Reply) → at.r.request ≡ table (tell x) → IsGen mid new x told → IsServed new (tell x) told
+    gen_served x told e h = record {
       told_is = h.told_is ∙ ap (λ (n : ℕ). reply.Generation n) ((handle_counter x e).is_length h.counter (gen_count x h.counter h.is_counter));
-      is_reply = r;
       tables = tables_are ∙ ap tables_of (sym h.same);
       loans = rep.loans;
       values = kept_values (ap (λ (y : Machine). y.values.items) h.same);
@@ -211,7 +250,7 @@ module _ (m : Machine) (s : State) (rep : Represents m s) (sound : Sound s) (par
       where
         none : (o : Option Board) → board_at s.standing.tables (s.standing.tables.last_board + 1) ≡ o → o ≡ None
         none None e = refl
-        none (Some b) e = absurd (omega (arith, sound.boards.numbered (s.standing.tables.last_board + 1) b e))
+        none (Some b) e = absurd (omega (arith, reached.sound.boards.numbered (s.standing.tables.last_board + 1) b e))
 
     module _ (f n : List ℕ) (k : KeyType) (limits : Limits) (attributes : List Attribute) (entries : List AddedEntry) where
       abbrev next : BoardTables → BoardTables
@@ -245,15 +284,14 @@ module _ (m : Machine) (s : State) (rep : Represents m s) (sound : Sound s) (par
           ∙ ap (λ (bs : List Board). words_of (with_board s.memory number (opening_of entries)) bs) (sym e)
       words_told (Some why) boards e = rep.words ∙ ap (λ t. words_of s.memory t.boards) (sym rep.tables) ∙ ap (λ (bs : List Board). words_of s.memory bs) (sym e)
 
-      pub create_served : (told : Reply) → IsCreate mid new party f n k limits attributes entries told → IsReply told → IsServed new (create f n k limits attributes entries) told
-      create_served told h r =
+      pub create_served : (told : Reply) → IsCreate mid new party f n k limits attributes entries told → IsServed new (create f n k limits attributes entries) told
+      create_served told h =
           let asked_of : BoardTables → Result ℕ BlackboardCreateError × BoardTables = λ t. create_asked (same_key k) t party f n (key_detail k) limits attributes (map added_of entries) in
           let told_same : told ≡ told_of (refusal s.standing.tables) = h.told_is ∙ ap (λ t. number_or reply.CreateError (asked_of t).0) (sym tables_are) in
           let tables_same : tables_of new ≡ (asked_of s.standing.tables).1 = h.tables ∙ ap (λ t. (asked_of t).1) (sym tables_are) in
           record {
             told_is = told_same;
-            is_reply = r;
-            tables = sym tables_same;
+                  tables = sym tables_same;
             loans = rep.loans;
             values = kept_values h.values;
             words =
@@ -264,22 +302,27 @@ module _ (m : Machine) (s : State) (rep : Represents m s) (sound : Sound s) (par
             alive = h.spent ∙ alive;
           }
 
-    served : (t : TableTask) (told : Reply) → at.r.request ≡ table (call_of t) → IsTold mid new party t told → IsReply told → IsServed new (call_of t) told
-    served (table_task.Create f n k limits attributes entries) told e h r = create_served f n k limits attributes entries told h r
-    served (table_task.Open f n k limits needs) told e h r =
-        asked_served (join f n k limits needs) reply.OpenError (λ t. open_asked bytes_eq t party f n (key_detail k) limits needs) told refl (kept_boards _ _ _ _ refl) refl h r
-    served (table_task.Reader n x) told e h r = asked_served (reader n x) reply.ReaderError (λ t. reader_asked t x n) told refl (kept_boards _ _ _ _ refl) refl h r
-    served (table_task.Writer n x) told e h r = asked_served (writer n x) reply.WriterError (λ t. writer_asked t x n) told refl (kept_boards _ _ _ _ refl) refl h r
-    served (table_task.Entry n x k type) told e h r =
-        asked_served (entry n x k type) reply.EntryError (λ t. entry_asked t x n (entry_found (board_at t x.board) (is_key k) (value_detail type))) told refl (kept_boards _ _ _ _ refl) refl h r
-    served (table_task.EntryMut n x k type) told e h r =
-        asked_served (entry_mut n x k type) reply.EntryMutError (λ t. entry_mut_asked t x n (entry_found (board_at t x.board) (is_key k) (value_detail type))) told refl (kept_boards _ _ _ _ refl) refl h r
-    served (table_task.Gen x) told e h r = gen_served x told e h r
+    served : (t : TableTask) (told : Reply) → at.r.request ≡ table (call_of t) → IsTold mid new party t told → IsServed new (call_of t) told
+    served (table_task.Create f n k limits attributes entries) told e h = create_served f n k limits attributes entries told h
+    served (table_task.Open f n k limits needs) told e h =
+        asked_served (join f n k limits needs) reply.OpenError (λ t. open_asked bytes_eq t party f n (key_detail k) limits needs) told refl (kept_boards _ _ _ _ refl) refl h
+    served (table_task.Reader n x) told e h = asked_served (reader n x) reply.ReaderError (λ t. reader_asked t x n) told refl (kept_boards _ _ _ _ refl) refl h
+    served (table_task.Writer n x) told e h = asked_served (writer n x) reply.WriterError (λ t. writer_asked t x n) told refl (kept_boards _ _ _ _ refl) refl h
+    served (table_task.Entry n x k type) told e h =
+        asked_served (entry n x k type) reply.EntryError (λ t. entry_asked t x n (entry_found (board_at t x.board) (is_key k) (value_detail type))) told refl (kept_boards _ _ _ _ refl) refl h
+    served (table_task.EntryMut n x k type) told e h =
+        asked_served (entry_mut n x k type) reply.EntryMutError (λ t. entry_mut_asked t x n (entry_found (board_at t x.board) (is_key k) (value_detail type))) told refl (kept_boards _ _ _ _ refl) refl h
+    served (table_task.Keys x) told e h = shown_served (list_keys x) _ told (ap (λ (ks : List Key). only_told s.standing (reply.Keys ks)) (keys_same x)) refl h
+    served (table_task.Nodes x) told e h = shown_served (list_nodes x) _ told (ap (λ t. only_told s.standing (reply.Nodes (nodes_of x.board t.things))) tables_are) refl h
+    served (table_task.Info x) told e h = shown_served (describe x) _ told (ap (λ t. only_told s.standing (reply.Info (info_of t.things (board_at t x.board)))) tables_are) refl h
+    served (table_task.Id x) told e h =
+        shown_served (identify x) _ told (ap (λ (n : ℕ). only_told s.standing (reply.Id n)) (same_id s.standing.tables x x.kind ∙ ap (λ t. id_number (standing_with t) x x.kind) tables_are)) refl h
+    served (table_task.Gen x) told e h = gen_served x told e h
 
     -- the step of the task is right
-    pub task_right : (t : TableTask) (told : Reply) → at.r.request ≡ table (call_of t) → IsTold mid new party t told → IsReply told → IsLine (line.Step party)
+    pub task_right : (t : TableTask) (told : Reply) → at.r.request ≡ table (call_of t) → IsTold mid new party t told → IsLine (line.Step party)
         → IsRight s (line.Step party) (answer.Step access.Table (Some told)) × Represents new (after s (line.Step party) (answer.Step access.Table (Some told)))
-    task_right t told e h r l = table_right new (call_of t) told e (served t told e h r) l
+    task_right t told e h l = table_right new (call_of t) told e (served t told e h) l
 
     -- and it can be made
     pub task_can_run : (t : TableTask) → IsBounded s → at.r.request ≡ table (call_of t) → CanRun mid t
@@ -289,4 +332,8 @@ module _ (m : Machine) (s : State) (rep : Represents m s) (sound : Sound s) (par
     task_can_run (table_task.Writer n x) b e = subst (λ (t : BoardTables). t.last_port + 1 < 2 ^ 64) tables_are b.ports
     task_can_run (table_task.Entry n x k type) b e = tt
     task_can_run (table_task.EntryMut n x k type) b e = tt
+    task_can_run (table_task.Keys x) b e = tt
+    task_can_run (table_task.Nodes x) b e = tt
+    task_can_run (table_task.Info x) b e = info_stands x e
+    task_can_run (table_task.Id x) b e = tt
     task_can_run (table_task.Gen x) b e = gen_has x e

@@ -27,6 +27,10 @@ serves_call (call.EntryMut m w k type) = true
 serves_call (call.Get h v) = true
 serves_call (call.Fresh h v) = true
 serves_call (call.Update m v) = true
+serves_call (call.Keys f) = true
+serves_call (call.Nodes f) = true
+serves_call (call.Info f) = true
+serves_call (call.Id n) = true
 serves_call (call.Gen m) = true
 serves_call c = false
 

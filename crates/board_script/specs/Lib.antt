@@ -1,6 +1,7 @@
 pub mod Begins
 pub mod Counts
 pub mod Create
+pub mod Listings
 pub mod Machine
 pub mod Steps
 pub mod TableCalls

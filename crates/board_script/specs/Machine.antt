@@ -10,10 +10,12 @@ use Rattle.board_model.specs.declared.value.ValueType.{ValueType}
 use Rattle.board_model.specs.TypeTable.{value_type_of, value_words}
 use Rattle.board_model.specs.Tables.{Tables}
 use Rattle.board_model.specs.Things.{Kept}
-use Rattle.board_model.specs.Requests.{Fetch, Look, Publication, Request, TableCall, create, entry, entry_mut, fresh, get, join, reader, table, tell, update, writer}
+use Rattle.board_model.specs.Requests.{Fetch, Look, Publication, Request, TableCall, create, describe, entry, entry_mut, fresh, get, identify, join, list_keys, list_nodes, reader, table, tell, update, writer}
 use Rattle.board_model.specs.Parties.{Party, Running, free, gone, reading, running}
 use Rattle.board_model.specs.AnswerGrammar.{answer_line}
 use Rattle.board_model.specs.LineGrammar.{IsLine}
+use Rattle.board_model.specs.LawsOfBounds.{AreNumbers, IsWithin}
+use Rattle.board_model.specs.LawsOfForms.{AreFormed}
 use Rattle.board_model.specs.LawfulSession.{IsRight, State, after}
 use Rattle.board_model.specs.Sound.{Sound}
 use Rattle.board_cell.specs.Calls.{Asking, Getting, Updating}
@@ -38,6 +40,10 @@ call_of (table_task.Reader n x) = reader n x
 call_of (table_task.Writer n x) = writer n x
 call_of (table_task.Entry n x k type) = entry n x k type
 call_of (table_task.EntryMut n x k type) = entry_mut n x k type
+call_of (table_task.Keys x) = list_keys x
+call_of (table_task.Nodes x) = list_nodes x
+call_of (table_task.Info x) = describe x
+call_of (table_task.Id x) = identify x
 call_of (table_task.Gen x) = tell x
 
 -- a get after these accesses
@@ -134,22 +140,24 @@ pub record Represents (m : Machine) (s : State) : Type 0 where
   pub loans : (p n : List ℕ) → s.standing.loans p n ≡ None
   pub values : (p n : List ℕ) → s.standing.values p n ≡ kept m.values.items p n
 
--- the numbers of a state are far from their end
-pub record IsBounded (s : State) : Type 0 where
-  pub boards : s.standing.tables.last_board + 1 < 2 ^ 64
-  pub ports : s.standing.tables.last_port + 1 < 2 ^ 64
-  pub lists : (n i : ℕ) → length (s.published n i) + 1 < 2 ^ 64
+-- what holds of a state that a lawful session of fewer than 2^63 pairs led to
+pub record IsReached (s : State) : Type 0 where
+  pub sound : Sound s
+  pub count : ℕ
+  pub few : count < 2 ^ 63
+  pub within : IsWithin s count
+  pub numbers : AreNumbers s
+  pub formed : AreFormed s count
 
 -- the machine stands for a state that a lawful session led to
 pub record IsLed (m : Machine) : Type 0 where
   pub state : State
   pub represents : Represents m state
-  pub sound : Sound state
-  pub bounded : IsBounded state
+  pub reached : IsReached state
 
 -- the answer is right after each state that the machine stood for, and the machine stands for what follows
 abbrev pub Serves : Machine → Machine → Line → Answer → Type 0
-Serves old new l a = (s : State) → Represents old s → Sound s → IsLine l → IsRight s l a × Represents new (after s l a)
+Serves old new l a = (s : State) → Represents old s → IsReached s → IsLine l → IsRight s l a × Represents new (after s l a)
 
 -- the text is the line of an answer that is right after each state that the machine stood for, and the machine stands for what follows
 pub record IsTelling (new : Machine) (s : State) (l : Line) (text : List ℕ) : Type 0 where
@@ -159,4 +167,4 @@ pub record IsTelling (new : Machine) (s : State) (l : Line) (text : List ℕ) : 
   pub told : text ≡ answer_line answer
 
 abbrev pub Tells : Machine → Machine → Line → List ℕ → Type 0
-Tells old new l text = (s : State) → Represents old s → Sound s → IsTelling new s l text
+Tells old new l text = (s : State) → Represents old s → IsReached s → IsTelling new s l text

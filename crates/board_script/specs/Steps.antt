@@ -1,14 +1,16 @@
 -- What the parts of a step do to a machine.
-use Rattle.std.specs.Prelude.{◌≡◌, ℕ, ◌+◌, ◌<◌, ◌≤◌, ◌^◌, ◌==◌, Bool, true, false, List, [], ◌∷◌, ◌++◌, length, Option, Some, None, IsSome, option_map, slice_index, slice_index_or, slice_set}
-use Rattle.std.specs.List.{position_from}
+use Rattle.std.specs.Prelude.{◌≡◌, ℕ, ◌+◌, ◌<◌, ◌≤◌, ◌^◌, ◌==◌, Bool, true, false, List, [], ◌∷◌, ◌++◌, length, Option, Some, None, IsSome, find, is_some, not, option_map, slice_index, slice_index_or, slice_set}
+use Rattle.std.specs.List.{filter, position_from}
 use Rattle.board_model.specs.declared.answer.Reply.{Reply}
 use Rattle.board_model.specs.declared.answer.Reply.TheVariants as reply
 use Rattle.board_model.specs.declared.tables.Entry.{Entry}
 use Rattle.board_model.specs.declared.value.ValueType.{ValueType}
 use Rattle.board_model.specs.OwedAccesses.{hear, is_finished, owed_read, owed_write, to_read, to_write}
 use Rattle.board_model.specs.Tables.{entry_at, entry_of, is_numbered}
-use Rattle.board_model.specs.Things.{Held}
-use Rattle.board_cell.specs.Calls.{Getting, Updating, counter_of, words_of}
+use Rattle.board_model.specs.Things.{Held, thing_of}
+use Rattle.board_model.specs.Replies.{id_number, info_of, nodes_of, released_thing}
+use Rattle.board_cell.specs.Calls.{Getting, Updating, counter_of}
+use Rattle.board_cell.specs.Calls as cells
 use Rattle.board_script.specs.declared.machine.KeptValue.{KeptValue}
 use Rattle.board_script.specs.declared.machine.Machine.{Machine}
 use Rattle.board_script.specs.declared.machine.PartyRow.{PartyRow}
@@ -19,7 +21,8 @@ use Rattle.board_script.specs.declared.machine.Task.TheVariants as task
 use Rattle.board_script.specs.declared.step.OwedAccess.{OwedAccess}
 use Rattle.board_script.specs.declared.step.OwedAccess.TheVariants as owed
 use Rattle.board_script.specs.declared.step.OwedWrite.{OwedWrite}
-use Rattle.board_script.specs.Machine.{is_row_of, tables_of}
+use Rattle.board_script.specs.Listings.{keys_shown, standing_with}
+use Rattle.board_script.specs.Machine.{is_kept_as, is_row_of, tables_of, words_of}
 use Rattle.board_script.specs.TableCalls.{IsCreate, IsEntry, IsEntryMut, IsOpen, IsReader, IsWriter}
 
 -- ---- the access that is owed
@@ -125,6 +128,10 @@ CanRun m (table_task.Reader n x) = m.last_port + 1 < 2 ^ 64
 CanRun m (table_task.Writer n x) = m.last_port + 1 < 2 ^ 64
 CanRun m (table_task.Entry n x k type) = Unit {0}
 CanRun m (table_task.EntryMut n x k type) = Unit {0}
+CanRun m (table_task.Keys x) = Unit {0}
+CanRun m (table_task.Nodes x) = Unit {0}
+CanRun m (table_task.Info x) = is_some (find (is_numbered x.board) m.boards.items) ≡ true
+CanRun m (table_task.Id x) = Unit {0}
 CanRun m (table_task.Gen x) = HasCounter m x.board (entry_of x.kind)
 
 -- the counter is told, and nothing changes
@@ -132,6 +139,11 @@ pub record IsGen (old new : Machine) (x : Held) (told : Reply) : Type 0 where
   pub counter : ℕ
   pub told_is : told ≡ reply.Generation counter
   pub is_counter : IsCounter old x.board (entry_of x.kind) counter
+  pub same : new ≡ old
+
+-- the reply is told, and nothing changes
+pub record IsShown (old new : Machine) (shown told : Reply) : Type 0 where
+  pub told_is : told ≡ shown
   pub same : new ≡ old
 
 -- what a call on the tables is told, and what it changes
@@ -142,7 +154,22 @@ IsTold old new party (table_task.Reader n x) told = IsReader old new n x told
 IsTold old new party (table_task.Writer n x) told = IsWriter old new n x told
 IsTold old new party (table_task.Entry n x k type) told = IsEntry old new n x k type told
 IsTold old new party (table_task.EntryMut n x k type) told = IsEntryMut old new n x k type told
+IsTold old new party (table_task.Keys x) told = IsShown old new (reply.Keys (keys_shown (find (is_numbered x.board) old.boards.items))) told
+IsTold old new party (table_task.Nodes x) told = IsShown old new (reply.Nodes (nodes_of x.board old.things.items)) told
+IsTold old new party (table_task.Info x) told = IsShown old new (reply.Info (info_of old.things.items (find (is_numbered x.board) old.boards.items))) told
+IsTold old new party (table_task.Id x) told = IsShown old new (reply.Id (id_number (standing_with (tables_of old)) x x.kind)) told
 IsTold old new party (table_task.Gen x) told = IsGen old new x told
+
+-- ---- drop
+
+-- what a party held under a name is gone, and a board with its last thing
+pub record IsReleased (old new : Machine) (party name : List ℕ) : Type 0 where
+  pub tables : tables_of new ≡ released_thing (tables_of old) party name (thing_of old.things.items party name)
+  -- the words of the boards that are left
+  pub words : (f : ℕ → List ℕ) → old.words.items ≡ words_of f old.boards.items → new.words.items ≡ words_of f new.boards.items
+  pub values : new.values.items ≡ filter (λ v. not (is_kept_as party name v)) old.values.items
+  pub parties : new.parties.items ≡ old.parties.items
+  pub spent : new.spent ≡ old.spent
 
 -- ---- reads that end
 
@@ -155,11 +182,11 @@ HasRead t = ⊥
 -- the value, where it is to be kept
 abbrev pub kept_anew : List ℕ → Option (List ℕ) → ValueType → Getting → List KeptValue
 kept_anew party None type call = []
-kept_anew party (Some name) type call = record { party = party; name = name; value_type = type; words = words_of call.reading; generation = counter_of call.reading } ∷ []
+kept_anew party (Some name) type call = record { party = party; name = name; value_type = type; words = cells.words_of call.reading; generation = counter_of call.reading } ∷ []
 
 -- what a finished read tells
 abbrev pub read_told : Task → Option Reply
-read_told (task.Get board call type name) = Some (reply.Got type (words_of call.reading) (counter_of call.reading))
+read_told (task.Get board call type name) = Some (reply.Got type (cells.words_of call.reading) (counter_of call.reading))
 read_told (task.Fresh board call) = option_map (λ v. reply.Fresh (v == call.generation)) call.counter
 read_told t = None
 

@@ -20,7 +20,7 @@ use crate::values::{
 use board_cell::{CellShape, FreshCall, GetCall, UpdateCall};
 use board_model::{
     AddedEntries, AddedEntry, Answer, Attributes, Board, BoardName, Call, Entry, Key, KeyType,
-    Limits, Name, Reason, Requirements, ThingKind, Value, ValueType,
+    Kind, Limits, Name, Reason, Requirements, ThingKind, Value, ValueType,
 };
 use std::alloc::AllocError;
 
@@ -61,8 +61,8 @@ fn shape_of(entry: &Entry) -> CellShape
 }
 
 impl Machine {
-    // Whether the party has a thing or a value of this name.
-    fn holds(&self, party: &Name, name: &Name) -> bool
+    /// Whether the party has a thing or a value of this name.
+    pub(crate) fn holds(&self, party: &Name, name: &Name) -> bool
         ensures { result ≡ holds self.now party.now name.now }
     {
         thing_of(party, name, &self.things).is_some()
@@ -292,6 +292,44 @@ impl Machine {
         }))
     }
 
+    fn check_keys(&self, party: &Name, factory: &Name) -> Checked
+        ensures { Checks self.now party.now (call.Keys factory.now) result }
+    {
+        match held_of_kind(ThingKind::Factory, party, factory, &self.things) {
+            Some(factory) => Checked::Accepted(Task::Table(TableTask::Keys { factory })),
+            None => Checked::Refused(Reason::Unknown),
+        }
+    }
+
+    fn check_nodes(&self, party: &Name, factory: &Name) -> Checked
+        ensures { Checks self.now party.now (call.Nodes factory.now) result }
+    {
+        match held_of_kind(ThingKind::Factory, party, factory, &self.things) {
+            Some(factory) => Checked::Accepted(Task::Table(TableTask::Nodes { factory })),
+            None => Checked::Refused(Reason::Unknown),
+        }
+    }
+
+    fn check_info(&self, party: &Name, factory: &Name) -> Checked
+        ensures { Checks self.now party.now (call.Info factory.now) result }
+    {
+        match held_of_kind(ThingKind::Factory, party, factory, &self.things) {
+            Some(factory) => Checked::Accepted(Task::Table(TableTask::Info { factory })),
+            None => Checked::Refused(Reason::Unknown),
+        }
+    }
+
+    fn check_id(&self, party: &Name, name: &Name) -> Checked
+        ensures { Checks self.now party.now (call.Id name.now) result }
+    {
+        match thing_of(party, name, &self.things) {
+            Some(thing) if thing.kind != Kind::Factory => {
+                Checked::Accepted(Task::Table(TableTask::Id { thing: *thing }))
+            }
+            _ => Checked::Refused(Reason::Unknown),
+        }
+    }
+
     fn check_gen(&self, party: &Name, handle: &Name) -> Checked
         ensures { Checks self.now party.now (call.Gen handle.now) result }
     {
@@ -340,6 +378,10 @@ impl Machine {
             Call::Get { handle, value } => self.check_get(party, &handle, value),
             Call::Fresh { handle, value } => Ok(self.check_fresh(party, &handle, &value)),
             Call::Update { handle, value } => self.check_update(party, &handle, value),
+            Call::Keys { factory } => Ok(self.check_keys(party, &factory)),
+            Call::Nodes { factory } => Ok(self.check_nodes(party, &factory)),
+            Call::Info { factory } => Ok(self.check_info(party, &factory)),
+            Call::Id { thing } => Ok(self.check_id(party, &thing)),
             Call::Gen { handle } => Ok(self.check_gen(party, &handle)),
             _ => unreachable!(),
         }

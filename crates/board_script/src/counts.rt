@@ -26,6 +26,61 @@ pub(crate) fn has_writer(board: u64, things: &[Held]) -> bool
     things.iter().any(|t| t.board == board && has_port(&t.kind))
 }
 
+// The port of a writer, or of a handle made from one.
+fn writer_port(kind: &Kind) -> Option<u64>
+    ensures { result ≡ tables.writer_port kind.now }
+{
+    match kind {
+        Kind::Writer { port } => Some(*port),
+        Kind::WriteHandle { entry: _, port } => Some(*port),
+        _ => None,
+    }
+}
+
+fn is_of_port(board: u64, port: u64, thing: &Held) -> bool
+    ensures { result ≡ tables.is_of_port board port thing.now }
+{
+    if thing.board != board {
+        return false;
+    }
+    match writer_port(&thing.kind) {
+        Some(p) => p == port,
+        None => false,
+    }
+}
+
+fn has_thing_of_port(board: u64, port: u64, things: &[Held]) -> bool
+    ensures { result ≡ list_any (tables.is_of_port board port) things.now }
+{
+    things.iter().any(|t| is_of_port(board, port, t))
+}
+
+// Whether no later thing keeps the writer slot that this one keeps.
+fn is_last_of_port(board: u64, thing: &Held, later: &[Held]) -> bool
+    ensures { result ≡ tables.is_last_of_port board thing.now later.now }
+{
+    if thing.board != board {
+        return false;
+    }
+    match writer_port(&thing.kind) {
+        Some(port) => !has_thing_of_port(board, port, later),
+        None => false,
+    }
+}
+
+/// The different ports of the board's writers and of the handles made from them.
+pub(crate) fn writer_slots(board: u64, things: &[Held]) -> u64
+    ensures { result ≡ tables.writer_slots board things.now }
+{
+    let mut slots: u64 = 0;
+    for (i, thing) in things.iter().enumerate() {
+        if is_last_of_port(board, thing, &things[i + 1..]) {
+            slots += 1;
+        }
+    }
+    slots
+}
+
 fn writes_entry(entry: u64, kind: &Kind) -> bool
     ensures { result ≡ tables.writes_entry entry kind.now }
 {

@@ -2,7 +2,6 @@
 ghost use Rattle.std.specs.Prelude.{◌≡◌, ◌+◌, ◌*◌, ◌^◌, ◌<◌, ◌++◌, ◌∷◌, IfOk, OnOk, All, length, map, replicate};
 ghost use Rattle.std.specs.List.{list_any};
 ghost use Rattle.board_layout.specs.Layout.{IsShape, LiesWithin, opening_cell, opening_words};
-ghost use Rattle.board_model.specs.AnswerGrammar.{IsReply};
 ghost use Rattle.board_model.specs.Replies.{added_of};
 ghost use Rattle.board_model.specs.Tables as tables;
 ghost use Rattle.board_model.specs.TypeTable as types;
@@ -195,8 +194,7 @@ impl Machine {
         entries: AddedEntries,
     ) -> Result<Reply, AllocError>
         requires { self.old.last_board + 1 < 2 ^ 64 }
-        ensures told { IfOk result (IsCreate self.old self.new party factory name key_type limits attributes entries) }
-        ensures is_reply { IfOk result IsReply }
+        ensures { IfOk result (IsCreate self.old self.new party factory name key_type limits attributes entries) }
     {
         let entries = entries.as_slice();
         let plan = match plan_for(self.alloc, key_type, &name, entries, &self.boards)? {

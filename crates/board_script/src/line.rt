@@ -77,6 +77,10 @@ impl Machine {
                 let answer = self.step(&party)?;
                 push_answer(&answer, out)
             }
+            Line::Release { party, thing } => {
+                let answer = self.release(&party, &thing);
+                push_answer(&answer, out)
+            }
             Line::Abandon { party } => {
                 let answer = self.abandon(party)?;
                 push_answer(&answer, out)
@@ -85,7 +89,6 @@ impl Machine {
                 Some(words) => push_listing(words, out),
                 None => push_refused(Reason::NoBoard, out),
             },
-            _ => unreachable!(),
         }
     }
 

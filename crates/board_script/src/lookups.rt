@@ -50,6 +50,18 @@ pub(crate) fn place_of_party(party: &Name, parties: &[PartyRow]) -> Option<usize
     None
 }
 
+/// Where the thing stands that a party holds under a name.
+pub(crate) fn place_of_thing(party: &Name, name: &Name, things: &[Held]) -> Option<usize>
+    ensures { result ≡ position_from (held.is_held_as party.now name.now) 0 things.now }
+{
+    for (i, thing) in things.iter().enumerate() {
+        if thing.holder == *party && thing.name == *name {
+            return Some(i);
+        }
+    }
+    None
+}
+
 /// The thing that a party holds under a name.
 pub(crate) fn thing_of<'a>(party: &Name, name: &Name, things: &'a [Held]) -> Option<&'a Held>
     ensures { option_map (λ t. t.now) result ≡ held.thing_of things.now party.now name.now }

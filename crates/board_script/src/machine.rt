@@ -47,6 +47,18 @@ pub(crate) enum TableTask {
         key: Key,
         value_type: ValueType,
     },
+    Keys {
+        factory: Held,
+    },
+    Nodes {
+        factory: Held,
+    },
+    Info {
+        factory: Held,
+    },
+    Id {
+        thing: Held,
+    },
     Gen {
         handle: Held,
     },

@@ -1,8 +1,7 @@
 //! Further factories of a board.
-ghost use Rattle.std.specs.Prelude.{◌≡◌, true, Some, IfOk, IfSome};
+ghost use Rattle.std.specs.Prelude.{◌≡◌, Some, IfOk};
 ghost use Rattle.std.specs.List.{list_all};
 ghost use Rattle.std.specs.Str.{bytes_eq};
-ghost use Rattle.board_model.specs.AnswerGrammar.{IsReply, is_open_reply};
 ghost use Rattle.board_model.specs.Tables as tables;
 ghost use Rattle.board_model.specs.TableCalls as calls;
 ghost use Rattle.board_model.specs.TypeTable as types;
@@ -77,8 +76,7 @@ fn refusal(
     board: &Board,
     things: &[Held],
 ) -> Option<BlackboardOpenError>
-    ensures first { result ≡ calls.first_of (calls.open_refusals bytes_eq things.now party.now (Some board.now) (types.key_detail key_type) limits.now needs.now) }
-    ensures is_reply { IfSome result (λ e. is_open_reply e ≡ true) }
+    ensures { result ≡ calls.first_of (calls.open_refusals bytes_eq things.now party.now (Some board.now) (types.key_detail key_type) limits.now needs.now) }
 {
     if !same_type(&board.key, &key_detail(key_type)) {
         return Some(BlackboardOpenError::IncompatibleKeys);
@@ -115,8 +113,7 @@ impl Machine {
         limits: Limits,
         needs: &Requirements,
     ) -> Result<Reply, AllocError>
-        ensures told { IfOk result (IsOpen self.old self.new party factory name.now key_type limits needs.now) }
-        ensures is_reply { IfOk result IsReply }
+        ensures { IfOk result (IsOpen self.old self.new party factory name.now key_type limits needs.now) }
     {
         let Some(board) = board_named(name, &self.boards) else {
             return Ok(Reply::OpenError(BlackboardOpenError::DoesNotExist));

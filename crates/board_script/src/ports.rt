@@ -1,6 +1,5 @@
 //! Readers, writers and their handles.
 ghost use Rattle.std.specs.Prelude.{◌≡◌, ◌+◌, ◌^◌, ◌<◌, nat_le, find, IfOk};
-ghost use Rattle.board_model.specs.AnswerGrammar.{IsReply};
 ghost use Rattle.board_model.specs.Tables as tables;
 ghost use Rattle.board_script.specs.TableCalls.{IsEntry, IsEntryMut, IsReader, IsWriter};
 
@@ -48,8 +47,7 @@ impl Machine {
     /// Makes a reader, at a factory.
     pub(crate) fn make_reader(&mut self, name: Name, factory: &Held) -> Result<Reply, AllocError>
         requires { self.old.last_port + 1 < 2 ^ 64 }
-        ensures told { IfOk result (IsReader self.old self.new name factory.now) }
-        ensures is_reply { IfOk result IsReply }
+        ensures { IfOk result (IsReader self.old self.new name factory.now) }
     {
         if has_all_readers(factory.board, &self.boards, &self.things) {
             return Ok(Reply::ReaderError(ReaderCreateError::ExceedsMaxSupportedReaders));
@@ -68,8 +66,7 @@ impl Machine {
     /// Makes a writer, at a factory.
     pub(crate) fn make_writer(&mut self, name: Name, factory: &Held) -> Result<Reply, AllocError>
         requires { self.old.last_port + 1 < 2 ^ 64 }
-        ensures told { IfOk result (IsWriter self.old self.new name factory.now) }
-        ensures is_reply { IfOk result IsReply }
+        ensures { IfOk result (IsWriter self.old self.new name factory.now) }
     {
         if has_writer(factory.board, &self.things) {
             return Ok(Reply::WriterError(WriterCreateError::ExceedsMaxSupportedWriters));
@@ -93,8 +90,7 @@ impl Machine {
         key: &Key,
         value_type: ValueType,
     ) -> Result<Reply, AllocError>
-        ensures told { IfOk result (IsEntry self.old self.new name reader.now key.now value_type) }
-        ensures is_reply { IfOk result IsReply }
+        ensures { IfOk result (IsEntry self.old self.new name reader.now key.now value_type) }
     {
         let Some((entry, found)) = find_entry(
             reader.board,
@@ -122,8 +118,7 @@ impl Machine {
         key: &Key,
         value_type: ValueType,
     ) -> Result<Reply, AllocError>
-        ensures told { IfOk result (IsEntryMut self.old self.new name writer.now key.now value_type) }
-        ensures is_reply { IfOk result IsReply }
+        ensures { IfOk result (IsEntryMut self.old self.new name writer.now key.now value_type) }
     {
         let Some((entry, found)) = find_entry(
             writer.board,

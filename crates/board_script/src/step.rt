@@ -9,7 +9,8 @@ ghost use Rattle.board_script.specs.Steps as steps;
 ghost use Rattle.board_script.specs.Steps.{CanGoOn, CanRun, HasCounter, HasRead, HasWord, IsCounter, IsLoaded, IsOwedBy, IsReadTold, IsSame, IsStored, IsTold, OwesAt, ticked};
 ghost use Rattle.board_script.specs.declared.step.OwedAccess.TheVariants as owed;
 
-use crate::lookups::{entry_at, entry_of, place_of_board, place_of_party};
+use crate::listings::{info_of, keys_at, nodes_at};
+use crate::lookups::{board_at, entry_at, entry_of, place_of_board, place_of_party};
 use crate::machine::{KeptValue, Machine, PartyRow, TableTask, Task};
 use board_cell::{Access as CellAccess, Progress, Words as CellWords};
 use board_model::{Access, Answer, Name, Reason, Reply, Words};
@@ -153,8 +154,7 @@ impl Machine {
     // The one step of a call on the tables.
     fn run_table(&mut self, party: Name, task: TableTask) -> Result<Reply, AllocError>
         requires { CanRun self.old task }
-        ensures told { IfOk result (IsTold self.old self.new party task) }
-        ensures is_reply { IfOk result IsReply }
+        ensures { IfOk result (IsTold self.old self.new party task) }
     {
         match task {
             TableTask::Create {
@@ -186,6 +186,17 @@ impl Machine {
                 key,
                 value_type,
             } => self.make_write_handle(name, &writer, &key, value_type),
+            TableTask::Keys { factory } => {
+                Ok(Reply::Keys(keys_at(self.alloc, factory.board, &self.boards)?))
+            }
+            TableTask::Nodes { factory } => {
+                Ok(Reply::Nodes(nodes_at(self.alloc, factory.board, &self.things)?))
+            }
+            TableTask::Info { factory } => match board_at(factory.board, &self.boards) {
+                Some(board) => Ok(Reply::Info(info_of(board, &self.things))),
+                None => unreachable!(),
+            },
+            TableTask::Id { thing } => Ok(Reply::Id(self.id_of(&thing))),
             TableTask::Gen { handle } => Ok(Reply::Generation(self.counter(
                 handle.board,
                 entry_of(&handle.kind),

@@ -1,4 +1,5 @@
 //! Worked scripts, from their bytes to the bytes of their output.
+mod domain;
 mod readers;
 
 use crate::{MemorySink, MemorySource, run_words};

@@ -1,10 +1,11 @@
 //! Values and keys as words and bytes.
-ghost use Rattle.std.specs.Prelude.{◌≡◌, ◌≤◌, ◌+◌, ◌++◌, ◌∷◌, [], IfOk, map, length};
+ghost use Rattle.std.specs.Prelude.{◌≡◌, ◌≤◌, ◌<◌, ◌+◌, ◌*◌, ◌^◌, ◌++◌, ◌∷◌, [], IfOk, map, length, take};
 ghost use Rattle.std.specs.Char.{to_ascii_lowercase};
+ghost use Rattle.board_layout.specs.Keys as keys;
 ghost use Rattle.board_layout.specs.Text.{padded};
 ghost use Rattle.board_model.specs.TypeTable as types;
 
-use board_layout::{F8, KeyMemory, TypeDetail, TypeVariant};
+use board_layout::{F8, KeyMemory, Text, TypeDetail, TypeVariant};
 use board_model::{AddedEntry, Key, KeyType, Value, ValueType};
 use std::alloc::{AllocError, Global};
 
@@ -122,6 +123,53 @@ pub(crate) fn key_bytes(key: &Key) -> KeyMemory<64>
             let bytes = text.as_bytes();
             key_memory(bytes)
         }
+    }
+}
+
+// The number of these bytes, the low one first.
+fn little(bytes: &[u8]) -> u64
+    requires { length bytes.now ≤ 8 }
+    ensures value { result ≡ keys.little bytes.now }
+    ensures bound { result < 2 ^ (8 * length bytes.now) }
+{
+    match bytes {
+        [] => 0,
+        [b, rest @ ..] => u64::from(*b) + 256 * little(rest),
+    }
+}
+
+// The bytes before the first zero.
+fn up_to_zero(bytes: &[u8]) -> Text<8>
+    requires { length bytes.now ≤ 8 }
+    ensures { result ≡ types.up_to_zero bytes.now }
+{
+    for (i, byte) in bytes.iter().enumerate() {
+        if *byte == 0 {
+            return Text::of(&bytes[..i]);
+        }
+    }
+    Text::of(bytes)
+}
+
+/// The key that an entry keeps in its first eight bytes.
+pub(crate) fn key_of(key_type: KeyType, key: &KeyMemory<64>) -> Key
+    ensures { result ≡ types.key_of key_type (take 8 key.now.bytes) }
+{
+    let bytes = &key.bytes[..8];
+    match key_type {
+        KeyType::U64 => Key::U64(little(bytes)),
+        KeyType::F8 => Key::F8(up_to_zero(bytes)),
+    }
+}
+
+/// The key type with these details.
+pub(crate) fn key_type_of(detail: &TypeDetail) -> KeyType
+    ensures { result ≡ types.key_type_of detail.now }
+{
+    if same_type(detail, &key_detail(KeyType::U64)) {
+        KeyType::U64
+    } else {
+        KeyType::F8
     }
 }
 

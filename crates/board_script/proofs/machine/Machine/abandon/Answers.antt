@@ -26,13 +26,13 @@ index_mut-requires c =
 pub returns-in_default : goal.returns-in_default
 returns-in_default c =
     let none : None ≡ position_from (is_row_of c.args.party) 0 c.args.self.now.parties.items = search rules in
-    λ s rep sound l. free_leaves c.args.self.now _ s rep c.args.party l refl refl refl refl (is_free c.args.self.now.parties.items s.parties rep.parties c.args.party none) c.in_ok-push.ensures.items
+    λ s rep reached l. free_leaves c.args.self.now _ s rep c.args.party l refl refl refl refl (is_free c.args.self.now.parties.items s.parties rep.parties c.args.party none) c.in_ok-push.ensures.items
 
 pub returns-then-is_gone : goal.returns-then-is_gone
 returns-then-is_gone c =
     let place : a_place c.in-Some.at ≡ position_from (is_row_of c.args.party) 0 c.args.self.now.parties.items = search rules in
     let g : is_gone c.index.result.now.task ≡ true = search rules in
-    λ s rep sound l. (abandon_again s c.args.party (gone_at c.args.self.now.parties.items s.parties rep.parties c.args.party c.in-Some.at c.index.result.now place c.index.ensures g) l, rep)
+    λ s rep reached l. (abandon_again s c.args.party (gone_at c.args.self.now.parties.items s.parties rep.parties c.args.party c.in-Some.at c.index.result.now place c.index.ensures g) l, rep)
 
 pub returns : goal.returns
 returns c =
@@ -44,5 +44,5 @@ returns c =
     let first = first_at (is_row_of c.args.party) c.in-Some.at items place in
     let same : y ≡ x = c.index_mut.ensures.value ∙ get_or-inside items c.in-Some.at y x first.inside ∙ sym c.index.ensures in
     let not_gone : is_gone y.task ≡ false = ap (λ (z : PartyRow). is_gone z.task) same ∙ g in
-    λ s rep sound l.
+    λ s rep reached l.
     running_leaves c.args.self.now _ s rep c.args.party l refl refl refl refl c.in-Some.at y (runs_at items s.parties rep.parties c.args.party c.in-Some.at y place c.index_mut.ensures.value not_gone) refl

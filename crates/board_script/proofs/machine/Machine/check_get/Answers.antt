@@ -26,7 +26,7 @@ pub new-requires-clause-shape : goal.new-requires-clause-shape
 new-requires-clause-shape c =
     let led = c.requires in
     subst (λ (x : CellShape). cell_end x < 2 ^ 64) (sym c.shape_of-shape.ensures)
-    (cell_is_low c.args.self.now led.state led.represents led.sound c.in-Some.found.board (entry_of c.in-Some.found.kind) c.entry_held-entry.result.now c.entry_held-entry.ensures)
+    (cell_is_low c.args.self.now led.state led.represents led.reached.sound c.in-Some.found.board (entry_of c.in-Some.found.kind) c.entry_held-entry.result.now c.entry_held-entry.ensures)
 
 pub returns : goal.returns
 returns c =

@@ -7,6 +7,7 @@ use Rattle.board_model.specs.Tables.{entry_of}
 use Rattle.board_model.specs.Things.{Held, of_kind, thing_of}
 use Rattle.board_model.specs.TypeTable.{same_type, type_of, value_detail, value_words}
 use Rattle.board_script.specs.Steps.{HasCounter, IsCounter}
+use Rattle.board_script.proofs.Bounds.{bounded}
 use Rattle.board_script.proofs.CallChecks.{cell_is_low, counter_is_low, entry_has_counter, update_begins, value_fits, write_handle}
 use Rattle.board_script.proofs.machine.Machine.check_update.Goals as goal
 
@@ -20,26 +21,26 @@ pub counter-generation-requires : goal.counter-generation-requires
 counter-generation-requires c =
     let led = c.requires in
     subst (λ (k : ℕ). HasCounter c.args.self.now c.in-Some.found.board k) (sym c.entry_of.ensures)
-    (entry_has_counter c.args.self.now led.state led.represents led.sound c.in-Some.found.board (entry_of c.in-Some.found.kind) c.entry_held-entry.result.now c.entry_held-entry.ensures)
+    (entry_has_counter c.args.self.now led.state led.represents led.reached.sound c.in-Some.found.board (entry_of c.in-Some.found.kind) c.entry_held-entry.result.now c.entry_held-entry.ensures)
 
 pub new-requires-clause-words : goal.new-requires-clause-words
 new-requires-clause-words c =
     let t : same_type (value_detail (type_of c.args.value)) c.entry_held-entry.result.now.value ≡ true = search rules in
     let w : c.in_ok-words.words.items ≡ value_words c.args.value = search rules in
     let led = c.requires in
-    ap (λ (ws : List ℕ). length ws) w ∙ value_fits c.args.self.now led.state led.represents led.sound c.in-Some.found.board (entry_of c.in-Some.found.kind) c.entry_held-entry.result.now c.entry_held-entry.ensures c.args.value t
+    ap (λ (ws : List ℕ). length ws) w ∙ value_fits c.args.self.now led.state led.represents led.reached.sound c.in-Some.found.board (entry_of c.in-Some.found.kind) c.entry_held-entry.result.now c.entry_held-entry.ensures c.args.value t
     ∙ ap (λ (x : CellShape). x.words) (sym c.shape_of-shape.ensures)
 
 pub new-requires-clause-shape : goal.new-requires-clause-shape
 new-requires-clause-shape c =
     let led = c.requires in
     subst (λ (x : CellShape). cell_end x < 2 ^ 64) (sym c.shape_of-shape.ensures)
-    (cell_is_low c.args.self.now led.state led.represents led.sound c.in-Some.found.board (entry_of c.in-Some.found.kind) c.entry_held-entry.result.now c.entry_held-entry.ensures)
+    (cell_is_low c.args.self.now led.state led.represents led.reached.sound c.in-Some.found.board (entry_of c.in-Some.found.kind) c.entry_held-entry.result.now c.entry_held-entry.ensures)
 
 pub new-requires-clause-room : goal.new-requires-clause-room
 new-requires-clause-room c =
     let led = c.requires in
-    counter_is_low c.args.self.now led.state led.represents led.sound c.in-Some.found.board (entry_of c.in-Some.found.kind) c.entry_held-entry.result.now c.entry_held-entry.ensures c.counter-generation.result led.bounded
+    counter_is_low c.args.self.now led.state led.represents led.reached.sound c.in-Some.found.board (entry_of c.in-Some.found.kind) c.entry_held-entry.result.now c.entry_held-entry.ensures c.counter-generation.result (bounded led.state led.reached)
     (subst (λ (k : ℕ). IsCounter c.args.self.now c.in-Some.found.board k c.counter-generation.result) c.entry_of.ensures c.counter-generation.ensures)
 
 pub returns : goal.returns

@@ -15,4 +15,4 @@ unreachable-requires c =
     let led = c.requires.led in
     let x = c.args.handle.now in
     let none : entry_at (tables_of c.args.self.now) x.board (entry_of x.kind) ≡ None = search rules in
-    none_stands (entry_at (tables_of c.args.self.now) x.board (entry_of x.kind)) none (entry_stands c.args.self.now led.state led.represents led.sound x c.requires.held)
+    none_stands (entry_at (tables_of c.args.self.now) x.board (entry_of x.kind)) none (entry_stands c.args.self.now led.state led.represents led.reached.sound x c.requires.held)

@@ -16,7 +16,7 @@ a_place n = Some n
 pub returns-in_default : goal.returns-in_default
 returns-in_default c =
     let none : None ≡ position_from (is_row_of c.args.party.now) 0 c.args.self.now.parties.items = search rules in
-    λ s rep sound l. (step_idle s c.args.party.now (is_free c.args.self.now.parties.items s.parties rep.parties c.args.party.now none) l, rep)
+    λ s rep reached l. (step_idle s c.args.party.now (is_free c.args.self.now.parties.items s.parties rep.parties c.args.party.now none) l, rep)
 
 pub index-requires : goal.index-requires
 index-requires c =
@@ -28,7 +28,7 @@ pub returns-then-is_gone : goal.returns-then-is_gone
 returns-then-is_gone c =
     let place : a_place c.in-Some.at ≡ position_from (is_row_of c.args.party.now) 0 c.args.self.now.parties.items = search rules in
     let g : is_gone c.index.result.now.task ≡ true = search rules in
-    λ s rep sound l. (step_gone s c.args.party.now (gone_at c.args.self.now.parties.items s.parties rep.parties c.args.party.now c.in-Some.at c.index.result.now place c.index.ensures g) l, rep)
+    λ s rep reached l. (step_gone s c.args.party.now (gone_at c.args.self.now.parties.items s.parties rep.parties c.args.party.now c.in-Some.at c.index.result.now place c.index.ensures g) l, rep)
 
 pub owed-requires : goal.owed-requires
 owed-requires c =
@@ -36,7 +36,7 @@ owed-requires c =
     let g : is_gone c.index.result.now.task ≡ false = search rules in
     let led = c.requires in
     let at = runs_at c.args.self.now.parties.items led.state.parties led.represents.parties c.args.party.now c.in-Some.at c.index.result.now place c.index.ensures g in
-    row_goes_on c.args.self.now led.state led.represents led.sound c.args.party.now c.in-Some.at c.index.result.now at
+    row_goes_on c.args.self.now led.state led.represents led.reached.sound c.args.party.now c.in-Some.at c.index.result.now at
 
 pub step_table-requires-clause-owes : goal.step_table-requires-clause-owes
 step_table-requires-clause-owes c =

@@ -17,7 +17,7 @@ read_word-value-requires c =
     let o = owed.Read c.args.read in
     let owes = c.requires.owes in
     let led = c.requires.led in
-    row_has_read m led.state led.represents led.sound party c.args.at (owed_row m party c.args.at o owes) (row_runs m party c.args.at o owes led.state led.represents) c.args.read (row_owes m party c.args.at o owes)
+    row_has_read m led.state led.represents led.reached.sound party c.args.at (owed_row m party c.args.at o owes) (row_runs m party c.args.at o owes led.state led.represents) c.args.read (row_owes m party c.args.at o owes)
 
 pub index_mut-requires : goal.index_mut-requires
 index_mut-requires c =
@@ -34,7 +34,7 @@ took-requires c =
     let led = c.requires.led in
     let y = c.index_mut.result.now in
     let is = row_is m party c.args.at o owes y (c.index_mut.ensures.value ∙ ap (λ (xs : List PartyRow). get_or xs c.args.at y) c.read_word-value.ensures.same.parties) in
-    subst (λ (x : PartyRow). CanGoOn x.task) (sym is) (row_goes_on m led.state led.represents led.sound party c.args.at (owed_row m party c.args.at o owes) (row_runs m party c.args.at o owes led.state led.represents))
+    subst (λ (x : PartyRow). CanGoOn x.task) (sym is) (row_goes_on m led.state led.represents led.reached.sound party c.args.at (owed_row m party c.args.at o owes) (row_runs m party c.args.at o owes led.state led.represents))
 
 pub remove-name-requires : goal.remove-name-requires
 remove-name-requires c =
@@ -59,8 +59,8 @@ returns-in-More c =
     let value : v < 2 ^ 64 = search rules in
     let y : PartyRow = record { name = x.name; task = c.took.new.self } in
     let last = more_is (is_last x.task v) c.in-More.ensures.progress in
-    λ s rep sound l.
-    read_goes_on m s rep sound party at row (row_runs m party at o owes s rep) c.args.read (row_owes m party at o owes) v c.read_word-value.ensures.value board word value l _
+    λ s rep reached l.
+    read_goes_on m s rep reached.sound party at row (row_runs m party at o owes s rep) c.args.read (row_owes m party at o owes) v c.read_word-value.ensures.value board word value l _
     same.tables same.words same.values same.spent y (ap (λ (z : PartyRow). z.name) is) (c.took.ensures.call ∙ ap (λ (z : PartyRow). ticked z.task v) is)
     (ap (λ (z : PartyRow). is_last z.task v) (sym is) ∙ last) (ap (λ (xs : List PartyRow). set xs at y) same.parties)
 
@@ -88,9 +88,9 @@ returns-in_ok-told-in-Done c =
     let mid : Machine = record c.read_word-value.new.self { parties = c.remove-name.new.self } in
     let told_y : IsReadTold mid c.tell_read.new.self y.name y.task c.in_ok-told-in-Done.told = subst (λ (z : PartyRow). IsReadTold mid c.tell_read.new.self z.name z.task c.in_ok-told-in-Done.told) gone_is c.in_ok-told-in-Done.ensures.told in
     let rows = c.remove-name.ensures.items ∙ ap (λ (xs : List PartyRow). remove (set xs at y) at) same.parties in
-    λ s rep sound l.
+    λ s rep reached l.
     let runs = row_runs m party at o owes s rep in
     let name : y.name ≡ party = ap (λ (z : PartyRow). z.name) is ∙ runs.name in
     let told = subst (λ (p : List ℕ). IsReadTold mid c.tell_read.new.self p (ticked row.task v) c.in_ok-told-in-Done.told) name (subst (λ z. IsReadTold mid c.tell_read.new.self y.name z c.in_ok-told-in-Done.told) ticks told_y) in
-    read_ends m s rep sound party at row runs c.args.read (row_owes m party at o owes) v c.read_word-value.ensures.value board word value l mid c.tell_read.new.self
+    read_ends m s rep reached.sound party at row runs c.args.read (row_owes m party at o owes) v c.read_word-value.ensures.value board word value l mid c.tell_read.new.self
     y ticks (ap (λ (z : PartyRow). is_last z.task v) (sym is) ∙ last) same.tables same.words same.values same.spent rows c.in_ok-told-in-Done.told told c.in_ok-told-in-Done.ensures.is_reply

@@ -13,7 +13,7 @@ write_word-requires c =
     let o = owed.Write c.args.write in
     let owes = c.requires.owes in
     let led = c.requires.led in
-    row_has_word m led.state led.represents led.sound party c.args.at (owed_row m party c.args.at o owes) (row_runs m party c.args.at o owes led.state led.represents) c.args.write (row_owes m party c.args.at o owes)
+    row_has_word m led.state led.represents led.reached.sound party c.args.at (owed_row m party c.args.at o owes) (row_runs m party c.args.at o owes led.state led.represents) c.args.write (row_owes m party c.args.at o owes)
 
 pub remove-requires : goal.remove-requires
 remove-requires c =
@@ -36,7 +36,7 @@ took-requires c =
     let led = c.requires.led in
     let y = c.index_mut.result.now in
     let is = row_is m party c.args.at o owes y (c.index_mut.ensures.value ∙ ap (λ (xs : List PartyRow). get_or xs c.args.at y) c.write_word.ensures.parties) in
-    subst (λ (x : PartyRow). CanGoOn x.task) (sym is) (row_goes_on m led.state led.represents led.sound party c.args.at (owed_row m party c.args.at o owes) (row_runs m party c.args.at o owes led.state led.represents))
+    subst (λ (x : PartyRow). CanGoOn x.task) (sym is) (row_goes_on m led.state led.represents led.reached.sound party c.args.at (owed_row m party c.args.at o owes) (row_runs m party c.args.at o owes led.state led.represents))
 
 pub returns-then-write : goal.returns-then-write
 returns-then-write c =
@@ -47,8 +47,8 @@ returns-then-write c =
     let board : c.args.write.board < 2 ^ 64 = search rules in
     let word : c.args.write.word < 2 ^ 64 = search rules in
     let value : c.args.write.value < 2 ^ 64 = search rules in
-    λ s rep sound l.
-    update_ends m s rep sound party c.args.at (owed_row m party c.args.at o owes) (row_runs m party c.args.at o owes s rep) c.args.write (row_owes m party c.args.at o owes) c.write_word.new.self _ c.write_word.ensures
+    λ s rep reached l.
+    update_ends m s rep reached.sound party c.args.at (owed_row m party c.args.at o owes) (row_runs m party c.args.at o owes s rep) c.args.write (row_owes m party c.args.at o owes) c.write_word.new.self _ c.write_word.ensures
     (record { board = board; word = word; value = value }) l refl refl refl refl c.if-write.true c.remove.ensures.items
 
 pub returns-else-write : goal.returns-else-write
@@ -62,7 +62,7 @@ returns-else-write c =
     let board : c.args.write.board < 2 ^ 64 = search rules in
     let word : c.args.write.word < 2 ^ 64 = search rules in
     let value : c.args.write.value < 2 ^ 64 = search rules in
-    λ s rep sound l.
-    update_goes_on m s rep sound party c.args.at (owed_row m party c.args.at o owes) (row_runs m party c.args.at o owes s rep) c.args.write (row_owes m party c.args.at o owes) c.write_word.new.self _ c.write_word.ensures
+    λ s rep reached l.
+    update_goes_on m s rep reached.sound party c.args.at (owed_row m party c.args.at o owes) (row_runs m party c.args.at o owes s rep) c.args.write (row_owes m party c.args.at o owes) c.write_word.new.self _ c.write_word.ensures
     (record { board = board; word = word; value = value }) l refl refl refl refl
     (record { name = y.name; task = c.took.new.self }) (ap (λ (z : PartyRow). z.name) is) (c.took.ensures.call ∙ ap (λ (z : PartyRow). ticked z.task 0) is) c.if-write.false refl
