@@ -14,4 +14,5 @@ pub mod Shown
 pub mod Slots
 pub mod StepRefusals
 pub mod TableSteps
+pub mod Takes
 pub mod UpdateSteps

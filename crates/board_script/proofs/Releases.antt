@@ -32,11 +32,11 @@ module _ (party name : List ℕ) where
   -- no value of the name is left
   none_kept : (found : Option Kept) (vs : List KeptValue) → kept_from found party name (left party name vs) ≡ found
   none_kept found [] = refl
-  none_kept found (v ∷ vs) = at (is_kept_as party name v) refl
+  none_kept found (v ∷ vs) = at (is_kept_as party name v) refl (none_kept found vs)
     where
-      at : (z : Bool) → is_kept_as party name v ≡ z → kept_from found party name (cond (not z) (v ∷ left party name vs) (left party name vs)) ≡ found
-      at true e = none_kept found vs
-      at false e = rw e (none_kept found vs)
+      at : (z : Bool) → is_kept_as party name v ≡ z → kept_from found party name (left party name vs) ≡ found → kept_from found party name (cond (not z) (v ∷ left party name vs) (left party name vs)) ≡ found
+      at true e ih = ih
+      at false e ih = rw e ih
 
   is_same : (p n : List ℕ) (v : KeptValue) → is_kept_as party name v ≡ true → is_kept_as p n v ≡ (bytes_eq p party && bytes_eq n name)
   is_same p n v e =
@@ -46,12 +46,12 @@ module _ (party name : List ℕ) where
   -- those of another name are
   others_kept : (p n : List ℕ) → (bytes_eq p party && bytes_eq n name) ≡ false → (found : Option Kept) (vs : List KeptValue) → kept_from found p n (left party name vs) ≡ kept_from found p n vs
   others_kept p n ne found [] = refl
-  others_kept p n ne found (v ∷ vs) = at (is_kept_as party name v) refl
+  others_kept p n ne found (v ∷ vs) = at (is_kept_as party name v) refl (λ f. others_kept p n ne f vs)
     where
-      at : (z : Bool) → is_kept_as party name v ≡ z
+      at : (z : Bool) → is_kept_as party name v ≡ z → ((f : Option Kept) → kept_from f p n (left party name vs) ≡ kept_from f p n vs)
           → kept_from found p n (cond (not z) (v ∷ left party name vs) (left party name vs)) ≡ kept_from (cond (is_kept_as p n v) (Some (kept_of v)) found) p n vs
-      at true e = rw (is_same p n v e ∙ ne) (others_kept p n ne found vs)
-      at false e = others_kept p n ne (cond (is_kept_as p n v) (Some (kept_of v)) found) vs
+      at true e ih = rw (is_same p n v e ∙ ne) (ih found)
+      at false e ih = ih (cond (is_kept_as p n v) (Some (kept_of v)) found)
 
   values_left : (f : List ℕ → List ℕ → Option Kept) (vs new : List KeptValue) → ((p n : List ℕ) → f p n ≡ kept vs p n) → new ≡ left party name vs
       → (p n : List ℕ) → with_at f party name None p n ≡ kept new p n

@@ -43,7 +43,7 @@ use Rattle.board_script.specs.declared.machine.PartyRow.{PartyRow}
 use Rattle.board_script.specs.declared.machine.KeptValue.{KeptValue}
 use Rattle.board_script.specs.declared.machine.TableTask.{TableTask}
 use Rattle.board_script.specs.declared.machine.TableTask.TheVariants as table_task
-use Rattle.board_script.specs.Listings.{keys_shown, standing_with}
+use Rattle.board_script.specs.Overview.{keys_shown, standing_with}
 use Rattle.board_script.specs.Machine.{AreRowsOf, IsReached, Represents, call_of, is_row_of, kept, tables_of, words_of}
 use Rattle.board_script.specs.Steps.{CanRun, HasCounter, IsCounter, IsGen, IsShown, IsTold}
 use Rattle.board_script.specs.TableCalls.{IsAsked, IsCreate, words_with}

@@ -1,7 +1,7 @@
 pub mod Begins
 pub mod Counts
 pub mod Create
-pub mod Listings
+pub mod Overview
 pub mod Machine
 pub mod Steps
 pub mod TableCalls

@@ -21,7 +21,7 @@ use Rattle.board_script.specs.declared.machine.Task.TheVariants as task
 use Rattle.board_script.specs.declared.step.OwedAccess.{OwedAccess}
 use Rattle.board_script.specs.declared.step.OwedAccess.TheVariants as owed
 use Rattle.board_script.specs.declared.step.OwedWrite.{OwedWrite}
-use Rattle.board_script.specs.Listings.{keys_shown, standing_with}
+use Rattle.board_script.specs.Overview.{keys_shown, standing_with}
 use Rattle.board_script.specs.Machine.{is_kept_as, is_row_of, tables_of, words_of}
 use Rattle.board_script.specs.TableCalls.{IsCreate, IsEntry, IsEntryMut, IsOpen, IsReader, IsWriter}
 

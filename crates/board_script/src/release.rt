@@ -1,11 +1,10 @@
 //! Lines `drop P T`.
-ghost use Rattle.std.specs.Prelude.{◌≡◌, ℕ, List, not, IfNone, IfSome, length};
+ghost use Rattle.std.specs.Prelude.{◌≡◌, ℕ, List, not, IfNone, length};
 ghost use Rattle.std.specs.List.{filter, list_any};
-ghost use Rattle.board_model.specs.Replies.{released_thing};
 ghost use Rattle.board_model.specs.Tables as tables;
 ghost use Rattle.board_model.specs.Things as held;
 ghost use Rattle.board_model.specs.declared.line.Line.TheVariants as line;
-ghost use Rattle.board_script.specs.Machine.{IsLed, Serves, is_kept_as, tables_of, words_of};
+ghost use Rattle.board_script.specs.Machine.{IsLed, Serves, is_kept_as, words_of};
 ghost use Rattle.board_script.specs.Steps.{IsReleased};
 
 use crate::lookups::{place_of_board, place_of_party, place_of_thing};
@@ -24,6 +23,7 @@ fn forget_values(party: &Name, name: &Name, values: &mut Vec<KeptValue>)
 fn take_thing(party: &Name, name: &Name, things: &mut Vec<Held>) -> Option<Held>
     ensures taken { result ≡ held.thing_of things.old.items party.now name.now }
     ensures rest { things.new.items ≡ tables.without (held.is_held_as party.now name.now) things.old.items }
+    ensures same { IfNone result (things.new.items ≡ things.old.items) }
 {
     match place_of_thing(party, name, things) {
         Some(place) => Some(things.remove(place)),

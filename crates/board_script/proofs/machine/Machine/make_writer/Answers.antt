@@ -9,8 +9,8 @@ use Rattle.board_script.specs.Machine.{tables_of}
 use Rattle.board_script.proofs.Slots.{writer_free, writer_taken}
 use Rattle.board_script.proofs.machine.Machine.make_writer.Goals as goal
 
-pub returns-then-has_writer-clause-told : goal.returns-then-has_writer-clause-told
-returns-then-has_writer-clause-told c =
+pub returns-then-has_writer : goal.returns-then-has_writer
+returns-then-has_writer c =
     let h : true ≡ list_any (is_of_writer c.args.factory.now.board) c.args.self.now.things.items = search rules in
     let e = writer_taken (tables_of c.args.self.now) c.args.factory.now c.args.name h in
     record {
@@ -22,8 +22,8 @@ returns-then-has_writer-clause-told c =
       spent = refl;
     }
 
-pub returns-clause-told : goal.returns-clause-told
-returns-clause-told c =
+pub returns : goal.returns
+returns c =
     let h : false ≡ list_any (is_of_writer c.args.factory.now.board) c.args.self.now.things.items = search rules in
     let e = writer_free (tables_of c.args.self.now) c.args.factory.now c.args.name h in
     record {

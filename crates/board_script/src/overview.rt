@@ -2,7 +2,7 @@
 ghost use Rattle.std.specs.Prelude.{◌≡◌, ◌≤◌, ◌++◌, ◌∷◌, Some, IfNone, IfSome, IfOk, OnOk, find, length, map, take, drop};
 ghost use Rattle.board_model.specs.Replies as replies;
 ghost use Rattle.board_model.specs.Tables as tables;
-ghost use Rattle.board_script.specs.Listings.{key_shown, keys_shown, standing_with};
+ghost use Rattle.board_script.specs.Overview.{key_shown, keys_shown, standing_with};
 ghost use Rattle.board_script.specs.Machine.{tables_of};
 
 use crate::counts::{nodes_taken, reader_slots, writer_slots};
