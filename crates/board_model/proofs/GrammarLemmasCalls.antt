@@ -429,22 +429,19 @@ update_takes ts c e =
 plain_call_takes : (word : List ℕ) (ts : List (List ℕ)) (c : Call) → read_plain_call word ts ≡ Some c → Takes word ts c
 unfolding read_plain_call
 plain_call_takes word ts c e =
-    elim (chosen (bytes_eq word (codes "open")) _ _ _ e) [
-      | inl a ↦ head_of word (codes "open") ts c a.0 (open_takes ts c a.1)
-      | inr a ↦ elim (chosen (bytes_eq word (codes "entry")) _ _ _ a.1) [
-        | inl b ↦ head_of word (codes "entry") ts c b.0 (entry_call_takes ts c b.1)
-        | inr b ↦ elim (chosen (bytes_eq word (codes "entrymut")) _ _ _ b.1) [
-          | inl d ↦ head_of word (codes "entrymut") ts c d.0 (entry_mut_takes ts c d.1)
-          | inr d ↦ elim (chosen (bytes_eq word (codes "get")) _ _ _ d.1) [
-            | inl f ↦ head_of word (codes "get") ts c f.0 (get_takes ts c f.1)
-            | inr f ↦ elim (chosen (bytes_eq word (codes "update")) _ _ _ f.1) [
-              | inl g ↦ head_of word (codes "update") ts c g.0 (update_takes ts c g.1)
-              | inr g ↦ elim (chosen (bytes_eq word (codes "put")) _ _ _ g.1) [
-                | inl h ↦ head_of word (codes "put") ts c h.0 (put_takes ts c h.1)
-                | inr h ↦ elim (chosen (bytes_eq word (codes "fill")) _ _ _ h.1) [
-                  | inl k ↦ head_of word (codes "fill") ts c k.0 (fill_takes ts c k.1)
-                  | inr k ↦ named_takes word ts c k.1
-                ]
+    elim (chosen (bytes_eq word (codes "entry")) _ _ _ e) [
+      | inl b ↦ head_of word (codes "entry") ts c b.0 (entry_call_takes ts c b.1)
+      | inr b ↦ elim (chosen (bytes_eq word (codes "entrymut")) _ _ _ b.1) [
+        | inl d ↦ head_of word (codes "entrymut") ts c d.0 (entry_mut_takes ts c d.1)
+        | inr d ↦ elim (chosen (bytes_eq word (codes "get")) _ _ _ d.1) [
+          | inl f ↦ head_of word (codes "get") ts c f.0 (get_takes ts c f.1)
+          | inr f ↦ elim (chosen (bytes_eq word (codes "update")) _ _ _ f.1) [
+            | inl g ↦ head_of word (codes "update") ts c g.0 (update_takes ts c g.1)
+            | inr g ↦ elim (chosen (bytes_eq word (codes "put")) _ _ _ g.1) [
+              | inl h ↦ head_of word (codes "put") ts c h.0 (put_takes ts c h.1)
+              | inr h ↦ elim (chosen (bytes_eq word (codes "fill")) _ _ _ h.1) [
+                | inl k ↦ head_of word (codes "fill") ts c k.0 (fill_takes ts c k.1)
+                | inr k ↦ named_takes word ts c k.1
               ]
             ]
           ]
@@ -457,7 +454,10 @@ unfolding read_call
 call_takes word ts c e =
     elim (chosen (bytes_eq word (codes "create")) _ _ _ e) [
       | inl h ↦ head_of word (codes "create") ts c h.0 (create_takes ts c h.1)
-      | inr h ↦ plain_call_takes word ts c h.1
+      | inr h ↦ elim (chosen (bytes_eq word (codes "open")) _ _ _ h.1) [
+        | inl a ↦ head_of word (codes "open") ts c a.0 (open_takes ts c a.1)
+        | inr a ↦ plain_call_takes word ts c a.1
+      ]
     ]
 
 -- the call behind the word, as a whole

@@ -231,10 +231,9 @@ pair_call word p =
 unfoldable pub read_named_call : List ℕ → List (List ℕ) → Option Call
 read_named_call word ts = if is_single word then (read_one_name ts >>= single_call word) else (read_two_names ts >>= pair_call word)
 
--- the call of a word, but for `create`
+-- the call of a word, but for the two that have optional parts
 unfoldable pub read_plain_call : List ℕ → List (List ℕ) → Option Call
 read_plain_call word ts =
-    if bytes_eq word (codes "open") then read_open ts else
     if bytes_eq word (codes "entry") then read_entry_call ts else
     if bytes_eq word (codes "entrymut") then read_entry_mut ts else
     if bytes_eq word (codes "get") then read_get ts else
@@ -244,7 +243,10 @@ read_plain_call word ts =
     read_named_call word ts
 
 unfoldable pub read_call : List ℕ → List (List ℕ) → Option Call
-read_call word ts = if bytes_eq word (codes "create") then read_create ts else read_plain_call word ts
+read_call word ts =
+    if bytes_eq word (codes "create") then read_create ts else
+    if bytes_eq word (codes "open") then read_open ts else
+    read_plain_call word ts
 
 -- ---- lines
 
