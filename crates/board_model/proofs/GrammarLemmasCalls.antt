@@ -1,8 +1,9 @@
 -- Calls are read back from their tokens.
-use Rattle.std.proofs.Common.{◌≡◌, ℕ, ◌≤◌, arith, Bool, true, List, [], ◌∷◌, ◌++◌, length, Option, Some, None, refl, sym, ap, subst, ◌∙◌, eqb, inl, inr}
-use Rattle.std.specs.Prelude.{◌&&◌, codes, decimal}
+use Rattle.std.proofs.Common.{◌≡◌, ℕ, true, false, List, [], ◌∷◌, ◌++◌, Option, Some, None, refl, sym, ap, subst, ◌∙◌, inl, inr}
+use Rattle.std.specs.Prelude.{codes, decimal}
 use Rattle.std.specs.Str.{bytes_eq}
-use Rattle.std.specs.List.{flat_map, list_all, AllByRecursion}
+use Rattle.std.specs.List.{flat_map, AllByRecursion}
+use Rattle.std.proofs.lemmas.List.{append-nil}
 use Rattle.std.proofs.lemmas.List.Concat.{flat_map-cons}
 use Rattle.board_model.specs.declared.attributes.Attribute.{Attribute}
 use Rattle.board_model.specs.declared.attributes.Requirements.{Requirements}
@@ -11,10 +12,11 @@ use Rattle.board_model.specs.declared.value.AddedEntry.{AddedEntry}
 use Rattle.board_model.specs.declared.value.KeyType.{KeyType}
 use Rattle.board_model.specs.declared.line.Call.{Call}
 use Rattle.board_model.specs.declared.line.Call.TheVariants as call
-use Rattle.board_model.specs.LineGrammar.{is_name, is_board_name, key_text, key_type_text, value_text, value_type_text, entry_tokens, call_tokens, name_tokens, IsNameIfAny, IsAddedEntry, IsCall, runs_call, is_number_key_type, is_none, has_number_key, has_no_limit}
-use Rattle.board_model.specs.LineReading.{◌>>=◌, guard, first_by, is_end, read_name, read_board_name, read_key_type, read_value_type, read_key, read_value, no_limits, read_number, no_needs, read_entry, read_entries, read_create, read_one_name, read_two_names, read_name_if_any, read_open, read_entry_call, read_entry_mut, read_get, read_update, read_put, read_fill, is_single, single_call, pair_call, read_named_call, read_plain_call, read_call}
-use Rattle.board_model.proofs.GrammarLemmasNumbers.{some_is, bind_some, guard_some, both, number_again, number_takes}
+use Rattle.board_model.specs.LineGrammar.{is_name, key_text, key_type_text, value_text, value_type_text, entry_tokens, call_tokens, name_tokens, IsNameIfAny, IsAddedEntry, IsCall, limits_tokens, pair_tokens, needed_key_tokens}
+use Rattle.board_model.specs.LineReading.{◌>>=◌, guard, first_by, is_end, read_name, read_board_name, read_key_type, read_value_type, read_key, read_value, read_number, begins, read_limits, read_parts, read_pair, read_needs, read_entry, read_entries, read_create, read_one_name, read_two_names, read_name_if_any, read_open, read_entry_call, read_entry_mut, read_get, read_update, read_put, read_fill, is_single, single_call, pair_call, read_named_call, read_plain_call, read_call}
+use Rattle.board_model.proofs.GrammarLemmasNumbers.{some_is, bind_some, guard_some, number_again, number_takes}
 use Rattle.board_model.proofs.GrammarLemmasTokens.{word_is, chosen, first_takes, end_takes, name_again, name_takes, board_name_again, board_name_takes, key_type_again, key_type_takes, value_type_again, value_type_takes, key_again, key_takes, value_again, value_takes}
+use Rattle.board_model.proofs.GrammarLemmasOptions.{begins_not, begins_no_part, limits_again, limits_take, pairs_again, pairs_take, needs_again, needs_take}
 
 -- ---- entries
 
@@ -71,21 +73,30 @@ head_of word v rest c e t = subst (λ (w : List ℕ). Takes w rest c) (sym (word
 
 -- ---- create
 
-no_limit : (l : Limits) → is_none l.max_readers ≡ true → is_none l.max_nodes ≡ true → l ≡ no_limits
-no_limit l r n = alike l l.max_readers l.max_nodes refl refl r n
-  where
-    alike : (l : Limits) (a b : Option ℕ) → l.max_readers ≡ a → l.max_nodes ≡ b → is_none a ≡ true → is_none b ≡ true → l ≡ no_limits
-    alike l None None ea eb r n = rw (ea, eb) refl
-    alike l (Some x) b ea eb r n = absurd cc
-    alike l None (Some x) ea eb r n = absurd cc
+entries_begin : (word : List ℕ) → bytes_eq (codes "add") word ≡ false → (es : List AddedEntry) → begins word (flat_map entry_tokens es) ≡ false
+entries_begin word other es = begins_no_part word entry_tokens (λ e rest. other) es
 
-no_items : {A : Type 0} (xs : List A) → eqb (length xs) 0 ≡ true → xs ≡ []
-no_items [] e = refl
-no_items (x ∷ xs) e = absurd (let bad : eqb (length (x ∷ xs)) 0 ≡ true = e in grind arith)
+abbrev behind_limits : List Attribute → List AddedEntry → List (List ℕ)
+behind_limits attributes es = flat_map (pair_tokens (codes "attr")) attributes ++ flat_map entry_tokens es
 
-pub create_plain_again : (f n : List ℕ) (k : KeyType) (es : List AddedEntry) → is_name f ≡ true → is_board_name n ≡ true → AllByRecursion IsAddedEntry es → read_create (f ∷ n ∷ key_type_text k ∷ flat_map entry_tokens es) ≡ Some (call.Create f n k no_limits [] es)
+create_begins : (word : List ℕ) → bytes_eq (codes "attr") word ≡ false → bytes_eq (codes "add") word ≡ false → (attributes : List Attribute) (es : List AddedEntry) → begins word (behind_limits attributes es) ≡ false
+create_begins word a b attributes es = begins_not word (pair_tokens (codes "attr")) (λ x rest. a) attributes (flat_map entry_tokens es) (entries_begin word b es)
+
+pub create_again : (f n : List ℕ) (k : KeyType) (l : Limits) (attributes : List Attribute) (es : List AddedEntry) → IsCall (call.Create f n k l attributes es) → read_create (f ∷ n ∷ key_type_text k ∷ (limits_tokens l ++ (flat_map (pair_tokens (codes "attr")) attributes ++ flat_map entry_tokens es))) ≡ Some (call.Create f n k l attributes es)
 unfolding read_create
-create_plain_again f n k es hf hn he = rw (name_again f hf, board_name_again n hn, key_type_again k, entries_again es he) refl
+create_again f n k l attributes es h =
+    rw (
+      name_again f h.0,
+      board_name_again n h.1,
+      key_type_again k,
+      limits_again l h.2 (behind_limits attributes es) (create_begins (codes "readers") refl refl attributes es) (create_begins (codes "nodes") refl refl attributes es),
+      pairs_again (codes "attr") refl attributes h.3 (flat_map entry_tokens es) (entries_begin (codes "attr") refl es),
+      entries_again es h.4,
+    ) refl
+
+-- behind the first three tokens
+behind_three : (word : List ℕ) (t0 t1 t2 t3 : List (List ℕ)) (a b c x y z : List ℕ) (rest : List (List ℕ)) → t0 ≡ a ∷ t1 → t1 ≡ b ∷ t2 → t2 ≡ c ∷ t3 → t3 ≡ rest → a ≡ x → b ≡ y → c ≡ z → word ∷ t0 ≡ word ∷ x ∷ y ∷ z ∷ rest
+behind_three word t0 t1 t2 t3 a b c x y z rest e0 e1 e2 e3 ea eb ec = cc
 
 create_takes : (ts : List (List ℕ)) (c : Call) → read_create ts ≡ Some c → Takes (codes "create") ts c
 unfolding read_create
@@ -93,25 +104,26 @@ create_takes ts c e =
     let f = bind_some (first_by read_name ts) _ c e in
     let n = bind_some (first_by read_board_name f.0.1) _ c f.2 in
     let k = bind_some (first_by read_key_type n.0.1) _ c n.2 in
-    let es = bind_some (read_entries k.0.1) _ c k.2 in
+    let l = bind_some (read_limits k.0.1) _ c k.2 in
+    let as_ = bind_some (read_parts 8 (codes "attr") read_pair l.0.1) _ c l.2 in
+    let es = bind_some (read_entries as_.0.1) _ c as_.2 in
     let tf = first_takes read_name ts f.0 f.1 in
     let tn = first_takes read_board_name f.0.1 n.0 n.1 in
     let tk = first_takes read_key_type n.0.1 k.0 k.1 in
-    let te = entries_take k.0.1 es.0 es.1 in
+    let tl = limits_take k.0.1 l.0 l.1 in
+    let ta = pairs_take (codes "attr") l.0.1 as_.0 as_.1 in
+    let te = entries_take as_.0.1 es.0 es.1 in
     let nf = name_takes tf.token f.0.0 tf.is in
     let nn = board_name_takes tn.token n.0.0 tn.is in
     let nk = key_type_takes tk.token k.0.0 tk.is in
-    subst (Takes (codes "create") ts) (some_is (call.Create f.0.0 n.0.0 k.0.0 no_limits [] es.0) c es.2)
+    let behind : k.0.1 ≡ limits_tokens l.0.0 ++ (flat_map (pair_tokens (codes "attr")) as_.0.0 ++ flat_map entry_tokens es.0) =
+    tl.tokens
+    ∙ ap (λ (x : List (List ℕ)). limits_tokens l.0.0 ++ x) (ta.tokens ∙ ap (λ (x : List (List ℕ)). flat_map (pair_tokens (codes "attr")) as_.0.0 ++ x) te.tokens) in
+    subst (Takes (codes "create") ts) (some_is (call.Create f.0.0 n.0.0 k.0.0 l.0.0 as_.0.0 es.0) c es.2)
     (record {
-      tokens = chain ts f.0.1 n.0.1 k.0.1 tf.token tn.token tk.token f.0.0 n.0.0 (key_type_text k.0.0) (flat_map entry_tokens es.0) tf.all tn.all tk.all te.tokens nf.token nn.token nk;
-      is = (nf.named, nn.named, record { readers = tt; nodes = tt }, record { few = omega_zero; each = tt }, te.are);
+      tokens = behind_three (codes "create") ts f.0.1 n.0.1 k.0.1 tf.token tn.token tk.token f.0.0 n.0.0 (key_type_text k.0.0) _ tf.all tn.all tk.all behind nf.token nn.token nk;
+      is = (nf.named, nn.named, tl.are, ta.are, te.are);
     })
-  where
-    chain : (t0 t1 t2 t3 : List (List ℕ)) (a b c f n k : List ℕ) (es : List (List ℕ)) → t0 ≡ a ∷ t1 → t1 ≡ b ∷ t2 → t2 ≡ c ∷ t3 → t3 ≡ es → a ≡ f → b ≡ n → c ≡ k → codes "create" ∷ t0 ≡ codes "create" ∷ f ∷ n ∷ k ∷ es
-    chain t0 t1 t2 t3 a b c f n k es e0 e1 e2 e3 ea eb ec = cc
-
-    omega_zero : length {A = Attribute} [] ≤ 8
-    omega_zero = omega arith
 
 -- ---- calls of names alone
 
@@ -313,30 +325,50 @@ entry_call_takes ts c e =
 three_tokens : (word : List ℕ) (t0 t1 t2 t3 : List (List ℕ)) (a b c x y z : List ℕ) → t0 ≡ a ∷ t1 → t1 ≡ b ∷ t2 → t2 ≡ c ∷ t3 → t3 ≡ [] → a ≡ x → b ≡ y → c ≡ z → word ∷ t0 ≡ word ∷ x ∷ y ∷ z ∷ []
 three_tokens word t0 t1 t2 t3 a b c x y z e0 e1 e2 e3 ea eb ec = cc
 
+abbrev needs_tokens : Requirements → List (List ℕ)
+needs_tokens needs = flat_map (pair_tokens (codes "need")) needs.pairs ++ flat_map needed_key_tokens needs.keys
+
+open_begins : (word : List ℕ) → bytes_eq (codes "need") word ≡ false → bytes_eq (codes "needkey") word ≡ false → (needs : Requirements) → begins word (needs_tokens needs) ≡ false
+open_begins word a b needs = begins_not word (pair_tokens (codes "need")) (λ x rest. a) needs.pairs (flat_map needed_key_tokens needs.keys) (begins_no_part word needed_key_tokens (λ x rest. b) needs.keys)
+
+pub open_again : (f n : List ℕ) (k : KeyType) (l : Limits) (needs : Requirements) → IsCall (call.Open f n k l needs) → read_open (f ∷ n ∷ key_type_text k ∷ (limits_tokens l ++ (flat_map (pair_tokens (codes "need")) needs.pairs ++ flat_map needed_key_tokens needs.keys))) ≡ Some (call.Open f n k l needs)
+unfolding read_open
+open_again f n k l needs h =
+    rw (
+      name_again f h.0,
+      board_name_again n h.1,
+      key_type_again k,
+      limits_again l h.2 (needs_tokens needs) (open_begins (codes "readers") refl refl needs) (open_begins (codes "nodes") refl refl needs),
+      needs_again needs h.3,
+    ) refl
+
 open_takes : (ts : List (List ℕ)) (c : Call) → read_open ts ≡ Some c → Takes (codes "open") ts c
 unfolding read_open
 open_takes ts c e =
     let f = bind_some (first_by read_name ts) _ c e in
     let n = bind_some (first_by read_board_name f.0.1) _ c f.2 in
     let k = bind_some (first_by read_key_type n.0.1) _ c n.2 in
-    let g = guard_some (is_end k.0.1) (Some (call.Open f.0.0 n.0.0 k.0.0 no_limits no_needs)) c k.2 in
+    let l = bind_some (read_limits k.0.1) _ c k.2 in
+    let needs = bind_some (read_needs l.0.1) _ c l.2 in
+    let g = guard_some (is_end needs.0.1) (Some (call.Open f.0.0 n.0.0 k.0.0 l.0.0 needs.0.0)) c needs.2 in
     let tf = first_takes read_name ts f.0 f.1 in
     let tn = first_takes read_board_name f.0.1 n.0 n.1 in
     let tk = first_takes read_key_type n.0.1 k.0 k.1 in
+    let tl = limits_take k.0.1 l.0 l.1 in
+    let td = needs_take l.0.1 needs.0 needs.1 in
     let nf = name_takes tf.token f.0.0 tf.is in
     let nn = board_name_takes tn.token n.0.0 tn.is in
     let nk = key_type_takes tk.token k.0.0 tk.is in
-    subst (Takes (codes "open") ts) (some_is (call.Open f.0.0 n.0.0 k.0.0 no_limits no_needs) c g.1)
+    let no_more : flat_map needed_key_tokens needs.0.0.keys ++ needs.0.1 ≡ flat_map needed_key_tokens needs.0.0.keys =
+    ap (λ (x : List (List ℕ)). flat_map needed_key_tokens needs.0.0.keys ++ x) (end_takes needs.0.1 g.0) ∙ append-nil (flat_map needed_key_tokens needs.0.0.keys) in
+    let behind : k.0.1 ≡ limits_tokens l.0.0 ++ (flat_map (pair_tokens (codes "need")) needs.0.0.pairs ++ flat_map needed_key_tokens needs.0.0.keys) =
+    tl.tokens
+    ∙ ap (λ (x : List (List ℕ)). limits_tokens l.0.0 ++ x) (td.tokens ∙ ap (λ (x : List (List ℕ)). flat_map (pair_tokens (codes "need")) needs.0.0.pairs ++ x) no_more) in
+    subst (Takes (codes "open") ts) (some_is (call.Open f.0.0 n.0.0 k.0.0 l.0.0 needs.0.0) c g.1)
     (record {
-      tokens = three_tokens (codes "open") ts f.0.1 n.0.1 k.0.1 tf.token tn.token tk.token f.0.0 n.0.0 (key_type_text k.0.0) tf.all tn.all tk.all (end_takes k.0.1 g.0) nf.token nn.token nk;
-      is = (nf.named, nn.named, record { readers = tt; nodes = tt }, record { pairs = record { few = few_pairs; each = tt }; few = few_keys; each = tt });
+      tokens = behind_three (codes "open") ts f.0.1 n.0.1 k.0.1 tf.token tn.token tk.token f.0.0 n.0.0 (key_type_text k.0.0) _ tf.all tn.all tk.all behind nf.token nn.token nk;
+      is = (nf.named, nn.named, tl.are, td.are);
     })
-  where
-    few_pairs : length {A = Attribute} [] ≤ 8
-    few_pairs = omega arith
-
-    few_keys : length {A = List ℕ} [] ≤ 8
-    few_keys = omega arith
 
 put_takes : (ts : List (List ℕ)) (c : Call) → read_put ts ≡ Some c → Takes (codes "put") ts c
 unfolding read_put
@@ -397,22 +429,19 @@ update_takes ts c e =
 plain_call_takes : (word : List ℕ) (ts : List (List ℕ)) (c : Call) → read_plain_call word ts ≡ Some c → Takes word ts c
 unfolding read_plain_call
 plain_call_takes word ts c e =
-    elim (chosen (bytes_eq word (codes "open")) _ _ _ e) [
-      | inl a ↦ head_of word (codes "open") ts c a.0 (open_takes ts c a.1)
-      | inr a ↦ elim (chosen (bytes_eq word (codes "entry")) _ _ _ a.1) [
-        | inl b ↦ head_of word (codes "entry") ts c b.0 (entry_call_takes ts c b.1)
-        | inr b ↦ elim (chosen (bytes_eq word (codes "entrymut")) _ _ _ b.1) [
-          | inl d ↦ head_of word (codes "entrymut") ts c d.0 (entry_mut_takes ts c d.1)
-          | inr d ↦ elim (chosen (bytes_eq word (codes "get")) _ _ _ d.1) [
-            | inl f ↦ head_of word (codes "get") ts c f.0 (get_takes ts c f.1)
-            | inr f ↦ elim (chosen (bytes_eq word (codes "update")) _ _ _ f.1) [
-              | inl g ↦ head_of word (codes "update") ts c g.0 (update_takes ts c g.1)
-              | inr g ↦ elim (chosen (bytes_eq word (codes "put")) _ _ _ g.1) [
-                | inl h ↦ head_of word (codes "put") ts c h.0 (put_takes ts c h.1)
-                | inr h ↦ elim (chosen (bytes_eq word (codes "fill")) _ _ _ h.1) [
-                  | inl k ↦ head_of word (codes "fill") ts c k.0 (fill_takes ts c k.1)
-                  | inr k ↦ named_takes word ts c k.1
-                ]
+    elim (chosen (bytes_eq word (codes "entry")) _ _ _ e) [
+      | inl b ↦ head_of word (codes "entry") ts c b.0 (entry_call_takes ts c b.1)
+      | inr b ↦ elim (chosen (bytes_eq word (codes "entrymut")) _ _ _ b.1) [
+        | inl d ↦ head_of word (codes "entrymut") ts c d.0 (entry_mut_takes ts c d.1)
+        | inr d ↦ elim (chosen (bytes_eq word (codes "get")) _ _ _ d.1) [
+          | inl f ↦ head_of word (codes "get") ts c f.0 (get_takes ts c f.1)
+          | inr f ↦ elim (chosen (bytes_eq word (codes "update")) _ _ _ f.1) [
+            | inl g ↦ head_of word (codes "update") ts c g.0 (update_takes ts c g.1)
+            | inr g ↦ elim (chosen (bytes_eq word (codes "put")) _ _ _ g.1) [
+              | inl h ↦ head_of word (codes "put") ts c h.0 (put_takes ts c h.1)
+              | inr h ↦ elim (chosen (bytes_eq word (codes "fill")) _ _ _ h.1) [
+                | inl k ↦ head_of word (codes "fill") ts c k.0 (fill_takes ts c k.1)
+                | inr k ↦ named_takes word ts c k.1
               ]
             ]
           ]
@@ -425,7 +454,10 @@ unfolding read_call
 call_takes word ts c e =
     elim (chosen (bytes_eq word (codes "create")) _ _ _ e) [
       | inl h ↦ head_of word (codes "create") ts c h.0 (create_takes ts c h.1)
-      | inr h ↦ plain_call_takes word ts c h.1
+      | inr h ↦ elim (chosen (bytes_eq word (codes "open")) _ _ _ h.1) [
+        | inl a ↦ head_of word (codes "open") ts c a.0 (open_takes ts c a.1)
+        | inr a ↦ plain_call_takes word ts c a.1
+      ]
     ]
 
 -- the call behind the word, as a whole
@@ -433,80 +465,24 @@ abbrev pub read_call_tokens : List (List ℕ) → Option Call
 read_call_tokens [] = None
 read_call_tokens (word ∷ ts) = read_call word ts
 
--- a call without its optional parts, which are not read yet
-abbrev pub is_bare : Call → Bool
-is_bare (call.Create f n k l attrs es) = is_none l.max_readers && is_none l.max_nodes && eqb (length attrs) 0
-is_bare (call.Open f n k l needs) = is_none l.max_readers && is_none l.max_nodes && eqb (length needs.pairs) 0 && eqb (length needs.keys) 0
-is_bare c = true
-
-create_again : (f n : List ℕ) (k : KeyType) (l : Limits) (attrs : List Attribute) (es : List AddedEntry) → IsCall (call.Create f n k l attrs es) → is_bare (call.Create f n k l attrs es) ≡ true → read_call_tokens (call_tokens (call.Create f n k l attrs es)) ≡ Some (call.Create f n k l attrs es)
-unfolding read_call
-create_again f n k l attrs es h r =
-    let b1 = both (is_none l.max_readers && is_none l.max_nodes) (eqb (length attrs) 0) r in
-    let b2 = both (is_none l.max_readers) (is_none l.max_nodes) b1.0 in
-    alike l attrs (no_limit l b2.0 b2.1) (no_items attrs b1.1)
-  where
-    alike : (l : Limits) (attrs : List Attribute) → l ≡ no_limits → attrs ≡ [] → read_call_tokens (call_tokens (call.Create f n k l attrs es)) ≡ Some (call.Create f n k l attrs es)
-    alike l attrs el ea = rw (el, ea) (create_plain_again f n k es h.0 h.1 h.4)
-
-open_plain_again : (f n : List ℕ) (k : KeyType) → is_name f ≡ true → is_board_name n ≡ true → read_open (f ∷ n ∷ key_type_text k ∷ []) ≡ Some (call.Open f n k no_limits no_needs)
-unfolding read_open
-open_plain_again f n k hf hn = rw (name_again f hf, board_name_again n hn, key_type_again k) refl
-
-no_need : (needs : Requirements) → needs.pairs ≡ [] → needs.keys ≡ [] → needs ≡ no_needs
-no_need needs p k = rw (p, k) refl
-
-open_again : (f n : List ℕ) (k : KeyType) (l : Limits) (needs : Requirements) → IsCall (call.Open f n k l needs) → is_bare (call.Open f n k l needs) ≡ true → read_call_tokens (call_tokens (call.Open f n k l needs)) ≡ Some (call.Open f n k l needs)
-unfolding read_call read_plain_call
-open_again f n k l needs h r =
-    let b1 = both (is_none l.max_readers && is_none l.max_nodes && eqb (length needs.pairs) 0) (eqb (length needs.keys) 0) r in
-    let b2 = both (is_none l.max_readers && is_none l.max_nodes) (eqb (length needs.pairs) 0) b1.0 in
-    let b3 = both (is_none l.max_readers) (is_none l.max_nodes) b2.0 in
-    alike l needs (no_limit l b3.0 b3.1) (no_need needs (no_items needs.pairs b2.1) (no_items needs.keys b1.1))
-  where
-    alike : (l : Limits) (needs : Requirements) → l ≡ no_limits → needs ≡ no_needs → read_call_tokens (call_tokens (call.Open f n k l needs)) ≡ Some (call.Open f n k l needs)
-    alike l needs el en = rw (el, en) (open_plain_again f n k h.0 h.1)
-
-pub bare_again : (c : Call) → IsCall c → is_bare c ≡ true → read_call_tokens (call_tokens c) ≡ Some c
+pub call_again : (c : Call) → IsCall c → read_call_tokens (call_tokens c) ≡ Some c
 unfolding read_call read_plain_call read_entry_call read_entry_mut read_get read_update read_put read_fill read_named_call single_call pair_call
-bare_again (call.Create f n k l attrs es) h r = create_again f n k l attrs es h r
-bare_again (call.Open f n k l needs) h r = open_again f n k l needs h r
-bare_again (call.Reader x f) h r = rw (two_again x f h.0 h.1) refl
-bare_again (call.Writer w f) h r = rw (two_again w f h.0 h.1) refl
-bare_again (call.Entry x y k t) h r = rw (name_again x h.0, name_again y h.1, key_again k h.2, value_type_again t) refl
-bare_again (call.EntryMut m w k t) h r = rw (name_again m h.0, name_again w h.1, key_again k h.2, value_type_again t) refl
-bare_again (call.Get x v) h r = rw (name_again x h.0, name_if_any_again v h.1) refl
-bare_again (call.Fresh x v) h r = rw (two_again x v h.0 h.1) refl
-bare_again (call.Update m v) h r = rw (name_again m h.0, value_again v h.1) refl
-bare_again (call.Loan l m) h r = rw (two_again l m h.0 h.1) refl
-bare_again (call.Discard l m) h r = rw (two_again l m h.0 h.1) refl
-bare_again (call.Put l i w) h r = rw (name_again l h.0, number_again i h.1, number_again w h.2) refl
-bare_again (call.Publish l m) h r = rw (two_again l m h.0 h.1) refl
-bare_again (call.Fill l m v) h r = rw (name_again l h.0, name_again m h.1, value_again v h.2) refl
-bare_again (call.Keys f) h r = rw (one_again f h) refl
-bare_again (call.Nodes f) h r = rw (one_again f h) refl
-bare_again (call.Info f) h r = rw (one_again f h) refl
-bare_again (call.Id t) h r = rw (one_again t h) refl
-bare_again (call.Gen m) h r = rw (one_again m h) refl
-
--- what runs so far has no optional part
-unlimited : (l : Limits) → has_no_limit l ≡ true → (is_none l.max_readers ≡ true) × (is_none l.max_nodes ≡ true)
-unlimited l r = both (is_none l.max_readers) (is_none l.max_nodes) r
-
-runs_bare : (c : Call) → runs_call c ≡ true → is_bare c ≡ true
-runs_bare (call.Create f n k l attrs es) r =
-    let b1 = both (is_number_key_type k && has_no_limit l && eqb (length attrs) 0) (list_all has_number_key es) r in
-    let b2 = both (is_number_key_type k && has_no_limit l) (eqb (length attrs) 0) b1.0 in
-    let b3 = both (is_number_key_type k) (has_no_limit l) b2.0 in
-    let b4 = unlimited l b3.1 in
-    rw (b4.0, b4.1, b2.1) refl
-runs_bare (call.Open f n k l needs) r =
-    let b1 = both (is_number_key_type k && has_no_limit l && eqb (length needs.pairs) 0) (eqb (length needs.keys) 0) r in
-    let b2 = both (is_number_key_type k && has_no_limit l) (eqb (length needs.pairs) 0) b1.0 in
-    let b3 = both (is_number_key_type k) (has_no_limit l) b2.0 in
-    let b4 = unlimited l b3.1 in
-    rw (b4.0, b4.1, b2.1, b1.1) refl
-runs_bare c r = refl
-
-pub call_again : (c : Call) → IsCall c → runs_call c ≡ true → read_call_tokens (call_tokens c) ≡ Some c
-call_again c h r = bare_again c h (runs_bare c r)
+call_again (call.Create f n k l attributes es) h = create_again f n k l attributes es h
+call_again (call.Open f n k l needs) h = open_again f n k l needs h
+call_again (call.Reader x f) h = rw (two_again x f h.0 h.1) refl
+call_again (call.Writer w f) h = rw (two_again w f h.0 h.1) refl
+call_again (call.Entry x y k t) h = rw (name_again x h.0, name_again y h.1, key_again k h.2, value_type_again t) refl
+call_again (call.EntryMut m w k t) h = rw (name_again m h.0, name_again w h.1, key_again k h.2, value_type_again t) refl
+call_again (call.Get x v) h = rw (name_again x h.0, name_if_any_again v h.1) refl
+call_again (call.Fresh x v) h = rw (two_again x v h.0 h.1) refl
+call_again (call.Update m v) h = rw (name_again m h.0, value_again v h.1) refl
+call_again (call.Loan l m) h = rw (two_again l m h.0 h.1) refl
+call_again (call.Discard l m) h = rw (two_again l m h.0 h.1) refl
+call_again (call.Put l i w) h = rw (name_again l h.0, number_again i h.1, number_again w h.2) refl
+call_again (call.Publish l m) h = rw (two_again l m h.0 h.1) refl
+call_again (call.Fill l m v) h = rw (name_again l h.0, name_again m h.1, value_again v h.2) refl
+call_again (call.Keys f) h = rw (one_again f h) refl
+call_again (call.Nodes f) h = rw (one_again f h) refl
+call_again (call.Info f) h = rw (one_again f h) refl
+call_again (call.Id t) h = rw (one_again t h) refl
+call_again (call.Gen m) h = rw (one_again m h) refl

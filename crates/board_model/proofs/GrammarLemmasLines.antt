@@ -106,15 +106,16 @@ unfolding read_begin
 begin_again p c [] h e = absurd cc
 begin_again p c (word ∷ ts) h e = rw (name_again p h, e) refl
 
-formed_again : (l : Line) → IsWellFormed l → runs l ≡ true → read_formed (tokens l) ≡ Some l
+-- a line of any form is read back
+pub formed_again : (l : Line) → IsWellFormed l → read_formed (tokens l) ≡ Some l
 unfolding read_formed read_plain_line read_words
-formed_again (line.Begin p c) h r = begin_again p c (call_tokens c) h.0 (call_again c h.1 r)
-formed_again (line.Step p) h r = rw (one_again p h) refl
-formed_again (line.Words b) h r = rw (number_again b h) refl
-formed_again (line.Release p t) h r = rw (two_again p t h.0 h.1) refl
-formed_again (line.Abandon p) h r = rw (one_again p h) refl
+formed_again (line.Begin p c) h = begin_again p c (call_tokens c) h.0 (call_again c h.1)
+formed_again (line.Step p) h = rw (one_again p h) refl
+formed_again (line.Words b) h = rw (number_again b h) refl
+formed_again (line.Release p t) h = rw (two_again p t h.0 h.1) refl
+formed_again (line.Abandon p) h = rw (one_again p h) refl
 
 -- what is spelled so is read
 pub line_again : (l : Line) → IsLine l → read_line (tokens l) ≡ Some l
 unfolding read_line
-line_again l h = rw (formed_again l h.formed h.runs, h.runs) refl
+line_again l h = rw (formed_again l h.formed, h.runs) refl

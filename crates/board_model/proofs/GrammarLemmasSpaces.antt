@@ -20,10 +20,10 @@ use Rattle.board_model.specs.declared.line.Call.TheVariants as call
 use Rattle.board_model.specs.declared.line.Line.{Line}
 use Rattle.board_model.specs.declared.line.Line.TheVariants as line
 use Rattle.board_model.specs.LineGrammar.{is_name, is_name_byte, is_visible, is_visible_byte, is_attribute_key, key_text, key_type_text, value_text, value_type_text, limit_tokens, limits_tokens, pair_tokens, needed_key_tokens, entry_tokens, name_tokens, call_tokens, tokens, spell, IsNumber, IsNumberIfAny, IsNameIfAny, IsAddedEntry, IsAttribute, AreLimits, IsCall, IsKey, IsValue, IsWellFormed, Spells}
-use Rattle.board_model.specs.LineReading.{split_tokens, read_line}
+use Rattle.board_model.specs.LineReading.{split_tokens, read_formed, read_line}
 use Rattle.board_model.proofs.GrammarLemmasNumbers.{both}
 use Rattle.board_model.proofs.GrammarLemmasSplits.{IsFree, lacks, split_free, free_from, free_number}
-use Rattle.board_model.proofs.GrammarLemmasLines.{line_takes, line_again}
+use Rattle.board_model.proofs.GrammarLemmasLines.{line_takes, formed_again, line_again}
 
 -- ---- texts without a byte
 
@@ -190,6 +190,10 @@ read_is bytes l le e =
 pub is_read : (bytes : List ℕ) (l : Line) → Spells bytes l → read_line (split_tokens bytes) ≡ Some l
 is_read bytes l h = ap (λ (b : List ℕ). read_line (split_tokens b)) h.bytes ∙ ap read_line (split_spell l h.line.formed) ∙ line_again l h.line
 
+-- and so is a line of any form
+formed_is_read : (l : Line) → IsWellFormed l → read_formed (split_tokens (spell l)) ≡ Some l
+formed_is_read l h = ap read_formed (split_spell l h) ∙ formed_again l h
+
 abbrev a_line : Line → Option Line
 a_line l = Some l
 
@@ -199,6 +203,10 @@ one_line k l e = cc
 -- the same bytes spell one line
 pub spells_one : (bytes : List ℕ) (k l : Line) → Spells bytes k → Spells bytes l → k ≡ l
 spells_one bytes k l hk hl = one_line k l (sym (is_read bytes k hk) ∙ is_read bytes l hl)
+
+-- lines of any form are told apart by their bytes
+pub forms_apart : (k l : Line) → IsWellFormed k → IsWellFormed l → spell k ≡ spell l → k ≡ l
+forms_apart k l hk hl e = one_line k l (sym (formed_is_read k hk) ∙ ap (λ (b : List ℕ). read_formed (split_tokens b)) e ∙ formed_is_read l hl)
 
 -- bytes that spell no line
 pub none_spells : (bytes : List ℕ) → read_line (split_tokens bytes) ≡ None → (l : Line) → Spells bytes l → ⊥

@@ -1,6 +1,7 @@
 pub mod GrammarLemmasNumbers
 pub mod GrammarLemmasSplits
 pub mod GrammarLemmasTokens
+pub mod GrammarLemmasOptions
 pub mod GrammarLemmasCalls
 pub mod GrammarLemmasLines
 pub mod GrammarLemmasSpaces

@@ -1,6 +1,6 @@
 -- A step of a running call keeps a sound state sound.
 use Rattle.std.proofs.Common.{◌≡◌, ℕ, suc, ◌+◌, ◌*◌, ◌%◌, ◌<◌, ◌≤◌, Bool, true, false, cond, List, [], ◌∷◌, ◌++◌, length, map, get_or, arith, refl, sym, ap, subst, ◌∙◌, Option, Some, None, inl, inr}
-use Rattle.std.specs.Prelude.{find, is_some, slice_get, slice_index, ◌⊎◌, ◌==◌, ◌&&◌, nat_le, nat_lt, IfSome, if◌then◌else◌}
+use Rattle.std.specs.Prelude.{find, is_none, is_some, slice_get, slice_index, ◌⊎◌, ◌==◌, ◌&&◌, nat_le, nat_lt, IfSome, if◌then◌else◌}
 use Rattle.std.specs.List.{list_any}
 use Rattle.std.specs.Str.{bytes_eq}
 use Rattle.std.proofs.lemmas.Bool.{and_from, and_parts, both_ways, cases_Bool, eq-eqb, eqb-true, false_from_ne_true, le-leb, leb-false, leb-true, ltb-false, ne_eqb, or_parts}
@@ -29,7 +29,6 @@ use Rattle.board_model.specs.declared.value.Key.{Key}
 use Rattle.board_model.specs.declared.value.KeyType.{KeyType}
 use Rattle.board_model.specs.declared.value.Value.{Value}
 use Rattle.board_model.specs.declared.value.ValueType.{ValueType}
-use Rattle.board_model.specs.LineGrammar.{is_none}
 use Rattle.board_model.specs.TypeTable.{key_detail, same_key, same_type, value_detail, value_words}
 use Rattle.board_model.specs.Copies.{spare_at}
 use Rattle.board_model.specs.OwedAccesses.{Reading, finished, hear, is_finished, opening, owed_of, owed_read, owed_write, to_read, to_table, to_write, trying}

@@ -1,7 +1,7 @@
 -- Worked sessions.
 use Rattle.std.proofs.Common.{[], ◌∷◌, refl}
 use Rattle.std.specs.List.{AllByRecursion}
-use Rattle.board_model.specs.LawfulSession.{IsLawfulFrom, Session, State, after, start}
+use Rattle.board_model.specs.LawfulSession.{IsLawful, IsLawfulFrom, Session, State, after, start}
 use Rattle.board_model.specs.WorkedSessions.{AreAnsweredFrom, IsLawfulWhereRun, RunsForm, a_stale_value, an_update_in_place, no_second_look, AreAnswered}
 
 run_from : (pairs : Session) (s : State) → AllByRecursion RunsForm pairs → AreAnsweredFrom s pairs → IsLawfulFrom s pairs
@@ -16,6 +16,10 @@ answered_from (x ∷ xs) s h =
 
 pub where_run : (pairs : Session) → IsLawfulWhereRun pairs
 where_run pairs = record { there = run_from pairs start; back = answered_from pairs start }
+
+-- what breaks a rule of answers is not lawful
+pub not_lawful : (pairs : Session) → (AreAnswered pairs → ⊥) → IsLawful pairs → ⊥
+not_lawful pairs wrong h = wrong (answered_from pairs start h)
 
 pub stale_wrong : AreAnswered a_stale_value → ⊥
 stale_wrong h = let e = (h.1.1.1.1.1.1.1.1.1.1.1.1.1.1.1.1.1.1.0.reply refl).reply in absurd cc

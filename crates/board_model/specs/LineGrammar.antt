@@ -139,9 +139,12 @@ pub record AreLimits (l : Limits) : Type 0 where
 abbrev pub is_attribute_key : List ℕ → Bool
 is_attribute_key text = is_visible 64 text
 
+abbrev pub is_attribute_value : List ℕ → Bool
+is_attribute_value text = is_visible 256 text
+
 pub record IsAttribute (a : Attribute) : Type 0 where
   pub key : is_attribute_key a.key ≡ true
-  pub value : is_visible 256 a.value ≡ true
+  pub value : is_attribute_value a.value ≡ true
 
 pub record AreAttributes (attributes : List Attribute) : Type 0 where
   pub few : length attributes ≤ 8
@@ -186,43 +189,18 @@ IsWellFormed (line.Words b) = IsNumber b
 
 -- ---- the forms that the program runs so far
 
-abbrev pub is_number_key : Key → Bool
-is_number_key (key.U64 n) = true
-is_number_key (key.F8 text) = false
-
-abbrev pub is_none : {A : Type 0} → Option A → Bool
-is_none None = true
-is_none (Some x) = false
-
-abbrev pub is_number_key_type : KeyType → Bool
-is_number_key_type key_type.U64 = true
-is_number_key_type key_type.F8 = false
-
-abbrev pub has_number_key : AddedEntry → Bool
-has_number_key e = is_number_key e.key
-
-abbrev pub has_no_limit : Limits → Bool
-has_no_limit l = is_none l.max_readers && is_none l.max_nodes
-
+-- all but the calls of loans
 abbrev pub runs_call : Call → Bool
-runs_call (call.Create f name k limits attributes entries) = is_number_key_type k && has_no_limit limits && (length attributes == 0) && list_all has_number_key entries
-runs_call (call.Open f name k limits needs) = is_number_key_type k && has_no_limit limits && (length needs.pairs == 0) && (length needs.keys == 0)
-runs_call (call.Reader r f) = true
-runs_call (call.Writer w f) = true
-runs_call (call.Entry h r k t) = is_number_key k
-runs_call (call.EntryMut m w k t) = is_number_key k
-runs_call (call.Get h v) = true
-runs_call (call.Fresh h v) = true
-runs_call (call.Update m v) = true
-runs_call (call.Gen m) = true
-runs_call c = false
+runs_call (call.Loan l m) = false
+runs_call (call.Discard l m) = false
+runs_call (call.Put l i w) = false
+runs_call (call.Publish l m) = false
+runs_call (call.Fill l m v) = false
+runs_call c = true
 
 abbrev pub runs : Line → Bool
 runs (line.Begin p c) = runs_call c
-runs (line.Step p) = true
-runs (line.Abandon p) = true
-runs (line.Words b) = true
-runs l = false
+runs l = true
 
 -- a line of the grammar
 pub record IsLine (l : Line) : Type 0 where

@@ -1,7 +1,8 @@
 -- A reader of lines. It goes through the tokens of a line from the front, and gives the line that they are, where there is one.
-use Rattle.std.specs.Prelude.{ℕ, ◌+◌, ◌-◌, ◌*◌, Bool, true, false, not, ◌&&◌, ◌||◌, nat_lt, ◌==◌, if◌then◌else◌, List, [], ◌∷◌, codes, Option, Some, None}
+use Rattle.std.specs.Prelude.{ℕ, zero, suc, ◌+◌, ◌-◌, ◌*◌, Bool, true, false, not, ◌&&◌, ◌||◌, nat_lt, ◌==◌, if◌then◌else◌, List, [], ◌∷◌, drop, codes, Option, Some, None}
 use Rattle.std.specs.Str.{bytes_eq, all_ascii_digits}
 use Rattle.std.specs.List.{slice_split}
+use Rattle.board_model.specs.declared.attributes.Attribute.{Attribute}
 use Rattle.board_model.specs.declared.attributes.Requirements.{Requirements}
 use Rattle.board_model.specs.declared.tables.Limits.{Limits}
 use Rattle.board_model.specs.declared.value.AddedEntry.{AddedEntry}
@@ -17,7 +18,7 @@ use Rattle.board_model.specs.declared.line.Call.{Call}
 use Rattle.board_model.specs.declared.line.Call.TheVariants as call
 use Rattle.board_model.specs.declared.line.Line.{Line}
 use Rattle.board_model.specs.declared.line.Line.TheVariants as line
-use Rattle.board_model.specs.LineGrammar.{is_name, is_visible, is_board_name, runs}
+use Rattle.board_model.specs.LineGrammar.{is_attribute_key, is_attribute_value, is_name, is_visible, is_board_name, runs}
 
 -- ---- readers, one after another
 
@@ -76,6 +77,12 @@ read_name text = guard (is_name text) (Some text)
 unfoldable pub read_board_name : List ℕ → Option (List ℕ)
 read_board_name text = guard (is_board_name text) (Some text)
 
+unfoldable pub read_attribute_key : List ℕ → Option (List ℕ)
+read_attribute_key text = guard (is_attribute_key text) (Some text)
+
+unfoldable pub read_attribute_value : List ℕ → Option (List ℕ)
+read_attribute_value text = guard (is_attribute_value text) (Some text)
+
 unfoldable pub read_key_type : List ℕ → Option KeyType
 read_key_type text = if bytes_eq text (codes "u64") then Some key_type.U64 else if bytes_eq text (codes "f8") then Some key_type.F8 else None
 
@@ -109,13 +116,37 @@ read_value text =
     if bytes_eq text (codes "bool:false") then Some (value.Bool false) else
     read_words_behind (behind (codes "u64:") text) (behind (codes "q4:") text)
 
+-- ---- the optional parts of a call, which stand in their order
+
+-- the next token is this word
+abbrev pub begins : List ℕ → List (List ℕ) → Bool
+begins word [] = false
+begins word (t ∷ ts) = bytes_eq t word
+
+-- a limit, where its word stands, and the tokens behind it
+unfoldable pub read_limit : List ℕ → List (List ℕ) → Option (Option ℕ × List (List ℕ))
+read_limit word ts = if begins word ts then (first_by read_number (drop 1 ts) >>= λ n. Some (Some n.0, n.1)) else Some (None, ts)
+
+unfoldable pub read_limits : List (List ℕ) → Option (Limits × List (List ℕ))
+read_limits ts =
+    read_limit (codes "readers") ts >>= λ r. read_limit (codes "nodes") r.1 >>= λ n.
+    Some (record { max_readers = r.0; max_nodes = n.0 }, n.1)
+
+-- at most so many parts, each behind the word
+unfoldable pub read_parts : {A : Type 0} → ℕ → List ℕ → (List (List ℕ) → Option (A × List (List ℕ))) → List (List ℕ) → Option (List A × List (List ℕ))
+read_parts zero word read ts = Some ([], ts)
+read_parts (suc most) word read ts =
+    if begins word ts then (read (drop 1 ts) >>= λ x. read_parts most word read x.1 >>= λ xs. Some (x.0 ∷ xs.0, xs.1)) else Some ([], ts)
+
+unfoldable pub read_pair : List (List ℕ) → Option (Attribute × List (List ℕ))
+read_pair ts = first_by read_attribute_key ts >>= λ k. first_by read_attribute_value k.1 >>= λ v. Some (record { key = k.0; value = v.0 }, v.1)
+
+unfoldable pub read_needs : List (List ℕ) → Option (Requirements × List (List ℕ))
+read_needs ts =
+    read_parts 8 (codes "need") read_pair ts >>= λ pairs. read_parts 8 (codes "needkey") (first_by read_attribute_key) pairs.1 >>= λ keys.
+    Some (record { pairs = pairs.0; keys = keys.0 }, keys.1)
+
 -- ---- calls
-
-abbrev pub no_limits : Limits
-no_limits = record { max_readers = None; max_nodes = None }
-
-abbrev pub no_needs : Requirements
-no_needs = record { pairs = []; keys = [] }
 
 unfoldable pub read_entry : List ℕ → List ℕ → List ℕ → Option AddedEntry
 read_entry word k v = guard (bytes_eq word (codes "add")) (read_key k >>= λ key. read_value v >>= λ value. Some (record { key = key; value = value }))
@@ -128,8 +159,9 @@ read_entries (word ∷ k ∷ v ∷ rest) = read_entry word k v >>= λ e. read_en
 
 unfoldable pub read_create : List (List ℕ) → Option Call
 read_create ts =
-    first_by read_name ts >>= λ f. first_by read_board_name f.1 >>= λ n. first_by read_key_type n.1 >>= λ k. read_entries k.1 >>= λ es.
-    Some (call.Create f.0 n.0 k.0 no_limits [] es)
+    first_by read_name ts >>= λ f. first_by read_board_name f.1 >>= λ n. first_by read_key_type n.1 >>= λ k.
+    read_limits k.1 >>= λ limits. read_parts 8 (codes "attr") read_pair limits.1 >>= λ attributes. read_entries attributes.1 >>= λ entries.
+    Some (call.Create f.0 n.0 k.0 limits.0 attributes.0 entries)
 
 unfoldable pub read_one_name : List (List ℕ) → Option (List ℕ)
 read_one_name ts = first_by read_name ts >>= λ a. guard (is_end a.1) (Some a.0)
@@ -145,7 +177,8 @@ read_name_if_any (t ∷ ts) = read_name t >>= λ n. guard (is_end ts) (Some (Som
 unfoldable pub read_open : List (List ℕ) → Option Call
 read_open ts =
     first_by read_name ts >>= λ f. first_by read_board_name f.1 >>= λ n. first_by read_key_type n.1 >>= λ k.
-    guard (is_end k.1) (Some (call.Open f.0 n.0 k.0 no_limits no_needs))
+    read_limits k.1 >>= λ limits. read_needs limits.1 >>= λ needs.
+    guard (is_end needs.1) (Some (call.Open f.0 n.0 k.0 limits.0 needs.0))
 
 unfoldable pub read_entry_call : List (List ℕ) → Option Call
 read_entry_call ts =
@@ -198,10 +231,9 @@ pair_call word p =
 unfoldable pub read_named_call : List ℕ → List (List ℕ) → Option Call
 read_named_call word ts = if is_single word then (read_one_name ts >>= single_call word) else (read_two_names ts >>= pair_call word)
 
--- the call of a word, but for `create`
+-- the call of a word, but for the two that have optional parts
 unfoldable pub read_plain_call : List ℕ → List (List ℕ) → Option Call
 read_plain_call word ts =
-    if bytes_eq word (codes "open") then read_open ts else
     if bytes_eq word (codes "entry") then read_entry_call ts else
     if bytes_eq word (codes "entrymut") then read_entry_mut ts else
     if bytes_eq word (codes "get") then read_get ts else
@@ -211,7 +243,10 @@ read_plain_call word ts =
     read_named_call word ts
 
 unfoldable pub read_call : List ℕ → List (List ℕ) → Option Call
-read_call word ts = if bytes_eq word (codes "create") then read_create ts else read_plain_call word ts
+read_call word ts =
+    if bytes_eq word (codes "create") then read_create ts else
+    if bytes_eq word (codes "open") then read_open ts else
+    read_plain_call word ts
 
 -- ---- lines
 

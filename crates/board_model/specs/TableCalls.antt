@@ -1,5 +1,5 @@
 -- The calls on the tables: their refusals in order, what they answer, and the tables after them.
-use Rattle.std.specs.Prelude.{ℕ, ◌+◌, Bool, not, ◌&&◌, ◌||◌, ◌==◌, nat_le, nat_lt, if◌then◌else◌, List, [], ◌∷◌, ◌++◌, length, Option, Some, None, Result, Ok, Err}
+use Rattle.std.specs.Prelude.{ℕ, ◌+◌, Bool, not, ◌&&◌, ◌||◌, ◌==◌, nat_le, nat_lt, if◌then◌else◌, List, [], ◌∷◌, ◌++◌, length, Option, Some, None, is_none, Result, Ok, Err}
 use Rattle.std.specs.List.{list_any}
 use Rattle.board_layout.specs.declared.type_detail.TypeDetail.{TypeDetail}
 use Rattle.board_layout.specs.Layout.{payload}
@@ -22,7 +22,6 @@ use Rattle.board_model.specs.declared.errors.EntryHandleError.{EntryHandleError}
 use Rattle.board_model.specs.declared.errors.EntryHandleError.TheVariants as entry_error
 use Rattle.board_model.specs.declared.errors.EntryHandleMutError.{EntryHandleMutError}
 use Rattle.board_model.specs.declared.errors.EntryHandleMutError.TheVariants as entry_mut_error
-use Rattle.board_model.specs.LineGrammar.{is_none}
 use Rattle.board_model.specs.TypeTable.{same_type}
 use Rattle.board_model.specs.Tables.{Tables, Added, holds_at, without, is_numbered, has_name, board_at, board_named, is_of_board, reader_slots, writer_slots, is_write_handle, is_node, nodes_taken, shapes_of, has_equal_keys, new_board, meets, port_of}
 

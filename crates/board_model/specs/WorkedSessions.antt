@@ -28,7 +28,7 @@ use Rattle.board_model.specs.AnswerGrammar.{IsAnswer}
 use Rattle.board_model.specs.LineGrammar.{IsWellFormed, runs}
 use Rattle.board_model.specs.LawfulSession.{IsLawful, IsOwed, IsReasoned, IsReplied, IsWord, Session, State, after, reason_of, start}
 
--- ---- sessions of forms that the program doesn't run yet
+-- ---- sessions whose forms the program need not run
 
 -- the rules of an answer, but for one: the program need not run the line's form
 pub record IsAnswered (s : State) (l : Line) (a : Answer) : Type 0 where
@@ -43,7 +43,7 @@ abbrev pub AreAnsweredFrom : State → Session → Type 0
 AreAnsweredFrom s [] = Unit {0}
 AreAnsweredFrom s (pair ∷ pairs) = IsAnswered s pair.0 pair.1 × AreAnsweredFrom (after s pair.0 pair.1) pairs
 
--- lawful, whatever forms the program runs so far: once it runs the forms of these lines, the session is lawful
+-- lawful, whatever forms the program runs
 abbrev pub AreAnswered : Session → Type 0
 AreAnswered pairs = AreAnsweredFrom start pairs
 

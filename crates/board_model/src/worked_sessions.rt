@@ -14,17 +14,20 @@ pub fn the_first_run_is_lawful()
 
 /// A get that meets one update reads both copies, and gives the later value.
 pub fn a_get_may_meet_one_update()
-    ensures { AreAnswered a_get_that_meets_one_update }
+    ensures lawful { IsLawful a_get_that_meets_one_update }
+    ensures answered { AreAnswered a_get_that_meets_one_update }
 {}
 
 /// A get may meet two updates of four words.
 pub fn a_get_may_meet_two_updates()
-    ensures { AreAnswered a_get_that_meets_two_updates }
+    ensures lawful { IsLawful a_get_that_meets_two_updates }
+    ensures answered { AreAnswered a_get_that_meets_two_updates }
 {}
 
 /// After an update that was given up in the middle the value before it stands, and so does the writer.
 pub fn a_writer_may_be_abandoned()
-    ensures { AreAnswered a_writer_abandoned_in_an_update }
+    ensures lawful { IsLawful a_writer_abandoned_in_an_update }
+    ensures answered { AreAnswered a_writer_abandoned_in_an_update }
 {}
 
 /// A loan that is given back and taken anew has no words.
@@ -34,15 +37,18 @@ pub fn a_loan_may_forget_its_words()
 
 /// A get may not give the value before the last update.
 pub fn a_stale_value_is_wrong()
-    ensures { AreAnswered a_stale_value → ⊥ }
+    ensures lawful { IsLawful a_stale_value → ⊥ }
+    ensures answered { AreAnswered a_stale_value → ⊥ }
 {}
 
 /// A get may not end without a second look at the counter.
 pub fn no_second_look_is_wrong()
-    ensures { AreAnswered no_second_look → ⊥ }
+    ensures lawful { IsLawful no_second_look → ⊥ }
+    ensures answered { AreAnswered no_second_look → ⊥ }
 {}
 
 /// An update may not write into the current copy.
 pub fn an_update_in_place_is_wrong()
-    ensures { AreAnswered an_update_in_place → ⊥ }
+    ensures lawful { IsLawful an_update_in_place → ⊥ }
+    ensures answered { AreAnswered an_update_in_place → ⊥ }
 {}

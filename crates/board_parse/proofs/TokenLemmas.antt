@@ -1,10 +1,10 @@
 -- Texts that are cut at a separator, and prefixes that are taken off.
-use Rattle.std.proofs.Common.{◌≡◌, ℕ, suc, ◌+◌, ◌-◌, ◌<◌, ◌≤◌, Bool, true, false, List, [], ◌∷◌, ◌++◌, length, take, drop, get_or, arith, Option, Some, None, refl, sym, ap, ◌∙◌, eqb, All, add-one, drop-cons}
+use Rattle.std.proofs.Common.{◌≡◌, ℕ, suc, ◌+◌, ◌<◌, ◌≤◌, Bool, true, false, List, [], ◌∷◌, ◌++◌, length, take, drop, get_or, arith, Option, Some, None, refl, sym, ap, ◌∙◌, eqb, All, add-one, drop-cons}
 use Rattle.std.specs.Prelude.{MatchOption, not}
 use Rattle.std.specs.Option.{option_map, is_some}
 use Rattle.std.specs.List.{slice_split}
 use Rattle.std.specs.Borrow.{Bor}
-use Rattle.std.proofs.lemmas.List.{take-append-drop, get_or-take, get_or_default, length-take, take_rest}
+use Rattle.std.proofs.lemmas.List.{take-append-drop, get_or-take, get_or_default, length-take}
 use Rattle.std.proofs.lemmas.List.Splits.{slice_split_at, slice_split_none, length-slice_split}
 use Rattle.std.proofs.lemmas.Bool.{eqb-true}
 use Rattle.board_model.specs.LineReading.{guard, is_end, behind}

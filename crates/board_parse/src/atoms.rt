@@ -2,7 +2,7 @@
 ghost use Rattle.std.specs.Prelude.{◌≡◌};
 ghost use Rattle.std.specs.List.{list_all};
 ghost use Rattle.board_model.specs.LineGrammar.{is_name, is_name_byte, is_visible, is_visible_byte};
-ghost use Rattle.board_model.specs.LineReading.{is_plain, read_board_name, read_digits, read_key, read_key_type, read_name, read_number, read_value_type};
+ghost use Rattle.board_model.specs.LineReading.{is_plain, read_attribute_key, read_attribute_value, read_board_name, read_digits, read_key, read_key_type, read_name, read_number, read_value_type};
 
 use crate::bytes::{bytes_behind, is_word};
 use board_layout::Text;
@@ -55,6 +55,26 @@ pub(crate) fn board_name_of(text: &[u8]) -> Option<BoardName>
     ensures { result ≡ read_board_name text.now }
 {
     if !is_visible(text, 255) {
+        return None;
+    }
+    Some(Text::of(text))
+}
+
+#[tactic(auto, unfolding(board_model::specs::LineReading::read_attribute_key))]
+pub(crate) fn attribute_key_of(text: &[u8]) -> Option<Text<64>>
+    ensures { result ≡ read_attribute_key text.now }
+{
+    if !is_visible(text, 64) {
+        return None;
+    }
+    Some(Text::of(text))
+}
+
+#[tactic(auto, unfolding(board_model::specs::LineReading::read_attribute_value))]
+pub(crate) fn attribute_value_of(text: &[u8]) -> Option<Text<256>>
+    ensures { result ≡ read_attribute_value text.now }
+{
+    if !is_visible(text, 256) {
         return None;
     }
     Some(Text::of(text))

@@ -4,9 +4,10 @@ ghost use Rattle.board_model.specs.LineReading.{is_single, pair_call, read_call,
 
 use crate::atoms::name_of;
 use crate::bytes::is_word;
+use crate::options::{attributes_of, needs_of};
 use crate::tokens::Tokens;
 use crate::values::entries_of;
-use board_model::{AttributeKeys, Attributes, Call, Limits, Name, Requirements};
+use board_model::{Call, Name};
 use std::alloc::{AllocError, Global};
 
 #[tactic(auto, unfolding(board_model::specs::LineReading::read_one_name))]
@@ -226,39 +227,11 @@ fn named_call_of(word: &[u8], tokens: &mut Tokens) -> Option<Call>
     pair_call(word, first, second)
 }
 
-#[tactic(auto, unfolding(board_model::specs::LineReading::read_open))]
-fn open_of(alloc: Global, tokens: &mut Tokens) -> Option<Call>
-    ensures { result ≡ read_open tokens.old }
-{
-    let factory = tokens.name()?;
-    let name = tokens.board_name()?;
-    let key_type = tokens.key_type()?;
-    if !tokens.is_end() {
-        return None;
-    }
-    Some(Call::Open {
-        factory,
-        name,
-        key_type,
-        limits: Limits {
-            max_readers: None,
-            max_nodes: None,
-        },
-        needs: Requirements {
-            pairs: Attributes::from_vec(Vec::new(alloc)),
-            keys: AttributeKeys::from_vec(Vec::new(alloc)),
-        },
-    })
-}
-
-// The call of a word, but for `create`.
+// The call of a word, but for the two that have optional parts.
 #[tactic(auto, unfolding(board_model::specs::LineReading::read_plain_call))]
-fn plain_call_of(alloc: Global, word: &[u8], tokens: &mut Tokens) -> Option<Call>
+fn plain_call_of(word: &[u8], tokens: &mut Tokens) -> Option<Call>
     ensures { result ≡ read_plain_call word.now tokens.old }
 {
-    if is_word(word, b"open") {
-        return open_of(alloc, tokens);
-    }
     if is_word(word, b"entry") {
         return entry_call_of(tokens);
     }
@@ -293,6 +266,12 @@ fn create_of(alloc: Global, tokens: &mut Tokens) -> Result<Option<Call>, AllocEr
     let Some(key_type) = tokens.key_type() else {
         return Ok(None);
     };
+    let Some(limits) = tokens.limits() else {
+        return Ok(None);
+    };
+    let Some(attributes) = attributes_of(alloc, b"attr", tokens)? else {
+        return Ok(None);
+    };
     let Some(entries) = entries_of(alloc, tokens)? else {
         return Ok(None);
     };
@@ -300,12 +279,40 @@ fn create_of(alloc: Global, tokens: &mut Tokens) -> Result<Option<Call>, AllocEr
         factory,
         name,
         key_type,
-        limits: Limits {
-            max_readers: None,
-            max_nodes: None,
-        },
-        attributes: Attributes::from_vec(Vec::new(alloc)),
+        limits,
+        attributes,
         entries,
+    }))
+}
+
+#[tactic(auto, unfolding(board_model::specs::LineReading::read_open))]
+fn open_of(alloc: Global, tokens: &mut Tokens) -> Result<Option<Call>, AllocError>
+    ensures { IfOk result (λ o. o ≡ read_open tokens.old) }
+{
+    let Some(factory) = tokens.name() else {
+        return Ok(None);
+    };
+    let Some(name) = tokens.board_name() else {
+        return Ok(None);
+    };
+    let Some(key_type) = tokens.key_type() else {
+        return Ok(None);
+    };
+    let Some(limits) = tokens.limits() else {
+        return Ok(None);
+    };
+    let Some(needs) = needs_of(alloc, tokens)? else {
+        return Ok(None);
+    };
+    if !tokens.is_end() {
+        return Ok(None);
+    }
+    Ok(Some(Call::Open {
+        factory,
+        name,
+        key_type,
+        limits,
+        needs,
     }))
 }
 
@@ -320,5 +327,8 @@ pub(crate) fn call_of(
     if is_word(word, b"create") {
         return create_of(alloc, tokens);
     }
-    Ok(plain_call_of(alloc, word, tokens))
+    if is_word(word, b"open") {
+        return open_of(alloc, tokens);
+    }
+    Ok(plain_call_of(word, tokens))
 }

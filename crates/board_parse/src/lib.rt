@@ -4,6 +4,7 @@
 mod atoms;
 mod bytes;
 mod calls;
+mod options;
 mod parse;
 #[cfg(test)]
 mod tests;

@@ -1,15 +1,14 @@
 //! Lines, from their bytes.
-ghost use Rattle.std.specs.Prelude.{◌≡◌, IfNone, IfOk, IfSome, length, ◌==◌};
-ghost use Rattle.std.specs.List.{list_all};
+ghost use Rattle.std.specs.Prelude.{◌≡◌, IfNone, IfOk, IfSome};
 ghost use Rattle.board_model.specs.declared.line.Line.{Line};
-ghost use Rattle.board_model.specs.LineGrammar.{Spells, has_no_limit, has_number_key, is_number_key, is_number_key_type, runs, runs_call};
+ghost use Rattle.board_model.specs.LineGrammar.{Spells, runs, runs_call};
 ghost use Rattle.board_model.specs.LineReading.{read_begin, read_formed, read_line, read_plain_line, read_words, split_tokens};
 
 use crate::atoms::name_of;
 use crate::bytes::is_word;
 use crate::calls::{call_of, one_name, two_names};
 use crate::tokens::Tokens;
-use board_model::{AddedEntry, Call, Key, KeyType, Limits, Line};
+use board_model::{Call, Line};
 use std::alloc::{AllocError, Global};
 
 // A line has no more bytes than these.
@@ -82,72 +81,18 @@ fn formed_of(alloc: Global, tokens: &mut Tokens) -> Result<Option<Line>, AllocEr
     Ok(plain_line_of(word, tokens))
 }
 
-fn is_number_key(key: &Key) -> bool
-    ensures { result ≡ is_number_key key.now }
-{
-    matches!(key, Key::U64(_))
-}
-
-fn is_number_key_type(key_type: KeyType) -> bool
-    ensures { result ≡ is_number_key_type key_type }
-{
-    matches!(key_type, KeyType::U64)
-}
-
-fn have_number_keys(entries: &[AddedEntry]) -> bool
-    ensures { result ≡ list_all has_number_key entries.now }
-{
-    entries.iter().all(|entry| is_number_key(&entry.key))
-}
-
-fn has_no_limit(limits: &Limits) -> bool
-    ensures { result ≡ has_no_limit limits.now }
-{
-    limits.max_readers.is_none() && limits.max_nodes.is_none()
-}
-
+// Whether the call is of a form that runs: all but the calls of loans.
 fn runs_call(call: &Call) -> bool
     ensures { result ≡ runs_call call.now }
 {
-    match call {
-        Call::Create {
-            key_type,
-            limits,
-            attributes,
-            entries,
-            ..
-        } => {
-            if !is_number_key_type(*key_type) || !has_no_limit(limits) {
-                return false;
-            }
-            if !attributes.as_slice().is_empty() {
-                return false;
-            }
-            have_number_keys(entries.as_slice())
-        }
-        Call::Open {
-            key_type,
-            limits,
-            needs,
-            ..
-        } => {
-            if !is_number_key_type(*key_type) || !has_no_limit(limits) {
-                return false;
-            }
-            if !needs.pairs.as_slice().is_empty() {
-                return false;
-            }
-            needs.keys.as_slice().is_empty()
-        }
-        Call::Entry { key, .. } | Call::EntryMut { key, .. } => is_number_key(key),
-        Call::Reader { .. }
-        | Call::Writer { .. }
-        | Call::Get { .. }
-        | Call::Fresh { .. }
-        | Call::Update { .. }
-        | Call::Gen { .. } => true,
-        _ => false,
-    }
+    !matches!(
+        call,
+        Call::Loan { .. }
+            | Call::Discard { .. }
+            | Call::Put { .. }
+            | Call::Publish { .. }
+            | Call::Fill { .. }
+    )
 }
 
 // Whether the line is of a form that runs.
@@ -156,8 +101,7 @@ fn runs(line: &Line) -> bool
 {
     match line {
         Line::Begin { call, .. } => runs_call(call),
-        Line::Step { .. } | Line::Abandon { .. } | Line::Words { .. } => true,
-        Line::Release { .. } => false,
+        _ => true,
     }
 }
 
@@ -175,7 +119,7 @@ fn line_of(alloc: Global, bytes: &[u8]) -> Result<Option<Line>, AllocError>
 }
 
 /// The line of the script that these bytes spell, or `None` where no line of the grammar does.
-/// Memory is taken for the entries of a `create` alone.
+/// Memory is taken for the entries and attributes of a `create` and the needs of an `open` alone.
 pub fn parse_line(alloc: Global, bytes: &[u8]) -> Result<Option<Line>, AllocError>
     ensures found { IfOk result (λ o. IfSome o (λ l. Spells bytes.now l)) }
     ensures only { IfOk result (λ o. IfNone o ((l : Line) → Spells bytes.now l → ⊥)) }

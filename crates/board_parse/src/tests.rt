@@ -75,14 +75,140 @@ fn lines_of_readers_and_values_are_in_the_grammar(rt: HostRuntime) -> Result<(),
 }
 
 #[test]
-fn forms_that_do_not_run_yet_are_outside_the_grammar(rt: HostRuntime) -> Result<(), Fail> {
-    let cases: [&[u8]; 6] = [
-        b"begin p create f b f8 add f8:a u64:1",
-        b"begin p create f b u64 readers 3",
-        b"begin p open f b f8",
-        b"begin p entry h r f8:x u64",
+fn lines_of_tables_are_in_the_grammar(rt: HostRuntime) -> Result<(), Fail> {
+    let cases: [(&[u8], bool); 18] = [
+        (b"begin p keys f", true),
+        (b"begin p nodes f", true),
+        (b"begin p info f", true),
+        (b"begin p id t", true),
+        (b"drop p t", true),
+        (b"begin p create f b f8", true),
+        (
+            b"begin p create f b f8 add f8:a u64:1 add u64:1 u64:1",
+            true,
+        ),
+        (b"begin p create f b u64 add f8:12345678 q4:0,0,0,0", true),
+        (b"begin p open f b f8", true),
+        (b"begin p entry h r f8:x u64", true),
+        (b"begin p entrymut m w f8:u64:1~~~ bool", true),
+        (b"begin p entrymut m w f8:u64:1~~~~ bool", false),
+        (b"begin p entry h r f8: u64", false),
+        (b"begin p entry h r f8:123456789 u64", false),
+        (b"begin p create f b f16", false),
+        (b"begin p keys f g", false),
+        (b"begin p id", false),
+        (b"drop p", false),
+    ];
+    for (bytes, is_line) in cases {
+        assert_eq!(rt; parse_line(rt.alloc(), bytes)?.is_some(), is_line);
+    }
+    Ok(())
+}
+
+#[test]
+fn optional_parts_stand_in_their_order(rt: HostRuntime) -> Result<(), Fail> {
+    let cases: [(&[u8], bool); 28] = [
+        (
+            b"begin p create f b u64 readers 3 nodes 2 attr k v attr k v add u64:1 u64:2",
+            true,
+        ),
+        (b"begin p create f readers u64 readers 0", true),
+        (b"begin p create f b u64 nodes 18446744073709551615", true),
+        (b"begin p create f = f8 attr add need", true),
+        (
+            b"begin p create f b u64 attr attr attr add u64:1 u64:2",
+            true,
+        ),
+        (
+            b"begin p open f b f8 readers 1 nodes 2 need k v need k w needkey k needkey j",
+            true,
+        ),
+        (b"begin p open f b u64 needkey needkey", true),
+        (b"begin p open f b u64 need needkey need", true),
+        (b"begin p create f b u64 readers 1 readers 1", false),
+        (b"begin p create f b u64 nodes 1 readers 1", false),
+        (b"begin p create f b u64 nodes 1 nodes 1", false),
+        (b"begin p create f b u64 readers", false),
+        (b"begin p create f b u64 readers 01", false),
+        (
+            b"begin p create f b u64 readers 18446744073709551616",
+            false,
+        ),
+        (b"begin p create f b readers 1 u64", false),
+        (b"begin p create f b u64 attr k", false),
+        (b"begin p create f b u64 attr k v nodes 1", false),
+        (b"begin p create f b u64 add u64:1 u64:2 attr k v", false),
+        (b"begin p create f b u64 attr k \x7f", false),
+        (b"begin p create f b u64 need k v", false),
+        (b"begin p create f b u64 needkey k", false),
+        (b"begin p open f b u64 needkey k need k v", false),
+        (b"begin p open f b u64 need k", false),
+        (b"begin p open f b u64 needkey", false),
+        (b"begin p open f b u64 need k v readers 1", false),
+        (b"begin p open f b u64 attr k v", false),
+        (b"begin p open f b u64 add u64:1 u64:2", false),
+        (b"begin p open f b u64 nodes 1 x", false),
+    ];
+    for (bytes, is_line) in cases {
+        assert_eq!(rt; parse_line(rt.alloc(), bytes)?.is_some(), is_line);
+    }
+    Ok(())
+}
+
+// A line and then a part so many times.
+fn with_parts(
+    alloc: Global,
+    line: &[u8],
+    part: &[u8],
+    times: usize,
+) -> Result<Vec<u8>, AllocError> {
+    let mut whole = Vec::from_slice(alloc, line)?;
+    for _ in 0..times {
+        whole.extend_from_slice(part)?;
+    }
+    Ok(whole)
+}
+
+#[test]
+fn at_most_8_attributes_needs_and_needed_keys(rt: HostRuntime) -> Result<(), Fail> {
+    let cases: [(&[u8], &[u8]); 3] = [
+        (b"begin p create f b u64", b" attr k v"),
+        (b"begin p open f b u64", b" need k v"),
+        (b"begin p open f b u64", b" needkey k"),
+    ];
+    for (line, part) in cases {
+        let whole = with_parts(rt.alloc(), line, part, 8)?;
+        assert!(rt; parse_line(rt.alloc(), &whole)?.is_some());
+        let long = with_parts(rt.alloc(), line, part, 9)?;
+        assert!(rt; parse_line(rt.alloc(), &long)?.is_none());
+    }
+    Ok(())
+}
+
+#[test]
+fn attributes_have_64_and_256_bytes(rt: HostRuntime) -> Result<(), Fail> {
+    let cases: [(&[u8], &[u8], usize); 3] = [
+        (b"begin p create f b u64 attr k ", b"v", 256),
+        (b"begin p open f b u64 need k ", b"v", 256),
+        (b"begin p open f b u64 needkey ", b"k", 64),
+    ];
+    for (line, byte, most) in cases {
+        let whole = with_parts(rt.alloc(), line, byte, most)?;
+        assert!(rt; parse_line(rt.alloc(), &whole)?.is_some());
+        let long = with_parts(rt.alloc(), line, byte, most + 1)?;
+        assert!(rt; parse_line(rt.alloc(), &long)?.is_none());
+    }
+    Ok(())
+}
+
+#[test]
+fn loans_are_outside_the_grammar_yet(rt: HostRuntime) -> Result<(), Fail> {
+    let cases: [&[u8]; 5] = [
         b"begin p loan l m",
-        b"drop p t",
+        b"begin p put l 0 1",
+        b"begin p publish l m",
+        b"begin p fill l m u64:1",
+        b"begin p discard l m",
     ];
     for bytes in cases {
         assert!(rt; parse_line(rt.alloc(), bytes)?.is_none());

@@ -1,11 +1,15 @@
 //! The parts of a text, taken from the front.
-ghost use Rattle.std.specs.Prelude.{◌≡◌, ◌==◌, ◌∷◌, [], MatchOption};
+ghost use Rattle.std.specs.Prelude.{◌≡◌, ◌==◌, ◌∷◌, [], MatchOption, drop, if◌then◌else◌};
 ghost use Rattle.std.specs.List.{slice_split};
-ghost use Rattle.board_model.specs.LineReading.{first_by, is_end, read_board_name, read_key, read_key_type, read_name, read_number, read_value_type};
+ghost use Rattle.board_model.specs.LineReading.{begins, first_by, is_end, read_attribute_key, read_attribute_value, read_board_name, read_key, read_key_type, read_name, read_number, read_value_type};
 ghost use Rattle.board_parse.specs.Tokens.{parts_left, with_rest};
 
-use crate::atoms::{board_name_of, key_of, key_type_of, name_of, number_of, value_type_of};
-use crate::bytes::place_of;
+use crate::atoms::{
+    attribute_key_of, attribute_value_of, board_name_of, key_of, key_type_of, name_of, number_of,
+    value_type_of,
+};
+use crate::bytes::{is_word, place_of};
+use board_layout::Text;
 use board_model::{BoardName, Key, KeyType, Name, ValueType};
 use std::marker::Model;
 
@@ -62,6 +66,22 @@ impl<'a> Tokens<'a> {
         self.rest.is_none()
     }
 
+    // Takes the first part where it is the word.
+    pub(crate) fn take_word(&mut self, word: &[u8]) -> bool
+        ensures begins { result ≡ begins word.now self.old }
+        ensures rest { self.new ≡ (if result then drop 1 self.old else self.old) }
+    {
+        let Some(rest) = self.rest else {
+            return false;
+        };
+        let (token, behind) = cut(rest, self.separator);
+        if !is_word(token, word) {
+            return false;
+        }
+        self.rest = behind;
+        true
+    }
+
     pub(crate) fn number(&mut self) -> Option<u64>
         ensures { with_rest result self.new ≡ first_by read_number self.old }
     {
@@ -78,6 +98,18 @@ impl<'a> Tokens<'a> {
         ensures { with_rest result self.new ≡ first_by read_board_name self.old }
     {
         board_name_of(self.next()?)
+    }
+
+    pub(crate) fn attribute_key(&mut self) -> Option<Text<64>>
+        ensures { with_rest result self.new ≡ first_by read_attribute_key self.old }
+    {
+        attribute_key_of(self.next()?)
+    }
+
+    pub(crate) fn attribute_value(&mut self) -> Option<Text<256>>
+        ensures { with_rest result self.new ≡ first_by read_attribute_value self.old }
+    {
+        attribute_value_of(self.next()?)
     }
 
     pub(crate) fn key_type(&mut self) -> Option<KeyType>

@@ -1,8 +1,9 @@
 use crate::{push_answer, push_words};
 use board_layout::Text;
 use board_model::{
-    Access, Answer, BlackboardCreateError, EntryHandleMutError, Info, Key, KeyType, Keys, Names,
-    ReaderCreateError, Reason, Reply, ValueType, Words,
+    Access, Answer, BlackboardCreateError, BlackboardOpenError, EntryHandleError,
+    EntryHandleMutError, Info, Key, KeyType, Keys, Names, ReaderCreateError, Reason, Reply,
+    ValueType, Words, WriterCreateError,
 };
 use std::alloc::{AllocError, Global};
 use std::test::Fail;
@@ -73,6 +74,58 @@ fn answers_without_lists(rt: HostRuntime) -> Result<(), Fail> {
     for (answer, text) in cases {
         out.clear();
         push_answer(&answer, &mut out)?;
+        assert_eq!(rt; out.as_slice(), text);
+    }
+    Ok(())
+}
+
+#[test]
+fn table_calls_are_told(rt: HostRuntime) -> Result<(), Fail> {
+    let cases: [(Reply, &[u8]); 12] = [
+        (Reply::Done, b"table = ok\n"),
+        (Reply::Number(1), b"table = ok 1\n"),
+        (Reply::Id(32), b"table = id 32\n"),
+        (
+            Reply::CreateError(BlackboardCreateError::ServiceInCorruptedState),
+            b"table = BlackboardCreateError::ServiceInCorruptedState\n",
+        ),
+        (
+            Reply::OpenError(BlackboardOpenError::DoesNotExist),
+            b"table = BlackboardOpenError::DoesNotExist\n",
+        ),
+        (
+            Reply::OpenError(BlackboardOpenError::IncompatibleKeys),
+            b"table = BlackboardOpenError::IncompatibleKeys\n",
+        ),
+        (
+            Reply::OpenError(BlackboardOpenError::IncompatibleAttributes),
+            b"table = BlackboardOpenError::IncompatibleAttributes\n",
+        ),
+        (
+            Reply::OpenError(BlackboardOpenError::DoesNotSupportRequestedAmountOfReaders),
+            b"table = BlackboardOpenError::DoesNotSupportRequestedAmountOfReaders\n",
+        ),
+        (
+            Reply::OpenError(BlackboardOpenError::DoesNotSupportRequestedAmountOfNodes),
+            b"table = BlackboardOpenError::DoesNotSupportRequestedAmountOfNodes\n",
+        ),
+        (
+            Reply::OpenError(BlackboardOpenError::ExceedsMaxNumberOfNodes),
+            b"table = BlackboardOpenError::ExceedsMaxNumberOfNodes\n",
+        ),
+        (
+            Reply::WriterError(WriterCreateError::ExceedsMaxSupportedWriters),
+            b"table = WriterCreateError::ExceedsMaxSupportedWriters\n",
+        ),
+        (
+            Reply::EntryError(EntryHandleError::EntryDoesNotExist),
+            b"table = EntryHandleError::EntryDoesNotExist\n",
+        ),
+    ];
+    let mut out = Vec::new(rt.alloc());
+    for (reply, text) in cases {
+        out.clear();
+        push_answer(&step(reply), &mut out)?;
         assert_eq!(rt; out.as_slice(), text);
     }
     Ok(())

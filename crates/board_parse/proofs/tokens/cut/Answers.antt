@@ -1,4 +1,4 @@
-use Rattle.std.proofs.Common.{eqb, refl, rules, arith}
+use Rattle.std.proofs.Common.{rules}
 use Rattle.std.proofs.lemmas.List.{take_rest}
 use Rattle.board_parse.proofs.TokenLemmas.{cut_at, cut_none, eqb-self}
 use Rattle.board_parse.proofs.tokens.cut.Goals as goal
