@@ -36,7 +36,7 @@ module _ (party name : List ℕ) where
     where
       at : (z : Bool) → is_kept_as party name v ≡ z → kept_from found party name (left party name vs) ≡ found → kept_from found party name (cond (not z) (v ∷ left party name vs) (left party name vs)) ≡ found
       at true e ih = ih
-      at false e ih = rw e ih
+      at false e ih = subst (λ (z : Bool). kept_from (cond z (Some (kept_of v)) found) party name (left party name vs) ≡ found) (sym e) ih
 
   is_same : (p n : List ℕ) (v : KeptValue) → is_kept_as party name v ≡ true → is_kept_as p n v ≡ (bytes_eq p party && bytes_eq n name)
   is_same p n v e =
