@@ -291,7 +291,7 @@ module _ (m : Machine) (s : State) (rep : Represents m s) (reached : IsReached s
           let tables_same : tables_of new ≡ (asked_of s.standing.tables).1 = h.tables ∙ ap (λ t. (asked_of t).1) (sym tables_are) in
           record {
             told_is = told_same;
-                  tables = sym tables_same;
+            tables = sym tables_same;
             loans = rep.loans;
             values = kept_values h.values;
             words =

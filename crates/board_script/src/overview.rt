@@ -13,11 +13,7 @@ use board_model::{Board, Entry, Info, Key, KeyType, Keys, Kind, Name, Names};
 use std::alloc::{AllocError, Global};
 
 // The keys of entries, in the order of adding.
-fn keys_of(
-    alloc: Global,
-    key_type: KeyType,
-    entries: &[Entry],
-) -> Result<Vec<Key>, AllocError>
+fn keys_of(alloc: Global, key_type: KeyType, entries: &[Entry]) -> Result<Vec<Key>, AllocError>
     ensures { IfOk result (λ v. v.items ≡ map (key_shown key_type) entries.now) }
 {
     let mut keys = Vec::with_capacity(alloc, entries.len())?;

@@ -9,9 +9,9 @@ ghost use Rattle.board_script.specs.Steps as steps;
 ghost use Rattle.board_script.specs.Steps.{CanGoOn, CanRun, HasCounter, HasRead, HasWord, IsCounter, IsLoaded, IsOwedBy, IsReadTold, IsSame, IsStored, IsTold, OwesAt, ticked};
 ghost use Rattle.board_script.specs.declared.step.OwedAccess.TheVariants as owed;
 
-use crate::overview::{info_of, keys_at, nodes_at};
 use crate::lookups::{board_at, entry_at, entry_of, place_of_board, place_of_party};
 use crate::machine::{KeptValue, Machine, PartyRow, TableTask, Task};
+use crate::overview::{info_of, keys_at, nodes_at};
 use board_cell::{Access as CellAccess, Progress, Words as CellWords};
 use board_model::{Access, Answer, Name, Reason, Reply, Words};
 use std::alloc::AllocError;
