@@ -25,6 +25,9 @@ pub struct Channel;
 
 impl Channel {
     /// `does_exist_cfg` over the names themselves.
+    ///
+    /// # Errors
+    /// None: it is never refused.
     pub fn does_exist_cfg_in(
         state: &mut Channels,
         name: &FileName,
@@ -53,6 +56,9 @@ impl Channel {
     }
 
     /// `remove_cfg` over the names themselves.
+    ///
+    /// # Errors
+    /// None: it is never refused.
     pub fn remove_cfg_in(
         state: &mut Channels,
         name: &FileName,

@@ -55,6 +55,9 @@ impl SharedQueue {
     }
 
     /// One more owner of the same queue.
+    ///
+    /// # Errors
+    /// Want of memory.
     pub fn share(&self) -> Result<SharedQueue, AllocError>
         ensures { IfOk result (λ shared. shared ≡ self.now) }
     {

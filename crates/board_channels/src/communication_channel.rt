@@ -82,7 +82,10 @@ pub trait CommunicationChannelReceiver: CommunicationChannelParticipant + NamedC
     fn buffer_size(&self) -> usize
         ensures { result ≡ holds self.now };
 
-    /// Takes the oldest number. It is never refused.
+    /// Takes the oldest number.
+    ///
+    /// # Errors
+    /// None: it is never refused.
     fn receive<R: Wait>(&self, rt: &R) -> Result<Option<u64>, CommunicationChannelReceiveError>;
 }
 

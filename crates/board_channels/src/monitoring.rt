@@ -57,7 +57,10 @@ pub trait MonitoringBuilder: NamedConceptBuilder {
         alloc: Global,
     ) -> Result<Self::Token, MonitoringCreateTokenError>;
 
-    /// Watches the name, whether or not it is held. It is never refused.
+    /// Watches the name, whether or not it is held.
+    ///
+    /// # Errors
+    /// None: it is never refused.
     fn monitor(self) -> Result<Self::Monitor, MonitoringCreateMonitorError>;
 
     /// Takes a dead name, to clean up after it.
@@ -79,7 +82,10 @@ pub trait MonitoringToken: NamedConcept + Sized {
 
 /// One who watches a name.
 pub trait MonitoringMonitor: NamedConcept {
-    /// What is seen of the name. It is never refused.
+    /// What is seen of the name.
+    ///
+    /// # Errors
+    /// None: it is never refused.
     fn state<R: Wait>(&self, rt: &R) -> Result<State, MonitoringStateError>;
 }
 

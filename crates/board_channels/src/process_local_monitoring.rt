@@ -26,6 +26,9 @@ pub struct ProcessLocalMonitoring;
 
 impl ProcessLocalMonitoring {
     /// `does_exist_cfg` over the names themselves.
+    ///
+    /// # Errors
+    /// None: it is never refused.
     pub fn does_exist_cfg_in(
         state: &mut Monitors,
         name: &FileName,
@@ -54,6 +57,9 @@ impl ProcessLocalMonitoring {
     }
 
     /// `remove_cfg` over the names themselves.
+    ///
+    /// # Errors
+    /// None: it is never refused.
     pub fn remove_cfg_in(
         state: &mut Monitors,
         name: &FileName,

@@ -104,6 +104,9 @@ impl Storage {
     }
 
     /// `remove_cfg` over the storages themselves.
+    ///
+    /// # Errors
+    /// None: it is never refused.
     pub fn remove_cfg_in(
         state: &mut Statics,
         name: &FileName,
