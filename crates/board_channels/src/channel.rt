@@ -1,5 +1,5 @@
 //! The channels of one process.
-ghost use Rattle.std.specs.Prelude.{◌≡◌, ℕ, List, Ok, true, is_some, codes, IfOk, IsOkUnless};
+ghost use Rattle.std.specs.Prelude.{◌≡◌, ℕ, List, Ok, true, is_some, codes, IfOk, IsOk, IsOkUnless};
 ghost use Rattle.std.specs.Map.{keys_of};
 ghost use Rattle.board_names.specs.Configuration.{full_name};
 ghost use Rattle.board_names.specs.Extraction.{Lists};
@@ -79,7 +79,9 @@ impl NamedConceptMgmt for Channel {
         registry: &ChannelRegistry,
         name: &FileName,
         cfg: &Configuration,
-    ) -> Result<bool, NamedConceptDoesExistError> {
+    ) -> Result<bool, NamedConceptDoesExistError>
+        ensures { IsOk result }
+    {
         let mut state = registry.state.lock(rt);
         Channel::does_exist_cfg_in(&mut state, name, cfg)
     }
@@ -89,7 +91,9 @@ impl NamedConceptMgmt for Channel {
         alloc: Global,
         registry: &ChannelRegistry,
         cfg: &Configuration,
-    ) -> Result<Vec<FileName>, NamedConceptListError> {
+    ) -> Result<Vec<FileName>, NamedConceptListError>
+        ensures { IsOkUnless result NamedConceptListError.OutOfMemory }
+    {
         let mut state = registry.state.lock(rt);
         Channel::list_cfg_in(&mut state, alloc, cfg)
     }
@@ -99,7 +103,9 @@ impl NamedConceptMgmt for Channel {
         registry: &ChannelRegistry,
         name: &FileName,
         cfg: &Configuration,
-    ) -> Result<bool, NamedConceptRemoveError> {
+    ) -> Result<bool, NamedConceptRemoveError>
+        ensures { IsOk result }
+    {
         let mut state = registry.state.lock(rt);
         Channel::remove_cfg_in(&mut state, name, cfg)
     }

@@ -1,5 +1,5 @@
 //! What monitoring does: who takes a name holds its token, others see whether the token lives, and one of them may clean up.
-ghost use Rattle.std.specs.Prelude.{◌≡◌, ℕ, List, codes};
+ghost use Rattle.std.specs.Prelude.{◌≡◌, ℕ, List, codes, IsOk};
 
 use board_names::{
     FileName, MonitoringCreateCleanerError, MonitoringCreateMonitorError,
@@ -61,7 +61,8 @@ pub trait MonitoringBuilder: NamedConceptBuilder {
     ///
     /// # Errors
     /// None: it is never refused.
-    fn monitor(self) -> Result<Self::Monitor, MonitoringCreateMonitorError>;
+    fn monitor(self) -> Result<Self::Monitor, MonitoringCreateMonitorError>
+        ensures { IsOk result };
 
     /// Takes a dead name, to clean up after it.
     ///
@@ -86,7 +87,8 @@ pub trait MonitoringMonitor: NamedConcept {
     ///
     /// # Errors
     /// None: it is never refused.
-    fn state<R: Wait>(&self, rt: &R) -> Result<State, MonitoringStateError>;
+    fn state<R: Wait>(&self, rt: &R) -> Result<State, MonitoringStateError>
+        ensures { IsOk result };
 }
 
 /// One who cleans up after a dead name.

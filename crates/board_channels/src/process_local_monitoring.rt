@@ -1,5 +1,5 @@
 //! The monitoring of the names of one process.
-ghost use Rattle.std.specs.Prelude.{◌≡◌, ℕ, List, Ok, true, is_some, codes, IfOk, IsOkUnless};
+ghost use Rattle.std.specs.Prelude.{◌≡◌, ℕ, List, Ok, true, is_some, codes, IfOk, IsOk, IsOkUnless};
 ghost use Rattle.std.specs.Map.{keys_of};
 ghost use Rattle.board_names.specs.Configuration.{full_name};
 ghost use Rattle.board_names.specs.Extraction.{Lists};
@@ -80,7 +80,9 @@ impl NamedConceptMgmt for ProcessLocalMonitoring {
         registry: &MonitoringRegistry,
         name: &FileName,
         cfg: &Configuration,
-    ) -> Result<bool, NamedConceptDoesExistError> {
+    ) -> Result<bool, NamedConceptDoesExistError>
+        ensures { IsOk result }
+    {
         let mut state = registry.state.lock(rt);
         ProcessLocalMonitoring::does_exist_cfg_in(&mut state, name, cfg)
     }
@@ -90,7 +92,9 @@ impl NamedConceptMgmt for ProcessLocalMonitoring {
         alloc: Global,
         registry: &MonitoringRegistry,
         cfg: &Configuration,
-    ) -> Result<Vec<FileName>, NamedConceptListError> {
+    ) -> Result<Vec<FileName>, NamedConceptListError>
+        ensures { IsOkUnless result NamedConceptListError.OutOfMemory }
+    {
         let mut state = registry.state.lock(rt);
         ProcessLocalMonitoring::list_cfg_in(&mut state, alloc, cfg)
     }
@@ -100,7 +104,9 @@ impl NamedConceptMgmt for ProcessLocalMonitoring {
         registry: &MonitoringRegistry,
         name: &FileName,
         cfg: &Configuration,
-    ) -> Result<bool, NamedConceptRemoveError> {
+    ) -> Result<bool, NamedConceptRemoveError>
+        ensures { IsOk result }
+    {
         let mut state = registry.state.lock(rt);
         ProcessLocalMonitoring::remove_cfg_in(&mut state, name, cfg)
     }
