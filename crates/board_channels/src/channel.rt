@@ -1,5 +1,5 @@
 //! The channels of one process.
-ghost use Rattle.std.specs.Prelude.{◌≡◌, ℕ, List, Ok, true, is_some, codes, IfOk, IsOkUnless};
+ghost use Rattle.std.specs.Prelude.{◌≡◌, ℕ, List, Ok, true, is_some, codes, IfOk, IsOk, IsOkUnless};
 ghost use Rattle.std.specs.Map.{keys_of};
 ghost use Rattle.board_names.specs.Configuration.{full_name};
 ghost use Rattle.board_names.specs.Extraction.{Lists};
@@ -25,6 +25,9 @@ pub struct Channel;
 
 impl Channel {
     /// `does_exist_cfg` over the names themselves.
+    ///
+    /// # Errors
+    /// None: it is never refused.
     pub fn does_exist_cfg_in(
         state: &mut Channels,
         name: &FileName,
@@ -53,6 +56,9 @@ impl Channel {
     }
 
     /// `remove_cfg` over the names themselves.
+    ///
+    /// # Errors
+    /// None: it is never refused.
     pub fn remove_cfg_in(
         state: &mut Channels,
         name: &FileName,
@@ -73,7 +79,9 @@ impl NamedConceptMgmt for Channel {
         registry: &ChannelRegistry,
         name: &FileName,
         cfg: &Configuration,
-    ) -> Result<bool, NamedConceptDoesExistError> {
+    ) -> Result<bool, NamedConceptDoesExistError>
+        ensures { IsOk result }
+    {
         let mut state = registry.state.lock(rt);
         Channel::does_exist_cfg_in(&mut state, name, cfg)
     }
@@ -83,7 +91,9 @@ impl NamedConceptMgmt for Channel {
         alloc: Global,
         registry: &ChannelRegistry,
         cfg: &Configuration,
-    ) -> Result<Vec<FileName>, NamedConceptListError> {
+    ) -> Result<Vec<FileName>, NamedConceptListError>
+        ensures { IsOkUnless result NamedConceptListError.OutOfMemory }
+    {
         let mut state = registry.state.lock(rt);
         Channel::list_cfg_in(&mut state, alloc, cfg)
     }
@@ -93,7 +103,9 @@ impl NamedConceptMgmt for Channel {
         registry: &ChannelRegistry,
         name: &FileName,
         cfg: &Configuration,
-    ) -> Result<bool, NamedConceptRemoveError> {
+    ) -> Result<bool, NamedConceptRemoveError>
+        ensures { IsOk result }
+    {
         let mut state = registry.state.lock(rt);
         Channel::remove_cfg_in(&mut state, name, cfg)
     }

@@ -55,6 +55,9 @@ impl SharedQueue {
     }
 
     /// One more owner of the same queue.
+    ///
+    /// # Errors
+    /// Want of memory.
     pub fn share(&self) -> Result<SharedQueue, AllocError>
         ensures { IfOk result (λ shared. shared ≡ self.now) }
     {
@@ -118,6 +121,7 @@ impl Channels {
         capacity: usize,
         overflow: bool,
     ) -> Result<SharedQueue, CommunicationChannelCreateError>
+        ensures value { IfOk result (λ shared. shared ≡ size_of capacity overflow) }
         ensures answer { Answers result CommunicationChannelCreateError.OutOfMemory (create_answer (size_of capacity overflow) (at self.old name.now)) }
         ensures refused { Refuses result (create_answer (size_of capacity overflow) (at self.old name.now)) }
         ensures ok { OnOk result (self.new ≡ putting self.old name.now (size_of capacity overflow)) }

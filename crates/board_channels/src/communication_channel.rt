@@ -1,5 +1,6 @@
 //! What a channel does: senders add numbers to a queue under a name, and a receiver takes them in their order.
-ghost use Rattle.std.specs.Prelude.{◌≡◌, ℕ, List, Bool, true, codes};
+ghost use Rattle.std.specs.Prelude.{◌≡◌, ℕ, List, Bool, true, codes, IsOk, IsOkUnless};
+ghost use Rattle.board_names.specs.declared.errors.communication_channel.CommunicationChannelSendError.TheVariants.{ReceiverCacheIsFull};
 
 use board_names::{
     CommunicationChannelCreateError, CommunicationChannelOpenError,
@@ -61,7 +62,8 @@ pub trait CommunicationChannelSender: CommunicationChannelParticipant + NamedCon
         &self,
         rt: &R,
         value: &u64,
-    ) -> Result<Option<u64>, CommunicationChannelSendError>;
+    ) -> Result<Option<u64>, CommunicationChannelSendError>
+        ensures { IsOkUnless result ReceiverCacheIsFull };
 
     /// The same as `send`.
     ///
@@ -71,7 +73,8 @@ pub trait CommunicationChannelSender: CommunicationChannelParticipant + NamedCon
         &self,
         rt: &R,
         value: &u64,
-    ) -> Result<Option<u64>, CommunicationChannelSendError>;
+    ) -> Result<Option<u64>, CommunicationChannelSendError>
+        ensures { IsOkUnless result ReceiverCacheIsFull };
 }
 
 /// The end that receives.
@@ -82,8 +85,12 @@ pub trait CommunicationChannelReceiver: CommunicationChannelParticipant + NamedC
     fn buffer_size(&self) -> usize
         ensures { result ≡ holds self.now };
 
-    /// Takes the oldest number. It is never refused.
-    fn receive<R: Wait>(&self, rt: &R) -> Result<Option<u64>, CommunicationChannelReceiveError>;
+    /// Takes the oldest number.
+    ///
+    /// # Errors
+    /// None: it is never refused.
+    fn receive<R: Wait>(&self, rt: &R) -> Result<Option<u64>, CommunicationChannelReceiveError>
+        ensures { IsOk result };
 }
 
 /// A builder of a receiver and its channel.

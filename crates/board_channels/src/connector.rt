@@ -111,13 +111,17 @@ impl NamedConceptBuilder for Connector {
 impl CommunicationChannelConnector for Connector {
     type Sender = Duplex;
 
-    fn open_sender<R: Wait>(self, rt: &R) -> Result<Duplex, CommunicationChannelOpenError> {
+    fn open_sender<R: Wait>(self, rt: &R) -> Result<Duplex, CommunicationChannelOpenError>
+        ensures { IfOk result (λ end. end ≡ duplex_of self.name self.config false end.size) }
+    {
         let path = self.path();
         let shared = self.join(rt, &path)?;
         Ok(Duplex::at(self.name, path, false, shared, self.registry))
     }
 
-    fn try_open_sender<R: Wait>(self, rt: &R) -> Result<Duplex, CommunicationChannelOpenError> {
+    fn try_open_sender<R: Wait>(self, rt: &R) -> Result<Duplex, CommunicationChannelOpenError>
+        ensures { IfOk result (λ end. end ≡ duplex_of self.name self.config false end.size) }
+    {
         self.open_sender(rt)
     }
 }

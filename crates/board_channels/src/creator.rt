@@ -63,7 +63,9 @@ impl Creator {
         &self,
         rt: &R,
         path: &FilePath,
-    ) -> Result<SharedQueue, CommunicationChannelCreateError> {
+    ) -> Result<SharedQueue, CommunicationChannelCreateError>
+        ensures { IfOk result (λ shared. shared ≡ asked_size self.now) }
+    {
         let mut state = self.registry.state.lock(rt);
         state.create(path, self.capacity, self.overflow)
     }
@@ -130,7 +132,9 @@ impl CommunicationChannelCreator for Creator {
         self,
         rt: &R,
         alloc: Global,
-    ) -> Result<Duplex, CommunicationChannelCreateError> {
+    ) -> Result<Duplex, CommunicationChannelCreateError>
+        ensures { IfOk result (λ end. end ≡ receiver_of self true) }
+    {
         let path = self.path();
         let shared = self.make(rt, &path)?;
         Ok(Duplex::at(self.name, path, true, shared, self.registry))

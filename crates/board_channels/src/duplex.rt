@@ -87,6 +87,9 @@ impl Duplex {
     }
 
     /// `receive` over the queue itself.
+    ///
+    /// # Errors
+    /// None: it is never refused.
     pub fn receive_in(
         &self,
         state: &mut Queue,

@@ -38,6 +38,9 @@ impl Monitor {
     }
 
     /// `state` over the names themselves.
+    ///
+    /// # Errors
+    /// None: it is never refused.
     pub fn state_in(&self, state: &mut Monitors) -> Result<State, MonitoringStateError>
         ensures answer { result ≡ Ok (state_of (at state.old self.now.path)) }
         ensures stays { state.new ≡ state.old }

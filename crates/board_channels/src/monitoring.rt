@@ -1,5 +1,5 @@
 //! What monitoring does: who takes a name holds its token, others see whether the token lives, and one of them may clean up.
-ghost use Rattle.std.specs.Prelude.{◌≡◌, ℕ, List, codes};
+ghost use Rattle.std.specs.Prelude.{◌≡◌, ℕ, List, codes, IsOk};
 
 use board_names::{
     FileName, MonitoringCreateCleanerError, MonitoringCreateMonitorError,
@@ -57,8 +57,12 @@ pub trait MonitoringBuilder: NamedConceptBuilder {
         alloc: Global,
     ) -> Result<Self::Token, MonitoringCreateTokenError>;
 
-    /// Watches the name, whether or not it is held. It is never refused.
-    fn monitor(self) -> Result<Self::Monitor, MonitoringCreateMonitorError>;
+    /// Watches the name, whether or not it is held.
+    ///
+    /// # Errors
+    /// None: it is never refused.
+    fn monitor(self) -> Result<Self::Monitor, MonitoringCreateMonitorError>
+        ensures { IsOk result };
 
     /// Takes a dead name, to clean up after it.
     ///
@@ -79,8 +83,12 @@ pub trait MonitoringToken: NamedConcept + Sized {
 
 /// One who watches a name.
 pub trait MonitoringMonitor: NamedConcept {
-    /// What is seen of the name. It is never refused.
-    fn state<R: Wait>(&self, rt: &R) -> Result<State, MonitoringStateError>;
+    /// What is seen of the name.
+    ///
+    /// # Errors
+    /// None: it is never refused.
+    fn state<R: Wait>(&self, rt: &R) -> Result<State, MonitoringStateError>
+        ensures { IsOk result };
 }
 
 /// One who cleans up after a dead name.

@@ -120,7 +120,9 @@ impl MonitoringBuilder for Builder {
 
     type Cleaner = Cleaner;
 
-    fn token<R: Wait>(self, rt: &R, alloc: Global) -> Result<Token, MonitoringCreateTokenError> {
+    fn token<R: Wait>(self, rt: &R, alloc: Global) -> Result<Token, MonitoringCreateTokenError>
+        ensures { IfOk result (λ token. token ≡ watched self.name self.config) }
+    {
         let path = self.path();
         self.take(rt, &path)?;
         Ok(Token::at(self.name, path, self.registry))
@@ -133,7 +135,9 @@ impl MonitoringBuilder for Builder {
         Ok(Monitor::at(self.name, path, self.registry))
     }
 
-    fn cleaner<R: Wait>(self, rt: &R) -> Result<Cleaner, MonitoringCreateCleanerError> {
+    fn cleaner<R: Wait>(self, rt: &R) -> Result<Cleaner, MonitoringCreateCleanerError>
+        ensures { IfOk result (λ cleaner. cleaner ≡ watched self.name self.config) }
+    {
         let path = self.path();
         self.claim(rt, &path)?;
         Ok(Cleaner::at(self.name, path, self.registry))

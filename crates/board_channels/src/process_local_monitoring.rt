@@ -1,5 +1,5 @@
 //! The monitoring of the names of one process.
-ghost use Rattle.std.specs.Prelude.{◌≡◌, ℕ, List, Ok, true, is_some, codes, IfOk, IsOkUnless};
+ghost use Rattle.std.specs.Prelude.{◌≡◌, ℕ, List, Ok, true, is_some, codes, IfOk, IsOk, IsOkUnless};
 ghost use Rattle.std.specs.Map.{keys_of};
 ghost use Rattle.board_names.specs.Configuration.{full_name};
 ghost use Rattle.board_names.specs.Extraction.{Lists};
@@ -26,6 +26,9 @@ pub struct ProcessLocalMonitoring;
 
 impl ProcessLocalMonitoring {
     /// `does_exist_cfg` over the names themselves.
+    ///
+    /// # Errors
+    /// None: it is never refused.
     pub fn does_exist_cfg_in(
         state: &mut Monitors,
         name: &FileName,
@@ -54,6 +57,9 @@ impl ProcessLocalMonitoring {
     }
 
     /// `remove_cfg` over the names themselves.
+    ///
+    /// # Errors
+    /// None: it is never refused.
     pub fn remove_cfg_in(
         state: &mut Monitors,
         name: &FileName,
@@ -74,7 +80,9 @@ impl NamedConceptMgmt for ProcessLocalMonitoring {
         registry: &MonitoringRegistry,
         name: &FileName,
         cfg: &Configuration,
-    ) -> Result<bool, NamedConceptDoesExistError> {
+    ) -> Result<bool, NamedConceptDoesExistError>
+        ensures { IsOk result }
+    {
         let mut state = registry.state.lock(rt);
         ProcessLocalMonitoring::does_exist_cfg_in(&mut state, name, cfg)
     }
@@ -84,7 +92,9 @@ impl NamedConceptMgmt for ProcessLocalMonitoring {
         alloc: Global,
         registry: &MonitoringRegistry,
         cfg: &Configuration,
-    ) -> Result<Vec<FileName>, NamedConceptListError> {
+    ) -> Result<Vec<FileName>, NamedConceptListError>
+        ensures { IsOkUnless result NamedConceptListError.OutOfMemory }
+    {
         let mut state = registry.state.lock(rt);
         ProcessLocalMonitoring::list_cfg_in(&mut state, alloc, cfg)
     }
@@ -94,7 +104,9 @@ impl NamedConceptMgmt for ProcessLocalMonitoring {
         registry: &MonitoringRegistry,
         name: &FileName,
         cfg: &Configuration,
-    ) -> Result<bool, NamedConceptRemoveError> {
+    ) -> Result<bool, NamedConceptRemoveError>
+        ensures { IsOk result }
+    {
         let mut state = registry.state.lock(rt);
         ProcessLocalMonitoring::remove_cfg_in(&mut state, name, cfg)
     }

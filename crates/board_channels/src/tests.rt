@@ -2,14 +2,15 @@
 use crate::{
     Builder, Channel, ChannelRegistry, Channels, Cleaner, CommunicationChannel,
     CommunicationChannelConnector, CommunicationChannelCreator, CommunicationChannelParticipant,
-    CommunicationChannelReceiver, CommunicationChannelSender, Connector, Creator, Duplex, Monitor,
-    Monitoring, MonitoringBuilder, MonitoringCleaner, MonitoringMonitor, MonitoringRegistry,
-    MonitoringToken, Monitors, ProcessLocalMonitoring, Queue, State, Token,
+    CommunicationChannelReceiver, CommunicationChannelSender, Connector, Creator,
+    DEFAULT_RECEIVER_BUFFER_SIZE, Duplex, Monitor, Monitoring, MonitoringBuilder,
+    MonitoringCleaner, MonitoringMonitor, MonitoringRegistry, MonitoringToken, Monitors,
+    ProcessLocalMonitoring, Queue, SharedQueue, State, Token,
 };
 use board_names::{
     CommunicationChannelCreateError, CommunicationChannelOpenError, CommunicationChannelSendError,
-    Configuration, FileName, MonitoringCreateCleanerError, MonitoringCreateTokenError,
-    NamedConcept, NamedConceptBuilder, NamedConceptMgmt,
+    Configuration, FileName, FilePath, MonitoringCreateCleanerError, MonitoringCreateTokenError,
+    NamedConcept, NamedConceptBuilder, NamedConceptConfiguration, NamedConceptMgmt,
 };
 use std::alloc::Global;
 use std::process::Abort;
@@ -20,16 +21,30 @@ fn names(registry: &MonitoringRegistry) -> Result<Builder, Fail> {
     Ok(Builder::new(&FileName::new(b"t")?, registry)?)
 }
 
-fn creator(registry: &ChannelRegistry) -> Result<Creator, Fail> {
-    Ok(Creator::new(&FileName::new(b"c")?, registry)?)
+fn creator(value: &[u8], registry: &ChannelRegistry) -> Result<Creator, Fail> {
+    Ok(Creator::new(&FileName::new(value)?, registry)?)
 }
 
-fn connector(registry: &ChannelRegistry) -> Result<Connector, Fail> {
-    Ok(Connector::new(&FileName::new(b"c")?, registry)?)
+fn connector(value: &[u8], registry: &ChannelRegistry) -> Result<Connector, Fail> {
+    Ok(Connector::new(&FileName::new(value)?, registry)?)
 }
 
 fn monitored() -> Configuration {
     Configuration::with_suffix(&ProcessLocalMonitoring::default_suffix())
+}
+
+fn channels() -> Configuration {
+    Configuration::with_suffix(&Channel::default_suffix())
+}
+
+fn is_listed<R: Wait + Abort>(
+    rt: &R,
+    alloc: Global,
+    registry: &MonitoringRegistry,
+) -> Result<(), Fail> {
+    let listed = ProcessLocalMonitoring::list_cfg(rt, alloc, registry, &monitored())?;
+    assert_eq!(rt; listed.as_slice(), [FileName::new(b"t")?].as_slice());
+    Ok(())
 }
 
 fn lives<R: Wait + Abort>(
@@ -81,12 +96,21 @@ fn goes<R: Wait + Abort>(rt: &R, registry: &MonitoringRegistry) -> Result<(), Fa
 
 #[test]
 fn a_name_lives_dies_and_goes(rt: HostRuntime) -> Result<(), Fail> {
+    let suffix = ProcessLocalMonitoring::default_suffix();
+    assert_eq!(rt; suffix, FileName::new(b".monitor")?);
     let registry = MonitoringRegistry::new(rt.alloc())?;
     let token = names(&registry)?.token(&rt, rt.alloc())?;
-    lives(&rt, rt.alloc(), &registry.share()?)?;
+    is_listed(&rt, rt.alloc(), &registry)?;
+    is_listed(&rt, rt.alloc(), &registry.share()?)?;
+    lives(&rt, rt.alloc(), &registry)?;
     token.abandon(&rt);
     dies(&rt, &registry)?;
-    goes(&rt, &registry)?;
+    goes(&rt, &registry)
+}
+
+fn is_listed_in<R: Abort>(rt: &R, alloc: Global, state: &mut Monitors) -> Result<(), Fail> {
+    let listed = ProcessLocalMonitoring::list_cfg_in(state, alloc, &monitored())?;
+    assert_eq!(rt; listed.as_slice(), [FileName::new(b"t")?].as_slice());
     Ok(())
 }
 
@@ -131,19 +155,14 @@ fn dies_in<R: Abort>(
     Ok(())
 }
 
-#[test]
-fn a_name_lives_dies_and_goes_in_lent_names(rt: HostRuntime) -> Result<(), Fail> {
-    let registry = MonitoringRegistry::new(rt.alloc())?;
-    let mut state = Monitors::new(rt.alloc());
-    let token = names(&registry)?.token_in(&mut state, rt.alloc())?;
-    lives_in(&rt, rt.alloc(), &registry, &mut state)?;
-    token.abandon_in(&mut state);
-    dies_in(&rt, &registry, &mut state)?;
-    names(&registry)?
-        .cleaner_in(&mut state)?
-        .release_in(&mut state);
-    assert_eq!(rt; state_in(&registry, &mut state)?, State::DoesNotExist);
-    let late = names(&registry)?.cleaner_in(&mut state);
+fn goes_in<R: Abort>(
+    rt: &R,
+    registry: &MonitoringRegistry,
+    state: &mut Monitors,
+) -> Result<(), Fail> {
+    names(registry)?.cleaner_in(state)?.release_in(state);
+    assert_eq!(rt; state_in(registry, state)?, State::DoesNotExist);
+    let late = names(registry)?.cleaner_in(state);
     assert_eq!(rt;
         late.err(),
         Some(MonitoringCreateCleanerError::DoesNotExist)
@@ -152,33 +171,86 @@ fn a_name_lives_dies_and_goes_in_lent_names(rt: HostRuntime) -> Result<(), Fail>
 }
 
 #[test]
-fn monitored_names_are_listed(rt: HostRuntime) -> Result<(), Fail> {
-    let alloc = rt.alloc();
-    let registry = MonitoringRegistry::new(alloc)?;
-    let token = names(&registry)?.token(&rt, alloc)?;
+fn a_name_lives_dies_and_goes_in_lent_names(rt: HostRuntime) -> Result<(), Fail> {
+    let registry = MonitoringRegistry::new(rt.alloc())?;
+    let mut state = Monitors::new(rt.alloc());
+    let token = names(&registry)?.token_in(&mut state, rt.alloc())?;
+    is_listed_in(&rt, rt.alloc(), &mut state)?;
+    lives_in(&rt, rt.alloc(), &registry, &mut state)?;
+    token.abandon_in(&mut state);
+    dies_in(&rt, &registry, &mut state)?;
+    goes_in(&rt, &registry, &mut state)
+}
+
+#[test]
+fn monitored_names_are_let_go(rt: HostRuntime) -> Result<(), Fail> {
+    let registry = MonitoringRegistry::new(rt.alloc())?;
+    let token = names(&registry)?.token(&rt, rt.alloc())?;
     let t = FileName::new(b"t")?;
     assert_eq!(rt; *token.name(), t);
-    let listed = ProcessLocalMonitoring::list_cfg(&rt, alloc, &registry.share()?, &monitored())?;
-    assert_eq!(rt; listed.as_slice(), [t].as_slice());
-    token.release(&rt);
-    let held = ProcessLocalMonitoring::does_exist_cfg(&rt, &registry, &t, &monitored());
+    assert_eq!(rt; *names(&registry)?.monitor()?.name(), t);
+    let config = monitored();
+    let removed = ProcessLocalMonitoring::remove_cfg(&rt, &registry, &t, &config);
+    assert_eq!(rt; removed, Ok(true));
+    let held = ProcessLocalMonitoring::does_exist_cfg(&rt, &registry, &t, &config);
     assert_eq!(rt; held, Ok(false));
+    token.abandon(&rt);
+    let token = names(&registry)?.token(&rt, rt.alloc())?;
+    let held = ProcessLocalMonitoring::does_exist_cfg(&rt, &registry, &t, &config);
+    assert_eq!(rt; held, Ok(true));
+    token.release(&rt);
+    let removed = ProcessLocalMonitoring::remove_cfg(&rt, &registry, &t, &config);
+    assert_eq!(rt; removed, Ok(false));
     Ok(())
 }
 
 #[test]
-fn monitored_names_are_listed_in_lent_names(rt: HostRuntime) -> Result<(), Fail> {
-    let alloc = rt.alloc();
-    let registry = MonitoringRegistry::new(alloc)?;
-    let mut state = Monitors::new(alloc);
-    let _token = names(&registry)?.token_in(&mut state, alloc)?;
+fn monitored_names_are_let_go_in_lent_names(rt: HostRuntime) -> Result<(), Fail> {
+    let registry = MonitoringRegistry::new(rt.alloc())?;
+    let mut state = Monitors::new(rt.alloc());
+    let token = names(&registry)?.token_in(&mut state, rt.alloc())?;
     let t = FileName::new(b"t")?;
-    let listed = ProcessLocalMonitoring::list_cfg_in(&mut state, alloc, &monitored())?;
-    assert_eq!(rt; listed.as_slice(), [t].as_slice());
-    let removed = ProcessLocalMonitoring::remove_cfg_in(&mut state, &t, &monitored());
-    assert_eq!(rt; removed, Ok(true));
-    let held = ProcessLocalMonitoring::does_exist_cfg_in(&mut state, &t, &monitored());
-    assert_eq!(rt; held, Ok(false));
+    let config = monitored();
+    let held = ProcessLocalMonitoring::does_exist_cfg_in(&mut state, &t, &config);
+    assert_eq!(rt; held, Ok(true));
+    token.release_in(&mut state);
+    let removed = ProcessLocalMonitoring::remove_cfg_in(&mut state, &t, &config);
+    assert_eq!(rt; removed, Ok(false));
+    Ok(())
+}
+
+fn state_of<R: Wait, B: MonitoringBuilder>(rt: &R, builder: B) -> Result<State, Fail>
+where
+    B::Monitor: Drop,
+{
+    let monitor = builder.monitor()?;
+    Ok(monitor.state(rt)?)
+}
+
+#[test]
+fn any_monitoring_is_asked_by_the_traits(rt: HostRuntime) -> Result<(), Fail> {
+    let registry = MonitoringRegistry::new(rt.alloc())?;
+    let _token = names(&registry)?.token(&rt, rt.alloc())?;
+    assert_eq!(rt; state_of(&rt, names(&registry)?)?, State::Alive);
+    Ok(())
+}
+
+fn path() -> Result<FilePath, Fail> {
+    Ok(monitored().path_for(&FileName::new(b"t")?))
+}
+
+#[test]
+fn lives_are_kept_by_name(rt: HostRuntime) -> Result<(), Fail> {
+    let mut monitors = Monitors::new(rt.alloc());
+    let name = path()?;
+    assert_eq!(rt; monitors.token(&name), Ok(()));
+    assert_eq!(rt; monitors.name_at(0), Some(name));
+    assert!(rt; monitors.mark_dead(&name));
+    assert_eq!(rt; monitors.cleaner(&name), Ok(()));
+    assert_eq!(rt; monitors.state(&name), State::Dead);
+    assert!(rt; monitors.remove(&name) && !monitors.remove(&name));
+    assert!(rt; !monitors.mark_dead(&name));
+    assert_eq!(rt; monitors.name_at(0), None);
     Ok(())
 }
 
@@ -187,36 +259,37 @@ fn fills<R: Wait + Abort>(rt: &R, sender: &Duplex) {
     assert_eq!(rt; sender.try_send(rt, &2), Ok(None));
 }
 
-#[test]
-fn a_full_channel_refuses(rt: HostRuntime) -> Result<(), Fail> {
-    let registry = ChannelRegistry::new(rt.alloc())?;
-    let receiver = creator(&registry)?
-        .buffer_size(2)
-        .create_receiver(&rt, rt.alloc())?;
-    let sender = connector(&registry.share()?)?.open_sender(&rt)?;
-    fills(&rt, &sender);
+fn refuses<R: Wait + Abort>(rt: &R, alloc: Global, registry: &ChannelRegistry) -> Result<(), Fail> {
+    let creator = creator(b"c", registry)?.buffer_size(2);
+    let receiver = creator.create_receiver(rt, alloc)?;
+    assert!(rt; !receiver.does_enable_safe_overflow());
+    let sender = connector(b"c", registry)?.open_sender(rt)?;
+    fills(rt, &sender);
     assert_eq!(rt;
-        sender.send(&rt, &3),
+        sender.send(rt, &3),
         Err(CommunicationChannelSendError::ReceiverCacheIsFull)
     );
-    assert_eq!(rt; receiver.receive(&rt), Ok(Some(1)));
-    assert_eq!(rt; receiver.receive(&rt), Ok(Some(2)));
-    assert_eq!(rt; receiver.receive(&rt), Ok(None));
+    assert_eq!(rt; receiver.receive(rt), Ok(Some(1)));
+    assert_eq!(rt; receiver.receive(rt), Ok(Some(2)));
+    assert_eq!(rt; receiver.receive(rt), Ok(None));
     Ok(())
 }
 
-#[test]
-fn a_full_channel_overflows(rt: HostRuntime) -> Result<(), Fail> {
-    let registry = ChannelRegistry::new(rt.alloc())?;
-    let creator = creator(&registry)?.buffer_size(2).enable_safe_overflow();
-    let receiver = creator.create_receiver(&rt, rt.alloc())?;
-    let sender = connector(&registry)?.try_open_sender(&rt)?;
+fn overflows<R: Wait + Abort>(
+    rt: &R,
+    alloc: Global,
+    registry: &ChannelRegistry,
+) -> Result<(), Fail> {
+    let creator = creator(b"d", registry)?.buffer_size(2);
+    let receiver = creator.enable_safe_overflow().create_receiver(rt, alloc)?;
+    let sender = connector(b"d", registry)?.try_open_sender(rt)?;
     assert!(rt; sender.does_enable_safe_overflow());
-    fills(&rt, &sender);
-    assert_eq!(rt; sender.send(&rt, &3), Ok(Some(1)));
-    receiver.release(&rt);
-    assert_eq!(rt; sender.receive(&rt), Ok(Some(2)));
-    let late = connector(&registry)?.open_sender(&rt);
+    fills(rt, &sender);
+    assert_eq!(rt; sender.send(rt, &3), Ok(Some(1)));
+    // Both ends go on without the name.
+    receiver.release(rt);
+    assert_eq!(rt; sender.receive(rt), Ok(Some(2)));
+    let late = connector(b"d", registry)?.open_sender(rt);
     assert_eq!(rt;
         late.err(),
         Some(CommunicationChannelOpenError::DoesNotExist)
@@ -224,88 +297,179 @@ fn a_full_channel_overflows(rt: HostRuntime) -> Result<(), Fail> {
     Ok(())
 }
 
-#[test]
-fn a_channel_is_made_once(rt: HostRuntime) -> Result<(), Fail> {
-    let registry = ChannelRegistry::new(rt.alloc())?;
-    let early = connector(&registry)?.open_sender(&rt);
-    assert_eq!(rt;
-        early.err(),
-        Some(CommunicationChannelOpenError::DoesNotExist)
-    );
-    let receiver = creator(&registry)?
-        .buffer_size(0)
-        .create_receiver(&rt, rt.alloc())?;
+fn is_made_once<R: Wait + Abort>(
+    rt: &R,
+    alloc: Global,
+    registry: &ChannelRegistry,
+) -> Result<(), Fail> {
+    let creator_of_one = creator(b"e", registry)?.buffer_size(0);
+    let receiver = creator_of_one.create_receiver(rt, alloc)?;
     assert_eq!(rt; receiver.buffer_size(), 1);
-    let again = creator(&registry.share()?)?.create_receiver(&rt, rt.alloc());
+    let shared = registry.share()?;
+    let again = creator(b"e", &shared)?.create_receiver(rt, alloc);
     assert_eq!(rt;
         again.err(),
         Some(CommunicationChannelCreateError::AlreadyExists)
     );
-    assert!(rt; Channel::does_support_safe_overflow());
-    assert!(rt; Channel::has_configurable_buffer_size());
+    let absent = connector(b"f", &shared)?.open_sender(rt);
+    assert_eq!(rt;
+        absent.err(),
+        Some(CommunicationChannelOpenError::DoesNotExist)
+    );
     Ok(())
 }
 
 #[test]
-fn a_channel_is_made_once_in_lent_channels(rt: HostRuntime) -> Result<(), Fail> {
+fn channels_refuse_overflow_and_are_made_once(rt: HostRuntime) -> Result<(), Fail> {
+    assert_eq!(rt; Channel::default_suffix(), FileName::new(b".com")?);
+    assert!(rt; Channel::does_support_safe_overflow());
+    assert!(rt; Channel::has_configurable_buffer_size());
     let registry = ChannelRegistry::new(rt.alloc())?;
-    let mut state = Channels::new(rt.alloc());
-    let early = connector(&registry)?.open_sender_in(&mut state);
+    refuses(&rt, rt.alloc(), &registry)?;
+    overflows(&rt, rt.alloc(), &registry)?;
+    is_made_once(&rt, rt.alloc(), &registry)
+}
+
+fn fills_in<R: Abort>(rt: &R, end: &Duplex, queue: &mut Queue) {
+    assert_eq!(rt; end.send_in(queue, &1), Ok(None));
+    assert_eq!(rt; end.try_send_in(queue, &2), Ok(None));
+}
+
+fn refuses_in<R: Abort>(rt: &R, alloc: Global, end: &Duplex) -> Result<(), Fail> {
+    let mut queue = Queue::new(alloc, 2, false)?;
+    fills_in(rt, end, &mut queue);
     assert_eq!(rt;
-        early.err(),
-        Some(CommunicationChannelOpenError::DoesNotExist)
+        end.send_in(&mut queue, &3),
+        Err(CommunicationChannelSendError::ReceiverCacheIsFull)
     );
-    let receiver = creator(&registry)?.buffer_size(0);
-    let receiver = receiver.create_receiver_in(&mut state, rt.alloc())?;
+    assert_eq!(rt; end.receive_in(&mut queue), Ok(Some(1)));
+    assert_eq!(rt; end.receive_in(&mut queue), Ok(Some(2)));
+    assert_eq!(rt; end.receive_in(&mut queue), Ok(None));
+    Ok(())
+}
+
+fn overflows_in<R: Abort>(rt: &R, alloc: Global, end: &Duplex) -> Result<(), Fail> {
+    let mut queue = Queue::new(alloc, 2, true)?;
+    fills_in(rt, end, &mut queue);
+    assert_eq!(rt; end.send_in(&mut queue, &3), Ok(Some(1)));
+    assert_eq!(rt; end.receive_in(&mut queue), Ok(Some(2)));
+    Ok(())
+}
+
+fn is_made_once_in<R: Abort>(
+    rt: &R,
+    alloc: Global,
+    registry: &ChannelRegistry,
+    state: &mut Channels,
+) -> Result<(), Fail> {
+    let creator_of_one = creator(b"e", registry)?.buffer_size(0);
+    let receiver = creator_of_one.create_receiver_in(state, alloc)?;
     assert_eq!(rt; receiver.buffer_size(), 1);
-    let again = creator(&registry)?.create_receiver_in(&mut state, rt.alloc());
+    let again = creator(b"e", registry)?.create_receiver_in(state, alloc);
     assert_eq!(rt;
         again.err(),
         Some(CommunicationChannelCreateError::AlreadyExists)
     );
-    let _sender = connector(&registry)?.try_open_sender_in(&mut state)?;
+    let absent = connector(b"f", registry)?.open_sender_in(state);
+    assert_eq!(rt;
+        absent.err(),
+        Some(CommunicationChannelOpenError::DoesNotExist)
+    );
+    receiver.release_in(state);
+    Ok(())
+}
+
+#[test]
+fn channels_refuse_overflow_and_are_made_once_when_lent(rt: HostRuntime) -> Result<(), Fail> {
+    let registry = ChannelRegistry::new(rt.alloc())?;
+    let mut state = Channels::new(rt.alloc());
+    let creator = creator(b"c", &registry)?;
+    let end = creator.create_receiver_in(&mut state, rt.alloc())?;
+    refuses_in(&rt, rt.alloc(), &end)?;
+    overflows_in(&rt, rt.alloc(), &end)?;
+    is_made_once_in(&rt, rt.alloc(), &registry, &mut state)
+}
+
+#[test]
+fn lent_channels_are_opened_and_let_go(rt: HostRuntime) -> Result<(), Fail> {
+    let registry = ChannelRegistry::new(rt.alloc())?;
+    let mut state = Channels::new(rt.alloc());
+    let creator = creator(b"c", &registry)?.buffer_size(3);
+    let receiver = creator.create_receiver_in(&mut state, rt.alloc())?;
+    let sender = connector(b"c", &registry)?.open_sender_in(&mut state)?;
+    assert_eq!(rt; sender.buffer_size(), 3);
+    let other = connector(b"c", &registry)?.try_open_sender_in(&mut state)?;
+    assert_eq!(rt; *other.name(), FileName::new(b"c")?);
+    sender.release_in(&mut state);
+    assert!(rt; state.name_at(0).is_some());
     receiver.release_in(&mut state);
     assert_eq!(rt; state.name_at(0), None);
     Ok(())
 }
 
-fn end(alloc: Global, registry: &ChannelRegistry) -> Result<Duplex, Fail> {
-    let mut state = Channels::new(alloc);
-    Ok(creator(registry)?.create_receiver_in(&mut state, alloc)?)
-}
-
 #[test]
-fn a_lent_queue_refuses_or_overflows(rt: HostRuntime) -> Result<(), Fail> {
-    let alloc = rt.alloc();
-    let end = end(alloc, &ChannelRegistry::new(alloc)?)?;
-    let full = Err(CommunicationChannelSendError::ReceiverCacheIsFull);
-    for (overflow, third) in [(false, full), (true, Ok(Some(1)))] {
-        let mut queue = Queue::new(alloc, 2, overflow)?;
-        assert_eq!(rt; end.send_in(&mut queue, &1), Ok(None));
-        assert_eq!(rt; end.try_send_in(&mut queue, &2), Ok(None));
-        assert_eq!(rt; end.send_in(&mut queue, &3), third);
-        assert_eq!(rt; queue.capacity(), 2);
-        let first = if overflow { 2 } else { 1 };
-        assert_eq!(rt; end.receive_in(&mut queue), Ok(Some(first)));
-    }
+fn channels_are_listed(rt: HostRuntime) -> Result<(), Fail> {
+    let registry = ChannelRegistry::new(rt.alloc())?;
+    let receiver = creator(b"c", &registry)?.create_receiver(&rt, rt.alloc())?;
+    assert_eq!(rt; receiver.buffer_size(), 8);
+    assert_eq!(rt; DEFAULT_RECEIVER_BUFFER_SIZE, 8);
+    let c = FileName::new(b"c")?;
+    let listed = Channel::list_cfg(&rt, rt.alloc(), &registry, &channels())?;
+    assert_eq!(rt; listed.as_slice(), [c].as_slice());
+    let held = Channel::does_exist_cfg(&rt, &registry, &c, &channels());
+    assert_eq!(rt; held, Ok(true));
+    let removed = Channel::remove_cfg(&rt, &registry, &c, &channels());
+    assert_eq!(rt; removed, Ok(true));
+    let again = Channel::remove_cfg(&rt, &registry, &c, &channels());
+    assert_eq!(rt; again, Ok(false));
     Ok(())
 }
 
 #[test]
-fn channels_are_listed(rt: HostRuntime) -> Result<(), Fail> {
-    let alloc = rt.alloc();
-    let registry = ChannelRegistry::new(alloc)?;
-    let config = Configuration::with_suffix(&Channel::default_suffix());
-    let _receiver = creator(&registry)?.create_receiver(&rt, alloc)?;
+fn channels_are_listed_when_lent(rt: HostRuntime) -> Result<(), Fail> {
+    let registry = ChannelRegistry::new(rt.alloc())?;
+    let mut state = Channels::new(rt.alloc());
+    let _receiver = creator(b"c", &registry)?.create_receiver_in(&mut state, rt.alloc())?;
     let c = FileName::new(b"c")?;
-    let listed = Channel::list_cfg(&rt, alloc, &registry, &config)?;
+    let listed = Channel::list_cfg_in(&mut state, rt.alloc(), &channels())?;
     assert_eq!(rt; listed.as_slice(), [c].as_slice());
-    assert_eq!(rt;
-        Channel::does_exist_cfg(&rt, &registry, &c, &config),
-        Ok(true)
-    );
-    assert_eq!(rt; Channel::remove_cfg(&rt, &registry, &c, &config), Ok(true));
-    assert_eq!(rt; Channel::remove_cfg(&rt, &registry, &c, &config), Ok(false));
+    let held = Channel::does_exist_cfg_in(&mut state, &c, &channels());
+    assert_eq!(rt; held, Ok(true));
+    let removed = Channel::remove_cfg_in(&mut state, &c, &channels());
+    assert_eq!(rt; removed, Ok(true));
+    Ok(())
+}
+
+fn size_made<R: Wait, C: CommunicationChannelCreator>(
+    rt: &R,
+    alloc: Global,
+    creator: C,
+) -> Result<usize, CommunicationChannelCreateError>
+where
+    C::Receiver: Drop,
+{
+    let receiver = creator.buffer_size(3).create_receiver(rt, alloc)?;
+    Ok(receiver.buffer_size())
+}
+
+#[test]
+fn any_channel_is_made_by_the_traits(rt: HostRuntime) -> Result<(), Fail> {
+    let registry = ChannelRegistry::new(rt.alloc())?;
+    let creator = creator(b"c", &registry)?;
+    assert_eq!(rt; size_made(&rt, rt.alloc(), creator)?, 3);
+    Ok(())
+}
+
+#[test]
+fn channels_are_kept_by_name(rt: HostRuntime) -> Result<(), Fail> {
+    let mut state = Channels::new(rt.alloc());
+    let name = path()?;
+    let made = state.create(&name, 4, true)?;
+    assert_eq!(rt; (made.capacity(), made.overflows()), (4, true));
+    assert_eq!(rt; state.open(&name)?.capacity(), 4);
+    assert!(rt; state.remove(&name) && !state.remove(&name));
+    let alone = SharedQueue::new(rt.alloc(), 0, false)?;
+    assert_eq!(rt; alone.share()?.capacity(), 1);
     Ok(())
 }
 

@@ -14,6 +14,9 @@ pub trait ArcSyncPolicy<T>: Sized {
     ghost shows: { Self → T → Type 0 };
 
     /// A policy over a value.
+    ///
+    /// # Errors
+    /// `InsufficientResources` where memory was refused.
     fn new(alloc: Global, value: T) -> Result<Self, ArcSyncPolicyCreationError>
         ensures value { IfOk result (λ policy. shows policy value) }
         ensures memory { IsOkUnless result InsufficientResources };
@@ -24,6 +27,9 @@ pub trait ArcSyncPolicy<T>: Sized {
         ensures { (x : Bor T) × shows self.now x.now × F.post f x result };
 
     /// One more owner of the value.
+    ///
+    /// # Errors
+    /// `InsufficientResources` where memory was refused.
     fn share(&self) -> Result<Self, ArcSyncPolicyCreationError>
         ensures value { IfOk result (λ policy. (x : T) → shows self.now x → shows policy x) }
         ensures memory { IsOkUnless result InsufficientResources };

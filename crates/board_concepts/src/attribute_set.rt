@@ -84,6 +84,9 @@ impl AttributeSet {
     }
 
     /// An equal list.
+    ///
+    /// # Errors
+    /// `OutOfMemory`.
     pub fn copy(&self) -> Result<AttributeSet, AttributeError>
         ensures ok { IfOk result (λ set. set ≡ self.now) }
         ensures memory { IsOkUnless result OutOfMemory }

@@ -62,6 +62,10 @@ impl AttributeSpecifier {
     }
 
     /// One more pair. A refusal gives the specifier up.
+    ///
+    /// # Errors
+    /// `InvalidText` where a text is too long or has a byte outside 0x20 to 0x7E; else `ExceedsMaxSupportedAttributes` where
+    /// there are 8 pairs; `OutOfMemory`.
     pub fn define(self, key: &str, value: &str) -> Result<Self, AttributeError>
         ensures invalid { IsErrOf result AttributeError.InvalidText ↔ (is_attribute (pair_of key.now value.now) ≡ false) }
         ensures full { IsErrOf result AttributeError.ExceedsMaxSupportedAttributes ↔ (IsTrue (is_attribute (pair_of key.now value.now)) × (length self ≡ 8)) }

@@ -72,6 +72,10 @@ impl AttributeVerifier {
     }
 
     /// One more pair that must be there. A refusal gives the verifier up.
+    ///
+    /// # Errors
+    /// `InvalidText` where a text is too long or has a byte outside 0x20 to 0x7E; else `ExceedsMaxSupportedAttributes` where
+    /// there are 8 required pairs; `OutOfMemory`.
     pub fn require(self, key: &str, value: &str) -> Result<Self, AttributeError>
         ensures invalid { IsErrOf result AttributeError.InvalidText ↔ (is_attribute (pair_of key.now value.now) ≡ false) }
         ensures full { IsErrOf result AttributeError.ExceedsMaxSupportedAttributes ↔ (IsTrue (is_attribute (pair_of key.now value.now)) × (length self.pairs ≡ 8)) }
@@ -85,6 +89,10 @@ impl AttributeVerifier {
     }
 
     /// One more key that must be there, with any value. A refusal gives the verifier up.
+    ///
+    /// # Errors
+    /// `InvalidText` where the key is too long or has a byte outside 0x20 to 0x7E; else `ExceedsMaxSupportedAttributes` where
+    /// there are 8 required keys; `OutOfMemory`.
     pub fn require_key(self, key: &str) -> Result<Self, AttributeError>
         ensures invalid { IsErrOf result AttributeError.InvalidText ↔ (is_text 64 key.now ≡ false) }
         ensures full { IsErrOf result AttributeError.ExceedsMaxSupportedAttributes ↔ (IsTrue (is_text 64 key.now) × (length self.keys ≡ 8)) }

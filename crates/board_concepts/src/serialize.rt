@@ -20,13 +20,20 @@ pub trait Serialize {
     // Whether bytes are the spelling of a description.
     ghost Spells: { Description → List ℕ → Type 0 };
 
-    /// The bytes of a description of version 1. Its one error is `OutOfMemory`.
+    /// The bytes of a description of version 1.
+    ///
+    /// # Errors
+    /// `OutOfMemory`.
     fn serialize(alloc: Global, value: &Description) -> Result<Vec<u8>, SerializeError>
         requires { value.now.version ≡ 1 }
         ensures ok { IfOk result (λ bytes. Spells value.now bytes.items) }
         ensures memory { IsOkUnless result OutOfMemory };
 
-    /// The description that is spelled by these bytes, or `InternalError` where none is. Memory is taken for the attributes of a description alone.
+    /// The description that is spelled by these bytes. Memory is taken for its attributes alone, and only once all bytes are known
+    /// to be right.
+    ///
+    /// # Errors
+    /// `InternalError` where the bytes spell no description; `OutOfMemory`.
     fn deserialize(alloc: Global, bytes: &[u8]) -> Result<Description, DeserializeError>
         ensures { Reads Spells bytes.now result };
 }

@@ -77,7 +77,10 @@ fn payload_of(shapes: &[Shape]) -> Option<u64>
     Some(payload)
 }
 
-/// The cells of these shapes, one after another, each at the first place for it. A board may ask for at most 4294967295 bytes.
+/// The cells of these shapes, one after another, each at the first place for it.
+///
+/// # Errors
+/// `TooLarge` where the payload is above 4294967295 bytes; `OutOfMemory`.
 pub fn plan(alloc: Global, shapes: &Vec<Shape>) -> Result<Plan, PlanError>
     requires { All IsShape shapes.now.items }
 

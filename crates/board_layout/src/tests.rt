@@ -3,10 +3,12 @@ ghost use Rattle.std.specs.Prelude.{◌≡◌, ◌<◌, ◌≤◌, length, All, 
 ghost use Rattle.board_layout.specs.Layout.{IsShape};
 
 use crate::{
-    BoardKey, CellPlace, F8, KeyMemory, KeyMemoryError, PlanError, Shape, Text, TypeDetail,
-    TypeName, TypeVariant, ZeroCopySend, is_key, key_of, plan, same_keys,
+    BoardKey, CellPlace, F8, KeyMemory, KeyMemoryError, MAX_BLACKBOARD_KEY_ALIGNMENT,
+    MAX_BLACKBOARD_KEY_SIZE, MAX_TYPE_NAME_LENGTH, PlanError, Shape, Text, TypeDetail, TypeName,
+    TypeVariant, ZeroCopySend, is_key, key_of, plan, same_keys,
 };
 use std::alloc::{AllocError, Global};
+use std::fmt::Display;
 use std::process::Abort;
 use std::test::Fail;
 
@@ -105,6 +107,7 @@ fn types_are_told(rt: HostRuntime) {
     let fixed = TypeVariant::FixedSize;
     let rows = [
         (TypeDetail::new::<i32>(fixed), b"i32".as_slice(), 4, 4),
+        (TypeDetail::new::<i64>(fixed), b"i64".as_slice(), 8, 8),
         (
             TypeDetail::new::<i64>(TypeVariant::Dynamic),
             b"i64".as_slice(),
@@ -176,4 +179,28 @@ fn keys_are_compared_by_their_type(rt: HostRuntime) -> Result<(), Fail> {
     assert!(rt; !KeyMemory::key_eq_comparison(&upper, &lower, &same));
     assert!(rt; KeyMemory::key_eq_comparison(&upper, &upper, &same));
     Ok(())
+}
+
+fn prints<R: Abort, E: Display>(rt: &R, alloc: Global, error: &E, text: &str) -> Result<(), Fail> {
+    let printed = format!(in alloc; "{error}")?;
+    assert_eq!(rt; printed.as_str(), text);
+    Ok(())
+}
+
+#[test]
+fn errors_print_their_names(rt: HostRuntime) -> Result<(), Fail> {
+    let error = KeyMemoryError::ValueTooLarge;
+    prints(&rt, rt.alloc(), &error, "KeyMemoryError::ValueTooLarge")?;
+    let error = PlanError::TooLarge;
+    prints(&rt, rt.alloc(), &error, "PlanError::TooLarge")?;
+    Ok(())
+}
+
+#[test]
+fn limits_are_as_published(rt: HostRuntime) {
+    assert_eq!(rt; MAX_TYPE_NAME_LENGTH, 256);
+    assert_eq!(rt;
+        (MAX_BLACKBOARD_KEY_SIZE, MAX_BLACKBOARD_KEY_ALIGNMENT),
+        (64, 8)
+    );
 }

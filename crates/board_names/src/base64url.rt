@@ -34,6 +34,9 @@ impl Model for Base64Url {
 
 impl Base64Url {
     /// The text of these bytes.
+    ///
+    /// # Errors
+    /// `ExceedsMaximumLength` where there are more than 255; else `InvalidContent` where they break the rule.
     pub fn new(value: &[u8]) -> Result<Base64Url, SemanticStringError>
         ensures long { IsErrOf result SemanticStringError.ExceedsMaximumLength ↔ (255 < length value.now) }
         ensures content { IsErrOf result SemanticStringError.InvalidContent ↔ ((length value.now ≤ 255) × ¬ IsBase64Url value.now) }

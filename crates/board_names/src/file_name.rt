@@ -30,6 +30,9 @@ impl Model for FileName {
 
 impl FileName {
     /// The name of these bytes.
+    ///
+    /// # Errors
+    /// `ExceedsMaximumLength` where there are more than 255; else `InvalidContent` where they break the rule.
     pub fn new(value: &[u8]) -> Result<FileName, SemanticStringError>
         ensures long { IsErrOf result SemanticStringError.ExceedsMaximumLength ↔ (255 < length value.now) }
         ensures content { IsErrOf result SemanticStringError.InvalidContent ↔ ((length value.now ≤ 255) × ¬ IsFileName value.now) }

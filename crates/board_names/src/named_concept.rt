@@ -65,9 +65,12 @@ pub trait NamedConceptMgmt {
         cfg: &Configuration,
     ) -> Result<Vec<FileName>, NamedConceptListError>;
 
-    /// Lets the name go, and tells whether it was held. It is never refused.
+    /// Lets the name go, and tells whether it was held.
     ///
     /// A value that shares what the name stood for goes on without the name.
+    ///
+    /// # Errors
+    /// None: it is never refused.
     fn remove_cfg<R: Wait>(
         rt: &R,
         registry: &Self::Registry,
@@ -76,6 +79,9 @@ pub trait NamedConceptMgmt {
     ) -> Result<bool, NamedConceptRemoveError>;
 
     /// A path hint has nothing to remove.
+    ///
+    /// # Errors
+    /// None: it is never refused.
     fn remove_path_hint(value: &Path) -> Result<(), NamedConceptPathHintRemoveError>
         ensures { result ≡ Ok tt }
     {

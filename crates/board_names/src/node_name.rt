@@ -31,6 +31,9 @@ impl Model for NodeName {
 
 impl NodeName {
     /// The name of this text.
+    ///
+    /// # Errors
+    /// `ExceedsMaximumLength` where it has more than 128 bytes; else `InvalidContent` where it breaks the rule.
     pub fn new(value: &str) -> Result<NodeName, SemanticStringError>
         ensures long { IsErrOf result SemanticStringError.ExceedsMaximumLength ↔ (128 < length value.now) }
         ensures content { IsErrOf result SemanticStringError.InvalidContent ↔ ((length value.now ≤ 128) × ¬ IsNodeName value.now) }

@@ -35,6 +35,9 @@ impl Model for ServiceName {
 
 impl ServiceName {
     /// The name of this text.
+    ///
+    /// # Errors
+    /// `ExceedsMaximumLength` where it has more than 255 bytes; else `InvalidContent` where it breaks the rule.
     pub fn new(value: &str) -> Result<ServiceName, SemanticStringError>
         ensures long { IsErrOf result SemanticStringError.ExceedsMaximumLength ↔ (255 < length value.now) }
         ensures content { IsErrOf result SemanticStringError.InvalidContent ↔ ((length value.now ≤ 255) × ¬ IsServiceName value.now) }

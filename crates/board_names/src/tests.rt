@@ -1,8 +1,17 @@
 //! What is refused, how names are spelled, and what the errors print.
 use crate::{
-    Base64Url, Configuration, EventId, FileName, ListenerWaitError, MonitoringCreateTokenError,
-    NamedConceptConfiguration, NodeName, Path, SemanticStringError, ServiceName,
-    StaticStorageUnlockError, TriggerId, path_and_back,
+    ArcSyncPolicyCreationError, AttributeError, Base64Url, BlackboardCreateError,
+    BlackboardOpenError, CommunicationChannelCreateError, CommunicationChannelOpenError,
+    CommunicationChannelReceiveError, CommunicationChannelSendError, Configuration,
+    DeserializeError, DomainError, EntryHandleError, EntryHandleMutError, EventId, FileName,
+    ListenerCreateError, ListenerWaitError, MAX_ATTRIBUTE_KEY_LENGTH, MAX_ATTRIBUTE_VALUE_LENGTH,
+    MAX_ATTRIBUTES, MAX_NODE_NAME_LENGTH, MAX_SERVICE_NAME_LENGTH, MonitoringCreateCleanerError,
+    MonitoringCreateMonitorError, MonitoringCreateTokenError, MonitoringStateError,
+    NamedConceptConfiguration, NamedConceptDoesExistError, NamedConceptListError,
+    NamedConceptPathHintRemoveError, NamedConceptRemoveError, NodeName, NotifierCreateError,
+    NotifierNotifyError, Path, ReaderCreateError, RegistryError, SemanticStringError,
+    SerializeError, ServiceName, StaticStorageCreateError, StaticStorageOpenError,
+    StaticStorageReadError, StaticStorageUnlockError, TriggerId, WriterCreateError, path_and_back,
 };
 use std::alloc::Global;
 use std::collections::HashMap;
@@ -150,18 +159,132 @@ fn prints<R: Abort, E: Display>(rt: &R, alloc: Global, error: &E, text: &str) ->
 }
 
 #[test]
-fn errors_print_their_names(rt: HostRuntime) -> Result<(), Fail> {
+fn errors_of_names_print_their_names(rt: HostRuntime) -> Result<(), Fail> {
     let alloc = rt.alloc();
-    let error = ListenerWaitError::InterruptSignal;
-    prints(&rt, alloc, &error, "ListenerWaitError::InterruptSignal")?;
-    let error = StaticStorageUnlockError::NoSpaceLeft { taken: 2, given: 3 };
-    prints(&rt, alloc, &error, "StaticStorageUnlockError::NoSpaceLeft")?;
-    let error = MonitoringCreateTokenError::SystemCorrupted;
+    let error = SemanticStringError::InvalidContent;
+    prints(&rt, alloc, &error, "SemanticStringError::InvalidContent")?;
+    let error = RegistryError::OutOfMemory;
+    prints(&rt, alloc, &error, "RegistryError::OutOfMemory")?;
+    let error = NamedConceptDoesExistError::UnderlyingResourcesBeingSetUp;
+    let text = "NamedConceptDoesExistError::UnderlyingResourcesBeingSetUp";
+    prints(&rt, alloc, &error, text)?;
+    let error = NamedConceptListError::InternalError;
+    prints(&rt, alloc, &error, "NamedConceptListError::InternalError")?;
+    let error = NamedConceptRemoveError::InsufficientPermissions;
+    let text = "NamedConceptRemoveError::InsufficientPermissions";
+    prints(&rt, alloc, &error, text)?;
+    let error = NamedConceptPathHintRemoveError::InternalError;
+    let text = "NamedConceptPathHintRemoveError::InternalError";
+    prints(&rt, alloc, &error, text)?;
+    Ok(())
+}
+
+#[test]
+fn errors_of_storage_and_monitoring_print_their_names(rt: HostRuntime) -> Result<(), Fail> {
+    let alloc = rt.alloc();
+    let error = StaticStorageCreateError::AlreadyExists;
     prints(
         &rt,
         alloc,
         &error,
-        "MonitoringCreateTokenError::SystemCorrupted",
+        "StaticStorageCreateError::AlreadyExists",
     )?;
+    let error = StaticStorageOpenError::DoesNotExist;
+    prints(&rt, alloc, &error, "StaticStorageOpenError::DoesNotExist")?;
+    let error = StaticStorageReadError::BufferTooSmall;
+    prints(&rt, alloc, &error, "StaticStorageReadError::BufferTooSmall")?;
+    let error = StaticStorageUnlockError::NoSpaceLeft { taken: 2, given: 3 };
+    prints(&rt, alloc, &error, "StaticStorageUnlockError::NoSpaceLeft")?;
+    let error = MonitoringCreateTokenError::SystemCorrupted;
+    let text = "MonitoringCreateTokenError::SystemCorrupted";
+    prints(&rt, alloc, &error, text)?;
+    let error = MonitoringCreateCleanerError::InstanceStillAlive;
+    let text = "MonitoringCreateCleanerError::InstanceStillAlive";
+    prints(&rt, alloc, &error, text)?;
+    let error = MonitoringCreateMonitorError::Interrupt;
+    prints(
+        &rt,
+        alloc,
+        &error,
+        "MonitoringCreateMonitorError::Interrupt",
+    )?;
+    let error = MonitoringStateError::Interrupt;
+    prints(&rt, alloc, &error, "MonitoringStateError::Interrupt")?;
     Ok(())
+}
+
+#[test]
+fn errors_of_channels_and_events_print_their_names(rt: HostRuntime) -> Result<(), Fail> {
+    let alloc = rt.alloc();
+    let error = CommunicationChannelSendError::ReceiverCacheIsFull;
+    let text = "CommunicationChannelSendError::ReceiverCacheIsFull";
+    prints(&rt, alloc, &error, text)?;
+    let error = CommunicationChannelReceiveError::MessageCorrupt;
+    let text = "CommunicationChannelReceiveError::MessageCorrupt";
+    prints(&rt, alloc, &error, text)?;
+    let error = CommunicationChannelCreateError::AlreadyExists;
+    let text = "CommunicationChannelCreateError::AlreadyExists";
+    prints(&rt, alloc, &error, text)?;
+    let error = CommunicationChannelOpenError::DoesNotExist;
+    let text = "CommunicationChannelOpenError::DoesNotExist";
+    prints(&rt, alloc, &error, text)?;
+    let error = NotifierNotifyError::Disconnected;
+    prints(&rt, alloc, &error, "NotifierNotifyError::Disconnected")?;
+    let error = NotifierCreateError::DoesNotExist;
+    prints(&rt, alloc, &error, "NotifierCreateError::DoesNotExist")?;
+    let error = ListenerWaitError::InterruptSignal;
+    prints(&rt, alloc, &error, "ListenerWaitError::InterruptSignal")?;
+    let error = ListenerCreateError::NumbersSpent;
+    prints(&rt, alloc, &error, "ListenerCreateError::NumbersSpent")?;
+    Ok(())
+}
+
+#[test]
+fn errors_of_services_print_their_names(rt: HostRuntime) -> Result<(), Fail> {
+    let alloc = rt.alloc();
+    let error = ArcSyncPolicyCreationError::InsufficientResources;
+    let text = "ArcSyncPolicyCreationError::InsufficientResources";
+    prints(&rt, alloc, &error, text)?;
+    let error = SerializeError::OutOfMemory;
+    prints(&rt, alloc, &error, "SerializeError::OutOfMemory")?;
+    let error = DeserializeError::InternalError;
+    prints(&rt, alloc, &error, "DeserializeError::InternalError")?;
+    let error = AttributeError::InvalidText;
+    prints(&rt, alloc, &error, "AttributeError::InvalidText")?;
+    let error = DomainError::NumbersSpent;
+    prints(&rt, alloc, &error, "DomainError::NumbersSpent")?;
+    Ok(())
+}
+
+#[test]
+fn errors_of_boards_print_their_names(rt: HostRuntime) -> Result<(), Fail> {
+    let alloc = rt.alloc();
+    let error = BlackboardCreateError::HangsInCreation;
+    prints(&rt, alloc, &error, "BlackboardCreateError::HangsInCreation")?;
+    let error = BlackboardOpenError::IncompatibleKeys;
+    prints(&rt, alloc, &error, "BlackboardOpenError::IncompatibleKeys")?;
+    let error = ReaderCreateError::ThingUnknown(7);
+    prints(&rt, alloc, &error, "ReaderCreateError::ThingUnknown")?;
+    let error = WriterCreateError::ExceedsMaxSupportedWriters;
+    let text = "WriterCreateError::ExceedsMaxSupportedWriters";
+    prints(&rt, alloc, &error, text)?;
+    let error = EntryHandleError::EntryDoesNotExist;
+    prints(&rt, alloc, &error, "EntryHandleError::EntryDoesNotExist")?;
+    let error = EntryHandleMutError::HandleAlreadyExists;
+    let text = "EntryHandleMutError::HandleAlreadyExists";
+    prints(&rt, alloc, &error, text)?;
+    Ok(())
+}
+
+#[test]
+fn refusals_of_texts_have_their_numbers(rt: HostRuntime) {
+    assert_eq!(rt; SemanticStringError::InvalidContent as u8, 1);
+    assert_eq!(rt; SemanticStringError::ExceedsMaximumLength as u8, 2);
+}
+
+#[test]
+fn limits_are_as_published(rt: HostRuntime) {
+    assert_eq!(rt; (MAX_SERVICE_NAME_LENGTH, MAX_NODE_NAME_LENGTH), (255, 128));
+    assert_eq!(rt; (MAX_ATTRIBUTES, MAX_ATTRIBUTE_KEY_LENGTH), (8, 64));
+    assert_eq!(rt; MAX_ATTRIBUTE_VALUE_LENGTH, 256);
 }

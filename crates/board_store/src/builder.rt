@@ -4,7 +4,7 @@ ghost use Rattle.board_layout.specs.Answer.{Answers, Refuses};
 ghost use Rattle.board_names.specs.Configuration.{full_name, started};
 ghost use Rattle.board_store.specs.Table.{at, putting};
 ghost use Rattle.board_store.specs.Statics.{create_answer, open_answer};
-ghost use Rattle.board_store.specs.Storage.{path_of, storage_of, create_storage_answer, create_content_answer, take_answer, StaysOrIsLocked, create_locked_answer, open_storage_answer};
+ghost use Rattle.board_store.specs.Storage.{path_of, storage_of, create_storage_answer, create_content_answer, take_answer, locked_of_builder, StaysOrIsLocked, create_locked_answer, open_storage_answer};
 ghost use Rattle.board_store.specs.declared.statics.Stored.TheVariants.{Locked as Stood, Final};
 
 use crate::content::Content;
@@ -102,7 +102,9 @@ impl Builder {
         Ok(path)
     }
 
-    fn take_locking<R: Wait>(&self, rt: &R) -> Result<FilePath, StaticStorageCreateError> {
+    fn take_locking<R: Wait>(&self, rt: &R) -> Result<FilePath, StaticStorageCreateError>
+        ensures { IfOk result (λ path. path ≡ path_of self.now) }
+    {
         let mut state = self.registry.state.lock(rt);
         self.take(&mut state)
     }
@@ -111,7 +113,9 @@ impl Builder {
         &self,
         rt: &R,
         contents: &[u8],
-    ) -> Result<Content, StaticStorageCreateError> {
+    ) -> Result<Content, StaticStorageCreateError>
+        ensures { IfOk result (λ content. content ≡ contents.now) }
+    {
         let mut state = self.registry.state.lock(rt);
         self.create_content(&mut state, contents)
     }
@@ -121,6 +125,7 @@ impl Builder {
         state: &mut Statics,
         contents: &[u8],
     ) -> Result<Content, StaticStorageCreateError>
+        ensures value { IfOk result (λ content. content ≡ contents.now) }
         ensures answer { Answers result StaticStorageCreateError.OutOfMemory (create_content_answer contents.now (at state.old (path_of self.now))) }
         ensures refused { Refuses result (create_content_answer contents.now (at state.old (path_of self.now))) }
         ensures ok { OnOk result (state.new ≡ putting state.old (path_of self.now) (Final contents.now)) }
@@ -220,7 +225,9 @@ impl StaticStorageBuilder for Builder {
         rt: &R,
         alloc: Global,
         contents: &[u8],
-    ) -> Result<Storage, StaticStorageCreateError> {
+    ) -> Result<Storage, StaticStorageCreateError>
+        ensures { IfOk result (λ storage. storage ≡ storage_of self contents.now) }
+    {
         let content = self.create_locking(rt, contents)?;
         Ok(self.into_storage(content))
     }
@@ -229,12 +236,16 @@ impl StaticStorageBuilder for Builder {
         self,
         rt: &R,
         alloc: Global,
-    ) -> Result<Locked, StaticStorageCreateError> {
+    ) -> Result<Locked, StaticStorageCreateError>
+        ensures { IfOk result (λ locked. locked ≡ locked_of_builder self) }
+    {
         let path = self.take_locking(rt)?;
         Ok(Locked::at(self.name, path, self.owns, self.registry))
     }
 
-    fn open<R: Wait>(self, rt: &R, polls: u32) -> Result<Storage, StaticStorageOpenError> {
+    fn open<R: Wait>(self, rt: &R, polls: u32) -> Result<Storage, StaticStorageOpenError>
+        ensures { IfOk result (λ storage. storage ≡ storage_of self storage.bytes) }
+    {
         let content = self.poll(rt, polls)?;
         Ok(self.into_storage(content))
     }

@@ -22,6 +22,9 @@ impl Model for Content {
 
 impl Content {
     /// A copy of these bytes.
+    ///
+    /// # Errors
+    /// Want of memory.
     pub fn of(alloc: Global, contents: &[u8]) -> Result<Content, AllocError>
         ensures { IfOk result (λ c. c ≡ contents.now) }
     {
@@ -31,6 +34,9 @@ impl Content {
     }
 
     /// One more owner of the same bytes.
+    ///
+    /// # Errors
+    /// Want of memory.
     pub fn share(&self) -> Result<Content, AllocError>
         ensures { IfOk result (λ c. c ≡ self.now) }
     {

@@ -1,5 +1,5 @@
 //! A static storage that is still to be filled.
-ghost use Rattle.std.specs.Prelude.{◌≡◌, ℕ, List, Bool, OnOk, OnErr, IsErrOf};
+ghost use Rattle.std.specs.Prelude.{◌≡◌, ℕ, List, Bool, IfOk, OnOk, OnErr, IsErrOf};
 ghost use Rattle.board_layout.specs.Answer.{Answers, Refuses};
 ghost use Rattle.board_store.specs.Table.{at, putting, without};
 ghost use Rattle.board_store.specs.Statics.{locked_of};
@@ -64,7 +64,9 @@ impl Locked {
         Ok(self.into_storage(content))
     }
 
-    fn fill<R: Wait>(&self, rt: &R, contents: &[u8]) -> Result<Content, StaticStorageUnlockError> {
+    fn fill<R: Wait>(&self, rt: &R, contents: &[u8]) -> Result<Content, StaticStorageUnlockError>
+        ensures { IfOk result (λ content. content ≡ contents.now) }
+    {
         let mut state = self.registry.state.lock(rt);
         state.unlock(&self.path, contents)
     }
@@ -99,7 +101,9 @@ impl StaticStorageLocked for Locked {
         rt: &R,
         alloc: Global,
         contents: &[u8],
-    ) -> Result<Storage, StaticStorageUnlockError> {
+    ) -> Result<Storage, StaticStorageUnlockError>
+        ensures { IfOk result (λ storage. storage ≡ filled self contents.now) }
+    {
         let content = self.fill(rt, contents)?;
         Ok(self.into_storage(content))
     }

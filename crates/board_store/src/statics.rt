@@ -76,6 +76,7 @@ impl Statics {
         name: &FilePath,
         contents: &[u8],
     ) -> Result<Content, StaticStorageUnlockError>
+        ensures value { IfOk result (λ content. content ≡ contents.now) }
         ensures answer { Answers result StaticStorageUnlockError.OutOfMemory (unlock_answer contents.now (locked_of self.old name.now)) }
         ensures refused { Refuses result (unlock_answer contents.now (locked_of self.old name.now)) }
         ensures ok { OnOk result (self.new ≡ putting self.old name.now (Stored.Final contents.now)) }

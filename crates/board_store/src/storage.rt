@@ -1,5 +1,5 @@
 //! A static storage that has its bytes.
-ghost use Rattle.std.specs.Prelude.{◌≡◌, ℕ, ◌==◌, ◌<◌, ◌++◌, ◌↔◌, List, Bool, Some, None, Ok, Err, true, false, is_some, length, drop, codes, IfOk, OnOk, OnErr, IsErrOf, IsOkUnless};
+ghost use Rattle.std.specs.Prelude.{◌≡◌, ℕ, ◌==◌, ◌<◌, ◌++◌, ◌↔◌, List, Bool, Some, None, Ok, Err, true, false, is_some, length, drop, codes, IfOk, OnOk, OnErr, IsErrOf, IsOk, IsOkUnless};
 ghost use Rattle.std.specs.Map.{keys_of};
 ghost use Rattle.board_names.specs.Configuration.{full_name};
 ghost use Rattle.board_names.specs.Extraction.{Lists};
@@ -104,6 +104,9 @@ impl Storage {
     }
 
     /// `remove_cfg` over the storages themselves.
+    ///
+    /// # Errors
+    /// None: it is never refused.
     pub fn remove_cfg_in(
         state: &mut Statics,
         name: &FileName,
@@ -142,7 +145,9 @@ impl NamedConceptMgmt for Storage {
         alloc: Global,
         registry: &StaticRegistry,
         cfg: &Configuration,
-    ) -> Result<Vec<FileName>, NamedConceptListError> {
+    ) -> Result<Vec<FileName>, NamedConceptListError>
+        ensures { IsOkUnless result NamedConceptListError.OutOfMemory }
+    {
         let mut state = registry.state.lock(rt);
         Storage::list_cfg_in(&mut state, alloc, cfg)
     }
@@ -152,7 +157,9 @@ impl NamedConceptMgmt for Storage {
         registry: &StaticRegistry,
         name: &FileName,
         cfg: &Configuration,
-    ) -> Result<bool, NamedConceptRemoveError> {
+    ) -> Result<bool, NamedConceptRemoveError>
+        ensures { IsOk result }
+    {
         let mut state = registry.state.lock(rt);
         Storage::remove_cfg_in(&mut state, name, cfg)
     }

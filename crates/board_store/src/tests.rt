@@ -1,7 +1,7 @@
 //! Static storage by the typed calls, and again by the lent forms.
 use crate::{
-    Builder, Locked, StaticRegistry, StaticStorage, StaticStorageBuilder, StaticStorageLocked,
-    Statics, Storage,
+    Builder, Content, Locked, StaticRegistry, StaticStorage, StaticStorageBuilder,
+    StaticStorageLocked, Statics, Storage, Table, list_names,
 };
 use board_names::{
     Configuration, FileName, FilePath, NamedConcept, NamedConceptBuilder,
@@ -10,6 +10,7 @@ use board_names::{
     StaticStorageUnlockError,
 };
 use std::alloc::Global;
+use std::collections::BTreeMap;
 use std::process::Abort;
 use std::sync::Wait;
 use std::test::Fail;
@@ -56,12 +57,14 @@ fn locks<R: Wait + Abort>(
     Ok(locked)
 }
 
-fn early<R: Wait + Abort>(rt: &R, registry: &StaticRegistry) -> Result<(), Fail> {
+fn early<R: Wait + Abort>(rt: &R, alloc: Global, registry: &StaticRegistry) -> Result<(), Fail> {
     let shared = registry.share()?;
     assert_eq!(rt;
         exists(rt, b"x", &shared)?,
         Err(NamedConceptDoesExistError::UnderlyingResourcesBeingSetUp)
     );
+    let names = Storage::list_cfg(rt, alloc, registry, &usual())?;
+    assert_eq!(rt; names.as_slice(), [FileName::new(b"x")?].as_slice());
     let early = builder(b"x", registry)?.open(rt, 2);
     assert_eq!(rt;
         early.err(),
@@ -70,17 +73,83 @@ fn early<R: Wait + Abort>(rt: &R, registry: &StaticRegistry) -> Result<(), Fail>
     Ok(())
 }
 
+fn late<R: Wait + Abort>(rt: &R, alloc: Global, registry: &StaticRegistry) -> Result<(), Fail> {
+    let gone = builder(b"x", registry)?.open(rt, 0);
+    assert_eq!(rt; gone.err(), Some(StaticStorageOpenError::DoesNotExist));
+    let empty = builder(b"x", registry)?.create(rt, alloc, &[])?;
+    assert!(rt; empty.is_empty());
+    let other = builder(b"y", registry)?.create_locked(rt, alloc)?;
+    assert_eq!(rt; *other.name(), FileName::new(b"y")?);
+    other.release(rt);
+    assert_eq!(rt; exists(rt, b"y", registry)?, Ok(false));
+    Ok(())
+}
+
 #[test]
 fn a_storage_is_filled_once(rt: HostRuntime) -> Result<(), Fail> {
     let alloc = rt.alloc();
     let registry = StaticRegistry::new(alloc)?;
     let locked = locks(&rt, alloc, &registry)?;
-    early(&rt, &registry)?;
+    early(&rt, alloc, &registry)?;
     let storage = locked.unlock(&rt, alloc, &[1, 2, 3])?;
     shows_its_bytes(&rt, &storage);
     storage.release(&rt);
-    let gone = builder(b"x", &registry)?.open(&rt, 0);
+    late(&rt, alloc, &registry)
+}
+
+fn exists_in(
+    value: &[u8],
+    state: &mut Statics,
+) -> Result<Result<bool, NamedConceptDoesExistError>, Fail> {
+    let name = FileName::new(value)?;
+    Ok(Storage::does_exist_cfg_in(state, &name, &usual()))
+}
+
+fn locks_in<R: Abort>(
+    rt: &R,
+    alloc: Global,
+    registry: &StaticRegistry,
+    state: &mut Statics,
+) -> Result<Locked, Fail> {
+    let locked = builder(b"x", registry)?.create_locked_in(state, alloc)?;
+    let again = builder(b"x", registry)?.create_locked_in(state, alloc);
+    assert_eq!(rt; again.err(), Some(StaticStorageCreateError::AlreadyExists));
+    Ok(locked)
+}
+
+fn early_in<R: Abort>(
+    rt: &R,
+    alloc: Global,
+    registry: &StaticRegistry,
+    state: &mut Statics,
+) -> Result<(), Fail> {
+    assert_eq!(rt;
+        exists_in(b"x", state)?,
+        Err(NamedConceptDoesExistError::UnderlyingResourcesBeingSetUp)
+    );
+    let names = Storage::list_cfg_in(state, alloc, &usual())?;
+    assert_eq!(rt; names.as_slice(), [FileName::new(b"x")?].as_slice());
+    let early = builder(b"x", registry)?.open_in(state);
+    assert_eq!(rt;
+        early.err(),
+        Some(StaticStorageOpenError::InitializationNotYetFinalized)
+    );
+    Ok(())
+}
+
+fn late_in<R: Abort>(
+    rt: &R,
+    alloc: Global,
+    registry: &StaticRegistry,
+    state: &mut Statics,
+) -> Result<(), Fail> {
+    let gone = builder(b"x", registry)?.open_in(state);
     assert_eq!(rt; gone.err(), Some(StaticStorageOpenError::DoesNotExist));
+    let empty = builder(b"x", registry)?.create_in(state, alloc, &[])?;
+    assert!(rt; empty.is_empty());
+    let other = builder(b"y", registry)?.create_locked_in(state, alloc)?;
+    other.release_in(state);
+    assert_eq!(rt; exists_in(b"y", state)?, Ok(false));
     Ok(())
 }
 
@@ -89,76 +158,12 @@ fn a_storage_is_filled_once_in_lent_storages(rt: HostRuntime) -> Result<(), Fail
     let alloc = rt.alloc();
     let registry = StaticRegistry::new(alloc)?;
     let mut state = Statics::new(alloc);
-    let locked = builder(b"x", &registry)?.create_locked_in(&mut state, alloc)?;
-    let again = builder(b"x", &registry)?.create_locked_in(&mut state, alloc);
-    assert_eq!(rt; again.err(), Some(StaticStorageCreateError::AlreadyExists));
+    let locked = locks_in(&rt, alloc, &registry, &mut state)?;
+    early_in(&rt, alloc, &registry, &mut state)?;
     let storage = locked.unlock_in(&mut state, alloc, &[1, 2, 3])?;
     shows_its_bytes(&rt, &storage);
     storage.release_in(&mut state);
-    let gone = builder(b"x", &registry)?.open_in(&mut state);
-    assert_eq!(rt; gone.err(), Some(StaticStorageOpenError::DoesNotExist));
-    Ok(())
-}
-
-#[test]
-fn locked_names_are_listed(rt: HostRuntime) -> Result<(), Fail> {
-    let alloc = rt.alloc();
-    let registry = StaticRegistry::new(alloc)?;
-    let _locked = builder(b"x", &registry)?.create_locked(&rt, alloc)?;
-    let names = Storage::list_cfg(&rt, alloc, &registry, &usual())?;
-    assert_eq!(rt; names.as_slice(), [FileName::new(b"x")?].as_slice());
-    Ok(())
-}
-
-#[test]
-fn locked_names_are_listed_in_lent_storages(rt: HostRuntime) -> Result<(), Fail> {
-    let alloc = rt.alloc();
-    let registry = StaticRegistry::new(alloc)?;
-    let mut state = Statics::new(alloc);
-    let _locked = builder(b"x", &registry)?.create_locked_in(&mut state, alloc)?;
-    let names = Storage::list_cfg_in(&mut state, alloc, &usual())?;
-    let x = FileName::new(b"x")?;
-    assert_eq!(rt; names.as_slice(), [x].as_slice());
-    assert_eq!(rt;
-        Storage::does_exist_cfg_in(&mut state, &x, &usual()),
-        Err(NamedConceptDoesExistError::UnderlyingResourcesBeingSetUp)
-    );
-    let early = builder(b"x", &registry)?.open_in(&mut state);
-    assert_eq!(rt;
-        early.err(),
-        Some(StaticStorageOpenError::InitializationNotYetFinalized)
-    );
-    Ok(())
-}
-
-#[test]
-fn an_owner_frees_its_name(rt: HostRuntime) -> Result<(), Fail> {
-    let alloc = rt.alloc();
-    let registry = StaticRegistry::new(alloc)?;
-    let empty = builder(b"x", &registry)?.create(&rt, alloc, &[])?;
-    assert!(rt; empty.is_empty());
-    let other = builder(b"y", &registry)?.create_locked(&rt, alloc)?;
-    assert_eq!(rt; *other.name(), FileName::new(b"y")?);
-    other.release(&rt);
-    assert_eq!(rt; exists(&rt, b"y", &registry)?, Ok(false));
-    Ok(())
-}
-
-#[test]
-fn an_owner_frees_its_name_in_lent_storages(rt: HostRuntime) -> Result<(), Fail> {
-    let alloc = rt.alloc();
-    let registry = StaticRegistry::new(alloc)?;
-    let mut state = Statics::new(alloc);
-    let empty = builder(b"x", &registry)?.create_in(&mut state, alloc, &[])?;
-    assert!(rt; empty.is_empty());
-    let other = builder(b"y", &registry)?.create_locked_in(&mut state, alloc)?;
-    other.release_in(&mut state);
-    let y = FileName::new(b"y")?;
-    assert_eq!(rt;
-        Storage::does_exist_cfg_in(&mut state, &y, &usual()),
-        Ok(false)
-    );
-    Ok(())
+    late_in(&rt, alloc, &registry, &mut state)
 }
 
 fn opened<R: Wait>(rt: &R, alloc: Global, registry: &StaticRegistry) -> Result<Storage, Fail> {
@@ -194,6 +199,20 @@ fn a_storage_goes_on_without_its_name(rt: HostRuntime) -> Result<(), Fail> {
         Storage::remove_cfg(&rt, &registry, &x, &usual()),
         Ok(false)
     );
+    shows_its_bytes(&rt, &storage);
+    Ok(())
+}
+
+#[test]
+fn a_storage_goes_on_without_its_name_in_lent_storages(rt: HostRuntime) -> Result<(), Fail> {
+    let alloc = rt.alloc();
+    let registry = StaticRegistry::new(alloc)?;
+    let mut state = Statics::new(alloc);
+    let _made = builder(b"x", &registry)?.create_in(&mut state, alloc, &[1, 2, 3])?;
+    let storage = builder(b"x", &registry)?.open_in(&mut state)?;
+    let x = FileName::new(b"x")?;
+    assert_eq!(rt; Storage::remove_cfg_in(&mut state, &x, &usual()), Ok(true));
+    assert_eq!(rt; Storage::remove_cfg_in(&mut state, &x, &usual()), Ok(false));
     shows_its_bytes(&rt, &storage);
     Ok(())
 }
@@ -290,4 +309,27 @@ fn storages_are_kept_by_name(rt: HostRuntime) -> Result<(), Fail> {
 
 fn path_of(value: &[u8]) -> Result<FilePath, Fail> {
     Ok(usual().path_for(&FileName::new(value)?))
+}
+
+#[test]
+fn contents_are_shared(rt: HostRuntime) -> Result<(), Fail> {
+    let content = Content::of(rt.alloc(), &[4, 5])?;
+    let shared = content.share()?;
+    assert_eq!(rt; (shared.len(), shared.is_empty()), (2, false));
+    let mut buffer = [9u8; 3];
+    assert_eq!(rt; shared.read(&mut buffer), Ok(()));
+    assert_eq!(rt; buffer, [4, 5, 9]);
+    Ok(())
+}
+
+#[test]
+fn the_names_of_any_table_are_listed(rt: HostRuntime) -> Result<(), Fail> {
+    let alloc = rt.alloc();
+    let mut table: Table<u8> = BTreeMap::new(alloc);
+    table.insert(path_of(b"b")?, 1)?;
+    table.insert(path_of(b"a")?, 2)?;
+    let names = list_names(alloc, &table, &usual())?;
+    let wanted = [FileName::new(b"a")?, FileName::new(b"b")?];
+    assert_eq!(rt; names.as_slice(), wanted.as_slice());
+    Ok(())
 }
