@@ -9,3 +9,4 @@ pub mod LawsOfQuiet
 pub mod LawsOfCalls
 pub mod LawsOfAccesses
 pub mod LawsOfSessions
+pub mod WorkedRuns

@@ -9,6 +9,7 @@ mod errors;
 mod kind;
 pub mod quiet_laws;
 pub mod session_laws;
+pub mod worked_runs;
 
 pub use access::{EventAccess, EventAnswer};
 pub use call::{EventProgress, NotifyStage, WaitMode, WaitStage};
