@@ -10,12 +10,11 @@ use Rattle.board_event_model.specs.declared.access.EventAnswer.{EventAnswer}
 use Rattle.board_event_model.specs.declared.access.EventAnswer.TheVariants as answer
 use Rattle.board_event_model.specs.Ids.{Ids, has, IsWord, in_word, ids_where}
 
--- an event. The pending ids of a bit set are in `pending`, those of a queue in `queue`, oldest first. `named`: nobody has removed its name.
+-- an event. The pending ids of a bit set are in `pending`, those of a queue in `queue`, oldest first.
 -- `held`: its listener was not released. `gone`: its listener's party was abandoned
 pub record Event : Type 0 where
   pub kind : EventKind
   pub name : List ℕ
-  pub named : Bool
   pub max : ℕ
   pub pending : Ids
   pub queue : List ℕ
@@ -26,7 +25,7 @@ pub record Event : Type 0 where
 
 -- the event that a listen makes
 abbrev pub new_event : EventKind → List ℕ → ℕ → Event
-new_event k name max = record { kind = k; name = name; named = true; max = max; pending = set.empty; queue = []; signals = 0; held = true; gone = false; notifiers = 0 }
+new_event k name max = record { kind = k; name = name; max = max; pending = set.empty; queue = []; signals = 0; held = true; gone = false; notifiers = 0 }
 
 -- whether a kind is that of bit sets
 abbrev pub is_bits : EventKind → Bool

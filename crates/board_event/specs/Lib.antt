@@ -1,0 +1,2 @@
+pub mod IdSets
+pub mod Waits
