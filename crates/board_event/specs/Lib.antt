@@ -1,2 +1,4 @@
 pub mod IdSets
 pub mod Waits
+pub mod Memories
+pub mod EventTable

@@ -2,6 +2,7 @@
 #![tactic(auto)]
 
 mod bit_set;
+mod event_memory;
 mod id_tracker;
 mod notify_call;
 mod semaphore;
@@ -13,6 +14,7 @@ pub use board_event_model::{
     EventAccess, EventAnswer, EventKind, EventProgress, NotifierNotifyError, NotifyStage, WaitMode,
     WaitStage,
 };
+pub use event_memory::QUEUE_CAPACITY;
 pub use board_names::{
     EventId, ListenerCreateError, ListenerWaitError, NotifierCreateError, TriggerId,
 };
