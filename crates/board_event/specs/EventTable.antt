@@ -1,5 +1,5 @@
 -- The table of events: what stands under a number and a name, and what the calls on it answer and leave.
-use Rattle.std.specs.Prelude.{◌≡◌, ℕ, ◌+◌, ◌-◌, ◌^◌, Bool, true, false, ◌||◌, ◌==◌, not, nat_lt, if◌then◌else◌, List, [], Option, Some, None, Result, Ok, Err, refl}
+use Rattle.std.specs.Prelude.{ℕ, ◌+◌, ◌-◌, ◌^◌, Bool, true, false, ◌||◌, ◌==◌, not, nat_lt, if◌then◌else◌, List, [], Option, Some, None, Result, Ok, Err, refl}
 use Rattle.std.specs.Coded.{Coded, code_by, coded×, coded_ℕ, coded_list}
 use Rattle.std.specs.Ordering.{nat_cmp}
 use Rattle.std.specs.Map.{lookup, remove_entry, set_value}
@@ -81,30 +81,40 @@ is_held e = e.held || nat_lt 0 e.notifiers
 abbrev pub holds_name : Event → Bool
 holds_name e = elim e.kind [ kind.Bits ↦ is_held e | kind.Queue ↦ e.held ]
 
+-- one notifier more
 abbrev pub with_notifier : Event → Event
 with_notifier e = record e { notifiers = e.notifiers + 1 }
 
+-- one fewer
 abbrev pub without_notifier : Event → Event
 without_notifier e = record e { notifiers = e.notifiers - 1 }
 
+-- its listener was let go
 abbrev pub without_listener : Event → Event
 without_listener e = record e { held = false }
 
+-- its listener counts as gone
 abbrev pub with_gone : Event → Event
 with_gone e = record e { gone = true }
 
--- the table once a holder of event n was let go, which left e: its name goes with those who hold it, and the event with its last holder
-abbrev pub settled : EventTable → ℕ → Event → EventTable
-settled t n e =
-    let named = (if holds_name e then t else without_name_of t n e) in
-    if is_held e then with_event named n e else without_event named n
+-- its name goes where nobody holds it
+abbrev pub named_with : EventTable → ℕ → Event → EventTable
+named_with t n e = if holds_name e then t else without_name_of t n e
+
+-- the table where event n is e and a holder of it was let go: its name goes with those who hold it, and the event with its last holder
+abbrev pub settled_with : EventTable → ℕ → Event → EventTable
+settled_with t n e = (if is_held e then named_with t n e else without_event (named_with t n e) n)
+
+-- the same, of the event that stands
+abbrev pub settled : EventTable → ℕ → EventTable
+settled t n = elim (event_at t n) [ None ↦ t | Some e ↦ settled_with t n e ]
 
 -- ---- what the calls answer and leave
 
 -- the number that a listen draws, or why it is refused, by what stands under the name
 abbrev pub listen_answer : EventTable → Option ℕ → Result ℕ ListenerCreateError
 listen_answer t (Some n) = Err listener_error.AlreadyExists
-listen_answer t None = if t.drawn == 2 ^ 64 - 2 then Err listener_error.NumbersSpent else Ok (t.drawn + 1)
+listen_answer t None = if nat_lt t.drawn (2 ^ 64 - 2) then Ok (t.drawn + 1) else Err listener_error.NumbersSpent
 
 -- the table after a listen
 abbrev pub listened : EventTable → EventKind → List ℕ → ℕ → EventTable

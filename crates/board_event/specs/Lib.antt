@@ -2,3 +2,4 @@ pub mod IdSets
 pub mod Waits
 pub mod Memories
 pub mod EventTable
+pub mod Steps

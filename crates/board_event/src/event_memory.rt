@@ -2,7 +2,7 @@
 ghost use Rattle.std.specs.Prelude.{◌≡◌, ◌≤◌, ◌<◌, ◌+◌, ◌-◌, ◌^◌, ◌/◌, ℕ, IfOk, [], true, false, IsTrue, ◌↔◌};
 ghost use Rattle.std.specs.FinSet as set;
 ghost use Rattle.board_event_model.specs.EventMemory.{Event, CanPerform, IsRight, after, new_event, pop_answer, push_answer, yes_or_no};
-ghost use Rattle.board_event.specs.EventTable.{with_gone, with_notifier, without_listener, without_notifier};
+ghost use Rattle.board_event.specs.EventTable.{holds_name, is_held, with_gone, with_notifier, without_listener, without_notifier};
 
 use crate::bit_set::BitSet;
 use crate::semaphore::Semaphore;
@@ -105,6 +105,23 @@ impl EventMemory {
         ensures { result ≡ self.now.held }
     {
         self.held
+    }
+
+    /// Whether a listener or a notifier of it is held.
+    pub fn is_held(&self) -> bool
+        ensures { result ≡ is_held self.now }
+    {
+        self.held || self.notifiers > 0
+    }
+
+    /// Whether somebody holds its name.
+    pub fn holds_name(&self) -> bool
+        ensures { result ≡ holds_name self.now }
+    {
+        match &self.pending {
+            Pending::Bits(_) => self.is_held(),
+            Pending::Queue(_) => self.held,
+        }
     }
 
     /// How many notifiers it has.
