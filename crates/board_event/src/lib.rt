@@ -27,3 +27,6 @@ pub use semaphore::Semaphore;
 pub use signal_mechanism::SignalMechanism;
 pub use steps::{EventStep, notify_step, wait_step};
 pub use wait_call::WaitCall;
+
+#[cfg(test)]
+mod tests;

@@ -4,6 +4,7 @@ pub mod SoundLemmas
 pub mod PostLemmas
 pub mod TrackLemmas
 pub mod ReplyLemmas
+pub mod NothingLemmas
 pub mod EndLemmas
 pub mod WholeLemmas
 pub mod AccessLemmas

@@ -382,7 +382,7 @@ tracked_move now release_listener all ok = all
 tracked_move now elsewhere all ok = all
 tracked_move now (notifiers n) all ok = all
 
-tracked_run : (start : Moment) (ms : List EventMove) → AllTracked start.running → IsRun start ms → AllTracked (run_to start ms).running
+pub tracked_run : (start : Moment) (ms : List EventMove) → AllTracked start.running → IsRun start ms → AllTracked (run_to start ms).running
 tracked_run start [] s r = s
 tracked_run start (m ∷ ms) s r = tracked_move (run_to start ms) m (tracked_run start ms s r.0) r.1
 

@@ -1,12 +1,12 @@
 -- The runs that were worked out by hand.
-use Rattle.std.proofs.Common.{◌≡◌, ℕ, ◌+◌, ◌*◌, Bool, true, false, refl, sym, ◌∙◌, ap, lit<}
+use Rattle.std.proofs.Common.{◌≡◌, ℕ, ◌+◌, ◌*◌, Bool, refl, sym, ◌∙◌, ap, lit<}
 use Rattle.std.specs.Prelude.{if◌then◌else◌}
 use Rattle.std.proofs.lemmas.Bool.{false≢true}
 use Rattle.std.proofs.lemmas.Nat.Bits.{bit_at-zero}
 use Rattle.std.specs.FinSet as set
 use Rattle.board_event_model.specs.declared.access.EventAnswer.TheVariants as answer
 use Rattle.board_event_model.specs.Ids.{has, IsWord}
-use Rattle.board_event_model.specs.WorkedRuns.{RunsOnBits, a_look_before_the_post, a_made_up_id, a_post_before_the_set, an_expire_after_a_look, an_expire_after_the_drain, an_expire_of_a_blocking_wait}
+use Rattle.board_event_model.specs.WorkedRuns.{RunsOnBits, a_look_before_the_post, a_made_up_id, a_post_before_the_set, an_expire_after_a_look, an_expire_after_a_signal, an_expire_after_the_drain, an_expire_of_a_blocking_wait}
 use Rattle.board_event_model.proofs.SetLemmas.{is_false, has_empty}
 
 no_word : (k : ℕ) → IsWord set.empty k 0
@@ -39,3 +39,6 @@ timed_is_wrong h = false≢true h.1.1
 
 pub blocking_is_wrong : RunsOnBits an_expire_of_a_blocking_wait → ⊥
 blocking_is_wrong h = false≢true h.1.0
+
+pub signal_is_wrong : RunsOnBits an_expire_after_a_signal → ⊥
+signal_is_wrong h = false≢true h.1.1

@@ -84,6 +84,13 @@ NoneLaw =
     (p : PartyName) (r : RunningCall) (w : Wait) (a : EventAccess) (answer : EventAnswer) → Takes now p r a answer → call_of r ≡ a_wait w →
     progress_of r answer ≡ progress.Nothing → IsNoneOfTry now r w a
 
+-- a finished wait that took nothing ends with no id
+abbrev pub NothingLaw : Type 0
+NothingLaw =
+    (now : Moment) → IsReached now →
+    (p : PartyName) (r : RunningCall) (w : Wait) (a : EventAccess) (answer : EventAnswer) → Takes now p r a answer → call_of r ≡ a_wait w →
+    is_last (progress_of r answer) ≡ true → taken_by (with_step now r a) ≡ [] → progress_of r answer ≡ progress.Nothing
+
 -- a finished wait for all on bits reports every id that was pending at its first step
 abbrev pub AllLaw : Type 0
 AllLaw =

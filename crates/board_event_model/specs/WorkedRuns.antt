@@ -1,5 +1,5 @@
 -- Runs that were worked out by hand, of an event of 64 ids. `e` listens, `n` notifies; the last move comes first.
-use Rattle.std.specs.Prelude.{ℕ, false, List, [], ◌∷◌, codes}
+use Rattle.std.specs.Prelude.{false, List, [], ◌∷◌, codes}
 use Rattle.board_event_model.specs.declared.access.EventAccess.TheVariants as access
 use Rattle.board_event_model.specs.declared.access.EventAnswer.TheVariants as answer
 use Rattle.board_event_model.specs.declared.call.WaitMode.{WaitMode}
@@ -57,3 +57,11 @@ an_expire_after_the_drain = expire e ∷ step e access.Signal answer.No ∷ begi
 -- a blocking wait expires
 abbrev pub an_expire_of_a_blocking_wait : List EventMove
 an_expire_of_a_blocking_wait = expire e ∷ first_look mode.Block
+
+-- n has set and posted
+abbrev pub n_notifies : List EventMove → List EventMove
+n_notifies before = step n access.Post answer.Done ∷ step n (access.Set 32) answer.Done ∷ n_looks before
+
+-- a timed wait expires after a look that found a signal
+abbrev pub an_expire_after_a_signal : List EventMove
+an_expire_after_a_signal = expire e ∷ step e access.Signal answer.Yes ∷ n_notifies (first_look mode.Timed)

@@ -1,5 +1,5 @@
 //! The event law: what the ends of notifies and waits say of their own steps. Each function's contract is a theorem over the definitions alone.
-ghost use Rattle.board_event_model.specs.LawsOfCalls.{AllLaw, ExpireLaw, NoneLaw, NotifyLaw, QueueLaw, ReplyLaw};
+ghost use Rattle.board_event_model.specs.LawsOfCalls.{AllLaw, ExpireLaw, NoneLaw, NothingLaw, NotifyLaw, QueueLaw, ReplyLaw};
 
 /// A notify that ends well made its id pending, or left it so.
 pub fn notifies_make_pending()
@@ -19,6 +19,11 @@ pub fn expired_waits_took_nothing()
 /// A wait ends with no id only in mode try, where it took nothing and saw each word, or the queue, empty.
 pub fn waits_end_with_nothing_where_nothing_stood()
     ensures { NoneLaw }
+{}
+
+/// A finished wait that took nothing ends with no id.
+pub fn waits_that_took_nothing_say_so()
+    ensures { NothingLaw }
 {}
 
 /// A finished wait for all on bits reports every id that was pending at its first step.
