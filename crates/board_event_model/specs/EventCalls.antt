@@ -30,10 +30,6 @@ abbrev pub answered : EventCall → List EventAnswer → EventCall
 answered c [] = c
 answered c (a ∷ before) = (turn (answered c before) a).1
 
--- the access that it owes after these answers
-abbrev pub owed_after : EventCall → List EventAnswer → EventAccess
-owed_after c answers = owed (answered c answers)
-
 -- whether it is a timed wait
 abbrev pub is_timed : EventCall → Bool
 is_timed (a_notify n) = false
