@@ -34,24 +34,31 @@ pub enum EventProgress {
 /// The access that a notify owes next.
 #[derive(Clone, Copy, Debug, PartialEq, Eq)]
 pub enum NotifyStage {
+    /// The look at the listener.
     Look,
     Set,
     Post,
+    /// The one access on a queue.
     Push,
+    /// None.
     Finished,
 }
 
 /// The access that a wait owes next.
 #[derive(Clone, Copy, Debug, PartialEq, Eq)]
 pub enum WaitStage {
-    /// Takes signals until there is none.
+    /// A signal, until there is none.
     Drain,
+    /// The read of a word, in a wait for one.
     Scan { word: u64 },
+    /// The taking of the least id of a word that was read.
     Clear { id: u64 },
-    /// `some`: whether an id was taken.
+    /// The taking of a word, in a wait for all; and whether an id was taken before.
     Swap { word: u64, some: bool },
-    /// The waiting look.
+    /// The waiting look, after all words were found empty.
     Look,
+    /// A pop, after so many ids were taken.
     Pop { taken: u64 },
+    /// None.
     Finished,
 }
