@@ -1,0 +1,134 @@
+-- The table of events: what stands under a number and a name, and what the calls on it answer and leave.
+use Rattle.std.specs.Prelude.{ℕ, ◌+◌, ◌-◌, ◌^◌, Bool, true, false, ◌||◌, ◌==◌, not, nat_lt, if◌then◌else◌, List, [], Option, Some, None, Result, Ok, Err, refl}
+use Rattle.std.specs.Coded.{Coded, code_by, coded×, coded_ℕ, coded_list}
+use Rattle.std.specs.Ordering.{nat_cmp}
+use Rattle.std.specs.Map.{lookup, remove_entry, set_value}
+use Rattle.std.specs.BTreeMap.{insert_entry, is_at}
+use Rattle.board_store.specs.Table.{at, putting, without}
+use Rattle.board_names.specs.declared.errors.event.ListenerCreateError.{ListenerCreateError}
+use Rattle.board_names.specs.declared.errors.event.ListenerCreateError.TheVariants as listener_error
+use Rattle.board_names.specs.declared.errors.event.NotifierCreateError.{NotifierCreateError}
+use Rattle.board_names.specs.declared.errors.event.NotifierCreateError.TheVariants as notifier_error
+use Rattle.board_event_model.specs.declared.kind.EventKind.{EventKind}
+use Rattle.board_event_model.specs.declared.kind.EventKind.TheVariants as kind
+use Rattle.board_event_model.specs.EventMemory.{Event, new_event}
+use Rattle.board_event.specs.Memories.{event_code}
+
+-- how many numbers were drawn, the events that stand by their numbers, and the held names of each kind with the number of the event that holds it
+pub record EventTable : Type 0 where
+  pub drawn : ℕ
+  pub events : List (ℕ × Event)
+  pub bits : List (List ℕ × ℕ)
+  pub queues : List (List ℕ × ℕ)
+
+-- no events
+abbrev pub no_events : EventTable
+no_events = record { drawn = 0; events = []; bits = []; queues = [] }
+
+-- the code of a table
+abbrev pub table_code : Coded EventTable
+table_code = code_by (ℕ × (List (ℕ × Event) × (List (List ℕ × ℕ) × List (List ℕ × ℕ))))
+    (coded× coded_ℕ (coded× (coded_list (coded× coded_ℕ event_code)) (coded× (coded_list (coded× (coded_list coded_ℕ) coded_ℕ)) (coded_list (coded× (coded_list coded_ℕ) coded_ℕ)))))
+    (λ t. (t.drawn, (t.events, (t.bits, t.queues))))
+    (λ p. record { drawn = p.0; events = p.1.0; bits = p.1.1.0; queues = p.1.1.1 })
+    (λ _. refl)
+
+-- ---- numbers
+
+-- the event that stands under a number
+abbrev pub event_at : EventTable → ℕ → Option Event
+event_at t n = lookup (is_at (nat_cmp n)) t.events
+
+-- the table with this event under a number that has one
+abbrev pub with_event : EventTable → ℕ → Event → EventTable
+with_event t n e = record t { events = set_value (is_at (nat_cmp n)) t.events e }
+
+-- the table with nothing under a number
+abbrev pub without_event : EventTable → ℕ → EventTable
+without_event t n = record t { events = remove_entry (is_at (nat_cmp n)) t.events }
+
+-- the table with one event changed
+abbrev pub changed : EventTable → ℕ → (Event → Event) → EventTable
+changed t n f = elim (event_at t n) [ None ↦ t | Some e ↦ with_event t n (f e) ]
+
+-- ---- names
+
+-- the held names of a kind
+abbrev pub names_of : EventKind → EventTable → List (List ℕ × ℕ)
+names_of kind.Bits t = t.bits
+names_of kind.Queue t = t.queues
+
+-- the table with these names of a kind
+abbrev pub with_names : EventKind → EventTable → List (List ℕ × ℕ) → EventTable
+with_names kind.Bits t names = record t { bits = names }
+with_names kind.Queue t names = record t { queues = names }
+
+-- the names without this one, where the event with this number holds it
+abbrev pub freed : List (List ℕ × ℕ) → List ℕ → ℕ → List (List ℕ × ℕ)
+freed names name n = elim (at names name) [ None ↦ names | Some m ↦ if m == n then without names name else names ]
+
+-- the table without the name of an event, where that event holds it
+abbrev pub without_name_of : EventTable → ℕ → Event → EventTable
+without_name_of t n e = with_names e.kind t (freed (names_of e.kind t) e.name n)
+
+-- ---- holders
+
+-- whether a listener or a notifier of it is held
+abbrev pub is_held : Event → Bool
+is_held e = e.held || nat_lt 0 e.notifiers
+
+-- a bits name is held by the listener or a notifier, a queue name by the listener
+abbrev pub holds_name : Event → Bool
+holds_name e = elim e.kind [ kind.Bits ↦ is_held e | kind.Queue ↦ e.held ]
+
+-- one notifier more
+abbrev pub with_notifier : Event → Event
+with_notifier e = record e { notifiers = e.notifiers + 1 }
+
+-- one fewer
+abbrev pub without_notifier : Event → Event
+without_notifier e = record e { notifiers = e.notifiers - 1 }
+
+-- its listener was let go
+abbrev pub without_listener : Event → Event
+without_listener e = record e { held = false }
+
+-- its listener counts as gone
+abbrev pub with_gone : Event → Event
+with_gone e = record e { gone = true }
+
+-- its name goes where nobody holds it
+abbrev pub named_with : EventTable → ℕ → Event → EventTable
+named_with t n e = if holds_name e then t else without_name_of t n e
+
+-- the table where event n is e and a holder of it was let go: its name goes with those who hold it, and the event with its last holder
+abbrev pub settled_with : EventTable → ℕ → Event → EventTable
+settled_with t n e = (if is_held e then named_with t n e else without_event (named_with t n e) n)
+
+-- the same, of the event that stands
+abbrev pub settled : EventTable → ℕ → EventTable
+settled t n = elim (event_at t n) [ None ↦ t | Some e ↦ settled_with t n e ]
+
+-- ---- what the calls answer and leave
+
+-- the number that a listen draws, or why it is refused, by what stands under the name
+abbrev pub listen_answer : EventTable → Option ℕ → Result ℕ ListenerCreateError
+listen_answer t (Some n) = Err listener_error.AlreadyExists
+listen_answer t None = if nat_lt t.drawn (2 ^ 64 - 2) then Ok (t.drawn + 1) else Err listener_error.NumbersSpent
+
+-- the table after a listen
+abbrev pub listened : EventTable → EventKind → List ℕ → ℕ → EventTable
+listened t k name max = record (with_names k t (putting (names_of k t) name (t.drawn + 1))) {
+  drawn = t.drawn + 1;
+  events = insert_entry nat_cmp t.events (t.drawn + 1) (new_event k name max);
+}
+
+-- the event's number, or why it has no new notifier
+abbrev pub notifier_of : ℕ → Option Event → Result ℕ NotifierCreateError
+notifier_of n None = Err notifier_error.DoesNotExist
+notifier_of n (Some e) = if not e.held then Err notifier_error.DoesNotExist else if nat_lt e.notifiers (2 ^ 64 - 2) then Ok n else Err notifier_error.NumbersSpent
+
+-- the same, by what stands under the name
+abbrev pub notifier_answer : EventTable → Option ℕ → Result ℕ NotifierCreateError
+notifier_answer t None = Err notifier_error.DoesNotExist
+notifier_answer t (Some n) = notifier_of n (event_at t n)

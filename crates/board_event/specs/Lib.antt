@@ -1,0 +1,5 @@
+pub mod IdSets
+pub mod Waits
+pub mod Memories
+pub mod EventTable
+pub mod Steps

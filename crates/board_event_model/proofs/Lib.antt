@@ -1,0 +1,12 @@
+pub mod SetLemmas
+pub mod QuietLemmas
+pub mod SoundLemmas
+pub mod PostLemmas
+pub mod TrackLemmas
+pub mod ReplyLemmas
+pub mod NothingLemmas
+pub mod EndLemmas
+pub mod WholeLemmas
+pub mod AccessLemmas
+pub mod WorkedRun
+pub mod ViewLemmas

@@ -1,0 +1,44 @@
+-- The runs that were worked out by hand.
+use Rattle.std.proofs.Common.{◌≡◌, ℕ, ◌+◌, ◌*◌, Bool, refl, sym, ◌∙◌, ap, lit<}
+use Rattle.std.specs.Prelude.{if◌then◌else◌}
+use Rattle.std.proofs.lemmas.Bool.{false≢true}
+use Rattle.std.proofs.lemmas.Nat.Bits.{bit_at-zero}
+use Rattle.std.specs.FinSet as set
+use Rattle.board_event_model.specs.declared.access.EventAnswer.TheVariants as answer
+use Rattle.board_event_model.specs.Ids.{has, IsWord}
+use Rattle.board_event_model.specs.WorkedRuns.{RunsOnBits, a_look_before_the_post, a_made_up_id, a_post_before_the_set, an_expire_after_a_look, an_expire_after_a_signal, an_expire_after_the_drain, an_expire_of_a_blocking_wait}
+use Rattle.board_event_model.proofs.SetLemmas.{is_false, has_empty}
+
+no_word : (k : ℕ) → IsWord set.empty k 0
+no_word k = record {
+  small = lit< tt;
+  bits = λ i low. bit_at-zero i ∙ ap (λ (b : Bool). if b then 1 else 0) (sym (is_false (has set.empty (64 * k + i)) (has_empty (64 * k + i))));
+}
+
+pub look_runs : RunsOnBits a_look_before_the_post
+look_runs = ((((((((tt, (refl, (refl, refl))), (refl, refl)), (refl, (0, refl, no_word 0))), (refl, refl)), (refl, refl)), (refl, refl)), (refl, refl)), (refl, refl))
+
+pub expire_runs : RunsOnBits an_expire_after_a_look
+expire_runs = (((((tt, (refl, (refl, refl))), (refl, refl)), (refl, (0, refl, no_word 0))), (refl, refl)), (refl, refl))
+
+pub post_is_wrong : RunsOnBits a_post_before_the_set → ⊥
+post_is_wrong h = let owed = h.1.0 in cc
+
+some_word : (v : ℕ) → answer.Word 1 ≡ answer.Word v → IsWord set.empty 0 v → ⊥
+some_word v e w =
+    let v_is : 1 ≡ v = cc in
+    let none = is_false (has set.empty 0) (has_empty 0) in
+    let bit = w.bits 0 (lit< tt) in
+    absurd cc
+
+pub id_is_wrong : RunsOnBits a_made_up_id → ⊥
+id_is_wrong h = some_word h.1.1.0 h.1.1.1 h.1.1.2
+
+pub timed_is_wrong : RunsOnBits an_expire_after_the_drain → ⊥
+timed_is_wrong h = false≢true h.1.1
+
+pub blocking_is_wrong : RunsOnBits an_expire_of_a_blocking_wait → ⊥
+blocking_is_wrong h = false≢true h.1.0
+
+pub signal_is_wrong : RunsOnBits an_expire_after_a_signal → ⊥
+signal_is_wrong h = false≢true h.1.1

@@ -1,0 +1,5 @@
+use Rattle.board_event_model.proofs.ReplyLemmas.{expire_law_holds}
+use Rattle.board_event_model.proofs.call_laws.expired_waits_took_nothing.Goals as goal
+
+pub returns : goal.returns
+returns c = expire_law_holds

@@ -1,0 +1,107 @@
+-- The event law: what the ends of notifies and waits say of their own steps.
+use Rattle.std.specs.Prelude.{◌≡◌, ℕ, ◌+◌, ◌/◌, ◌<◌, true, false, ◌==◌, List, [], ◌∷◌, ◌++◌, length, Option, Some, None, ◌⊎◌}
+use Rattle.std.specs.List.{list_any}
+use Rattle.board_event_model.specs.declared.access.EventAccess.{EventAccess}
+use Rattle.board_event_model.specs.declared.access.EventAccess.TheVariants as access
+use Rattle.board_event_model.specs.declared.access.EventAnswer.{EventAnswer}
+use Rattle.board_event_model.specs.declared.call.EventProgress.{EventProgress}
+use Rattle.board_event_model.specs.declared.call.EventProgress.TheVariants as progress
+use Rattle.board_event_model.specs.declared.call.WaitMode.TheVariants as mode
+use Rattle.board_event_model.specs.Ids.{has, in_word}
+use Rattle.board_event_model.specs.EventMemory.{is_bits, after, taken, is_pending}
+use Rattle.board_event_model.specs.NotifyCalls.{Notify}
+use Rattle.board_event_model.specs.WaitCalls.{Wait}
+use Rattle.board_event_model.specs.EventCalls.{a_notify, a_wait, turn, reported, is_last}
+use Rattle.board_event_model.specs.EventRuns.{PartyName, MetAccess, RunningCall, Moment, expire, IsAllowed, IsReached, Takes, call_of}
+
+-- the ids that a call's own accesses took, in order
+abbrev pub taken_by : List MetAccess → List ℕ
+taken_by [] = []
+taken_by (s ∷ ss) = taken_by ss ++ taken s.met s.access
+
+-- one of these accesses
+abbrev pub IsStepOf : List MetAccess → MetAccess → Type 0
+IsStepOf [] s = ⊥
+IsStepOf (t ∷ ts) s = (s ≡ t) ⊎ IsStepOf ts s
+
+-- an access that reads or takes word k, which has no pending id
+pub record SeesEmptyWord (s : MetAccess) (k : ℕ) : Type 0 where
+  pub looks : (s.access ≡ access.Scan k) ⊎ (s.access ≡ access.Swap k)
+  pub empty : (id : ℕ) → has s.met.pending id ≡ true → in_word k id ≡ false
+
+-- the step, and those before it
+abbrev pub with_step : Moment → RunningCall → EventAccess → List MetAccess
+with_step now r a = record { met = now.event; access = a } ∷ r.steps
+
+-- the first of these accesses
+abbrev pub first_step : List MetAccess → Option MetAccess
+first_step [] = None
+first_step (s ∷ []) = Some s
+first_step (s ∷ t ∷ ts) = first_step (t ∷ ts)
+
+-- a notify that ends with ok made its id pending, or found it so and left it so, at one of its own steps
+pub record IsNotifyOk (id : ℕ) (steps : List MetAccess) : Type 0 where
+  pub made : MetAccess
+  pub own : IsStepOf steps made
+  pub pending : is_pending (after made.met made.access) id ≡ true
+
+-- what a call has come to with this answer
+abbrev pub progress_of : RunningCall → EventAnswer → EventProgress
+progress_of r answer = (turn (call_of r) answer).0
+
+-- a notify that ends with ok made its id pending, or left it so
+abbrev pub NotifyLaw : Type 0
+NotifyLaw =
+    (now : Moment) → IsReached now →
+    (p : PartyName) (r : RunningCall) (n : Notify) (a : EventAccess) (answer : EventAnswer) → Takes now p r a answer → call_of r ≡ a_notify n →
+    progress_of r answer ≡ progress.Notified → IsNotifyOk n.id (with_step now r a)
+
+-- what a finished wait reports is what its own steps took, in order
+abbrev pub ReplyLaw : Type 0
+ReplyLaw =
+    (now : Moment) → IsReached now →
+    (p : PartyName) (r : RunningCall) (w : Wait) (a : EventAccess) (answer : EventAnswer) → Takes now p r a answer → call_of r ≡ a_wait w →
+    is_last (progress_of r answer) ≡ true → r.told ++ reported (progress_of r answer) ≡ taken_by (with_step now r a)
+
+-- an expired wait has taken nothing
+abbrev pub ExpireLaw : Type 0
+ExpireLaw =
+    (now : Moment) → IsReached now → (p : PartyName) (r : RunningCall) → now.running p ≡ Some r → IsAllowed now (expire p) → taken_by r.steps ≡ []
+
+-- none comes only to mode try, and only where nothing was taken
+pub record IsNoneOfTry (now : Moment) (r : RunningCall) (w : Wait) (a : EventAccess) : Type 0 where
+  pub mode : w.mode ≡ mode.Try
+  pub none : taken_by (with_step now r a) ≡ []
+  -- on bits it saw each word empty at a step of its own
+  pub words : is_bits now.event.kind ≡ true → (k : ℕ) → k < now.event.max / 64 + 1 → (s : MetAccess) × IsStepOf (with_step now r a) s × SeesEmptyWord s k
+  -- on the queue it saw the list empty at this step, its last
+  pub list : is_bits now.event.kind ≡ false → (a ≡ access.Pop) × (now.event.queue ≡ [])
+
+-- a wait ends with no id only so
+abbrev pub NoneLaw : Type 0
+NoneLaw =
+    (now : Moment) → IsReached now →
+    (p : PartyName) (r : RunningCall) (w : Wait) (a : EventAccess) (answer : EventAnswer) → Takes now p r a answer → call_of r ≡ a_wait w →
+    progress_of r answer ≡ progress.Nothing → IsNoneOfTry now r w a
+
+-- a finished wait that took nothing ends with no id
+abbrev pub NothingLaw : Type 0
+NothingLaw =
+    (now : Moment) → IsReached now →
+    (p : PartyName) (r : RunningCall) (w : Wait) (a : EventAccess) (answer : EventAnswer) → Takes now p r a answer → call_of r ≡ a_wait w →
+    is_last (progress_of r answer) ≡ true → taken_by (with_step now r a) ≡ [] → progress_of r answer ≡ progress.Nothing
+
+-- a finished wait for all on bits reports every id that was pending at its first step
+abbrev pub AllLaw : Type 0
+AllLaw =
+    (now : Moment) → IsReached now → is_bits now.event.kind ≡ true →
+    (p : PartyName) (r : RunningCall) (w : Wait) (a : EventAccess) (answer : EventAnswer) → Takes now p r a answer → call_of r ≡ a_wait w → w.many ≡ true →
+    is_last (progress_of r answer) ≡ true → (s : MetAccess) → first_step (with_step now r a) ≡ Some s →
+    (id : ℕ) → has s.met.pending id ≡ true → list_any (λ x. x == id) (r.told ++ reported (progress_of r answer)) ≡ true
+
+-- a finished wait for all on the queue saw the list empty at its last step, or took 513 ids
+abbrev pub QueueLaw : Type 0
+QueueLaw =
+    (now : Moment) → IsReached now → is_bits now.event.kind ≡ false →
+    (p : PartyName) (r : RunningCall) (w : Wait) (a : EventAccess) (answer : EventAnswer) → Takes now p r a answer → call_of r ≡ a_wait w → w.many ≡ true →
+    is_last (progress_of r answer) ≡ true → (now.event.queue ≡ []) ⊎ (length (r.told ++ reported (progress_of r answer)) ≡ 513)

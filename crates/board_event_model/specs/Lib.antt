@@ -1,0 +1,12 @@
+pub mod Ids
+pub mod EventMemory
+pub mod NotifyCalls
+pub mod WaitCalls
+pub mod EventCalls
+pub mod EventRuns
+pub mod EventSessions
+pub mod LawsOfQuiet
+pub mod LawsOfCalls
+pub mod LawsOfAccesses
+pub mod LawsOfSessions
+pub mod WorkedRuns

@@ -1,0 +1,67 @@
+-- Runs that were worked out by hand, of an event of 64 ids. `e` listens, `n` notifies; the last move comes first.
+use Rattle.std.specs.Prelude.{false, List, [], ◌∷◌, codes}
+use Rattle.board_event_model.specs.declared.access.EventAccess.TheVariants as access
+use Rattle.board_event_model.specs.declared.access.EventAnswer.TheVariants as answer
+use Rattle.board_event_model.specs.declared.call.WaitMode.{WaitMode}
+use Rattle.board_event_model.specs.declared.call.WaitMode.TheVariants as mode
+use Rattle.board_event_model.specs.declared.kind.EventKind.TheVariants as kind
+use Rattle.board_event_model.specs.NotifyCalls.{notify_bits}
+use Rattle.board_event_model.specs.WaitCalls.{wait_bits}
+use Rattle.board_event_model.specs.EventCalls.{a_notify, a_wait}
+use Rattle.board_event_model.specs.EventRuns.{EventMove, IsRun, PartyName, begin, expire, listened, step}
+
+-- the two parties
+abbrev pub e : PartyName
+e = codes "e"
+
+abbrev pub n : PartyName
+n = codes "n"
+
+-- a run on a new event
+abbrev pub RunsOnBits : List EventMove → Type 0
+RunsOnBits moves = IsRun (listened kind.Bits (codes "ev") 63 e) moves
+
+-- e waits for one id, finds none and looks
+abbrev pub first_look : WaitMode → List EventMove
+first_look m =
+    step e access.Signal answer.No
+    ∷ step e (access.Scan 0) (answer.Word 0)
+    ∷ step e access.Signal answer.No
+    ∷ begin e (a_wait (wait_bits 1 false m))
+    ∷ []
+
+-- n sees the listener
+abbrev pub n_looks : List EventMove → List EventMove
+n_looks before = step n access.Listener answer.Yes ∷ begin n (a_notify (notify_bits 32 63)) ∷ before
+
+-- n has set 32 and hasn't posted; e looks again, and finds no signal
+abbrev pub a_look_before_the_post : List EventMove
+a_look_before_the_post = step e access.Signal answer.No ∷ step n (access.Set 32) answer.Done ∷ n_looks (first_look mode.Block)
+
+-- n posts, and hasn't set
+abbrev pub a_post_before_the_set : List EventMove
+a_post_before_the_set = step n access.Post answer.Done ∷ n_looks (first_look mode.Block)
+
+-- e finds an id that nobody has set
+abbrev pub a_made_up_id : List EventMove
+a_made_up_id = step e (access.Scan 0) (answer.Word 1) ∷ step e access.Signal answer.No ∷ begin e (a_wait (wait_bits 1 false mode.Try)) ∷ []
+
+-- a timed wait expires after its look
+abbrev pub an_expire_after_a_look : List EventMove
+an_expire_after_a_look = expire e ∷ first_look mode.Timed
+
+-- a timed wait expires after its drain
+abbrev pub an_expire_after_the_drain : List EventMove
+an_expire_after_the_drain = expire e ∷ step e access.Signal answer.No ∷ begin e (a_wait (wait_bits 1 false mode.Timed)) ∷ []
+
+-- a blocking wait expires
+abbrev pub an_expire_of_a_blocking_wait : List EventMove
+an_expire_of_a_blocking_wait = expire e ∷ first_look mode.Block
+
+-- n has set and posted
+abbrev pub n_notifies : List EventMove → List EventMove
+n_notifies before = step n access.Post answer.Done ∷ step n (access.Set 32) answer.Done ∷ n_looks before
+
+-- a timed wait expires after a look that found a signal
+abbrev pub an_expire_after_a_signal : List EventMove
+an_expire_after_a_signal = expire e ∷ step e access.Signal answer.Yes ∷ n_notifies (first_look mode.Timed)

@@ -1,0 +1,29 @@
+//! Runs that were worked out by hand, and whether they are runs.
+ghost use Rattle.board_event_model.specs.WorkedRuns.{RunsOnBits, a_look_before_the_post, a_made_up_id, a_post_before_the_set, an_expire_after_a_look, an_expire_after_a_signal, an_expire_after_the_drain, an_expire_of_a_blocking_wait};
+
+/// A waiting look may miss an id that was set and whose signal wasn't posted yet.
+pub fn a_look_may_come_before_the_post()
+    ensures { RunsOnBits a_look_before_the_post }
+{}
+
+/// A timed wait may expire after a waiting look that found nothing.
+pub fn a_timed_wait_may_expire()
+    ensures { RunsOnBits an_expire_after_a_look }
+{}
+
+/// A notify may not post before it has set.
+pub fn a_post_before_the_set_is_wrong()
+    ensures { RunsOnBits a_post_before_the_set → ⊥ }
+{}
+
+/// A wait may not find an id that isn't pending.
+pub fn a_made_up_id_is_wrong()
+    ensures { RunsOnBits a_made_up_id → ⊥ }
+{}
+
+/// A wait that hasn't made its waiting look doesn't expire, nor one whose look found a signal, and a blocking one never does.
+pub fn an_early_expire_is_wrong()
+    ensures timed { RunsOnBits an_expire_after_the_drain → ⊥ }
+    ensures signal { RunsOnBits an_expire_after_a_signal → ⊥ }
+    ensures blocking { RunsOnBits an_expire_of_a_blocking_wait → ⊥ }
+{}
