@@ -24,6 +24,7 @@ mod tests;
 mod trigger_id;
 
 pub use base64url::Base64Url;
+pub use board_event_model::NotifierNotifyError;
 pub use board_model::{
     BlackboardCreateError, BlackboardOpenError, EntryHandleError, EntryHandleMutError,
     ReaderCreateError, WriterCreateError,
@@ -41,9 +42,7 @@ pub use errors::concept::{
     NamedConceptDoesExistError, NamedConceptListError, NamedConceptPathHintRemoveError,
     NamedConceptRemoveError, RegistryError, SemanticStringError,
 };
-pub use errors::event::{
-    ListenerCreateError, ListenerWaitError, NotifierCreateError, NotifierNotifyError,
-};
+pub use errors::event::{ListenerCreateError, ListenerWaitError, NotifierCreateError};
 pub use errors::monitoring::{
     MonitoringCreateCleanerError, MonitoringCreateMonitorError, MonitoringCreateTokenError,
     MonitoringStateError,
