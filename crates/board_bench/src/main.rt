@@ -1,7 +1,8 @@
 //! Measures the cell between threads: `solo W get COUNT`, `solo W update COUNT` or `shared W R UPDATES`. It reads no clock.
 #![tactic(auto)]
 
-ghost use Rattle.board_bench.specs.Task.{IsTask};
+ghost use Rattle.std.specs.Prelude.{◌≡◌, is_some, IfOk};
+ghost use Rattle.board_bench.specs.Task.{IsTask, is_shared};
 
 mod shared;
 mod solo;
@@ -27,6 +28,7 @@ fn run<R: Threads + Wait + Sync>(
     task: Task,
 ) -> Result<Option<u64>, CellError>
     requires { IsTask task }
+    ensures { IfOk result (λ gets. is_some gets ≡ is_shared task) }
 {
     match task {
         Task::Get { width, count } => {
@@ -41,7 +43,7 @@ fn run<R: Threads + Wait + Sync>(
             width,
             readers,
             updates,
-        } => Ok(Some(run_shared(rt, alloc, width, readers, updates)?)),
+        } => Ok(Some(run_shared(rt, alloc, width, readers, updates)?.gets)),
     }
 }
 

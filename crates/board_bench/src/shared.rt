@@ -1,7 +1,8 @@
-ghost use Rattle.std.specs.Prelude.{◌≡◌, ◌+◌, ◌^◌, ◌<◌, ◌≤◌, length, All, IfOk, OnOk};
+ghost use Rattle.std.specs.Prelude.{ℕ, ◌≡◌, ◌+◌, ◌^◌, ◌<◌, ◌≤◌, ◌↔◌, true, length, map, All, IfOk, OnOk};
 ghost use denote.Param.Send.{IsSync};
-ghost use Rattle.board_cell.specs.Passes.{ReaderSeen};
-ghost use Rattle.board_bench.specs.Watchers.{IsOf};
+ghost use Rattle.board_cell.specs.Passes.{ReaderSeen, notes_of};
+ghost use Rattle.board_cell.specs.History.{IsLegal, history};
+ghost use Rattle.board_bench.specs.Watchers.{IsOf, HasSeen, gets_of};
 
 use board_cell::{CellError, ReaderPass, ThreadedCell, WriterPass};
 use std::alloc::Global;
@@ -15,6 +16,26 @@ pub struct Watcher {
     pub pass: ReaderPass,
     pub out: Vec<u64>,
     pub gets: u64,
+}
+
+/// A race that was run: the ends of the writer and of the readers, and how many gets these made.
+#[derive(Drop)]
+pub struct Outcome {
+    pub writer: WriterPass,
+    pub readers: Vec<ReaderPass>,
+    pub gets: u64,
+}
+
+impl Watcher {
+    /// Whether the last word is this number or a later one. A value without words is seen at once.
+    pub fn has_seen(&self, last: u64) -> bool
+        ensures { (result ≡ true) ↔ HasSeen last self.now }
+    {
+        match self.out.last() {
+            Some(word) => *word >= last,
+            None => true,
+        }
+    }
 }
 
 /// Updates the cell with 1, 2 and so on up to the last number, in each word.
@@ -40,15 +61,17 @@ pub fn write(
 /// Gets until the last number is seen.
 pub fn watch<R: Wait>(rt: &R, cell: &ThreadedCell, watcher: &mut Watcher, last: u64)
     requires { IsOf cell.now watcher.old }
-    ensures { IsOf cell.now watcher.new }
+    ensures kept { IsOf cell.now watcher.new }
+    ensures seen { HasSeen last watcher.new }
 {
-    for gets in 0..u64::MAX {
-        if watcher.out.last().is_none_or(|word| *word >= last) {
-            watcher.gets = gets;
+    'gets: for _ in rt.forever() {
+        if watcher.has_seen(last) {
             return;
         }
         cell.get(rt, &mut watcher.pass, &mut watcher.out);
+        watcher.gets = watcher.gets.saturating_add(1);
     }
+    unreachable!()
 }
 
 /// So many readers of the cell.
@@ -83,7 +106,9 @@ pub fn watch_all<R: Threads + Wait + Sync>(
     last: u64,
 ) -> Vec<Watcher>
     requires { All (IsOf cell.now) watchers.items }
-    ensures { All (IsOf cell.now) result.items }
+    ensures count { length result.items ≡ length watchers.items }
+    ensures kept { All (IsOf cell.now) result.items }
+    ensures seen { All (HasSeen last) result.items }
 {
     let threads = watchers.len().max(1);
     thread::for_each_mut(
@@ -92,7 +117,7 @@ pub fn watch_all<R: Threads + Wait + Sync>(
         threads,
         &|_, watcher: &mut Watcher|
             requires { IsSync R.row × IsOf cell.now watcher.now }
-            ensures { IsOf cell.entry.now watcher.exit.now }
+            ensures { IsOf cell.entry.now watcher.exit.now × HasSeen last watcher.exit.now }
         { watch(rt, cell, watcher, last) },
     );
     watchers
@@ -110,29 +135,34 @@ pub fn race<R: Threads + Wait + Sync>(
     requires writer { (writer.cell ≡ cell.now.cell) × (length words.items ≡ cell.now.width) × (length writer.published + last < 2 ^ 64) }
     requires watchers { All (IsOf cell.now) watchers.items }
     ensures writer { result.0.cell ≡ cell.now.cell }
-    ensures watchers { All (IsOf cell.now) result.1.items }
+    ensures published { length result.0.published ≡ length writer.published + last }
+    ensures count { length result.1.items ≡ length watchers.items }
+    ensures kept { All (IsOf cell.now) result.1.items }
+    ensures seen { All (HasSeen last) result.1.items }
 {
     thread::join(
         rt,
         move || -> WriterPass
             requires { (writer.cell ≡ cell.now.cell) × (length words.items ≡ cell.now.width) × (length writer.published + last < 2 ^ 64) }
-            ensures { result.cell ≡ cell.entry.now.cell }
+            ensures { (result.cell ≡ cell.entry.now.cell) × (length result.published ≡ length writer.published + last) }
         { write(cell, writer, words, last) },
         move || -> Vec<Watcher>
             requires { IsSync R.row × All (IsOf cell.now) watchers.items }
-            ensures { All (IsOf cell.entry.now) result.items }
+            ensures { (length result.items ≡ length watchers.items) × All (IsOf cell.entry.now) result.items × All (HasSeen last) result.items }
         { watch_all(rt, cell, watchers, last) },
     )
 }
 
-/// The readers' passes, and how many gets they made.
+/// The readers' passes, the last reader's first, and how many gets they made.
 pub fn passes_of(
     alloc: Global,
     cell: &ThreadedCell,
     mut watchers: Vec<Watcher>,
 ) -> Result<(Vec<ReaderPass>, u64), CellError>
     requires { All (IsOf cell.now) watchers.items }
-    ensures { IfOk result (λ r. All (λ (p : ReaderSeen). p.cell ≡ cell.now.cell) r.0.items) }
+    ensures cell { IfOk result (λ r. All (λ (p : ReaderSeen). p.cell ≡ cell.now.cell) r.0.items) }
+    ensures count { IfOk result (λ r. length r.0.items ≡ length watchers.items) }
+    ensures gets { IfOk result (λ r. r.1 ≡ gets_of r.0.items) }
 {
     let mut passes = Vec::new(alloc);
     let mut gets = 0u64;
@@ -148,15 +178,19 @@ pub fn passes_of(
     Ok((passes, gets))
 }
 
-/// A cell of this many words, a thread that makes so many updates, and so many that get until they have seen the last of them. Gives how many gets were made. The error is want of memory.
+/// A cell of this many words, a thread that makes so many updates, and so many that get until they have seen the last of them. The error is want of memory.
 pub fn run_shared<R: Threads + Wait + Sync>(
     rt: &R,
     alloc: Global,
     width: u64,
     readers: u64,
     updates: u64,
-) -> Result<u64, CellError>
+) -> Result<Outcome, CellError>
     requires { updates < 2 ^ 40 }
+    ensures updates { IfOk result (λ r. length r.writer.published ≡ updates + 1) }
+    ensures readers { IfOk result (λ r. length r.readers.items ≡ readers) }
+    ensures gets { IfOk result (λ r. r.gets ≡ gets_of r.readers.items) }
+    ensures legal { IfOk result (λ r. IsLegal (history r.writer.published (map notes_of r.readers.items))) }
 {
     let words = vec![in alloc; 0u64; width as usize]?;
     let (cell, writer, mut first) = ThreadedCell::new(alloc, &words)?;
@@ -165,5 +199,9 @@ pub fn run_shared<R: Threads + Wait + Sync>(
     let (mut passes, gets) = passes_of(alloc, &cell, watchers)?;
     cell.meet(&mut writer, &mut first);
     cell.gather(&mut writer, &mut passes);
-    Ok(gets)
+    Ok(Outcome {
+        writer,
+        readers: passes,
+        gets,
+    })
 }

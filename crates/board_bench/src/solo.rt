@@ -1,4 +1,4 @@
-ghost use Rattle.std.specs.Prelude.{◌≡◌, ◌+◌, ◌^◌, ◌<◌, length};
+ghost use Rattle.std.specs.Prelude.{◌≡◌, ◌+◌, ◌^◌, ◌<◌, length, IfOk};
 
 use board_cell::{CellError, ReaderPass, ThreadedCell, WriterPass};
 use std::alloc::Global;
@@ -39,22 +39,30 @@ pub fn updates(
     }
 }
 
-/// A cell of this many words, and this many gets of it. The error is want of memory.
-pub fn run_gets<R: Wait>(rt: &R, alloc: Global, width: u64, count: u64) -> Result<(), CellError> {
+/// A cell of this many words, and this many gets of it by the reader that is given back. The error is want of memory.
+pub fn run_gets<R: Wait>(
+    rt: &R,
+    alloc: Global,
+    width: u64,
+    count: u64,
+) -> Result<ReaderPass, CellError>
+    ensures { IfOk result (λ reader. length reader.notes ≡ count) }
+{
     let words = vec![in alloc; 7; width as usize]?;
     let mut out = vec![in alloc; 0; width as usize]?;
     let (cell, _writer, mut reader) = ThreadedCell::new(alloc, &words)?;
     gets(rt, &cell, &mut reader, &mut out, count);
-    Ok(())
+    Ok(reader)
 }
 
-/// A cell of this many words, and this many updates of it. The error is want of memory.
-pub fn run_updates(alloc: Global, width: u64, count: u64) -> Result<(), CellError>
+/// A cell of this many words, and this many updates of it by the writer that is given back. The error is want of memory.
+pub fn run_updates(alloc: Global, width: u64, count: u64) -> Result<WriterPass, CellError>
     requires { count < 2 ^ 40 }
+    ensures { IfOk result (λ writer. length writer.published ≡ count + 1) }
 {
     let one = vec![in alloc; 1; width as usize]?;
     let two = vec![in alloc; 2; width as usize]?;
     let (cell, mut writer, _reader) = ThreadedCell::new(alloc, &two)?;
     updates(&cell, &mut writer, &one, &two, count);
-    Ok(())
+    Ok(writer)
 }

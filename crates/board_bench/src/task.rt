@@ -1,6 +1,6 @@
-ghost use Rattle.std.specs.Prelude.{◌≡◌, map, IfOk, IfSome, string_bytes};
+ghost use Rattle.std.specs.Prelude.{ℕ, ◌≡◌, ◌^◌, ◌<◌, map, Some, IsSome, IfOk, IfSome, string_bytes};
 ghost use Rattle.std.specs.Fmt.{decimal};
-ghost use Rattle.board_bench.specs.Task.{IsTask, spelling, is_width};
+ghost use Rattle.board_bench.specs.Task.{IsTask, spelling};
 
 use std::alloc::{AllocError, Global};
 
@@ -28,9 +28,10 @@ pub enum Task {
 // The greatest count, and one more.
 const LIMIT: u64 = 1 << 40;
 
-/// The number that the word spells in decimal digits, without a sign or a leading zero.
+/// The number that the word spells in decimal digits, without a sign or a leading zero, if it does.
 pub fn number(alloc: Global, word: &str) -> Result<Option<u64>, AllocError>
-    ensures { IfOk result (λ o. IfSome o (λ n. word.now ≡ decimal n)) }
+    ensures spelled { IfOk result (λ o. IfSome o (λ n. word.now ≡ decimal n)) }
+    ensures found { (n : ℕ) → n < 2 ^ 64 → word.now ≡ decimal n → IfOk result (λ o. o ≡ Some n) }
 {
     let Ok(n) = word.parse::<u64>() else {
         return Ok(None);
@@ -41,7 +42,8 @@ pub fn number(alloc: Global, word: &str) -> Result<Option<u64>, AllocError>
 
 /// The task that the words spell, if they do.
 pub fn task_of(alloc: Global, words: &[String]) -> Result<Option<Task>, AllocError>
-    ensures { IfOk result (λ o. IfSome o (λ t. IsTask t × (map string_bytes words.now ≡ spelling t))) }
+    ensures spelled { IfOk result (λ o. IfSome o (λ t. IsTask t × (map string_bytes words.now ≡ spelling t))) }
+    ensures found { (t : Task) → IsTask t → map string_bytes words.now ≡ spelling t → IfOk result IsSome }
 {
     if words.len() != 4 {
         return Ok(None);

@@ -61,8 +61,9 @@ fn each_task_is_done(rt: HostRuntime) {
 #[test]
 fn readers_see_the_last_update(rt: HostRuntime) -> Result<(), Fail> {
     for readers in [1, 2, 3] {
-        let gets = run_shared(&rt, rt.alloc(), 4, readers, 1000)?;
-        assert!(rt; gets >= readers);
+        let outcome = run_shared(&rt, rt.alloc(), 4, readers, 1000)?;
+        assert!(rt; outcome.gets >= readers);
+        assert_eq!(rt; outcome.writer.generation(), 1001);
     }
     Ok(())
 }

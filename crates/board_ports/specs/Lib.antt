@@ -1,0 +1,2 @@
+pub mod EntryCalls
+pub mod Loans

@@ -1,0 +1,134 @@
+ghost use Rattle.std.specs.Prelude.{◌≡◌, ◌+◌, ◌^◌, ◌<◌, ◌≤◌, ◌↔◌, true, None, IfSome, length};
+ghost use Rattle.board_model.specs.Copies.{cell_end};
+ghost use Rattle.board_model.specs.LawfulSession.{all_put};
+ghost use Rattle.board_model.specs.Replies.{none_put};
+ghost use Rattle.board_ports.specs.EntryCalls.{put_of, publish_of, update_of};
+ghost use Rattle.board_ports.specs.Loans.{with_word, given_back};
+
+use crate::write_core::WriteCore;
+use board_cell::{PublishCall, PutCall, UpdateCall};
+use std::marker::Model;
+
+/// A write handle that is out as a loan: its next value is put word by word, and then published or discarded.
+#[derive(Drop, Debug)]
+pub struct LoanCore {
+    handle: WriteCore,
+    words: Vec<Option<u64>>,
+}
+
+impl Model for LoanCore {
+    ghost use Rattle.std.specs.Prelude.{◌≡◌, length};
+    ghost use Rattle.board_ports.specs.Loans.{LoanSeen};
+
+    ghost Value = { LoanSeen };
+
+    ghost view = { λ s. record { handle = s.handle; words = s.words.items } };
+
+    ghost invariant = { λ s. length s.words.items ≡ s.handle.shape.words };
+}
+
+impl LoanCore {
+    // The handle with these words put.
+    #[inline]
+    pub(crate) fn new(handle: WriteCore, words: Vec<Option<u64>>) -> LoanCore
+        requires { length words.items ≡ handle.shape.words }
+        ensures { result ≡ record { handle = handle; words = words.items } }
+    {
+        LoanCore { handle, words }
+    }
+
+    /// The handle that is out.
+    #[inline]
+    pub fn handle(&self) -> &WriteCore
+        ensures handle { result.now ≡ self.now.handle }
+        ensures width { length self.now.words ≡ self.now.handle.shape.words }
+    {
+        &self.handle
+    }
+
+    /// Puts this word at this index of the next value, or gives nothing where a value has no such word. `wrote` is called once it is done.
+    #[inline]
+    pub fn put(&self, index: u64, word: u64) -> Option<PutCall>
+        requires shape { cell_end self.now.handle.shape < 2 ^ 64 }
+        ensures beyond { (result ≡ None) ↔ (self.now.handle.shape.words ≤ index) }
+        ensures call { IfSome result (λ call. call ≡ put_of self.now.handle.shape self.now.handle.generation index word) }
+    {
+        let handle = &self.handle;
+        if index < handle.shape.words {
+            Some(PutCall::new(handle.shape, handle.generation, index, word))
+        } else {
+            None
+        }
+    }
+
+    /// The word was put.
+    #[inline]
+    pub fn wrote(&mut self, index: u64, word: u64)
+        requires index { index < self.old.handle.shape.words }
+        ensures { self.new ≡ with_word self.old index word }
+    {
+        self.words[index as usize] = Some(word);
+    }
+
+    /// Whether each word of the next value was put.
+    #[inline]
+    pub fn is_filled(&self) -> bool
+        ensures { result ≡ all_put self.now.words }
+    {
+        for word in self.words.as_slice() {
+            if word.is_none() {
+                return false;
+            }
+        }
+        true
+    }
+
+    /// Publishes the words that were put, all of them. `into_write(true)` is called once it is done.
+    #[inline]
+    pub fn publish(&self) -> PublishCall
+        requires filled { all_put self.now.words ≡ true }
+        requires room { self.now.handle.generation + 1 < 2 ^ 64 }
+        ensures { result ≡ publish_of self.now.handle.shape self.now.handle.generation }
+    {
+        PublishCall::new(self.handle.shape, self.handle.generation)
+    }
+
+    /// Publishes these words, whatever was put. `into_write(true)` is called once it is done.
+    #[inline]
+    pub fn fill(&self, words: Vec<u64>) -> UpdateCall
+        requires width { length words.items ≡ self.now.handle.shape.words }
+        requires shape { cell_end self.now.handle.shape < 2 ^ 64 }
+        requires room { self.now.handle.generation + 1 < 2 ^ 64 }
+        ensures { result ≡ update_of self.now.handle.shape self.now.handle.generation words.items }
+    {
+        self.handle.update(words)
+    }
+
+    /// Ends the loan, which was published or is discarded.
+    #[inline]
+    pub fn into_write(self, published: bool) -> WriteCore
+        requires room { published ≡ true → self.handle.generation + 1 < 2 ^ 64 }
+        ensures { result ≡ given_back published self.handle }
+    {
+        let (handle, _places) = self.into_parts(published);
+        handle
+    }
+
+    /// The same, and gives the buffer back with its places emptied, for the next loan.
+    #[inline]
+    pub fn into_parts(self, published: bool) -> (WriteCore, Vec<Option<u64>>)
+        requires room { published ≡ true → self.handle.generation + 1 < 2 ^ 64 }
+        ensures handle { result.0 ≡ given_back published self.handle }
+        ensures empty { result.1.items ≡ none_put self.handle.shape.words }
+    {
+        let LoanCore {
+            mut handle,
+            mut words,
+        } = self;
+        if published {
+            handle.published();
+        }
+        words.as_mut_slice().fill(None);
+        (handle, words)
+    }
+}
