@@ -1,3 +1,4 @@
 pub mod Entries
 pub mod Domain
 pub mod Told
+pub mod Descriptions

@@ -12,6 +12,7 @@ mod told;
 use crate::board_row::BoardRow;
 use crate::cells::Cells;
 use crate::counts::Held;
+use board_store::Statics;
 use std::alloc::Global;
 use std::marker::Model;
 
@@ -23,6 +24,7 @@ pub struct DomainCore<C: Cells> {
     boards: Vec<BoardRow>,
     things: Vec<Held>,
     cells: Vec<C>,
+    descriptions: Statics,
     last_board: u64,
     last_port: u64,
     last_thing: u64,
@@ -30,8 +32,8 @@ pub struct DomainCore<C: Cells> {
 }
 
 impl<C: Cells> Model for DomainCore<C> {
-    ghost use Rattle.std.specs.Prelude.{◌≡◌, length};
     ghost use Rattle.board_service.specs.Domain.{Domain};
+    ghost use Rattle.board_service.specs.Descriptions.{IsCore};
 
     ghost Value = { Domain C };
 
@@ -41,7 +43,7 @@ impl<C: Cells> Model for DomainCore<C> {
       cells = d.cells.items;
     } };
 
-    ghost invariant = { λ d. length d.cells.items ≡ length d.boards.items };
+    ghost invariant = { λ d. IsCore d.boards.items d.cells.items d.last_board d.descriptions };
 }
 
 impl<C: Cells> DomainCore<C> {
@@ -53,6 +55,7 @@ impl<C: Cells> DomainCore<C> {
             boards: Vec::new(alloc),
             things: Vec::new(alloc),
             cells: Vec::new(alloc),
+            descriptions: Statics::new(alloc),
             last_board: 0,
             last_port: 0,
             last_thing: 0,

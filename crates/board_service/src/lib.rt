@@ -5,6 +5,7 @@ mod board_row;
 mod board_words;
 mod cells;
 mod counts;
+mod descriptions;
 mod domain_core;
 mod ids;
 mod lookups;

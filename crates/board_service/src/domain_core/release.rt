@@ -5,6 +5,7 @@ ghost use Rattle.board_service.specs.Domain as domain;
 use super::DomainCore;
 use crate::cells::Cells;
 use crate::counts::has_thing_of;
+use crate::descriptions::let_go;
 use crate::ids::ThingId;
 use crate::lookups::{take_board, take_cells, take_thing};
 
@@ -20,7 +21,10 @@ impl<C: Cells> DomainCore<C> {
             return None;
         }
         match take_board(gone.board, &mut self.boards) {
-            Some(place) => Some(take_cells(place, &mut self.cells)),
+            Some(place) => {
+                let_go(&mut self.descriptions, gone.board);
+                Some(take_cells(place, &mut self.cells))
+            }
             None => None,
         }
     }

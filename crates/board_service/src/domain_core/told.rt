@@ -3,11 +3,13 @@ ghost use Rattle.std.specs.Prelude.{◌≡◌, find, option_map, is_some, IsSome
 ghost use Rattle.board_layout.specs.Keys.{details};
 ghost use Rattle.board_model.specs.Tables.{board_at};
 ghost use Rattle.board_service.specs.Domain as domain;
+ghost use Rattle.board_service.specs.Descriptions.{ShowsDescription};
 ghost use Rattle.board_service.specs.Told as told;
 
 use super::DomainCore;
 use crate::cells::Cells;
 use crate::counts::{node_at, nodes_taken, reader_slots, writer_slots};
+use crate::descriptions::path_of;
 use crate::ids::{NodeId, ThingId};
 use crate::lookups::{board_at, has_details, is_kind, thing_at, thing_of};
 use crate::told::{DynamicConfig, StaticConfig};
@@ -90,6 +92,13 @@ impl<C: Cells> DomainCore<C> {
             Some(b) => Some(b.attributes()),
             None => None,
         }
+    }
+
+    /// The board's description: its name, type of keys, limits and attributes, as bytes in the wire format of `Postcard`.
+    pub fn description_of(&self, board: u64) -> Option<&[u8]>
+        ensures { ShowsDescription (board_at self.now.tables board) (option_map (λ b. b.now) result) }
+    {
+        self.descriptions.bytes_of(&path_of(board))
     }
 
     /// The node at this place among those of the board, ascending.
