@@ -1,0 +1,4 @@
+pub mod Entries
+pub mod Domain
+pub mod Told
+pub mod Descriptions

@@ -1,0 +1,146 @@
+//! New boards.
+ghost use Rattle.std.specs.Prelude.{◌≡◌, ◌≤◌, ◌<◌, ◌^◌, None, length, map, All, IfOk, OnOk, OnErr};
+ghost use Rattle.board_layout.specs.Answer.{Answers, Refuses};
+ghost use Rattle.board_layout.specs.Keys.{details, same_keys};
+ghost use Rattle.board_layout.specs.Layout.{IsShape, payload, places_from};
+ghost use Rattle.board_model.specs.Tables.{shapes_of};
+ghost use Rattle.board_service.specs.Domain as domain;
+ghost use Rattle.board_service.specs.Entries.{added_of};
+ghost use Rattle.board_store.specs.Table.{at, putting};
+ghost use Rattle.board_store.specs.declared.statics.Stored.TheVariants.{Final};
+
+use super::DomainCore;
+use crate::board_row::BoardRow;
+use crate::cells::Cells;
+use crate::descriptions::{keep, path_of, spell};
+use crate::ids::{NodeId, ThingId};
+use crate::made::Made;
+use crate::new_entry::NewEntry;
+use crate::planned::{entries_for, plan_for};
+use crate::refusals::{create_refusal, limit_of};
+use board_concepts::{AttributeSet, Description};
+use board_layout::{BoardKey, Plan, TypeDetail, TypeVariant};
+use board_model::{BlackboardCreateError, Entries, Kind, Limits, Thing};
+use board_names::{FilePath, ServiceName};
+use board_store::Statics;
+use std::alloc::{AllocError, Global};
+
+// Makes the cells of a board, and keeps the bytes of its description under a name that is free. Where memory fails the name is free again.
+fn make_described<C: Cells>(
+    alloc: Global,
+    plan: &Plan,
+    entries: &Vec<NewEntry>,
+    descriptions: &mut Statics,
+    path: &FilePath,
+    bytes: &[u8],
+) -> Result<C, AllocError>
+    requires plan { plan.now.cells.items ≡ places_from 0 (shapes_of (map added_of entries.now.items)) }
+    requires small { payload (shapes_of (map added_of entries.now.items)) < 2 ^ 32 }
+    requires free { at descriptions.old path.now ≡ None }
+    ensures opened { IfOk result (λ c. C.opened plan.now.cells.items (map added_of entries.now.items) c) }
+    ensures ok { OnOk result (descriptions.new ≡ putting descriptions.old path.now (Final bytes.now)) }
+    ensures err { OnErr result (descriptions.new ≡ descriptions.old) }
+{
+    let Ok(()) = keep(descriptions, path, bytes) else {
+        return Err(AllocError);
+    };
+    match C::make(alloc, plan, entries) {
+        Ok(cells) => Ok(cells),
+        Err(_) => {
+            let _ = descriptions.remove(path);
+            Err(AllocError)
+        }
+    }
+}
+
+impl<C: Cells> DomainCore<C> {
+    /// Makes a board, and a factory of it for a node. `number` is the board's. A limit of `None` is 8 readers or 20 nodes; one of 0 is raised to 1.
+    ///
+    /// # Errors
+    /// The first that holds: `AlreadyExists`, a board of this name stands; `NoEntriesProvided`; `ServiceInCorruptedState`, two keys are equal by `K`, or the cells ask for more than 4294967295 bytes; `NumbersSpent`; `OutOfMemory`. All stays as it was.
+    pub fn create<K: BoardKey>(
+        &mut self,
+        node: NodeId,
+        name: &ServiceName,
+        limits: Limits,
+        attributes: AttributeSet,
+        entries: Vec<NewEntry>,
+    ) -> Result<Made, BlackboardCreateError>
+        requires size { 0 < length entries.items → K.SIZE ≤ 64 }
+        requires shapes { All IsShape (shapes_of (map added_of entries.items)) }
+        ensures answer { Answers result BlackboardCreateError.OutOfMemory (domain.create_answer self.old (same_keys K.eq K.value_of K.SIZE K.WORDS) name.now (map added_of entries.items)) }
+        ensures refused { Refuses result (domain.create_answer self.old (same_keys K.eq K.value_of K.SIZE K.WORDS) name.now (map added_of entries.items)) }
+        ensures ok { OnOk result ((c : C) × C.opened (places_from 0 (shapes_of (map added_of entries.items))) (map added_of entries.items) c × (self.new ≡ domain.after_create self.old node name.now (details K.type_bytes K.SIZE K.ALIGNMENT) limits attributes (map added_of entries.items) c)) }
+        ensures err { OnErr result (self.new ≡ self.old) }
+    {
+        let wanted = entries.as_slice();
+        let refusal = create_refusal::<K>(
+            name,
+            wanted,
+            &self.boards,
+            self.last_board,
+            self.last_thing,
+        );
+        if let Some(why) = refusal {
+            return Err(why);
+        }
+        let Ok(plan) = plan_for(self.alloc, wanted) else {
+            return Err(BlackboardCreateError::OutOfMemory);
+        };
+        let Ok(kept) = entries_for(self.alloc, &plan.cells, wanted) else {
+            return Err(BlackboardCreateError::OutOfMemory);
+        };
+        if self.boards.reserve(1).is_err()
+            || self.things.reserve(1).is_err()
+            || self.cells.reserve(1).is_err()
+        {
+            return Err(BlackboardCreateError::OutOfMemory);
+        }
+        let description = Description {
+            version: 1,
+            name: *name,
+            key: TypeDetail::new::<K>(TypeVariant::FixedSize),
+            max_readers: limit_of(8, limits.max_readers),
+            max_nodes: limit_of(20, limits.max_nodes),
+            attributes,
+        };
+        let Ok(bytes) = spell(self.alloc, &description) else {
+            return Err(BlackboardCreateError::OutOfMemory);
+        };
+        let path = path_of(self.last_board + 1);
+        let made = make_described(
+            self.alloc,
+            &plan,
+            &entries,
+            &mut self.descriptions,
+            &path,
+            &bytes,
+        );
+        let Ok(cells) = made else {
+            return Err(BlackboardCreateError::OutOfMemory);
+        };
+        self.last_board += 1;
+        self.last_thing += 1;
+        let thing = ThingId(self.last_thing);
+        self.cells.push_reserved(cells);
+        self.boards.push_reserved(BoardRow {
+            number: self.last_board,
+            name: description.name,
+            key: description.key,
+            max_readers: description.max_readers,
+            max_nodes: description.max_nodes,
+            attributes: description.attributes,
+            entries: Entries::from_vec(kept),
+        });
+        self.things.push_reserved(Thing {
+            holder: node,
+            name: thing,
+            board: self.last_board,
+            kind: Kind::Factory,
+        });
+        Ok(Made {
+            thing,
+            number: self.last_board,
+        })
+    }
+}

@@ -1,0 +1,121 @@
+//! Handles of entries.
+ghost use Rattle.std.specs.Prelude.{true, ◌≡◌, OnOk, OnErr};
+ghost use Rattle.board_layout.specs.Answer.{Answers, Refuses};
+ghost use Rattle.board_layout.specs.Keys.{details, is_key};
+ghost use Rattle.board_model.specs.Things.{cell_shape};
+ghost use Rattle.board_service.specs.Domain as domain;
+
+use super::DomainCore;
+use crate::cells::Cells;
+use crate::counts::{has_write_handle, port_of};
+use crate::ids::ThingId;
+use crate::lookups::{find_entry, thing_of};
+use crate::made::Found;
+use crate::refusals::LAST;
+use board_layout::{BoardKey, CellPlace, CellShape, TypeDetail};
+use board_model::{EntryHandleError, EntryHandleMutError, Kind, Thing, ThingKind};
+
+// Where the words of a planned cell lie.
+fn shape_of(cell: &CellPlace) -> CellShape
+    ensures { result ≡ cell_shape cell.now }
+{
+    CellShape {
+        first: cell.first,
+        head: cell.head,
+        words: cell.words,
+    }
+}
+
+impl<C: Cells> DomainCore<C> {
+    /// Makes a read handle of the entry with this key and these details of its values, from a reader of a board whose keys are `K`'s.
+    ///
+    /// # Errors
+    /// `EntryDoesNotExist` where no entry has an equal key, or its values are of another type; `NumbersSpent`; `OutOfMemory`. All stays as it was.
+    pub fn entry<K: BoardKey>(
+        &mut self,
+        reader: ThingId,
+        key: &K,
+        value: &TypeDetail,
+    ) -> Result<Found, EntryHandleError>
+        requires { domain.is_held self.old (details K.type_bytes K.SIZE K.ALIGNMENT) reader ThingKind.Reader ≡ true }
+        ensures answer { Answers result EntryHandleError.OutOfMemory (domain.entry_answer self.old (domain.entry_for self.old (domain.held self.old reader) (is_key K.eq K.value_of K.SIZE K.WORDS key.now) value.now)) }
+        ensures refused { Refuses result (domain.entry_answer self.old (domain.entry_for self.old (domain.held self.old reader) (is_key K.eq K.value_of K.SIZE K.WORDS key.now) value.now)) }
+        ensures ok { OnOk result (self.new ≡ domain.after_entry self.old (domain.held self.old reader) (domain.entry_for self.old (domain.held self.old reader) (is_key K.eq K.value_of K.SIZE K.WORDS key.now) value.now)) }
+        ensures err { OnErr result (self.new ≡ self.old) }
+    {
+        let of = thing_of(reader, &self.things);
+        let Some((entry, found)) = find_entry::<K>(of.board, key, value, &self.boards) else {
+            return Err(EntryHandleError::EntryDoesNotExist);
+        };
+        let cell = found.cell;
+        if self.last_thing >= LAST {
+            return Err(EntryHandleError::NumbersSpent);
+        }
+        if self.things.reserve(1).is_err() {
+            return Err(EntryHandleError::OutOfMemory);
+        }
+        self.last_thing += 1;
+        let thing = ThingId(self.last_thing);
+        self.things.push_reserved(Thing {
+            holder: of.holder,
+            name: thing,
+            board: of.board,
+            kind: Kind::ReadHandle { entry },
+        });
+        Ok(Found {
+            thing,
+            entry,
+            place: cell.place,
+            shape: shape_of(&cell),
+        })
+    }
+
+    /// Makes a write handle of the entry with this key and these details of its values, from a writer of a board whose keys are `K`'s.
+    ///
+    /// # Errors
+    /// `EntryDoesNotExist` as for `entry`; `HandleAlreadyExists` where a write handle of the entry stands; `NumbersSpent`; `OutOfMemory`. All stays as it was.
+    pub fn entry_mut<K: BoardKey>(
+        &mut self,
+        writer: ThingId,
+        key: &K,
+        value: &TypeDetail,
+    ) -> Result<Found, EntryHandleMutError>
+        requires { domain.is_held self.old (details K.type_bytes K.SIZE K.ALIGNMENT) writer ThingKind.Writer ≡ true }
+        ensures answer { Answers result EntryHandleMutError.OutOfMemory (domain.entry_mut_answer self.old (domain.held self.old writer) (domain.entry_for self.old (domain.held self.old writer) (is_key K.eq K.value_of K.SIZE K.WORDS key.now) value.now)) }
+        ensures refused { Refuses result (domain.entry_mut_answer self.old (domain.held self.old writer) (domain.entry_for self.old (domain.held self.old writer) (is_key K.eq K.value_of K.SIZE K.WORDS key.now) value.now)) }
+        ensures ok { OnOk result (self.new ≡ domain.after_entry_mut self.old (domain.held self.old writer) (domain.entry_for self.old (domain.held self.old writer) (is_key K.eq K.value_of K.SIZE K.WORDS key.now) value.now)) }
+        ensures err { OnErr result (self.new ≡ self.old) }
+    {
+        let of = thing_of(writer, &self.things);
+        let Some((entry, found)) = find_entry::<K>(of.board, key, value, &self.boards) else {
+            return Err(EntryHandleMutError::EntryDoesNotExist);
+        };
+        let cell = found.cell;
+        if has_write_handle(of.board, entry, &self.things) {
+            return Err(EntryHandleMutError::HandleAlreadyExists);
+        }
+        if self.last_thing >= LAST {
+            return Err(EntryHandleMutError::NumbersSpent);
+        }
+        if self.things.reserve(1).is_err() {
+            return Err(EntryHandleMutError::OutOfMemory);
+        }
+        self.last_thing += 1;
+        let thing = ThingId(self.last_thing);
+        self.things.push_reserved(Thing {
+            holder: of.holder,
+            name: thing,
+            board: of.board,
+            kind: Kind::WriteHandle {
+                entry,
+                port: port_of(&of.kind),
+            },
+        });
+        Ok(Found {
+            thing,
+            entry,
+            place: cell.place,
+            shape: shape_of(&cell),
+        })
+    }
+}

@@ -1,0 +1,31 @@
+//! The end of things, and of boards with their last one.
+ghost use Rattle.std.specs.Prelude.{◌≡◌, find, IsSome};
+ghost use Rattle.board_service.specs.Domain as domain;
+
+use super::DomainCore;
+use crate::cells::Cells;
+use crate::counts::has_thing_of;
+use crate::descriptions::let_go;
+use crate::ids::ThingId;
+use crate::lookups::{take_board, take_cells, take_thing};
+
+impl<C: Cells> DomainCore<C> {
+    /// Ends a thing. Where it was its board's last, the board goes, and its cells are handed back. Takes no memory.
+    pub fn release(&mut self, thing: ThingId) -> Option<C>
+        requires { IsSome (find (domain.is_thing thing) self.old.tables.things) }
+        ensures back { result ≡ domain.handed_back self.old thing (domain.held self.old thing).board }
+        ensures after { self.new ≡ domain.after_release self.old thing (domain.held self.old thing).board }
+    {
+        let gone = take_thing(thing, &mut self.things);
+        if has_thing_of(gone.board, &self.things) {
+            return None;
+        }
+        match take_board(gone.board, &mut self.boards) {
+            Some(place) => {
+                let_go(&mut self.descriptions, gone.board);
+                Some(take_cells(place, &mut self.cells))
+            }
+            None => None,
+        }
+    }
+}

@@ -1,0 +1,126 @@
+//! What is told of things and boards.
+ghost use Rattle.std.specs.Prelude.{◌≡◌, find, option_map, is_some, IsSome};
+ghost use Rattle.board_layout.specs.Keys.{details};
+ghost use Rattle.board_model.specs.Tables.{board_at};
+ghost use Rattle.board_service.specs.Domain as domain;
+ghost use Rattle.board_service.specs.Descriptions.{ShowsDescription};
+ghost use Rattle.board_service.specs.Told as told;
+
+use super::DomainCore;
+use crate::cells::Cells;
+use crate::counts::{node_at, nodes_taken, reader_slots, writer_slots};
+use crate::descriptions::path_of;
+use crate::ids::{NodeId, ThingId};
+use crate::lookups::{board_at, has_details, is_kind, thing_at, thing_of};
+use crate::told::{DynamicConfig, StaticConfig};
+use board_concepts::AttributeSet;
+use board_layout::{BoardKey, KeyMemory, TypeDetail, TypeVariant};
+use board_model::ThingKind;
+use board_names::ServiceName;
+
+impl<C: Cells> DomainCore<C> {
+    /// The number of a thing's board.
+    pub fn board_of(&self, thing: ThingId) -> u64
+        requires { IsSome (find (domain.is_thing thing) self.now.tables.things) }
+        ensures { result ≡ (domain.held self.now thing).board }
+    {
+        thing_of(thing, &self.things).board
+    }
+
+    /// Whether the board stands.
+    pub fn stands(&self, board: u64) -> bool
+        ensures { result ≡ is_some (board_at self.now.tables board) }
+    {
+        board_at(board, &self.boards).is_some()
+    }
+
+    /// Whether the thing stands, is of the kind, and its board's keys are of type `K`.
+    pub fn is_held<K: BoardKey>(&self, thing: ThingId, kind: ThingKind) -> bool
+        ensures { result ≡ domain.is_held self.now (details K.type_bytes K.SIZE K.ALIGNMENT) thing kind }
+    {
+        let key = TypeDetail::new::<K>(TypeVariant::FixedSize);
+        match thing_at(thing, &self.things) {
+            Some(t) => is_kind(kind, &t.kind) && has_details(t.board, &key, &self.boards),
+            None => false,
+        }
+    }
+
+    /// The board's name.
+    pub fn name_of(&self, board: u64) -> Option<&ServiceName>
+        ensures { option_map (λ n. n.now) result ≡ option_map (λ b. b.name) (board_at self.now.tables board) }
+    {
+        match board_at(board, &self.boards) {
+            Some(b) => Some(b.name()),
+            None => None,
+        }
+    }
+
+    /// What is fixed of the board.
+    pub fn config_of(&self, board: u64) -> Option<StaticConfig>
+        ensures { result ≡ option_map told.config (board_at self.now.tables board) }
+    {
+        match board_at(board, &self.boards) {
+            Some(b) => Some(StaticConfig {
+                type_details: *b.key(),
+                max_readers: b.max_readers(),
+                max_nodes: b.max_nodes(),
+                entries: b.entries().len() as u64,
+            }),
+            None => None,
+        }
+    }
+
+    /// How much of the board is taken: the readers, the writer slots, and the nodes with a thing of it.
+    pub fn use_of(&self, board: u64) -> Option<DynamicConfig>
+        ensures { result ≡ option_map (told.use_in self.now.tables.things) (board_at self.now.tables board) }
+    {
+        match board_at(board, &self.boards) {
+            Some(b) => Some(DynamicConfig {
+                readers: reader_slots(b.number(), &self.things),
+                writers: writer_slots(b.number(), &self.things),
+                nodes: nodes_taken(b.number(), &self.things),
+            }),
+            None => None,
+        }
+    }
+
+    /// The board's attributes.
+    pub fn attributes_of(&self, board: u64) -> Option<&AttributeSet>
+        ensures { option_map (λ a. a.now) result ≡ option_map (λ b. b.attributes) (board_at self.now.tables board) }
+    {
+        match board_at(board, &self.boards) {
+            Some(b) => Some(b.attributes()),
+            None => None,
+        }
+    }
+
+    /// The board's description: its name, type of keys, limits and attributes, as bytes in the wire format of `Postcard`.
+    pub fn description_of(&self, board: u64) -> Option<&[u8]>
+        ensures { ShowsDescription (board_at self.now.tables board) (option_map (λ b. b.now) result) }
+    {
+        self.descriptions.bytes_of(&path_of(board))
+    }
+
+    /// The node at this place among those of the board, ascending.
+    pub fn node_at(&self, board: u64, index: u64) -> Option<NodeId>
+        ensures { result ≡ told.node_in index self.now.tables.things (board_at self.now.tables board) }
+    {
+        match board_at(board, &self.boards) {
+            Some(b) => node_at(b.number(), index, &self.things),
+            None => None,
+        }
+    }
+
+    /// The key at this place among those of the board, in the order of adding.
+    pub fn key_at(&self, board: u64, index: u64) -> Option<KeyMemory<64>>
+        ensures { option_map (λ k. k.bytes) result ≡ told.key_in index (board_at self.now.tables board) }
+    {
+        match board_at(board, &self.boards) {
+            Some(b) => match b.entries().get(index as usize) {
+                Some(e) => Some(e.key),
+                None => None,
+            },
+            None => None,
+        }
+    }
+}

@@ -1,0 +1,213 @@
+//! What stands in the tables.
+ghost use Rattle.std.specs.Prelude.{◌≡◌, ◌≤◌, ◌<◌, ◌==◌, length, Option, option_map, find, slice_get, remove, Some, OnSome, ◌+◌, MatchOption, IfSome, IfNone, IsSome, nat_le, true};
+ghost use Rattle.std.specs.List.{list_any, position_from};
+ghost use Rattle.board_layout.specs.Keys as keys;
+ghost use Rattle.board_model.specs.Tables as tables;
+ghost use Rattle.board_model.specs.TypeTable as types;
+ghost use Rattle.board_service.specs.Domain as domain;
+
+use crate::board_row::BoardRow;
+use crate::counts::{Held, reader_slots};
+use crate::ids::ThingId;
+use board_layout::{BoardKey, TypeDetail, TypeVariant, is_key};
+use board_model::{Entry, Kind, ThingKind};
+use board_names::ServiceName;
+
+/// The board with the number.
+pub(crate) fn board_at(number: u64, boards: &[BoardRow]) -> Option<&BoardRow>
+    ensures { option_map (λ b. b.now) result ≡ find (tables.is_numbered number) boards.now }
+{
+    boards.iter().find(|b| b.number() == number)
+}
+
+/// The board with the name.
+pub(crate) fn board_named<'a>(name: &ServiceName, boards: &'a [BoardRow]) -> Option<&'a BoardRow>
+    ensures { option_map (λ b. b.now) result ≡ find (tables.has_name name.now) boards.now }
+{
+    boards.iter().find(|b| *b.name() == *name)
+}
+
+/// Where the board with the number stands.
+pub(crate) fn place_of_board(number: u64, boards: &[BoardRow]) -> Option<usize>
+    ensures { result ≡ position_from (tables.is_numbered number) 0 boards.now }
+{
+    for (i, board) in boards.iter().enumerate() {
+        if board.number() == number {
+            return Some(i);
+        }
+    }
+    None
+}
+
+/// The thing with the number, where it stands.
+pub(crate) fn thing_at(number: ThingId, things: &[Held]) -> Option<&Held>
+    ensures { option_map (λ t. t.now) result ≡ find (domain.is_thing number) things.now }
+{
+    things.iter().find(|t| t.name == number)
+}
+
+/// The thing with the number, which stands.
+pub(crate) fn thing_of(number: ThingId, things: &[Held]) -> Held
+    requires { IsSome (find (domain.is_thing number) things.now) }
+    ensures { result ≡ domain.thing_of number things.now }
+{
+    match thing_at(number, things) {
+        Some(t) => *t,
+        None => unreachable!(),
+    }
+}
+
+fn place_of_thing(number: ThingId, things: &[Held]) -> Option<usize>
+    ensures { result ≡ position_from (domain.is_thing number) 0 things.now }
+{
+    for (i, thing) in things.iter().enumerate() {
+        if thing.name == number {
+            return Some(i);
+        }
+    }
+    None
+}
+
+/// Takes the thing with the number out.
+pub(crate) fn take_thing(number: ThingId, things: &mut Vec<Held>) -> Held
+    requires { IsSome (find (domain.is_thing number) things.old.items) }
+    ensures taken { result ≡ domain.thing_of number things.old.items }
+    ensures rest { things.new.items ≡ tables.without (domain.is_thing number) things.old.items }
+{
+    match place_of_thing(number, things) {
+        Some(i) => things.remove(i),
+        None => unreachable!(),
+    }
+}
+
+/// Takes the board with the number out, and tells where it stood.
+pub(crate) fn take_board(number: u64, boards: &mut Vec<BoardRow>) -> Option<usize>
+    ensures place { result ≡ position_from (tables.is_numbered number) 0 boards.old.items }
+    ensures rest { boards.new.items ≡ tables.without (tables.is_numbered number) boards.old.items }
+    ensures inside { IfSome result (λ i. i < length boards.old.items) }
+    ensures shorter { OnSome result (length boards.new.items + 1 ≡ length boards.old.items) }
+    ensures same { IfNone result (boards.new.items ≡ boards.old.items) }
+{
+    match place_of_board(number, boards) {
+        Some(i) => {
+            let _ = boards.remove(i);
+            Some(i)
+        }
+        None => None,
+    }
+}
+
+/// Takes what stands at a place.
+pub(crate) fn take_cells<C>(place: usize, cells: &mut Vec<C>) -> C
+    requires { place < length cells.old.items }
+    ensures taken { slice_get cells.old.items place ≡ Some result }
+    ensures rest { cells.new.items ≡ remove cells.old.items place }
+    ensures shorter { length cells.new.items + 1 ≡ length cells.old.items }
+{
+    cells.remove(place)
+}
+
+/// Whether the board has as many readers as it may have.
+pub(crate) fn has_all_readers(board: u64, boards: &[BoardRow], things: &[Held]) -> bool
+    ensures { result ≡ tables.holds_at (find (tables.is_numbered board) boards.now) (λ b. nat_le b.max_readers (tables.reader_slots b.number things.now)) }
+{
+    match board_at(board, boards) {
+        Some(b) => b.max_readers() <= reader_slots(b.number(), things),
+        None => false,
+    }
+}
+
+/// Whether a thing is of the kind.
+pub(crate) fn is_kind(kind: ThingKind, of: &Kind) -> bool
+    ensures { result ≡ tables.same_kind (tables.kind_of of.now) kind }
+{
+    match (of, kind) {
+        (Kind::Factory, ThingKind::Factory) => true,
+        (Kind::Reader { port: _ }, ThingKind::Reader) => true,
+        (Kind::Writer { port: _ }, ThingKind::Writer) => true,
+        (Kind::ReadHandle { entry: _ }, ThingKind::ReadHandle) => true,
+        (Kind::WriteHandle { entry: _, port: _ }, ThingKind::WriteHandle) => true,
+        _ => false,
+    }
+}
+
+fn same_variant(a: TypeVariant, b: TypeVariant) -> bool
+    ensures { result ≡ types.same_variant a b }
+{
+    match (a, b) {
+        (TypeVariant::FixedSize, TypeVariant::FixedSize) => true,
+        (TypeVariant::Dynamic, TypeVariant::Dynamic) => true,
+        _ => false,
+    }
+}
+
+/// Whether these are the details of one type.
+pub(crate) fn same_type(a: &TypeDetail, b: &TypeDetail) -> bool
+    ensures { result ≡ types.same_type a.now b.now }
+{
+    same_variant(a.variant, b.variant)
+        && a.type_name == b.type_name
+        && a.size == b.size
+        && a.alignment == b.alignment
+}
+
+/// Whether the board has keys of this type.
+pub(crate) fn has_details(board: u64, key: &TypeDetail, boards: &[BoardRow]) -> bool
+    ensures { result ≡ tables.holds_at (find (tables.is_numbered board) boards.now) (λ b. types.same_type b.key key.now) }
+{
+    match board_at(board, boards) {
+        Some(b) => same_type(b.key(), key),
+        None => false,
+    }
+}
+
+fn entry_from<'a, K: BoardKey>(key: &K, entries: &'a [Entry]) -> Option<(u64, &'a Entry)>
+    requires { K.SIZE ≤ 64 }
+    ensures { option_map (λ f. (f.0, f.1.now)) result ≡ tables.entry_from 0 (keys.is_key K.eq K.value_of K.SIZE K.WORDS key.now) entries.now }
+{
+    for (i, entry) in entries.iter().enumerate() {
+        if is_key::<K>(key, &entry.key) {
+            return Some((i as u64, entry));
+        }
+    }
+    None
+}
+
+fn of_type<'a>(value: &TypeDetail, found: Option<(u64, &'a Entry)>) -> Option<(u64, &'a Entry)>
+    ensures { option_map (λ f. (f.0, f.1.now)) result ≡ tables.of_type value.now (option_map (λ f. (f.0, f.1.now)) found.entry) }
+{
+    match found {
+        Some(f) => {
+            if same_type(&f.1.value, value) {
+                Some(f)
+            } else {
+                None
+            }
+        }
+        None => None,
+    }
+}
+
+/// The entry of a board with the key and the type of values, with its place. The board's keys are of the key's type.
+pub(crate) fn find_entry<'a, K: BoardKey>(
+    number: u64,
+    key: &K,
+    value: &TypeDetail,
+    boards: &'a [BoardRow],
+) -> Option<(u64, &'a Entry)>
+    requires { tables.holds_at (find (tables.is_numbered number) boards.now) (λ b. types.same_type b.key (keys.details K.type_bytes K.SIZE K.ALIGNMENT)) ≡ true }
+    ensures { option_map (λ f. (f.0, f.1.now)) result ≡ tables.entry_found (find (tables.is_numbered number) boards.now) (keys.is_key K.eq K.value_of K.SIZE K.WORDS key.now) value.now }
+{
+    match board_at(number, boards) {
+        Some(board) => of_type(value, entry_with::<K>(key, board)),
+        None => None,
+    }
+}
+
+// The entry of a board with the key, with its place.
+fn entry_with<'a, K: BoardKey>(key: &K, board: &'a BoardRow) -> Option<(u64, &'a Entry)>
+    requires { types.same_type board.now.key (keys.details K.type_bytes K.SIZE K.ALIGNMENT) ≡ true }
+    ensures { option_map (λ f. (f.0, f.1.now)) result ≡ tables.entry_from 0 (keys.is_key K.eq K.value_of K.SIZE K.WORDS key.now) board.now.entries }
+{
+    entry_from::<K>(key, board.entries.as_slice())
+}

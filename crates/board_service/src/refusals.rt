@@ -1,0 +1,158 @@
+//! Why boards are not made and not opened. None of these functions takes memory.
+ghost use Rattle.std.specs.Prelude.{◌≡◌, ◌≤◌, ◌<◌, ◌-◌, ◌^◌, ◌||◌, ◌∷◌, [], ◌++◌, find, map, length, nat_eq, All, IfNone, None};
+ghost use Rattle.std.specs.List.{list_any};
+ghost use Rattle.board_layout.specs.Keys as keys;
+ghost use Rattle.board_layout.specs.Layout.{IsShape, payload};
+ghost use Rattle.board_model.specs.Tables as tables;
+ghost use Rattle.board_model.specs.TableCalls as calls;
+ghost use Rattle.board_service.specs.Domain.{spent};
+ghost use Rattle.board_service.specs.Entries.{added_of};
+
+use crate::board_row::BoardRow;
+use crate::counts::{Held, is_node, nodes_taken};
+use crate::ids::NodeId;
+use crate::lookups::{board_named, same_type};
+use crate::new_entry::NewEntry;
+use crate::planned::is_too_large;
+use board_concepts::AttributeVerifier;
+use board_layout::{BoardKey, KeyMemory, TypeDetail, same_keys};
+use board_model::{BlackboardCreateError, BlackboardOpenError, Limits};
+use board_names::ServiceName;
+
+/// The last number from which no other is drawn: 2^64 - 2.
+pub(crate) const LAST: u64 = 18446744073709551614;
+
+fn has_name(name: &ServiceName, boards: &[BoardRow]) -> bool
+    ensures { result ≡ list_any (tables.has_name name.now) boards.now }
+{
+    boards.iter().any(|b| *b.name() == *name)
+}
+
+fn has_key<K: BoardKey>(key: &KeyMemory<64>, entries: &[NewEntry]) -> bool
+    requires { K.SIZE ≤ 64 }
+    ensures { result ≡ tables.has_key (keys.same_keys K.eq K.value_of K.SIZE K.WORDS) key.now.bytes (map added_of entries.now) }
+{
+    for entry in entries {
+        if same_keys::<K>(&entry.key, key) {
+            return true;
+        }
+    }
+    false
+}
+
+fn has_equal_keys<K: BoardKey>(entries: &[NewEntry]) -> bool
+    requires { K.SIZE ≤ 64 }
+    ensures { result ≡ tables.has_equal_keys (keys.same_keys K.eq K.value_of K.SIZE K.WORDS) (map added_of entries.now) }
+{
+    for (i, entry) in entries.iter().enumerate() {
+        if has_key::<K>(&entry.key, &entries[i + 1..]) {
+            return true;
+        }
+    }
+    false
+}
+
+/// Why a board is not made.
+pub(crate) fn create_refusal<K: BoardKey>(
+    name: &ServiceName,
+    entries: &[NewEntry],
+    boards: &[BoardRow],
+    last_board: u64,
+    last_thing: u64,
+) -> Option<BlackboardCreateError>
+    requires size { 0 < length entries.now → K.SIZE ≤ 64 }
+    requires shapes { All IsShape (tables.shapes_of (map added_of entries.now)) }
+    ensures first { result ≡ calls.first_of (calls.create_refusals (keys.same_keys K.eq K.value_of K.SIZE K.WORDS) boards.now name.now (map added_of entries.now) ++ (spent last_board || spent last_thing, BlackboardCreateError.NumbersSpent) ∷ []) }
+    ensures small { IfNone result (payload (tables.shapes_of (map added_of entries.now)) < 2 ^ 32) }
+    ensures key { IfNone result (K.SIZE ≤ 64) }
+    ensures below { IfNone result ((last_board < 2 ^ 64 - 2) × (last_thing < 2 ^ 64 - 2)) }
+{
+    if has_name(name, boards) {
+        return Some(BlackboardCreateError::AlreadyExists);
+    }
+    if entries.is_empty() {
+        return Some(BlackboardCreateError::NoEntriesProvided);
+    }
+    if has_equal_keys::<K>(entries) || is_too_large(entries) {
+        return Some(BlackboardCreateError::ServiceInCorruptedState);
+    }
+    if last_board >= LAST || last_thing >= LAST {
+        return Some(BlackboardCreateError::NumbersSpent);
+    }
+    None
+}
+
+fn asks_above(asked: Option<u64>, limit: u64) -> bool
+    ensures { result ≡ calls.asks_above asked limit }
+{
+    match asked {
+        Some(n) => limit < n,
+        None => false,
+    }
+}
+
+// Whether the node has no thing of the board, and as many have one as may.
+fn has_all_nodes(node: NodeId, board: &BoardRow, things: &[Held]) -> bool
+    ensures { result ≡ calls.has_all_nodes nat_eq node things.now board.now }
+{
+    !is_node(board.number(), node, things)
+        && board.max_nodes() <= nodes_taken(board.number(), things)
+}
+
+/// Why a board is not opened.
+pub(crate) fn open_refusal(
+    node: NodeId,
+    name: &ServiceName,
+    key: &TypeDetail,
+    limits: &Limits,
+    needs: &AttributeVerifier,
+    boards: &[BoardRow],
+    things: &[Held],
+    last_thing: u64,
+) -> Option<BlackboardOpenError>
+    ensures first { result ≡ calls.first_of (calls.open_refusals nat_eq things.now node (find (tables.has_name name.now) boards.now) key.now limits.now needs.now ++ (spent last_thing, BlackboardOpenError.NumbersSpent) ∷ []) }
+    ensures below { IfNone result (last_thing < 2 ^ 64 - 2) }
+{
+    let Some(board) = board_named(name, boards) else {
+        return Some(BlackboardOpenError::DoesNotExist);
+    };
+    if !same_type(board.key(), key) {
+        return Some(BlackboardOpenError::IncompatibleKeys);
+    }
+    if !needs.verify_requirements(board.attributes()) {
+        return Some(BlackboardOpenError::IncompatibleAttributes);
+    }
+    if asks_above(limits.max_readers, board.max_readers()) {
+        return Some(BlackboardOpenError::DoesNotSupportRequestedAmountOfReaders);
+    }
+    if asks_above(limits.max_nodes, board.max_nodes()) {
+        return Some(BlackboardOpenError::DoesNotSupportRequestedAmountOfNodes);
+    }
+    if has_all_nodes(node, board, things) {
+        return Some(BlackboardOpenError::ExceedsMaxNumberOfNodes);
+    }
+    if last_thing >= LAST {
+        return Some(BlackboardOpenError::NumbersSpent);
+    }
+    None
+}
+
+/// The number of the board with the name.
+pub(crate) fn number_of_named(name: &ServiceName, boards: &[BoardRow]) -> u64
+    ensures { result ≡ calls.number_of (find (tables.has_name name.now) boards.now) }
+{
+    match board_named(name, boards) {
+        Some(b) => b.number(),
+        None => 0,
+    }
+}
+
+/// The limit that was asked for, raised to 1, or the default.
+pub(crate) fn limit_of(default: u64, asked: Option<u64>) -> u64
+    ensures { result ≡ tables.limit_of default asked }
+{
+    match asked {
+        Some(n) => n.max(1),
+        None => default,
+    }
+}
