@@ -127,6 +127,7 @@ begins word (t ∷ ts) = bytes_eq t word
 unfoldable pub read_limit : List ℕ → List (List ℕ) → Option (Option ℕ × List (List ℕ))
 read_limit word ts = if begins word ts then (first_by read_number (drop 1 ts) >>= λ n. Some (Some n.0, n.1)) else Some (None, ts)
 
+-- the limit of readers, and then that of nodes
 unfoldable pub read_limits : List (List ℕ) → Option (Limits × List (List ℕ))
 read_limits ts =
     read_limit (codes "readers") ts >>= λ r. read_limit (codes "nodes") r.1 >>= λ n.
@@ -138,9 +139,11 @@ read_parts zero word read ts = Some ([], ts)
 read_parts (suc most) word read ts =
     if begins word ts then (read (drop 1 ts) >>= λ x. read_parts most word read x.1 >>= λ xs. Some (x.0 ∷ xs.0, xs.1)) else Some ([], ts)
 
+-- a key and a value
 unfoldable pub read_pair : List (List ℕ) → Option (Attribute × List (List ℕ))
 read_pair ts = first_by read_attribute_key ts >>= λ k. first_by read_attribute_value k.1 >>= λ v. Some (record { key = k.0; value = v.0 }, v.1)
 
+-- the pairs that an opener needs, and then the keys
 unfoldable pub read_needs : List (List ℕ) → Option (Requirements × List (List ℕ))
 read_needs ts =
     read_parts 8 (codes "need") read_pair ts >>= λ pairs. read_parts 8 (codes "needkey") (first_by read_attribute_key) pairs.1 >>= λ keys.
@@ -157,6 +160,7 @@ read_entries (word ∷ []) = None
 read_entries (word ∷ k ∷ []) = None
 read_entries (word ∷ k ∷ v ∷ rest) = read_entry word k v >>= λ e. read_entries rest >>= λ es. Some (e ∷ es)
 
+-- limits, attributes and entries may follow the type of the keys
 unfoldable pub read_create : List (List ℕ) → Option Call
 read_create ts =
     first_by read_name ts >>= λ f. first_by read_board_name f.1 >>= λ n. first_by read_key_type n.1 >>= λ k.
@@ -174,6 +178,7 @@ unfoldable pub read_name_if_any : List (List ℕ) → Option (Option (List ℕ))
 read_name_if_any [] = Some None
 read_name_if_any (t ∷ ts) = read_name t >>= λ n. guard (is_end ts) (Some (Some n))
 
+-- limits and needs may follow the type of the keys
 unfoldable pub read_open : List (List ℕ) → Option Call
 read_open ts =
     first_by read_name ts >>= λ f. first_by read_board_name f.1 >>= λ n. first_by read_key_type n.1 >>= λ k.
