@@ -22,3 +22,6 @@ pub use ids::{NodeId, ThingId};
 pub use made::{Found, Made};
 pub use new_entry::NewEntry;
 pub use told::{DynamicConfig, StaticConfig};
+
+#[cfg(test)]
+mod tests;

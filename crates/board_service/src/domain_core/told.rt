@@ -1,5 +1,6 @@
 //! What is told of things and boards.
 ghost use Rattle.std.specs.Prelude.{◌≡◌, find, option_map, is_some, IsSome};
+ghost use Rattle.std.specs.Bool.{OnTrue};
 ghost use Rattle.board_layout.specs.Keys.{details};
 ghost use Rattle.board_model.specs.Tables.{board_at};
 ghost use Rattle.board_service.specs.Domain as domain;
@@ -36,7 +37,8 @@ impl<C: Cells> DomainCore<C> {
 
     /// Whether the thing stands, is of the kind, and its board's keys are of type `K`.
     pub fn is_held<K: BoardKey>(&self, thing: ThingId, kind: ThingKind) -> bool
-        ensures { result ≡ domain.is_held self.now (details K.type_bytes K.SIZE K.ALIGNMENT) thing kind }
+        ensures value { result ≡ domain.is_held self.now (details K.type_bytes K.SIZE K.ALIGNMENT) thing kind }
+        ensures stands { OnTrue result (IsSome (find (domain.is_thing thing) self.now.tables.things)) }
     {
         let key = TypeDetail::new::<K>(TypeVariant::FixedSize);
         match thing_at(thing, &self.things) {
