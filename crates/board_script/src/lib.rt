@@ -18,10 +18,11 @@ mod top;
 mod values;
 
 pub use board_lines::{
-    Failed, MemorySink, MemorySource, RunsLines, ScriptError, Sink, SinkError, Source,
+    Failed, Fetched, LineError, LineReader, MemorySink, MemorySource, RunsLines, ScriptError, Sink,
+    SinkError, Source,
 };
 pub use machine::Machine;
-pub use script::run_script;
+pub use script::{run_script, run_script_within};
 pub use top::run_words;
 
 #[cfg(test)]

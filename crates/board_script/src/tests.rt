@@ -2,7 +2,7 @@
 mod domain;
 mod readers;
 
-use crate::{MemorySink, MemorySource, run_words};
+use crate::{MemorySink, MemorySource, ScriptError, run_script, run_script_within, run_words};
 use std::alloc::Global;
 use std::process::Abort;
 use std::test::Fail;
@@ -186,4 +186,56 @@ fn faults_end_the_run(rt: HostRuntime) -> Result<(), Fail> {
         b"ok\ntable = ok 1\n",
         b"write fault\n",
     )
+}
+
+#[test]
+fn limits_of_a_script(rt: HostRuntime) -> Result<(), Fail> {
+    let alloc = rt.alloc();
+    let cases: [(&[u8], u64, Result<(), ScriptError>, &[u8]); 5] = [
+        (
+            b"abandon a\nabandon b\nabandon c\nabandon d\n",
+            3,
+            Err(ScriptError::TooLong),
+            b"gone\ngone\ngone\n",
+        ),
+        (
+            b"abandon a\nabandon b\nabandon c\n",
+            3,
+            Ok(()),
+            b"gone\ngone\ngone\n",
+        ),
+        (
+            b"abandon a\nabandon b\nabandon c\nstop",
+            3,
+            Err(ScriptError::TooLong),
+            b"gone\ngone\ngone\n",
+        ),
+        (
+            b"abandon a\nstop\nabandon c\nabandon d\n",
+            3,
+            Err(ScriptError::BadLine(2)),
+            b"gone\n",
+        ),
+        (b"a", 0, Err(ScriptError::TooLong), b""),
+    ];
+    for (script, limit, result, output) in cases {
+        let mut source = MemorySource::new(Vec::from_slice(alloc, script)?, 0, Vec::new(alloc));
+        let mut sink = MemorySink::new(alloc, 100, 0, Vec::new(alloc))?;
+        assert_eq!(rt;
+            run_script_within(alloc, limit, &mut source, &mut sink),
+            result
+        );
+        assert_eq!(rt; sink.held(), output);
+    }
+    Ok(())
+}
+
+#[test]
+fn a_script_of_one_line(rt: HostRuntime) -> Result<(), Fail> {
+    let alloc = rt.alloc();
+    let mut source = MemorySource::new(Vec::from_slice(alloc, b"abandon a")?, 0, Vec::new(alloc));
+    let mut sink = MemorySink::new(alloc, 100, 0, Vec::new(alloc))?;
+    assert_eq!(rt; run_script(alloc, &mut source, &mut sink), Ok(()));
+    assert_eq!(rt; sink.held(), b"gone\n".as_slice());
+    Ok(())
 }
