@@ -12,10 +12,10 @@ use board_cell::CellError;
 use shared::run_shared;
 use solo::{run_gets, run_updates};
 use std::alloc::Global;
-use std::env;
 use std::process::ExitCode;
 use std::sync::Wait;
 use std::thread::Threads;
+use std::{env, io};
 use task::{Task, task_of};
 
 const USAGE: &str =
@@ -47,10 +47,26 @@ fn run<R: Threads + Wait + Sync>(
     }
 }
 
+// The words of the command line without the program's name. One that isn't text is an empty word.
+fn words(rt: &HostRuntime) -> anyhow::Result<Vec<String>> {
+    let alloc = rt.alloc();
+    match env::args(rt) {
+        Ok(args) => Ok(args.skip(1).collect(alloc)?),
+        Err(error) => {
+            if error.kind() != io::ErrorKind::InvalidData {
+                return Err(error.into());
+            }
+            let mut words = Vec::new(alloc);
+            words.push(String::new(alloc))?;
+            Ok(words)
+        }
+    }
+}
+
 fn main(rt: HostRuntime) -> anyhow::Result<ExitCode> {
     let alloc = rt.alloc();
-    let words: Vec<String> = env::args(&rt)?.collect(alloc)?;
-    let Some(task) = task_of(alloc, words.as_slice().get(1..).unwrap_or(&[]))? else {
+    let words = words(&rt)?;
+    let Some(task) = task_of(alloc, &words)? else {
         eprintln!(rt; "{USAGE}")?;
         return Ok(ExitCode::from(2));
     };

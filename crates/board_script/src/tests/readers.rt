@@ -195,3 +195,52 @@ fn a_kept_value_is_fresh_until_an_update(rt: HostRuntime) -> Result<(), Fail> {
     )?;
     gives(&rt, rt.alloc(), script, &output)
 }
+
+// The first lines of a text.
+fn front(text: &[u8], lines: usize) -> &[u8] {
+    let mut seen = 0;
+    for (i, byte) in text.iter().enumerate() {
+        if seen == lines {
+            return &text[..i];
+        }
+        if *byte == b'\n' {
+            seen += 1;
+        }
+    }
+    text
+}
+
+// Each with how many lines it has, and how many come before it abandons `a` itself.
+#[test]
+fn each_row_abandoned_at_every_line(rt: HostRuntime) -> Result<(), Fail> {
+    let alloc = rt.alloc();
+    let rows: [(&Row, usize, usize); 7] = [
+        (&A_BOARD_OF_A_BOOL_AND_A_NUMBER, 3, 3),
+        (&A_GET_THAT_MEETS_ONE_UPDATE, 23, 23),
+        (&A_GET_THAT_MEETS_TWO_UPDATES, 36, 36),
+        (&A_WRITER_ABANDONED_IN_AN_UPDATE, 27, 15),
+        (&AN_EQUAL_VALUE_IS_A_NEW_GENERATION, 21, 21),
+        (&TWO_PARTIES_ONE_FOUR_WORD_ENTRY, 12, 12),
+        (&TWO_PARTIES_ONE_U64_ENTRY, 12, 12),
+    ];
+    for (row, lines, left) in rows {
+        for n in 0..=lines {
+            let mut script = Vec::from_slice(alloc, front(row.script, n))?;
+            script.extend_from_slice(
+                b"abandon a\nabandon b\nstep a\nstep b\nbegin a reader z f\nabandon b\n",
+            )?;
+            let first: &[u8] = if n <= left {
+                b"gone\n"
+            } else {
+                b"refused abandoned\n"
+            };
+            let mut output = Vec::from_slice(alloc, front(row.output, n))?;
+            output.extend_from_slice(first)?;
+            output.extend_from_slice(
+                b"gone\nrefused abandoned\nrefused abandoned\nrefused abandoned\nrefused abandoned\n",
+            )?;
+            gives(&rt, alloc, script, &output)?;
+        }
+    }
+    Ok(())
+}
