@@ -198,13 +198,13 @@ fn a_kept_value_is_fresh_until_an_update(rt: HostRuntime) -> Result<(), Fail> {
 
 // The first lines of a text.
 fn front(text: &[u8], lines: usize) -> &[u8] {
-    let mut seen = 0;
+    let mut left = lines;
     for (i, byte) in text.iter().enumerate() {
-        if seen == lines {
+        if left == 0 {
             return &text[..i];
         }
         if *byte == b'\n' {
-            seen += 1;
+            left -= 1;
         }
     }
     text
