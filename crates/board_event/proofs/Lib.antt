@@ -1,2 +1,4 @@
 mod BitLemmas
 mod TableLemmas
+mod RowLemmas
+mod StandingLemmas

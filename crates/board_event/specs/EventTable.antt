@@ -1,5 +1,5 @@
 -- The table of events: what stands under a number and a name, and what the calls on it answer and leave.
-use Rattle.std.specs.Prelude.{ℕ, ◌+◌, ◌-◌, ◌^◌, Bool, true, false, ◌||◌, ◌==◌, not, nat_lt, if◌then◌else◌, List, [], Option, Some, None, Result, Ok, Err, refl}
+use Rattle.std.specs.Prelude.{◌≡◌, ◌≢◌, ◌≤◌, IsSome, IsSomeAnd, ℕ, ◌+◌, ◌-◌, ◌^◌, Bool, true, false, ◌||◌, ◌==◌, not, nat_lt, if◌then◌else◌, List, [], Option, Some, None, Result, Ok, Err, refl}
 use Rattle.std.specs.Coded.{Coded, code_by, coded×, coded_ℕ, coded_list}
 use Rattle.std.specs.Ordering.{nat_cmp}
 use Rattle.std.specs.Map.{lookup, remove_entry, set_value}
@@ -81,6 +81,17 @@ is_held e = e.held || nat_lt 0 e.notifiers
 abbrev pub holds_name : Event → Bool
 holds_name e = elim e.kind [ kind.Bits ↦ is_held e | kind.Queue ↦ e.held ]
 
+-- the event of a held name: it is of the name's kind, it has the name, and somebody holds the name
+pub record HoldsName (k : EventKind) (full_name : List ℕ) (e : Event) : Type 0 where
+  pub kind : e.kind ≡ k
+  pub name : e.name ≡ full_name
+  pub held : holds_name e ≡ true
+
+-- what holds of every table that the calls make: a held name has the number of an event that stands and holds it, and no event has a number above the last one drawn
+pub record IsEventTable (t : EventTable) : Type 0 where
+  pub named : (k : EventKind) (name : List ℕ) (n : ℕ) → at (names_of k t) name ≡ Some n → IsSomeAnd (event_at t n) (HoldsName k name)
+  pub numbered : (n : ℕ) → IsSome (event_at t n) → n ≤ t.drawn
+
 -- one notifier more
 abbrev pub with_notifier : Event → Event
 with_notifier e = record e { notifiers = e.notifiers + 1 }
@@ -124,11 +135,20 @@ listened t k name max = record (with_names k t (putting (names_of k t) name (t.d
 }
 
 -- the event's number, or why it has no new notifier
-abbrev pub notifier_of : ℕ → Option Event → Result ℕ NotifierCreateError
-notifier_of n None = Err notifier_error.DoesNotExist
-notifier_of n (Some e) = if not e.held then Err notifier_error.DoesNotExist else if nat_lt e.notifiers (2 ^ 64 - 2) then Ok n else Err notifier_error.NumbersSpent
+abbrev pub notifier_of : ℕ → Event → Result ℕ NotifierCreateError
+notifier_of n e = if not e.held then Err notifier_error.DoesNotExist else if nat_lt e.notifiers (2 ^ 64 - 2) then Ok n else Err notifier_error.NumbersSpent
 
--- the same, by what stands under the name
-abbrev pub notifier_answer : EventTable → Option ℕ → Result ℕ NotifierCreateError
-notifier_answer t None = Err notifier_error.DoesNotExist
-notifier_answer t (Some n) = notifier_of n (event_at t n)
+-- the same, by what stands under the name: the event of a held name stands
+abbrev pub IsNotifierAnswer : EventTable → Result ℕ NotifierCreateError → Option ℕ → Type 0
+IsNotifierAnswer t result None = result ≡ Err notifier_error.DoesNotExist
+IsNotifierAnswer t result (Some n) = IsSomeAnd (event_at t n) (λ e. result ≡ notifier_of n e)
+
+-- ---- what the steps on the rows leave. No clause of a public call cites what follows
+
+-- no name is new, and none has a new number
+abbrev pub AreLeft : EventTable → EventTable → Type 0
+AreLeft old new = (k : EventKind) (name : List ℕ) (n : ℕ) → at (names_of k new) name ≡ Some n → at (names_of k old) name ≡ Some n
+
+-- where nobody holds its name, its name hasn't its number
+abbrev pub LosesName : Event → EventTable → ℕ → Type 0
+LosesName e t n = holds_name e ≡ false → at (names_of e.kind t) e.name ≢ Some n

@@ -1,18 +1,14 @@
 //! Events by their numbers and names.
-ghost use Rattle.std.specs.Prelude.{◌≡◌, ◌<◌, ◌+◌, ◌-◌, ◌^◌, ◌↔◌, true, false, is_some, IfOk, IfSome, IsSome, IsSomeAnd, IsTrue, OnOk, OnErr, Some, None};
-ghost use Rattle.std.specs.Ordering.{nat_cmp};
-ghost use Rattle.std.specs.BTreeMap.{insert_entry};
+ghost use Rattle.std.specs.Prelude.{◌≡◌, ◌<◌, ◌^◌, ◌↔◌, ℕ, true, is_some, IfOk, IfSome, IsSome, IsSomeAnd, IsTrue, OnOk, OnErr, Some};
 ghost use Rattle.board_layout.specs.Answer.{Answers, Refuses};
-ghost use Rattle.board_store.specs.Table.{at, name_at, putting, without};
+ghost use Rattle.board_store.specs.Table.{at, name_at, without};
 ghost use Rattle.board_event_model.specs.EventMemory.{CanPerform, Event, IsRight, after};
-ghost use Rattle.board_event.specs.EventTable.{changed, event_at, freed, listen_answer, listened, names_of, no_events, notifier_answer, notifier_of, settled, with_gone, with_names, with_notifier, without_listener, without_notifier};
+ghost use Rattle.board_event.specs.EventTable.{HoldsName, IsEventTable, IsNotifierAnswer, changed, event_at, listen_answer, listened, names_of, no_events, notifier_of, settled, with_gone, with_names, with_notifier, without_listener, without_notifier};
 
-use crate::event_memory::EventMemory;
+use crate::event_rows::EventRows;
 use board_event_model::{EventAccess, EventAnswer, EventKind};
 use board_names::{FilePath, ListenerCreateError, NotifierCreateError};
-use board_store::Table;
 use std::alloc::Global;
-use std::collections::BTreeMap;
 use std::marker::Model;
 
 /// How many events are made at most.
@@ -20,24 +16,23 @@ const LAST_NUMBER: u64 = u64::MAX - 1;
 
 /// Events by their numbers, and the names that they hold. Clauses see a table of both.
 ///
+/// A held name has the number of an event that stands and holds it (`held_names_stand`).
 /// One call is one step. No call but `listen` takes memory.
 #[derive(Drop)]
 pub struct Events {
-    drawn: u64,
-    events: BTreeMap<u64, EventMemory>,
-    bits: Table<u64>,
-    queues: Table<u64>,
-    alloc: Global,
+    rows: EventRows,
 }
 
 impl Model for Events {
-    ghost use Rattle.board_event.specs.EventTable.{EventTable, table_code};
+    ghost use Rattle.board_event.specs.EventTable.{EventTable, IsEventTable, table_code};
 
     ghost Value = { EventTable };
 
     ghost coded = { table_code };
 
-    ghost view = { λ t. record { drawn = t.drawn; events = t.events.entries; bits = t.bits.entries; queues = t.queues.entries } };
+    ghost view = { λ t. t.rows };
+
+    ghost invariant = { λ t. IsEventTable t.rows };
 }
 
 impl Events {
@@ -46,21 +41,7 @@ impl Events {
         ensures { result ≡ no_events }
     {
         Events {
-            drawn: 0,
-            events: BTreeMap::new(alloc),
-            bits: BTreeMap::new(alloc),
-            queues: BTreeMap::new(alloc),
-            alloc,
-        }
-    }
-
-    /// The names of a kind.
-    fn names(&self, kind: EventKind) -> &Table<u64>
-        ensures { result.now.entries ≡ names_of kind self.now }
-    {
-        match kind {
-            EventKind::Bits => &self.bits,
-            EventKind::Queue => &self.queues,
+            rows: EventRows::new(alloc),
         }
     }
 
@@ -83,69 +64,36 @@ impl Events {
         if self.holds(kind, name) {
             return Err(ListenerCreateError::AlreadyExists);
         }
-        if self.drawn >= LAST_NUMBER {
+        if self.rows.drawn() >= LAST_NUMBER {
             return Err(ListenerCreateError::NumbersSpent);
         }
-        match self.add(kind, name, max) {
+        match self.rows.add(kind, name, max) {
             Some(number) => Ok(number),
             None => Err(ListenerCreateError::OutOfMemory),
         }
     }
 
-    /// Makes an event with its listener, unless memory is refused.
-    fn add(&mut self, kind: EventKind, name: &FilePath, max: u64) -> Option<u64>
-        requires free { at (names_of kind self.old) name.now ≡ None }
-        requires few { self.old.drawn < 2 ^ 64 - 2 }
-        ensures number { IfSome result (λ n. n ≡ self.old.drawn + 1) }
-        ensures added { IsSome result → self.new ≡ listened self.old kind name.now max }
-        ensures none { result ≡ None → self.new ≡ self.old }
-    {
-        let number = self.drawn + 1;
-        let Ok(memory) = EventMemory::new(self.alloc, kind, name, max) else {
-            return None;
-        };
-        if !self.take_name(kind, name, number) {
-            return None;
-        }
-        if !self.add_event(number, memory) {
-            self.remove(kind, name);
-            return None;
-        }
-        self.drawn = number;
-        Some(number)
-    }
-
-    /// Puts an event under a number, and tells whether there was memory for it.
-    fn add_event(&mut self, number: u64, memory: EventMemory) -> bool
-        ensures added { result ≡ true → self.new ≡ record self.old { events = insert_entry nat_cmp self.old.events number memory } }
-        ensures refused { result ≡ false → self.new ≡ self.old }
-    {
-        self.events.insert(number, memory).is_ok()
-    }
-
-    /// Puts a free name under a number, and tells whether there was memory for it.
-    fn take_name(&mut self, kind: EventKind, name: &FilePath, number: u64) -> bool
-        ensures taken { result ≡ true → self.new ≡ with_names kind self.old (putting (names_of kind self.old) name.now number) }
-        ensures refused { result ≡ false → self.new ≡ self.old }
-    {
-        match kind {
-            EventKind::Bits => self.bits.insert(*name, number).is_ok(),
-            EventKind::Queue => self.queues.insert(*name, number).is_ok(),
-        }
-    }
-
     /// Whether the name is held for this kind.
     pub fn holds(&self, kind: EventKind, name: &FilePath) -> bool
-        ensures { result ≡ is_some (at (names_of kind self.now) name.now) }
+        ensures stands { (n : ℕ) → at (names_of kind self.now) name.now ≡ Some n → IsSomeAnd (event_at self.now n) (HoldsName kind name.now) }
+        ensures held { result ≡ is_some (at (names_of kind self.now) name.now) }
     {
-        self.names(kind).contains_key(name)
+        self.number_of(kind, name).is_some()
+    }
+
+    /// The number of the event that holds a name of this kind.
+    fn number_of(&self, kind: EventKind, name: &FilePath) -> Option<u64>
+        ensures number { result ≡ at (names_of kind self.now) name.now }
+        ensures stands { IfSome result (λ n. IsSomeAnd (event_at self.now n) (HoldsName kind name.now)) }
+    {
+        self.rows.names(kind).get(name).copied()
     }
 
     /// The held name of this kind at an index, counted from 0 in the order of the names.
     pub fn name_at(&self, kind: EventKind, index: usize) -> Option<FilePath>
         ensures { result ≡ name_at (names_of kind self.now) index }
     {
-        self.names(kind).keys().nth(index).copied()
+        self.rows.names(kind).keys().nth(index).copied()
     }
 
     /// Lets a name of this kind go, and tells whether it was held. Its event goes on without the name.
@@ -153,10 +101,7 @@ impl Events {
         ensures value { result ≡ is_some (at (names_of kind self.old) name.now) }
         ensures after { self.new ≡ with_names kind self.old (without (names_of kind self.old) name.now) }
     {
-        match kind {
-            EventKind::Bits => self.bits.remove(name).is_some(),
-            EventKind::Queue => self.queues.remove(name).is_some(),
-        }
+        self.rows.remove(kind, name)
     }
 
     /// Makes a notifier of the event that holds the name, and answers the event's number.
@@ -165,24 +110,25 @@ impl Events {
     /// `DoesNotExist` where the name isn't held for that kind, or its listener was released; `NumbersSpent` where the
     /// event has 2^64 - 2 notifiers. The events stay as they were.
     pub fn notifier(&mut self, kind: EventKind, name: &FilePath) -> Result<u64, NotifierCreateError>
-        ensures answer { result ≡ notifier_answer self.old (at (names_of kind self.old) name.now) }
+        ensures answer { IsNotifierAnswer self.old result (at (names_of kind self.old) name.now) }
         ensures ok { IfOk result (λ n. self.new ≡ changed self.old n with_notifier) }
         ensures err { OnErr result (self.new ≡ self.old) }
     {
-        let Some(number) = self.names(kind).get(name).copied() else {
+        let Some(number) = self.number_of(kind, name) else {
             return Err(NotifierCreateError::DoesNotExist);
         };
         let number = self.open_event(number)?;
-        self.add_notifier(number);
+        self.rows.add_notifier(number);
         Ok(number)
     }
 
     /// The number of an event that can have a notifier more.
     fn open_event(&self, number: u64) -> Result<u64, NotifierCreateError>
-        ensures { result ≡ notifier_of number (event_at self.now number) }
+        requires { IsSome (event_at self.now number) }
+        ensures { IsSomeAnd (event_at self.now number) (λ e. result ≡ notifier_of number e) }
     {
-        let Some(memory) = self.events.get(&number) else {
-            return Err(NotifierCreateError::DoesNotExist);
+        let Some(memory) = self.rows.event(number) else {
+            unreachable!()
         };
         if !memory.has_listener() {
             return Err(NotifierCreateError::DoesNotExist);
@@ -193,24 +139,13 @@ impl Events {
         Ok(number)
     }
 
-    /// Adds a notifier to an event.
-    fn add_notifier(&mut self, event: u64)
-        requires { IsSomeAnd (event_at self.old event) (λ e. e.notifiers < 2 ^ 64 - 1) }
-        ensures { self.new ≡ changed self.old event with_notifier }
-    {
-        let Some(memory) = self.events.get_mut(&event) else {
-            unreachable!()
-        };
-        memory.add_notifier()
-    }
-
     /// Lets the listener of an event go. A queue's name is free at once, a bits name with the last notifier; the event goes with its last holder.
     pub fn release_listener(&mut self, event: u64)
         requires { IsSomeAnd (event_at self.old event) (λ e. e.held ≡ true) }
         ensures { self.new ≡ settled (changed self.old event without_listener) event }
     {
-        self.drop_listener(event);
-        self.settle(event)
+        self.rows.drop_listener(event);
+        self.rows.settle(event)
     }
 
     /// Lets a notifier of an event go. A bits name is free with the last holder, and the event goes with it.
@@ -218,64 +153,15 @@ impl Events {
         requires { IsSomeAnd (event_at self.old event) (λ e. 0 < e.notifiers) }
         ensures { self.new ≡ settled (changed self.old event without_notifier) event }
     {
-        self.drop_notifier(event);
-        self.settle(event)
-    }
-
-    /// Lets the listener of an event go.
-    fn drop_listener(&mut self, event: u64)
-        requires { IsSome (event_at self.old event) }
-        ensures { self.new ≡ changed self.old event without_listener }
-    {
-        let Some(memory) = self.events.get_mut(&event) else {
-            unreachable!()
-        };
-        memory.release_listener()
-    }
-
-    /// Lets a notifier of an event go.
-    fn drop_notifier(&mut self, event: u64)
-        requires { IsSomeAnd (event_at self.old event) (λ e. 0 < e.notifiers) }
-        ensures { self.new ≡ changed self.old event without_notifier }
-    {
-        let Some(memory) = self.events.get_mut(&event) else {
-            unreachable!()
-        };
-        memory.release_notifier()
-    }
-
-    /// Frees the name of an event that nobody holds by it, and lets an event without holders go.
-    fn settle(&mut self, event: u64)
-        ensures { self.new ≡ settled self.old event }
-    {
-        let Some(memory) = self.events.get(&event) else {
-            return;
-        };
-        let (kind, name) = (memory.kind(), memory.name());
-        let (holds_name, is_held) = (memory.holds_name(), memory.is_held());
-        if !holds_name {
-            self.free_name(kind, &name, event);
-        }
-        if !is_held {
-            self.events.remove(&event);
-        }
-    }
-
-    /// Frees a name where the event with this number holds it.
-    fn free_name(&mut self, kind: EventKind, name: &FilePath, number: u64)
-        ensures { self.new ≡ with_names kind self.old (freed (names_of kind self.old) name.now number) }
-    {
-        match kind {
-            EventKind::Bits => free(&mut self.bits, name, number),
-            EventKind::Queue => free(&mut self.queues, name, number),
-        }
+        self.rows.drop_notifier(event);
+        self.rows.settle(event)
     }
 
     /// Whether the event stands and its listener is held.
     pub fn has_listener(&self, event: u64) -> bool
         ensures { IsTrue result ↔ IsSomeAnd (event_at self.now event) (λ e. e.held ≡ true) }
     {
-        match self.events.get(&event) {
+        match self.rows.event(event) {
             None => false,
             Some(memory) => memory.has_listener(),
         }
@@ -285,7 +171,7 @@ impl Events {
     pub fn has_notifier(&self, event: u64) -> bool
         ensures { IsTrue result ↔ IsSomeAnd (event_at self.now event) (λ e. 0 < e.notifiers) }
     {
-        match self.events.get(&event) {
+        match self.rows.event(event) {
             None => false,
             Some(memory) => memory.notifiers() > 0,
         }
@@ -295,7 +181,7 @@ impl Events {
     pub fn allows(&self, event: u64, access: EventAccess) -> bool
         ensures { IsTrue result ↔ IsSomeAnd (event_at self.now event) (λ e. CanPerform e access) }
     {
-        match self.events.get(&event) {
+        match self.rows.event(event) {
             None => false,
             Some(memory) => memory.allows(access),
         }
@@ -306,7 +192,7 @@ impl Events {
         requires { IsSome (event_at self.now event) }
         ensures { IsSomeAnd (event_at self.now event) (λ e. result ≡ e.max) }
     {
-        let Some(memory) = self.events.get(&event) else {
+        let Some(memory) = self.rows.event(event) else {
             unreachable!()
         };
         memory.max()
@@ -318,10 +204,7 @@ impl Events {
         ensures right { IsSomeAnd (event_at self.old event) (λ e. IsRight e access result) }
         ensures after { self.new ≡ changed self.old event (λ e. after e access) }
     {
-        let Some(memory) = self.events.get_mut(&event) else {
-            unreachable!()
-        };
-        memory.perform(access)
+        self.rows.perform(event, access)
     }
 
     /// Counts the listener of a queue event as gone. Its name stays held.
@@ -329,18 +212,13 @@ impl Events {
         requires { IsSome (event_at self.old event) }
         ensures { self.new ≡ changed self.old event with_gone }
     {
-        let Some(memory) = self.events.get_mut(&event) else {
-            unreachable!()
-        };
-        memory.mark_gone()
+        self.rows.mark_gone(event)
     }
 }
 
-/// Frees a name where it stands for this number.
-fn free(names: &mut Table<u64>, name: &FilePath, number: u64)
-    ensures { names.new.entries ≡ freed names.old.entries name.now number }
+/// A held name has the number of an event that stands, is of its kind and holds it; no event has a number above the last one drawn.
+pub fn held_names_stand(events: &Events)
+    ensures { IsEventTable events.now }
 {
-    if names.get(name).copied() == Some(number) {
-        names.remove(name);
-    }
+    let _rows = &events.rows;
 }

@@ -3,6 +3,7 @@
 
 mod bit_set;
 mod event_memory;
+mod event_rows;
 mod events;
 mod id_tracker;
 mod notify_call;
@@ -20,7 +21,7 @@ pub use board_names::{
     EventId, ListenerCreateError, ListenerWaitError, NotifierCreateError, TriggerId,
 };
 pub use event_memory::QUEUE_CAPACITY;
-pub use events::Events;
+pub use events::{Events, held_names_stand};
 pub use id_tracker::IdTracker;
 pub use notify_call::NotifyCall;
 pub use semaphore::Semaphore;
