@@ -1,3 +1,4 @@
+-- what events, their calls and their runs are, and the laws that hold of them
 pub mod Ids
 pub mod EventMemory
 pub mod NotifyCalls

@@ -14,6 +14,7 @@ use Rattle.board_event_model.specs.EventRuns.{EventMove, IsRun, PartyName, begin
 abbrev pub e : PartyName
 e = codes "e"
 
+-- the other one, which notifies
 abbrev pub n : PartyName
 n = codes "n"
 

@@ -28,6 +28,7 @@ payload (s ∷ ss) = (cell_bytes s + (cell_alignment s - 1)) + payload ss
 abbrev pub start_of : ℕ → Shape → ℕ
 start_of at s = align (cell_alignment s) at
 
+-- the cell that is laid there: its place in bytes, its parts in words
 abbrev pub place_at : ℕ → Shape → CellPlace
 place_at at s = record { place = start_of at s; first = start_of at s / 8; head = head_bytes s / 8; words = s.words }
 
@@ -36,6 +37,7 @@ abbrev pub places_from : ℕ → List Shape → List CellPlace
 places_from at [] = []
 places_from at (s ∷ ss) = place_at at s ∷ places_from (start_of at s + cell_bytes s) ss
 
+-- the first byte that these cells leave free behind them
 abbrev pub end_from : ℕ → List Shape → ℕ
 end_from at [] = at
 end_from at (s ∷ ss) = end_from (start_of at s + cell_bytes s) ss
@@ -44,6 +46,7 @@ end_from at (s ∷ ss) = end_from (start_of at s + cell_bytes s) ss
 abbrev pub IsAlignment : ℕ → Type 0
 IsAlignment a = (k : ℕ) × (k ≤ 12) × (a ≡ 2 ^ k)
 
+-- a shape that a cell can have: some words, and a fit alignment
 pub record IsShape (s : Shape) : Type 0 where
   pub words : 0 < s.words
   pub alignment : IsAlignment s.alignment

@@ -53,6 +53,7 @@ bool_word false _ = one_word 1 0 (omega arith) (omega arith)
 pub word_again : (size x : ℕ) → x < 2 ^ (8 * size) → x % 2 ^ (8 * size) ≡ x
 word_again size x h = mod-eq_of_lt h
 
+-- a list of four is its four items, one after another
 four_once : (xs : List ℕ) → length xs ≡ 4 →
     slice_index xs 0 ∷ slice_index xs 1 ∷ slice_index xs 2 ∷ slice_index xs 3 ∷ [] ≡ xs
 four_once (a ∷ b ∷ c ∷ d ∷ []) h = refl
@@ -80,6 +81,7 @@ four_again xs h = four_once xs h.0
 pub i32_word : (x : ℤ) → FitsSigned w32 x → AreWordsOf 4 1 (cast_unsigned w32 x ∷ [])
 i32_word x h = one_word 4 (cast_unsigned w32 x) (omega arith) (Fits-lt-pow (Fits-of_z h))
 
+-- so is a signed number of eight bytes
 pub i64_word : (x : ℤ) → FitsSigned w64 x → AreWordsOf 8 1 (cast_unsigned w64 x ∷ [])
 i64_word x h = one_word 8 (cast_unsigned w64 x) (omega arith) (Fits-lt-pow (Fits-of_z h))
 
@@ -87,6 +89,7 @@ i64_word x h = one_word 8 (cast_unsigned w64 x) (omega arith) (Fits-lt-pow (Fits
 pub i32_again : (x : ℤ) → FitsSigned w32 x → cast_signed w32 (cast_unsigned w32 x % 2 ^ 32) ≡ x
 i32_again x h = let fits : cast_unsigned w32 x < 2 ^ 32 = Fits-lt-pow (Fits-of_z h) in rw (mod-eq_of_lt fits) (to_z-of_z h)
 
+-- the bits of one of eight bytes give it back too
 pub i64_again : (x : ℤ) → FitsSigned w64 x → cast_signed w64 (cast_unsigned w64 x) ≡ x
 i64_again x h = to_z-of_z h
 

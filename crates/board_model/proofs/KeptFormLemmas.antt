@@ -203,7 +203,7 @@ line_formed s l a n r sound w h = after_cases (λ (x : State). AreFormed x (n + 
     (record { tables = formed_same s.standing.tables n h.tables; parties = λ p. weaker_party n p (s.parties p) (h.parties p) })
     (λ party c ok e. record {
       tables = formed_same s.standing.tables n h.tables;
-      parties = λ p. grown s.parties party p (begun (request_of s.standing s.published party c)) (formed_begun n s party c h.tables w.ports ok.formed.0 ok.formed.1 e) (h.parties p);
+      parties = λ p. grown s.parties party p (begun (request_of s.standing s.published party c)) (formed_begun n s party c h.tables w.ports ok.0 ok.1 e) (h.parties p);
     })
     (λ party. record { tables = formed_same s.standing.tables n h.tables; parties = λ p. grown s.parties party p gone tt (h.parties p) })
     (λ party name _. record { tables = formed_release s.standing.tables party name n (thing_of s.standing.tables.things party name) h.tables; parties = λ p. weaker_party n p (s.parties p) (h.parties p) })

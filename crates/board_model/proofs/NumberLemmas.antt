@@ -227,7 +227,7 @@ memory_below memory (fill l v) t h e = h
 
 pub line_numbers : LinesKeepNumbers
 line_numbers s l a n r sound w lt h = after_cases AreNumbers s l a r h
-    (λ party c ok _. record { words = h.words; calls = λ p. with_numbers s.parties party p (begun (request_of s.standing s.published party c)) (begun_numbers s.standing s.published party c ok.formed.1) (h.calls p) })
+    (λ party c ok _. record { words = h.words; calls = λ p. with_numbers s.parties party p (begun (request_of s.standing s.published party c)) (begun_numbers s.standing s.published party c ok.1) (h.calls p) })
     (λ party. record { words = h.words; calls = λ p. with_numbers s.parties party p gone tt (h.calls p) })
     (λ party name _. record { words = h.words; calls = h.calls })
     (λ party q x run st. record {

@@ -29,9 +29,11 @@ use Rattle.board_model.specs.LineGrammar.{IsKey, IsNumber, is_board_name, is_nam
 
 -- ---- texts
 
+-- a word of a board and its value, as an access prints them
 abbrev pub place_text : ℕ → ℕ → ℕ → List ℕ
 place_text board word value = decimal board ++ (codes ":" ++ (decimal word ++ (codes " " ++ decimal value)))
 
+-- what a step prints of the access that it took
 abbrev pub access_text : Access → List ℕ
 access_text access.Table = codes "table"
 access_text (access.Read board word value) = codes "read " ++ place_text board word value
@@ -43,6 +45,7 @@ words_text type.Bool words = codes "bool:" ++ (if slice_index words 0 == 0 then 
 words_text type.U64 words = codes "u64:" ++ join_with_byte 44 (map decimal words)
 words_text type.Q4 words = codes "q4:" ++ join_with_byte 44 (map decimal words)
 
+-- how an error of creating a board is written
 abbrev pub create_error_text : BlackboardCreateError → List ℕ
 create_error_text create_error.AlreadyExists = codes "AlreadyExists"
 create_error_text create_error.IsBeingCreatedByAnotherInstance = codes "IsBeingCreatedByAnotherInstance"
@@ -54,6 +57,7 @@ create_error_text create_error.NoEntriesProvided = codes "NoEntriesProvided"
 create_error_text create_error.NumbersSpent = codes "NumbersSpent"
 create_error_text create_error.OutOfMemory = codes "OutOfMemory"
 
+-- how an error of opening a board is written
 abbrev pub open_error_text : BlackboardOpenError → List ℕ
 open_error_text open_error.DoesNotExist = codes "DoesNotExist"
 open_error_text open_error.ServiceInCorruptedState = codes "ServiceInCorruptedState"
@@ -70,6 +74,7 @@ open_error_text open_error.DoesNotSupportRequestedAmountOfNodes = codes "DoesNot
 open_error_text open_error.NumbersSpent = codes "NumbersSpent"
 open_error_text open_error.OutOfMemory = codes "OutOfMemory"
 
+-- how an error of making a reader is written
 abbrev pub reader_error_text : ReaderCreateError → List ℕ
 reader_error_text reader_error.ExceedsMaxSupportedReaders = codes "ExceedsMaxSupportedReaders"
 reader_error_text reader_error.FailedToDeployThreadsafetyPolicy = codes "FailedToDeployThreadsafetyPolicy"
@@ -78,6 +83,7 @@ reader_error_text (reader_error.ThingUnknown thing) = codes "ThingUnknown"
 reader_error_text reader_error.NumbersSpent = codes "NumbersSpent"
 reader_error_text reader_error.OutOfMemory = codes "OutOfMemory"
 
+-- how an error of making a writer is written
 abbrev pub writer_error_text : WriterCreateError → List ℕ
 writer_error_text writer_error.ExceedsMaxSupportedWriters = codes "ExceedsMaxSupportedWriters"
 writer_error_text writer_error.InternalFailure = codes "InternalFailure"
@@ -87,12 +93,14 @@ writer_error_text (writer_error.ThingUnknown thing) = codes "ThingUnknown"
 writer_error_text writer_error.NumbersSpent = codes "NumbersSpent"
 writer_error_text writer_error.OutOfMemory = codes "OutOfMemory"
 
+-- how an error of asking for a read handle is written
 abbrev pub entry_error_text : EntryHandleError → List ℕ
 entry_error_text entry_error.EntryDoesNotExist = codes "EntryDoesNotExist"
 entry_error_text (entry_error.ThingUnknown thing) = codes "ThingUnknown"
 entry_error_text entry_error.NumbersSpent = codes "NumbersSpent"
 entry_error_text entry_error.OutOfMemory = codes "OutOfMemory"
 
+-- how an error of asking for a write handle is written
 abbrev pub entry_mut_error_text : EntryHandleMutError → List ℕ
 entry_mut_error_text entry_mut_error.EntryDoesNotExist = codes "EntryDoesNotExist"
 entry_mut_error_text entry_mut_error.HandleAlreadyExists = codes "HandleAlreadyExists"
@@ -100,21 +108,26 @@ entry_mut_error_text (entry_mut_error.ThingUnknown thing) = codes "ThingUnknown"
 entry_mut_error_text entry_mut_error.NumbersSpent = codes "NumbersSpent"
 entry_mut_error_text entry_mut_error.OutOfMemory = codes "OutOfMemory"
 
+-- a number in a list of items, with the space before it
 abbrev pub number_text : ℕ → List ℕ
 number_text n = codes " " ++ decimal n
 
+-- a key in a list of items, with the space before it
 abbrev pub key_item_text : Key → List ℕ
 key_item_text k = codes " " ++ key_text k
 
+-- a name in a list of items, with the space before it
 abbrev pub name_item_text : List ℕ → List ℕ
 name_item_text name = codes " " ++ name
 
+-- what is told of a board: its name, limits, sizes, and how much is taken
 abbrev pub info_text : Info → List ℕ
 info_text i = codes "info " ++ (i.name ++ (codes " " ++ (key_type_text i.key_type
     ++ (codes " readers" ++ (number_text i.max_readers ++ (codes " nodes" ++ (number_text i.max_nodes
     ++ (codes " entries" ++ (number_text i.entries ++ (codes " attrs" ++ (number_text i.attributes
     ++ (codes " taken" ++ (number_text i.readers ++ (number_text i.writers ++ number_text i.nodes))))))))))))))
 
+-- how the outcome of a call is written
 abbrev pub reply_text : Reply → List ℕ
 reply_text reply.Done = codes "ok"
 reply_text (reply.Number n) = codes "ok" ++ number_text n
@@ -133,6 +146,7 @@ reply_text (reply.WriterError e) = codes "WriterCreateError::" ++ writer_error_t
 reply_text (reply.EntryError e) = codes "EntryHandleError::" ++ entry_error_text e
 reply_text (reply.EntryMutError e) = codes "EntryHandleMutError::" ++ entry_mut_error_text e
 
+-- the word for why a line was refused
 abbrev pub reason_text : Reason → List ℕ
 reason_text reason.Abandoned = codes "abandoned"
 reason_text reason.Busy = codes "busy"
@@ -144,10 +158,12 @@ reason_text reason.Index = codes "index"
 reason_text reason.Unfilled = codes "unfilled"
 reason_text reason.NoBoard = codes "noboard"
 
+-- what a step prints of the reply, where it ends its call
 abbrev pub told_text : Option Reply → List ℕ
 told_text None = []
 told_text (Some r) = codes " = " ++ reply_text r
 
+-- an answer, without its newline
 abbrev pub answer_text : Answer → List ℕ
 answer_text answer.Begun = codes "ok"
 answer_text (answer.Refused why) = codes "refused " ++ reason_text why
@@ -161,6 +177,7 @@ answer_line a = answer_text a ++ 10 ∷ []
 
 -- ---- which answers there are
 
+-- the board, the word and the value of an access fit in 64 bits
 abbrev pub IsAccess : Access → Type 0
 IsAccess access.Table = Unit {0}
 IsAccess (access.Read board word value) = IsNumber board × IsNumber word × IsNumber value
@@ -173,6 +190,7 @@ is_create_reply create_error.NoEntriesProvided = true
 is_create_reply create_error.ServiceInCorruptedState = true
 is_create_reply e = false
 
+-- the same for opening a board
 abbrev pub is_open_reply : BlackboardOpenError → Bool
 is_open_reply open_error.DoesNotExist = true
 is_open_reply open_error.IncompatibleKeys = true
@@ -182,23 +200,28 @@ is_open_reply open_error.DoesNotSupportRequestedAmountOfNodes = true
 is_open_reply open_error.ExceedsMaxNumberOfNodes = true
 is_open_reply e = false
 
+-- the same for making a reader
 abbrev pub is_reader_reply : ReaderCreateError → Bool
 is_reader_reply reader_error.ExceedsMaxSupportedReaders = true
 is_reader_reply e = false
 
+-- the same for making a writer
 abbrev pub is_writer_reply : WriterCreateError → Bool
 is_writer_reply writer_error.ExceedsMaxSupportedWriters = true
 is_writer_reply e = false
 
+-- the same for asking for a read handle
 abbrev pub is_entry_reply : EntryHandleError → Bool
 is_entry_reply entry_error.EntryDoesNotExist = true
 is_entry_reply e = false
 
+-- the same for asking for a write handle
 abbrev pub is_entry_mut_reply : EntryHandleMutError → Bool
 is_entry_mut_reply entry_mut_error.EntryDoesNotExist = true
 is_entry_mut_reply entry_mut_error.HandleAlreadyExists = true
 is_entry_mut_reply e = false
 
+-- what is told of a board has a proper name and numbers of 64 bits
 pub record IsInfo (i : Info) : Type 0 where
   pub name : is_board_name i.name ≡ true
   pub max_readers : IsNumber i.max_readers
@@ -209,6 +232,7 @@ pub record IsInfo (i : Info) : Type 0 where
   pub writers : IsNumber i.writers
   pub nodes : IsNumber i.nodes
 
+-- a reply that some call may be told
 abbrev pub IsReply : Reply → Type 0
 IsReply reply.Done = Unit {0}
 IsReply (reply.Number n) = IsNumber n
@@ -226,6 +250,7 @@ IsReply (reply.WriterError e) = is_writer_reply e ≡ true
 IsReply (reply.EntryError e) = is_entry_reply e ≡ true
 IsReply (reply.EntryMutError e) = is_entry_mut_reply e ≡ true
 
+-- an answer that some line may be given
 abbrev pub IsAnswer : Answer → Type 0
 IsAnswer answer.Begun = Unit {0}
 IsAnswer (answer.Refused why) = Unit {0}

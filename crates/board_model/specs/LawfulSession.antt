@@ -16,7 +16,7 @@ use Rattle.board_model.specs.declared.tables.Board.{Board}
 use Rattle.board_model.specs.declared.value.AddedEntry.{AddedEntry}
 use Rattle.board_model.specs.declared.value.Key.{Key}
 use Rattle.board_model.specs.declared.value.KeyType.{KeyType}
-use Rattle.board_model.specs.LineGrammar.{IsLine}
+use Rattle.board_model.specs.LineGrammar.{IsWellFormed}
 use Rattle.board_model.specs.AnswerGrammar.{IsAnswer}
 use Rattle.board_model.specs.TypeTable.{key_detail, same_key_type, same_type, type_of, type_of_key, value_detail}
 use Rattle.board_model.specs.OwedAccesses.{owed_of}
@@ -34,9 +34,11 @@ pub record State : Type 0 where
   pub parties : List ℕ → Party
   pub standing : Standing
 
+-- before the first board
 abbrev pub no_tables : Tables (List ℕ) (List ℕ)
 no_tables = record { boards = []; things = []; last_board = 0; last_port = 0 }
 
+-- before the first line
 abbrev pub start : State
 start = record {
   memory = λ n. [];
@@ -47,16 +49,20 @@ start = record {
 
 -- ---- reasons, the first that holds in this order: abandoned, busy, idle, unknown, taken, type, index, unfilled, noboard
 
+-- the party holds a thing or a value under the name that it wants to give
 abbrev pub is_taken : Standing → List ℕ → Option (List ℕ) → Bool
 is_taken s party None = false
 is_taken s party (Some name) = is_held s party name
 
+-- the entry's key is of this type
 abbrev pub has_key_type : KeyType → AddedEntry → Bool
 has_key_type k e = same_key_type (type_of_key e.key) k
 
+-- the key is of the type of the board's keys
 abbrev pub is_typed_key : Option Board → Key → Bool
 is_typed_key board k = holds_at board (λ b. same_type b.key (key_detail (type_of_key k)))
 
+-- the keys of a call on the tables are of the board's key type
 abbrev pub is_typed_call : Standing → TableCall → Bool
 is_typed_call s (create f name k limits attributes entries) = list_all (has_key_type k) entries
 is_typed_call s (entry name of k type) = is_typed_key (board_at s.tables of.board) k
@@ -76,6 +82,7 @@ abbrev pub is_indexed : Request → Bool
 is_indexed (put l i w) = nat_lt i l.shape.words
 is_indexed request = true
 
+-- each word is there
 abbrev pub all_put : List (Option ℕ) → Bool
 all_put [] = true
 all_put (None ∷ words) = false
@@ -86,6 +93,7 @@ abbrev pub is_filled : Request → Bool
 is_filled (publish l) = all_put l.words
 is_filled request = true
 
+-- why a free party may not begin a call, the first reason that holds
 abbrev pub call_reason : Standing → List ℕ → Call → Option Request → Option Reason
 call_reason s party c None = Some reason.Unknown
 call_reason s party c (Some request) =
@@ -101,11 +109,13 @@ free_reason free why = why
 free_reason (running r) why = Some reason.Busy
 free_reason gone why = Some reason.Abandoned
 
+-- why a party may not step
 abbrev pub step_reason : Party → Option Reason
 step_reason free = Some reason.Idle
 step_reason (running r) = None
 step_reason gone = Some reason.Abandoned
 
+-- why a party may not be abandoned
 abbrev pub abandon_reason : Party → Option Reason
 abandon_reason free = None
 abandon_reason (running r) = None
@@ -152,17 +162,19 @@ pub record IsTold (s : State) (party : List ℕ) (r : Running) (a : Access) (tol
   pub last : is_some told ≡ is_done r.request (r.so_far ++ a ∷ [])
   pub reply : IfSome told (λ x. x ≡ (ask s.standing s.published party r.request).reply)
 
+-- the rule on replies for the step of a party
 abbrev pub IsToldStep : State → List ℕ → Party → Answer → Type 0
 IsToldStep s party (running r) (answer.Step a told) = IsTold s party r a told
 IsToldStep s party x a = Unit {0}
 
+-- what is replied to a step is what the board would reply, and no other line is replied to
 abbrev pub IsReplied : State → Line → Answer → Type 0
 IsReplied s (line.Step party) a = IsToldStep s party (s.parties party) a
 IsReplied s l a = Unit {0}
 
 -- the answer is right where the session so far has led to this state; the first rule that fails is the one that is broken
 pub record IsRight (s : State) (l : Line) (a : Answer) : Type 0 where
-  pub line : IsLine l
+  pub line : IsWellFormed l
   pub answer : IsAnswer a
   pub reason : IsReasoned (reason_of s l) a
   pub owed : reason_of s l ≡ None → IsOwed s l a
@@ -184,10 +196,12 @@ stepped s party r a (Some told) = record {
   standing = (ask s.standing s.published party r.request).standing;
 }
 
+-- after a step of the party, which changes nothing where no call runs
 abbrev pub after_step : State → List ℕ → Party → Access → Option Reply → State
 after_step s party (running r) a told = stepped s party r a told
 after_step s party x a told = s
 
+-- after a line that was answered so
 abbrev pub after : State → Line → Answer → State
 after s (line.Begin party c) answer.Begun = record s { parties = with_party s.parties party (begun (request_of s.standing s.published party c)) }
 after s (line.Step party) (answer.Step a told) = after_step s party (s.parties party) a told
@@ -201,13 +215,16 @@ after s l a = s
 abbrev pub Session : Type 0
 Session = List (Line × Answer)
 
+-- after a session that began in this state
 abbrev pub state_after : State → Session → State
 state_after s [] = s
 state_after s (pair ∷ pairs) = state_after (after s pair.0 pair.1) pairs
 
+-- each answer is right after the lines before it
 abbrev pub IsLawfulFrom : State → Session → Type 0
 IsLawfulFrom s [] = Unit {0}
 IsLawfulFrom s (pair ∷ pairs) = IsRight s pair.0 pair.1 × IsLawfulFrom (after s pair.0 pair.1) pairs
 
+-- a session from the start in which each answer is right
 abbrev pub IsLawful : Session → Type 0
 IsLawful pairs = IsLawfulFrom start pairs

@@ -46,6 +46,7 @@ SessionsDrawTheirLength = (pairs : Session) → IsLawful pairs → IsWithin (sta
 
 -- ---- written words
 
+-- the first values of the entries that a call adds are numbers
 abbrev pub HasNumbersInTable : TableCall → Type 0
 HasNumbersInTable (create f name k limits attributes entries) = AllByRecursion IsAddedEntry entries
 HasNumbersInTable c = Unit {0}
@@ -58,6 +59,7 @@ HasNumbers (put l i w) = IsNumber w
 HasNumbers (fill l v) = IsValue v
 HasNumbers request = Unit {0}
 
+-- the words that the call of a party may write are numbers
 abbrev pub RunsNumbers : Party → Type 0
 RunsNumbers free = Unit {0}
 RunsNumbers (running r) = HasNumbers r.request

@@ -31,6 +31,7 @@ abbrev pub begins : List ℕ → Line → Answer → Bool
 begins party (line.Begin p c) answer.Begun = bytes_eq party p
 begins party l a = false
 
+-- a call of the party begins somewhere in the session
 abbrev pub begins_in : List ℕ → Session → Bool
 begins_in party [] = false
 begins_in party (pair ∷ pairs) = begins party pair.0 pair.1 || begins_in party pairs
@@ -74,10 +75,12 @@ abbrev pub UpdatesTakeTheirWords : Type 0
 UpdatesTakeTheirWords = (s : State) (party : List ℕ) (r : Running) (a : Access) (u : Publication) → IsLast s party r a → r.request ≡ update u
     → length (r.so_far ++ a ∷ []) ≡ u.shape.words + 1
 
+-- a fill takes as many steps as an update of the same size
 abbrev pub FillsTakeTheirWords : Type 0
 FillsTakeTheirWords = (s : State) (party : List ℕ) (r : Running) (a : Access) (l : Lending) (v : Value) → IsLast s party r a → r.request ≡ fill l v
     → length (r.so_far ++ a ∷ []) ≡ l.shape.words + 1
 
+-- the calls that may take more than one step
 abbrev pub is_long : Request → Bool
 is_long (get f) = true
 is_long (update u) = true

@@ -10,7 +10,7 @@ use Rattle.board_model.specs.declared.tables.Limits.{Limits}
 use Rattle.board_model.specs.declared.value.AddedEntry.{AddedEntry}
 use Rattle.board_model.specs.declared.value.Key.{Key}
 use Rattle.board_model.specs.declared.value.KeyType.{KeyType}
-use Rattle.board_model.specs.LineGrammar.{AreLimits, IsAddedEntry, IsKey, IsLine, IsNumber, is_board_name, is_name}
+use Rattle.board_model.specs.LineGrammar.{AreLimits, IsAddedEntry, IsKey, IsNumber, IsWellFormed, is_board_name, is_name}
 use Rattle.board_model.specs.AnswerGrammar.{IsAnswer}
 use Rattle.board_model.specs.TypeTable.{key_bytes, key_type_of, type_of_key}
 use Rattle.board_model.specs.Tables.{port_of}
@@ -30,6 +30,7 @@ pub record IsFormedEntry (k : KeyType) (e : Entry) : Type 0 where
   pub type : type_of_key added ≡ k
   pub bytes : e.key.bytes ≡ key_bytes added
 
+-- a board has a name and limits of the grammar, few attributes, and typed keys
 pub record IsFormedBoard (b : Board) : Type 0 where
   pub name : is_board_name b.name ≡ true
   pub readers : IsNumber b.max_readers
@@ -43,6 +44,7 @@ pub record IsFormedThing (last_port : ℕ) (t : Held) : Type 0 where
   pub holder : is_name t.holder ≡ true
   pub port : port_of t.kind ≤ last_port
 
+-- the boards and things are of the grammar, and at most so many things stand
 pub record AreFormedTables (t : BoardTables) (n : ℕ) : Type 0 where
   pub boards : AllByRecursion IsFormedBoard t.boards
   pub things : AllByRecursion (IsFormedThing t.last_port) t.things
@@ -56,11 +58,13 @@ pub record IsFormedCreate (name : List ℕ) (k : KeyType) (limits : Limits) (att
   pub each : AllByRecursion IsAddedEntry entries
   pub types : list_all (has_key_type k) entries ≡ true
 
+-- a new board of a call is of the grammar, and a thing that it asks for has a port that was drawn
 abbrev pub IsFormedInTable : ℕ → TableCall → Type 0
 IsFormedInTable n (create f name k limits attributes entries) = IsFormedCreate name k limits attributes entries
 IsFormedInTable n (identify x) = port_of x.kind ≤ n
 IsFormedInTable n c = Unit {0}
 
+-- the request of a call is of the grammar
 abbrev pub IsFormedRequest : ℕ → Request → Type 0
 IsFormedRequest n (table c) = IsFormedInTable n c
 IsFormedRequest n request = Unit {0}
@@ -84,7 +88,7 @@ SessionsKeepForms = (pairs : Session) → IsLawful pairs → AreFormed (state_af
 
 -- all rules of an answer but that it is one of the answer grammar
 pub record IsRightButForm (s : State) (l : Line) (a : Answer) : Type 0 where
-  pub line : IsLine l
+  pub line : IsWellFormed l
   pub reason : IsReasoned (reason_of s l) a
   pub owed : reason_of s l ≡ None → IsOwed s l a
   pub word : reason_of s l ≡ None → IsWord s l a
@@ -94,10 +98,10 @@ pub record IsRightButForm (s : State) (l : Line) (a : Answer) : Type 0 where
 abbrev pub RightAnswersAreOfTheGrammar : Type 0
 RightAnswersAreOfTheGrammar = (pairs : Session) (l : Line) (a : Answer) → IsLawful pairs → length pairs < 2 ^ 63 → IsRightButForm (state_after start pairs) l a → IsAnswer a
 
--- so each line of the grammar has a right answer: the rules never contradict each other
+-- so each well-formed line has a right answer: the rules never contradict each other
 abbrev pub EachLineHasAnAnswer : Type 0
-EachLineHasAnAnswer = (pairs : Session) (l : Line) → IsLawful pairs → length pairs < 2 ^ 63 → IsLine l → (a : Answer) × IsRight (state_after start pairs) l a
+EachLineHasAnAnswer = (pairs : Session) (l : Line) → IsLawful pairs → length pairs < 2 ^ 63 → IsWellFormed l → (a : Answer) × IsRight (state_after start pairs) l a
 
--- and each list of lines has a lawful session
+-- and each list of well-formed lines has a lawful session
 abbrev pub EachScriptHasASession : Type 0
-EachScriptHasASession = (lines : List Line) → AllByRecursion IsLine lines → length lines < 2 ^ 63 → (pairs : Session) × IsLawful pairs × (lines_of pairs ≡ lines)
+EachScriptHasASession = (lines : List Line) → AllByRecursion IsWellFormed lines → length lines < 2 ^ 63 → (pairs : Session) × IsLawful pairs × (lines_of pairs ≡ lines)

@@ -30,6 +30,7 @@ AsksInTable (entry name of k type) n key t = (of.board ≡ n) × (k ≡ key) × 
 AsksInTable (entry_mut name of k type) n key t = (of.board ≡ n) × (k ≡ key) × (type ≡ t)
 AsksInTable c n key t = ⊥
 
+-- the same of any call: those that do not go to the tables ask for none
 abbrev pub AsksForHandle : Request → ℕ → Key → ValueType → Type 0
 AsksForHandle (table c) n key t = AsksInTable c n key t
 AsksForHandle request n key t = ⊥

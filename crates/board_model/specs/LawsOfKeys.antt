@@ -17,6 +17,7 @@ pub record IsEquivalence (k : KeyType) : Type 0 where
   pub turned : (a b : List ℕ) → same_key k a b ≡ true → same_key k b a ≡ true
   pub joined : (a b c : List ℕ) → same_key k a b ≡ true → same_key k b c ≡ true → same_key k a c ≡ true
 
+-- this holds for the keys of each type
 abbrev pub EqualKeysAreAnEquivalence : Type 0
 EqualKeysAreAnEquivalence = (k : KeyType) → IsEquivalence k
 

@@ -2,6 +2,7 @@
 use Rattle.std.specs.Prelude.{◌≡◌, ℕ, ◌-◌, ◌^◌, List}
 use Rattle.board_model.specs.Script.{IsOutputOf, IsScript}
 
+-- an input has no two outputs
 abbrev pub InputsHaveOneOutput : Type 0
 InputsHaveOneOutput = (input one two : List ℕ) → IsOutputOf input one → IsOutputOf input two → one ≡ two
 

@@ -33,6 +33,7 @@ ReadsAreReplies = (s : State) (party : List ℕ) (r : Running) (a : Access) (t :
 
 -- ---- the reply that is told
 
+-- the calls whose reply comes from the words that they read
 abbrev pub reads : Request → Bool
 reads (get f) = true
 reads (fresh l) = true

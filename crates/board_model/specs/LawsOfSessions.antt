@@ -64,26 +64,31 @@ pub record IsLooked (s : State) (pair : Line × Answer) (b i g : ℕ) (still : B
 
 -- ---- how many pairs end a publication of the entry
 
+-- a call that gives the entry a new value once it ends
 abbrev pub is_publication : Request → ℕ → ℕ → Bool
 is_publication (update u) b i = (u.board == b) && (u.entry == i)
 is_publication (publish l) b i = (l.board == b) && (l.entry == i)
 is_publication (fill l v) b i = (l.board == b) && (l.entry == i)
 is_publication request b i = false
 
+-- the party's call is such a one, and ends here with a reply
 abbrev pub publishes_by : Party → Option Reply → ℕ → ℕ → Bool
 publishes_by (running r) (Some t) b i = is_publication r.request b i
 publishes_by party told b i = false
 
+-- the line and its answer end a publication of the entry
 abbrev pub publishes : State → Line → Answer → ℕ → ℕ → Bool
 publishes s (line.Step party) (answer.Step a told) b i = publishes_by (s.parties party) told b i
 publishes s l a b i = false
 
+-- how many values of the entry a session publishes from this state on
 abbrev pub publishes_in : State → Session → ℕ → ℕ → ℕ
 publishes_in s [] b i = 0
 publishes_in s (pair ∷ pairs) b i = (if publishes s pair.0 pair.1 b i then 1 else 0) + publishes_in (after s pair.0 pair.1) pairs b i
 
 -- ---- two pairs of a lawful session, one after the other
 
+-- two moments of one lawful session, and all that came before and between
 pub record Pairs : Type 0 where
   pub before : Session
   pub one : Line × Answer
@@ -95,6 +100,7 @@ pub record Pairs : Type 0 where
 abbrev pub at_one : Pairs → State
 at_one p = state_after start p.before
 
+-- the state that the second pair met
 abbrev pub at_two : Pairs → State
 at_two p = state_after start (p.before ++ (p.one ∷ p.between))
 

@@ -1,3 +1,4 @@
+-- what scripts, boards and sessions are, and the laws that hold of them
 pub mod Copies
 pub mod OwedAccesses
 pub mod TypeTable

@@ -20,45 +20,56 @@ use Rattle.board_model.specs.declared.line.Line.TheVariants as line
 
 -- ---- the tokens of a line, which are parted by one space
 
+-- how a line names a type of keys
 abbrev pub key_type_text : KeyType → List ℕ
 key_type_text key_type.U64 = codes "u64"
 key_type_text key_type.F8 = codes "f8"
 
+-- how a line names a type of values
 abbrev pub value_type_text : ValueType → List ℕ
 value_type_text type.Bool = codes "bool"
 value_type_text type.U64 = codes "u64"
 value_type_text type.Q4 = codes "q4"
 
+-- a key behind the name of its type
 abbrev pub key_text : Key → List ℕ
 key_text (key.U64 n) = codes "u64:" ++ decimal n
 key_text (key.F8 text) = codes "f8:" ++ text
 
+-- a value behind the name of its type
 abbrev pub value_text : Value → List ℕ
 value_text (value.Bool true) = codes "bool:true"
 value_text (value.Bool false) = codes "bool:false"
 value_text (value.U64 n) = codes "u64:" ++ decimal n
 value_text (value.Q4 a b c d) = codes "q4:" ++ join_with_byte 44 (decimal a ∷ decimal b ∷ decimal c ∷ decimal d ∷ [])
 
+-- a limit that is set stands behind its word
 abbrev pub limit_tokens : List ℕ → Option ℕ → List (List ℕ)
 limit_tokens word None = []
 limit_tokens word (Some n) = word ∷ decimal n ∷ []
 
+-- the limits that are set, readers first
 abbrev pub limits_tokens : Limits → List (List ℕ)
 limits_tokens l = limit_tokens (codes "readers") l.max_readers ++ limit_tokens (codes "nodes") l.max_nodes
 
+-- an attribute behind its word: key, then value
 abbrev pub pair_tokens : List ℕ → Attribute → List (List ℕ)
 pair_tokens word a = word ∷ a.key ∷ a.value ∷ []
 
+-- a key that is to be there, whatever its value
 abbrev pub needed_key_tokens : List ℕ → List (List ℕ)
 needed_key_tokens k = codes "needkey" ∷ k ∷ []
 
+-- an entry of a new board: key, then first value
 abbrev pub entry_tokens : AddedEntry → List (List ℕ)
 entry_tokens e = codes "add" ∷ key_text e.key ∷ value_text e.value ∷ []
 
+-- a name that may be left out
 abbrev pub name_tokens : Option (List ℕ) → List (List ℕ)
 name_tokens None = []
 name_tokens (Some v) = v ∷ []
 
+-- a call: its word, then what it names, then its optional parts
 abbrev pub call_tokens : Call → List (List ℕ)
 call_tokens (call.Create f name k limits attributes entries) =
     codes "create" ∷ f ∷ name ∷ key_type_text k ∷ (limits_tokens limits ++ (flat_map (pair_tokens (codes "attr")) attributes ++ flat_map entry_tokens entries))
@@ -82,6 +93,7 @@ call_tokens (call.Info f) = codes "info" ∷ f ∷ []
 call_tokens (call.Id t) = codes "id" ∷ t ∷ []
 call_tokens (call.Gen m) = codes "gen" ∷ m ∷ []
 
+-- a whole line, token after token
 abbrev pub tokens : Line → List (List ℕ)
 tokens (line.Begin p c) = codes "begin" ∷ p ∷ call_tokens c
 tokens (line.Step p) = codes "step" ∷ p ∷ []
@@ -89,6 +101,7 @@ tokens (line.Release p t) = codes "drop" ∷ p ∷ t ∷ []
 tokens (line.Abandon p) = codes "abandon" ∷ p ∷ []
 tokens (line.Words b) = codes "words" ∷ decimal b ∷ []
 
+-- the bytes of a line: its tokens with one space between two
 abbrev pub spell : Line → List ℕ
 spell l = join_with_byte 32 (tokens l)
 
@@ -102,6 +115,7 @@ is_name_byte b = nat_le 97 b && nat_le b 122 || nat_le 48 b && nat_le b 57
 abbrev pub is_name : List ℕ → Bool
 is_name text = not (length text == 0) && nat_le (length text) 16 && list_all is_name_byte text
 
+-- a printed character of ASCII other than the space
 abbrev pub is_visible_byte : ℕ → Bool
 is_visible_byte b = nat_le 33 b && nat_le b 126
 
@@ -109,56 +123,70 @@ is_visible_byte b = nat_le 33 b && nat_le b 126
 abbrev pub is_visible : ℕ → List ℕ → Bool
 is_visible most text = not (length text == 0) && nat_le (length text) most && list_all is_visible_byte text
 
+-- the name of a board
 abbrev pub is_board_name : List ℕ → Bool
 is_board_name text = is_visible 255 text
 
+-- a number of 64 bits
 abbrev pub IsNumber : ℕ → Type 0
 IsNumber n = n < 2 ^ 64
 
+-- a key that an entry may have
 abbrev pub IsKey : Key → Type 0
 IsKey (key.U64 n) = IsNumber n
 IsKey (key.F8 text) = is_visible 8 text ≡ true
 
+-- a value that an entry may have
 abbrev pub IsValue : Value → Type 0
 IsValue (value.Bool b) = Unit {0}
 IsValue (value.U64 n) = IsNumber n
 IsValue (value.Q4 a b c d) = IsNumber a × IsNumber b × IsNumber c × IsNumber d
 
+-- an entry that a new board may be given
 pub record IsAddedEntry (e : AddedEntry) : Type 0 where
   pub key : IsKey e.key
   pub value : IsValue e.value
 
+-- a number of 64 bits, where there is one
 abbrev pub IsNumberIfAny : Option ℕ → Type 0
 IsNumberIfAny None = Unit {0}
 IsNumberIfAny (Some n) = IsNumber n
 
+-- limits that a line may set
 pub record AreLimits (l : Limits) : Type 0 where
   pub readers : IsNumberIfAny l.max_readers
   pub nodes : IsNumberIfAny l.max_nodes
 
+-- the key of an attribute
 abbrev pub is_attribute_key : List ℕ → Bool
 is_attribute_key text = is_visible 64 text
 
+-- the value of an attribute
 abbrev pub is_attribute_value : List ℕ → Bool
 is_attribute_value text = is_visible 256 text
 
+-- an attribute that a board may have
 pub record IsAttribute (a : Attribute) : Type 0 where
   pub key : is_attribute_key a.key ≡ true
   pub value : is_attribute_value a.value ≡ true
 
+-- at most 8 attributes
 pub record AreAttributes (attributes : List Attribute) : Type 0 where
   pub few : length attributes ≤ 8
   pub each : AllByRecursion IsAttribute attributes
 
+-- at most 8 attributes and at most 8 keys that are to be there
 pub record AreRequirements (needs : Requirements) : Type 0 where
   pub pairs : AreAttributes needs.pairs
   pub few : length needs.keys ≤ 8
   pub each : AllByRecursion (λ k. is_attribute_key k ≡ true) needs.keys
 
+-- a name, where there is one
 abbrev pub IsNameIfAny : Option (List ℕ) → Type 0
 IsNameIfAny None = Unit {0}
 IsNameIfAny (Some v) = is_name v ≡ true
 
+-- the names, keys, values and numbers of a call are of the grammar
 abbrev pub IsCall : Call → Type 0
 IsCall (call.Create f name k limits attributes entries) = (is_name f ≡ true) × (is_board_name name ≡ true) × AreLimits limits × AreAttributes attributes × AllByRecursion IsAddedEntry entries
 IsCall (call.Open f name k limits needs) = (is_name f ≡ true) × (is_board_name name ≡ true) × AreLimits limits × AreRequirements needs
@@ -180,6 +208,7 @@ IsCall (call.Info f) = is_name f ≡ true
 IsCall (call.Id t) = is_name t ≡ true
 IsCall (call.Gen m) = is_name m ≡ true
 
+-- a line of some form, whether the program runs it or not
 abbrev pub IsWellFormed : Line → Type 0
 IsWellFormed (line.Begin p c) = (is_name p ≡ true) × IsCall c
 IsWellFormed (line.Step p) = is_name p ≡ true
@@ -198,11 +227,12 @@ runs_call (call.Publish l m) = false
 runs_call (call.Fill l m v) = false
 runs_call c = true
 
+-- all lines but those that begin a call of a loan
 abbrev pub runs : Line → Bool
 runs (line.Begin p c) = runs_call c
 runs l = true
 
--- a line of the grammar
+-- a line of the grammar: well formed, and of a form that the program runs
 pub record IsLine (l : Line) : Type 0 where
   pub formed : IsWellFormed l
   pub runs : runs l ≡ true

@@ -23,6 +23,7 @@ use Rattle.board_model.specs.LineGrammar.{is_attribute_key, is_attribute_value, 
 -- ---- readers, one after another
 
 infixl 10 ◌>>=◌
+-- go on with what was read, where something was
 abbrev pub ◌>>=◌ : {A B : Type 0} → Option A → (A → Option B) → Option B
 (Some x) >>= f = f x
 None >>= f = None
@@ -65,27 +66,35 @@ is_plain [] = false
 is_plain (c ∷ []) = true
 is_plain (c ∷ d ∷ cs) = not (c == 48)
 
+-- the number of a row of digits, where it fits in 64 bits
 abbrev pub read_digits : List ℕ → Option ℕ
 read_digits text = guard (all_ascii_digits text && nat_lt (read_on 0 text) 18446744073709551616) (Some (read_on 0 text))
 
+-- a number of 64 bits, written in its one way
 unfoldable pub read_number : List ℕ → Option ℕ
 read_number text = guard (is_plain text) (read_digits text)
 
+-- the name of a party or of a thing
 unfoldable pub read_name : List ℕ → Option (List ℕ)
 read_name text = guard (is_name text) (Some text)
 
+-- the name under which a board is created and opened
 unfoldable pub read_board_name : List ℕ → Option (List ℕ)
 read_board_name text = guard (is_board_name text) (Some text)
 
+-- the key of an attribute
 unfoldable pub read_attribute_key : List ℕ → Option (List ℕ)
 read_attribute_key text = guard (is_attribute_key text) (Some text)
 
+-- the value of an attribute
 unfoldable pub read_attribute_value : List ℕ → Option (List ℕ)
 read_attribute_value text = guard (is_attribute_value text) (Some text)
 
+-- the word for the type of the keys
 unfoldable pub read_key_type : List ℕ → Option KeyType
 read_key_type text = if bytes_eq text (codes "u64") then Some key_type.U64 else if bytes_eq text (codes "f8") then Some key_type.F8 else None
 
+-- the word for the type of a value
 unfoldable pub read_value_type : List ℕ → Option ValueType
 read_value_type text = if bytes_eq text (codes "bool") then Some type.Bool else if bytes_eq text (codes "u64") then Some type.U64 else if bytes_eq text (codes "q4") then Some type.Q4 else None
 
@@ -95,6 +104,7 @@ read_key_behind (Some digits) other = read_number digits >>= λ n. Some (key.U64
 read_key_behind None (Some text) = guard (is_visible 8 text) (Some (key.F8 text))
 read_key_behind None None = None
 
+-- a key, by the type before its colon
 unfoldable pub read_key : List ℕ → Option Key
 read_key text = read_key_behind (behind (codes "u64:") text) (behind (codes "f8:") text)
 
@@ -110,6 +120,7 @@ read_words_behind (Some digits) other = read_number digits >>= λ n. Some (value
 read_words_behind None (Some text) = read_four (slice_split (λ b. b == 44) text)
 read_words_behind None None = None
 
+-- a value, by the type before its colon
 unfoldable pub read_value : List ℕ → Option Value
 read_value text =
     if bytes_eq text (codes "bool:true") then Some (value.Bool true) else
@@ -151,9 +162,11 @@ read_needs ts =
 
 -- ---- calls
 
+-- an added entry: its word, its key and its first value
 unfoldable pub read_entry : List ℕ → List ℕ → List ℕ → Option AddedEntry
 read_entry word k v = guard (bytes_eq word (codes "add")) (read_key k >>= λ key. read_value v >>= λ value. Some (record { key = key; value = value }))
 
+-- the added entries, which take up the rest of the line
 unfoldable pub read_entries : List (List ℕ) → Option (List AddedEntry)
 read_entries [] = Some []
 read_entries (word ∷ []) = None
@@ -167,9 +180,11 @@ read_create ts =
     read_limits k.1 >>= λ limits. read_parts 8 (codes "attr") read_pair limits.1 >>= λ attributes. read_entries attributes.1 >>= λ entries.
     Some (call.Create f.0 n.0 k.0 limits.0 attributes.0 entries)
 
+-- a single name and no more
 unfoldable pub read_one_name : List (List ℕ) → Option (List ℕ)
 read_one_name ts = first_by read_name ts >>= λ a. guard (is_end a.1) (Some a.0)
 
+-- two names and no more
 unfoldable pub read_two_names : List (List ℕ) → Option (List ℕ × List ℕ)
 read_two_names ts = first_by read_name ts >>= λ a. first_by read_name a.1 >>= λ b. guard (is_end b.1) (Some (a.0, b.0))
 
@@ -185,27 +200,33 @@ read_open ts =
     read_limits k.1 >>= λ limits. read_needs limits.1 >>= λ needs.
     guard (is_end needs.1) (Some (call.Open f.0 n.0 k.0 limits.0 needs.0))
 
+-- asking a reader for a read handle: names, key and value type
 unfoldable pub read_entry_call : List (List ℕ) → Option Call
 read_entry_call ts =
     first_by read_name ts >>= λ h. first_by read_name h.1 >>= λ r. first_by read_key r.1 >>= λ k. first_by read_value_type k.1 >>= λ t.
     guard (is_end t.1) (Some (call.Entry h.0 r.0 k.0 t.0))
 
+-- asking a writer for a write handle: names, key and value type
 unfoldable pub read_entry_mut : List (List ℕ) → Option Call
 read_entry_mut ts =
     first_by read_name ts >>= λ m. first_by read_name m.1 >>= λ w. first_by read_key w.1 >>= λ k. first_by read_value_type k.1 >>= λ t.
     guard (is_end t.1) (Some (call.EntryMut m.0 w.0 k.0 t.0))
 
+-- reading by a handle, where a name may be given to what is read
 unfoldable pub read_get : List (List ℕ) → Option Call
 read_get ts = first_by read_name ts >>= λ h. read_name_if_any h.1 >>= λ v. Some (call.Get h.0 v)
 
+-- writing a value by a write handle
 unfoldable pub read_update : List (List ℕ) → Option Call
 read_update ts = first_by read_name ts >>= λ m. first_by read_value m.1 >>= λ v. guard (is_end v.1) (Some (call.Update m.0 v.0))
 
+-- putting one word into a loan, at an index
 unfoldable pub read_put : List (List ℕ) → Option Call
 read_put ts =
     first_by read_name ts >>= λ l. first_by read_number l.1 >>= λ i. first_by read_number i.1 >>= λ w.
     guard (is_end w.1) (Some (call.Put l.0 i.0 w.0))
 
+-- filling a loan with a whole value
 unfoldable pub read_fill : List (List ℕ) → Option Call
 read_fill ts =
     first_by read_name ts >>= λ l. first_by read_name l.1 >>= λ m. first_by read_value m.1 >>= λ v.
@@ -215,6 +236,7 @@ read_fill ts =
 abbrev pub is_single : List ℕ → Bool
 is_single word = bytes_eq word (codes "gen") || bytes_eq word (codes "keys") || bytes_eq word (codes "nodes") || bytes_eq word (codes "info") || bytes_eq word (codes "id")
 
+-- the call that such a word makes of its name
 unfoldable pub single_call : List ℕ → List ℕ → Option Call
 single_call word a =
     if bytes_eq word (codes "gen") then Some (call.Gen a) else
@@ -223,6 +245,7 @@ single_call word a =
     if bytes_eq word (codes "info") then Some (call.Info a) else
     if bytes_eq word (codes "id") then Some (call.Id a) else None
 
+-- the call that a word makes of the two names behind it
 unfoldable pub pair_call : List ℕ → List ℕ × List ℕ → Option Call
 pair_call word p =
     if bytes_eq word (codes "reader") then Some (call.Reader p.0 p.1) else
@@ -247,6 +270,7 @@ read_plain_call word ts =
     if bytes_eq word (codes "fill") then read_fill ts else
     read_named_call word ts
 
+-- the call that a word and the tokens behind it are
 unfoldable pub read_call : List ℕ → List (List ℕ) → Option Call
 read_call word ts =
     if bytes_eq word (codes "create") then read_create ts else
@@ -255,11 +279,13 @@ read_call word ts =
 
 -- ---- lines
 
+-- a line that begins a call: a party, and what it calls
 unfoldable pub read_begin : List (List ℕ) → Option Line
 read_begin [] = None
 read_begin (p ∷ []) = None
 read_begin (p ∷ word ∷ rest) = read_name p >>= λ party. read_call word rest >>= λ c. Some (line.Begin party c)
 
+-- a line that asks for the words of a board, by its number
 unfoldable pub read_words : List (List ℕ) → Option Line
 read_words ts = first_by read_number ts >>= λ n. guard (is_end n.1) (Some (line.Words n.0))
 

@@ -21,6 +21,7 @@ IsStanding memory (access.Write board word value) = Unit {0}
 abbrev pub store : (ℕ → List ℕ) → ℕ → ℕ → ℕ → ℕ → List ℕ
 store memory board word value n = if n == board then slice_set (memory n) word value else memory n
 
+-- the words of the boards after an access: only a write changes them
 abbrev pub after_access : (ℕ → List ℕ) → Access → ℕ → List ℕ
 after_access memory access.Table = memory
 after_access memory (access.Read board word value) = memory
@@ -30,6 +31,7 @@ after_access memory (access.Write board word value) = store memory board word va
 abbrev pub opening_of : List AddedEntry → List ℕ
 opening_of entries = opening_words 0 (places_from 0 (shapes_of (map added_of entries))) (map (λ (e : AddedEntry). value_words e.value) entries)
 
+-- the board with this number has these words, and the others stay as they are
 abbrev pub with_board : (ℕ → List ℕ) → ℕ → List ℕ → ℕ → List ℕ
 with_board memory board words n = if n == board then words else memory n
 

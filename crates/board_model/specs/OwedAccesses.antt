@@ -11,6 +11,7 @@ pub data Owed : Type 0 where
   to_read : (board word : ℕ) → Owed
   to_write : (board word value : ℕ) → Owed
 
+-- an access as it was owed, without the word that was read
 abbrev pub owed_of : Access → Owed
 owed_of access.Table = to_table
 owed_of (access.Read board word value) = to_read board word
@@ -39,6 +40,7 @@ abbrev pub reading_from : ℕ → Reading → List ℕ → Reading
 reading_from w r [] = r
 reading_from w r (v ∷ vs) = reading_from w (hear w r v) vs
 
+-- the get has found its counter unchanged, and so has its value
 abbrev pub is_finished : Reading → Bool
 is_finished opening = false
 is_finished (trying c words) = false

@@ -17,6 +17,7 @@ pub record Running : Type 0 where
   pub so_far : List Access
   pub passed : ℕ
 
+-- a party is free for a call, runs one, or was abandoned
 pub data Party : Type 0 where
   free : Party
   running : Running → Party
@@ -69,13 +70,16 @@ reply_read request so_far = None
 
 -- ---- changes
 
+-- the party is this from now on, and the others stay as they are
 abbrev pub with_party : (List ℕ → Party) → List ℕ → Party → List ℕ → Party
 with_party parties party x p = if bytes_eq p party then x else parties p
 
+-- a party whose call has just begun; free where there was none to run
 abbrev pub begun : Option Request → Party
 begun None = free
 begun (Some request) = running (record { request = request; so_far = []; passed = 0 })
 
+-- the word is the counter of the entry that the call gets
 abbrev pub is_counter_of : Request → ℕ → ℕ → Bool
 is_counter_of (get f) board word = (f.board == board) && (f.shape.first == word)
 is_counter_of request board word = false
@@ -84,6 +88,7 @@ is_counter_of request board word = false
 abbrev pub count_write : Running → ℕ → ℕ → ℕ
 count_write r board word = if is_counter_of r.request board word && not (length r.so_far == 0) then r.passed + 1 else r.passed
 
+-- a party after an access: a get takes note when its counter is written
 abbrev pub notice : Access → Party → Party
 notice (access.Write board word value) (running r) = running (record r { passed = count_write r board word })
 notice a x = x

@@ -20,18 +20,22 @@ use Rattle.board_model.specs.TableCalls.{create_asked, entry_asked, entry_mut_as
 use Rattle.board_model.specs.Things.{Held, Standing, is_held_as, thing_of, with_at, with_name}
 use Rattle.board_model.specs.Requests.{Fetch, Lending, Published, Request, TableCall, create, describe, entry, entry_mut, fill, fresh, get, give_back, handled, identify, join, lend, list_keys, list_nodes, publish, put, reader, table, tell, update, writer}
 
+-- what a call is told, and what stands after it
 pub record Asked : Type 0 where
   pub reply : Reply
   pub standing : Standing
 
+-- a call that is told something and changes nothing
 abbrev pub only_told : Standing → Reply → Asked
 only_told s r = record { reply = r; standing = s }
 
 -- ---- calls on the tables
 
+-- an entry that a script adds, as the tables take it: in bytes and words
 abbrev pub added_of : AddedEntry → Added
 added_of e = record { key = key_bytes e.key; value = value_detail (type_of e.value); words = value_words e.value }
 
+-- the reply to a call on the tables that gives a number or fails
 abbrev pub number_or : {E : Type 0} → (E → Reply) → Result ℕ E → Reply
 number_or error (Ok n) = reply.Number n
 number_or error (Err e) = error e
@@ -44,18 +48,22 @@ told_by s error result = record { reply = number_or error result.0; standing = r
 abbrev pub is_key : Key → List ℕ → Bool
 is_key k bytes = same_key (type_of_key k) bytes (key_bytes k)
 
+-- the words of a new loan: none of them was put yet
 abbrev pub none_put : ℕ → List (Option ℕ)
 none_put w = replicate w None
 
 -- ---- what is told of a board
 
+-- the keys of these entries, read back from their bytes
 abbrev pub keys_of : KeyType → List Entry → List Key
 keys_of k entries = map (λ (e : Entry). key_of k e.key.bytes) entries
 
+-- the keys of a board, in the order of its entries
 abbrev pub keys_in : Option Board → List Key
 keys_in None = []
 keys_in (Some b) = keys_of (key_type_of b.key) b.entries
 
+-- the first text comes before the second in the order of their bytes
 abbrev pub is_before : List ℕ → List ℕ → Bool
 is_before x y = is_lt (slice_cmp nat_cmp x y)
 
@@ -69,6 +77,7 @@ abbrev pub nodes_of : ℕ → List Held → List (List ℕ)
 nodes_of board [] = []
 nodes_of board (t ∷ ts) = if is_of_board board t then placed_once t.holder (nodes_of board ts) else nodes_of board ts
 
+-- what would be told where no board stands
 abbrev pub no_info : Info
 no_info = record { name = []; key_type = key_type.U64; max_readers = 0; max_nodes = 0; entries = 0; attributes = 0; readers = 0; writers = 0; nodes = 0 }
 
@@ -87,6 +96,7 @@ info_of things (Some b) = record {
   nodes = nodes_taken bytes_eq b.number things;
 }
 
+-- the entry id, which is the byte where its cell begins; 0 without an entry
 abbrev pub place_in : Option Entry → ℕ
 place_in None = 0
 place_in (Some e) = e.cell.place
@@ -103,6 +113,7 @@ id_number s t k = place_in (handled s t)
 abbrev pub latest : List (List ℕ) → List ℕ
 latest list = slice_index_or list (length list - 1) []
 
+-- an added entry begins with one published value: the one that was given
 abbrev pub first_list : Option AddedEntry → List (List ℕ)
 first_list None = []
 first_list (Some e) = value_words e.value ∷ []
@@ -115,6 +126,7 @@ opened lists n entries m i = if m == n then first_list (slice_get entries i) els
 abbrev pub published_at : Published → ℕ → ℕ → List ℕ → Published
 published_at lists n i value m j = if m == n && j == i then lists n i ++ value ∷ [] else lists m j
 
+-- the word of a loan as it is published; 0 where none was put
 abbrev pub word_put : Option ℕ → ℕ
 word_put None = 0
 word_put (Some w) = w
@@ -134,9 +146,11 @@ lent s party l = record s { tables = with_name s.tables party l.handle l.loan; l
 abbrev pub given_back : Standing → List ℕ → Lending → Standing
 given_back s party l = record s { tables = with_name s.tables party l.loan l.handle; loans = with_at s.loans party l.loan None }
 
+-- one word of the loan was put
 abbrev pub with_word : Standing → List ℕ → Lending → ℕ → ℕ → Standing
 with_word s party l i w = record s { loans = with_at s.loans party l.loan (Some (slice_set l.words i (Some w))) }
 
+-- the reply to a call on the tables, and what stands after it
 abbrev pub ask_tables : Standing → Published → List ℕ → TableCall → Asked
 ask_tables s lists party (create f name k limits attributes entries) = told_by s reply.CreateError (create_asked (same_key k) s.tables party f name (key_detail k) limits attributes (map added_of entries))
 ask_tables s lists party (join f name k limits needs) = told_by s reply.OpenError (open_asked bytes_eq s.tables party f name (key_detail k) limits needs)
@@ -175,6 +189,7 @@ lists_after lists request told = lists
 
 -- ---- drop
 
+-- the tables without the thing that was found under the name, if one was
 abbrev pub released_thing : Tables (List ℕ) (List ℕ) → List ℕ → List ℕ → Option Held → Tables (List ℕ) (List ℕ)
 released_thing t party name None = t
 released_thing t party name (Some x) = released t (is_held_as party name) x.board

@@ -77,6 +77,7 @@ pub data TableCall : Type 0 where
   identify : (thing : Held) → TableCall
   tell : (handle : Held) → TableCall
 
+-- a call that can run: one step on the tables, or accesses to an entry
 pub data Request : Type 0 where
   table : TableCall → Request
   get : Fetch → Request
@@ -88,6 +89,7 @@ pub data Request : Type 0 where
 
 -- ---- finding what a call uses
 
+-- the search goes on from what was found, and ends where nothing was
 abbrev pub and_then : {A B : Type 0} → Option A → (A → Option B) → Option B
 and_then None f = None
 and_then (Some x) f = f x
@@ -112,6 +114,7 @@ identified s party name =
 abbrev pub handled : Standing → Held → Option Entry
 handled s t = entry_at s.tables t.board (entry_of t.kind)
 
+-- a call that makes, uses or ends a loan, with its entry looked up
 abbrev pub lending : Standing → Published → List ℕ → List ℕ → Held → List (Option ℕ) → (Lending → Request) → Option Request
 lending s lists l m t words make = and_then (handled s t) (λ e. Some (make (record {
   board = t.board;

@@ -43,9 +43,11 @@ pub record IsTyped (e : Entry) : Type 0 where
   pub detail : e.value ≡ value_detail type
   pub words : e.cell.words ≡ word_count type
 
+-- the tables of a script, where parties hold things under texts
 abbrev pub BoardTables : Type 0
 BoardTables = Tables (List ℕ) (List ℕ)
 
+-- what holds of the boards, of their words and of what was published
 pub record AreBoards (t : BoardTables) (memory : ℕ → List ℕ) (published : Published) : Type 0 where
   -- a board that stands has a number of its own that was drawn, and a key type
   pub numbered : (n : ℕ) (b : Board) → board_at t n ≡ Some b → n ≤ t.last_board
@@ -73,6 +75,7 @@ pub record IsLent (words : List ℕ) (c : CellShape) (g : ℕ) (put_words : List
   pub size : length put_words ≡ c.words
   pub stands : IsPut words (spare_at c g) put_words
 
+-- the call fills a loan of this entry
 abbrev pub is_filling : Request → ℕ → ℕ → Bool
 is_filling (fill l v) b i = (l.board == b) && (l.entry == i)
 is_filling q b i = false
@@ -103,9 +106,11 @@ HasEntryAt t board (kind.Writer port) = Unit {0}
 HasEntryAt t board (kind.ReadHandle i) = is_some (entry_at t board i) ≡ true
 HasEntryAt t board (kind.WriteHandle i port) = is_some (entry_at t board i) ≡ true
 
+-- if the thing is a handle, its entry stands
 abbrev pub HasEntry : BoardTables → Held → Type 0
 HasEntry t x = HasEntryAt t x.board x.kind
 
+-- what holds of the things of boards, and of the loans among them
 pub record AreThings (s : Standing) (memory : ℕ → List ℕ) (published : Published) (parties : List ℕ → Party) : Type 0 where
   -- at most one write handle or loan of an entry is a thing
   pub handles : (n i : ℕ) → count_by (is_write_handle n i) s.tables.things ≤ 1
@@ -156,6 +161,7 @@ pub record IsTrying (list : List (List ℕ)) (w n p c : ℕ) (words : List ℕ) 
   pub least : 1 + length words ≤ n
   pub most : n + (length list - c) * (w + 1) ≤ 1 + p * (w + 1) + length words
 
+-- a get that still runs: it has read nothing, or is in an open try
 abbrev pub IsReading : List (List ℕ) → ℕ → ℕ → ℕ → Reading → Type 0
 IsReading list w n p opening = n ≡ 0
 IsReading list w n p (trying c words) = IsTrying list w n p c words
@@ -167,6 +173,7 @@ pub record IsGetting (s : State) (party : List ℕ) (f : Fetch) (so_far : List A
   pub hold : IsOfBoard s.standing.tables party f.handle f.board
   pub try : IsReading (s.published f.board f.entry) f.shape.words (length so_far) p (reading f.shape.words so_far)
 
+-- a running look: its entry stands, and the party still holds something of the board
 pub record IsLooking (s : State) (party : List ℕ) (l : Look) : Type 0 where
   pub place : IsEntryOf s.standing.tables l.board l.entry l.shape
   pub hold : IsOfBoard s.standing.tables party l.handle l.board
@@ -217,11 +224,13 @@ IsCalling s party r (put l i w) = (length r.so_far ≡ 0) × IsPutting s party l
 IsCalling s party r (publish l) = (length r.so_far ≡ 0) × IsFree s.standing party l.handle × IsPublishing s party l.loan l.board l.entry l.shape l.generation (map word_put l.words) l.shape.words true
 IsCalling s party r (fill l v) = IsFree s.standing party l.handle × IsPublishing s party l.loan l.board l.entry l.shape l.generation (value_words v) (length r.so_far) true
 
+-- what holds of a party: only a call that runs says something
 abbrev pub IsParty : State → List ℕ → Party → Type 0
 IsParty s party free = Unit {0}
 IsParty s party (running r) = IsCalling s party r r.request
 IsParty s party gone = Unit {0}
 
+-- a state whose boards, things and running calls all fit together
 pub record Sound (s : State) : Type 0 where
   pub boards : AreBoards s.standing.tables s.memory s.published
   pub things : AreThings s.standing s.memory s.published s.parties

@@ -42,6 +42,7 @@ abbrev pub asked : {A E T : Type 0} → Option E → A → T → T → Result A 
 asked None x after before = (Ok x, after)
 asked (Some e) x after before = (Err e, before)
 
+-- the tables with one more thing, after all the others
 abbrev pub with_thing : {H N : Type 0} → Tables H N → Thing H N → Tables H N
 with_thing t x = record t { things = t.things ++ x ∷ [] }
 
@@ -51,6 +52,7 @@ with_thing t x = record t { things = t.things ++ x ∷ [] }
 abbrev pub is_corrupted : (List ℕ → List ℕ → Bool) → List Added → Bool
 is_corrupted same_key entries = has_equal_keys same_key entries || nat_lt 4294967295 (payload (shapes_of entries))
 
+-- why a new board may be refused, in the order of trying
 abbrev pub create_refusals : (List ℕ → List ℕ → Bool) → List Board → List ℕ → List Added → List (Bool × BlackboardCreateError)
 create_refusals same_key boards name entries =
     (list_any (has_name name) boards, create_error.AlreadyExists)
@@ -65,12 +67,14 @@ created t holder name board key limits attributes entries =
     (record t { boards = t.boards ++ new_board (t.last_board + 1) board key limits attributes entries ∷ []; last_board = t.last_board + 1 })
     (record { holder = holder; name = name; board = t.last_board + 1; kind = kind.Factory })
 
+-- what the making of a board is told, and the tables after it
 abbrev pub create_asked : {H N : Type 0} → (List ℕ → List ℕ → Bool) → Tables H N → H → N → List ℕ → TypeDetail → Limits → List Attribute → List Added → Result ℕ BlackboardCreateError × Tables H N
 create_asked same_key t holder name board key limits attributes entries =
     asked (first_of (create_refusals same_key t.boards board entries)) (t.last_board + 1) (created t holder name board key limits attributes entries) t
 
 -- ---- open
 
+-- more is asked for than the limit of the board
 abbrev pub asks_above : Option ℕ → ℕ → Bool
 asks_above asked limit = holds_at asked (λ n. nat_lt limit n)
 
@@ -78,6 +82,7 @@ asks_above asked limit = holds_at asked (λ n. nat_lt limit n)
 abbrev pub has_all_nodes : {H N : Type 0} → (H → H → Bool) → H → List (Thing H N) → Board → Bool
 has_all_nodes same holder things b = not (is_node same b.number holder things) && nat_le b.max_nodes (nodes_taken same b.number things)
 
+-- why an opening of a board may be refused, in the order of trying
 abbrev pub open_refusals : {H N : Type 0} → (H → H → Bool) → List (Thing H N) → H → Option Board → TypeDetail → Limits → Requirements → List (Bool × BlackboardOpenError)
 open_refusals same things holder board key limits needs =
     (is_none board, open_error.DoesNotExist)
@@ -88,6 +93,7 @@ open_refusals same things holder board key limits needs =
     ∷ (holds_at board (has_all_nodes same holder things), open_error.ExceedsMaxNumberOfNodes)
     ∷ []
 
+-- the number of the board that was found; 0 where none was
 abbrev pub number_of : Option Board → ℕ
 number_of None = 0
 number_of (Some b) = b.number
@@ -96,19 +102,23 @@ number_of (Some b) = b.number
 abbrev pub joined : {H N : Type 0} → Tables H N → H → N → Option Board → Tables H N
 joined t holder name board = with_thing t (record { holder = holder; name = name; board = number_of board; kind = kind.Factory })
 
+-- what the opening of a board is told, and the tables after it
 abbrev pub open_asked : {H N : Type 0} → (H → H → Bool) → Tables H N → H → N → List ℕ → TypeDetail → Limits → Requirements → Result ℕ BlackboardOpenError × Tables H N
 open_asked same t holder name board key limits needs =
     asked (first_of (open_refusals same t.things holder (board_named t board) key limits needs)) (number_of (board_named t board)) (joined t holder name (board_named t board)) t
 
 -- ---- ports; `of` is the factory
 
+-- a board has as many reader slots as its limit says
 abbrev pub reader_refusals : {H N : Type 0} → List (Thing H N) → Option Board → List (Bool × ReaderCreateError)
 reader_refusals things board = (holds_at board (λ b. nat_le b.max_readers (reader_slots b.number things)), reader_error.ExceedsMaxSupportedReaders) ∷ []
 
+-- one more reader for the factory's holder, with the next port number
 abbrev pub with_reader : {H N : Type 0} → Tables H N → Thing H N → N → Tables H N
 with_reader t of name =
     with_thing (record t { last_port = t.last_port + 1 }) (record { holder = of.holder; name = name; board = of.board; kind = kind.Reader (t.last_port + 1) })
 
+-- what the making of a reader is told, and the tables after it
 abbrev pub reader_asked : {H N : Type 0} → Tables H N → Thing H N → N → Result ℕ ReaderCreateError × Tables H N
 reader_asked t of name = asked (first_of (reader_refusals t.things (board_at t of.board))) (t.last_port + 1) (with_reader t of name) t
 
@@ -116,15 +126,18 @@ reader_asked t of name = asked (first_of (reader_refusals t.things (board_at t o
 abbrev pub writer_refusals : {H N : Type 0} → List (Thing H N) → ℕ → List (Bool × WriterCreateError)
 writer_refusals things board = (nat_le 1 (writer_slots board things), writer_error.ExceedsMaxSupportedWriters) ∷ []
 
+-- one more writer for the factory's holder, with the next port number
 abbrev pub with_writer : {H N : Type 0} → Tables H N → Thing H N → N → Tables H N
 with_writer t of name =
     with_thing (record t { last_port = t.last_port + 1 }) (record { holder = of.holder; name = name; board = of.board; kind = kind.Writer (t.last_port + 1) })
 
+-- what the making of a writer is told, and the tables after it
 abbrev pub writer_asked : {H N : Type 0} → Tables H N → Thing H N → N → Result ℕ WriterCreateError × Tables H N
 writer_asked t of name = asked (first_of (writer_refusals t.things of.board)) (t.last_port + 1) (with_writer t of name) t
 
 -- ---- handles; `of` is the reader or writer, and `found` the entry that was looked up, with its place
 
+-- the place of the entry that was found; 0 where none was
 abbrev pub place_of : Option (ℕ × Entry) → ℕ
 place_of None = 0
 place_of (Some found) = found.0
@@ -134,26 +147,32 @@ abbrev pub id_of : Option (ℕ × Entry) → ℕ
 id_of None = 0
 id_of (Some found) = found.1.cell.place
 
+-- a read handle is refused only where no such entry was found
 abbrev pub entry_refusals : Option (ℕ × Entry) → List (Bool × EntryHandleError)
 entry_refusals found = (is_none found, entry_error.EntryDoesNotExist) ∷ []
 
+-- one more read handle for the reader's holder, of the entry that was found
 abbrev pub with_read_handle : {H N : Type 0} → Tables H N → Thing H N → N → Option (ℕ × Entry) → Tables H N
 with_read_handle t of name found =
     with_thing t (record { holder = of.holder; name = name; board = of.board; kind = kind.ReadHandle (place_of found) })
 
+-- what the making of a read handle is told, and the tables after it
 abbrev pub entry_asked : {H N : Type 0} → Tables H N → Thing H N → N → Option (ℕ × Entry) → Result ℕ EntryHandleError × Tables H N
 entry_asked t of name found = asked (first_of (entry_refusals found)) (id_of found) (with_read_handle t of name found) t
 
+-- a write handle is refused where no entry was found, or it has one already
 abbrev pub entry_mut_refusals : {H N : Type 0} → List (Thing H N) → ℕ → Option (ℕ × Entry) → List (Bool × EntryHandleMutError)
 entry_mut_refusals things board found =
     (is_none found, entry_mut_error.EntryDoesNotExist)
     ∷ (holds_at found (λ f. list_any (is_write_handle board f.0) things), entry_mut_error.HandleAlreadyExists)
     ∷ []
 
+-- one more write handle for the writer's holder, which keeps the writer's port
 abbrev pub with_write_handle : {H N : Type 0} → Tables H N → Thing H N → N → Option (ℕ × Entry) → Tables H N
 with_write_handle t of name found =
     with_thing t (record { holder = of.holder; name = name; board = of.board; kind = kind.WriteHandle (place_of found) (port_of of.kind) })
 
+-- what the making of a write handle is told, and the tables after it
 abbrev pub entry_mut_asked : {H N : Type 0} → Tables H N → Thing H N → N → Option (ℕ × Entry) → Result ℕ EntryHandleMutError × Tables H N
 entry_mut_asked t of name found = asked (first_of (entry_mut_refusals t.things of.board found)) (id_of found) (with_write_handle t of name found) t
 

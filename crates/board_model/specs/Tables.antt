@@ -45,15 +45,19 @@ without p (x ∷ xs) = if p x then xs else x ∷ without p xs
 
 -- ---- looking up
 
+-- it is the board that was given this number
 abbrev pub is_numbered : ℕ → Board → Bool
 is_numbered number b = b.number == number
 
+-- it is the board that is called so
 abbrev pub has_name : List ℕ → Board → Bool
 has_name name b = bytes_eq b.name name
 
+-- the board that stands under a number, if one does
 abbrev pub board_at : {H N : Type 0} → Tables H N → ℕ → Option Board
 board_at t number = find (is_numbered number) t.boards
 
+-- the board that stands under a name, if one does
 abbrev pub board_named : {H N : Type 0} → Tables H N → List ℕ → Option Board
 board_named t name = find (has_name name) t.boards
 
@@ -62,6 +66,7 @@ abbrev pub entry_in : Option Board → ℕ → Option Entry
 entry_in None i = None
 entry_in (Some b) i = slice_get b.entries i
 
+-- the entry at a place of the board with this number, if there is one
 abbrev pub entry_at : {H N : Type 0} → Tables H N → ℕ → ℕ → Option Entry
 entry_at t number i = entry_in (board_at t number) i
 
@@ -82,6 +87,7 @@ entry_found (Some b) is_key value = of_type value (entry_from 0 is_key b.entries
 
 -- ---- what a thing is
 
+-- what a thing is, without its port and its entry
 abbrev pub kind_of : Kind → ThingKind
 kind_of kind.Factory = thing_kind.Factory
 kind_of (kind.Reader port) = thing_kind.Reader
@@ -89,6 +95,7 @@ kind_of (kind.Writer port) = thing_kind.Writer
 kind_of (kind.ReadHandle entry) = thing_kind.ReadHandle
 kind_of (kind.WriteHandle entry port) = thing_kind.WriteHandle
 
+-- whether two kinds of things are one
 abbrev pub same_kind : ThingKind → ThingKind → Bool
 same_kind thing_kind.Factory thing_kind.Factory = true
 same_kind thing_kind.Reader thing_kind.Reader = true
@@ -97,6 +104,7 @@ same_kind thing_kind.ReadHandle thing_kind.ReadHandle = true
 same_kind thing_kind.WriteHandle thing_kind.WriteHandle = true
 same_kind a b = false
 
+-- the port number that a thing keeps; 0 where it keeps none
 abbrev pub port_of : Kind → ℕ
 port_of kind.Factory = 0
 port_of (kind.Reader port) = port
@@ -112,11 +120,13 @@ entry_of (kind.Writer port) = 0
 entry_of (kind.ReadHandle entry) = entry
 entry_of (kind.WriteHandle entry port) = entry
 
+-- the thing belongs to the board with this number
 abbrev pub is_of_board : {H N : Type 0} → ℕ → Thing H N → Bool
 is_of_board board t = t.board == board
 
 -- ---- what is counted over the things
 
+-- a reader, which takes one of the reader slots
 abbrev pub is_reader : Kind → Bool
 is_reader kind.Factory = false
 is_reader (kind.Reader port) = true
@@ -124,6 +134,7 @@ is_reader (kind.Writer port) = false
 is_reader (kind.ReadHandle entry) = false
 is_reader (kind.WriteHandle entry port) = false
 
+-- the thing takes a reader slot of this board
 abbrev pub is_reader_of : {H N : Type 0} → ℕ → Thing H N → Bool
 is_reader_of board t = is_of_board board t && is_reader t.kind
 
@@ -139,6 +150,7 @@ writer_port (kind.Writer port) = Some port
 writer_port (kind.ReadHandle entry) = None
 writer_port (kind.WriteHandle entry port) = Some port
 
+-- the thing keeps the writer slot of this port of the board
 abbrev pub is_of_port : {H N : Type 0} → ℕ → ℕ → Thing H N → Bool
 is_of_port board port t = is_of_board board t && holds_at (writer_port t.kind) (λ p. p == port)
 
@@ -159,9 +171,11 @@ writes_entry i (kind.Writer port) = false
 writes_entry i (kind.ReadHandle entry) = false
 writes_entry i (kind.WriteHandle entry port) = entry == i
 
+-- through this thing the entry at a place of the board may be written
 abbrev pub is_write_handle : {H N : Type 0} → ℕ → ℕ → Thing H N → Bool
 is_write_handle board i t = is_of_board board t && writes_entry i t.kind
 
+-- the thing is of the board, and the holder has it
 abbrev pub is_held_by : {H N : Type 0} → (H → H → Bool) → ℕ → H → Thing H N → Bool
 is_held_by same board holder t = is_of_board board t && same t.holder holder
 
@@ -178,19 +192,24 @@ nodes_taken same board (t ∷ ts) =
 
 -- ---- new boards
 
+-- the room that an added entry needs for a copy of its value
 abbrev pub shape_of : Added → Shape
 shape_of a = record { words = length a.words; alignment = a.value.alignment }
 
+-- the room that each of the added entries needs, in their order
 abbrev pub shapes_of : List Added → List Shape
 shapes_of entries = map shape_of entries
 
+-- one of the added entries has a key that is equal to this one
 abbrev pub has_key : (List ℕ → List ℕ → Bool) → List ℕ → List Added → Bool
 has_key same key entries = list_any (λ a. same a.key key) entries
 
+-- two of the added entries have equal keys
 abbrev pub has_equal_keys : (List ℕ → List ℕ → Bool) → List Added → Bool
 has_equal_keys same [] = false
 has_equal_keys same (a ∷ more) = has_key same a.key more || has_equal_keys same more
 
+-- what was added, each at the cell that was planned for it
 abbrev pub entries_of : List CellPlace → List Added → List Entry
 entries_of [] entries = []
 entries_of (c ∷ cs) [] = []
@@ -201,6 +220,7 @@ abbrev pub limit_of : ℕ → Option ℕ → ℕ
 limit_of default None = default
 limit_of default (Some n) = max n 1
 
+-- a board as it is made, with its limits settled and its cells planned
 abbrev pub new_board : ℕ → List ℕ → TypeDetail → Limits → List Attribute → List Added → Board
 new_board number name key limits attributes entries = record {
   number = number;
@@ -214,19 +234,24 @@ new_board number name key limits attributes entries = record {
 
 -- ---- attributes
 
+-- one of the attributes is this key with this value
 abbrev pub has_pair : List Attribute → Attribute → Bool
 has_pair attributes p = list_any (λ (a : Attribute). bytes_eq a.key p.key && bytes_eq a.value p.value) attributes
 
+-- one of the attributes has this key, whatever its value
 abbrev pub has_attribute : List Attribute → List ℕ → Bool
 has_attribute attributes key = list_any (λ (a : Attribute). bytes_eq a.key key) attributes
 
+-- the attributes have every pair and every key that is needed
 abbrev pub meets : Requirements → List Attribute → Bool
 meets needs attributes = list_all (has_pair attributes) needs.pairs && list_all (has_attribute attributes) needs.keys
 
 -- ---- the same tables, with other holders and names
 
+-- the same thing, with another holder and another name
 abbrev pub rename : {H N K M : Type 0} → (H → K) → (N → M) → Thing H N → Thing K M
 rename f g t = record { holder = f t.holder; name = g t.name; board = t.board; kind = t.kind }
 
+-- the same boards and things, where each thing has another holder and name
 abbrev pub renamed : {H N K M : Type 0} → (H → K) → (N → M) → Tables H N → Tables K M
 renamed f g t = record { boards = t.boards; things = map (rename f g) t.things; last_board = t.last_board; last_port = t.last_port }

@@ -26,6 +26,7 @@ pub record Standing : Type 0 where
 
 -- ---- looking up
 
+-- the thing belongs to the party and goes by the name
 abbrev pub is_held_as : List ℕ → List ℕ → Held → Bool
 is_held_as party name t = bytes_eq t.holder party && bytes_eq t.name name
 
@@ -38,6 +39,7 @@ abbrev pub of_kind : ThingKind → Option Held → Option Held
 of_kind k None = None
 of_kind k (Some t) = if same_kind (kind_of t.kind) k then Some t else None
 
+-- the thing that a party holds under a name, if it is of this kind
 abbrev pub held_of_kind : Standing → ThingKind → List ℕ → List ℕ → Option Held
 held_of_kind s k party name = of_kind k (thing_of s.tables.things party name)
 
@@ -51,6 +53,7 @@ is_held s party name = is_some (thing_of s.tables.things party name) || is_some 
 abbrev pub with_at : {A : Type 0} → (List ℕ → List ℕ → Option A) → List ℕ → List ℕ → Option A → List ℕ → List ℕ → Option A
 with_at f party name x p n = if bytes_eq p party && bytes_eq n name then x else f p n
 
+-- a thing after one of the party's got a new name
 abbrev pub named_anew : List ℕ → List ℕ → List ℕ → Held → Held
 named_anew party old new t = if is_held_as party old t then record t { name = new } else t
 

@@ -19,21 +19,25 @@ use Rattle.board_model.specs.declared.value.Value.TheVariants as value
 
 -- ---- value types
 
+-- the name, size and alignment that a board keeps of a value type
 abbrev pub value_detail : ValueType → TypeDetail
 value_detail type.Bool = details (codes "bool") 1 1
 value_detail type.U64 = details (codes "u64") 8 8
 value_detail type.Q4 = details (codes "[u64; 4]") 32 8
 
+-- how many words a value of the type takes
 abbrev pub word_count : ValueType → ℕ
 word_count type.Bool = 1
 word_count type.U64 = 1
 word_count type.Q4 = 4
 
+-- the type that a value was written with
 abbrev pub type_of : Value → ValueType
 type_of (value.Bool b) = type.Bool
 type_of (value.U64 n) = type.U64
 type_of (value.Q4 a b c d) = type.Q4
 
+-- the words that a value is kept in, in their order
 abbrev pub value_words : Value → List ℕ
 value_words (value.Bool b) = (if b then 1 else 0) ∷ []
 value_words (value.U64 n) = n ∷ []
@@ -41,12 +45,14 @@ value_words (value.Q4 a b c d) = a ∷ b ∷ c ∷ d ∷ []
 
 -- ---- details
 
+-- whether both are of fixed size, or both are not
 abbrev pub same_variant : TypeVariant → TypeVariant → Bool
 same_variant FixedSize FixedSize = true
 same_variant FixedSize Dynamic = false
 same_variant Dynamic FixedSize = false
 same_variant Dynamic Dynamic = true
 
+-- whether two details agree in all that they say
 abbrev pub same_type : TypeDetail → TypeDetail → Bool
 same_type a b = same_variant a.variant b.variant && bytes_eq a.type_name b.type_name && (a.size == b.size) && (a.alignment == b.alignment)
 
@@ -56,6 +62,7 @@ value_type_of d = if same_type d (value_detail type.Bool) then type.Bool else if
 
 -- ---- key types
 
+-- the name, size and alignment that a board keeps of a key type
 abbrev pub key_detail : KeyType → TypeDetail
 key_detail key_type.U64 = details (codes "u64") 8 8
 key_detail key_type.F8 = details (codes "f8") 8 1
@@ -64,10 +71,12 @@ key_detail key_type.F8 = details (codes "f8") 8 1
 abbrev pub key_type_of : TypeDetail → KeyType
 key_type_of d = if same_type d (key_detail key_type.U64) then key_type.U64 else key_type.F8
 
+-- the key type that a key was written with
 abbrev pub type_of_key : Key → KeyType
 type_of_key (key.U64 n) = key_type.U64
 type_of_key (key.F8 text) = key_type.F8
 
+-- whether the two are one key type
 abbrev pub same_key_type : KeyType → KeyType → Bool
 same_key_type key_type.U64 key_type.U64 = true
 same_key_type key_type.U64 key_type.F8 = false
@@ -88,6 +97,7 @@ abbrev pub same_key : KeyType → List ℕ → List ℕ → Bool
 same_key key_type.U64 a b = bytes_eq a b
 same_key key_type.F8 a b = bytes_eq (map to_ascii_lowercase a) (map to_ascii_lowercase b)
 
+-- the text that stands before the zeros behind it
 abbrev pub up_to_zero : List ℕ → List ℕ
 up_to_zero [] = []
 up_to_zero (b ∷ bytes) = if b == 0 then [] else b ∷ up_to_zero bytes

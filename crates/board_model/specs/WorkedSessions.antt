@@ -1,6 +1,5 @@
 -- Sessions that were worked out by hand.
-use Rattle.std.specs.Prelude.{◌≡◌, ℕ, List, [], ◌∷◌, ◌++◌, codes, Some, None, true}
-use Rattle.std.specs.List.{AllByRecursion}
+use Rattle.std.specs.Prelude.{ℕ, List, [], ◌∷◌, ◌++◌, codes, Some, None, true}
 use Rattle.board_model.specs.declared.access.Access.{Access}
 use Rattle.board_model.specs.declared.access.Access.TheVariants as access
 use Rattle.board_model.specs.declared.answer.Answer.{Answer}
@@ -24,42 +23,15 @@ use Rattle.board_model.specs.declared.value.Value.{Value}
 use Rattle.board_model.specs.declared.value.Value.TheVariants as value
 use Rattle.board_model.specs.declared.value.ValueType.{ValueType}
 use Rattle.board_model.specs.declared.value.ValueType.TheVariants as type
-use Rattle.board_model.specs.AnswerGrammar.{IsAnswer}
-use Rattle.board_model.specs.LineGrammar.{IsWellFormed, runs}
-use Rattle.board_model.specs.LawfulSession.{IsLawful, IsOwed, IsReasoned, IsReplied, IsWord, Session, State, after, reason_of, start}
-
--- ---- sessions whose forms the program need not run
-
--- the rules of an answer, but for one: the program need not run the line's form
-pub record IsAnswered (s : State) (l : Line) (a : Answer) : Type 0 where
-  pub formed : IsWellFormed l
-  pub answer : IsAnswer a
-  pub reason : IsReasoned (reason_of s l) a
-  pub owed : reason_of s l ≡ None → IsOwed s l a
-  pub word : reason_of s l ≡ None → IsWord s l a
-  pub reply : reason_of s l ≡ None → IsReplied s l a
-
-abbrev pub AreAnsweredFrom : State → Session → Type 0
-AreAnsweredFrom s [] = Unit {0}
-AreAnsweredFrom s (pair ∷ pairs) = IsAnswered s pair.0 pair.1 × AreAnsweredFrom (after s pair.0 pair.1) pairs
-
--- lawful, whatever forms the program runs
-abbrev pub AreAnswered : Session → Type 0
-AreAnswered pairs = AreAnsweredFrom start pairs
-
-abbrev pub RunsForm : Line × Answer → Type 0
-RunsForm pair = runs pair.0 ≡ true
-
--- where each line has a form that the program runs, the two are the same
-pub record IsLawfulWhereRun (pairs : Session) : Type 0 where
-  pub there : AllByRecursion RunsForm pairs → AreAnswered pairs → IsLawful pairs
-  pub back : IsLawful pairs → AreAnswered pairs
+use Rattle.board_model.specs.LawfulSession.{Session}
 
 -- ---- lines and their answers
 
+-- a call that is accepted
 abbrev pub begun : List ℕ → Call → Line × Answer
 begun party c = (line.Begin party c, answer.Begun)
 
+-- a step that is not the last of its call
 abbrev pub stepped : List ℕ → Access → Line × Answer
 stepped party a = (line.Step party, answer.Step a None)
 
@@ -67,21 +39,27 @@ stepped party a = (line.Step party, answer.Step a None)
 abbrev pub ended : List ℕ → Access → Reply → Line × Answer
 ended party a told = (line.Step party, answer.Step a (Some told))
 
+-- a party that is abandoned
 abbrev pub left : List ℕ → Line × Answer
 left party = (line.Abandon party, answer.Gone)
 
+-- the words of a board, all of them
 abbrev pub listed : ℕ → List ℕ → Line × Answer
 listed board words = (line.Words board, answer.Words words)
 
+-- a line that changes nothing, with the reason
 abbrev pub refused : Line → Reason → Line × Answer
 refused l why = (l, answer.Refused why)
 
+-- neither limit is set
 abbrev pub no_limits : Limits
 no_limits = record { max_readers = None; max_nodes = None }
 
+-- nothing is asked of the board's attributes
 abbrev pub no_needs : Requirements
 no_needs = record { pairs = []; keys = [] }
 
+-- an entry of a new board
 abbrev pub added : Key → Value → AddedEntry
 added k v = record { key = k; value = v }
 

@@ -10,7 +10,7 @@ use Rattle.board_model.specs.declared.answer.Answer.TheVariants as answer
 use Rattle.board_model.specs.declared.answer.Reply.TheVariants as reply
 use Rattle.board_model.specs.declared.line.Line.TheVariants as line
 use Rattle.board_model.specs.declared.tables.Board.{Board}
-use Rattle.board_model.specs.LineGrammar.{IsLine, IsNumber}
+use Rattle.board_model.specs.LineGrammar.{IsNumber, IsWellFormed}
 use Rattle.board_model.specs.OwedAccesses.{Reading, finished, is_finished, opening, owed_write, to_write, trying}
 use Rattle.board_model.specs.Memory.{store}
 use Rattle.board_model.specs.Requests.{Publication, Request, get, update}
@@ -191,7 +191,7 @@ module _ (m : Machine) (s : State) (rep : Represents m s) (sound : Sound s) (par
       pub word : IsNumber w.word
       pub value : IsNumber w.value
 
-    module _ (stored new : Machine) (is_stored : IsStored m stored w.board w.word w.value) (numbers : AreWritten) (l : IsLine (line.Step party))
+    module _ (stored new : Machine) (is_stored : IsStored m stored w.board w.word w.value) (numbers : AreWritten) (l : IsWellFormed (line.Step party))
         (tables : tables_of new ≡ tables_of stored) (words : new.words.items ≡ stored.words.items) (values : new.values.items ≡ stored.values.items) (spent : new.spent ≡ stored.spent) where
       still_alive : new.spent ≡ false
       still_alive = spent ∙ is_stored.spent ∙ rep.alive
