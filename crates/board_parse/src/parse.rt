@@ -120,6 +120,9 @@ fn line_of(alloc: Global, bytes: &[u8]) -> Result<Option<Line>, AllocError>
 
 /// The line of the script that these bytes spell, or `None` where no line of the grammar does.
 /// Memory is taken for the entries and attributes of a `create` and the needs of an `open` alone.
+///
+/// # Errors
+/// `AllocError` where memory is refused.
 pub fn parse_line(alloc: Global, bytes: &[u8]) -> Result<Option<Line>, AllocError>
     ensures found { IfOk result (λ o. IfSome o (λ l. Spells bytes.now l)) }
     ensures only { IfOk result (λ o. IfNone o ((l : Line) → Spells bytes.now l → ⊥)) }

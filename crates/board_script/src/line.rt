@@ -95,8 +95,9 @@ impl Machine {
 
     /// Answers a line: `answer` then has the answer and its newline, and nothing else.
     ///
-    /// It is `Bad` exactly where the line is outside the grammar, and then nothing changes. After `OutOfMemory` the
-    /// machine is spent. On both `answer` is empty.
+    /// # Errors
+    /// `Bad` exactly where the line is outside the grammar, and then nothing changes. After `OutOfMemory` the machine is
+    /// spent. On both `answer` is empty.
     pub fn line(&mut self, line: &[u8], answer: &mut Vec<u8>) -> Result<(), LineError>
         // The machine isn't spent, and it stands for a lawful session of fewer than 2^63 lines.
         requires { (session : Session) × StandsFor Represents self.old session }

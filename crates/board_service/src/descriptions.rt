@@ -7,7 +7,10 @@ ghost use Rattle.board_store.specs.declared.statics.Stored.TheVariants.{Final};
 
 use board_concepts::Description;
 use board_concepts::serialize::{Postcard, Serialize};
-use board_names::{Configuration, FileName, FilePath, NamedConceptConfiguration};
+use board_names::{
+    Configuration, FileName, FilePath, NamedConceptConfiguration, SerializeError, StaticStorageCreateError,
+    StaticStorageUnlockError,
+};
 use board_store::Statics;
 use itoa::Buffer;
 use std::alloc::{AllocError, Global};
@@ -27,14 +30,19 @@ pub(crate) fn keep(statics: &mut Statics, path: &FilePath, bytes: &[u8]) -> Resu
     ensures ok { OnOk result (statics.new ≡ putting statics.old path.now (Final bytes.now)) }
     ensures err { OnErr result (statics.new ≡ statics.old) }
 {
-    let Ok(()) = statics.create_locked(path) else {
-        return Err(AllocError);
-    };
-    let Ok(_) = statics.unlock(path, bytes) else {
-        let _ = statics.remove(path);
-        return Err(AllocError);
-    };
-    Ok(())
+    match statics.create_locked(path) {
+        Ok(()) => {}
+        Err(StaticStorageCreateError::OutOfMemory) => return Err(AllocError),
+        Err(_) => unreachable!(),
+    }
+    match statics.unlock(path, bytes) {
+        Ok(_) => Ok(()),
+        Err(StaticStorageUnlockError::OutOfMemory) => {
+            let _ = statics.remove(path);
+            Err(AllocError)
+        }
+        Err(_) => unreachable!(),
+    }
 }
 
 /// Lets the description of a board go.
@@ -52,6 +60,7 @@ pub(crate) fn spell(alloc: Global, description: &Description) -> Result<Vec<u8>,
 {
     match Postcard::serialize(alloc, description) {
         Ok(bytes) => Ok(bytes),
-        Err(_) => Err(AllocError),
+        Err(SerializeError::OutOfMemory) => Err(AllocError),
+        Err(_) => unreachable!(),
     }
 }
