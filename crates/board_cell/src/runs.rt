@@ -14,6 +14,9 @@ use crate::update_call::UpdateCall;
 use std::alloc::AllocError;
 
 /// Runs a get on these words until it is done or no word is left, and notes its accesses.
+///
+/// # Errors
+/// `AllocError` where the list of accesses is refused memory; then the run stops.
 #[tactic(auto, using(crate::proofs::Hearing::run_ends, crate::proofs::Hearing::run_owes))]
 pub fn run_get(
     call: &mut GetCall,
@@ -34,6 +37,9 @@ pub fn run_get(
 }
 
 /// Runs an update to its end, and notes its accesses.
+///
+/// # Errors
+/// `AllocError` where the list of accesses is refused memory; then the run stops.
 #[tactic(auto, using(crate::proofs::Writing::owed_writes_step, crate::proofs::Writing::owed_writes_end))]
 pub fn run_update(call: &mut UpdateCall, accesses: &mut Vec<Access>) -> Result<(), AllocError>
     requires { call.old.written ≤ length call.old.words }
@@ -50,6 +56,9 @@ pub fn run_update(call: &mut UpdateCall, accesses: &mut Vec<Access>) -> Result<(
 }
 
 /// Runs a look at the counter on the first of these words, notes its access and gives its answer. With no word it makes no access and has no answer.
+///
+/// # Errors
+/// `AllocError` where the list of accesses is refused memory; then the run stops.
 pub fn run_fresh(
     call: &mut FreshCall,
     words: &[u64],
@@ -69,6 +78,9 @@ pub fn run_fresh(
 }
 
 /// Runs the put of a loan's word to its end, and notes its access.
+///
+/// # Errors
+/// `AllocError` where the list of accesses is refused memory; then the run stops.
 pub fn run_put(call: &mut PutCall, accesses: &mut Vec<Access>) -> Result<(), AllocError>
     requires { call.old.done ≡ false }
     ensures call { OnOk result (call.new ≡ record call.old { done = true }) }
@@ -80,6 +92,9 @@ pub fn run_put(call: &mut PutCall, accesses: &mut Vec<Access>) -> Result<(), All
 }
 
 /// Runs the raise of the counter that ends a loan, and notes its access.
+///
+/// # Errors
+/// `AllocError` where the list of accesses is refused memory; then the run stops.
 pub fn run_publish(call: &mut PublishCall, accesses: &mut Vec<Access>) -> Result<(), AllocError>
     requires { call.old.done ≡ false }
     ensures call { OnOk result (call.new ≡ record call.old { done = true }) }
