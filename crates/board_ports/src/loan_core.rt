@@ -28,9 +28,9 @@ impl Model for LoanCore {
 }
 
 impl LoanCore {
-    // The handle with these words put.
+    /// The loan of this handle with these words put, each at its index.
     #[inline]
-    pub(crate) fn new(handle: WriteCore, words: Vec<Option<u64>>) -> LoanCore
+    pub fn new(handle: WriteCore, words: Vec<Option<u64>>) -> LoanCore
         requires { length words.items ≡ handle.shape.words }
         ensures { result ≡ record { handle = handle; words = words.items } }
     {

@@ -8,8 +8,8 @@ ghost use Rattle.board_store.specs.declared.statics.Stored.TheVariants.{Final};
 use board_concepts::Description;
 use board_concepts::serialize::{Postcard, Serialize};
 use board_names::{
-    Configuration, FileName, FilePath, NamedConceptConfiguration, SerializeError, StaticStorageCreateError,
-    StaticStorageUnlockError,
+    Configuration, FileName, FilePath, NamedConceptConfiguration, SerializeError,
+    StaticStorageCreateError, StaticStorageUnlockError,
 };
 use board_store::Statics;
 use itoa::Buffer;
