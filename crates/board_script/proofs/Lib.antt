@@ -2,9 +2,13 @@ pub mod Abandonments
 pub mod Bounds
 pub mod CallChecks
 pub mod Listings
+pub mod LoanChecks
+pub mod LoanRows
+pub mod LoanSteps
 pub mod Memories
 pub mod Notes
 pub mod OwedRows
+pub mod OwedWords
 pub mod PartyRows
 pub mod Places
 pub mod ReadSteps
@@ -15,4 +19,4 @@ pub mod Slots
 pub mod StepRefusals
 pub mod TableSteps
 pub mod Takes
-pub mod UpdateSteps
+pub mod WriteSteps

@@ -20,8 +20,10 @@ use Rattle.board_script.specs.declared.machine.KeptValue.{KeptValue}
 use Rattle.board_script.specs.declared.machine.Machine.{Machine}
 use Rattle.board_script.specs.declared.machine.PartyRow.{PartyRow}
 use Rattle.board_script.specs.Begins.{holds}
+use Rattle.board_script.specs.Loans.{lent_words}
 use Rattle.board_script.specs.Machine.{AreRowsOf, Represents, is_kept_as, is_row_of, kept, kept_from, kept_of}
 use Rattle.board_script.specs.Steps.{IsReleased}
+use Rattle.board_script.proofs.LoanRows.{forgotten, with_at-same}
 
 -- ---- values
 
@@ -62,13 +64,6 @@ module _ (party name : List ℕ) where
           let h = and_parts (bytes_eq p party) (bytes_eq n name) e in
           rw (same_bytes p party h.0, same_bytes n name h.1, is) (sym (none_kept None vs))
       at false e = same p n ∙ rw is (sym (others_kept p n e None vs))
-
-  no_loans : (f : List ℕ → List ℕ → Option (List (Option ℕ))) → ((p n : List ℕ) → f p n ≡ None) → (p n : List ℕ) → with_at f party name None p n ≡ None
-  no_loans f none p n = at (bytes_eq p party && bytes_eq n name)
-    where
-      at : (z : Bool) → cond z None (f p n) ≡ None
-      at true = refl
-      at false = none p n
 
 -- ---- the line
 
@@ -132,7 +127,7 @@ module _ (m : Machine) (s : State) (rep : Represents m s) (party name : List ℕ
           tables = ap (λ t. released_thing t party name (thing_of t.things party name)) rep.tables ∙ sym is.tables;
           words = is.words s.memory rep.words;
           parties = subst (λ (xs : List PartyRow). (p : List ℕ) → AreRowsOf (filter (is_row_of p) xs) (s.parties p)) (sym is.parties) rep.parties;
-          loans = no_loans party name s.standing.loans rep.loans;
+          loans = λ p n. with_at-same s.standing.loans (lent_words m.loans.items) party name None rep.loans p n ∙ sym (forgotten party name m.loans.items new.loans.items is.loans p n);
           values = values_left party name s.standing.values m.values.items new.values.items rep.values is.values;
         },
       )

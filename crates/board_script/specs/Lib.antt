@@ -1,6 +1,8 @@
 pub mod Begins
 pub mod Counts
 pub mod Create
+pub mod LoanCalls
+pub mod Loans
 pub mod Overview
 pub mod Machine
 pub mod Steps

@@ -6,6 +6,7 @@ mod begin;
 mod counts;
 mod create;
 mod line;
+mod loans;
 mod lookups;
 mod machine;
 mod open;

@@ -3,7 +3,7 @@ ghost use Rattle.std.specs.Prelude.{◌≡◌, ◌++◌, ◌<◌, ◌^◌, [], t
 ghost use Rattle.std.specs.List.{AllByRecursion};
 ghost use Rattle.board_model.specs.LawfulSession.{Session, State, start};
 ghost use Rattle.board_model.specs.AnswerGrammar.{answer_line};
-ghost use Rattle.board_model.specs.LineGrammar.{IsNumber, IsWellFormed, runs};
+ghost use Rattle.board_model.specs.LineGrammar.{IsNumber, IsWellFormed};
 ghost use Rattle.board_model.specs.declared.answer.Answer.TheVariants as answer;
 ghost use Rattle.board_model.specs.Tables as tables;
 ghost use Rattle.board_lines.specs.Runs.{HasAnswered, SpellsNone, StandsFor};
@@ -37,6 +37,7 @@ impl Machine {
             last_port: 0,
             parties: Vec::new(alloc),
             values: Vec::new(alloc),
+            loans: Vec::new(alloc),
             spent: false,
         }
     }
@@ -65,7 +66,6 @@ impl Machine {
     fn answer(&mut self, line: Line, out: &mut Vec<u8>) -> Result<(), AllocError>
         requires led { IsLed self.old }
         requires line { IsWellFormed line }
-        requires runs { runs line ≡ true }
         requires empty { out.old.items ≡ [] }
         ensures { OnOk result (Tells self.old self.new line out.new.items) }
     {

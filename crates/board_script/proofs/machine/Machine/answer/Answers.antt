@@ -1,15 +1,10 @@
 use Rattle.std.proofs.Common.{sym, subst}
-use Rattle.std.specs.Prelude.{◌≡◌, true, OnOk}
+use Rattle.std.specs.Prelude.{OnOk}
 use Rattle.board_model.specs.declared.line.Line.{Line}
-use Rattle.board_model.specs.LineGrammar.{IsWellFormed, runs}
+use Rattle.board_model.specs.LineGrammar.{IsWellFormed}
 use Rattle.board_script.specs.Machine.{Tells}
-use Rattle.board_script.proofs.CallChecks.{serves}
 use Rattle.board_script.proofs.Listings.{listed, not_listed, on_ok}
 use Rattle.board_script.proofs.machine.Machine.answer.Goals as goal
-
-pub begin-requires-clause-served : goal.begin-requires-clause-served
-begin-requires-clause-served c =
-    serves c.in-Begin.call (subst (λ (x : Line). runs x ≡ true) c.in-Begin.is c.requires.runs)
 
 pub returns-in-Some : goal.returns-in-Some
 returns-in-Some c =
