@@ -1,12 +1,16 @@
 pub mod Abandonments
 pub mod Bounds
 pub mod CallChecks
+pub mod EntriesStay
+pub mod GeneratorEnds
+pub mod GeneratorRuns
 pub mod Listings
 pub mod Memories
 pub mod Notes
 pub mod OwedRows
 pub mod PartyRows
 pub mod Places
+pub mod PlainCalls
 pub mod ReadSteps
 pub mod Releases
 pub mod Rows
@@ -14,5 +18,6 @@ pub mod Shown
 pub mod Slots
 pub mod StepRefusals
 pub mod TableSteps
+pub mod Tallies
 pub mod Takes
 pub mod UpdateSteps

@@ -1,8 +1,12 @@
 pub mod Begins
+pub mod Counting
 pub mod Counts
 pub mod Create
+pub mod Generator
 pub mod Overview
 pub mod Machine
 pub mod Steps
+pub mod Summary
 pub mod TableCalls
 pub mod Top
+pub mod WorkedGenerator
