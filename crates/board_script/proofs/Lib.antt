@@ -21,3 +21,4 @@ pub mod TableSteps
 pub mod Tallies
 pub mod Takes
 pub mod UpdateSteps
+pub mod Words
