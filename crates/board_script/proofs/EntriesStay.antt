@@ -1,7 +1,6 @@
 -- Entries that stand after each line but a drop.
-use Rattle.std.proofs.Common.{◌≡◌, ℕ, Bool, true, false, cond, List, [], ◌∷◌, ◌++◌, map, refl, sym, ap, subst, ◌∙◌, Option, Some, None}
-use Rattle.std.specs.Prelude.{find, Result}
-use Rattle.std.specs.Str.{bytes_eq}
+use Rattle.std.proofs.Common.{◌≡◌, ℕ, Bool, true, false, cond, List, [], ◌∷◌, ◌++◌, map, refl, sym, ap, ◌∙◌, Option, Some, None}
+use Rattle.std.specs.Prelude.{find}
 use Rattle.std.proofs.lemmas.List.{append-nil}
 use Rattle.board_model.specs.declared.access.Access.{Access}
 use Rattle.board_model.specs.declared.answer.Answer.{Answer}
@@ -11,9 +10,9 @@ use Rattle.board_model.specs.declared.line.Line.{Line}
 use Rattle.board_model.specs.declared.line.Line.TheVariants as line
 use Rattle.board_model.specs.declared.tables.Board.{Board}
 use Rattle.board_model.specs.declared.tables.Entry.{Entry}
-use Rattle.board_model.specs.LawfulSession.{State, after, after_step, stepped}
-use Rattle.board_model.specs.Parties.{Party, Running, free, gone, running}
-use Rattle.board_model.specs.Replies.{ask, ask_tables, added_of, is_key}
+use Rattle.board_model.specs.LawfulSession.{State, after, after_step}
+use Rattle.board_model.specs.Parties.{Party, free, gone, running}
+use Rattle.board_model.specs.Replies.{ask, ask_tables, added_of}
 use Rattle.board_model.specs.Requests.{Published, Request, TableCall, create, describe, entry, entry_mut, fill, fresh, get, give_back, identify, join, lend, list_keys, list_nodes, publish, put, reader, table, tell, update, writer}
 use Rattle.board_model.specs.Tables.{Tables, board_at, entry_at, entry_in, is_numbered}
 use Rattle.board_model.specs.TableCalls.{asked, create_refusals, first_of}

@@ -1,22 +1,18 @@
 -- What a generator has run at its ends.
-use Rattle.std.proofs.Common.{◌≡◌, ℕ, zero, suc, add-one, ◌+◌, ◌<◌, ◌≤◌, ◌^◌, Bool, true, false, cond, List, [], ◌∷◌, ◌++◌, length, rules, arith, refl, sym, ap, subst, ◌∙◌, append_assoc, Option, Some, None}
+use Rattle.std.proofs.Common.{◌≡◌, ℕ, zero, suc, add-one, ◌+◌, ◌<◌, ◌^◌, Bool, true, false, cond, List, [], ◌∷◌, ◌++◌, length, rules, arith, refl, sym, ap, subst, ◌∙◌, append_assoc, Option, Some, None}
 use Rattle.std.specs.Prelude.{◌==◌, codes, is_some, nat_le}
-use Rattle.std.proofs.lemmas.List.{append-nil, length-append}
+use Rattle.std.proofs.lemmas.List.{length-append}
 use Rattle.board_model.specs.declared.line.Line.{Line}
 use Rattle.board_model.specs.declared.tables.Entry.{Entry}
-use Rattle.board_model.specs.declared.line.Call.TheVariants as call
-use Rattle.board_model.specs.declared.line.Line.TheVariants as line
-use Rattle.board_model.specs.declared.value.Value.TheVariants as value
-use Rattle.board_model.specs.LawfulSession.{IsLawful, Session, State, start, state_after}
+use Rattle.board_model.specs.LawfulSession.{IsLawful, Session, start, state_after}
 use Rattle.board_model.specs.Tables.{entry_at}
 use Rattle.board_model.proofs.AnswerLaws.{one_session}
 use Rattle.board_model.proofs.SoundLemmas.{sound_session}
 use Rattle.board_script.specs.declared.generator.Generator.{Generator}
-use Rattle.board_script.specs.declared.machine.Machine.{Machine}
 use Rattle.board_script.specs.declared.summary.Counts.{Counts}
-use Rattle.board_script.specs.Counting.{HasEntry, HasRun, IsPlain, IsRunning, IsSummaryOf, RanMore}
-use Rattle.board_script.specs.Generator.{asked_by, choice, drawn, generated, line_for, number_after, number_drawn, opening, reader_calls, writer_calls}
-use Rattle.board_script.specs.Machine.{Represents, tables_of}
+use Rattle.board_script.specs.Counting.{HasEntry, HasRun, IsPlain, IsSummaryOf, RanMore}
+use Rattle.board_script.specs.Generator.{asked_by, choice, drawn, line_for, number_after, number_drawn, opening, reader_calls, writer_calls}
+use Rattle.board_script.specs.Machine.{tables_of}
 use Rattle.board_script.specs.Steps.{HasCounter, IsCounter}
 use Rattle.board_script.specs.Summary.{counts_of, generation_of, summary_text}
 use Rattle.board_script.specs.WorkedGenerator.{opened}

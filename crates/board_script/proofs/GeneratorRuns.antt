@@ -1,20 +1,16 @@
 -- Runs of a generator that go on.
-use Rattle.std.proofs.Common.{◌≡◌, ℕ, ◌+◌, ◌<◌, ◌≤◌, ◌^◌, Bool, true, List, [], ◌∷◌, ◌++◌, length, map, arith, refl, sym, ap, subst, ◌∙◌, append_assoc, Some}
+use Rattle.std.proofs.Common.{◌≡◌, ℕ, ◌+◌, ◌<◌, ◌≤◌, ◌^◌, List, [], ◌∷◌, ◌++◌, length, arith, refl, sym, ap, subst, ◌∙◌, append_assoc, Some}
 use Rattle.std.proofs.lemmas.List.{length-append, length-map, map-append}
 use Rattle.board_model.specs.declared.answer.Answer.{Answer}
 use Rattle.board_model.specs.declared.line.Call.{Call}
 use Rattle.board_model.specs.declared.line.Line.{Line}
 use Rattle.board_model.specs.declared.line.Line.TheVariants as line
-use Rattle.board_model.specs.declared.tables.Entry.{Entry}
-use Rattle.board_model.specs.LawfulSession.{IsLawful, IsLawfulFrom, IsRight, Session, State, after, start, state_after}
-use Rattle.board_model.specs.LawsOfAnswers.{lines_of}
+use Rattle.board_model.specs.LawfulSession.{IsLawfulFrom, IsRight, Session, State, after, start, state_after}
 use Rattle.board_model.specs.Tables.{entry_at}
 use Rattle.board_script.specs.declared.generator.Generator.{Generator}
-use Rattle.board_script.specs.declared.machine.Machine.{Machine}
 use Rattle.board_script.specs.declared.summary.Counts.{Counts}
 use Rattle.board_script.specs.Counting.{AreLow, HasEntry, HasRun, IsPlain, IsRunning, RanMore, counted}
-use Rattle.board_script.specs.Machine.{IsLed, Represents, Serves, tables_of}
-use Rattle.board_script.specs.Summary.{counts_of}
+use Rattle.board_script.specs.Machine.{IsLed, Represents, Serves}
 use Rattle.board_script.proofs.EntriesStay.{entry_stays}
 use Rattle.board_script.proofs.Listings.{led, reached_by}
 use Rattle.board_script.proofs.PlainCalls.{plain_after}

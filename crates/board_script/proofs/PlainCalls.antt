@@ -1,5 +1,5 @@
 -- States in which no other calls that read or write run than gets and updates.
-use Rattle.std.proofs.Common.{◌≡◌, ℕ, Bool, true, false, cond, List, [], ◌∷◌, ◌++◌, refl, sym, ap, subst, ◌∙◌, Option, Some, None}
+use Rattle.std.proofs.Common.{◌≡◌, ℕ, Bool, true, false, cond, List, refl, sym, ap, subst, ◌∙◌, Option, Some, None}
 use Rattle.std.specs.Prelude.{◌+◌, ◌==◌, length, slice_index}
 use Rattle.std.specs.Str.{bytes_eq}
 use Rattle.board_layout.specs.declared.shape.CellShape.{CellShape}
@@ -17,10 +17,10 @@ use Rattle.board_model.specs.declared.line.Line.TheVariants as line
 use Rattle.board_model.specs.declared.tables.Entry.{Entry}
 use Rattle.board_model.specs.declared.tables.ThingKind.TheVariants as thing_kind
 use Rattle.board_model.specs.Tables.{entry_of}
-use Rattle.board_model.specs.LawfulSession.{IsOwedStep, IsReasoned, IsRight, State, after, after_step, call_reason, free_reason, reason_of, step_reason, stepped}
+use Rattle.board_model.specs.LawfulSession.{IsOwedStep, IsReasoned, IsRight, State, after, after_step, reason_of, step_reason, stepped}
 use Rattle.board_model.specs.Copies.{spare_at}
-use Rattle.board_model.specs.OwedAccesses.{Owed, Reading, finished, opening, owed_of, owed_read, owed_write, to_read, to_table, to_write, trying}
-use Rattle.board_model.specs.Parties.{Party, Running, begun, count_write, free, gone, notice, owed, reading, running, with_party}
+use Rattle.board_model.specs.OwedAccesses.{Reading, finished, opening, owed_of, owed_read, owed_write, to_read, to_table, to_write, trying}
+use Rattle.board_model.specs.Parties.{Party, Running, begun, free, gone, notice, owed, reading, running, with_party}
 use Rattle.board_model.specs.Requests.{Published, Request, and_then, describe, entry, entry_mut, fill, fresh, get, handle_of, handled, identified, identify, list_keys, list_nodes, publish, put, reader, request_of, table, tell, update, writer}
 use Rattle.board_model.specs.Things.{Held, Standing, cell_shape, held_of_kind}
 use Rattle.board_model.specs.TypeTable.{value_words}

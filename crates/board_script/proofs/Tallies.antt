@@ -1,12 +1,12 @@
 -- Counts of a session with one more line.
-use Rattle.std.proofs.Common.{◌≡◌, ℕ, ◌+◌, ◌≤◌, ◌<◌, ◌^◌, Bool, true, false, List, [], ◌∷◌, ◌++◌, length, arith, refl, sym, ap, ◌∙◌}
+use Rattle.std.proofs.Common.{◌≡◌, ℕ, ◌+◌, ◌≤◌, ◌<◌, ◌^◌, Bool, true, false, [], ◌∷◌, ◌++◌, length, arith, refl, ap, ◌∙◌}
 use Rattle.std.specs.Prelude.{if◌then◌else◌}
 use Rattle.std.proofs.lemmas.List.{length-append}
 use Rattle.board_model.specs.declared.answer.Answer.{Answer}
 use Rattle.board_model.specs.declared.line.Line.{Line}
 use Rattle.board_model.specs.LawfulSession.{IsRight, Session, State, after, start, state_after}
 use Rattle.board_script.specs.declared.summary.Counts.{Counts}
-use Rattle.board_script.specs.Counting.{AreLow, RunsPlain, counted, is_last_read, is_last_write, is_plain, one_more}
+use Rattle.board_script.specs.Counting.{AreLow, RunsPlain, counted, is_plain, one_more}
 use Rattle.board_script.specs.Summary.{count_from, counts_of, ended, is_get, is_refused, is_step, is_update}
 use Rattle.board_script.proofs.PlainCalls.{ends_told}
 

@@ -1,5 +1,5 @@
 -- The words of the command line.
-use Rattle.std.proofs.Common.{◌≡◌, ℕ, ◌<◌, ◌≤◌, ◌^◌, Bool, true, false, List, [], ◌∷◌, length, map, get_or, arith, refl, sym, ap, subst, ◌∙◌, Option, Some, None, inl, inr}
+use Rattle.std.proofs.Common.{◌≡◌, ℕ, ◌<◌, ◌≤◌, Bool, true, false, List, [], ◌∷◌, length, map, get_or, arith, refl, sym, ap, subst, ◌∙◌, Option, Some, None, inl, inr}
 use Rattle.std.specs.Prelude.{codes, decimal, ◌⊎◌, not, IfNone, OnOk, IfErr, IsErrOf, Result, Ok, Err}
 use Rattle.std.specs.Str.{bytes_eq}
 use Rattle.std.proofs.lemmas.Slice.Eq.{bytes_eq-Decides}

@@ -1,12 +1,10 @@
 -- The script that the words `gen N` make.
-use Rattle.std.specs.Prelude.{ℕ, zero, suc, ◌+◌, ◌*◌, ◌/◌, ◌%◌, ◌^◌, ◌==◌, nat_le, if◌then◌else◌, List, [], ◌∷◌, ◌++◌, codes, Option, Some, None}
+use Rattle.std.specs.Prelude.{ℕ, zero, suc, ◌+◌, ◌*◌, ◌/◌, ◌%◌, ◌^◌, ◌==◌, nat_le, if◌then◌else◌, List, [], ◌∷◌, ◌++◌, codes, None}
 use Rattle.std.specs.List.{flat_map}
-use Rattle.board_model.specs.declared.attributes.Requirements.{Requirements}
 use Rattle.board_model.specs.declared.line.Call.{Call}
 use Rattle.board_model.specs.declared.line.Call.TheVariants as call
 use Rattle.board_model.specs.declared.line.Line.{Line}
 use Rattle.board_model.specs.declared.line.Line.TheVariants as line
-use Rattle.board_model.specs.declared.tables.Limits.{Limits}
 use Rattle.board_model.specs.declared.value.Key.TheVariants as key
 use Rattle.board_model.specs.declared.value.KeyType.TheVariants as key_type
 use Rattle.board_model.specs.declared.value.Value.TheVariants as value

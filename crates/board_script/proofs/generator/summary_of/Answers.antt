@@ -1,4 +1,4 @@
-use Rattle.std.proofs.Common.{◌≡◌, ℕ, List, sym, ◌+◌, ◌<◌, ◌^◌, [], ◌∷◌, ◌++◌, arith, refl, subst, ◌∙◌, ap, length}
+use Rattle.std.proofs.Common.{◌≡◌, ℕ, List, sym, ◌+◌, ◌<◌, ◌^◌, [], ◌∷◌, ◌++◌, arith, subst, ◌∙◌, ap, length}
 use Rattle.board_model.specs.declared.line.Line.{Line}
 use Rattle.board_script.specs.Counting.{HasRun, IsPlain}
 use Rattle.board_script.specs.Generator.{choice, drawn, generated, number_after, opening}

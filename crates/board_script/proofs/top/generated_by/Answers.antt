@@ -1,4 +1,4 @@
-use Rattle.std.proofs.Common.{◌≡◌, ℕ, List, ap, sym, subst, ◌∙◌, map}
+use Rattle.std.proofs.Common.{ℕ, List, ap, sym, subst, ◌∙◌, map}
 use Rattle.std.specs.String.{string_bytes}
 use Rattle.board_model.specs.LineReading.{read_number}
 use Rattle.board_script.specs.Top.{IsGen}

@@ -1,4 +1,4 @@
-use Rattle.std.proofs.Common.{arith, refl}
+use Rattle.std.proofs.Common.{arith}
 use Rattle.board_script.proofs.GeneratorRuns.{asked, ran_both, runs_on}
 use Rattle.board_script.proofs.Listings.{on_ok}
 use Rattle.board_script.proofs.generator.Generator.open_writer.Goals as goal
