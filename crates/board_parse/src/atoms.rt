@@ -109,9 +109,9 @@ fn digits_value(text: &[u8]) -> Option<u64>
     Some(n)
 }
 
-// A decimal number of at most 64 bits, without leading zeros.
+/// A decimal number of at most 64 bits, without leading zeros.
 #[tactic(auto, unfolding(board_model::specs::LineReading::read_number))]
-pub(crate) fn number_of(text: &[u8]) -> Option<u64>
+pub fn number_of(text: &[u8]) -> Option<u64>
     ensures { result ≡ read_number text.now }
 {
     if !is_plain(text) {

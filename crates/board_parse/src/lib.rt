@@ -11,5 +11,6 @@ mod tests;
 mod tokens;
 mod values;
 
+pub use atoms::number_of;
 pub use bytes::place_of;
 pub use parse::parse_line;

@@ -3,7 +3,7 @@ use Rattle.std.proofs.Common.{◌≡◌, ℕ, List, [], ◌∷◌, ◌++◌, set
 use Rattle.board_model.specs.declared.answer.Answer.TheVariants as answer
 use Rattle.board_model.specs.declared.answer.Reason.TheVariants as reason
 use Rattle.board_model.specs.declared.line.Line.TheVariants as line
-use Rattle.board_model.specs.LineGrammar.{IsWellFormed}
+use Rattle.board_model.specs.LineGrammar.{IsLine}
 use Rattle.board_model.specs.Parties.{free, gone, with_party}
 use Rattle.board_model.specs.LawfulSession.{IsRight, State, abandon_reason, after}
 use Rattle.board_script.specs.declared.machine.KeptValue.{KeptValue}
@@ -15,7 +15,7 @@ use Rattle.board_script.specs.Loans.{lent_words}
 use Rattle.board_script.specs.Machine.{Represents, kept, tables_of, words_of}
 use Rattle.board_script.proofs.PartyRows.{AreParties, RunsAt, left_behind, left_idle}
 
-pub abandon_again : (s : State) (party : List ℕ) → s.parties party ≡ gone → IsWellFormed (line.Abandon party) → IsRight s (line.Abandon party) (answer.Refused reason.Abandoned)
+pub abandon_again : (s : State) (party : List ℕ) → s.parties party ≡ gone → IsLine (line.Abandon party) → IsRight s (line.Abandon party) (answer.Refused reason.Abandoned)
 abandon_again s party e l = record {
   line = l;
   answer = tt;
@@ -25,7 +25,7 @@ abandon_again s party e l = record {
   reply = λ _. tt;
 }
 
-module _ (m new : Machine) (s : State) (rep : Represents m s) (party : List ℕ) (l : IsWellFormed (line.Abandon party))
+module _ (m new : Machine) (s : State) (rep : Represents m s) (party : List ℕ) (l : IsLine (line.Abandon party))
     (tables : tables_of new ≡ tables_of m) (words : new.words.items ≡ m.words.items) (values : new.values.items ≡ m.values.items) (loans : new.loans.items ≡ m.loans.items) (spent : new.spent ≡ m.spent) where
   right : abandon_reason (s.parties party) ≡ None → IsRight s (line.Abandon party) answer.Gone
   right e = record {

@@ -16,7 +16,7 @@ use Rattle.board_model.specs.declared.value.Value.{Value}
 use Rattle.board_model.specs.declared.value.ValueType.{ValueType}
 use Rattle.board_model.specs.declared.value.ValueType.TheVariants as type
 use Rattle.board_model.specs.Copies.{cell_end}
-use Rattle.board_model.specs.LineGrammar.{IsWellFormed}
+use Rattle.board_model.specs.LineGrammar.{IsLine}
 use Rattle.board_model.specs.Requests.{Fetch, Look, Publication, Request, fresh, get, handle_of, identified, request_of, update}
 use Rattle.board_model.specs.declared.tables.Kind.{Kind}
 use Rattle.board_model.specs.declared.tables.Kind.TheVariants as kind
@@ -279,7 +279,7 @@ module _ (m : Machine) (s : State) (rep : Represents m s) (sound : Sound s) (n i
 
 -- ---- answers to the line
 
-pub begin_busy : (s : State) (party : List ℕ) (c : Call) (r : Running) → s.parties party ≡ running r → IsWellFormed (line.Begin party c) → IsRight s (line.Begin party c) (answer.Refused reason.Busy)
+pub begin_busy : (s : State) (party : List ℕ) (c : Call) (r : Running) → s.parties party ≡ running r → IsLine (line.Begin party c) → IsRight s (line.Begin party c) (answer.Refused reason.Busy)
 begin_busy s party c r e l = record {
   line = l;
   answer = tt;
@@ -289,7 +289,7 @@ begin_busy s party c r e l = record {
   reply = λ _. tt;
 }
 
-pub begin_gone : (s : State) (party : List ℕ) (c : Call) → s.parties party ≡ gone → IsWellFormed (line.Begin party c) → IsRight s (line.Begin party c) (answer.Refused reason.Abandoned)
+pub begin_gone : (s : State) (party : List ℕ) (c : Call) → s.parties party ≡ gone → IsLine (line.Begin party c) → IsRight s (line.Begin party c) (answer.Refused reason.Abandoned)
 begin_gone s party c e l = record {
   line = l;
   answer = tt;
@@ -303,7 +303,7 @@ abbrev some_reason : Reason → Option Reason
 some_reason why = Some why
 
 pub begin_refused : (s : State) (party : List ℕ) (c : Call) (why : Reason) → s.parties party ≡ free
-    → call_reason s.standing party c (request_of s.standing s.published party c) ≡ Some why → IsWellFormed (line.Begin party c) → IsRight s (line.Begin party c) (answer.Refused why)
+    → call_reason s.standing party c (request_of s.standing s.published party c) ≡ Some why → IsLine (line.Begin party c) → IsRight s (line.Begin party c) (answer.Refused why)
 begin_refused s party c why e h l =
     let r : free_reason (s.parties party) (call_reason s.standing party c (request_of s.standing s.published party c)) ≡ Some why = rw e h in
     record {
@@ -322,7 +322,7 @@ some_request t (Some q) h = (q, refl, h)
 pub begin_begun : (m new : Machine) (s : State) (rep : Represents m s) (party : List ℕ) (c : Call) (t : Task) → s.parties party ≡ free
     → IsChecked (call_reason s.standing party c (request_of s.standing s.published party c)) (request_of s.standing s.published party c) (checked.Accepted t)
     → tables_of new ≡ tables_of m → new.words.items ≡ m.words.items → new.values.items ≡ m.values.items → new.loans.items ≡ m.loans.items → new.spent ≡ m.spent → new.parties.items ≡ m.parties.items ++ record { name = party; task = t } ∷ []
-    → IsWellFormed (line.Begin party c) → IsRight s (line.Begin party c) answer.Begun × Represents new (after s (line.Begin party c) answer.Begun)
+    → IsLine (line.Begin party c) → IsRight s (line.Begin party c) answer.Begun × Represents new (after s (line.Begin party c) answer.Begun)
 begin_begun m new s rep party c t e h tables words values loans spent parties l =
     let r : free_reason (s.parties party) (call_reason s.standing party c (request_of s.standing s.published party c)) ≡ None = rw e h.0 in
     let q = some_request t (request_of s.standing s.published party c) h.1 in (

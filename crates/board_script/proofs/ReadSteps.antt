@@ -14,7 +14,7 @@ use Rattle.board_model.specs.declared.answer.Reply.TheVariants as reply
 use Rattle.board_model.specs.declared.line.Line.TheVariants as line
 use Rattle.board_model.specs.declared.value.ValueType.{ValueType}
 use Rattle.board_model.specs.AnswerGrammar.{IsReply}
-use Rattle.board_model.specs.LineGrammar.{IsNumber, IsWellFormed}
+use Rattle.board_model.specs.LineGrammar.{IsNumber, IsLine}
 use Rattle.board_model.specs.OwedAccesses.{Reading, finished, hear, heard, is_finished, opening, owed_read, to_read, trying}
 use Rattle.board_model.specs.Memory.{memory_after}
 use Rattle.board_model.specs.Requests.{Fetch, Request, fresh, get}
@@ -148,7 +148,7 @@ module _ (m : Machine) (s : State) (rep : Represents m s) (sound : Sound s) (par
   pub row_has_read : HasWord m x.board x.word
   row_has_read = has_word m s rep sound x.board x.word stands inside
 
-  module _ (v : ℕ) (loaded : IsLoaded m x.board x.word v) (boards : IsNumber x.board) (words : IsNumber x.word) (small : IsNumber v) (l : IsWellFormed (line.Step party)) where
+  module _ (v : ℕ) (loaded : IsLoaded m x.board x.word v) (boards : IsNumber x.board) (words : IsNumber x.word) (small : IsNumber v) (l : IsLine (line.Step party)) where
     abbrev made : Access
     made = access.Read x.board x.word v
 

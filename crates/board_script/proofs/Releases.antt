@@ -10,7 +10,7 @@ use Rattle.board_model.specs.declared.answer.Reason.{Reason}
 use Rattle.board_model.specs.declared.answer.Reason.TheVariants as reason
 use Rattle.board_model.specs.declared.answer.Reply.TheVariants as reply
 use Rattle.board_model.specs.declared.line.Line.TheVariants as line
-use Rattle.board_model.specs.LineGrammar.{IsWellFormed}
+use Rattle.board_model.specs.LineGrammar.{IsLine}
 use Rattle.board_model.specs.Parties.{Running, free, gone, running}
 use Rattle.board_model.specs.Replies.{released_thing}
 use Rattle.board_model.specs.Things.{Kept, is_held, thing_of, with_at}
@@ -67,7 +67,7 @@ module _ (party name : List ℕ) where
 
 -- ---- the line
 
-module _ (m : Machine) (s : State) (rep : Represents m s) (party name : List ℕ) (l : IsWellFormed (line.Release party name)) where
+module _ (m : Machine) (s : State) (rep : Represents m s) (party name : List ℕ) (l : IsLine (line.Release party name)) where
   pub release_busy : (r : Running) → s.parties party ≡ running r → IsRight s (line.Release party name) (answer.Refused reason.Busy)
   release_busy r e = record {
     line = l;

@@ -22,7 +22,7 @@ use Rattle.board_model.specs.declared.value.AddedEntry.{AddedEntry}
 use Rattle.board_model.specs.declared.value.Key.{Key}
 use Rattle.board_model.specs.declared.value.KeyType.{KeyType}
 use Rattle.board_model.specs.AnswerGrammar.{IsReply}
-use Rattle.board_model.specs.LineGrammar.{IsWellFormed}
+use Rattle.board_model.specs.LineGrammar.{IsLine}
 use Rattle.board_model.specs.Memory.{memory_after, opening_of, with_board}
 use Rattle.board_model.specs.Requests.{Request, TableCall, create, describe, entry, entry_mut, give_back, identify, join, lend, list_keys, list_nodes, reader, table, tell, writer}
 use Rattle.board_model.specs.Replies.{Asked, added_of, ask_tables, id_number, info_of, is_key, keys_in, nodes_of, number_or, only_told, told_by}
@@ -119,7 +119,7 @@ module _ (m : Machine) (s : State) (rep : Represents m s) (reached : IsReached s
       let f = subst (λ (x : Party). IsFormedParty reached.count party x) at.runs (reached.formed.parties party) in
       reply_told s reached.sound reached.count reached.within reached.few reached.numbers reached.formed party at.r (table c) (subst (IsFormedRequest reached.count) e f.1) (calling c e)
 
-  pub table_right : (new : Machine) (c : TableCall) (told : Reply) → at.r.request ≡ table c → IsServed new c told → IsWellFormed (line.Step party)
+  pub table_right : (new : Machine) (c : TableCall) (told : Reply) → at.r.request ≡ table c → IsServed new c told → IsLine (line.Step party)
       → IsRight s (line.Step party) (answer.Step access.Table (Some told)) × Represents new (after s (line.Step party) (answer.Step access.Table (Some told)))
   table_right new c told request h l =
       let of_call : Running = record at.r { request = table c } in
@@ -382,7 +382,7 @@ module _ (m : Machine) (s : State) (rep : Represents m s) (reached : IsReached s
     served (table_task.Gen x) told e h = (tell x, e, gen_served x told e h)
 
     -- the step of the task is right
-    pub task_right : (t : TableTask) (told : Reply) → IsTableTask t at.r.request → IsTold mid new party t told → IsWellFormed (line.Step party)
+    pub task_right : (t : TableTask) (told : Reply) → IsTableTask t at.r.request → IsTold mid new party t told → IsLine (line.Step party)
         → IsRight s (line.Step party) (answer.Step access.Table (Some told)) × Represents new (after s (line.Step party) (answer.Step access.Table (Some told)))
     task_right t told e h l =
         let x = served t told e h in

@@ -11,7 +11,7 @@ use Rattle.board_model.specs.declared.answer.Reply.TheVariants as reply
 use Rattle.board_model.specs.declared.line.Line.TheVariants as line
 use Rattle.board_model.specs.declared.tables.Board.{Board}
 use Rattle.board_model.specs.Copies.{spare_at}
-use Rattle.board_model.specs.LineGrammar.{IsNumber, IsWellFormed}
+use Rattle.board_model.specs.LineGrammar.{IsNumber, IsLine}
 use Rattle.board_model.specs.OwedAccesses.{owed_write, to_write}
 use Rattle.board_model.specs.Memory.{memory_after, store}
 use Rattle.board_model.specs.Requests.{Lending, Request, fill, publish, put, update}
@@ -254,7 +254,7 @@ module _ (m : Machine) (s : State) (rep : Represents m s) (sound : Sound s) (par
       pub word : IsNumber w.word
       pub value : IsNumber w.value
 
-    module _ (stored : Machine) (is_stored : IsStored m stored w.board w.word w.value) (numbers : AreWritten) (l : IsWellFormed (line.Step party)) where
+    module _ (stored : Machine) (is_stored : IsStored m stored w.board w.word w.value) (numbers : AreWritten) (l : IsLine (line.Step party)) where
       stored_loans : (p n : List ℕ) → s.standing.loans p n ≡ lent_words stored.loans.items p n
       stored_loans p n = rep.loans p n ∙ ap (λ (xs : List Lent). lent_words xs p n) (sym is_stored.loans)
 

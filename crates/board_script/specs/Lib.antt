@@ -1,10 +1,14 @@
 pub mod Begins
+pub mod Counting
 pub mod Counts
 pub mod Create
 pub mod LoanCalls
 pub mod Loans
+pub mod Generator
 pub mod Overview
 pub mod Machine
 pub mod Steps
+pub mod Summary
 pub mod TableCalls
 pub mod Top
+pub mod WorkedGenerator

@@ -13,7 +13,7 @@ use Rattle.board_model.specs.Things.{Kept}
 use Rattle.board_model.specs.Requests.{Fetch, Look, Publication, Request, create, describe, entry, entry_mut, fresh, get, identify, join, list_keys, list_nodes, reader, table, tell, update, writer}
 use Rattle.board_model.specs.Parties.{Party, Running, free, gone, reading, running}
 use Rattle.board_model.specs.AnswerGrammar.{answer_line}
-use Rattle.board_model.specs.LineGrammar.{IsWellFormed}
+use Rattle.board_model.specs.LineGrammar.{IsLine}
 use Rattle.board_model.specs.LawsOfBounds.{AreNumbers, IsWithin}
 use Rattle.board_model.specs.LawsOfForms.{AreFormed}
 use Rattle.board_model.specs.LawfulSession.{IsRight, State, after}
@@ -163,7 +163,7 @@ pub record IsLed (m : Machine) : Type 0 where
 
 -- the answer is right after each state that the machine stood for, and the machine stands for what follows
 abbrev pub Serves : Machine → Machine → Line → Answer → Type 0
-Serves old new l a = (s : State) → Represents old s → IsReached s → IsWellFormed l → IsRight s l a × Represents new (after s l a)
+Serves old new l a = (s : State) → Represents old s → IsReached s → IsLine l → IsRight s l a × Represents new (after s l a)
 
 -- the text is the line of an answer that is right after each state that the machine stood for, and the machine stands for what follows
 pub record IsTelling (new : Machine) (s : State) (l : Line) (text : List ℕ) : Type 0 where

@@ -5,6 +5,7 @@ mod abandon;
 mod begin;
 mod counts;
 mod create;
+mod generator;
 mod line;
 mod loans;
 mod lookups;
@@ -15,16 +16,20 @@ mod ports;
 mod release;
 mod script;
 mod step;
+mod summary;
 mod top;
 mod values;
+mod worked_generator;
 
 pub use board_lines::{
     Failed, Fetched, LineError, LineReader, MemorySink, MemorySource, RunsLines, ScriptError, Sink,
     SinkError, Source,
 };
+pub use generator::run_generated;
 pub use machine::Machine;
 pub use script::{run_script, run_script_within};
 pub use top::run_words;
+pub use worked_generator::the_run_for_one_is_lawful;
 
 #[cfg(test)]
 mod tests;

@@ -3,7 +3,7 @@ ghost use Rattle.std.specs.Prelude.{◌≡◌, ◌++◌, ◌<◌, ◌^◌, [], t
 ghost use Rattle.std.specs.List.{AllByRecursion};
 ghost use Rattle.board_model.specs.LawfulSession.{Session, State, start};
 ghost use Rattle.board_model.specs.AnswerGrammar.{answer_line};
-ghost use Rattle.board_model.specs.LineGrammar.{IsNumber, IsWellFormed};
+ghost use Rattle.board_model.specs.LineGrammar.{IsNumber, IsLine};
 ghost use Rattle.board_model.specs.declared.answer.Answer.TheVariants as answer;
 ghost use Rattle.board_model.specs.Tables as tables;
 ghost use Rattle.board_lines.specs.Runs.{HasAnswered, SpellsNone, StandsFor};
@@ -65,7 +65,7 @@ impl Machine {
     // Answers a line of the grammar.
     fn answer(&mut self, line: Line, out: &mut Vec<u8>) -> Result<(), AllocError>
         requires led { IsLed self.old }
-        requires line { IsWellFormed line }
+        requires line { IsLine line }
         requires empty { out.old.items ≡ [] }
         ensures { OnOk result (Tells self.old self.new line out.new.items) }
     {

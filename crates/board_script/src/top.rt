@@ -1,12 +1,16 @@
 //! The program's top call, its statuses and its notes.
-ghost use Rattle.std.specs.Prelude.{◌≡◌, ◌≤◌, ◌<◌, [], length, Ok, Err};
+ghost use Rattle.std.specs.Prelude.{◌≡◌, ℕ, ◌<◌, [], length, map, Err, IfNone, IfSome};
+ghost use Rattle.std.specs.String.{string_bytes};
 ghost use Rattle.std.specs.Io.KnownBytes.{IsAtEnd};
 ghost use Rattle.board_lines.specs.Runs.{IsRunOf};
-ghost use Rattle.board_script.specs.Top.{IsAnswered, IsNoted, note_of, status_of, usage_note};
+ghost use Rattle.board_script.specs.Summary.{IsSummed};
+ghost use Rattle.board_script.specs.Top.{IsAnswered, IsGen, IsNoted, IsSummedUp, IsUsage, note_of, status_of, usage_note};
 
+use crate::generator::run_generated;
 use crate::script::run_script;
 use board_layout::Text;
 use board_lines::{ScriptError, Sink, Source, write_whole};
+use board_parse::number_of;
 use itoa::Buffer;
 use std::alloc::Global;
 
@@ -53,10 +57,41 @@ fn status(error: ScriptError) -> u8
     }
 }
 
-/// Runs the script of the source where there are no words on the command line, and gives the status.
+// Notes an error, and gives the status.
+fn tell<N: Sink>(answer: Result<(), ScriptError>, notes: &mut N) -> u8
+    ensures is { result ≡ status_of answer }
+    ensures note { IsNoted (N.held notes.old) (N.held notes.new) (N.faults notes.old) (N.faults notes.new) (note_of answer) }
+{
+    match answer {
+        Ok(()) => 0,
+        Err(error) => {
+            let text = note_text(error);
+            note(notes, text.as_bytes());
+            status(error)
+        }
+    }
+}
+
+// N, where the words are `gen N`.
+fn generated_by(words: &[String]) -> Option<u64>
+    ensures some { IfSome result (IsGen (map string_bytes words.now)) }
+    ensures none { IfNone result ((n : ℕ) → IsGen (map string_bytes words.now) n → ⊥) }
+{
+    if words.len() != 2 || words[0].as_bytes() != b"gen".as_slice() {
+        return None;
+    }
+    let n = number_of(words[1].as_bytes())?;
+    if n < 1 || n > 1000000 {
+        return None;
+    }
+    Some(n)
+}
+
+/// Runs the script of the source where there are no words on the command line, and with the words `gen N`, N from 1 to
+/// 1000000, the script that is made from N. Gives the status.
 ///
-/// The status is 0 where the script was run to its end, 2 where there are words, 3 and 4 where the source and the sink
-/// failed, 5 and 6 where a line is outside the grammar and where there are too many, and 7 where memory was refused.
+/// The status is 0 where the script was run to its end, 2 where there are other words, 3 and 4 where the source and the
+/// sink failed, 5 and 6 where a line is outside the grammar and where there are too many, and 7 where memory was refused.
 /// Each but 0 has a note of one line.
 pub fn run_words<S: Source, K: Sink, N: Sink>(
     alloc: Global,
@@ -65,29 +100,34 @@ pub fn run_words<S: Source, K: Sink, N: Sink>(
     sink: &mut K,
     notes: &mut N,
 ) -> u8
-    // With status 0 the sink gained the output of the lawful session of the input's lines, which was read to its end.
-    ensures ok { result ≡ 0 → IsRunOf 4294967295 (S.left source.old) (K.held sink.old) (K.held sink.new) }
-    ensures end { result ≡ 0 → IsAtEnd (S.left source.new) }
+    // Without words, and with status 0, the sink gained the output of the lawful session of the input's lines, which was read to its end.
+    ensures ok { length words.now.items ≡ 0 → result ≡ 0 → IsRunOf 4294967295 (S.left source.old) (K.held sink.old) (K.held sink.new) }
+    ensures end { length words.now.items ≡ 0 → result ≡ 0 → IsAtEnd (S.left source.new) }
 
     // Without words the status and the note are those of the script's answer, which comes where `IsAnswered` says.
     ensures ran { length words.now.items ≡ 0 → IsAnswered result (S.left source.old) (S.left source.new) (S.faults source.old) (S.faults source.new) (K.held sink.old) (K.held sink.new) (K.faults sink.old) (K.faults sink.new) (N.held notes.old) (N.held notes.new) (N.faults notes.old) (N.faults notes.new) }
 
-    // With any word nothing is read and nothing run.
-    ensures usage { 0 < length words.now.items → result ≡ 2 }
-    ensures usage_note { 0 < length words.now.items → IsNoted (N.held notes.old) (N.held notes.new) (N.faults notes.old) (N.faults notes.new) usage_note }
+    // With `gen N`, and with status 0, the sink gained the summary of the lawful session whose lines are the generated script.
+    ensures summed { (n : ℕ) → IsGen (map string_bytes words.now.items) n → result ≡ 0 → IsSummed n (K.held sink.old) (K.held sink.new) }
+
+    // The other statuses are 4, after a front of the summary, and 7, after nothing; the note is the status's.
+    ensures generated { (n : ℕ) → IsGen (map string_bytes words.now.items) n → IsSummedUp result n (K.held sink.old) (K.held sink.new) (K.faults sink.old) (K.faults sink.new) (N.held notes.old) (N.held notes.new) (N.faults notes.old) (N.faults notes.new) }
+
+    // With any words nothing is read.
     ensures unread { 0 < length words.now.items → source.new ≡ source.old }
-    ensures unwritten { 0 < length words.now.items → sink.new ≡ sink.old }
+
+    // The status is 2 with all other words, and only then. Then nothing is run.
+    ensures usage { IsUsage (map string_bytes words.now.items) → result ≡ 2 }
+    ensures usage_only { result ≡ 2 → IsUsage (map string_bytes words.now.items) }
+    ensures usage_note { IsUsage (map string_bytes words.now.items) → IsNoted (N.held notes.old) (N.held notes.new) (N.faults notes.old) (N.faults notes.new) usage_note }
+    ensures unwritten { IsUsage (map string_bytes words.now.items) → sink.new ≡ sink.old }
 {
-    if !words.is_empty() {
+    if words.is_empty() {
+        return tell(run_script(alloc, source, sink), notes);
+    }
+    let Some(n) = generated_by(words) else {
         note(notes, b"usage: board_run [gen N]\n");
         return 2;
-    }
-    match run_script(alloc, source, sink) {
-        Ok(()) => 0,
-        Err(error) => {
-            let text = note_text(error);
-            note(notes, text.as_bytes());
-            status(error)
-        }
-    }
+    };
+    tell(run_generated(alloc, n, sink), notes)
 }

@@ -1,0 +1,44 @@
+use Rattle.std.proofs.Common.{◌≡◌, ℕ, List, sym, ◌+◌, ◌<◌, ◌^◌, [], ◌∷◌, ◌++◌, arith, subst, ◌∙◌, ap, length}
+use Rattle.board_model.specs.declared.line.Line.{Line}
+use Rattle.board_script.specs.Counting.{HasRun, IsPlain}
+use Rattle.board_script.specs.Generator.{choice, drawn, generated, number_after, opening}
+use Rattle.board_script.proofs.GeneratorEnds.{drawn_more, length_run, line_is_plain, number_more}
+use Rattle.board_script.proofs.generator.summary_of.Goals as goal
+
+pub run-requires-clause-room : goal.run-requires-clause-room
+run-requires-clause-room c = record {
+  lines = opening ++ drawn c.args.n c.loop-k.k;
+  few = let l = length_run c.args.n c.loop-k.k in let most = c.requires in omega (arith, l, c.loop-k-test.true, most);
+  run = c.loop-k.invariant.run;
+}
+
+pub run-requires-clause-plain : goal.run-requires-clause-plain
+run-requires-clause-plain c =
+    let most = c.requires in
+    subst IsPlain (sym c.drawn_line.ensures) (line_is_plain (choice c.number_after-number.result) (c.loop-k.k + 1) (omega (arith, c.loop-k-test.true, most)))
+
+pub loop-k-preserved : goal.loop-k-preserved
+loop-k-preserved c =
+    let x = c.number_after-number.ensures ∙ ap number_after c.loop-k.invariant.number in
+    let all = drawn_more c.args.n c.loop-k.k c.number_after-number.result c.drawn_line.result x c.drawn_line.ensures in
+    let most = c.requires in
+    let few : length ((opening ++ drawn c.args.n c.loop-k.k) ++ c.drawn_line.result ∷ []) < 2 ^ 62 = subst (λ (ls : List Line). length ls < 2 ^ 62) (sym all) (omega (arith, length_run c.args.n (c.loop-k.k + 1), c.loop-k-test.true, most)) in
+    record {
+      run = subst (HasRun c.run.new.self) all (c.in_ok-run.ensures.run (opening ++ drawn c.args.n c.loop-k.k) few c.loop-k.invariant.run);
+      number = number_more c.args.n c.loop-k.k c.number_after-number.result x;
+      first = c.in_ok-run.ensures.entries 1 0 c.loop-k.invariant.first;
+      second = c.in_ok-run.ensures.entries 1 1 c.loop-k.invariant.second;
+    }
+
+pub summary-requires-clause-running : goal.summary-requires-clause-running
+summary-requires-clause-running c = record {
+  lines = opening ++ drawn c.args.n c.loop-k.k;
+  few = let l = length_run c.args.n c.loop-k.k in let most = c.requires in omega (arith, l, c.loop-k.auto.k-end, most);
+  run = c.loop-k.invariant.run;
+}
+
+pub returns : goal.returns
+returns c =
+    let end : c.loop-k.k ≡ c.args.n = omega (arith, c.loop-k-test.false, c.loop-k.auto.k-end) in
+    let most = c.requires in
+    c.summary.ensures (generated c.args.n) (omega (arith, length_run c.args.n c.args.n, most)) (subst (λ (k : ℕ). HasRun c.loop-k.generator (opening ++ drawn c.args.n k)) end c.loop-k.invariant.run)
