@@ -24,9 +24,5 @@ pub mod StepRefusals
 pub mod TableSteps
 pub mod Tallies
 pub mod Takes
-<<<<<<< HEAD
-pub mod WriteSteps
-=======
-pub mod UpdateSteps
 pub mod Words
->>>>>>> eba22efe42029903942a681df061163dea85b6c2
+pub mod WriteSteps
