@@ -1,4 +1,4 @@
-use Rattle.std.proofs.Common.{◌≡◌, ℕ, ◌+◌, ◌^◌, ◌<◌, List, [], ◌∷◌, ◌++◌, length, arith, rules, refl, sym, subst}
+use Rattle.std.proofs.Common.{◌≡◌, ◌+◌, ◌^◌, ◌<◌, [], ◌∷◌, ◌++◌, length, arith, rules, refl, sym, subst}
 use Rattle.std.proofs.lemmas.List.{length-append}
 use Rattle.board_model.specs.declared.answer.Answer.{Answer}
 use Rattle.board_model.specs.declared.line.Line.{Line}
