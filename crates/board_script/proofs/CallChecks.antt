@@ -17,7 +17,7 @@ use Rattle.board_model.specs.declared.value.ValueType.{ValueType}
 use Rattle.board_model.specs.declared.value.ValueType.TheVariants as type
 use Rattle.board_model.specs.Copies.{cell_end}
 use Rattle.board_model.specs.LineGrammar.{IsLine}
-use Rattle.board_model.specs.Requests.{Fetch, Look, Publication, Request, fresh, get, handle_of, identified, request_of, update}
+use Rattle.board_model.specs.Requests.{Fetch, Look, Publication, Request, fresh, get, handle_of, request_of, update}
 use Rattle.board_model.specs.declared.tables.Kind.{Kind}
 use Rattle.board_model.specs.declared.tables.Kind.TheVariants as kind
 use Rattle.board_model.specs.Tables.{entry_at, entry_of, kind_of, same_kind}
@@ -37,7 +37,7 @@ use Rattle.board_script.specs.declared.machine.Machine.{Machine}
 use Rattle.board_script.specs.declared.machine.PartyRow.{PartyRow}
 use Rattle.board_script.specs.declared.machine.Task.{Task}
 use Rattle.board_script.specs.declared.machine.Task.TheVariants as task
-use Rattle.board_script.specs.Begins.{IsChecked, IsHandle, IsTaskFor, handle_held, has_id, holds_any, is_handle}
+use Rattle.board_script.specs.Begins.{IsChecked, IsHandle, IsTaskFor, handle_held, holds_any, is_handle}
 use Rattle.board_script.specs.Loans.{lent_words}
 use Rattle.board_script.specs.Machine.{AreRowsOf, Represents, is_row_of, kept, tables_of, updating, words_of}
 use Rattle.board_script.specs.Steps.{HasCounter, IsCounter}
@@ -116,53 +116,6 @@ unlent_handle m party name x e = by (is_some (lent_words m.loans.items party nam
     by : (b : Bool) → cond b None (of_kind thing_kind.WriteHandle (thing_of m.things.items party name)) ≡ some_thing x → IsHandle m x
     by true q = absurd cc
     by false q = write_handle m party name x q
-
--- ---- ids
-
-module _ (t : Held) where
-  abbrev of_this : Kind → ThingKind → Option Held
-  of_this k w = cond (same_kind (kind_of k) w) (some_thing t) None
-
-  abbrev one_of : Kind → Bool → Option Held
-  one_of k lent =
-      cond (is_some (of_this k thing_kind.Reader)) (of_this k thing_kind.Reader) (
-      cond (is_some (of_this k thing_kind.Writer)) (of_this k thing_kind.Writer) (
-      cond (is_some (of_this k thing_kind.ReadHandle)) (of_this k thing_kind.ReadHandle) (
-      cond lent None (of_this k thing_kind.WriteHandle))))
-
-  with_id : (k : Kind) (lent : Bool) → one_of k lent ≡ cond (has_id k lent) (some_thing t) None
-  with_id kind.Factory true = refl
-  with_id kind.Factory false = refl
-  with_id (kind.Reader p) lent = refl
-  with_id (kind.Writer p) lent = refl
-  with_id (kind.ReadHandle i) lent = refl
-  with_id (kind.WriteHandle i p) true = refl
-  with_id (kind.WriteHandle i p) false = refl
-
-module _ (m : Machine) (s : State) (rep : Represents m s) (party name : List ℕ) where
-  abbrev found_as : Option Held → Bool → Option Held
-  found_as o lent =
-      cond (is_some (of_kind thing_kind.Reader o)) (of_kind thing_kind.Reader o) (
-      cond (is_some (of_kind thing_kind.Writer o)) (of_kind thing_kind.Writer o) (
-      cond (is_some (of_kind thing_kind.ReadHandle o)) (of_kind thing_kind.ReadHandle o) (
-      cond lent None (of_kind thing_kind.WriteHandle o))))
-
-  identified_in : identified s.standing party name ≡ found_as (thing_of m.things.items party name) (is_some (lent_words m.loans.items party name))
-  identified_in =
-      ap (λ (o : Option (List (Option ℕ))). found_as (thing_of s.standing.tables.things party name) (is_some o)) (rep.loans party name)
-      ∙ ap (λ t. found_as (thing_of t.things party name) (is_some (lent_words m.loans.items party name))) rep.tables
-
-  none_as : (lent : Bool) → found_as None lent ≡ None
-  none_as true = refl
-  none_as false = refl
-
-  -- nothing is held
-  pub id_of_none : thing_of m.things.items party name ≡ None → identified s.standing party name ≡ None
-  id_of_none e = identified_in ∙ ap (λ (o : Option Held). found_as o (is_some (lent_words m.loans.items party name))) e ∙ none_as (is_some (lent_words m.loans.items party name))
-
-  -- a thing is held
-  pub id_of_thing : (t : Held) → thing_of m.things.items party name ≡ Some t → identified s.standing party name ≡ cond (has_id t.kind (is_some (lent_words m.loans.items party name))) (Some t) None
-  id_of_thing t e = identified_in ∙ ap (λ (o : Option Held). found_as o (is_some (lent_words m.loans.items party name))) e ∙ with_id t t.kind (is_some (lent_words m.loans.items party name))
 
 -- the entry of a handle stands
 pub entry_stands : (m : Machine) (s : State) → Represents m s → Sound s → (x : Held) → IsHandle m x → is_some (entry_at (tables_of m) x.board (entry_of x.kind)) ≡ true

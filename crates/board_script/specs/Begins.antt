@@ -4,7 +4,7 @@ use Rattle.board_model.specs.declared.answer.Reason.{Reason}
 use Rattle.board_model.specs.declared.line.Call.{Call}
 use Rattle.board_model.specs.declared.tables.Kind.{Kind}
 use Rattle.board_model.specs.declared.tables.Kind.TheVariants as kind
-use Rattle.board_model.specs.Requests.{Request, request_of}
+use Rattle.board_model.specs.Requests.{Request, and_then, request_of}
 use Rattle.board_model.specs.LawfulSession.{State, call_reason}
 use Rattle.board_model.specs.Sound.{Sound}
 use Rattle.board_model.specs.declared.tables.ThingKind.TheVariants as thing_kind
@@ -45,6 +45,10 @@ pub record IsHandle (m : Machine) (x : Held) : Type 0 where
 -- a write handle that isn't lent
 abbrev pub handle_held : Machine → List ℕ → List ℕ → Option Held
 handle_held m party name = if is_some (lent_words m.loans.items party name) then None else of_kind thing_kind.WriteHandle (thing_of m.things.items party name)
+
+-- the write handle that a loan is, and the words that were put
+abbrev pub loan_held : Machine → List ℕ → List ℕ → Option (Held × List (Option ℕ))
+loan_held m party name = and_then (of_kind thing_kind.WriteHandle (thing_of m.things.items party name)) (λ t. and_then (lent_words m.loans.items party name) (λ words. Some (t, words)))
 
 -- a thing of this kind has an id: no factory has, and no loan
 abbrev pub has_id : Kind → Bool → Bool

@@ -5,7 +5,7 @@ ghost use Rattle.board_model.specs.LawfulSession.{all_put};
 ghost use Rattle.board_model.specs.Things as held;
 ghost use Rattle.board_model.specs.declared.answer.Reply.TheVariants as reply;
 ghost use Rattle.board_model.specs.declared.line.Call.TheVariants as call;
-ghost use Rattle.board_script.specs.Begins.{Checks};
+ghost use Rattle.board_script.specs.Begins.{Checks, loan_held};
 ghost use Rattle.board_script.specs.LoanCalls.{CanSettle, HasLoanWord, IsGivenBack, IsLoaned, IsSettled, IsWordPut};
 ghost use Rattle.board_script.specs.Loans.{is_lent_as, lent_words};
 ghost use Rattle.board_script.specs.Machine.{IsLed};
@@ -26,11 +26,10 @@ pub(crate) fn words_lent<'a>(
 ) -> Option<&'a Vec<Option<u64>>>
     ensures { option_map (λ ws. ws.now.items) result ≡ lent_words loans.now party.now name.now }
 {
-    let found = loans.iter().find(|x| *party == x.party && *name == x.name);
-    match found {
-        Some(lent) => Some(&lent.words),
-        None => None,
-    }
+    loans
+        .iter()
+        .find(|x| *party == x.party && *name == x.name)
+        .map(|x| &x.words)
 }
 
 // Where the loan stands that a party holds under a name.
@@ -76,6 +75,19 @@ fn all_put(words: &[Option<u64>]) -> bool
 }
 
 impl Machine {
+    // The write handle that a loan of the party is, and its words.
+    fn loan_held(&self, party: &Name, name: &Name) -> Option<(Held, &Vec<Option<u64>>)>
+        ensures { option_map (λ l. (l.0, l.1.now.items)) result ≡ loan_held self.now party.now name.now }
+    {
+        match (
+            held_of_kind(ThingKind::WriteHandle, party, name, &self.things),
+            words_lent(party, name, &self.loans),
+        ) {
+            (Some(found), Some(words)) => Some((found, words)),
+            _ => None,
+        }
+    }
+
     /// Whether a loan may be made.
     pub(crate) fn check_loan(&self, party: &Name, loan: Name, handle: &Name) -> Checked
         requires { IsLed self.now }
@@ -99,10 +111,7 @@ impl Machine {
     pub(crate) fn check_discard(&self, party: &Name, loan: Name, handle: Name) -> Checked
         ensures { Checks self.now party.now (call.Discard loan handle) result }
     {
-        let Some(_) = held_of_kind(ThingKind::WriteHandle, party, &loan, &self.things) else {
-            return Checked::Refused(Reason::Unknown);
-        };
-        let Some(_) = words_lent(party, &loan, &self.loans) else {
+        let Some(_) = self.loan_held(party, &loan) else {
             return Checked::Refused(Reason::Unknown);
         };
         if self.holds(party, &handle) {
@@ -116,10 +125,7 @@ impl Machine {
         requires { IsLed self.now }
         ensures { Checks self.now party.now (call.Put loan index word) result }
     {
-        let Some(found) = held_of_kind(ThingKind::WriteHandle, party, &loan, &self.things) else {
-            return Checked::Refused(Reason::Unknown);
-        };
-        let Some(_) = words_lent(party, &loan, &self.loans) else {
+        let Some((found, _)) = self.loan_held(party, &loan) else {
             return Checked::Refused(Reason::Unknown);
         };
         let shape = shape_of(self.entry_held(&found));
@@ -141,10 +147,7 @@ impl Machine {
         requires { IsLed self.now }
         ensures { Checks self.now party.now (call.Publish loan handle) result }
     {
-        let Some(found) = held_of_kind(ThingKind::WriteHandle, party, &loan, &self.things) else {
-            return Checked::Refused(Reason::Unknown);
-        };
-        let Some(words) = words_lent(party, &loan, &self.loans) else {
+        let Some((found, words)) = self.loan_held(party, &loan) else {
             return Checked::Refused(Reason::Unknown);
         };
         let shape = shape_of(self.entry_held(&found));
@@ -174,10 +177,7 @@ impl Machine {
         requires { IsLed self.now }
         ensures { IfOk result (Checks self.now party.now (call.Fill loan handle value)) }
     {
-        let Some(found) = held_of_kind(ThingKind::WriteHandle, party, &loan, &self.things) else {
-            return Ok(Checked::Refused(Reason::Unknown));
-        };
-        let Some(_) = words_lent(party, &loan, &self.loans) else {
+        let Some((found, _)) = self.loan_held(party, &loan) else {
             return Ok(Checked::Refused(Reason::Unknown));
         };
         let entry = self.entry_held(&found);

@@ -1,6 +1,7 @@
 //! Worked scripts, from their bytes to the bytes of their output.
 mod domain;
 mod generator;
+mod loans;
 mod readers;
 
 use crate::{MemorySink, MemorySource, ScriptError, run_script, run_script_within, run_words};

@@ -1,7 +1,9 @@
 use Rattle.std.proofs.Common.{rules, ◌≡◌, ℕ, List, refl, ap, ◌∙◌, Option, Some}
 use Rattle.board_model.specs.Replies.{none_put}
 use Rattle.board_model.specs.Things.{Held, with_at}
+use Rattle.board_script.specs.declared.machine.KeptValue.{KeptValue}
 use Rattle.board_script.specs.declared.machine.Lent.{Lent}
+use Rattle.board_script.specs.declared.machine.PartyRow.{PartyRow}
 use Rattle.board_script.specs.Loans.{lent_words}
 use Rattle.board_script.specs.Machine.{tables_of}
 use Rattle.board_script.proofs.LoanRows.{added, same_name}
@@ -17,8 +19,8 @@ returns-clause-loan c =
       loans = λ p n.
           added c.args.party c.args.loan m.loans.items c.push.new.self.items x c.in_ok-push.ensures.items (same_name c.args.party c.args.loan x refl refl) c.requires p n
           ∙ ap (λ (ws : List (Option ℕ)). with_at (lent_words m.loans.items) c.args.party c.args.loan (Some ws) p n) none;
-      words = refl;
-      parties = refl;
-      values = refl;
+      words = refl {A = List (List ℕ)};
+      parties = refl {A = List PartyRow};
+      values = refl {A = List KeptValue};
       spent = refl;
     }
