@@ -37,6 +37,18 @@ fn agrees(
     Ok(())
 }
 
+// Runs a script to its end.
+fn gives(rt: &impl Abort, alloc: Global, script: Vec<u8>, output: &[u8]) -> Result<(), Fail> {
+    let mut source = MemorySource::new(script, 0, Vec::new(alloc));
+    let mut sink = MemorySink::new(alloc, 4096, 0, Vec::new(alloc))?;
+    let mut notes = MemorySink::new(alloc, 100, 0, Vec::new(alloc))?;
+    let words = Vec::new(alloc);
+    let status = run_words(alloc, &words, &mut source, &mut sink, &mut notes);
+    assert_eq!(rt; status, 0);
+    assert_eq!(rt; sink.held(), output);
+    Ok(())
+}
+
 const FIRST_RUN: Row = Row {
     script: b"begin a create f b u64 add u64:1 u64:5 add u64:2 u64:7\nstep a\nbegin a writer w f\nstep a\nbegin a entrymut m w u64:2 u64\nstep a\nbegin a update m u64:9\nstep a\nwords 1\nstep a\nbegin a gen m\nstep a\nstep a\nwords 2\n",
     output: b"ok\ntable = ok 1\nok\ntable = ok 1\nok\ntable = ok 32\nok\nwrite 1:7 9\nwords 1 0 5 0 1 0 7 9\nwrite 1:4 2 = ok\nok\ntable = gen 2\nrefused idle\nrefused noboard\n",

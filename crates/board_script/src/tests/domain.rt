@@ -74,15 +74,3 @@ const THE_TABLES_TOLD: Row = Row {
 fn the_tables_told(rt: HostRuntime) -> Result<(), Fail> {
     agrees(&rt, rt.alloc(), &THE_TABLES_TOLD, 0, 0)
 }
-
-const THE_WRITER_SLOT: Row = Row {
-    script: b"begin a create f b u64 add u64:1 u64:7\nstep a\nbegin a writer w f\nstep a\nbegin a entrymut m w u64:1 u64\nstep a\nbegin b open f b u64\nstep b\nbegin b reader r f\nstep b\nbegin b entry h r u64:1 u64\nstep b\ndrop a w\nbegin a writer x f\nstep a\ndrop a m\nbegin a writer x f\nstep a\nbegin a entrymut m x u64:1 u64\nstep a\n",
-    output: b"ok\ntable = ok 1\nok\ntable = ok 1\nok\ntable = ok 0\nok\ntable = ok 1\nok\ntable = ok 2\nok\ntable = ok 0\ntable = ok\nok\ntable = WriterCreateError::ExceedsMaxSupportedWriters\ntable = ok\nok\ntable = ok 3\nok\ntable = ok 0\n",
-    status: 0,
-    note: b"",
-};
-
-#[test]
-fn the_writer_slot(rt: HostRuntime) -> Result<(), Fail> {
-    agrees(&rt, rt.alloc(), &THE_WRITER_SLOT, 0, 0)
-}

@@ -1,6 +1,5 @@
 //! Worked scripts of readers, and each abandoned at every step.
-use super::{Row, agrees};
-use crate::{MemorySink, MemorySource, run_words};
+use super::{Row, agrees, gives};
 use std::alloc::Global;
 use std::process::Abort;
 use std::test::Fail;
@@ -135,17 +134,6 @@ fn is_abandoned(
         b"gone\nrefused abandoned\nrefused abandoned\nrefused abandoned\nok\ntable = WriterCreateError::ExceedsMaxSupportedWriters\n",
     )?;
     gives(rt, alloc, script, &output)
-}
-
-fn gives(rt: &impl Abort, alloc: Global, script: Vec<u8>, output: &[u8]) -> Result<(), Fail> {
-    let mut source = MemorySource::new(script, 0, Vec::new(alloc));
-    let mut sink = MemorySink::new(alloc, 4096, 0, Vec::new(alloc))?;
-    let mut notes = MemorySink::new(alloc, 100, 0, Vec::new(alloc))?;
-    let words = Vec::new(alloc);
-    let status = run_words(alloc, &words, &mut source, &mut sink, &mut notes);
-    assert_eq!(rt; status, 0);
-    assert_eq!(rt; sink.held(), output);
-    Ok(())
 }
 
 #[test]
