@@ -1,18 +1,20 @@
 -- Lines that begin a call on a loan that stands.
-use Rattle.std.proofs.Common.{◌≡◌, ℕ, ◌<◌, true, false, List, length, refl, ap, ◌∙◌, Option, Some, None}
+use Rattle.std.proofs.Common.{◌≡◌, ℕ, ◌<◌, Bool, true, false, cond, List, length, refl, sym, ap, subst, ◌∙◌, Option, Some, None}
 use Rattle.std.proofs.lemmas.Bool.{lt-ltb}
 use Rattle.board_model.specs.declared.answer.Reason.TheVariants as reason
 use Rattle.board_model.specs.declared.line.Call.{Call}
 use Rattle.board_model.specs.declared.line.Call.TheVariants as call
 use Rattle.board_model.specs.declared.tables.Entry.{Entry}
+use Rattle.board_model.specs.declared.tables.ThingKind.{ThingKind}
 use Rattle.board_model.specs.declared.tables.ThingKind.TheVariants as thing_kind
 use Rattle.board_model.specs.declared.value.Value.{Value}
 use Rattle.board_model.specs.Requests.{Lending, and_then, fill, give_back, handled, loan_of, publish, put, request_of, table}
-use Rattle.board_model.specs.Tables.{entry_at, entry_of}
+use Rattle.board_model.specs.Parties.{Party, free}
+use Rattle.board_model.specs.Tables.{entry_at, entry_of, kind_of, same_kind}
 use Rattle.board_model.specs.Things.{Held, cell_shape, of_kind, thing_of}
 use Rattle.board_model.specs.TypeTable.{same_type, type_of, value_detail, value_words}
 use Rattle.board_model.specs.LawfulSession.{State, all_put, call_reason}
-use Rattle.board_model.specs.Sound.{Sound}
+use Rattle.board_model.specs.Sound.{IsLent, Sound, is_suspended}
 use Rattle.board_cell.specs.Calls.{Publishing, Putting, Updating}
 use Rattle.board_script.specs.declared.begin.Checked.{Checked}
 use Rattle.board_script.specs.declared.begin.Checked.TheVariants as checked
@@ -45,12 +47,50 @@ loan_handle m party loan x words e =
         let p : (t, ws) ≡ (x, words) = cc in
         ap (λ (q : Held × List (Option ℕ)). Some q.0) p
 
+-- the thing that was found, whatever its kind was asked to be
+thing_found : (k : ThingKind) (o : Option Held) (x : Held) → of_kind k o ≡ Some x → o ≡ Some x
+thing_found k None x e = absurd cc
+thing_found k (Some t) x e = at (same_kind (kind_of t.kind) k) e
+  where
+    at : (b : Bool) → cond b (Some t) None ≡ Some x → Some t ≡ Some x
+    at true e = e
+    at false e = absurd cc
+
+-- a loan has a thing, and words
+loan_parts : (m : Machine) (party loan : List ℕ) (x : Held) (words : List (Option ℕ)) → loan_held m party loan ≡ Some (x, words)
+    → (thing_of m.things.items party loan ≡ Some x) × (lent_words m.loans.items party loan ≡ Some words)
+loan_parts m party loan x words e = parts (of_kind thing_kind.WriteHandle (thing_of m.things.items party loan)) refl (lent_words m.loans.items party loan) e
+  where
+    parts : (o : Option Held) → of_kind thing_kind.WriteHandle (thing_of m.things.items party loan) ≡ o → (w : Option (List (Option ℕ))) → and_then o (λ t. and_then w (λ ws. a_loan t ws)) ≡ a_loan x words
+        → (thing_of m.things.items party loan ≡ Some x) × (w ≡ Some words)
+    parts None f w e = absurd cc
+    parts (Some t) f None e = absurd cc
+    parts (Some t) f (Some ws) e =
+        let p : (t, ws) ≡ (x, words) = cc in
+        (thing_found thing_kind.WriteHandle (thing_of m.things.items party loan) x (f ∙ ap (λ (q : Held × List (Option ℕ)). Some q.0) p), ap (λ (q : Held × List (Option ℕ)). Some q.1) p)
+
 module _ (m : Machine) (s : State) (rep : Represents m s) (party : List ℕ) where
   -- a loan is the same in the state
   pub loan_is : (loan : List ℕ) → loan_of s.standing party loan ≡ loan_held m party loan
   loan_is loan =
       ap (λ (o : Option (List (Option ℕ))). and_then (of_kind thing_kind.WriteHandle (thing_of s.standing.tables.things party loan)) (λ t. and_then o (λ ws. a_loan t ws))) (rep.loans party loan)
       ∙ ap (λ t. and_then (of_kind thing_kind.WriteHandle (thing_of t.things party loan)) (λ x. and_then (lent_words m.loans.items party loan) (λ ws. a_loan x ws))) rep.tables
+
+  -- a loan of a free party has a place for each word of its entry
+  pub loan_width : Sound s → s.parties party ≡ free → (x : Held) (e : Entry) → entry_at (tables_of m) x.board (entry_of x.kind) ≡ Some e
+      → (loan : List ℕ) (words : List (Option ℕ)) → loan_held m party loan ≡ Some (x, words) → length words ≡ e.cell.words
+  loan_width sound is_free x e found loan words held =
+      let parts = loan_parts m party loan x words held in
+      let it = sound.things.loans party loan words (rep.loans party loan ∙ parts.1) in
+      let found_in : thing_of s.standing.tables.things party loan ≡ Some x = ap (λ t. thing_of t.things party loan) rep.tables ∙ parts.0 in
+      let same : it.thing ≡ x = one_thing it.thing x (sym it.found ∙ found_in) in
+      let put =
+      subst (λ (y : Held). (e : Entry) → entry_at s.standing.tables y.board (entry_of y.kind) ≡ Some e → is_suspended (s.parties party) y.board (entry_of y.kind) ≡ false
+      → IsLent (s.memory y.board) (cell_shape e.cell) (length (s.published y.board (entry_of y.kind))) words) same it.put in
+      (put e (ap (λ t. entry_at t x.board (entry_of x.kind)) rep.tables ∙ found) (ap (λ (p : Party). is_suspended p x.board (entry_of x.kind)) is_free)).size
+    where
+      one_thing : (a b : Held) → Some a ≡ Some b → a ≡ b
+      one_thing a b e = cc
 
   module _ (sound : Sound s) (x : Held) (e : Entry) (found : entry_at (tables_of m) x.board (entry_of x.kind) ≡ Some e) where
     entry_is : handled s.standing x ≡ Some e

@@ -1,5 +1,6 @@
 -- Whether a call may begin.
 use Rattle.std.specs.Prelude.{◌≡◌, ℕ, Bool, true, false, ◌||◌, if◌then◌else◌, List, [], Option, Some, None, is_some, not}
+use Rattle.std.specs.List.{position_from}
 use Rattle.board_model.specs.declared.answer.Reason.{Reason}
 use Rattle.board_model.specs.declared.line.Call.{Call}
 use Rattle.board_model.specs.declared.tables.Kind.{Kind}
@@ -14,7 +15,7 @@ use Rattle.board_script.specs.declared.begin.Checked.TheVariants as checked
 use Rattle.board_script.specs.declared.machine.Machine.{Machine}
 use Rattle.board_script.specs.declared.machine.Task.{Task}
 use Rattle.board_script.specs.Loans.{lent_words}
-use Rattle.board_script.specs.Machine.{IsTaskOf, Represents, kept}
+use Rattle.board_script.specs.Machine.{IsTaskOf, Represents, is_row_of, kept}
 
 -- ---- what a party holds
 
@@ -39,6 +40,10 @@ pub record IsHandle (m : Machine) (x : Held) : Type 0 where
   pub name : List ℕ
   pub found : thing_of m.things.items party name ≡ Some x
   pub handle : is_handle x.kind ≡ true
+
+-- the party runs no call, and isn't gone
+abbrev pub HasNoRow : Machine → List ℕ → Type 0
+HasNoRow m party = None ≡ position_from (is_row_of party) 0 m.parties.items
 
 -- ---- write handles and loans
 

@@ -7,7 +7,7 @@ ghost use Rattle.board_model.specs.Things as held;
 ghost use Rattle.board_model.specs.declared.line.Call.TheVariants as call;
 ghost use Rattle.board_model.specs.declared.line.Line.TheVariants as line;
 ghost use Rattle.board_script.specs.Machine.{IsLed, Serves, kept, tables_of};
-ghost use Rattle.board_script.specs.Begins.{Checks, IsHandle, handle_held, has_id, holds, holds_any};
+ghost use Rattle.board_script.specs.Begins.{Checks, HasNoRow, IsHandle, handle_held, has_id, holds, holds_any};
 ghost use Rattle.board_script.specs.Loans.{lent_words};
 
 use crate::loans::words_lent;
@@ -19,11 +19,11 @@ use crate::values::{
     key_detail, same_key_type, same_type, type_of, type_of_key, value_detail, value_type_of,
     value_words,
 };
-use board_cell::{CellShape, FreshCall, GetCall, UpdateCall};
 use board_model::{
     AddedEntries, AddedEntry, Answer, Attributes, Board, BoardName, Call, Entry, Key, KeyType,
     Kind, Limits, Name, Reason, Requirements, ThingKind, Value, ValueType,
 };
+use board_ports::{CellShape, ReadCore, WriteCore};
 use std::alloc::AllocError;
 
 /// Whether a call may begin: what it has to do, or why not.
@@ -51,14 +51,36 @@ fn is_key_of(number: u64, key: &Key, boards: &[Board]) -> bool
     }
 }
 
-/// Where the words of an entry lie.
-pub(crate) fn shape_of(entry: &Entry) -> CellShape
+// Where the words of an entry lie.
+fn shape_of(entry: &Entry) -> CellShape
     ensures { result ≡ held.cell_shape entry.now.cell }
 {
     CellShape {
         first: entry.cell.first,
         head: entry.cell.head,
         words: entry.cell.words,
+    }
+}
+
+// What a read handle of an entry knows.
+fn read_core(entry: &Entry) -> ReadCore
+    ensures { result.shape ≡ held.cell_shape entry.now.cell }
+{
+    ReadCore {
+        shape: shape_of(entry),
+        entry_id: entry.cell.place,
+    }
+}
+
+/// What a write handle of an entry knows at this generation.
+pub(crate) fn write_core(entry: &Entry, generation: u64) -> WriteCore
+    ensures shape { result.shape ≡ held.cell_shape entry.now.cell }
+    ensures generation { result.generation ≡ generation }
+{
+    WriteCore {
+        shape: shape_of(entry),
+        entry_id: entry.cell.place,
+        generation,
     }
 }
 
@@ -272,11 +294,11 @@ impl Machine {
         if self.holds_any(party, &name) {
             return Ok(Checked::Refused(Reason::Taken));
         }
-        let shape = shape_of(entry);
-        let buffer = Vec::from_elem(self.alloc, 0, shape.words as usize)?;
+        let core = read_core(entry);
+        let buffer = Vec::from_elem(self.alloc, 0, core.shape.words as usize)?;
         Ok(Checked::Accepted(Task::Get {
             board: found.board,
-            call: GetCall::new(shape, buffer),
+            call: core.get(buffer),
             value_type: value_type_of(&entry.value),
             name,
         }))
@@ -298,7 +320,7 @@ impl Machine {
         }
         Checked::Accepted(Task::Fresh {
             board: found.board,
-            call: FreshCall::new(shape_of(entry), kept.generation),
+            call: read_core(entry).fresh(kept.generation),
         })
     }
 
@@ -313,12 +335,12 @@ impl Machine {
         if !same_type(&value_detail(type_of(value)), &entry.value) {
             return Ok(Checked::Refused(Reason::Type));
         }
-        let shape = shape_of(entry);
         let generation = self.counter(found.board, entry_of(&found.kind));
+        let core = write_core(entry, generation);
         let words = value_words(self.alloc, value)?;
         Ok(Checked::Accepted(Task::Update {
             board: found.board,
-            call: UpdateCall::new(shape, generation, words),
+            call: core.update(words),
         }))
     }
 
@@ -372,7 +394,8 @@ impl Machine {
 
     // Whether the call may begin.
     fn check(&self, party: &Name, call: Call) -> Result<Checked, AllocError>
-        requires { IsLed self.now }
+        requires led { IsLed self.now }
+        requires free { HasNoRow self.now party.now }
         ensures { IfOk result (Checks self.now party.now call) }
     {
         match call {

@@ -1,21 +1,20 @@
 //! Loans: write handles that are out, and the words that were put.
 ghost use Rattle.std.specs.Prelude.{◌≡◌, ◌<◌, Option, None, IfOk, OnOk, map, not, option_map};
 ghost use Rattle.std.specs.List.{filter, position_from};
-ghost use Rattle.board_model.specs.LawfulSession.{all_put};
 ghost use Rattle.board_model.specs.Things as held;
 ghost use Rattle.board_model.specs.declared.answer.Reply.TheVariants as reply;
 ghost use Rattle.board_model.specs.declared.line.Call.TheVariants as call;
-ghost use Rattle.board_script.specs.Begins.{Checks, loan_held};
+ghost use Rattle.board_script.specs.Begins.{Checks, HasNoRow, loan_held};
 ghost use Rattle.board_script.specs.LoanCalls.{CanSettle, HasLoanWord, IsGivenBack, IsLoaned, IsSettled, IsWordPut};
 ghost use Rattle.board_script.specs.Loans.{is_lent_as, lent_words};
 ghost use Rattle.board_script.specs.Machine.{IsLed};
 
-use crate::begin::{Checked, shape_of};
+use crate::begin::{Checked, write_core};
 use crate::lookups::{entry_of, held_of_kind};
 use crate::machine::{Held, Lent, Machine, TableTask, Task};
 use crate::values::{same_type, type_of, value_detail, value_words};
-use board_cell::{PublishCall, PutCall, UpdateCall};
 use board_model::{Name, Reason, Reply, ThingKind, Value};
+use board_ports::LoanCore;
 use std::alloc::AllocError;
 
 /// The words of the loan that a party holds under a name.
@@ -60,18 +59,6 @@ fn rename(party: &Name, old: &Name, new: &Name, things: &mut Vec<Held>)
             thing.name = *new;
         }
     }
-}
-
-// Whether each word was put.
-fn all_put(words: &[Option<u64>]) -> bool
-    ensures { result ≡ all_put words.now }
-{
-    for word in words {
-        if word.is_none() {
-            return false;
-        }
-    }
-    true
 }
 
 impl Machine {
@@ -122,20 +109,22 @@ impl Machine {
 
     /// Whether a word may be put into a loan.
     pub(crate) fn check_put(&self, party: &Name, loan: Name, index: u64, word: u64) -> Checked
-        requires { IsLed self.now }
+        requires led { IsLed self.now }
+        requires free { HasNoRow self.now party.now }
         ensures { Checks self.now party.now (call.Put loan index word) result }
     {
-        let Some((found, _)) = self.loan_held(party, &loan) else {
+        let Some((found, words)) = self.loan_held(party, &loan) else {
             return Checked::Refused(Reason::Unknown);
         };
-        let shape = shape_of(self.entry_held(&found));
-        if index >= shape.words {
-            return Checked::Refused(Reason::Index);
-        }
+        let entry = self.entry_held(&found);
         let generation = self.counter(found.board, entry_of(&found.kind));
+        let core = LoanCore::lent(write_core(entry, generation), words);
+        let Some(call) = core.put(index, word) else {
+            return Checked::Refused(Reason::Index);
+        };
         Checked::Accepted(Task::Put {
             board: found.board,
-            call: PutCall::new(shape, generation, index, word),
+            call,
             loan,
             index,
             word,
@@ -144,23 +133,25 @@ impl Machine {
 
     /// Whether the words of a loan may be published.
     pub(crate) fn check_publish(&self, party: &Name, loan: Name, handle: Name) -> Checked
-        requires { IsLed self.now }
+        requires led { IsLed self.now }
+        requires free { HasNoRow self.now party.now }
         ensures { Checks self.now party.now (call.Publish loan handle) result }
     {
         let Some((found, words)) = self.loan_held(party, &loan) else {
             return Checked::Refused(Reason::Unknown);
         };
-        let shape = shape_of(self.entry_held(&found));
+        let entry = self.entry_held(&found);
         if self.holds(party, &handle) {
             return Checked::Refused(Reason::Taken);
         }
-        if !all_put(words) {
+        let generation = self.counter(found.board, entry_of(&found.kind));
+        let core = LoanCore::lent(write_core(entry, generation), words);
+        if !core.is_filled() {
             return Checked::Refused(Reason::Unfilled);
         }
-        let generation = self.counter(found.board, entry_of(&found.kind));
         Checked::Accepted(Task::Publish {
             board: found.board,
-            call: PublishCall::new(shape, generation),
+            call: core.publish(),
             loan,
             handle,
         })
@@ -174,10 +165,11 @@ impl Machine {
         handle: Name,
         value: Value,
     ) -> Result<Checked, AllocError>
-        requires { IsLed self.now }
+        requires led { IsLed self.now }
+        requires free { HasNoRow self.now party.now }
         ensures { IfOk result (Checks self.now party.now (call.Fill loan handle value)) }
     {
-        let Some((found, _)) = self.loan_held(party, &loan) else {
+        let Some((found, put)) = self.loan_held(party, &loan) else {
             return Ok(Checked::Refused(Reason::Unknown));
         };
         let entry = self.entry_held(&found);
@@ -187,12 +179,12 @@ impl Machine {
         if !same_type(&value_detail(type_of(value)), &entry.value) {
             return Ok(Checked::Refused(Reason::Type));
         }
-        let shape = shape_of(entry);
         let generation = self.counter(found.board, entry_of(&found.kind));
+        let core = LoanCore::lent(write_core(entry, generation), put);
         let words = value_words(self.alloc, value)?;
         Ok(Checked::Accepted(Task::Fill {
             board: found.board,
-            call: UpdateCall::new(shape, generation, words),
+            call: core.fill(words),
             loan,
             handle,
         }))

@@ -1,4 +1,4 @@
-use Rattle.std.proofs.Common.{◌≡◌, ℕ, ◌<◌, ◌^◌, List, length, rules, sym, ap, subst, ◌∙◌, Option, Some, true, false}
+use Rattle.std.proofs.Common.{◌≡◌, ℕ, ◌+◌, ◌<◌, ◌^◌, List, length, rules, sym, ap, subst, ◌∙◌, Option, Some, true, false}
 use Rattle.board_layout.specs.declared.shape.CellShape.{CellShape}
 use Rattle.board_model.specs.Copies.{cell_end}
 use Rattle.board_cell.specs.Calls.{Updating}
@@ -9,7 +9,9 @@ use Rattle.board_script.specs.Begins.{holds, loan_held}
 use Rattle.board_script.specs.Steps.{HasCounter, IsCounter}
 use Rattle.board_script.proofs.Bounds.{bounded}
 use Rattle.board_script.proofs.CallChecks.{cell_is_low, counter_is_low, entry_has_counter, value_fits}
-use Rattle.board_script.proofs.LoanChecks.{fill_begins, fill_mistyped}
+use Rattle.board_script.proofs.LoanChecks.{fill_begins, fill_mistyped, loan_width}
+use Rattle.board_ports.specs.Loans.{LoanSeen}
+use Rattle.board_script.proofs.PartyRows.{is_free}
 use Rattle.board_script.proofs.machine.Machine.check_fill.Goals as goal
 
 abbrev a_loan : Held → List (Option ℕ) → Option (Held × List (Option ℕ))
@@ -20,29 +22,40 @@ a_fill x g words = record { shape = x; generation = g; words = words; written = 
 
 pub counter-generation-requires : goal.counter-generation-requires
 counter-generation-requires c =
-    let led = c.requires in
+    let led = c.requires.led in
     subst (λ (k : ℕ). HasCounter c.args.self.now c.in-Some.found.board k) (sym c.entry_of.ensures)
     (entry_has_counter c.args.self.now led.state led.represents led.reached.sound c.in-Some.found.board (entry_of c.in-Some.found.kind) c.entry_held-entry.result.now c.entry_held-entry.ensures)
 
-pub new-requires-clause-words : goal.new-requires-clause-words
-new-requires-clause-words c =
+pub lent-core-requires : goal.lent-core-requires
+lent-core-requires c =
+    let led = c.requires.led in
+    let words = c.in-Some.put.now.items in
+    let held : loan_held c.args.self.now c.args.party.now c.args.loan ≡ a_loan c.in-Some.found words = search rules in
+    let s = led.state in
+    loan_width c.args.self.now s led.represents c.args.party.now led.reached.sound (is_free c.args.self.now.parties.items s.parties led.represents.parties c.args.party.now c.requires.free)
+    c.in-Some.found c.entry_held-entry.result.now c.entry_held-entry.ensures c.args.loan words held
+    ∙ ap (λ (x : CellShape). x.words) (sym c.write_core.ensures.shape)
+
+pub fill-requires-clause-width : goal.fill-requires-clause-width
+fill-requires-clause-width c =
     let t : same_type (value_detail (type_of c.args.value)) c.entry_held-entry.result.now.value ≡ true = search rules in
     let w : c.in_ok-words.words.items ≡ value_words c.args.value = search rules in
-    let led = c.requires in
+    let led = c.requires.led in
     ap (λ (ws : List ℕ). length ws) w ∙ value_fits c.args.self.now led.state led.represents led.reached.sound c.in-Some.found.board (entry_of c.in-Some.found.kind) c.entry_held-entry.result.now c.entry_held-entry.ensures c.args.value t
-    ∙ ap (λ (x : CellShape). x.words) (sym c.shape_of-shape.ensures)
+    ∙ ap (λ (x : CellShape). x.words) (sym (ap (λ (l : LoanSeen). l.handle.shape) c.lent-core.ensures ∙ c.write_core.ensures.shape))
 
-pub new-requires-clause-shape : goal.new-requires-clause-shape
-new-requires-clause-shape c =
-    let led = c.requires in
-    subst (λ (x : CellShape). cell_end x < 2 ^ 64) (sym c.shape_of-shape.ensures)
+pub fill-requires-clause-shape : goal.fill-requires-clause-shape
+fill-requires-clause-shape c =
+    let led = c.requires.led in
+    subst (λ (x : CellShape). cell_end x < 2 ^ 64) (sym (ap (λ (l : LoanSeen). l.handle.shape) c.lent-core.ensures ∙ c.write_core.ensures.shape))
     (cell_is_low c.args.self.now led.state led.represents led.reached.sound c.in-Some.found.board (entry_of c.in-Some.found.kind) c.entry_held-entry.result.now c.entry_held-entry.ensures)
 
-pub new-requires-clause-room : goal.new-requires-clause-room
-new-requires-clause-room c =
-    let led = c.requires in
-    counter_is_low c.args.self.now led.state led.represents led.reached.sound c.in-Some.found.board (entry_of c.in-Some.found.kind) c.entry_held-entry.result.now c.entry_held-entry.ensures c.counter-generation.result (bounded led.state led.reached)
-    (subst (λ (k : ℕ). IsCounter c.args.self.now c.in-Some.found.board k c.counter-generation.result) c.entry_of.ensures c.counter-generation.ensures)
+pub fill-requires-clause-room : goal.fill-requires-clause-room
+fill-requires-clause-room c =
+    let led = c.requires.led in
+    subst (λ (g : ℕ). g + 1 < 2 ^ 64) (sym (ap (λ (l : LoanSeen). l.handle.generation) c.lent-core.ensures ∙ c.write_core.ensures.generation))
+    (counter_is_low c.args.self.now led.state led.represents led.reached.sound c.in-Some.found.board (entry_of c.in-Some.found.kind) c.entry_held-entry.result.now c.entry_held-entry.ensures c.counter-generation.result (bounded led.state led.reached)
+    (subst (λ (k : ℕ). IsCounter c.args.self.now c.in-Some.found.board k c.counter-generation.result) c.entry_of.ensures c.counter-generation.ensures))
 
 pub returns : goal.returns
 returns c =
@@ -50,15 +63,16 @@ returns c =
     let party = c.args.party.now in
     let x = c.in-Some.found in
     let entry = c.entry_held-entry.result.now in
-    let words = c.in-Some.field-0-1.now.items in
+    let words = c.in-Some.put.now.items in
     let held : loan_held m party c.args.loan ≡ a_loan x words = search rules in
     let counter = subst (λ (k : ℕ). IsCounter m x.board k c.counter-generation.result) c.entry_of.ensures c.counter-generation.ensures in
     let untaken : holds m party c.args.handle ≡ false = search rules in
     let t : same_type (value_detail (type_of c.args.value)) entry.value ≡ true = search rules in
     let w : c.in_ok-words.words.items ≡ value_words c.args.value = search rules in
     λ s rep sound.
-    fill_begins m s rep party sound x entry c.entry_held-entry.ensures c.args.loan words held c.args.handle c.args.value untaken t c.counter-generation.result counter c.new.result
-    (c.new.ensures ∙ ap (λ (y : CellShape). a_fill y c.counter-generation.result c.in_ok-words.words.items) c.shape_of-shape.ensures
+    fill_begins m s rep party sound x entry c.entry_held-entry.ensures c.args.loan words held c.args.handle c.args.value untaken t c.counter-generation.result counter c.fill.result
+    (c.fill.ensures ∙ ap (λ (g : ℕ). a_fill c.lent-core.result.handle.shape g c.in_ok-words.words.items) (ap (λ (l : LoanSeen). l.handle.generation) c.lent-core.ensures ∙ c.write_core.ensures.generation)
+    ∙ ap (λ (y : CellShape). a_fill y c.counter-generation.result c.in_ok-words.words.items) (ap (λ (l : LoanSeen). l.handle.shape) c.lent-core.ensures ∙ c.write_core.ensures.shape)
     ∙ ap (λ (ws : List ℕ). a_fill (cell_shape entry.cell) c.counter-generation.result ws) w)
 
 pub returns-then-not-same_type : goal.returns-then-not-same_type
@@ -67,7 +81,7 @@ returns-then-not-same_type c =
     let party = c.args.party.now in
     let x = c.in-Some.found in
     let entry = c.entry_held-entry.result.now in
-    let words = c.in-Some.field-0-1.now.items in
+    let words = c.in-Some.put.now.items in
     let held : loan_held m party c.args.loan ≡ a_loan x words = search rules in
     let untaken : holds m party c.args.handle ≡ false = search rules in
     let t : same_type (value_detail (type_of c.args.value)) entry.value ≡ false = search rules in
