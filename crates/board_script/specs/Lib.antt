@@ -3,6 +3,7 @@ pub mod Counting
 pub mod Counts
 pub mod Create
 pub mod Generator
+pub mod LawsOfGenerator
 pub mod Overview
 pub mod Machine
 pub mod Steps
