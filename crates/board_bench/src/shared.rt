@@ -75,6 +75,9 @@ pub fn watch<R: Wait>(rt: &R, cell: &ThreadedCell, watcher: &mut Watcher, last: 
 }
 
 /// So many readers of the cell.
+///
+/// # Errors
+/// `AllocError` where memory is refused.
 pub fn watchers_of(
     alloc: Global,
     cell: &ThreadedCell,
@@ -154,6 +157,9 @@ pub fn race<R: Threads + Wait + Sync>(
 }
 
 /// The readers' passes, the last reader's first, and how many gets they made.
+///
+/// # Errors
+/// `OutOfMemory` where memory is refused.
 pub fn passes_of(
     alloc: Global,
     cell: &ThreadedCell,
@@ -178,7 +184,10 @@ pub fn passes_of(
     Ok((passes, gets))
 }
 
-/// A cell of this many words, a thread that makes so many updates, and so many that get until they have seen the last of them. The error is want of memory.
+/// A cell of this many words, a thread that makes so many updates, and so many that get until they have seen the last of them.
+///
+/// # Errors
+/// `OutOfMemory` where memory is refused.
 pub fn run_shared<R: Threads + Wait + Sync>(
     rt: &R,
     alloc: Global,

@@ -39,7 +39,10 @@ pub fn updates(
     }
 }
 
-/// A cell of this many words, and this many gets of it by the reader that is given back. The error is want of memory.
+/// A cell of this many words, and this many gets of it by the reader that is given back.
+///
+/// # Errors
+/// `OutOfMemory` where memory is refused.
 pub fn run_gets<R: Wait>(
     rt: &R,
     alloc: Global,
@@ -55,7 +58,10 @@ pub fn run_gets<R: Wait>(
     Ok(reader)
 }
 
-/// A cell of this many words, and this many updates of it by the writer that is given back. The error is want of memory.
+/// A cell of this many words, and this many updates of it by the writer that is given back.
+///
+/// # Errors
+/// `OutOfMemory` where memory is refused.
 pub fn run_updates(alloc: Global, width: u64, count: u64) -> Result<WriterPass, CellError>
     requires { count < 2 ^ 40 }
     ensures { IfOk result (λ writer. length writer.published ≡ count + 1) }

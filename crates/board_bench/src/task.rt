@@ -29,6 +29,9 @@ pub enum Task {
 const LIMIT: u64 = 1 << 40;
 
 /// The number that the word spells in decimal digits, without a sign or a leading zero, if it does.
+///
+/// # Errors
+/// `AllocError` where memory is refused.
 pub fn number(alloc: Global, word: &str) -> Result<Option<u64>, AllocError>
     ensures spelled { IfOk result (λ o. IfSome o (λ n. word.now ≡ decimal n)) }
     ensures found { (n : ℕ) → n < 2 ^ 64 → word.now ≡ decimal n → IfOk result (λ o. o ≡ Some n) }
@@ -41,6 +44,9 @@ pub fn number(alloc: Global, word: &str) -> Result<Option<u64>, AllocError>
 }
 
 /// The task that the words spell, if they do.
+///
+/// # Errors
+/// `AllocError` where memory is refused.
 pub fn task_of(alloc: Global, words: &[String]) -> Result<Option<Task>, AllocError>
     ensures spelled { IfOk result (λ o. IfSome o (λ t. IsTask t × (map string_bytes words.now ≡ spelling t))) }
     ensures found { (t : Task) → IsTask t → map string_bytes words.now ≡ spelling t → IfOk result IsSome }

@@ -1,7 +1,7 @@
 -- The accesses of whole runs, one after another.
 use Rattle.std.specs.Prelude.{ℕ, zero, suc, ◌+◌, ◌-◌, List, [], ◌∷◌, length}
 use Rattle.board_layout.specs.declared.shape.CellShape.{CellShape}
-use Rattle.board_model.specs.OwedAccesses.{Owed, Reading, finished, hear, owed_read, owed_write}
+use Rattle.board_model.specs.OwedAccesses.{Owed, to_read, Reading, finished, hear, owed_read, owed_write}
 
 -- what a get owes before each of these words, until it is finished
 abbrev pub owed_reads : ℕ → CellShape → Reading → List ℕ → List Owed
@@ -17,3 +17,8 @@ owed_writes_from board c g words k (suc n) = owed_write board c g words k ∷ ow
 -- what an update owes from its access number k to its last one, the counter
 abbrev pub owed_writes : ℕ → CellShape → ℕ → List ℕ → ℕ → List Owed
 owed_writes board c g words k = owed_writes_from board c g words k (length words + 1 - k)
+
+-- what a look at the counter owes, where these words are read: one read of the counter, and nothing where there is no word
+abbrev pub owed_looks : ℕ → CellShape → List ℕ → List Owed
+owed_looks board c [] = []
+owed_looks board c (v ∷ vs) = to_read board c.first ∷ []

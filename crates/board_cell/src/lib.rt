@@ -25,7 +25,7 @@ pub use laws::{a_get_hears_in_order, a_history_is_legal, a_try_decides};
 pub use plain_words::PlainWords;
 pub use publish_call::PublishCall;
 pub use put_call::PutCall;
-pub use runs::{run_get, run_update};
+pub use runs::{run_fresh, run_get, run_publish, run_put, run_update};
 pub use seat_words::SeatWords;
 pub use threaded::{Gathered, GetAgain, Note, ReaderPass, Receipt, ThreadedCell, WriterPass};
 pub use update_call::{UpdateCall, ValueWords};

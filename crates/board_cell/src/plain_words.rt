@@ -18,6 +18,7 @@ impl Model for PlainWords {
 }
 
 impl PlainWords {
+    /// The words of a board, which are these.
     pub fn new(words: Vec<u64>) -> PlainWords
         ensures { result ≡ words.items }
     {

@@ -52,7 +52,10 @@ impl Model for SeatWords {
 }
 
 impl SeatWords {
-    /// A copy of these words. The error is want of memory.
+    /// A copy of these words.
+    ///
+    /// # Errors
+    /// `OutOfMemory` where memory is refused.
     pub fn new(alloc: Global, words: &Vec<u64>) -> Result<SeatWords, CellError>
         ensures { IfOk result (λ s. s ≡ words.now.items) }
     {

@@ -51,6 +51,9 @@ impl Model for EventMemory {
 
 impl EventMemory {
     /// The memory of a new event, with all the room that it will need.
+    ///
+    /// # Errors
+    /// `AllocError` where memory is refused.
     pub fn new(
         alloc: Global,
         kind: EventKind,

@@ -18,7 +18,7 @@ pub record MetAccess : Type 0 where
   pub met : Event
   pub access : EventAccess
 
--- a call that runs: the how-manieth it is, how it began, its answers so far, the ids that it has reported, its accesses,
+-- a call that runs: its number among the calls, how it began, its answers so far, the ids that it has reported, its accesses,
 -- and whether the last one was a waiting look that found nothing. Of answers and accesses the last one comes first
 pub record RunningCall : Type 0 where
   pub number : ℕ

@@ -5,14 +5,14 @@ use Rattle.board_model.specs.declared.line.Line.TheVariants as line
 use Rattle.board_model.specs.declared.answer.Reason.{Reason}
 use Rattle.board_model.specs.declared.answer.Answer.{Answer}
 use Rattle.board_model.specs.declared.answer.Answer.TheVariants as answer
-use Rattle.board_model.specs.LineGrammar.{IsWellFormed, Spells}
+use Rattle.board_model.specs.LineGrammar.{IsLine, Spells}
 use Rattle.board_model.specs.AnswerGrammar.{answer_line}
 use Rattle.board_model.specs.LawfulSession.{State, Session, start, after, state_after, IsRight}
 use Rattle.board_lines.specs.Runs.{HasAnswered, StandsFor}
 use Rattle.board_lines.specs.IdleMachine.{idle_reason}
 
 record IsIdle (l : Line) (why : Reason) : Type 0 where
-  pub right : IsWellFormed l → IsRight start l (answer.Refused why)
+  pub right : IsLine l → IsRight start l (answer.Refused why)
   pub same : after start l (answer.Refused why) ≡ start
 
 abbrev there : Reason → Option Reason
@@ -39,7 +39,7 @@ answered m session bytes text l why s spelled e told =
       line = l;
       answer = answer.Refused why;
       spelled = spelled;
-      right = subst (λ (x : State). IsRight x l (answer.Refused why)) (sym s.state) (i.right spelled.line.formed);
+      right = subst (λ (x : State). IsRight x l (answer.Refused why)) (sym s.state) (i.right spelled.line);
       state = subst (λ (x : State). after x l (answer.Refused why) ≡ start) (sym s.state) i.same;
       told = told;
     }

@@ -75,6 +75,9 @@ fn push_numbers(numbers: &[u64], out: &mut Vec<u8>) -> Result<(), AllocError>
 }
 
 /// Adds the line of an accepted begin.
+///
+/// # Errors
+/// `AllocError` where memory is refused; then a front of the line may have been added.
 pub fn push_begun(out: &mut Vec<u8>) -> Result<(), AllocError>
     ensures { OnOk result (out.new.items ≡ out.old.items ++ answer_line answer.Begun) }
 {
@@ -82,6 +85,9 @@ pub fn push_begun(out: &mut Vec<u8>) -> Result<(), AllocError>
 }
 
 /// Adds the line of an accepted abandon.
+///
+/// # Errors
+/// `AllocError` where memory is refused; then a front of the line may have been added.
 pub fn push_gone(out: &mut Vec<u8>) -> Result<(), AllocError>
     ensures { OnOk result (out.new.items ≡ out.old.items ++ answer_line answer.Gone) }
 {
@@ -89,6 +95,9 @@ pub fn push_gone(out: &mut Vec<u8>) -> Result<(), AllocError>
 }
 
 /// Adds the line of a refusal.
+///
+/// # Errors
+/// `AllocError` where memory is refused; then a front of the line may have been added.
 pub fn push_refused(reason: Reason, out: &mut Vec<u8>) -> Result<(), AllocError>
     ensures { OnOk result (out.new.items ≡ out.old.items ++ answer_line (answer.Refused reason)) }
 {
@@ -99,6 +108,9 @@ pub fn push_refused(reason: Reason, out: &mut Vec<u8>) -> Result<(), AllocError>
 }
 
 /// Adds the line of a step.
+///
+/// # Errors
+/// `AllocError` where memory is refused; then a front of the line may have been added.
 pub fn push_step(access: Access, reply: &Option<Reply>, out: &mut Vec<u8>) -> Result<(), AllocError>
     ensures { OnOk result (out.new.items ≡ out.old.items ++ answer_line (answer.Step access reply.now)) }
 {
@@ -109,6 +121,9 @@ pub fn push_step(access: Access, reply: &Option<Reply>, out: &mut Vec<u8>) -> Re
 }
 
 /// Adds the line that lists these words.
+///
+/// # Errors
+/// `AllocError` where memory is refused; then a front of the line may have been added.
 pub fn push_words(words: &[u64], out: &mut Vec<u8>) -> Result<(), AllocError>
     ensures { OnOk result (out.new.items ≡ out.old.items ++ answer_line (answer.Words words.now)) }
 {
@@ -119,6 +134,9 @@ pub fn push_words(words: &[u64], out: &mut Vec<u8>) -> Result<(), AllocError>
 }
 
 /// Adds the line of any answer.
+///
+/// # Errors
+/// `AllocError` where memory is refused; then a front of the line may have been added.
 pub fn push_answer(answer: &Answer, out: &mut Vec<u8>) -> Result<(), AllocError>
     ensures ok { OnOk result (out.new.items ≡ out.old.items ++ answer_line answer.now) }
 {

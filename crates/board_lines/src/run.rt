@@ -19,6 +19,9 @@ pub trait RunsLines {
     ghost stands: { Self → State → Type 0 };
 
     /// Answers a line: `answer` then has the answer and its newline, and nothing else.
+    ///
+    /// # Errors
+    /// `Bad` where the line is outside the grammar; `OutOfMemory`.
     fn line(&mut self, line: &[u8], answer: &mut Vec<u8>) -> Result<(), LineError>
         // The machine stands for a session that is short enough that no number reaches its end.
         requires { (session : Session) × StandsFor stands self.old session }
@@ -36,6 +39,9 @@ pub trait RunsLines {
 /// Answers the lines of the source, at most `limit` of them, and writes each answer before the next line is looked at.
 ///
 /// Line n is counted from 1. `TooLong` is looked at when a byte follows the last line that is allowed.
+///
+/// # Errors
+/// `ReadFault` and `WriteFault` where source or sink failed; `BadLine` with the number of the first line outside the grammar; `TooLong`; `OutOfMemory`. The answers to the lines before are written.
 pub fn run_lines<M: RunsLines, S: Source, K: Sink>(
     alloc: Global,
     limit: u64,

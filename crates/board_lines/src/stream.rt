@@ -21,6 +21,9 @@ pub trait Source {
     ghost faults: { Self → ℕ };
 
     /// Fills a front of `buf` with the next bytes, and tells how many. 0 for a `buf` that isn't empty means the end.
+    ///
+    /// # Errors
+    /// `Failed` where no byte could be had; the bytes that are left stay.
     fn read(&mut self, buf: &mut [u8]) -> Result<usize, Failed>
         ensures bound { ReadsAtMost result buf.new }
 
@@ -40,6 +43,9 @@ pub trait Sink {
     ghost faults: { Self → ℕ };
 
     /// Takes a front of `bytes`, at least one byte where there is one, and tells how many.
+    ///
+    /// # Errors
+    /// `Failed` where no byte could be taken; what is held stays.
     fn write(&mut self, bytes: &[u8]) -> Result<usize, Failed>
         ensures bound { Writes result bytes.now }
 

@@ -6,6 +6,9 @@ ghost use Rattle.board_model.specs.Lines.{HasCause};
 use crate::stream::{Failed, Sink};
 
 /// Writes all of the bytes. They are offered in one `write`, and their rest again until all is taken.
+///
+/// # Errors
+/// `Failed` where the sink failed; then a front of the bytes was written.
 pub fn write_whole<K: Sink>(sink: &mut K, bytes: &[u8]) -> Result<(), Failed>
     ensures ok { OnOk result (Appends (K.held sink.old) (K.held sink.new) bytes.now) }
 

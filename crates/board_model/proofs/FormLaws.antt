@@ -13,7 +13,7 @@ use Rattle.board_model.specs.declared.answer.Reply.{Reply}
 use Rattle.board_model.specs.declared.answer.Reply.TheVariants as reply
 use Rattle.board_model.specs.declared.line.Line.{Line}
 use Rattle.board_model.specs.declared.line.Line.TheVariants as line
-use Rattle.board_model.specs.LineGrammar.{IsNumber, IsWellFormed}
+use Rattle.board_model.specs.LineGrammar.{IsNumber, IsLine}
 use Rattle.board_model.specs.AnswerGrammar.{IsAccess, IsAnswer, IsReply}
 use Rattle.board_model.specs.OwedAccesses.{Owed, owed_of, to_read, to_table, to_write}
 use Rattle.board_model.specs.Replies.{ask}
@@ -131,7 +131,7 @@ HasAnswer s l = (a : Answer) × IsRightButForm s l a
 no_none : {P : Type 0} (why : Reason) → Some why ≡ None → P
 no_none why e = absurd cc
 
-refused_right : (s : State) (l : Line) (why : Reason) → IsWellFormed l → reason_of s l ≡ Some why → HasAnswer s l
+refused_right : (s : State) (l : Line) (why : Reason) → IsLine l → reason_of s l ≡ Some why → HasAnswer s l
 refused_right s l why h e = (
   answer.Refused why,
   record {
@@ -143,7 +143,7 @@ refused_right s l why h e = (
   },
 )
 
-step_answer : (s : State) → Sound s → (party : List ℕ) → IsWellFormed (line.Step party) → (x : Party) → s.parties party ≡ x → step_reason x ≡ None → HasAnswer s (line.Step party)
+step_answer : (s : State) → Sound s → (party : List ℕ) → IsLine (line.Step party) → (x : Party) → s.parties party ≡ x → step_reason x ≡ None → HasAnswer s (line.Step party)
 step_answer s sound party h free e n = absurd cc
 step_answer s sound party h gone e n = absurd cc
 step_answer s sound party h (running r) e n =
@@ -163,7 +163,7 @@ step_answer s sound party h (running r) e n =
       },
     )
 
-accepted_answer : (s : State) → Sound s → (l : Line) → IsWellFormed l → reason_of s l ≡ None → HasAnswer s l
+accepted_answer : (s : State) → Sound s → (l : Line) → IsLine l → reason_of s l ≡ None → HasAnswer s l
 accepted_answer s sound (line.Begin party c) h e = (answer.Begun, record { line = h; reason = subst (λ (o : Option Reason). IsReasoned o answer.Begun) (sym e) tt; owed = λ _. refl; word = λ _. tt; reply = λ _. tt })
 accepted_answer s sound (line.Step party) h e = step_answer s sound party h (s.parties party) refl e
 accepted_answer s sound (line.Release party name) h e = (
@@ -173,7 +173,7 @@ accepted_answer s sound (line.Release party name) h e = (
 accepted_answer s sound (line.Abandon party) h e = (answer.Gone, record { line = h; reason = subst (λ (o : Option Reason). IsReasoned o answer.Gone) (sym e) tt; owed = λ _. refl; word = λ _. tt; reply = λ _. tt })
 accepted_answer s sound (line.Words b) h e = (answer.Words (s.memory b), record { line = h; reason = subst (λ (o : Option Reason). IsReasoned o (answer.Words (s.memory b))) (sym e) tt; owed = λ _. tt; word = λ _. refl; reply = λ _. tt })
 
-some_answer : (s : State) → Sound s → (l : Line) → IsWellFormed l → HasAnswer s l
+some_answer : (s : State) → Sound s → (l : Line) → IsLine l → HasAnswer s l
 some_answer s sound l h = at (reason_of s l) refl
   where
     at : (o : Option Reason) → reason_of s l ≡ o → HasAnswer s l
@@ -197,7 +197,7 @@ lawful_join (x ∷ xs) ys s h k = (h.0, lawful_join xs ys (after s x.0 x.1) h.1 
 abbrev GoesOn : Session → List Line → Type 0
 GoesOn pairs lines = (more : Session) × IsLawful (pairs ++ more) × (lines_of more ≡ lines)
 
-goes_on : (lines : List Line) (pairs : Session) → IsLawful pairs → length pairs + length lines < 2 ^ 63 → AllByRecursion IsWellFormed lines → GoesOn pairs lines
+goes_on : (lines : List Line) (pairs : Session) → IsLawful pairs → length pairs + length lines < 2 ^ 63 → AllByRecursion IsLine lines → GoesOn pairs lines
 goes_on [] pairs h lt a = ([], subst IsLawful (sym (append-nil pairs)) h, refl)
 goes_on (l ∷ ls) pairs h lt a =
     let x = each_line pairs l h (omega (arith, lt)) a.0 in

@@ -5,8 +5,8 @@ use Rattle.std.specs.Str.{bytes_eq}
 use Rattle.board_model.specs.declared.line.Call.{Call}
 use Rattle.board_model.specs.declared.line.Line.{Line}
 use Rattle.board_model.specs.declared.line.Line.TheVariants as line
-use Rattle.board_model.specs.LineGrammar.{is_name, call_tokens, tokens, IsWellFormed, IsLine, runs}
-use Rattle.board_model.specs.LineReading.{◌>>=◌, guard, first_by, is_end, read_number, read_name, read_call, read_one_name, read_two_names, read_begin, read_words, read_plain_line, read_formed, read_line}
+use Rattle.board_model.specs.LineGrammar.{is_name, call_tokens, tokens, IsLine}
+use Rattle.board_model.specs.LineReading.{◌>>=◌, guard, first_by, is_end, read_number, read_name, read_call, read_one_name, read_two_names, read_begin, read_words, read_plain_line, read_line}
 use Rattle.board_model.proofs.GrammarLemmasNumbers.{some_is, bind_some, guard_some, number_again, number_takes}
 use Rattle.board_model.proofs.GrammarLemmasTokens.{word_is, chosen, first_takes, end_takes, name_again, name_takes}
 use Rattle.board_model.proofs.GrammarLemmasCalls.{call_takes, read_call_tokens, call_again, one_again, one_takes, two_again, two_take}
@@ -15,7 +15,7 @@ use Rattle.board_model.proofs.GrammarLemmasCalls.{call_takes, read_call_tokens, 
 
 pub record TakesLine (ts : List (List ℕ)) (l : Line) : Type 0 where
   pub tokens : ts ≡ tokens l
-  pub is : IsWellFormed l
+  pub is : IsLine l
 
 begin_takes : (ts : List (List ℕ)) (l : Line) → read_begin ts ≡ Some l → TakesLine (codes "begin" ∷ ts) l
 unfolding read_begin
@@ -83,10 +83,10 @@ plain_line_takes word ts l e =
       ]
     ]
 
-formed_takes : (ts : List (List ℕ)) (l : Line) → read_formed ts ≡ Some l → TakesLine ts l
-unfolding read_formed
-formed_takes [] l e = absurd cc
-formed_takes (word ∷ rest) l e =
+any_line_takes : (ts : List (List ℕ)) (l : Line) → read_line ts ≡ Some l → TakesLine ts l
+unfolding read_line
+any_line_takes [] l e = absurd cc
+any_line_takes (word ∷ rest) l e =
     elim (chosen (bytes_eq word (codes "begin")) _ _ _ e) [
       | inl h ↦ head_of word (codes "begin") rest l h.0 (begin_takes rest l h.1)
       | inr h ↦ plain_line_takes word rest l h.1
@@ -94,28 +94,20 @@ formed_takes (word ∷ rest) l e =
 
 -- what is read is spelled so
 pub line_takes : (ts : List (List ℕ)) (l : Line) → read_line ts ≡ Some l → (ts ≡ tokens l) × IsLine l
-unfolding read_line
 line_takes ts l e =
-    let f = bind_some (read_formed ts) (λ l. guard (runs l) (Some l)) l e in
-    let g = guard_some (runs f.0) (Some f.0) l f.2 in
-    let t = formed_takes ts f.0 f.1 in
-    subst (λ (x : Line). (ts ≡ tokens x) × IsLine x) (some_is f.0 l g.1) (t.tokens, record { formed = t.is; runs = g.0 })
+    let t = any_line_takes ts l e in
+    (t.tokens, t.is)
 
 begin_again : (p : List ℕ) (c : Call) (ts : List (List ℕ)) → is_name p ≡ true → read_call_tokens ts ≡ Some c → read_begin (p ∷ ts) ≡ Some (line.Begin p c)
 unfolding read_begin
 begin_again p c [] h e = absurd cc
 begin_again p c (word ∷ ts) h e = rw (name_again p h, e) refl
 
--- a line of any form is read back
-pub formed_again : (l : Line) → IsWellFormed l → read_formed (tokens l) ≡ Some l
-unfolding read_formed read_plain_line read_words
-formed_again (line.Begin p c) h = begin_again p c (call_tokens c) h.0 (call_again c h.1)
-formed_again (line.Step p) h = rw (one_again p h) refl
-formed_again (line.Words b) h = rw (number_again b h) refl
-formed_again (line.Release p t) h = rw (two_again p t h.0 h.1) refl
-formed_again (line.Abandon p) h = rw (one_again p h) refl
-
 -- what is spelled so is read
 pub line_again : (l : Line) → IsLine l → read_line (tokens l) ≡ Some l
-unfolding read_line
-line_again l h = rw (formed_again l h.formed, h.runs) refl
+unfolding read_line read_plain_line read_words
+line_again (line.Begin p c) h = begin_again p c (call_tokens c) h.0 (call_again c h.1)
+line_again (line.Step p) h = rw (one_again p h) refl
+line_again (line.Words b) h = rw (number_again b h) refl
+line_again (line.Release p t) h = rw (two_again p t h.0 h.1) refl
+line_again (line.Abandon p) h = rw (one_again p h) refl

@@ -19,11 +19,11 @@ use Rattle.board_model.specs.declared.line.Call.{Call}
 use Rattle.board_model.specs.declared.line.Call.TheVariants as call
 use Rattle.board_model.specs.declared.line.Line.{Line}
 use Rattle.board_model.specs.declared.line.Line.TheVariants as line
-use Rattle.board_model.specs.LineGrammar.{is_name, is_name_byte, is_visible, is_visible_byte, is_attribute_key, key_text, key_type_text, value_text, value_type_text, limit_tokens, limits_tokens, pair_tokens, needed_key_tokens, entry_tokens, name_tokens, call_tokens, tokens, spell, IsNumber, IsNumberIfAny, IsNameIfAny, IsAddedEntry, IsAttribute, AreLimits, IsCall, IsKey, IsValue, IsWellFormed, Spells}
-use Rattle.board_model.specs.LineReading.{split_tokens, read_formed, read_line}
+use Rattle.board_model.specs.LineGrammar.{is_name, is_name_byte, is_visible, is_visible_byte, is_attribute_key, key_text, key_type_text, value_text, value_type_text, limit_tokens, limits_tokens, pair_tokens, needed_key_tokens, entry_tokens, name_tokens, call_tokens, tokens, spell, IsNumber, IsNumberIfAny, IsNameIfAny, IsAddedEntry, IsAttribute, AreLimits, IsCall, IsKey, IsValue, IsLine, Spells}
+use Rattle.board_model.specs.LineReading.{split_tokens, read_line}
 use Rattle.board_model.proofs.GrammarLemmasNumbers.{both}
 use Rattle.board_model.proofs.GrammarLemmasSplits.{IsFree, lacks, split_free, free_from, free_number}
-use Rattle.board_model.proofs.GrammarLemmasLines.{line_takes, formed_again, line_again}
+use Rattle.board_model.proofs.GrammarLemmasLines.{line_takes, line_again}
 
 -- ---- texts without a byte
 
@@ -160,7 +160,7 @@ plain_call (call.Info f) h = plain_one (codes "info") f refl h
 plain_call (call.Id t) h = plain_one (codes "id") t refl h
 plain_call (call.Gen m) h = plain_one (codes "gen") m refl h
 
-plain_line : (l : Line) → IsWellFormed l → ArePlain (tokens l)
+plain_line : (l : Line) → IsLine l → ArePlain (tokens l)
 plain_line (line.Begin p c) h = (refl, (plain_name p h.0, plain_call c h.1))
 plain_line (line.Step p) h = plain_one (codes "step") p refl h
 plain_line (line.Release p t) h = plain_two (codes "drop") p t refl h.0 h.1
@@ -175,7 +175,7 @@ some_tokens (line.Abandon p) = omega arith
 some_tokens (line.Words b) = omega arith
 
 -- the tokens of a line's bytes are the line's tokens
-pub split_spell : (l : Line) → IsWellFormed l → split_tokens (spell l) ≡ tokens l
+pub split_spell : (l : Line) → IsLine l → split_tokens (spell l) ≡ tokens l
 split_spell l h = split_free 32 refl (tokens l) (some_tokens l) (plain_line l h)
 
 -- ---- bytes of lines
@@ -188,11 +188,11 @@ read_is bytes l le e =
 
 -- each line's bytes are read as that line
 pub is_read : (bytes : List ℕ) (l : Line) → Spells bytes l → read_line (split_tokens bytes) ≡ Some l
-is_read bytes l h = ap (λ (b : List ℕ). read_line (split_tokens b)) h.bytes ∙ ap read_line (split_spell l h.line.formed) ∙ line_again l h.line
+is_read bytes l h = ap (λ (b : List ℕ). read_line (split_tokens b)) h.bytes ∙ ap read_line (split_spell l h.line) ∙ line_again l h.line
 
--- and so is a line of any form
-formed_is_read : (l : Line) → IsWellFormed l → read_formed (split_tokens (spell l)) ≡ Some l
-formed_is_read l h = ap read_formed (split_spell l h) ∙ formed_again l h
+-- and so is a line whose bytes are more than a script allows
+formed_is_read : (l : Line) → IsLine l → read_line (split_tokens (spell l)) ≡ Some l
+formed_is_read l h = ap read_line (split_spell l h) ∙ line_again l h
 
 abbrev a_line : Line → Option Line
 a_line l = Some l
@@ -205,8 +205,8 @@ pub spells_one : (bytes : List ℕ) (k l : Line) → Spells bytes k → Spells b
 spells_one bytes k l hk hl = one_line k l (sym (is_read bytes k hk) ∙ is_read bytes l hl)
 
 -- lines of any form are told apart by their bytes
-pub forms_apart : (k l : Line) → IsWellFormed k → IsWellFormed l → spell k ≡ spell l → k ≡ l
-forms_apart k l hk hl e = one_line k l (sym (formed_is_read k hk) ∙ ap (λ (b : List ℕ). read_formed (split_tokens b)) e ∙ formed_is_read l hl)
+pub forms_apart : (k l : Line) → IsLine k → IsLine l → spell k ≡ spell l → k ≡ l
+forms_apart k l hk hl e = one_line k l (sym (formed_is_read k hk) ∙ ap (λ (b : List ℕ). read_line (split_tokens b)) e ∙ formed_is_read l hl)
 
 -- bytes that spell no line
 pub none_spells : (bytes : List ℕ) → read_line (split_tokens bytes) ≡ None → (l : Line) → Spells bytes l → ⊥

@@ -9,7 +9,7 @@ use Rattle.board_model.specs.declared.answer.Reply.{Reply}
 use Rattle.board_model.specs.declared.line.Call.{Call}
 use Rattle.board_model.specs.declared.line.Line.{Line}
 use Rattle.board_model.specs.declared.line.Line.TheVariants as line
-use Rattle.board_model.specs.LineGrammar.{IsWellFormed}
+use Rattle.board_model.specs.LineGrammar.{IsLine}
 use Rattle.board_model.specs.OwedAccesses.{owed_of}
 use Rattle.board_model.specs.Requests.{request_of}
 use Rattle.board_model.specs.Replies.{dropped}
@@ -60,7 +60,7 @@ step_of s party r a told e h =
 -- a property of the state after a right line: from what such a line can do
 pub after_cases : (P : State → Type 0) (s : State) (l : Line) (a : Answer) → IsRight s l a
     → P s
-    → ((party : List ℕ) (c : Call) → IsWellFormed (line.Begin party c) → reason_of s (line.Begin party c) ≡ None → P (record s { parties = with_party s.parties party (begun (request_of s.standing s.published party c)) }))
+    → ((party : List ℕ) (c : Call) → IsLine (line.Begin party c) → reason_of s (line.Begin party c) ≡ None → P (record s { parties = with_party s.parties party (begun (request_of s.standing s.published party c)) }))
     → ((party : List ℕ) → P (record s { parties = with_party s.parties party gone }))
     → ((party name : List ℕ) → s.parties party ≡ free → P (record s { standing = dropped s.standing party name }))
     → ((party : List ℕ) (r : Running) (x : Access) → s.parties party ≡ running r → IsStepOf s party r x None → P (stepped s party r x None))

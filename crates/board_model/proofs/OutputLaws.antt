@@ -2,7 +2,7 @@
 use Rattle.std.proofs.Common.{◌≡◌, ℕ, List, [], ◌∷◌, length, arith, refl, sym, ap, subst, ◌∙◌}
 use Rattle.std.specs.List.{AllByRecursion}
 use Rattle.board_model.specs.declared.line.Line.{Line}
-use Rattle.board_model.specs.LineGrammar.{IsWellFormed, Spells}
+use Rattle.board_model.specs.LineGrammar.{IsLine, Spells}
 use Rattle.board_model.specs.LawfulSession.{Session}
 use Rattle.board_model.specs.Lines.{lines_of}
 use Rattle.board_model.specs.Script.{SpellsAll, output_of}
@@ -17,7 +17,7 @@ one_output input one two h k = h.bytes ∙ ap output_of (one_session_of (lines_o
 -- the lines that texts spell
 record AreRead (texts : List (List ℕ)) : Type 0 where
   pub read : List Line
-  pub are : AllByRecursion IsWellFormed read
+  pub are : AllByRecursion IsLine read
   pub count : length read ≡ length texts
   pub spelled : (pairs : Session) → session_lines pairs ≡ read → SpellsAll texts pairs
 
@@ -33,7 +33,7 @@ read_all [] h = record { read = []; are = tt; count = refl; spelled = none }
 read_all (t ∷ ts) h = more (read_all ts h.1)
   where
     more : AreRead ts → AreRead (t ∷ ts)
-    more k = record { read = h.0.0 ∷ k.read; are = (h.0.1.line.formed, k.are); count = omega (arith, k.count); spelled = at }
+    more k = record { read = h.0.0 ∷ k.read; are = (h.0.1.line, k.are); count = omega (arith, k.count); spelled = at }
       where
         at : (pairs : Session) → session_lines pairs ≡ h.0.0 ∷ k.read → SpellsAll (t ∷ ts) pairs
         at [] e = absurd cc

@@ -2,7 +2,7 @@
 use Rattle.std.specs.Prelude.{◌≡◌, ℕ, List}
 use Rattle.board_model.specs.declared.line.Line.{Line}
 use Rattle.board_model.specs.declared.answer.Answer.{Answer}
-use Rattle.board_model.specs.LineGrammar.{IsWellFormed, Spells, spell}
+use Rattle.board_model.specs.LineGrammar.{IsLine, Spells, spell}
 use Rattle.board_model.specs.AnswerGrammar.{IsAnswer, answer_text}
 use Rattle.board_model.specs.Lines.{IsOneLine}
 
@@ -10,9 +10,9 @@ use Rattle.board_model.specs.Lines.{IsOneLine}
 abbrev pub BytesSpellOneLine : Type 0
 BytesSpellOneLine = (bytes : List ℕ) (k l : Line) → Spells bytes k → Spells bytes l → k ≡ l
 
--- lines of all forms are told apart by their bytes, whether the program runs them or not
+-- lines are told apart by their bytes, however long these are
 abbrev pub FormsAreSpelledApart : Type 0
-FormsAreSpelledApart = (k l : Line) → IsWellFormed k → IsWellFormed l → spell k ≡ spell l → k ≡ l
+FormsAreSpelledApart = (k l : Line) → IsLine k → IsLine l → spell k ≡ spell l → k ≡ l
 
 -- no answer holds a newline
 abbrev pub AnswersHoldNoNewline : Type 0

@@ -16,7 +16,7 @@ use Rattle.board_model.specs.declared.tables.Board.{Board}
 use Rattle.board_model.specs.declared.value.AddedEntry.{AddedEntry}
 use Rattle.board_model.specs.declared.value.Key.{Key}
 use Rattle.board_model.specs.declared.value.KeyType.{KeyType}
-use Rattle.board_model.specs.LineGrammar.{IsWellFormed}
+use Rattle.board_model.specs.LineGrammar.{IsLine}
 use Rattle.board_model.specs.AnswerGrammar.{IsAnswer}
 use Rattle.board_model.specs.TypeTable.{key_detail, same_key_type, same_type, type_of, type_of_key, value_detail}
 use Rattle.board_model.specs.OwedAccesses.{owed_of}
@@ -174,7 +174,7 @@ IsReplied s l a = Unit {0}
 
 -- the answer is right where the session so far has led to this state; the first rule that fails is the one that is broken
 pub record IsRight (s : State) (l : Line) (a : Answer) : Type 0 where
-  pub line : IsWellFormed l
+  pub line : IsLine l
   pub answer : IsAnswer a
   pub reason : IsReasoned (reason_of s l) a
   pub owed : reason_of s l ≡ None → IsOwed s l a

@@ -10,7 +10,7 @@ use Rattle.board_model.specs.declared.tables.Limits.{Limits}
 use Rattle.board_model.specs.declared.value.AddedEntry.{AddedEntry}
 use Rattle.board_model.specs.declared.value.Key.{Key}
 use Rattle.board_model.specs.declared.value.KeyType.{KeyType}
-use Rattle.board_model.specs.LineGrammar.{AreLimits, IsAddedEntry, IsKey, IsNumber, IsWellFormed, is_board_name, is_name}
+use Rattle.board_model.specs.LineGrammar.{AreLimits, IsAddedEntry, IsKey, IsNumber, IsLine, is_board_name, is_name}
 use Rattle.board_model.specs.AnswerGrammar.{IsAnswer}
 use Rattle.board_model.specs.TypeTable.{key_bytes, key_type_of, type_of_key}
 use Rattle.board_model.specs.Tables.{port_of}
@@ -88,7 +88,7 @@ SessionsKeepForms = (pairs : Session) → IsLawful pairs → AreFormed (state_af
 
 -- all rules of an answer but that it is one of the answer grammar
 pub record IsRightButForm (s : State) (l : Line) (a : Answer) : Type 0 where
-  pub line : IsWellFormed l
+  pub line : IsLine l
   pub reason : IsReasoned (reason_of s l) a
   pub owed : reason_of s l ≡ None → IsOwed s l a
   pub word : reason_of s l ≡ None → IsWord s l a
@@ -98,10 +98,10 @@ pub record IsRightButForm (s : State) (l : Line) (a : Answer) : Type 0 where
 abbrev pub RightAnswersAreOfTheGrammar : Type 0
 RightAnswersAreOfTheGrammar = (pairs : Session) (l : Line) (a : Answer) → IsLawful pairs → length pairs < 2 ^ 63 → IsRightButForm (state_after start pairs) l a → IsAnswer a
 
--- so each well-formed line has a right answer: the rules never contradict each other
+-- so each line of the grammar has a right answer: the rules never contradict each other
 abbrev pub EachLineHasAnAnswer : Type 0
-EachLineHasAnAnswer = (pairs : Session) (l : Line) → IsLawful pairs → length pairs < 2 ^ 63 → IsWellFormed l → (a : Answer) × IsRight (state_after start pairs) l a
+EachLineHasAnAnswer = (pairs : Session) (l : Line) → IsLawful pairs → length pairs < 2 ^ 63 → IsLine l → (a : Answer) × IsRight (state_after start pairs) l a
 
--- and each list of well-formed lines has a lawful session
+-- and each list of such lines has a lawful session
 abbrev pub EachScriptHasASession : Type 0
-EachScriptHasASession = (lines : List Line) → AllByRecursion IsWellFormed lines → length lines < 2 ^ 63 → (pairs : Session) × IsLawful pairs × (lines_of pairs ≡ lines)
+EachScriptHasASession = (lines : List Line) → AllByRecursion IsLine lines → length lines < 2 ^ 63 → (pairs : Session) × IsLawful pairs × (lines_of pairs ≡ lines)

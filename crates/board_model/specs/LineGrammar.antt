@@ -208,34 +208,13 @@ IsCall (call.Info f) = is_name f ≡ true
 IsCall (call.Id t) = is_name t ≡ true
 IsCall (call.Gen m) = is_name m ≡ true
 
--- a line of some form, whether the program runs it or not
-abbrev pub IsWellFormed : Line → Type 0
-IsWellFormed (line.Begin p c) = (is_name p ≡ true) × IsCall c
-IsWellFormed (line.Step p) = is_name p ≡ true
-IsWellFormed (line.Release p t) = (is_name p ≡ true) × (is_name t ≡ true)
-IsWellFormed (line.Abandon p) = is_name p ≡ true
-IsWellFormed (line.Words b) = IsNumber b
-
--- ---- the forms that the program runs so far
-
--- all but the calls of loans
-abbrev pub runs_call : Call → Bool
-runs_call (call.Loan l m) = false
-runs_call (call.Discard l m) = false
-runs_call (call.Put l i w) = false
-runs_call (call.Publish l m) = false
-runs_call (call.Fill l m v) = false
-runs_call c = true
-
--- all lines but those that begin a call of a loan
-abbrev pub runs : Line → Bool
-runs (line.Begin p c) = runs_call c
-runs l = true
-
--- a line of the grammar: well formed, and of a form that the program runs
-pub record IsLine (l : Line) : Type 0 where
-  pub formed : IsWellFormed l
-  pub runs : runs l ≡ true
+-- a line of the grammar: its names, keys, values and numbers are of the grammar
+abbrev pub IsLine : Line → Type 0
+IsLine (line.Begin p c) = (is_name p ≡ true) × IsCall c
+IsLine (line.Step p) = is_name p ≡ true
+IsLine (line.Release p t) = (is_name p ≡ true) × (is_name t ≡ true)
+IsLine (line.Abandon p) = is_name p ≡ true
+IsLine (line.Words b) = IsNumber b
 
 -- these bytes are a line of the grammar
 pub record Spells (text : List ℕ) (l : Line) : Type 0 where

@@ -18,7 +18,7 @@ use Rattle.board_model.specs.declared.line.Call.{Call}
 use Rattle.board_model.specs.declared.line.Call.TheVariants as call
 use Rattle.board_model.specs.declared.line.Line.{Line}
 use Rattle.board_model.specs.declared.line.Line.TheVariants as line
-use Rattle.board_model.specs.LineGrammar.{is_attribute_key, is_attribute_value, is_name, is_visible, is_board_name, runs}
+use Rattle.board_model.specs.LineGrammar.{is_attribute_key, is_attribute_value, is_name, is_visible, is_board_name}
 
 -- ---- readers, one after another
 
@@ -297,11 +297,7 @@ read_plain_line word ts =
     if bytes_eq word (codes "abandon") then (read_one_name ts >>= λ p. Some (line.Abandon p)) else
     if bytes_eq word (codes "words") then read_words ts else None
 
--- a line of any form
-unfoldable pub read_formed : List (List ℕ) → Option Line
-read_formed [] = None
-read_formed (word ∷ rest) = if bytes_eq word (codes "begin") then read_begin rest else read_plain_line word rest
-
--- a line of a form that runs
+-- a line of the grammar, by its first word
 unfoldable pub read_line : List (List ℕ) → Option Line
-read_line ts = read_formed ts >>= λ l. guard (runs l) (Some l)
+read_line [] = None
+read_line (word ∷ rest) = if bytes_eq word (codes "begin") then read_begin rest else read_plain_line word rest

@@ -1,14 +1,14 @@
 //! Lines, from their bytes.
 ghost use Rattle.std.specs.Prelude.{◌≡◌, IfNone, IfOk, IfSome};
 ghost use Rattle.board_model.specs.declared.line.Line.{Line};
-ghost use Rattle.board_model.specs.LineGrammar.{Spells, runs, runs_call};
-ghost use Rattle.board_model.specs.LineReading.{read_begin, read_formed, read_line, read_plain_line, read_words, split_tokens};
+ghost use Rattle.board_model.specs.LineGrammar.{Spells};
+ghost use Rattle.board_model.specs.LineReading.{read_begin, read_line, read_plain_line, read_words, split_tokens};
 
 use crate::atoms::name_of;
 use crate::bytes::is_word;
 use crate::calls::{call_of, one_name, two_names};
 use crate::tokens::Tokens;
-use board_model::{Call, Line};
+use board_model::Line;
 use std::alloc::{AllocError, Global};
 
 // A line has no more bytes than these.
@@ -67,10 +67,10 @@ fn plain_line_of(word: &[u8], tokens: &mut Tokens) -> Option<Line>
     None
 }
 
-// The line of any form.
-#[tactic(auto, unfolding(board_model::specs::LineReading::read_formed))]
-fn formed_of(alloc: Global, tokens: &mut Tokens) -> Result<Option<Line>, AllocError>
-    ensures { IfOk result (λ o. o ≡ read_formed tokens.old) }
+// The line that these tokens make.
+#[tactic(auto, unfolding(board_model::specs::LineReading::read_line))]
+fn line_of(alloc: Global, tokens: &mut Tokens) -> Result<Option<Line>, AllocError>
+    ensures { IfOk result (λ o. o ≡ read_line tokens.old) }
 {
     let Some(word) = tokens.next() else {
         return Ok(None);
@@ -81,45 +81,11 @@ fn formed_of(alloc: Global, tokens: &mut Tokens) -> Result<Option<Line>, AllocEr
     Ok(plain_line_of(word, tokens))
 }
 
-// Whether the call is of a form that runs: all but the calls of loans.
-fn runs_call(call: &Call) -> bool
-    ensures { result ≡ runs_call call.now }
-{
-    !matches!(
-        call,
-        Call::Loan { .. }
-            | Call::Discard { .. }
-            | Call::Put { .. }
-            | Call::Publish { .. }
-            | Call::Fill { .. }
-    )
-}
-
-// Whether the line is of a form that runs.
-fn runs(line: &Line) -> bool
-    ensures { result ≡ runs line.now }
-{
-    match line {
-        Line::Begin { call, .. } => runs_call(call),
-        _ => true,
-    }
-}
-
-#[tactic(auto, unfolding(board_model::specs::LineReading::read_line))]
-fn line_of(alloc: Global, bytes: &[u8]) -> Result<Option<Line>, AllocError>
-    ensures { IfOk result (λ o. o ≡ read_line (split_tokens bytes.now)) }
-{
-    let Some(line) = formed_of(alloc, &mut Tokens::between(bytes, 32))? else {
-        return Ok(None);
-    };
-    if !runs(&line) {
-        return Ok(None);
-    }
-    Ok(Some(line))
-}
-
 /// The line of the script that these bytes spell, or `None` where no line of the grammar does.
 /// Memory is taken for the entries and attributes of a `create` and the needs of an `open` alone.
+///
+/// # Errors
+/// `AllocError` where memory is refused.
 pub fn parse_line(alloc: Global, bytes: &[u8]) -> Result<Option<Line>, AllocError>
     ensures found { IfOk result (λ o. IfSome o (λ l. Spells bytes.now l)) }
     ensures only { IfOk result (λ o. IfNone o ((l : Line) → Spells bytes.now l → ⊥)) }
@@ -127,5 +93,5 @@ pub fn parse_line(alloc: Global, bytes: &[u8]) -> Result<Option<Line>, AllocErro
     if bytes.len() > MOST_BYTES {
         return Ok(None);
     }
-    line_of(alloc, bytes)
+    line_of(alloc, &mut Tokens::between(bytes, 32))
 }

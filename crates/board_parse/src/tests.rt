@@ -202,16 +202,25 @@ fn attributes_have_64_and_256_bytes(rt: HostRuntime) -> Result<(), Fail> {
 }
 
 #[test]
-fn loans_are_outside_the_grammar_yet(rt: HostRuntime) -> Result<(), Fail> {
-    let cases: [&[u8]; 5] = [
-        b"begin p loan l m",
-        b"begin p put l 0 1",
-        b"begin p publish l m",
-        b"begin p fill l m u64:1",
-        b"begin p discard l m",
+fn lines_of_loans_are_in_the_grammar(rt: HostRuntime) -> Result<(), Fail> {
+    let cases: [(&[u8], bool); 14] = [
+        (b"begin p loan l m", true),
+        (b"begin p put l 0 18446744073709551615", true),
+        (b"begin p publish l m", true),
+        (b"begin p fill l m q4:1,2,3,4", true),
+        (b"begin p discard l m", true),
+        (b"begin p loan l", false),
+        (b"begin p loan l m n", false),
+        (b"begin p put l 0", false),
+        (b"begin p put l 00 1", false),
+        (b"begin p put l 0 u64:1", false),
+        (b"begin p publish l", false),
+        (b"begin p fill l u64:1", false),
+        (b"begin p fill l m 1", false),
+        (b"begin p discard m", false),
     ];
-    for bytes in cases {
-        assert!(rt; parse_line(rt.alloc(), bytes)?.is_none());
+    for (bytes, is_line) in cases {
+        assert_eq!(rt; parse_line(rt.alloc(), bytes)?.is_some(), is_line);
     }
     Ok(())
 }

@@ -6,7 +6,7 @@ mod read_core;
 mod write_core;
 
 pub use board_cell::{CellShape, FreshCall, GetCall, PublishCall, PutCall, UpdateCall};
-pub use loan_core::LoanCore;
+pub use loan_core::{LoanCore, LoanWords};
 pub use read_core::ReadCore;
 pub use write_core::WriteCore;
 

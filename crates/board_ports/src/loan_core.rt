@@ -1,4 +1,4 @@
-ghost use Rattle.std.specs.Prelude.{◌≡◌, ◌+◌, ◌^◌, ◌<◌, ◌≤◌, ◌↔◌, true, None, IfSome, length};
+ghost use Rattle.std.specs.Prelude.{◌≡◌, ◌+◌, ◌^◌, ◌<◌, ◌≤◌, ◌↔◌, true, List, Option, ℕ, None, IfSome, length};
 ghost use Rattle.board_model.specs.Copies.{cell_end};
 ghost use Rattle.board_model.specs.LawfulSession.{all_put};
 ghost use Rattle.board_model.specs.Replies.{none_put};
@@ -9,34 +9,111 @@ use crate::write_core::WriteCore;
 use board_cell::{PublishCall, PutCall, UpdateCall};
 use std::marker::Model;
 
-/// A write handle that is out as a loan: its next value is put word by word, and then published or discarded.
-#[derive(Drop, Debug)]
-pub struct LoanCore {
-    handle: WriteCore,
-    words: Vec<Option<u64>>,
+/// What holds the words of a loan: a list of its own, or a lent one.
+pub trait LoanWords {
+    ghost list: { Self → List (Option ℕ) };
+
+    /// The words, each where it was put.
+    fn as_slice(&self) -> &[Option<u64>]
+        ensures { result.now ≡ list self.now };
 }
 
-impl Model for LoanCore {
+impl LoanWords for Vec<Option<u64>> {
+    ghost list = { λ s. s.items };
+
+    #[inline]
+    fn as_slice(&self) -> &[Option<u64>] {
+        Vec::as_slice(self)
+    }
+}
+
+impl<'a> LoanWords for &'a Vec<Option<u64>> {
+    ghost list = { λ s. s.now.items };
+
+    #[inline]
+    fn as_slice(&self) -> &[Option<u64>] {
+        Vec::as_slice(*self)
+    }
+}
+
+/// A write handle that is out as a loan: its next value is put word by word, and then published or discarded.
+#[derive(Drop, Debug)]
+pub struct LoanCore<W: LoanWords = Vec<Option<u64>>> {
+    handle: WriteCore,
+    words: W,
+}
+
+impl<W: LoanWords> Model for LoanCore<W> {
     ghost use Rattle.std.specs.Prelude.{◌≡◌, length};
     ghost use Rattle.board_ports.specs.Loans.{LoanSeen};
 
     ghost Value = { LoanSeen };
 
-    ghost view = { λ s. record { handle = s.handle; words = s.words.items } };
+    ghost view = { λ s. record { handle = s.handle; words = W.list s.words } };
 
-    ghost invariant = { λ s. length s.words.items ≡ s.handle.shape.words };
+    ghost invariant = { λ s. length (W.list s.words) ≡ s.handle.shape.words };
 }
 
-impl LoanCore {
-    // The handle with these words put.
+impl LoanCore<Vec<Option<u64>>> {
+    /// The loan of this handle with these words put, each at its index.
     #[inline]
-    pub(crate) fn new(handle: WriteCore, words: Vec<Option<u64>>) -> LoanCore
+    pub fn new(handle: WriteCore, words: Vec<Option<u64>>) -> LoanCore
         requires { length words.items ≡ handle.shape.words }
         ensures { result ≡ record { handle = handle; words = words.items } }
     {
         LoanCore { handle, words }
     }
 
+    /// The word was put.
+    #[inline]
+    pub fn wrote(&mut self, index: u64, word: u64)
+        requires index { index < self.old.handle.shape.words }
+        ensures { self.new ≡ with_word self.old index word }
+    {
+        self.words[index as usize] = Some(word);
+    }
+
+    /// Ends the loan, which was published or is discarded.
+    #[inline]
+    pub fn into_write(self, published: bool) -> WriteCore
+        requires room { published ≡ true → self.handle.generation + 1 < 2 ^ 64 }
+        ensures { result ≡ given_back published self.handle }
+    {
+        let (handle, _places) = self.into_parts(published);
+        handle
+    }
+
+    /// The same, and gives the buffer back with its places emptied, for the next loan.
+    #[inline]
+    pub fn into_parts(self, published: bool) -> (WriteCore, Vec<Option<u64>>)
+        requires room { published ≡ true → self.handle.generation + 1 < 2 ^ 64 }
+        ensures handle { result.0 ≡ given_back published self.handle }
+        ensures empty { result.1.items ≡ none_put self.handle.shape.words }
+    {
+        let LoanCore {
+            mut handle,
+            mut words,
+        } = self;
+        if published {
+            handle.published();
+        }
+        words.as_mut_slice().fill(None);
+        (handle, words)
+    }
+}
+
+impl<'a> LoanCore<&'a Vec<Option<u64>>> {
+    /// The loan of this handle with words that are kept elsewhere, each at its index.
+    #[inline]
+    pub fn lent(handle: WriteCore, words: &'a Vec<Option<u64>>) -> LoanCore<&'a Vec<Option<u64>>>
+        requires { length words.now.items ≡ handle.shape.words }
+        ensures { result ≡ record { handle = handle; words = words.now.items } }
+    {
+        LoanCore { handle, words }
+    }
+}
+
+impl<W: LoanWords> LoanCore<W> {
     /// The handle that is out.
     #[inline]
     pub fn handle(&self) -> &WriteCore
@@ -59,15 +136,6 @@ impl LoanCore {
         } else {
             None
         }
-    }
-
-    /// The word was put.
-    #[inline]
-    pub fn wrote(&mut self, index: u64, word: u64)
-        requires index { index < self.old.handle.shape.words }
-        ensures { self.new ≡ with_word self.old index word }
-    {
-        self.words[index as usize] = Some(word);
     }
 
     /// Whether each word of the next value was put.
@@ -102,33 +170,5 @@ impl LoanCore {
         ensures { result ≡ update_of self.now.handle.shape self.now.handle.generation words.items }
     {
         self.handle.update(words)
-    }
-
-    /// Ends the loan, which was published or is discarded.
-    #[inline]
-    pub fn into_write(self, published: bool) -> WriteCore
-        requires room { published ≡ true → self.handle.generation + 1 < 2 ^ 64 }
-        ensures { result ≡ given_back published self.handle }
-    {
-        let (handle, _places) = self.into_parts(published);
-        handle
-    }
-
-    /// The same, and gives the buffer back with its places emptied, for the next loan.
-    #[inline]
-    pub fn into_parts(self, published: bool) -> (WriteCore, Vec<Option<u64>>)
-        requires room { published ≡ true → self.handle.generation + 1 < 2 ^ 64 }
-        ensures handle { result.0 ≡ given_back published self.handle }
-        ensures empty { result.1.items ≡ none_put self.handle.shape.words }
-    {
-        let LoanCore {
-            mut handle,
-            mut words,
-        } = self;
-        if published {
-            handle.published();
-        }
-        words.as_mut_slice().fill(None);
-        (handle, words)
     }
 }

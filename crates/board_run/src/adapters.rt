@@ -14,6 +14,7 @@ pub struct StdinSource {
 }
 
 impl StdinSource {
+    /// The source that reads it.
     pub fn new(stdin: Stdin) -> StdinSource {
         StdinSource { stdin, faults: 0 }
     }
@@ -60,6 +61,7 @@ pub struct StdoutSink {
 }
 
 impl StdoutSink {
+    /// The sink that writes to it.
     pub fn new(stdout: Stdout) -> StdoutSink {
         StdoutSink { stdout, faults: 0 }
     }
@@ -83,6 +85,7 @@ pub struct StderrSink {
 }
 
 impl StderrSink {
+    /// The sink that writes to it.
     pub fn new(stderr: Stderr) -> StderrSink {
         StderrSink { stderr, faults: 0 }
     }

@@ -3,17 +3,19 @@ use Rattle.std.proofs.Common.{◌≡◌, ℕ, List, [], ◌∷◌, ◌++◌, set
 use Rattle.board_model.specs.declared.answer.Answer.TheVariants as answer
 use Rattle.board_model.specs.declared.answer.Reason.TheVariants as reason
 use Rattle.board_model.specs.declared.line.Line.TheVariants as line
-use Rattle.board_model.specs.LineGrammar.{IsWellFormed}
+use Rattle.board_model.specs.LineGrammar.{IsLine}
 use Rattle.board_model.specs.Parties.{free, gone, with_party}
 use Rattle.board_model.specs.LawfulSession.{IsRight, State, abandon_reason, after}
 use Rattle.board_script.specs.declared.machine.KeptValue.{KeptValue}
+use Rattle.board_script.specs.declared.machine.Lent.{Lent}
 use Rattle.board_script.specs.declared.machine.Machine.{Machine}
 use Rattle.board_script.specs.declared.machine.PartyRow.{PartyRow}
 use Rattle.board_script.specs.declared.machine.Task.TheVariants as task
+use Rattle.board_script.specs.Loans.{lent_words}
 use Rattle.board_script.specs.Machine.{Represents, kept, tables_of, words_of}
 use Rattle.board_script.proofs.PartyRows.{AreParties, RunsAt, left_behind, left_idle}
 
-pub abandon_again : (s : State) (party : List ℕ) → s.parties party ≡ gone → IsWellFormed (line.Abandon party) → IsRight s (line.Abandon party) (answer.Refused reason.Abandoned)
+pub abandon_again : (s : State) (party : List ℕ) → s.parties party ≡ gone → IsLine (line.Abandon party) → IsRight s (line.Abandon party) (answer.Refused reason.Abandoned)
 abandon_again s party e l = record {
   line = l;
   answer = tt;
@@ -23,8 +25,8 @@ abandon_again s party e l = record {
   reply = λ _. tt;
 }
 
-module _ (m new : Machine) (s : State) (rep : Represents m s) (party : List ℕ) (l : IsWellFormed (line.Abandon party))
-    (tables : tables_of new ≡ tables_of m) (words : new.words.items ≡ m.words.items) (values : new.values.items ≡ m.values.items) (spent : new.spent ≡ m.spent) where
+module _ (m new : Machine) (s : State) (rep : Represents m s) (party : List ℕ) (l : IsLine (line.Abandon party))
+    (tables : tables_of new ≡ tables_of m) (words : new.words.items ≡ m.words.items) (values : new.values.items ≡ m.values.items) (loans : new.loans.items ≡ m.loans.items) (spent : new.spent ≡ m.spent) where
   right : abandon_reason (s.parties party) ≡ None → IsRight s (line.Abandon party) answer.Gone
   right e = record {
     line = l;
@@ -41,7 +43,7 @@ module _ (m new : Machine) (s : State) (rep : Represents m s) (party : List ℕ)
     tables = rep.tables ∙ sym tables;
     words = words ∙ rep.words ∙ ap (λ x. words_of s.memory x.boards) (sym tables);
     parties = rows;
-    loans = rep.loans;
+    loans = λ p n. rep.loans p n ∙ ap (λ (xs : List Lent). lent_words xs p n) (sym loans);
     values = λ p n. rep.values p n ∙ ap (λ (vs : List KeptValue). kept vs p n) (sym values);
   }
 

@@ -16,8 +16,8 @@ use Rattle.board_model.specs.declared.value.Value.{Value}
 use Rattle.board_model.specs.declared.value.ValueType.{ValueType}
 use Rattle.board_model.specs.declared.value.ValueType.TheVariants as type
 use Rattle.board_model.specs.Copies.{cell_end}
-use Rattle.board_model.specs.LineGrammar.{IsWellFormed, runs_call}
-use Rattle.board_model.specs.Requests.{Fetch, Look, Publication, Request, fresh, get, request_of, update}
+use Rattle.board_model.specs.LineGrammar.{IsLine}
+use Rattle.board_model.specs.Requests.{Fetch, Look, Publication, Request, fresh, get, handle_of, identified, request_of, update}
 use Rattle.board_model.specs.declared.tables.Kind.{Kind}
 use Rattle.board_model.specs.declared.tables.Kind.TheVariants as kind
 use Rattle.board_model.specs.Tables.{entry_at, entry_of, kind_of, same_kind}
@@ -32,11 +32,13 @@ use Rattle.board_model.proofs.ThingLemmas.{all_found}
 use Rattle.board_cell.specs.Calls.{Asking, Getting, Updating}
 use Rattle.board_script.specs.declared.begin.Checked.TheVariants as checked
 use Rattle.board_script.specs.declared.machine.KeptValue.{KeptValue}
+use Rattle.board_script.specs.declared.machine.Lent.{Lent}
 use Rattle.board_script.specs.declared.machine.Machine.{Machine}
 use Rattle.board_script.specs.declared.machine.PartyRow.{PartyRow}
 use Rattle.board_script.specs.declared.machine.Task.{Task}
 use Rattle.board_script.specs.declared.machine.Task.TheVariants as task
-use Rattle.board_script.specs.Begins.{IsChecked, IsHandle, IsTaskFor, holds_any, is_handle, serves_call}
+use Rattle.board_script.specs.Begins.{IsChecked, IsHandle, IsTaskFor, handle_held, has_id, holds_any, is_handle}
+use Rattle.board_script.specs.Loans.{lent_words}
 use Rattle.board_script.specs.Machine.{AreRowsOf, Represents, is_row_of, kept, tables_of, updating, words_of}
 use Rattle.board_script.specs.Steps.{HasCounter, IsCounter}
 use Rattle.board_script.proofs.Bounds.{IsBounded}
@@ -48,30 +50,6 @@ some_thing x = Some x
 
 some_same : (x y : Held) → some_thing x ≡ Some y → x ≡ y
 some_same x y e = cc
-
--- ---- the calls of the grammar
-
--- each call of the grammar is one that the machine runs
-pub serves : (c : Call) → runs_call c ≡ true → serves_call c ≡ true
-serves (call.Create f name k limits attributes entries) h = refl
-serves (call.Open f name k limits needs) h = refl
-serves (call.Reader r f) h = refl
-serves (call.Writer w f) h = refl
-serves (call.Entry t r k type) h = refl
-serves (call.EntryMut m w k type) h = refl
-serves (call.Get t v) h = refl
-serves (call.Fresh t v) h = refl
-serves (call.Update m v) h = refl
-serves (call.Loan l m) h = h
-serves (call.Discard l m) h = h
-serves (call.Put l i w) h = h
-serves (call.Publish l m) h = h
-serves (call.Fill l m v) h = h
-serves (call.Keys f) h = refl
-serves (call.Nodes f) h = refl
-serves (call.Info f) h = refl
-serves (call.Id t) h = refl
-serves (call.Gen m) h = refl
 
 -- ---- what a party holds
 
@@ -124,6 +102,67 @@ write_handle m party name x e = at (thing_of m.things.items party name) refl e
     at : (o : Option Held) → thing_of m.things.items party name ≡ o → of_kind thing_kind.WriteHandle o ≡ Some x → IsHandle m x
     at None f q = absurd cc
     at (Some t) f q = pick t (same_kind (kind_of t.kind) thing_kind.WriteHandle) refl f q
+
+-- a write handle that isn't lent is the same in the state
+pub handle_is : (m : Machine) (s : State) → Represents m s → (party name : List ℕ) → handle_of s.standing party name ≡ handle_held m party name
+handle_is m s rep party name =
+    ap (λ (o : Option (List (Option ℕ))). cond (is_some o) None (of_kind thing_kind.WriteHandle (thing_of s.standing.tables.things party name))) (rep.loans party name)
+    ∙ ap (λ t. cond (is_some (lent_words m.loans.items party name)) None (of_kind thing_kind.WriteHandle (thing_of t.things party name))) rep.tables
+
+-- and it is a handle
+pub unlent_handle : (m : Machine) (party name : List ℕ) (x : Held) → handle_held m party name ≡ Some x → IsHandle m x
+unlent_handle m party name x e = by (is_some (lent_words m.loans.items party name)) e
+  where
+    by : (b : Bool) → cond b None (of_kind thing_kind.WriteHandle (thing_of m.things.items party name)) ≡ some_thing x → IsHandle m x
+    by true q = absurd cc
+    by false q = write_handle m party name x q
+
+-- ---- ids
+
+module _ (t : Held) where
+  abbrev of_this : Kind → ThingKind → Option Held
+  of_this k w = cond (same_kind (kind_of k) w) (some_thing t) None
+
+  abbrev one_of : Kind → Bool → Option Held
+  one_of k lent =
+      cond (is_some (of_this k thing_kind.Reader)) (of_this k thing_kind.Reader) (
+      cond (is_some (of_this k thing_kind.Writer)) (of_this k thing_kind.Writer) (
+      cond (is_some (of_this k thing_kind.ReadHandle)) (of_this k thing_kind.ReadHandle) (
+      cond lent None (of_this k thing_kind.WriteHandle))))
+
+  with_id : (k : Kind) (lent : Bool) → one_of k lent ≡ cond (has_id k lent) (some_thing t) None
+  with_id kind.Factory true = refl
+  with_id kind.Factory false = refl
+  with_id (kind.Reader p) lent = refl
+  with_id (kind.Writer p) lent = refl
+  with_id (kind.ReadHandle i) lent = refl
+  with_id (kind.WriteHandle i p) true = refl
+  with_id (kind.WriteHandle i p) false = refl
+
+module _ (m : Machine) (s : State) (rep : Represents m s) (party name : List ℕ) where
+  abbrev found_as : Option Held → Bool → Option Held
+  found_as o lent =
+      cond (is_some (of_kind thing_kind.Reader o)) (of_kind thing_kind.Reader o) (
+      cond (is_some (of_kind thing_kind.Writer o)) (of_kind thing_kind.Writer o) (
+      cond (is_some (of_kind thing_kind.ReadHandle o)) (of_kind thing_kind.ReadHandle o) (
+      cond lent None (of_kind thing_kind.WriteHandle o))))
+
+  identified_in : identified s.standing party name ≡ found_as (thing_of m.things.items party name) (is_some (lent_words m.loans.items party name))
+  identified_in =
+      ap (λ (o : Option (List (Option ℕ))). found_as (thing_of s.standing.tables.things party name) (is_some o)) (rep.loans party name)
+      ∙ ap (λ t. found_as (thing_of t.things party name) (is_some (lent_words m.loans.items party name))) rep.tables
+
+  none_as : (lent : Bool) → found_as None lent ≡ None
+  none_as true = refl
+  none_as false = refl
+
+  -- nothing is held
+  pub id_of_none : thing_of m.things.items party name ≡ None → identified s.standing party name ≡ None
+  id_of_none e = identified_in ∙ ap (λ (o : Option Held). found_as o (is_some (lent_words m.loans.items party name))) e ∙ none_as (is_some (lent_words m.loans.items party name))
+
+  -- a thing is held
+  pub id_of_thing : (t : Held) → thing_of m.things.items party name ≡ Some t → identified s.standing party name ≡ cond (has_id t.kind (is_some (lent_words m.loans.items party name))) (Some t) None
+  id_of_thing t e = identified_in ∙ ap (λ (o : Option Held). found_as o (is_some (lent_words m.loans.items party name))) e ∙ with_id t t.kind (is_some (lent_words m.loans.items party name))
 
 -- the entry of a handle stands
 pub entry_stands : (m : Machine) (s : State) → Represents m s → Sound s → (x : Held) → IsHandle m x → is_some (entry_at (tables_of m) x.board (entry_of x.kind)) ≡ true
@@ -224,16 +263,15 @@ module _ (m : Machine) (s : State) (rep : Represents m s) (sound : Sound s) (n i
 
   -- an update that begins
   pub update_begins : (party handle : List ℕ) (x : Held) (v : Value) (g : ℕ) (words : List ℕ) (begun : Updating) → begun ≡ record { shape = cell_shape e.cell; generation = g; words = words; written = 0 } → n ≡ x.board → i ≡ entry_of x.kind
-      → of_kind thing_kind.WriteHandle (thing_of m.things.items party handle) ≡ Some x → same_type (value_detail (type_of v)) e.value ≡ true → IsCounter m n i g → words ≡ value_words v
+      → handle_held m party handle ≡ Some x → same_type (value_detail (type_of v)) e.value ≡ true → IsCounter m n i g → words ≡ value_words v
       → IsChecked (call_reason s.standing party (call.Update handle v) (request_of s.standing s.published party (call.Update handle v))) (request_of s.standing s.published party (call.Update handle v))
       (checked.Accepted (task.Update n begun))
   update_begins party handle x v g words begun is nb ib held typed counter w =
       let u : Publication = record { board = x.board; entry = entry_of x.kind; shape = cell_shape e.cell; type = e.value; handle = handle; generation = length (s.published x.board (entry_of x.kind)); value = v } in
-      let h : of_kind thing_kind.WriteHandle (thing_of s.standing.tables.things party handle) ≡ Some x = ap (λ t. of_kind thing_kind.WriteHandle (thing_of t.things party handle)) rep.tables ∙ held in
       let f : entry_at s.standing.tables x.board (entry_of x.kind) ≡ Some e = ap (λ (k : ℕ). entry_at s.standing.tables x.board k) (sym ib) ∙ ap (λ (k : ℕ). entry_at s.standing.tables k i) (sym nb) ∙ in_state in
       let count : g ≡ length (s.published x.board (entry_of x.kind)) =
       (counter_at m s rep sound n i e in_state).is_length g counter ∙ ap (λ (k : ℕ). length (s.published k i)) nb ∙ ap (λ (k : ℕ). length (s.published x.board k)) ib in
-      let asked : request_of s.standing s.published party (call.Update handle v) ≡ Some (update u) = rw (rep.loans party handle, h, f) refl in
+      let asked : request_of s.standing s.published party (call.Update handle v) ≡ Some (update u) = rw (handle_is m s rep party handle ∙ held, f) refl in
       let call_is : begun ≡ updating u 0 =
       is ∙ ap (λ (k : ℕ). record { shape = cell_shape e.cell; generation = k; words = words; written = 0 }) count
       ∙ ap (λ (ws : List ℕ). record { shape = cell_shape e.cell; generation = u.generation; words = ws; written = 0 }) w in
@@ -241,7 +279,7 @@ module _ (m : Machine) (s : State) (rep : Represents m s) (sound : Sound s) (n i
 
 -- ---- answers to the line
 
-pub begin_busy : (s : State) (party : List ℕ) (c : Call) (r : Running) → s.parties party ≡ running r → IsWellFormed (line.Begin party c) → IsRight s (line.Begin party c) (answer.Refused reason.Busy)
+pub begin_busy : (s : State) (party : List ℕ) (c : Call) (r : Running) → s.parties party ≡ running r → IsLine (line.Begin party c) → IsRight s (line.Begin party c) (answer.Refused reason.Busy)
 begin_busy s party c r e l = record {
   line = l;
   answer = tt;
@@ -251,7 +289,7 @@ begin_busy s party c r e l = record {
   reply = λ _. tt;
 }
 
-pub begin_gone : (s : State) (party : List ℕ) (c : Call) → s.parties party ≡ gone → IsWellFormed (line.Begin party c) → IsRight s (line.Begin party c) (answer.Refused reason.Abandoned)
+pub begin_gone : (s : State) (party : List ℕ) (c : Call) → s.parties party ≡ gone → IsLine (line.Begin party c) → IsRight s (line.Begin party c) (answer.Refused reason.Abandoned)
 begin_gone s party c e l = record {
   line = l;
   answer = tt;
@@ -265,7 +303,7 @@ abbrev some_reason : Reason → Option Reason
 some_reason why = Some why
 
 pub begin_refused : (s : State) (party : List ℕ) (c : Call) (why : Reason) → s.parties party ≡ free
-    → call_reason s.standing party c (request_of s.standing s.published party c) ≡ Some why → IsWellFormed (line.Begin party c) → IsRight s (line.Begin party c) (answer.Refused why)
+    → call_reason s.standing party c (request_of s.standing s.published party c) ≡ Some why → IsLine (line.Begin party c) → IsRight s (line.Begin party c) (answer.Refused why)
 begin_refused s party c why e h l =
     let r : free_reason (s.parties party) (call_reason s.standing party c (request_of s.standing s.published party c)) ≡ Some why = rw e h in
     record {
@@ -283,9 +321,9 @@ some_request t (Some q) h = (q, refl, h)
 
 pub begin_begun : (m new : Machine) (s : State) (rep : Represents m s) (party : List ℕ) (c : Call) (t : Task) → s.parties party ≡ free
     → IsChecked (call_reason s.standing party c (request_of s.standing s.published party c)) (request_of s.standing s.published party c) (checked.Accepted t)
-    → tables_of new ≡ tables_of m → new.words.items ≡ m.words.items → new.values.items ≡ m.values.items → new.spent ≡ m.spent → new.parties.items ≡ m.parties.items ++ record { name = party; task = t } ∷ []
-    → IsWellFormed (line.Begin party c) → IsRight s (line.Begin party c) answer.Begun × Represents new (after s (line.Begin party c) answer.Begun)
-begin_begun m new s rep party c t e h tables words values spent parties l =
+    → tables_of new ≡ tables_of m → new.words.items ≡ m.words.items → new.values.items ≡ m.values.items → new.loans.items ≡ m.loans.items → new.spent ≡ m.spent → new.parties.items ≡ m.parties.items ++ record { name = party; task = t } ∷ []
+    → IsLine (line.Begin party c) → IsRight s (line.Begin party c) answer.Begun × Represents new (after s (line.Begin party c) answer.Begun)
+begin_begun m new s rep party c t e h tables words values loans spent parties l =
     let r : free_reason (s.parties party) (call_reason s.standing party c (request_of s.standing s.published party c)) ≡ None = rw e h.0 in
     let q = some_request t (request_of s.standing s.published party c) h.1 in (
       record {
@@ -303,7 +341,7 @@ begin_begun m new s rep party c t e h tables words values spent parties l =
         parties = subst (λ (o : Option Request). (p : List ℕ) → AreRowsOf (filter (is_row_of p) new.parties.items) (with_party s.parties party (begun o) p)) (sym q.1)
             (subst (λ (xs : List PartyRow). (p : List ℕ) → AreRowsOf (filter (is_row_of p) xs) (with_party s.parties party (begun (Some q.0)) p)) (sym parties)
             (started m.parties.items s.parties rep.parties party e t q.0 q.2));
-        loans = rep.loans;
+        loans = λ p n. rep.loans p n ∙ ap (λ (xs : List Lent). lent_words xs p n) (sym loans);
         values = λ p n. rep.values p n ∙ ap (λ (vs : List KeptValue). kept vs p n) (sym values);
       },
     )

@@ -6,9 +6,13 @@ pub mod GeneratedBytes
 pub mod GeneratorEnds
 pub mod GeneratorRuns
 pub mod Listings
+pub mod LoanChecks
+pub mod LoanRows
+pub mod LoanSteps
 pub mod Memories
 pub mod Notes
 pub mod OwedRows
+pub mod OwedWords
 pub mod PartyRows
 pub mod Places
 pub mod PlainCalls
@@ -21,5 +25,5 @@ pub mod StepRefusals
 pub mod TableSteps
 pub mod Tallies
 pub mod Takes
-pub mod UpdateSteps
 pub mod Words
+pub mod WriteSteps

@@ -9,7 +9,7 @@ use Rattle.board_model.specs.declared.line.Line.{Line}
 use Rattle.board_model.specs.declared.line.Line.TheVariants as line
 use Rattle.board_model.specs.declared.tables.Board.{Board}
 use Rattle.board_model.specs.AnswerGrammar.{answer_line}
-use Rattle.board_model.specs.LineGrammar.{IsNumber, IsWellFormed, Spells}
+use Rattle.board_model.specs.LineGrammar.{IsNumber, IsLine, Spells}
 use Rattle.board_model.specs.Tables.{board_at, is_numbered}
 use Rattle.board_model.specs.LawfulSession.{IsLawful, Session, State, start, state_after}
 use Rattle.board_model.proofs.DrawLemmas.{session_within}
@@ -54,7 +54,7 @@ on_ok f (Ok x) h = f h
 on_ok f (Err e) h = tt
 
 pub listed : (m : Machine) (n : ℕ) (ws old new : List ℕ) → ((s : State) → Represents m s → is_some (board_at s.standing.tables n) ≡ true) → ((s : State) → Represents m s → ws ≡ s.memory n)
-    → AllByRecursion IsNumber ws → IsWellFormed (line.Words n) → old ≡ [] → new ≡ old ++ answer_line (answer.Words ws) → Tells m m (line.Words n) new
+    → AllByRecursion IsNumber ws → IsLine (line.Words n) → old ≡ [] → new ≡ old ++ answer_line (answer.Words ws) → Tells m m (line.Words n) new
 listed m n ws old new stands words small l e f = λ s rep reached. record {
   answer = answer.Words ws;
   right = record {
@@ -70,7 +70,7 @@ listed m n ws old new stands words small l e f = λ s rep reached. record {
 }
 
 pub not_listed : (m : Machine) (n : ℕ) (old new : List ℕ) → ((s : State) → Represents m s → is_some (board_at s.standing.tables n) ≡ false)
-    → IsWellFormed (line.Words n) → old ≡ [] → new ≡ old ++ answer_line (answer.Refused reason.NoBoard) → Tells m m (line.Words n) new
+    → IsLine (line.Words n) → old ≡ [] → new ≡ old ++ answer_line (answer.Refused reason.NoBoard) → Tells m m (line.Words n) new
 not_listed m n old new missing l e f = λ s rep reached. record {
   answer = answer.Refused reason.NoBoard;
   right = record {

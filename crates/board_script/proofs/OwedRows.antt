@@ -19,6 +19,9 @@ not_gone (task.Table t) o h = refl
 not_gone (task.Get b c type n) o h = refl
 not_gone (task.Fresh b c) o h = refl
 not_gone (task.Update b c) o h = refl
+not_gone (task.Put b c l i w) o h = refl
+not_gone (task.Publish b c l n) o h = refl
+not_gone (task.Fill b c l n) o h = refl
 not_gone task.Gone o h = absurd h
 
 module _ (m : Machine) (party : List ℕ) (at : ℕ) (o : OwedAccess) (owes : OwesAt m party at o) where

@@ -36,6 +36,9 @@ no_call (task.Table t) q so_far g h = absurd cc
 no_call (task.Get b c type n) q so_far g h = absurd cc
 no_call (task.Fresh b c) q so_far g h = absurd cc
 no_call (task.Update b c) q so_far g h = absurd cc
+no_call (task.Put b c l i w) q so_far g h = absurd cc
+no_call (task.Publish b c l n) q so_far g h = absurd cc
+no_call (task.Fill b c l n) q so_far g h = absurd cc
 no_call task.Gone q so_far g h = h
 
 module _ (rows : List PartyRow) (parties : List ℕ → Party) (are : AreParties rows parties) (party : List ℕ) where

@@ -14,7 +14,7 @@ use Rattle.board_model.specs.declared.answer.Reply.TheVariants as reply
 use Rattle.board_model.specs.declared.line.Line.TheVariants as line
 use Rattle.board_model.specs.declared.value.ValueType.{ValueType}
 use Rattle.board_model.specs.AnswerGrammar.{IsReply}
-use Rattle.board_model.specs.LineGrammar.{IsNumber, IsWellFormed}
+use Rattle.board_model.specs.LineGrammar.{IsNumber, IsLine}
 use Rattle.board_model.specs.OwedAccesses.{Reading, finished, hear, heard, is_finished, opening, owed_read, to_read, trying}
 use Rattle.board_model.specs.Memory.{memory_after}
 use Rattle.board_model.specs.Requests.{Fetch, Request, fresh, get}
@@ -33,18 +33,20 @@ use Rattle.board_model.proofs.ReadLaws.{last_value, reads_are_replies}
 use Rattle.board_model.proofs.RunningLemmas.{runs}
 use Rattle.board_cell.specs.Calls.{Asking, Getting, counter_of, words_of}
 use Rattle.board_script.specs.declared.machine.KeptValue.{KeptValue}
+use Rattle.board_script.specs.declared.machine.Lent.{Lent}
 use Rattle.board_script.specs.declared.machine.Machine.{Machine}
 use Rattle.board_script.specs.declared.machine.PartyRow.{PartyRow}
 use Rattle.board_script.specs.declared.machine.Task.{Task}
 use Rattle.board_script.specs.declared.machine.Task.TheVariants as task
 use Rattle.board_script.specs.declared.step.OwedAccess.TheVariants as owed_access
 use Rattle.board_script.specs.declared.step.OwedRead.{OwedRead}
+use Rattle.board_script.specs.Loans.{lent_words}
 use Rattle.board_script.specs.Machine as machine
 use Rattle.board_script.specs.Machine.{AreRowsOf, IsTaskOf, Represents, getting, asking, is_row_of, kept, kept_from, kept_of, tables_of}
 use Rattle.board_script.specs.Steps.{HasWord, IsLoaded, IsOwedBy, IsReadTold, is_last, kept_anew, read_told, ticked, values_read}
 use Rattle.board_script.proofs.PartyRows.{RunsAt, ended, went_on}
 use Rattle.board_script.proofs.Rows.{remove-set}
-use Rattle.board_script.proofs.UpdateSteps.{has_word, stands_at}
+use Rattle.board_script.proofs.OwedWords.{has_word, stands_at}
 
 -- ---- what a read owes
 
@@ -77,6 +79,9 @@ read_step (task.Fresh board call) r x h o =
     o ∙ ap (λ (b : ℕ). to_read b call.shape.first) h.board_is ∙ ap (λ (c : Asking). to_read l.board c.shape.first) h.call_is in
     subst (λ (q : Request). IsReadStep q r.so_far x) (sym h.request) (record { next = e; board = cc })
 read_step (task.Update board call) r x h o = absurd o
+read_step (task.Put board call loan index w) r x h o = absurd o
+read_step (task.Publish board call loan handle) r x h o = absurd o
+read_step (task.Fill board call loan handle) r x h o = absurd o
 read_step task.Gone r x h o = absurd o
 
 -- ---- a word more
@@ -129,6 +134,9 @@ module _ (m : Machine) (s : State) (rep : Represents m s) (sound : Sound s) (par
       let l = h.look in
       ap (λ (q : Request). is_some (board_at s.standing.tables (board_read q))) h.request ∙ entry_board s.standing.tables l.board l.entry l.shape (calling (fresh l) h.request).1.place
   board_stands (task.Update board call) h o = absurd o
+  board_stands (task.Put board call loan index w) h o = absurd o
+  board_stands (task.Publish board call loan handle) h o = absurd o
+  board_stands (task.Fill board call loan handle) h o = absurd o
   board_stands task.Gone h o = absurd o
 
   stands : is_some (board_at s.standing.tables x.board) ≡ true
@@ -140,7 +148,7 @@ module _ (m : Machine) (s : State) (rep : Represents m s) (sound : Sound s) (par
   pub row_has_read : HasWord m x.board x.word
   row_has_read = has_word m s rep sound x.board x.word stands inside
 
-  module _ (v : ℕ) (loaded : IsLoaded m x.board x.word v) (boards : IsNumber x.board) (words : IsNumber x.word) (small : IsNumber v) (l : IsWellFormed (line.Step party)) where
+  module _ (v : ℕ) (loaded : IsLoaded m x.board x.word v) (boards : IsNumber x.board) (words : IsNumber x.word) (small : IsNumber v) (l : IsLine (line.Step party)) where
     abbrev made : Access
     made = access.Read x.board x.word v
 
@@ -167,6 +175,9 @@ module _ (m : Machine) (s : State) (rep : Represents m s) (sound : Sound s) (par
         ap (λ (q : Request). is_done q more) h.request ∙ ap is_finished (heard_more f) ∙ ap (λ (c : Getting). is_finished (hear c.shape.words c.reading v)) (sym h.call_is)
     last_is (task.Fresh board call) h o = ap (λ (q : Request). is_done q more) h.request ∙ le-leb _ _ (omega (arith, length-append at.r.so_far (made ∷ [])))
     last_is (task.Update board call) h o = absurd o
+    last_is (task.Put board call loan index w) h o = absurd o
+    last_is (task.Publish board call loan handle) h o = absurd o
+    last_is (task.Fill board call loan handle) h o = absurd o
     last_is task.Gone h o = absurd o
 
     -- the rest of a read that goes on
@@ -184,13 +195,16 @@ module _ (m : Machine) (s : State) (rep : Represents m s) (sound : Sound s) (par
         }
     rest_is (task.Fresh board call) h o e = absurd cc
     rest_is (task.Update board call) h o e = absurd o
+    rest_is (task.Put board call loan index w) h o e = absurd o
+    rest_is (task.Publish board call loan handle) h o e = absurd o
+    rest_is (task.Fill board call loan handle) h o e = absurd o
     rest_is task.Gone h o e = absurd o
 
     -- another read leaves the rest of the call
-    pub read_goes_on : (new : Machine) → tables_of new ≡ tables_of m → new.words.items ≡ m.words.items → new.values.items ≡ m.values.items → new.spent ≡ m.spent
+    pub read_goes_on : (new : Machine) → tables_of new ≡ tables_of m → new.words.items ≡ m.words.items → new.values.items ≡ m.values.items → new.loans.items ≡ m.loans.items → new.spent ≡ m.spent
         → (y : PartyRow) → y.name ≡ row.name → y.task ≡ ticked row.task v → is_last row.task v ≡ false → new.parties.items ≡ set m.parties.items place y
         → IsRight s (line.Step party) (answer.Step made None) × Represents new (after s (line.Step party) (answer.Step made None))
-    read_goes_on new tables ws values spent y n t e rows =
+    read_goes_on new tables ws values loans spent y n t e rows =
         let next : Running = record at.r { so_far = more } in
         let of : IsTaskOf y.task next.request next.so_far = subst (λ (z : Task). IsTaskOf z at.r.request more) (sym t) (rest_is row.task at.task o e) in (
           record {
@@ -207,7 +221,7 @@ module _ (m : Machine) (s : State) (rep : Represents m s) (sound : Sound s) (par
             words = ws ∙ rep.words ∙ ap (λ z. machine.words_of s.memory z.boards) (sym tables);
             parties = subst (λ (xs : List PartyRow). (p : List ℕ) → AreRowsOf (filter (is_row_of p) xs) (with_party (λ q. notice made (s.parties q)) party (running next) p))
                 (sym rows) (went_on m.parties.items s.parties rep.parties party place row at made y next n of);
-            loans = rep.loans;
+            loans = λ p n. rep.loans p n ∙ ap (λ (xs : List Lent). lent_words xs p n) (sym loans);
             values = λ p n. rep.values p n ∙ ap (λ (vs : List KeptValue). kept vs p n) (sym values);
           }),
         )
@@ -231,13 +245,16 @@ module _ (m : Machine) (s : State) (rep : Represents m s) (sound : Sound s) (par
         ap (λ (q : Request). reply_read q more) h.request ∙ ap (λ (xs : List Access). reply_of_look look.generation (map heard (xs ++ made ∷ []))) none
         ∙ ap (λ (b : Bool). got (reply.Fresh b)) (same_either look.generation v) ∙ ap (λ (c : Asking). got (reply.Fresh (v == c.generation))) (sym h.call_is) ∙ r
     told_is (task.Update board call) told h o e r = absurd o
+    told_is (task.Put board call loan index w) told h o e r = absurd o
+    told_is (task.Publish board call loan handle) told h o e r = absurd o
+    told_is (task.Fill board call loan handle) told h o e r = absurd o
     told_is task.Gone told h o e r = absurd o
 
     -- what a finished read leaves
     record IsLeft (vs : List KeptValue) (told : Reply) (q : Request) : Type 0 where
       pub memory : memory_after s.memory q told ≡ s.memory
       pub tables : (ask s.standing s.published party q).standing.tables ≡ s.standing.tables
-      pub loans : (p n : List ℕ) → (ask s.standing s.published party q).standing.loans p n ≡ None
+      pub loans : (p n : List ℕ) → (ask s.standing s.published party q).standing.loans p n ≡ s.standing.loans p n
       pub values : (p n : List ℕ) → (ask s.standing s.published party q).standing.values p n ≡ kept vs p n
 
     kept_values : (f : Fetch) (list : List (List ℕ)) (name : Option (List ℕ)) (type : ValueType) (call : Getting) (vs : List KeptValue) → type ≡ value_type_of f.type → words_of call.reading ≡ latest list → counter_of call.reading ≡ length list
@@ -254,9 +271,9 @@ module _ (m : Machine) (s : State) (rep : Represents m s) (sound : Sound s) (par
         ∙ sym (kept-push None p n m.values.items (record { party = party; name = name; value_type = type; words = words_of call.reading; generation = counter_of call.reading }))
         ∙ ap (λ (xs : List KeptValue). kept xs p n) (sym e)
 
-    no_name : (f : Fetch) (ws : List ℕ) (g : ℕ) (name : Option (List ℕ)) → ((with_value s.standing party f ws g name).tables ≡ s.standing.tables) × ((p n : List ℕ) → (with_value s.standing party f ws g name).loans p n ≡ None)
-    no_name f ws g None = (refl, rep.loans)
-    no_name f ws g (Some name) = (refl, rep.loans)
+    no_name : (f : Fetch) (ws : List ℕ) (g : ℕ) (name : Option (List ℕ)) → ((with_value s.standing party f ws g name).tables ≡ s.standing.tables) × ((p n : List ℕ) → (with_value s.standing party f ws g name).loans p n ≡ s.standing.loans p n)
+    no_name f ws g None = (refl, λ p n. refl)
+    no_name f ws g (Some name) = (refl, λ p n. refl)
 
     left_is : (t : Task) (told : Reply) (vs : List KeptValue) → IsTaskOf t at.r.request at.r.so_far → IsOwedBy t (owed_access.Read x) → is_last t v ≡ true → vs ≡ m.values.items ++ values_read party (ticked t v) → IsLeft vs told at.r.request
     left_is (task.Table t) told vs h o e k = absurd o
@@ -278,18 +295,21 @@ module _ (m : Machine) (s : State) (rep : Represents m s) (sound : Sound s) (par
         subst (λ (q : Request). IsLeft vs told q) (sym h.request) (record {
           memory = refl;
           tables = refl;
-          loans = rep.loans;
+          loans = λ p n. refl;
           values = λ p n. rep.values p n ∙ ap (λ (xs : List KeptValue). kept xs p n) (sym (k ∙ append-nil m.values.items));
         })
     left_is (task.Update board call) told vs h o e k = absurd o
+    left_is (task.Put board call loan index w) told vs h o e k = absurd o
+    left_is (task.Publish board call loan handle) told vs h o e k = absurd o
+    left_is (task.Fill board call loan handle) told vs h o e k = absurd o
     left_is task.Gone told vs h o e k = absurd o
 
     -- the last read ends the call
     pub read_ends : (mid new : Machine) (y : PartyRow) → y.task ≡ ticked row.task v → is_last row.task v ≡ true
-        → tables_of mid ≡ tables_of m → mid.words.items ≡ m.words.items → mid.values.items ≡ m.values.items → mid.spent ≡ m.spent → mid.parties.items ≡ remove (set m.parties.items place y) place
+        → tables_of mid ≡ tables_of m → mid.words.items ≡ m.words.items → mid.values.items ≡ m.values.items → mid.loans.items ≡ m.loans.items → mid.spent ≡ m.spent → mid.parties.items ≡ remove (set m.parties.items place y) place
         → (told : Reply) → IsReadTold mid new party (ticked row.task v) told → IsReply told
         → IsRight s (line.Step party) (answer.Step made (Some told)) × Represents new (after s (line.Step party) (answer.Step made (Some told)))
-    read_ends mid new y t e tables ws values spent rows told h r =
+    read_ends mid new y t e tables ws values loans spent rows told h r =
         let read = told_is row.task told at.task o e h.told_is in
         let left = left_is row.task told new.values.items at.task o e (h.values ∙ ap (λ (vs : List KeptValue). vs ++ values_read party (ticked row.task v)) values) in (
           record {
@@ -306,7 +326,7 @@ module _ (m : Machine) (s : State) (rep : Represents m s) (sound : Sound s) (par
             words = h.words ∙ ws ∙ rep.words ∙ ap (λ z. machine.words_of s.memory z.boards) (sym tables ∙ sym h.tables) ∙ ap (λ (z : ℕ → List ℕ). machine.words_of z new.boards.items) (sym left.memory);
             parties = subst (λ (xs : List PartyRow). (p : List ℕ) → AreRowsOf (filter (is_row_of p) xs) (with_party (λ q. notice made (s.parties q)) party free p))
                 (sym (h.parties ∙ rows ∙ remove-set m.parties.items place y)) (ended m.parties.items s.parties rep.parties party place row at made);
-            loans = left.loans;
+            loans = λ p n. left.loans p n ∙ rep.loans p n ∙ ap (λ (xs : List Lent). lent_words xs p n) (sym loans ∙ sym h.loans);
             values = left.values;
           }),
         )

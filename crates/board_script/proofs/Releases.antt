@@ -10,7 +10,7 @@ use Rattle.board_model.specs.declared.answer.Reason.{Reason}
 use Rattle.board_model.specs.declared.answer.Reason.TheVariants as reason
 use Rattle.board_model.specs.declared.answer.Reply.TheVariants as reply
 use Rattle.board_model.specs.declared.line.Line.TheVariants as line
-use Rattle.board_model.specs.LineGrammar.{IsWellFormed}
+use Rattle.board_model.specs.LineGrammar.{IsLine}
 use Rattle.board_model.specs.Parties.{Running, free, gone, running}
 use Rattle.board_model.specs.Replies.{released_thing}
 use Rattle.board_model.specs.Things.{Kept, is_held, thing_of, with_at}
@@ -20,8 +20,10 @@ use Rattle.board_script.specs.declared.machine.KeptValue.{KeptValue}
 use Rattle.board_script.specs.declared.machine.Machine.{Machine}
 use Rattle.board_script.specs.declared.machine.PartyRow.{PartyRow}
 use Rattle.board_script.specs.Begins.{holds}
+use Rattle.board_script.specs.Loans.{lent_words}
 use Rattle.board_script.specs.Machine.{AreRowsOf, Represents, is_kept_as, is_row_of, kept, kept_from, kept_of}
 use Rattle.board_script.specs.Steps.{IsReleased}
+use Rattle.board_script.proofs.LoanRows.{forgotten, with_at-same}
 
 -- ---- values
 
@@ -63,16 +65,9 @@ module _ (party name : List ℕ) where
           rw (same_bytes p party h.0, same_bytes n name h.1, is) (sym (none_kept None vs))
       at false e = same p n ∙ rw is (sym (others_kept p n e None vs))
 
-  no_loans : (f : List ℕ → List ℕ → Option (List (Option ℕ))) → ((p n : List ℕ) → f p n ≡ None) → (p n : List ℕ) → with_at f party name None p n ≡ None
-  no_loans f none p n = at (bytes_eq p party && bytes_eq n name)
-    where
-      at : (z : Bool) → cond z None (f p n) ≡ None
-      at true = refl
-      at false = none p n
-
 -- ---- the line
 
-module _ (m : Machine) (s : State) (rep : Represents m s) (party name : List ℕ) (l : IsWellFormed (line.Release party name)) where
+module _ (m : Machine) (s : State) (rep : Represents m s) (party name : List ℕ) (l : IsLine (line.Release party name)) where
   pub release_busy : (r : Running) → s.parties party ≡ running r → IsRight s (line.Release party name) (answer.Refused reason.Busy)
   release_busy r e = record {
     line = l;
@@ -132,7 +127,7 @@ module _ (m : Machine) (s : State) (rep : Represents m s) (party name : List ℕ
           tables = ap (λ t. released_thing t party name (thing_of t.things party name)) rep.tables ∙ sym is.tables;
           words = is.words s.memory rep.words;
           parties = subst (λ (xs : List PartyRow). (p : List ℕ) → AreRowsOf (filter (is_row_of p) xs) (s.parties p)) (sym is.parties) rep.parties;
-          loans = no_loans party name s.standing.loans rep.loans;
+          loans = λ p n. with_at-same s.standing.loans (lent_words m.loans.items) party name None rep.loans p n ∙ sym (forgotten party name m.loans.items new.loans.items is.loans p n);
           values = values_left party name s.standing.values m.values.items new.values.items rep.values is.values;
         },
       )

@@ -22,9 +22,9 @@ use Rattle.board_model.specs.declared.value.AddedEntry.{AddedEntry}
 use Rattle.board_model.specs.declared.value.Key.{Key}
 use Rattle.board_model.specs.declared.value.KeyType.{KeyType}
 use Rattle.board_model.specs.AnswerGrammar.{IsReply}
-use Rattle.board_model.specs.LineGrammar.{IsWellFormed}
+use Rattle.board_model.specs.LineGrammar.{IsLine}
 use Rattle.board_model.specs.Memory.{memory_after, opening_of, with_board}
-use Rattle.board_model.specs.Requests.{Request, TableCall, create, describe, entry, entry_mut, identify, join, list_keys, list_nodes, reader, table, tell, writer}
+use Rattle.board_model.specs.Requests.{Request, TableCall, create, describe, entry, entry_mut, give_back, identify, join, lend, list_keys, list_nodes, reader, table, tell, writer}
 use Rattle.board_model.specs.Replies.{Asked, added_of, ask_tables, id_number, info_of, is_key, keys_in, nodes_of, number_or, only_told, told_by}
 use Rattle.board_model.specs.Tables.{Tables, board_at, entry_at, entry_found, entry_in, entry_of, is_numbered, kind_of, new_board}
 use Rattle.board_model.specs.TableCalls.{asked, create_asked, create_refusals, created, entry_asked, entry_mut_asked, first_of, open_asked, reader_asked, writer_asked}
@@ -33,30 +33,37 @@ use Rattle.board_model.specs.TypeTable.{key_detail, same_key, value_detail}
 use Rattle.board_model.specs.Parties.{Party, Running, free, notice, running, with_party}
 use Rattle.board_model.specs.LawfulSession.{IsRight, State, after}
 use Rattle.board_model.specs.LawsOfForms.{IsFormedParty, IsFormedRequest}
-use Rattle.board_model.specs.Sound.{HasBoard, HasEntry, HasEntryAt, IsCalling, Sound}
+use Rattle.board_model.specs.Sound.{HasBoard, HasEntry, HasEntryAt, IsCalling, IsFree, Sound}
 use Rattle.board_model.proofs.ListLemmas.{any_missing, count_none}
 use Rattle.board_model.proofs.ReplyFormLemmas.{reply_told}
 use Rattle.board_model.proofs.RunningLemmas.{runs}
 use Rattle.board_model.proofs.ThingLemmas.{all_found}
+use Rattle.board_script.specs.declared.machine.Lent.{Lent}
 use Rattle.board_script.specs.declared.machine.Machine.{Machine}
 use Rattle.board_script.specs.declared.machine.PartyRow.{PartyRow}
 use Rattle.board_script.specs.declared.machine.KeptValue.{KeptValue}
 use Rattle.board_script.specs.declared.machine.TableTask.{TableTask}
 use Rattle.board_script.specs.declared.machine.TableTask.TheVariants as table_task
 use Rattle.board_script.specs.Overview.{keys_shown, standing_with}
-use Rattle.board_script.specs.Machine.{AreRowsOf, IsReached, Represents, call_of, is_row_of, kept, tables_of, words_of}
+use Rattle.board_script.specs.LoanCalls.{IsGivenBack, IsLoaned}
+use Rattle.board_script.specs.Loans.{IsDiscardTask, IsLoanTask, lent_words}
+use Rattle.board_script.specs.Machine.{AreRowsOf, IsReached, IsTableTask, Represents, is_row_of, kept, tables_of, words_of}
 use Rattle.board_script.specs.Steps.{CanRun, HasCounter, IsCounter, IsGen, IsShown, IsTold}
 use Rattle.board_script.specs.TableCalls.{IsAsked, IsCreate, words_with}
 use Rattle.board_script.proofs.Bounds.{IsBounded}
+use Rattle.board_script.proofs.LoanSteps.{given_back_loans, given_back_tables, lent_loans, lent_tables}
 use Rattle.board_script.proofs.Memories.{same_words}
 use Rattle.board_script.proofs.PartyRows.{RunsAt, ended}
 use Rattle.board_script.proofs.Shown.{board_shown}
-use Rattle.board_script.proofs.UpdateSteps.{stands_at}
+use Rattle.board_script.proofs.OwedWords.{stands_at}
 
 abbrev BoardTables : Type 0
 BoardTables = Tables (List ℕ) (List ℕ)
 
-some_entry : (o : Option Entry) → is_some o ≡ true → (e : Entry) × (o ≡ Some e)
+abbrev some_thing : Held → Option Held
+some_thing x = Some x
+
+pub some_entry : (o : Option Entry) → is_some o ≡ true → (e : Entry) × (o ≡ Some e)
 some_entry None e = absurd cc
 some_entry (Some x) e = (x, refl)
 
@@ -97,7 +104,7 @@ module _ (m : Machine) (s : State) (rep : Represents m s) (reached : IsReached s
   pub record IsServed (new : Machine) (c : TableCall) (told : Reply) : Type 0 where
     pub told_is : told ≡ (ask_tables s.standing s.published party c).reply
     pub tables : (ask_tables s.standing s.published party c).standing.tables ≡ tables_of new
-    pub loans : (p n : List ℕ) → (ask_tables s.standing s.published party c).standing.loans p n ≡ None
+    pub loans : (p n : List ℕ) → (ask_tables s.standing s.published party c).standing.loans p n ≡ lent_words new.loans.items p n
     pub values : (p n : List ℕ) → (ask_tables s.standing s.published party c).standing.values p n ≡ kept new.values.items p n
     pub words : new.words.items ≡ words_of (memory_after s.memory (table c) told) new.boards.items
     pub parties : new.parties.items ≡ remove m.parties.items place
@@ -112,7 +119,7 @@ module _ (m : Machine) (s : State) (rep : Represents m s) (reached : IsReached s
       let f = subst (λ (x : Party). IsFormedParty reached.count party x) at.runs (reached.formed.parties party) in
       reply_told s reached.sound reached.count reached.within reached.few reached.numbers reached.formed party at.r (table c) (subst (IsFormedRequest reached.count) e f.1) (calling c e)
 
-  pub table_right : (new : Machine) (c : TableCall) (told : Reply) → at.r.request ≡ table c → IsServed new c told → IsWellFormed (line.Step party)
+  pub table_right : (new : Machine) (c : TableCall) (told : Reply) → at.r.request ≡ table c → IsServed new c told → IsLine (line.Step party)
       → IsRight s (line.Step party) (answer.Step access.Table (Some told)) × Represents new (after s (line.Step party) (answer.Step access.Table (Some told)))
   table_right new c told request h l =
       let of_call : Running = record at.r { request = table c } in
@@ -140,7 +147,7 @@ module _ (m : Machine) (s : State) (rep : Represents m s) (reached : IsReached s
 
   -- ---- one call after another
 
-  module _ (mid new : Machine) (same : tables_of mid ≡ tables_of m) (same_list : mid.words.items ≡ m.words.items) (rows : mid.parties.items ≡ remove m.parties.items place) (same_values : mid.values.items ≡ m.values.items) (alive : mid.spent ≡ false) where
+  module _ (mid new : Machine) (same : tables_of mid ≡ tables_of m) (same_list : mid.words.items ≡ m.words.items) (rows : mid.parties.items ≡ remove m.parties.items place) (same_values : mid.values.items ≡ m.values.items) (same_loans : mid.loans.items ≡ m.loans.items) (alive : mid.spent ≡ false) where
     tables_are : s.standing.tables ≡ tables_of mid
     tables_are = rep.tables ∙ sym same
 
@@ -155,6 +162,12 @@ module _ (m : Machine) (s : State) (rep : Represents m s) (reached : IsReached s
     kept_values : new.values.items ≡ mid.values.items → (p n : List ℕ) → s.standing.values p n ≡ kept new.values.items p n
     kept_values v p n = rep.values p n ∙ ap (λ (vs : List KeptValue). kept vs p n) (sym same_values ∙ sym v)
 
+    mid_loans : (p n : List ℕ) → s.standing.loans p n ≡ lent_words mid.loans.items p n
+    mid_loans p n = rep.loans p n ∙ ap (λ (xs : List Lent). lent_words xs p n) (sym same_loans)
+
+    kept_loans : new.loans.items ≡ mid.loans.items → (p n : List ℕ) → s.standing.loans p n ≡ lent_words new.loans.items p n
+    kept_loans e p n = mid_loans p n ∙ ap (λ (xs : List Lent). lent_words xs p n) (sym e)
+
     -- a call that changes only the tables
     asked_served : {E : Type 0} (c : TableCall) (error : E → Reply) (f : BoardTables → Result ℕ E × BoardTables) (told : Reply)
         → ask_tables s.standing s.published party c ≡ told_by s.standing error (f s.standing.tables)
@@ -164,7 +177,7 @@ module _ (m : Machine) (s : State) (rep : Represents m s) (reached : IsReached s
     asked_served c error f told asks boards memory h = record {
       told_is = h.told_is ∙ ap (λ t. number_or error (f t).0) (sym tables_are) ∙ ap (λ (x : Asked). x.reply) (sym asks);
       tables = ap (λ (x : Asked). x.standing.tables) asks ∙ ap (λ t. (f t).1) tables_are ∙ sym h.tables;
-      loans = λ p n. ap (λ (x : Asked). x.standing.loans p n) asks ∙ rep.loans p n;
+      loans = λ p n. ap (λ (x : Asked). x.standing.loans p n) asks ∙ kept_loans h.loans p n;
       values = λ p n. ap (λ (x : Asked). x.standing.values p n) asks ∙ kept_values h.values p n;
       words = kept_words (ap (λ t. t.boards) h.tables ∙ boards) h.words ∙ ap (λ (x : ℕ → List ℕ). words_of x new.boards.items) (sym memory);
       parties = h.parties ∙ rows;
@@ -177,7 +190,7 @@ module _ (m : Machine) (s : State) (rep : Represents m s) (reached : IsReached s
     shown_served c shown told asks memory h = record {
       told_is = h.told_is ∙ ap (λ (x : Asked). x.reply) (sym asks);
       tables = ap (λ (x : Asked). x.standing.tables) asks ∙ tables_are ∙ ap tables_of (sym h.same);
-      loans = λ p n. ap (λ (x : Asked). x.standing.loans p n) asks ∙ rep.loans p n;
+      loans = λ p n. ap (λ (x : Asked). x.standing.loans p n) asks ∙ kept_loans (ap (λ (y : Machine). y.loans.items) h.same) p n;
       values = λ p n. ap (λ (x : Asked). x.standing.values p n) asks ∙ kept_values (ap (λ (y : Machine). y.values.items) h.same) p n;
       words = kept_words (ap (λ (y : Machine). y.boards.items) h.same) (ap (λ (y : Machine). y.words.items) h.same) ∙ ap (λ (x : ℕ → List ℕ). words_of x new.boards.items) (sym memory);
       parties = ap (λ (y : Machine). y.parties.items) h.same ∙ rows;
@@ -237,7 +250,7 @@ module _ (m : Machine) (s : State) (rep : Represents m s) (reached : IsReached s
     gen_served x told e h = record {
       told_is = h.told_is ∙ ap (λ (n : ℕ). reply.Generation n) ((handle_counter x e).is_length h.counter (gen_count x h.counter h.is_counter));
       tables = tables_are ∙ ap tables_of (sym h.same);
-      loans = rep.loans;
+      loans = kept_loans (ap (λ (y : Machine). y.loans.items) h.same);
       values = kept_values (ap (λ (y : Machine). y.values.items) h.same);
       words = kept_words (ap (λ (y : Machine). y.boards.items) h.same) (ap (λ (y : Machine). y.words.items) h.same);
       parties = ap (λ (y : Machine). y.parties.items) h.same ∙ rows;
@@ -292,7 +305,7 @@ module _ (m : Machine) (s : State) (rep : Represents m s) (reached : IsReached s
           record {
             told_is = told_same;
             tables = sym tables_same;
-            loans = rep.loans;
+            loans = kept_loans h.loans;
             values = kept_values h.values;
             words =
                 h.words ∙ ap (λ (ws : List (List ℕ)). words_with ws entries told) same_list
@@ -302,36 +315,89 @@ module _ (m : Machine) (s : State) (rep : Represents m s) (reached : IsReached s
             alive = h.spent ∙ alive;
           }
 
-    served : (t : TableTask) (told : Reply) → at.r.request ≡ table (call_of t) → IsTold mid new party t told → IsServed new (call_of t) told
-    served (table_task.Create f n k limits attributes entries) told e h = create_served f n k limits attributes entries told h
+    -- ---- loans
+
+    -- no loan has a name that is free
+    unlent : (name : List ℕ) → IsFree s.standing party name → lent_words mid.loans.items party name ≡ None
+    unlent name f = sym (mid_loans party name) ∙ by (s.standing.loans party name) refl
+      where
+        by : (o : Option (List (Option ℕ))) → s.standing.loans party name ≡ o → o ≡ None
+        by None e = refl
+        by (Some ws) e =
+            let l = reached.sound.things.loans party name ws e in
+            absurd (let x : some_thing l.thing ≡ None = sym l.found ∙ f in cc)
+
+    loan_served : (handle loan : List ℕ) (words : ℕ) (told : Reply) (e : IsLoanTask handle loan words at.r.request) → told ≡ reply.Done → IsLoaned mid new party handle loan words → IsServed new (lend e.lending) told
+    loan_served handle loan words told e t h =
+        let l = e.lending in
+        let of_handle = subst (λ (x : List ℕ). IsLoaned mid new party x loan words) e.handle_is h in
+        let of_loan = subst (λ (x : List ℕ). IsLoaned mid new party l.handle x words) e.loan_is of_handle in
+        let is = subst (λ (k : ℕ). IsLoaned mid new party l.handle l.loan k) e.words_is of_loan in
+        record {
+          told_is = t;
+          tables = lent_tables s mid new tables_are mid_loans party l is;
+          loans = lent_loans s mid new tables_are mid_loans party l is;
+          values = kept_values h.values;
+          words = kept_words (ap (λ t. t.boards) h.tables) h.words;
+          parties = h.parties ∙ rows;
+          alive = h.spent ∙ alive;
+        }
+
+    discard_served : (loan handle : List ℕ) (told : Reply) (e : IsDiscardTask loan handle at.r.request) → told ≡ reply.Done → IsGivenBack mid new party loan handle → IsServed new (give_back e.lending) told
+    discard_served loan handle told e t h =
+        let l = e.lending in
+        let of_loan = subst (λ (x : List ℕ). IsGivenBack mid new party x handle) e.loan_is h in
+        let is = subst (λ (x : List ℕ). IsGivenBack mid new party l.loan x) e.handle_is of_loan in
+        record {
+          told_is = t;
+          tables = given_back_tables s mid new tables_are mid_loans party l is;
+          loans = given_back_loans s mid new tables_are mid_loans party l is;
+          values = kept_values h.values;
+          words = kept_words (ap (λ t. t.boards) h.tables) h.words;
+          parties = h.parties ∙ rows;
+          alive = h.spent ∙ alive;
+        }
+
+    -- the call of a task is told so
+    abbrev IsServing : Reply → Type 0
+    IsServing told = (c : TableCall) × (at.r.request ≡ table c) × IsServed new c told
+
+    served : (t : TableTask) (told : Reply) → IsTableTask t at.r.request → IsTold mid new party t told → IsServing told
+    served (table_task.Create f n k limits attributes entries) told e h = (create f n k limits attributes entries, e, create_served f n k limits attributes entries told h)
     served (table_task.Open f n k limits needs) told e h =
-        asked_served (join f n k limits needs) reply.OpenError (λ t. open_asked bytes_eq t party f n (key_detail k) limits needs) told refl (kept_boards _ _ _ _ refl) refl h
-    served (table_task.Reader n x) told e h = asked_served (reader n x) reply.ReaderError (λ t. reader_asked t x n) told refl (kept_boards _ _ _ _ refl) refl h
-    served (table_task.Writer n x) told e h = asked_served (writer n x) reply.WriterError (λ t. writer_asked t x n) told refl (kept_boards _ _ _ _ refl) refl h
+        (join f n k limits needs, e, asked_served (join f n k limits needs) reply.OpenError (λ t. open_asked bytes_eq t party f n (key_detail k) limits needs) told refl (kept_boards _ _ _ _ refl) refl h)
+    served (table_task.Reader n x) told e h = (reader n x, e, asked_served (reader n x) reply.ReaderError (λ t. reader_asked t x n) told refl (kept_boards _ _ _ _ refl) refl h)
+    served (table_task.Writer n x) told e h = (writer n x, e, asked_served (writer n x) reply.WriterError (λ t. writer_asked t x n) told refl (kept_boards _ _ _ _ refl) refl h)
     served (table_task.Entry n x k type) told e h =
-        asked_served (entry n x k type) reply.EntryError (λ t. entry_asked t x n (entry_found (board_at t x.board) (is_key k) (value_detail type))) told refl (kept_boards _ _ _ _ refl) refl h
+        (entry n x k type, e, asked_served (entry n x k type) reply.EntryError (λ t. entry_asked t x n (entry_found (board_at t x.board) (is_key k) (value_detail type))) told refl (kept_boards _ _ _ _ refl) refl h)
     served (table_task.EntryMut n x k type) told e h =
-        asked_served (entry_mut n x k type) reply.EntryMutError (λ t. entry_mut_asked t x n (entry_found (board_at t x.board) (is_key k) (value_detail type))) told refl (kept_boards _ _ _ _ refl) refl h
-    served (table_task.Keys x) told e h = shown_served (list_keys x) _ told (ap (λ (ks : List Key). only_told s.standing (reply.Keys ks)) (keys_same x)) refl h
-    served (table_task.Nodes x) told e h = shown_served (list_nodes x) _ told (ap (λ t. only_told s.standing (reply.Nodes (nodes_of x.board t.things))) tables_are) refl h
-    served (table_task.Info x) told e h = shown_served (describe x) _ told (ap (λ t. only_told s.standing (reply.Info (info_of t.things (board_at t x.board)))) tables_are) refl h
+        (entry_mut n x k type, e, asked_served (entry_mut n x k type) reply.EntryMutError (λ t. entry_mut_asked t x n (entry_found (board_at t x.board) (is_key k) (value_detail type))) told refl (kept_boards _ _ _ _ refl) refl h)
+    served (table_task.Loan handle loan words) told e h = (lend e.lending, e.request, loan_served handle loan words told e h.0 h.1)
+    served (table_task.Discard loan handle) told e h = (give_back e.lending, e.request, discard_served loan handle told e h.0 h.1)
+    served (table_task.Keys x) told e h = (list_keys x, e, shown_served (list_keys x) _ told (ap (λ (ks : List Key). only_told s.standing (reply.Keys ks)) (keys_same x)) refl h)
+    served (table_task.Nodes x) told e h = (list_nodes x, e, shown_served (list_nodes x) _ told (ap (λ t. only_told s.standing (reply.Nodes (nodes_of x.board t.things))) tables_are) refl h)
+    served (table_task.Info x) told e h = (describe x, e, shown_served (describe x) _ told (ap (λ t. only_told s.standing (reply.Info (info_of t.things (board_at t x.board)))) tables_are) refl h)
     served (table_task.Id x) told e h =
-        shown_served (identify x) _ told (ap (λ (n : ℕ). only_told s.standing (reply.Id n)) (same_id s.standing.tables x x.kind ∙ ap (λ t. id_number (standing_with t) x x.kind) tables_are)) refl h
-    served (table_task.Gen x) told e h = gen_served x told e h
+        (identify x, e, shown_served (identify x) _ told (ap (λ (n : ℕ). only_told s.standing (reply.Id n)) (same_id s.standing.tables x x.kind ∙ ap (λ t. id_number (standing_with t) x x.kind) tables_are)) refl h)
+    served (table_task.Gen x) told e h = (tell x, e, gen_served x told e h)
 
     -- the step of the task is right
-    pub task_right : (t : TableTask) (told : Reply) → at.r.request ≡ table (call_of t) → IsTold mid new party t told → IsWellFormed (line.Step party)
+    pub task_right : (t : TableTask) (told : Reply) → IsTableTask t at.r.request → IsTold mid new party t told → IsLine (line.Step party)
         → IsRight s (line.Step party) (answer.Step access.Table (Some told)) × Represents new (after s (line.Step party) (answer.Step access.Table (Some told)))
-    task_right t told e h l = table_right new (call_of t) told e (served t told e h) l
+    task_right t told e h l =
+        let x = served t told e h in
+        table_right new x.0 told x.1 x.2 l
 
     -- and it can be made
-    pub task_can_run : (t : TableTask) → IsBounded s → at.r.request ≡ table (call_of t) → CanRun mid t
+    pub task_can_run : (t : TableTask) → IsBounded s → IsTableTask t at.r.request → CanRun mid party t
     task_can_run (table_task.Create f n k limits attributes entries) b e = subst (λ (t : BoardTables). t.last_board + 1 < 2 ^ 64) tables_are b.boards
     task_can_run (table_task.Open f n k limits needs) b e = tt
     task_can_run (table_task.Reader n x) b e = subst (λ (t : BoardTables). t.last_port + 1 < 2 ^ 64) tables_are b.ports
     task_can_run (table_task.Writer n x) b e = subst (λ (t : BoardTables). t.last_port + 1 < 2 ^ 64) tables_are b.ports
     task_can_run (table_task.Entry n x k type) b e = tt
     task_can_run (table_task.EntryMut n x k type) b e = tt
+    task_can_run (table_task.Loan handle loan words) b e = subst (λ (n : List ℕ). lent_words mid.loans.items party n ≡ None) (sym e.loan_is) (unlent e.lending.loan (calling (lend e.lending) e.request).1.0)
+    task_can_run (table_task.Discard loan handle) b e = tt
     task_can_run (table_task.Keys x) b e = tt
     task_can_run (table_task.Nodes x) b e = tt
     task_can_run (table_task.Info x) b e = info_stands x e

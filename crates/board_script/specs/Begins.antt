@@ -1,38 +1,20 @@
 -- Whether a call may begin.
-use Rattle.std.specs.Prelude.{◌≡◌, ℕ, Bool, true, false, ◌||◌, List, [], Option, Some, None, is_some}
+use Rattle.std.specs.Prelude.{◌≡◌, ℕ, Bool, true, false, ◌||◌, if◌then◌else◌, List, [], Option, Some, None, is_some, not}
 use Rattle.board_model.specs.declared.answer.Reason.{Reason}
 use Rattle.board_model.specs.declared.line.Call.{Call}
 use Rattle.board_model.specs.declared.tables.Kind.{Kind}
 use Rattle.board_model.specs.declared.tables.Kind.TheVariants as kind
-use Rattle.board_model.specs.declared.line.Call.TheVariants as call
 use Rattle.board_model.specs.Requests.{Request, request_of}
 use Rattle.board_model.specs.LawfulSession.{State, call_reason}
 use Rattle.board_model.specs.Sound.{Sound}
-use Rattle.board_model.specs.Things.{Held, thing_of}
+use Rattle.board_model.specs.declared.tables.ThingKind.TheVariants as thing_kind
+use Rattle.board_model.specs.Things.{Held, of_kind, thing_of}
 use Rattle.board_script.specs.declared.begin.Checked.{Checked}
 use Rattle.board_script.specs.declared.begin.Checked.TheVariants as checked
 use Rattle.board_script.specs.declared.machine.Machine.{Machine}
 use Rattle.board_script.specs.declared.machine.Task.{Task}
+use Rattle.board_script.specs.Loans.{lent_words}
 use Rattle.board_script.specs.Machine.{IsTaskOf, Represents, kept}
-
--- ---- the calls that the machine runs
-
-abbrev pub serves_call : Call → Bool
-serves_call (call.Create f name k limits attributes entries) = true
-serves_call (call.Open f name k limits needs) = true
-serves_call (call.Reader r f) = true
-serves_call (call.Writer w f) = true
-serves_call (call.Entry h r k type) = true
-serves_call (call.EntryMut m w k type) = true
-serves_call (call.Get h v) = true
-serves_call (call.Fresh h v) = true
-serves_call (call.Update m v) = true
-serves_call (call.Keys f) = true
-serves_call (call.Nodes f) = true
-serves_call (call.Info f) = true
-serves_call (call.Id n) = true
-serves_call (call.Gen m) = true
-serves_call c = false
 
 -- ---- what a party holds
 
@@ -57,6 +39,20 @@ pub record IsHandle (m : Machine) (x : Held) : Type 0 where
   pub name : List ℕ
   pub found : thing_of m.things.items party name ≡ Some x
   pub handle : is_handle x.kind ≡ true
+
+-- ---- write handles and loans
+
+-- a write handle that isn't lent
+abbrev pub handle_held : Machine → List ℕ → List ℕ → Option Held
+handle_held m party name = if is_some (lent_words m.loans.items party name) then None else of_kind thing_kind.WriteHandle (thing_of m.things.items party name)
+
+-- a thing of this kind has an id: no factory has, and no loan
+abbrev pub has_id : Kind → Bool → Bool
+has_id kind.Factory is_lent = false
+has_id (kind.Reader port) is_lent = true
+has_id (kind.Writer port) is_lent = true
+has_id (kind.ReadHandle i) is_lent = true
+has_id (kind.WriteHandle i port) is_lent = not is_lent
 
 -- ---- checks
 

@@ -8,7 +8,7 @@ use Rattle.board_model.specs.declared.line.Call.TheVariants as call
 use Rattle.board_model.specs.declared.line.Line.{Line}
 use Rattle.board_model.specs.declared.line.Line.TheVariants as line
 use Rattle.board_model.specs.declared.tables.Entry.{Entry}
-use Rattle.board_model.specs.LineGrammar.{IsWellFormed}
+use Rattle.board_model.specs.LineGrammar.{IsLine}
 use Rattle.board_model.specs.Parties.{Running, running}
 use Rattle.board_model.specs.Requests.{Request, get, table, update}
 use Rattle.board_model.specs.Tables.{entry_at}
@@ -79,9 +79,9 @@ is_plain (line.Begin party c) = is_plain_call c
 is_plain (line.Step party) = true
 is_plain l = false
 
--- a well-formed line of that kind
+-- a line of that kind
 pub record IsPlain (l : Line) : Type 0 where
-  pub formed : IsWellFormed l
+  pub formed : IsLine l
   pub plain : is_plain l ≡ true
 
 -- each call that runs is of that kind

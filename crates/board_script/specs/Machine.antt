@@ -10,15 +10,16 @@ use Rattle.board_model.specs.declared.value.ValueType.{ValueType}
 use Rattle.board_model.specs.TypeTable.{value_type_of, value_words}
 use Rattle.board_model.specs.Tables.{Tables}
 use Rattle.board_model.specs.Things.{Kept}
-use Rattle.board_model.specs.Requests.{Fetch, Look, Publication, Request, TableCall, create, describe, entry, entry_mut, fresh, get, identify, join, list_keys, list_nodes, reader, table, tell, update, writer}
+use Rattle.board_model.specs.Requests.{Fetch, Look, Publication, Request, create, describe, entry, entry_mut, fresh, get, identify, join, list_keys, list_nodes, reader, table, tell, update, writer}
 use Rattle.board_model.specs.Parties.{Party, Running, free, gone, reading, running}
 use Rattle.board_model.specs.AnswerGrammar.{answer_line}
-use Rattle.board_model.specs.LineGrammar.{IsWellFormed}
+use Rattle.board_model.specs.LineGrammar.{IsLine}
 use Rattle.board_model.specs.LawsOfBounds.{AreNumbers, IsWithin}
 use Rattle.board_model.specs.LawsOfForms.{AreFormed}
 use Rattle.board_model.specs.LawfulSession.{IsRight, State, after}
 use Rattle.board_model.specs.Sound.{Sound}
 use Rattle.board_cell.specs.Calls.{Asking, Getting, Updating}
+use Rattle.board_script.specs.Loans.{IsDiscardTask, IsFillTask, IsLoanTask, IsPublishTask, IsPutTask, lent_words}
 use Rattle.board_script.specs.declared.machine.KeptValue.{KeptValue}
 use Rattle.board_script.specs.declared.machine.Machine.{Machine}
 use Rattle.board_script.specs.declared.machine.PartyRow.{PartyRow}
@@ -32,19 +33,21 @@ use Rattle.board_script.specs.declared.machine.TableTask.TheVariants as table_ta
 abbrev pub is_row_of : List ℕ → PartyRow → Bool
 is_row_of party row = bytes_eq party row.name
 
--- the call that a task on the tables is
-abbrev pub call_of : TableTask → TableCall
-call_of (table_task.Create f n k l attributes entries) = create f n k l attributes entries
-call_of (table_task.Open f n k l needs) = join f n k l needs
-call_of (table_task.Reader n x) = reader n x
-call_of (table_task.Writer n x) = writer n x
-call_of (table_task.Entry n x k type) = entry n x k type
-call_of (table_task.EntryMut n x k type) = entry_mut n x k type
-call_of (table_task.Keys x) = list_keys x
-call_of (table_task.Nodes x) = list_nodes x
-call_of (table_task.Info x) = describe x
-call_of (table_task.Id x) = identify x
-call_of (table_task.Gen x) = tell x
+-- the call of a task on the tables is this request
+abbrev pub IsTableTask : TableTask → Request → Type 0
+IsTableTask (table_task.Create f n k l attributes entries) q = q ≡ table (create f n k l attributes entries)
+IsTableTask (table_task.Open f n k l needs) q = q ≡ table (join f n k l needs)
+IsTableTask (table_task.Reader n x) q = q ≡ table (reader n x)
+IsTableTask (table_task.Writer n x) q = q ≡ table (writer n x)
+IsTableTask (table_task.Entry n x k type) q = q ≡ table (entry n x k type)
+IsTableTask (table_task.EntryMut n x k type) q = q ≡ table (entry_mut n x k type)
+IsTableTask (table_task.Loan handle loan words) q = IsLoanTask handle loan words q
+IsTableTask (table_task.Discard loan handle) q = IsDiscardTask loan handle q
+IsTableTask (table_task.Keys x) q = q ≡ table (list_keys x)
+IsTableTask (table_task.Nodes x) q = q ≡ table (list_nodes x)
+IsTableTask (table_task.Info x) q = q ≡ table (describe x)
+IsTableTask (table_task.Id x) q = q ≡ table (identify x)
+IsTableTask (table_task.Gen x) q = q ≡ table (tell x)
 
 -- a get after these accesses
 abbrev pub getting : Fetch → List Access → Getting
@@ -82,10 +85,13 @@ pub record IsUpdate (board : ℕ) (call : Updating) (q : Request) (k : ℕ) : Ty
 
 -- the task is what a call has still to do after these accesses
 abbrev pub IsTaskOf : Task → Request → List Access → Type 0
-IsTaskOf (task.Table t) q so_far = q ≡ table (call_of t)
+IsTaskOf (task.Table t) q so_far = IsTableTask t q
 IsTaskOf (task.Get board call type name) q so_far = IsGet board call type name q so_far
 IsTaskOf (task.Fresh board call) q so_far = IsFresh board call q
 IsTaskOf (task.Update board call) q so_far = IsUpdate board call q (length so_far)
+IsTaskOf (task.Put board call loan index word) q so_far = IsPutTask board call loan index word q
+IsTaskOf (task.Publish board call loan handle) q so_far = IsPublishTask board call loan handle q
+IsTaskOf (task.Fill board call loan handle) q so_far = IsFillTask board call loan handle q (length so_far)
 IsTaskOf task.Gone q so_far = ⊥
 
 -- the one row of a party whose call runs
@@ -137,7 +143,7 @@ pub record Represents (m : Machine) (s : State) : Type 0 where
   pub tables : s.standing.tables ≡ tables_of m
   pub words : m.words.items ≡ words_of s.memory m.boards.items
   pub parties : (p : List ℕ) → AreRowsOf (filter (is_row_of p) m.parties.items) (s.parties p)
-  pub loans : (p n : List ℕ) → s.standing.loans p n ≡ None
+  pub loans : (p n : List ℕ) → s.standing.loans p n ≡ lent_words m.loans.items p n
   pub values : (p n : List ℕ) → s.standing.values p n ≡ kept m.values.items p n
 
 -- what holds of a state that a lawful session of fewer than 2^63 pairs led to
@@ -157,7 +163,7 @@ pub record IsLed (m : Machine) : Type 0 where
 
 -- the answer is right after each state that the machine stood for, and the machine stands for what follows
 abbrev pub Serves : Machine → Machine → Line → Answer → Type 0
-Serves old new l a = (s : State) → Represents old s → IsReached s → IsWellFormed l → IsRight s l a × Represents new (after s l a)
+Serves old new l a = (s : State) → Represents old s → IsReached s → IsLine l → IsRight s l a × Represents new (after s l a)
 
 -- the text is the line of an answer that is right after each state that the machine stood for, and the machine stands for what follows
 pub record IsTelling (new : Machine) (s : State) (l : Line) (text : List ℕ) : Type 0 where

@@ -5,12 +5,15 @@ use Rattle.board_model.specs.declared.answer.Reply.{Reply}
 use Rattle.board_model.specs.declared.answer.Reply.TheVariants as reply
 use Rattle.board_model.specs.declared.tables.Entry.{Entry}
 use Rattle.board_model.specs.declared.value.ValueType.{ValueType}
-use Rattle.board_model.specs.OwedAccesses.{hear, is_finished, owed_read, owed_write, to_read, to_write}
+use Rattle.board_model.specs.Copies.{spare_at}
+use Rattle.board_model.specs.OwedAccesses.{Owed, hear, is_finished, owed_read, owed_write, to_read, to_write}
 use Rattle.board_model.specs.Tables.{entry_at, entry_of, is_numbered}
 use Rattle.board_model.specs.Things.{Held, thing_of}
 use Rattle.board_model.specs.Replies.{id_number, info_of, nodes_of, released_thing}
 use Rattle.board_cell.specs.Calls.{Getting, Updating, counter_of}
 use Rattle.board_cell.specs.Calls as cells
+use Rattle.board_cell.specs.declared.access.Access.{Access}
+use Rattle.board_cell.specs.declared.access.Access.TheVariants as access
 use Rattle.board_script.specs.declared.machine.KeptValue.{KeptValue}
 use Rattle.board_script.specs.declared.machine.Machine.{Machine}
 use Rattle.board_script.specs.declared.machine.PartyRow.{PartyRow}
@@ -21,6 +24,8 @@ use Rattle.board_script.specs.declared.machine.Task.TheVariants as task
 use Rattle.board_script.specs.declared.step.OwedAccess.{OwedAccess}
 use Rattle.board_script.specs.declared.step.OwedAccess.TheVariants as owed
 use Rattle.board_script.specs.declared.step.OwedWrite.{OwedWrite}
+use Rattle.board_script.specs.LoanCalls.{IsGivenBack, IsLoaned}
+use Rattle.board_script.specs.Loans.{is_lent_as, lent_words}
 use Rattle.board_script.specs.Overview.{keys_shown, standing_with}
 use Rattle.board_script.specs.Machine.{is_kept_as, is_row_of, tables_of, words_of}
 use Rattle.board_script.specs.TableCalls.{IsCreate, IsEntry, IsEntryMut, IsOpen, IsReader, IsWriter}
@@ -32,6 +37,9 @@ is_gone (task.Table t) = false
 is_gone (task.Get board call type name) = false
 is_gone (task.Fresh board call) = false
 is_gone (task.Update board call) = false
+is_gone (task.Put board call loan index word) = false
+is_gone (task.Publish board call loan handle) = false
+is_gone (task.Fill board call loan handle) = false
 is_gone task.Gone = true
 
 -- the call owes an access
@@ -40,13 +48,27 @@ CanGoOn (task.Table t) = Unit {0}
 CanGoOn (task.Get board call type name) = is_finished call.reading ≡ false
 CanGoOn (task.Fresh board call) = call.counter ≡ None
 CanGoOn (task.Update board call) = call.written ≤ length call.words
+CanGoOn (task.Put board call loan index word) = call.done ≡ false
+CanGoOn (task.Publish board call loan handle) = call.done ≡ false
+CanGoOn (task.Fill board call loan handle) = call.written ≤ length call.words
 CanGoOn task.Gone = ⊥
 
--- the write is the one that the update owes
+-- the write is the one that a publication of words owes
 pub record IsOwedWrite (board : ℕ) (call : Updating) (w : OwedWrite) : Type 0 where
   pub board_is : w.board ≡ board
   pub access : to_write w.board w.word w.value ≡ owed_write board call.shape call.generation call.words call.written
   pub last : w.is_last ≡ (call.written == length call.words)
+
+-- the access is a write
+abbrev pub IsWrite : Access → Type 0
+IsWrite (access.Read word) = ⊥
+IsWrite (access.Write word value) = Unit {0}
+
+-- the write is the one that a call of one write owes
+pub record IsOnlyWrite (board : ℕ) (owes : Owed) (w : OwedWrite) : Type 0 where
+  pub board_is : w.board ≡ board
+  pub access : to_write w.board w.word w.value ≡ owes
+  pub last : w.is_last ≡ true
 
 -- the call owes this access
 abbrev pub IsOwedBy : Task → OwedAccess → Type 0
@@ -54,6 +76,9 @@ IsOwedBy (task.Table t) owed.Table = Unit {0}
 IsOwedBy (task.Get board call type name) (owed.Read r) = to_read r.board r.word ≡ owed_read board call.shape call.reading
 IsOwedBy (task.Fresh board call) (owed.Read r) = to_read r.board r.word ≡ to_read board call.shape.first
 IsOwedBy (task.Update board call) (owed.Write w) = IsOwedWrite board call w
+IsOwedBy (task.Put board call loan index word) (owed.Write w) = IsOnlyWrite board (to_write board (spare_at call.shape call.generation + call.index) call.word) w
+IsOwedBy (task.Publish board call loan handle) (owed.Write w) = IsOnlyWrite board (to_write board call.shape.first (call.generation + 1)) w
+IsOwedBy (task.Fill board call loan handle) (owed.Write w) = IsOwedWrite board call w
 IsOwedBy t o = ⊥
 
 -- the party's row stands here, and its call owes this access
@@ -66,12 +91,16 @@ abbrev pub ticked : Task → ℕ → Task
 ticked (task.Get board call type name) v = task.Get board (record call { reading = hear call.shape.words call.reading v }) type name
 ticked (task.Fresh board call) v = task.Fresh board (record call { counter = Some v })
 ticked (task.Update board call) v = task.Update board (record call { written = call.written + 1 })
+ticked (task.Put board call loan index word) v = task.Put board (record call { done = true }) loan index word
+ticked (task.Publish board call loan handle) v = task.Publish board (record call { done = true }) loan handle
+ticked (task.Fill board call loan handle) v = task.Fill board (record call { written = call.written + 1 }) loan handle
 ticked t v = t
 
 -- the access is the last of its call
 abbrev pub is_last : Task → ℕ → Bool
 is_last (task.Get board call type name) v = is_finished (hear call.shape.words call.reading v)
 is_last (task.Update board call) v = call.written == length call.words
+is_last (task.Fill board call loan handle) v = call.written == length call.words
 is_last t v = true
 
 -- ---- words
@@ -89,6 +118,7 @@ pub record IsSame (old new : Machine) : Type 0 where
   pub words : new.words.items ≡ old.words.items
   pub parties : new.parties.items ≡ old.parties.items
   pub values : new.values.items ≡ old.values.items
+  pub loans : new.loans.items ≡ old.loans.items
   pub spent : new.spent ≡ old.spent
 
 -- one word of the board's words is set
@@ -96,6 +126,7 @@ pub record IsStored (old new : Machine) (board word value : ℕ) : Type 0 where
   pub tables : tables_of new ≡ tables_of old
   pub parties : new.parties.items ≡ old.parties.items
   pub values : new.values.items ≡ old.values.items
+  pub loans : new.loans.items ≡ old.loans.items
   pub spent : new.spent ≡ old.spent
   pub words : (place : ℕ) (d : List ℕ) → Some place ≡ position_from (is_numbered board) 0 old.boards.items
       → new.words.items ≡ slice_set old.words.items place (slice_set (slice_index_or old.words.items place d) word value)
@@ -120,19 +151,21 @@ IsCounter m board i g = (place : ℕ) (e : Entry) (d : List ℕ) → Some place 
 
 -- ---- calls on the tables
 
--- a number can be drawn for what the call makes, and what it reads stands
-abbrev pub CanRun : Machine → TableTask → Type 0
-CanRun m (table_task.Create f n k l attributes entries) = m.last_board + 1 < 2 ^ 64
-CanRun m (table_task.Open f n k l needs) = Unit {0}
-CanRun m (table_task.Reader n x) = m.last_port + 1 < 2 ^ 64
-CanRun m (table_task.Writer n x) = m.last_port + 1 < 2 ^ 64
-CanRun m (table_task.Entry n x k type) = Unit {0}
-CanRun m (table_task.EntryMut n x k type) = Unit {0}
-CanRun m (table_task.Keys x) = Unit {0}
-CanRun m (table_task.Nodes x) = Unit {0}
-CanRun m (table_task.Info x) = is_some (find (is_numbered x.board) m.boards.items) ≡ true
-CanRun m (table_task.Id x) = Unit {0}
-CanRun m (table_task.Gen x) = HasCounter m x.board (entry_of x.kind)
+-- a number can be drawn for what the call makes, no loan has the name of a new one, and what is read stands
+abbrev pub CanRun : Machine → List ℕ → TableTask → Type 0
+CanRun m party (table_task.Create f n k l attributes entries) = m.last_board + 1 < 2 ^ 64
+CanRun m party (table_task.Open f n k l needs) = Unit {0}
+CanRun m party (table_task.Reader n x) = m.last_port + 1 < 2 ^ 64
+CanRun m party (table_task.Writer n x) = m.last_port + 1 < 2 ^ 64
+CanRun m party (table_task.Entry n x k type) = Unit {0}
+CanRun m party (table_task.EntryMut n x k type) = Unit {0}
+CanRun m party (table_task.Loan handle loan words) = lent_words m.loans.items party loan ≡ None
+CanRun m party (table_task.Discard loan handle) = Unit {0}
+CanRun m party (table_task.Keys x) = Unit {0}
+CanRun m party (table_task.Nodes x) = Unit {0}
+CanRun m party (table_task.Info x) = is_some (find (is_numbered x.board) m.boards.items) ≡ true
+CanRun m party (table_task.Id x) = Unit {0}
+CanRun m party (table_task.Gen x) = HasCounter m x.board (entry_of x.kind)
 
 -- the counter is told, and nothing changes
 pub record IsGen (old new : Machine) (x : Held) (told : Reply) : Type 0 where
@@ -154,6 +187,8 @@ IsTold old new party (table_task.Reader n x) told = IsReader old new n x told
 IsTold old new party (table_task.Writer n x) told = IsWriter old new n x told
 IsTold old new party (table_task.Entry n x k type) told = IsEntry old new n x k type told
 IsTold old new party (table_task.EntryMut n x k type) told = IsEntryMut old new n x k type told
+IsTold old new party (table_task.Loan handle loan words) told = (told ≡ reply.Done) × IsLoaned old new party handle loan words
+IsTold old new party (table_task.Discard loan handle) told = (told ≡ reply.Done) × IsGivenBack old new party loan handle
 IsTold old new party (table_task.Keys x) told = IsShown old new (reply.Keys (keys_shown (find (is_numbered x.board) old.boards.items))) told
 IsTold old new party (table_task.Nodes x) told = IsShown old new (reply.Nodes (nodes_of x.board old.things.items)) told
 IsTold old new party (table_task.Info x) told = IsShown old new (reply.Info (info_of old.things.items (find (is_numbered x.board) old.boards.items))) told
@@ -168,6 +203,7 @@ pub record IsReleased (old new : Machine) (party name : List ℕ) : Type 0 where
   -- the words of the boards that are left
   pub words : (f : ℕ → List ℕ) → old.words.items ≡ words_of f old.boards.items → new.words.items ≡ words_of f new.boards.items
   pub values : new.values.items ≡ filter (λ v. not (is_kept_as party name v)) old.values.items
+  pub loans : new.loans.items ≡ filter (λ x. not (is_lent_as party name x)) old.loans.items
   pub parties : new.parties.items ≡ old.parties.items
   pub spent : new.spent ≡ old.spent
 
@@ -202,4 +238,5 @@ pub record IsReadTold (old new : Machine) (party : List ℕ) (t : Task) (told : 
   pub tables : tables_of new ≡ tables_of old
   pub words : new.words.items ≡ old.words.items
   pub parties : new.parties.items ≡ old.parties.items
+  pub loans : new.loans.items ≡ old.loans.items
   pub spent : new.spent ≡ old.spent

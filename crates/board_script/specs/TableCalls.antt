@@ -26,6 +26,7 @@ pub record IsAsked {E : Type 0} (old new : Machine) (error : E → Reply) (asked
   pub words : new.words.items ≡ old.words.items
   pub parties : new.parties.items ≡ old.parties.items
   pub values : new.values.items ≡ old.values.items
+  pub loans : new.loans.items ≡ old.loans.items
   pub spent : new.spent ≡ old.spent
 
 abbrev pub IsOpen : Machine → Machine → List ℕ → List ℕ → List ℕ → KeyType → Limits → Requirements → Reply → Type 0
@@ -57,4 +58,5 @@ pub record IsCreate (old new : Machine) (party factory name : List ℕ) (k : Key
   pub words : new.words.items ≡ words_with old.words.items entries told
   pub parties : new.parties.items ≡ old.parties.items
   pub values : new.values.items ≡ old.values.items
+  pub loans : new.loans.items ≡ old.loans.items
   pub spent : new.spent ≡ old.spent

@@ -7,8 +7,10 @@ ghost use Rattle.board_model.specs.Things as held;
 ghost use Rattle.board_model.specs.declared.line.Call.TheVariants as call;
 ghost use Rattle.board_model.specs.declared.line.Line.TheVariants as line;
 ghost use Rattle.board_script.specs.Machine.{IsLed, Serves, kept, tables_of};
-ghost use Rattle.board_script.specs.Begins.{Checks, IsHandle, holds, holds_any, serves_call};
+ghost use Rattle.board_script.specs.Begins.{Checks, IsHandle, handle_held, has_id, holds, holds_any};
+ghost use Rattle.board_script.specs.Loans.{lent_words};
 
+use crate::loans::words_lent;
 use crate::lookups::{
     board_at, entry_at, entry_of, held_of_kind, place_of_party, thing_of, value_of,
 };
@@ -49,14 +51,25 @@ fn is_key_of(number: u64, key: &Key, boards: &[Board]) -> bool
     }
 }
 
-// Where the words of an entry lie.
-fn shape_of(entry: &Entry) -> CellShape
+/// Where the words of an entry lie.
+pub(crate) fn shape_of(entry: &Entry) -> CellShape
     ensures { result ≡ held.cell_shape entry.now.cell }
 {
     CellShape {
         first: entry.cell.first,
         head: entry.cell.head,
         words: entry.cell.words,
+    }
+}
+
+// Whether a thing of this kind has an id. A factory has none, nor has a loan.
+fn has_id(kind: &Kind, is_lent: bool) -> bool
+    ensures { result ≡ has_id kind.now is_lent }
+{
+    match kind {
+        Kind::Factory => false,
+        Kind::WriteHandle { entry: _, port: _ } => !is_lent,
+        _ => true,
     }
 }
 
@@ -79,8 +92,25 @@ impl Machine {
         }
     }
 
-    // The entry of a handle that a party holds.
-    fn entry_held(&self, handle: &Held) -> &Entry
+    // Whether the party has a loan of this name.
+    fn is_lent(&self, party: &Name, name: &Name) -> bool
+        ensures { result ≡ is_some (lent_words self.now.loans.items party.now name.now) }
+    {
+        words_lent(party, name, &self.loans).is_some()
+    }
+
+    /// The write handle that a party holds under a name, where it isn't lent.
+    pub(crate) fn handle_held(&self, party: &Name, name: &Name) -> Option<Held>
+        ensures { result ≡ handle_held self.now party.now name.now }
+    {
+        if self.is_lent(party, name) {
+            return None;
+        }
+        held_of_kind(ThingKind::WriteHandle, party, name, &self.things)
+    }
+
+    /// The entry of a handle that a party holds.
+    pub(crate) fn entry_held(&self, handle: &Held) -> &Entry
         requires led { IsLed self.now }
         requires held { IsHandle self.now handle.now }
         ensures { tables.entry_at (tables_of self.now) handle.now.board (tables.entry_of handle.now.kind) ≡ Some result.now }
@@ -276,7 +306,7 @@ impl Machine {
         requires { IsLed self.now }
         ensures { IfOk result (Checks self.now party.now (call.Update handle.now value)) }
     {
-        let Some(found) = held_of_kind(ThingKind::WriteHandle, party, handle, &self.things) else {
+        let Some(found) = self.handle_held(party, handle) else {
             return Ok(Checked::Refused(Reason::Unknown));
         };
         let entry = self.entry_held(&found);
@@ -322,18 +352,19 @@ impl Machine {
     fn check_id(&self, party: &Name, name: &Name) -> Checked
         ensures { Checks self.now party.now (call.Id name.now) result }
     {
-        match thing_of(party, name, &self.things) {
-            Some(thing) if thing.kind != Kind::Factory => {
-                Checked::Accepted(Task::Table(TableTask::Id { thing: *thing }))
-            }
-            _ => Checked::Refused(Reason::Unknown),
+        let Some(thing) = thing_of(party, name, &self.things) else {
+            return Checked::Refused(Reason::Unknown);
+        };
+        if !has_id(&thing.kind, self.is_lent(party, name)) {
+            return Checked::Refused(Reason::Unknown);
         }
+        Checked::Accepted(Task::Table(TableTask::Id { thing: *thing }))
     }
 
     fn check_gen(&self, party: &Name, handle: &Name) -> Checked
         ensures { Checks self.now party.now (call.Gen handle.now) result }
     {
-        match held_of_kind(ThingKind::WriteHandle, party, handle, &self.things) {
+        match self.handle_held(party, handle) {
             Some(handle) => Checked::Accepted(Task::Table(TableTask::Gen { handle })),
             None => Checked::Refused(Reason::Unknown),
         }
@@ -341,8 +372,7 @@ impl Machine {
 
     // Whether the call may begin.
     fn check(&self, party: &Name, call: Call) -> Result<Checked, AllocError>
-        requires led { IsLed self.now }
-        requires served { serves_call call ≡ true }
+        requires { IsLed self.now }
         ensures { IfOk result (Checks self.now party.now call) }
     {
         match call {
@@ -378,19 +408,26 @@ impl Machine {
             Call::Get { handle, value } => self.check_get(party, &handle, value),
             Call::Fresh { handle, value } => Ok(self.check_fresh(party, &handle, &value)),
             Call::Update { handle, value } => self.check_update(party, &handle, value),
+            Call::Loan { loan, handle } => Ok(self.check_loan(party, loan, &handle)),
+            Call::Discard { loan, handle } => Ok(self.check_discard(party, loan, handle)),
+            Call::Put { loan, index, word } => Ok(self.check_put(party, loan, index, word)),
+            Call::Publish { loan, handle } => Ok(self.check_publish(party, loan, handle)),
+            Call::Fill {
+                loan,
+                handle,
+                value,
+            } => self.check_fill(party, loan, handle, value),
             Call::Keys { factory } => Ok(self.check_keys(party, &factory)),
             Call::Nodes { factory } => Ok(self.check_nodes(party, &factory)),
             Call::Info { factory } => Ok(self.check_info(party, &factory)),
             Call::Id { thing } => Ok(self.check_id(party, &thing)),
             Call::Gen { handle } => Ok(self.check_gen(party, &handle)),
-            _ => unreachable!(),
         }
     }
 
     /// A line `begin P CALL`.
     pub(crate) fn begin(&mut self, party: Name, call: Call) -> Result<Answer, AllocError>
-        requires led { IsLed self.old }
-        requires served { serves_call call ≡ true }
+        requires { IsLed self.old }
         ensures { IfOk result (λ a. Serves self.old self.new (line.Begin party call) a) }
     {
         if let Some(at) = place_of_party(&party, &self.parties) {

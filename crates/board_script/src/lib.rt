@@ -8,6 +8,7 @@ mod create;
 mod generator;
 mod generator_laws;
 mod line;
+mod loans;
 mod lookups;
 mod machine;
 mod open;

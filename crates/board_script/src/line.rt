@@ -3,7 +3,7 @@ ghost use Rattle.std.specs.Prelude.{◌≡◌, ◌++◌, ◌<◌, ◌^◌, [], t
 ghost use Rattle.std.specs.List.{AllByRecursion};
 ghost use Rattle.board_model.specs.LawfulSession.{Session, State, start};
 ghost use Rattle.board_model.specs.AnswerGrammar.{answer_line};
-ghost use Rattle.board_model.specs.LineGrammar.{IsNumber, IsWellFormed, runs};
+ghost use Rattle.board_model.specs.LineGrammar.{IsNumber, IsLine};
 ghost use Rattle.board_model.specs.declared.answer.Answer.TheVariants as answer;
 ghost use Rattle.board_model.specs.Tables as tables;
 ghost use Rattle.board_lines.specs.Runs.{HasAnswered, SpellsNone, StandsFor};
@@ -37,6 +37,7 @@ impl Machine {
             last_port: 0,
             parties: Vec::new(alloc),
             values: Vec::new(alloc),
+            loans: Vec::new(alloc),
             spent: false,
         }
     }
@@ -64,8 +65,7 @@ impl Machine {
     // Answers a line of the grammar.
     fn answer(&mut self, line: Line, out: &mut Vec<u8>) -> Result<(), AllocError>
         requires led { IsLed self.old }
-        requires line { IsWellFormed line }
-        requires runs { runs line ≡ true }
+        requires line { IsLine line }
         requires empty { out.old.items ≡ [] }
         ensures { OnOk result (Tells self.old self.new line out.new.items) }
     {
@@ -95,8 +95,9 @@ impl Machine {
 
     /// Answers a line: `answer` then has the answer and its newline, and nothing else.
     ///
-    /// It is `Bad` exactly where the line is outside the grammar, and then nothing changes. After `OutOfMemory` the
-    /// machine is spent. On both `answer` is empty.
+    /// # Errors
+    /// `Bad` exactly where the line is outside the grammar, and then nothing changes. After `OutOfMemory` the machine is
+    /// spent. On both `answer` is empty.
     pub fn line(&mut self, line: &[u8], answer: &mut Vec<u8>) -> Result<(), LineError>
         // The machine isn't spent, and it stands for a lawful session of fewer than 2^63 lines.
         requires { (session : Session) × StandsFor Represents self.old session }

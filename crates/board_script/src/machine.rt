@@ -1,5 +1,5 @@
 //! The machine: the tables, the words of each board, and the calls that run.
-use board_cell::{FreshCall, GetCall, PlainWords, UpdateCall};
+use board_cell::{FreshCall, GetCall, PlainWords, PublishCall, PutCall, UpdateCall};
 use board_model::{
     AddedEntries, Attributes, Board, BoardName, Key, KeyType, Limits, Name, Requirements, Thing,
     ValueType, Words,
@@ -47,6 +47,16 @@ pub(crate) enum TableTask {
         key: Key,
         value_type: ValueType,
     },
+    /// The write handle becomes a loan of so many words.
+    Loan {
+        handle: Name,
+        loan: Name,
+        words: u64,
+    },
+    Discard {
+        loan: Name,
+        handle: Name,
+    },
     Keys {
         factory: Held,
     },
@@ -83,6 +93,26 @@ pub(crate) enum Task {
         board: u64,
         call: UpdateCall,
     },
+    Put {
+        board: u64,
+        call: PutCall,
+        loan: Name,
+        index: u64,
+        word: u64,
+    },
+    /// The loan becomes a write handle under the name.
+    Publish {
+        board: u64,
+        call: PublishCall,
+        loan: Name,
+        handle: Name,
+    },
+    Fill {
+        board: u64,
+        call: UpdateCall,
+        loan: Name,
+        handle: Name,
+    },
     /// Nothing, ever: the party was abandoned.
     Gone,
 }
@@ -104,6 +134,14 @@ pub(crate) struct KeptValue {
     pub(crate) generation: u64,
 }
 
+/// A loan of a party: it is a write handle under the name, with the words that were put.
+#[derive(Drop, Debug)]
+pub(crate) struct Lent {
+    pub(crate) party: Name,
+    pub(crate) name: Name,
+    pub(crate) words: Vec<Option<u64>>,
+}
+
 /// Runs the lines of one script, one after another.
 #[derive(Drop, Debug)]
 pub struct Machine {
@@ -117,5 +155,6 @@ pub struct Machine {
     /// The parties that run a call or are gone, each once.
     pub(crate) parties: Vec<PartyRow>,
     pub(crate) values: Vec<KeptValue>,
+    pub(crate) loans: Vec<Lent>,
     pub(crate) spent: bool,
 }

@@ -7,6 +7,7 @@ ghost use Rattle.board_model.specs.declared.line.Line.TheVariants as line;
 ghost use Rattle.board_script.specs.Machine.{IsLed, Serves, is_kept_as, words_of};
 ghost use Rattle.board_script.specs.Steps.{IsReleased};
 
+use crate::loans::forget_loan;
 use crate::lookups::{place_of_board, place_of_party, place_of_thing};
 use crate::machine::{Held, KeptValue, Machine};
 use board_cell::PlainWords;
@@ -56,6 +57,7 @@ impl Machine {
         ensures { IsReleased self.old self.new party.now name.now }
     {
         forget_values(party, name, &mut self.values);
+        forget_loan(party, name, &mut self.loans);
         if let Some(gone) = take_thing(party, name, &mut self.things) {
             if !has_thing(gone.board, &self.things) {
                 take_board(gone.board, &mut self.boards, &mut self.words);

@@ -1,18 +1,18 @@
 //! Lines `step P`.
 ghost use Rattle.std.specs.Prelude.{◌≡◌, ◌+◌, ◌<◌, ◌≤◌, ◌^◌, ◌==◌, IfOk, length, slice_set, slice_index_or};
 ghost use Rattle.std.specs.List.{remove};
-ghost use Rattle.board_cell.specs.Calls.{progress_of};
+ghost use Rattle.board_cell.specs.Calls.{progress_of, told};
 ghost use Rattle.board_model.specs.AnswerGrammar.{IsReply};
 ghost use Rattle.board_model.specs.declared.line.Line.TheVariants as line;
 ghost use Rattle.board_script.specs.Machine.{IsLed, Serves};
 ghost use Rattle.board_script.specs.Steps as steps;
-ghost use Rattle.board_script.specs.Steps.{CanGoOn, CanRun, HasCounter, HasRead, HasWord, IsCounter, IsLoaded, IsOwedBy, IsReadTold, IsSame, IsStored, IsTold, OwesAt, ticked};
+ghost use Rattle.board_script.specs.Steps.{CanGoOn, CanRun, HasCounter, HasRead, HasWord, IsCounter, IsLoaded, IsOnlyWrite, IsOwedBy, IsOwedWrite, IsReadTold, IsSame, IsStored, IsTold, IsWrite, OwesAt, ticked};
 ghost use Rattle.board_script.specs.declared.step.OwedAccess.TheVariants as owed;
 
 use crate::lookups::{board_at, entry_at, entry_of, place_of_board, place_of_party};
 use crate::machine::{KeptValue, Machine, PartyRow, TableTask, Task};
 use crate::overview::{info_of, keys_at, nodes_at};
-use board_cell::{Access as CellAccess, Progress, Words as CellWords};
+use board_cell::{Access as CellAccess, Progress, UpdateCall, Words as CellWords};
 use board_model::{Access, Answer, Name, Reason, Reply, Words};
 use std::alloc::AllocError;
 
@@ -23,7 +23,7 @@ pub(crate) struct OwedRead {
     pub(crate) word: u64,
 }
 
-/// The write that an update owes, and whether it is its last.
+/// The write that a call owes, and whether it is its last.
 #[derive(Clone, Copy, Debug, PartialEq, Eq)]
 pub(crate) struct OwedWrite {
     pub(crate) board: u64,
@@ -38,6 +38,38 @@ pub(crate) enum OwedAccess {
     Table,
     Read(OwedRead),
     Write(OwedWrite),
+}
+
+// The write that a publication of words owes.
+fn write_of(board: u64, call: &UpdateCall) -> OwedWrite
+    requires { call.now.written ≤ length call.now.words }
+    ensures { IsOwedWrite board call.now result }
+{
+    match call.next() {
+        CellAccess::Write { word, value } => OwedWrite {
+            board,
+            word,
+            value,
+            is_last: !call.owes_word(),
+        },
+        CellAccess::Read { word: _ } => unreachable!(),
+    }
+}
+
+// The write of a call that has no other access.
+fn only_write_of(board: u64, access: CellAccess) -> OwedWrite
+    requires { IsWrite access }
+    ensures { IsOnlyWrite board (told board access) result }
+{
+    match access {
+        CellAccess::Write { word, value } => OwedWrite {
+            board,
+            word,
+            value,
+            is_last: true,
+        },
+        CellAccess::Read { word: _ } => unreachable!(),
+    }
 }
 
 impl Task {
@@ -77,15 +109,26 @@ impl Task {
                 }),
                 CellAccess::Write { word: _, value: _ } => unreachable!(),
             },
-            Task::Update { board, call } => match call.next() {
-                CellAccess::Write { word, value } => OwedAccess::Write(OwedWrite {
-                    board: *board,
-                    word,
-                    value,
-                    is_last: !call.owes_word(),
-                }),
-                CellAccess::Read { word: _ } => unreachable!(),
-            },
+            Task::Update { board, call } => OwedAccess::Write(write_of(*board, call)),
+            Task::Put {
+                board,
+                call,
+                loan: _,
+                index: _,
+                word: _,
+            } => OwedAccess::Write(only_write_of(*board, call.next())),
+            Task::Publish {
+                board,
+                call,
+                loan: _,
+                handle: _,
+            } => OwedAccess::Write(only_write_of(*board, call.next())),
+            Task::Fill {
+                board,
+                call,
+                loan: _,
+                handle: _,
+            } => OwedAccess::Write(write_of(*board, call)),
             Task::Gone => unreachable!(),
         }
     }
@@ -105,6 +148,25 @@ impl Task {
             } => call.took(word),
             Task::Fresh { board: _, call } => call.took(word),
             Task::Update { board: _, call } => call.took(word),
+            Task::Put {
+                board: _,
+                call,
+                loan: _,
+                index: _,
+                word: _,
+            } => call.took(word),
+            Task::Publish {
+                board: _,
+                call,
+                loan: _,
+                handle: _,
+            } => call.took(word),
+            Task::Fill {
+                board: _,
+                call,
+                loan: _,
+                handle: _,
+            } => call.took(word),
             _ => Progress::Done,
         }
     }
@@ -153,7 +215,7 @@ impl Machine {
 
     // The one step of a call on the tables.
     fn run_table(&mut self, party: Name, task: TableTask) -> Result<Reply, AllocError>
-        requires { CanRun self.old task }
+        requires { CanRun self.old party task }
         ensures { IfOk result (IsTold self.old self.new party task) }
     {
         match task {
@@ -186,6 +248,15 @@ impl Machine {
                 key,
                 value_type,
             } => self.make_write_handle(name, &writer, &key, value_type),
+            TableTask::Loan {
+                handle,
+                loan,
+                words,
+            } => self.lend(party, &handle, loan, words),
+            TableTask::Discard { loan, handle } => {
+                self.give_back(&party, &loan, &handle);
+                Ok(Reply::Done)
+            }
             TableTask::Keys { factory } => {
                 Ok(Reply::Keys(keys_at(self.alloc, factory.board, &self.boards)?))
             }
@@ -287,7 +358,7 @@ impl Machine {
         }
     }
 
-    // A step of an update.
+    // A step of a call that writes a word.
     fn step_write(&mut self, party: &Name, at: usize, write: OwedWrite) -> Answer
         requires led { IsLed self.old }
         requires owes { OwesAt self.old party.now at (owed.Write write) }
@@ -300,7 +371,8 @@ impl Machine {
             value: write.value,
         };
         if write.is_last {
-            let _ = self.parties.remove(at);
+            let PartyRow { name, task } = self.parties.remove(at);
+            self.settle(&name, task);
             Answer::Step {
                 access,
                 reply: Some(Reply::Done),

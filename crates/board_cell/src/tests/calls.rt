@@ -1,7 +1,7 @@
 //! The calls, each through its accesses, in a cell of two words that begins with word 4: its copies begin with words 6 and 8.
 use crate::{
     Access, CellShape, FreshCall, GetCall, Progress, PublishCall, PutCall, UpdateCall, Words,
-    run_get, run_update,
+    run_fresh, run_get, run_publish, run_put, run_update,
 };
 use std::test::*;
 
@@ -61,4 +61,23 @@ fn a_loan_puts_its_words_and_publishes(rt: HostRuntime) {
     let mut publish = PublishCall::new(SHAPE, 2);
     assert_eq!(rt; publish.next(), Access::Write { word: 4, value: 3 });
     assert_eq!(rt; publish.took(0), Progress::Done);
+}
+
+#[test]
+fn the_calls_of_one_access_run_to_their_ends(rt: HostRuntime) -> Result<(), Fail> {
+    let mut accesses = Vec::new(rt.alloc());
+    let mut put = PutCall::new(SHAPE, 3, 1, 9);
+    run_put(&mut put, &mut accesses)?;
+    let mut publish = PublishCall::new(SHAPE, 3);
+    run_publish(&mut publish, &mut accesses)?;
+    let mut fresh = FreshCall::new(SHAPE, 3);
+    assert_eq!(rt; run_fresh(&mut fresh, &[], &mut accesses)?, None);
+    assert_eq!(rt; run_fresh(&mut fresh, &[4, 3], &mut accesses)?, Some(false));
+    let expected = [
+        Access::Write { word: 9, value: 9 },
+        Access::Write { word: 4, value: 4 },
+        Access::Read { word: 4 },
+    ];
+    assert_eq!(rt; accesses.as_slice(), expected.as_slice());
+    Ok(())
 }

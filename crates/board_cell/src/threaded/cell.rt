@@ -45,7 +45,10 @@ fn opening(alloc: Global, words: &Vec<u64>) -> Result<Vec<u64>, AllocError>
 }
 
 impl ThreadedCell {
-    /// A cell of this value, with its writer's pass and a first reader's. The error is want of memory.
+    /// A cell of this value, with its writer's pass and a first reader's.
+    ///
+    /// # Errors
+    /// `OutOfMemory` where memory is refused.
     pub fn new(
         alloc: Global,
         words: &Vec<u64>,

@@ -24,6 +24,9 @@ fn read_behind<S: Source>(bytes: &mut [u8], from: usize, source: &mut S) -> Resu
 
 impl LineReader {
     /// A reader with nothing in hand. It takes its whole buffer, and no memory after that.
+    ///
+    /// # Errors
+    /// `OutOfMemory` where memory is refused.
     pub fn new(alloc: Global) -> Result<LineReader, LineError>
         ensures hand { IfOk result (λ reader. in_hand reader ≡ []) }
         ensures ended { IfOk result (λ reader. has_ended reader ≡ false) }

@@ -12,6 +12,9 @@ impl LineReader {
     ///
     /// The source is read only when the bytes in hand hold neither a newline nor 4097 bytes, and not again after it told
     /// its end. No memory is taken. A reader goes with one source: once that one has told its end, it stays there.
+    ///
+    /// # Errors
+    /// `Failed` where the source failed.
     pub fn next<S: Source>(&mut self, source: &mut S) -> Result<Fetched, Failed>
         requires one_source { IsTrue (has_ended self.old) → IsAtEnd (S.left source.old) }
 

@@ -28,6 +28,9 @@ impl MemorySink {
     /// A sink with room for so many bytes, which it takes first.
     ///
     /// It takes at most `piece` bytes a call, and 0 is no bound. The calls whose numbers `fails` lists, counted from 0, fail.
+    ///
+    /// # Errors
+    /// `OutOfMemory` where memory is refused.
     pub fn new(
         alloc: Global,
         room: usize,

@@ -107,7 +107,7 @@ fn a_run_stops_where_it_must(rt: HostRuntime) -> Result<(), Fail> {
             ..PLAIN
         },
         Trial {
-            script: b"step a\nbegin a loan l m\nbegin a gen m\n",
+            script: b"step a\nbegin a lend l m\nbegin a gen m\n",
             result: Err(ScriptError::BadLine(2)),
             written: b"refused idle\n",
             ..PLAIN

@@ -1,4 +1,4 @@
-use Rattle.std.proofs.Common.{◌≡◌, ℕ, ◌≤◌, List, length, Option}
+use Rattle.std.proofs.Common.{◌≡◌, ℕ, ◌≤◌, List, length, Option, subst}
 use Rattle.std.specs.Prelude.{Result, Ok, Err, IfOk, IfSome, IfNone}
 use Rattle.board_model.specs.declared.line.Line.{Line}
 use Rattle.board_model.specs.LineGrammar.{Spells}
@@ -15,7 +15,11 @@ only bytes (Ok o) e = is_only bytes o e
 only bytes (Err x) e = tt
 
 pub returns-clause-found : goal.returns-clause-found
-returns-clause-found c = found c.args.bytes.now c.line_of.result c.if-bytes-gt-MOST_BYTES.false c.line_of.ensures
+returns-clause-found c =
+    let read = subst (λ (ts : List (List ℕ)). IfOk c.line_of.result (λ o. o ≡ read_line ts)) c.between.ensures c.line_of.ensures in
+    found c.args.bytes.now c.line_of.result c.if-bytes-gt-MOST_BYTES.false read
 
 pub returns-clause-only : goal.returns-clause-only
-returns-clause-only c = only c.args.bytes.now c.line_of.result c.line_of.ensures
+returns-clause-only c =
+    let read = subst (λ (ts : List (List ℕ)). IfOk c.line_of.result (λ o. o ≡ read_line ts)) c.between.ensures c.line_of.ensures in
+    only c.args.bytes.now c.line_of.result read

@@ -5,4 +5,4 @@ use Rattle.board_ports.proofs.loan_core.LoanCore.is_filled.Given as goal
 
 -- all words were put where the rest of them were
 abbrev pub invariant-loop-word : goal.invariant-loop-word
-invariant-loop-word l = all_put (drop l.word-index l.fn.self.words) ≡ all_put l.fn.self.words
+invariant-loop-word g l = all_put (drop l.word-index l.fn.self.words) ≡ all_put l.fn.self.words

@@ -26,7 +26,7 @@ index_mut-requires c =
 pub returns-in_default : goal.returns-in_default
 returns-in_default c =
     let none : None ≡ position_from (is_row_of c.args.party) 0 c.args.self.now.parties.items = search rules in
-    λ s rep reached l. free_leaves c.args.self.now _ s rep c.args.party l refl refl refl refl (is_free c.args.self.now.parties.items s.parties rep.parties c.args.party none) c.in_ok-push.ensures.items
+    λ s rep reached l. free_leaves c.args.self.now _ s rep c.args.party l refl refl refl refl refl (is_free c.args.self.now.parties.items s.parties rep.parties c.args.party none) c.in_ok-push.ensures.items
 
 pub returns-then-is_gone : goal.returns-then-is_gone
 returns-then-is_gone c =
@@ -45,4 +45,4 @@ returns c =
     let same : y ≡ x = c.index_mut.ensures.value ∙ get_or-inside items c.in-Some.at y x first.inside ∙ sym c.index.ensures in
     let not_gone : is_gone y.task ≡ false = ap (λ (z : PartyRow). is_gone z.task) same ∙ g in
     λ s rep reached l.
-    running_leaves c.args.self.now _ s rep c.args.party l refl refl refl refl c.in-Some.at y (runs_at items s.parties rep.parties c.args.party c.in-Some.at y place c.index_mut.ensures.value not_gone) refl
+    running_leaves c.args.self.now _ s rep c.args.party l refl refl refl refl refl c.in-Some.at y (runs_at items s.parties rep.parties c.args.party c.in-Some.at y place c.index_mut.ensures.value not_gone) refl

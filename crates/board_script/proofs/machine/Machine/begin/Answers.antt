@@ -44,4 +44,4 @@ pub returns-in_ok-push-in-Accepted : goal.returns-in_ok-push-in-Accepted
 returns-in_ok-push-in-Accepted c =
     let none : None ≡ position_from (is_row_of c.args.party) 0 c.args.self.now.parties.items = search rules in
     λ s rep reached l.
-    begin_begun c.args.self.now _ s rep c.args.party c.args.call c.in-Accepted.task (is_free c.args.self.now.parties.items s.parties rep.parties c.args.party none) (subst (λ (x : Checked). IsChecked (call_reason s.standing c.args.party c.args.call (request_of s.standing s.published c.args.party c.args.call)) (request_of s.standing s.published c.args.party c.args.call) x) c.in-Accepted.is (c.in_ok-why.ensures s rep reached.sound)) refl refl refl refl c.in_ok-push-in-Accepted.ensures.items l
+    begin_begun c.args.self.now _ s rep c.args.party c.args.call c.in-Accepted.task (is_free c.args.self.now.parties.items s.parties rep.parties c.args.party none) (subst (λ (x : Checked). IsChecked (call_reason s.standing c.args.party c.args.call (request_of s.standing s.published c.args.party c.args.call)) (request_of s.standing s.published c.args.party c.args.call) x) c.in-Accepted.is (c.in_ok-why.ensures s rep reached.sound)) refl refl refl refl refl c.in_ok-push-in-Accepted.ensures.items l

@@ -15,6 +15,7 @@ returns-in_default c =
       tables = ap (λ (ts : List Held). record (tables_of m) { things = ts }) c.in_default.ensures.same ∙ ap (released_thing (tables_of m) c.args.party.now c.args.name.now) (sym none);
       words = λ f same. same;
       values = c.forget_values.ensures;
+      loans = c.forget_loan.ensures;
       parties = refl;
       spent = refl;
     }

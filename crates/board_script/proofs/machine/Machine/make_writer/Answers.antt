@@ -19,6 +19,7 @@ returns-then-has_writer c =
       words = refl;
       parties = refl;
       values = refl;
+      loans = refl;
       spent = refl;
     }
 
@@ -32,5 +33,6 @@ returns c =
       words = refl;
       parties = refl;
       values = refl;
+      loans = refl;
       spent = refl;
     }

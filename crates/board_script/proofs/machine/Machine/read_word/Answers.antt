@@ -10,5 +10,6 @@ returns-clause-same c =
       words = ap (λ (ws : List ℕ). set words c.in-Some.place ws) c.load.ensures.same ∙ set-same words c.in-Some.place c.index_mut.result.now c.index_mut.ensures.value;
       parties = refl;
       values = refl;
+      loans = refl;
       spent = refl;
     }

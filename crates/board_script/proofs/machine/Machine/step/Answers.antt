@@ -6,7 +6,7 @@ use Rattle.board_script.specs.Steps.{is_gone}
 use Rattle.board_script.proofs.OwedRows.{owes_at}
 use Rattle.board_script.proofs.PartyRows.{gone_at, is_free, runs_at}
 use Rattle.board_script.proofs.Rows.{first_at}
-use Rattle.board_script.proofs.UpdateSteps.{row_goes_on}
+use Rattle.board_script.proofs.OwedWords.{row_goes_on}
 use Rattle.board_script.proofs.StepRefusals.{step_gone, step_idle}
 use Rattle.board_script.proofs.machine.Machine.step.Goals as goal
 

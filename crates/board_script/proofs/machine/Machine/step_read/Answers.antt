@@ -7,7 +7,7 @@ use Rattle.board_script.specs.Steps.{CanGoOn, IsReadTold, is_last, ticked}
 use Rattle.board_script.proofs.OwedRows.{done_is, more_is, owed_row, row_inside, row_is, row_owes, row_runs}
 use Rattle.board_script.proofs.ReadSteps.{read_ends, read_goes_on, row_has_read}
 use Rattle.board_script.proofs.Rows.{set-there}
-use Rattle.board_script.proofs.UpdateSteps.{row_goes_on}
+use Rattle.board_script.proofs.OwedWords.{row_goes_on}
 use Rattle.board_script.proofs.machine.Machine.step_read.Goals as goal
 
 pub read_word-value-requires : goal.read_word-value-requires
@@ -61,7 +61,7 @@ returns-in-More c =
     let last = more_is (is_last x.task v) c.in-More.ensures.progress in
     λ s rep reached l.
     read_goes_on m s rep reached.sound party at row (row_runs m party at o owes s rep) c.args.read (row_owes m party at o owes) v c.read_word-value.ensures.value board word value l _
-    same.tables same.words same.values same.spent y (ap (λ (z : PartyRow). z.name) is) (c.took.ensures.call ∙ ap (λ (z : PartyRow). ticked z.task v) is)
+    same.tables same.words same.values same.loans same.spent y (ap (λ (z : PartyRow). z.name) is) (c.took.ensures.call ∙ ap (λ (z : PartyRow). ticked z.task v) is)
     (ap (λ (z : PartyRow). is_last z.task v) (sym is) ∙ last) (ap (λ (xs : List PartyRow). set xs at y) same.parties)
 
 pub returns-in_ok-told-in-Done : goal.returns-in_ok-told-in-Done
@@ -93,4 +93,4 @@ returns-in_ok-told-in-Done c =
     let name : y.name ≡ party = ap (λ (z : PartyRow). z.name) is ∙ runs.name in
     let told = subst (λ (p : List ℕ). IsReadTold mid c.tell_read.new.self p (ticked row.task v) c.in_ok-told-in-Done.told) name (subst (λ z. IsReadTold mid c.tell_read.new.self y.name z c.in_ok-told-in-Done.told) ticks told_y) in
     read_ends m s rep reached.sound party at row runs c.args.read (row_owes m party at o owes) v c.read_word-value.ensures.value board word value l mid c.tell_read.new.self
-    y ticks (ap (λ (z : PartyRow). is_last z.task v) (sym is) ∙ last) same.tables same.words same.values same.spent rows c.in_ok-told-in-Done.told told c.in_ok-told-in-Done.ensures.is_reply
+    y ticks (ap (λ (z : PartyRow). is_last z.task v) (sym is) ∙ last) same.tables same.words same.values same.loans same.spent rows c.in_ok-told-in-Done.told told c.in_ok-told-in-Done.ensures.is_reply

@@ -1,12 +1,11 @@
 use Rattle.std.proofs.Common.{◌≡◌, ℕ, List, rules, refl, sym, ap, subst, ◌∙◌}
-use Rattle.board_model.specs.Requests.{table}
+use Rattle.board_script.specs.Steps.{CanRun, IsTold}
 use Rattle.board_script.specs.declared.machine.Machine.{Machine}
 use Rattle.board_script.specs.declared.machine.PartyRow.{PartyRow}
 use Rattle.board_script.specs.declared.machine.Task.{Task}
 use Rattle.board_script.specs.declared.machine.Task.TheVariants as task
 use Rattle.board_script.specs.declared.step.OwedAccess.TheVariants as owed
-use Rattle.board_script.specs.Machine.{IsTaskOf, call_of}
-use Rattle.board_script.specs.Steps.{IsTold}
+use Rattle.board_script.specs.Machine.{IsTableTask, IsTaskOf}
 use Rattle.board_script.proofs.Bounds.{bounded}
 use Rattle.board_script.proofs.OwedRows.{owed_row, row_inside, row_is, row_runs}
 use Rattle.board_script.proofs.TableSteps.{task_can_run, task_right}
@@ -27,8 +26,10 @@ run_table-requires c =
     let runs = row_runs m party c.args.at owed.Table owes led.state led.represents in
     let is = row_is m party c.args.at owed.Table owes c.remove-name.result c.remove-name.ensures.value in
     let is_task : row.task ≡ task.Table c.in-Table.task = sym (ap (λ (z : PartyRow). z.task) is) ∙ c.in-Table.is in
-    let asked : runs.r.request ≡ table (call_of c.in-Table.task) = subst (λ (t : Task). IsTaskOf t runs.r.request runs.r.so_far) is_task runs.task in
-    task_can_run m led.state led.represents led.reached party c.args.at row runs _ m refl refl c.remove-name.ensures.items refl led.represents.alive c.in-Table.task (bounded led.state led.reached) asked
+    let asked : IsTableTask c.in-Table.task runs.r.request = subst (λ (t : Task). IsTaskOf t runs.r.request runs.r.so_far) is_task runs.task in
+    let name : c.remove-name.result.name ≡ party = ap (λ (z : PartyRow). z.name) is ∙ runs.name in
+    let mid : Machine = record m { parties = c.remove-name.new.self } in
+    subst (λ (p : List ℕ). CanRun mid p c.in-Table.task) (sym name) (task_can_run m led.state led.represents led.reached party c.args.at row runs mid m refl refl c.remove-name.ensures.items refl refl led.represents.alive c.in-Table.task (bounded led.state led.reached) asked)
 
 pub returns : goal.returns
 returns c =
@@ -41,7 +42,7 @@ returns c =
     let mid : Machine = record m { parties = c.remove-name.new.self } in
     λ s rep reached l.
     let runs = row_runs m party c.args.at owed.Table owes s rep in
-    let asked : runs.r.request ≡ table (call_of c.in-Table.task) = subst (λ (t : Task). IsTaskOf t runs.r.request runs.r.so_far) is_task runs.task in
+    let asked : IsTableTask c.in-Table.task runs.r.request = subst (λ (t : Task). IsTaskOf t runs.r.request runs.r.so_far) is_task runs.task in
     let name : c.remove-name.result.name ≡ party = ap (λ (z : PartyRow). z.name) is ∙ runs.name in
     let told = subst (λ (p : List ℕ). IsTold mid c.run_table.new.self p c.in-Table.task c.in_ok-told-in-Table.told) name c.in_ok-told-in-Table.ensures in
-    task_right m s rep reached party c.args.at row runs mid c.run_table.new.self refl refl c.remove-name.ensures.items refl rep.alive c.in-Table.task c.in_ok-told-in-Table.told asked told l
+    task_right m s rep reached party c.args.at row runs mid c.run_table.new.self refl refl c.remove-name.ensures.items refl refl rep.alive c.in-Table.task c.in_ok-told-in-Table.told asked told l

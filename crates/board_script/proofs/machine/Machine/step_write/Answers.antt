@@ -1,9 +1,12 @@
-use Rattle.std.proofs.Common.{◌<◌, ◌^◌, List, length, get_or, rules, refl, sym, ap, subst, ◌∙◌}
+use Rattle.std.proofs.Common.{◌<◌, ℕ, ◌^◌, List, length, get_or, rules, refl, sym, ap, subst, ◌∙◌}
+use Rattle.board_script.specs.declared.machine.Machine.{Machine}
 use Rattle.board_script.specs.declared.machine.PartyRow.{PartyRow}
 use Rattle.board_script.specs.declared.step.OwedAccess.TheVariants as owed
+use Rattle.board_script.specs.LoanCalls.{CanSettle, IsSettled}
 use Rattle.board_script.specs.Steps.{CanGoOn, ticked}
 use Rattle.board_script.proofs.OwedRows.{owed_row, row_inside, row_is, row_owes, row_runs}
-use Rattle.board_script.proofs.UpdateSteps.{row_goes_on, row_has_word, update_ends, update_goes_on}
+use Rattle.board_script.proofs.OwedWords.{row_goes_on}
+use Rattle.board_script.proofs.WriteSteps.{can_settle, row_has_word, write_ends, write_goes_on}
 use Rattle.board_script.proofs.machine.Machine.step_write.Goals as goal
 
 pub write_word-requires : goal.write_word-requires
@@ -15,8 +18,8 @@ write_word-requires c =
     let led = c.requires.led in
     row_has_word m led.state led.represents led.reached.sound party c.args.at (owed_row m party c.args.at o owes) (row_runs m party c.args.at o owes led.state led.represents) c.args.write (row_owes m party c.args.at o owes)
 
-pub remove-requires : goal.remove-requires
-remove-requires c =
+pub remove-name-requires : goal.remove-name-requires
+remove-name-requires c =
     let inside = row_inside c.args.self.now c.args.party.now c.args.at (owed.Write c.args.write) c.requires.owes in
     let still : c.args.at < length c.write_word.new.self.parties.items = subst (λ (xs : List PartyRow). c.args.at < length xs) (sym c.write_word.ensures.parties) inside in
     search (rules, still)
@@ -38,18 +41,41 @@ took-requires c =
     let is = row_is m party c.args.at o owes y (c.index_mut.ensures.value ∙ ap (λ (xs : List PartyRow). get_or xs c.args.at y) c.write_word.ensures.parties) in
     subst (λ (x : PartyRow). CanGoOn x.task) (sym is) (row_goes_on m led.state led.represents led.reached.sound party c.args.at (owed_row m party c.args.at o owes) (row_runs m party c.args.at o owes led.state led.represents))
 
+pub settle-requires : goal.settle-requires
+settle-requires c =
+    let m = c.args.self.now in
+    let party = c.args.party.now in
+    let o = owed.Write c.args.write in
+    let owes = c.requires.owes in
+    let led = c.requires.led in
+    let row = owed_row m party c.args.at o owes in
+    let runs = row_runs m party c.args.at o owes led.state led.represents in
+    let x = c.remove-name.result in
+    let is = row_is m party c.args.at o owes x (c.remove-name.ensures.value ∙ ap (λ (xs : List PartyRow). get_or xs c.args.at x) c.write_word.ensures.parties) in
+    let mid : Machine = record c.write_word.new.self { parties = c.remove-name.new.self } in
+    let can = can_settle m led.state led.represents led.reached.sound party c.args.at row runs mid c.write_word.ensures.loans row.task runs.task in
+    let of_row : CanSettle mid row.name row.task = subst (λ (p : List ℕ). CanSettle mid p row.task) (sym runs.name) can in
+    subst (λ (z : PartyRow). CanSettle mid z.name z.task) (sym is) of_row
+
 pub returns-then-write : goal.returns-then-write
 returns-then-write c =
     let m = c.args.self.now in
     let party = c.args.party.now in
     let o = owed.Write c.args.write in
     let owes = c.requires.owes in
+    let row = owed_row m party c.args.at o owes in
     let board : c.args.write.board < 2 ^ 64 = search rules in
     let word : c.args.write.word < 2 ^ 64 = search rules in
     let value : c.args.write.value < 2 ^ 64 = search rules in
+    let x = c.remove-name.result in
+    let is = row_is m party c.args.at o owes x (c.remove-name.ensures.value ∙ ap (λ (xs : List PartyRow). get_or xs c.args.at x) c.write_word.ensures.parties) in
+    let mid : Machine = record c.write_word.new.self { parties = c.remove-name.new.self } in
+    let of_row : IsSettled mid c.settle.new.self row.name row.task = subst (λ (z : PartyRow). IsSettled mid c.settle.new.self z.name z.task) is c.settle.ensures in
     λ s rep reached l.
-    update_ends m s rep reached.sound party c.args.at (owed_row m party c.args.at o owes) (row_runs m party c.args.at o owes s rep) c.args.write (row_owes m party c.args.at o owes) c.write_word.new.self _ c.write_word.ensures
-    (record { board = board; word = word; value = value }) l refl refl refl refl c.if-write.true c.remove.ensures.items
+    let runs = row_runs m party c.args.at o owes s rep in
+    let settled = subst (λ (p : List ℕ). IsSettled mid c.settle.new.self p row.task) runs.name of_row in
+    write_ends m s rep reached.sound party c.args.at row runs c.args.write (row_owes m party c.args.at o owes) c.write_word.new.self c.write_word.ensures
+    (record { board = board; word = word; value = value }) l mid c.settle.new.self refl refl refl refl refl c.remove-name.ensures.items c.if-write.true settled
 
 pub returns-else-write : goal.returns-else-write
 returns-else-write c =
@@ -63,6 +89,6 @@ returns-else-write c =
     let word : c.args.write.word < 2 ^ 64 = search rules in
     let value : c.args.write.value < 2 ^ 64 = search rules in
     λ s rep reached l.
-    update_goes_on m s rep reached.sound party c.args.at (owed_row m party c.args.at o owes) (row_runs m party c.args.at o owes s rep) c.args.write (row_owes m party c.args.at o owes) c.write_word.new.self _ c.write_word.ensures
-    (record { board = board; word = word; value = value }) l refl refl refl refl
+    write_goes_on m s rep reached.sound party c.args.at (owed_row m party c.args.at o owes) (row_runs m party c.args.at o owes s rep) c.args.write (row_owes m party c.args.at o owes) c.write_word.new.self c.write_word.ensures
+    (record { board = board; word = word; value = value }) l _ refl refl refl refl refl
     (record { name = y.name; task = c.took.new.self }) (ap (λ (z : PartyRow). z.name) is) (c.took.ensures.call ∙ ap (λ (z : PartyRow). ticked z.task 0) is) c.if-write.false refl

@@ -1,29 +1,35 @@
-use Rattle.std.proofs.Common.{◌≡◌, ℕ, Bool, true, false, cond, sym, subst}
+use Rattle.std.proofs.Common.{◌≡◌, ℕ, sym, subst}
+use Rattle.board_cell.specs.Calls.{told}
+use Rattle.board_cell.specs.declared.access.Access.{Access}
+use Rattle.board_cell.specs.declared.access.Access.TheVariants as access
 use Rattle.board_model.specs.OwedAccesses.{to_read, to_write}
 use Rattle.board_model.proofs.BoundLaws.{no_write}
 use Rattle.board_script.specs.declared.machine.Task.{Task}
 use Rattle.board_script.specs.declared.step.OwedAccess.TheVariants as owed
 use Rattle.board_script.specs.declared.step.OwedRead.{OwedRead}
-use Rattle.board_script.specs.Steps.{IsOwedBy}
+use Rattle.board_script.specs.Steps.{IsOwedBy, IsWrite}
 use Rattle.board_script.proofs.machine.Task.owed.Goals as goal
 
--- a publication owes no read
-no_read : (b : Bool) (board word p v q w : ℕ) → to_read board word ≡ cond b (to_write board p v) (to_write board q w) → ⊥
-no_read true board word p v q w e = absurd cc
-no_read false board word p v q w e = absurd cc
-
--- and a look no write
+-- a look owes no write
 read_only : (board word p v : ℕ) → to_write board p v ≡ to_read board word → ⊥
 read_only board word p v e = absurd cc
+
+-- what is told as a write is one
+is_write : (a : Access) (board word value : ℕ) → told board a ≡ to_write board word value → IsWrite a
+is_write (access.Read w) board word value e = absurd cc
+is_write (access.Write w v) board word value e = tt
+
+pub only_write_of-requires : goal.only_write_of-requires
+only_write_of-requires c = is_write _ 0 _ _ (c.next-in-Put.ensures 0)
+
+pub only_write_of-requires-in-Publish : goal.only_write_of-requires-in-Publish
+only_write_of-requires-in-Publish c = is_write _ 0 _ _ (c.next-in-Publish.ensures 0)
 
 pub unreachable-requires : goal.unreachable-requires
 unreachable-requires c = no_write _ _ 0 0 _ _ (sym (c.in-Write.ensures 0))
 
 pub unreachable-requires-in-Write-next : goal.unreachable-requires-in-Write-next
 unreachable-requires-in-Write-next c = read_only 0 _ _ _ (c.in-Write-next.ensures 0)
-
-pub unreachable-requires-in-Read-next-2 : goal.unreachable-requires-in-Read-next-2
-unreachable-requires-in-Read-next-2 c = no_read _ 0 _ _ _ _ _ (c.in-Read-next-2.ensures 0)
 
 pub returns-in-Read-next : goal.returns-in-Read-next
 returns-in-Read-next c =

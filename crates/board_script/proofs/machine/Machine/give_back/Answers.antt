@@ -1,0 +1,17 @@
+use Rattle.std.proofs.Common.{List, refl, ap}
+use Rattle.board_model.specs.Things.{Held}
+use Rattle.board_script.specs.Machine.{tables_of}
+use Rattle.board_script.proofs.LoanRows.{forgotten}
+use Rattle.board_script.proofs.machine.Machine.give_back.Goals as goal
+
+pub returns : goal.returns
+returns c =
+    let m = c.args.self.now in
+    record {
+      tables = ap (λ (ts : List Held). record (tables_of m) { things = ts }) c.rename.ensures;
+      loans = forgotten c.args.party.now c.args.loan.now m.loans.items c.forget_loan.new.loans.items c.forget_loan.ensures;
+      words = refl;
+      parties = refl;
+      values = refl;
+      spent = refl;
+    }

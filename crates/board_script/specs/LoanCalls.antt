@@ -1,0 +1,57 @@
+-- What the calls on loans do to a machine.
+use Rattle.std.specs.Prelude.{◌≡◌, ℕ, ◌<◌, List, length, Option, Some, None, slice_set}
+use Rattle.board_model.specs.Replies.{none_put}
+use Rattle.board_model.specs.Things.{with_at, with_name}
+use Rattle.board_script.specs.declared.machine.Machine.{Machine}
+use Rattle.board_script.specs.declared.machine.Task.{Task}
+use Rattle.board_script.specs.declared.machine.Task.TheVariants as task
+use Rattle.board_script.specs.Loans.{lent_words}
+use Rattle.board_script.specs.Machine.{tables_of}
+
+-- the write handle is a loan of which no word was put; all else stays
+pub record IsLoaned (old new : Machine) (party handle loan : List ℕ) (count : ℕ) : Type 0 where
+  pub tables : tables_of new ≡ with_name (tables_of old) party handle loan
+  pub loans : (p n : List ℕ) → lent_words new.loans.items p n ≡ with_at (lent_words old.loans.items) party loan (Some (none_put count)) p n
+  pub words : new.words.items ≡ old.words.items
+  pub parties : new.parties.items ≡ old.parties.items
+  pub values : new.values.items ≡ old.values.items
+  pub spent : new.spent ≡ old.spent
+
+-- the loan is a write handle, and its words are forgotten; all else stays
+pub record IsGivenBack (old new : Machine) (party loan handle : List ℕ) : Type 0 where
+  pub tables : tables_of new ≡ with_name (tables_of old) party loan handle
+  pub loans : (p n : List ℕ) → lent_words new.loans.items p n ≡ with_at (lent_words old.loans.items) party loan None p n
+  pub words : new.words.items ≡ old.words.items
+  pub parties : new.parties.items ≡ old.parties.items
+  pub values : new.values.items ≡ old.values.items
+  pub spent : new.spent ≡ old.spent
+
+-- one word of the loan was put; all else stays
+pub record IsWordPut (old new : Machine) (party loan : List ℕ) (index word : ℕ) : Type 0 where
+  pub tables : tables_of new ≡ tables_of old
+  pub loans : (put_words : List (Option ℕ)) → lent_words old.loans.items party loan ≡ Some put_words
+      → (p n : List ℕ) → lent_words new.loans.items p n ≡ with_at (lent_words old.loans.items) party loan (Some (slice_set put_words index (Some word))) p n
+  pub words : new.words.items ≡ old.words.items
+  pub parties : new.parties.items ≡ old.parties.items
+  pub values : new.values.items ≡ old.values.items
+  pub spent : new.spent ≡ old.spent
+
+-- the party holds the loan, and it has the word
+pub record HasLoanWord (m : Machine) (party loan : List ℕ) (index : ℕ) : Type 0 where
+  pub words : List (Option ℕ)
+  pub lent : lent_words m.loans.items party loan ≡ Some words
+  pub below : index < length words
+
+-- ---- the last write of a call
+
+-- the loan that the call puts a word into has the word
+abbrev pub CanSettle : Machine → List ℕ → Task → Type 0
+CanSettle m party (task.Put board call loan index word) = HasLoanWord m party loan index
+CanSettle m party t = Unit {0}
+
+-- what becomes of the call's loan
+abbrev pub IsSettled : Machine → Machine → List ℕ → Task → Type 0
+IsSettled old new party (task.Put board call loan index word) = IsWordPut old new party loan index word
+IsSettled old new party (task.Publish board call loan handle) = IsGivenBack old new party loan handle
+IsSettled old new party (task.Fill board call loan handle) = IsGivenBack old new party loan handle
+IsSettled old new party t = new ≡ old
