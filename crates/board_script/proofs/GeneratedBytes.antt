@@ -11,7 +11,7 @@ use Rattle.board_model.specs.declared.line.Call.TheVariants as call
 use Rattle.board_model.specs.declared.line.Line.{Line}
 use Rattle.board_model.specs.declared.line.Line.TheVariants as line
 use Rattle.board_model.specs.declared.value.Value.TheVariants as value
-use Rattle.board_model.specs.LineGrammar.{IsCall, IsLine, Spells, call_tokens, is_name, runs_call, spell, tokens}
+use Rattle.board_model.specs.LineGrammar.{IsCall, IsLine, Spells, call_tokens, is_name, spell, tokens}
 use Rattle.board_model.specs.Lines as text
 use Rattle.board_model.specs.Lines.{IsOneLine}
 use Rattle.board_model.specs.Script.{SpellsAll}
@@ -91,23 +91,22 @@ record IsParty (p : List ℕ) : Type 0 where
   name : is_name p ≡ true
   token : IsToken p
 
--- a call of the grammar that is run, with short tokens
+-- a call of the grammar with short tokens
 record IsSpelledCall (c : Call) : Type 0 where
   formed : IsCall c
-  runs : runs_call c ≡ true
   each : AreTokens (call_tokens c)
   few : length (call_tokens c) ≤ 20
 
 begins : (p : List ℕ) (c : Call) → IsParty p → IsSpelledCall c → IsSpelled (line.Begin p c)
 begins p c h k = record {
-  line = record { formed = (h.name, k.formed); runs = k.runs };
+  line = (h.name, k.formed);
   each = (word (codes "begin") refl refl, (h.token, k.each));
   few = omega (arith, k.few);
 }
 
 takes_step : (p : List ℕ) → IsParty p → IsSpelled (line.Step p)
 takes_step p h = record {
-  line = record { formed = h.name; runs = refl };
+  line = h.name;
   each = (word (codes "step") refl refl, (h.token, tt));
   few = omega arith;
 }
@@ -132,7 +131,6 @@ key_1 = numbered (codes "u64:") 1 refl refl (omega arith)
 creates : IsSpelledCall create_board
 creates = record {
   formed = search rules;
-  runs = refl;
   each = (word (codes "create") refl refl, (word (codes "f") refl refl, (word (codes "gen") refl refl, (word (codes "u64") refl refl, (word (codes "add") refl refl, (key_0, (key_0, (word (codes "add") refl refl, (key_1, (four 0 (omega arith), tt))))))))));
   few = omega arith;
 }
@@ -140,7 +138,6 @@ creates = record {
 opens : IsSpelledCall open_board
 opens = record {
   formed = search rules;
-  runs = refl;
   each = (word (codes "open") refl refl, (word (codes "f") refl refl, (word (codes "gen") refl refl, (word (codes "u64") refl refl, tt))));
   few = omega arith;
 }
@@ -159,18 +156,16 @@ by_writer : AllByRecursion IsSpelledCall writer_calls
 by_writer = (
   creates,
   (
-    record { formed = (refl, refl); runs = refl; each = (word (codes "writer") refl refl, (word (codes "p") refl refl, (word (codes "f") refl refl, tt))); few = omega arith },
+    record { formed = (refl, refl); each = (word (codes "writer") refl refl, (word (codes "p") refl refl, (word (codes "f") refl refl, tt))); few = omega arith },
     (
       record {
         formed = (refl, refl, omega arith);
-        runs = refl;
         each = (word (codes "entrymut") refl refl, (word (codes "m0") refl refl, (word (codes "p") refl refl, (key_0, (word (codes "u64") refl refl, tt)))));
         few = omega arith;
       },
       (
         record {
           formed = (refl, refl, omega arith);
-          runs = refl;
           each = (word (codes "entrymut") refl refl, (word (codes "m1") refl refl, (word (codes "p") refl refl, (key_1, (word (codes "q4") refl refl, tt)))));
           few = omega arith;
         },
@@ -184,18 +179,16 @@ by_reader : AllByRecursion IsSpelledCall reader_calls
 by_reader = (
   opens,
   (
-    record { formed = (refl, refl); runs = refl; each = (word (codes "reader") refl refl, (word (codes "r") refl refl, (word (codes "f") refl refl, tt))); few = omega arith },
+    record { formed = (refl, refl); each = (word (codes "reader") refl refl, (word (codes "r") refl refl, (word (codes "f") refl refl, tt))); few = omega arith },
     (
       record {
         formed = (refl, refl, omega arith);
-        runs = refl;
         each = (word (codes "entry") refl refl, (word (codes "h0") refl refl, (word (codes "r") refl refl, (key_0, (word (codes "u64") refl refl, tt)))));
         few = omega arith;
       },
       (
         record {
           formed = (refl, refl, omega arith);
-          runs = refl;
           each = (word (codes "entry") refl refl, (word (codes "h1") refl refl, (word (codes "r") refl refl, (key_1, (word (codes "q4") refl refl, tt)))));
           few = omega arith;
         },
@@ -217,12 +210,11 @@ either true x y h k = h
 either false x y h k = k
 
 gets : (h : List ℕ) → is_name h ≡ true → IsToken h → IsSpelledCall (call.Get h None)
-gets h e t = record { formed = (e, tt); runs = refl; each = (word (codes "get") refl refl, (t, tt)); few = omega arith }
+gets h e t = record { formed = (e, tt); each = (word (codes "get") refl refl, (t, tt)); few = omega arith }
 
 updates_one : (k : ℕ) → k < 2 ^ 64 → IsSpelledCall (call.Update (codes "m0") (value.U64 k))
 updates_one k lt = record {
   formed = (refl, lt);
-  runs = refl;
   each = (word (codes "update") refl refl, (word (codes "m0") refl refl, (numbered (codes "u64:") k refl refl lt, tt)));
   few = omega arith;
 }
@@ -230,7 +222,6 @@ updates_one k lt = record {
 updates_four : (k : ℕ) → k < 2 ^ 64 → IsSpelledCall (call.Update (codes "m1") (value.Q4 k k k k))
 updates_four k lt = record {
   formed = (refl, (lt, lt, lt, lt));
-  runs = refl;
   each = (word (codes "update") refl refl, (word (codes "m1") refl refl, (four k lt, tt)));
   few = omega arith;
 }
