@@ -2,6 +2,7 @@ pub mod Abandonments
 pub mod Bounds
 pub mod CallChecks
 pub mod EntriesStay
+pub mod GeneratedBytes
 pub mod GeneratorEnds
 pub mod GeneratorRuns
 pub mod Listings

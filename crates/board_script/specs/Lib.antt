@@ -5,6 +5,7 @@ pub mod Create
 pub mod LoanCalls
 pub mod Loans
 pub mod Generator
+pub mod LawsOfGenerator
 pub mod Overview
 pub mod Machine
 pub mod Steps

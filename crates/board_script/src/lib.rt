@@ -6,6 +6,7 @@ mod begin;
 mod counts;
 mod create;
 mod generator;
+mod generator_laws;
 mod line;
 mod loans;
 mod lookups;
@@ -26,6 +27,7 @@ pub use board_lines::{
     SinkError, Source,
 };
 pub use generator::run_generated;
+pub use generator_laws::generated_scripts_are_scripts;
 pub use machine::Machine;
 pub use script::{run_script, run_script_within};
 pub use top::run_words;
