@@ -115,147 +115,139 @@ fn is_left(rt: &impl Abort, alloc: Global, case: &Left) -> Result<(), Fail> {
     goes_on(rt, alloc, &script, &output)
 }
 
-#[test]
-fn calls_of_one_step_abandoned_before_it_and_after_it(rt: HostRuntime) -> Result<(), Fail> {
-    let cases = [
-        Left {
-            put: b"",
-            told: b"",
-            call: b"begin a loan l m\n",
-            steps: 0,
-            made: b"",
-            got: FIRST_GOT,
-            words: b"words 1 0 1 2 3 4 0 0 0 0\n",
-        },
-        Left {
-            put: b"",
-            told: b"",
-            call: b"begin a loan l m\n",
-            steps: 1,
-            made: b"table = ok\n",
-            got: FIRST_GOT,
-            words: b"words 1 0 1 2 3 4 0 0 0 0\n",
-        },
-        Left {
-            put: ALL_PUT,
-            told: ALL_PUT_TOLD,
-            call: b"begin a discard l m\n",
-            steps: 0,
-            made: b"",
-            got: FIRST_GOT,
-            words: b"words 1 0 1 2 3 4 5 6 7 8\n",
-        },
-        Left {
-            put: ALL_PUT,
-            told: ALL_PUT_TOLD,
-            call: b"begin a discard l m\n",
-            steps: 1,
-            made: b"table = ok\n",
-            got: FIRST_GOT,
-            words: b"words 1 0 1 2 3 4 5 6 7 8\n",
-        },
-        Left {
-            put: LENT,
-            told: LENT_TOLD,
-            call: b"begin a put l 2 7\n",
-            steps: 0,
-            made: b"",
-            got: FIRST_GOT,
-            words: b"words 1 0 1 2 3 4 0 0 0 0\n",
-        },
-        Left {
-            put: LENT,
-            told: LENT_TOLD,
-            call: b"begin a put l 2 7\n",
-            steps: 1,
-            made: b"write 1:8 7 = ok\n",
-            got: FIRST_GOT,
-            words: b"words 1 0 1 2 3 4 0 0 7 0\n",
-        },
-        Left {
-            put: ALL_PUT,
-            told: ALL_PUT_TOLD,
-            call: b"begin a publish l m\n",
-            steps: 0,
-            made: b"",
-            got: FIRST_GOT,
-            words: b"words 1 0 1 2 3 4 5 6 7 8\n",
-        },
-        Left {
-            put: ALL_PUT,
-            told: ALL_PUT_TOLD,
-            call: b"begin a publish l m\n",
-            steps: 1,
-            made: b"write 1:0 2 = ok\n",
-            got: SECOND_GOT,
-            words: b"words 2 0 1 2 3 4 5 6 7 8\n",
-        },
-    ];
-    for case in &cases {
-        is_left(&rt, rt.alloc(), case)?;
-    }
-    Ok(())
-}
+// Each call on a loan, given up before its first step and after each of them.
+const CASES: [Left; 14] = [
+    Left {
+        put: b"",
+        told: b"",
+        call: b"begin a loan l m\n",
+        steps: 0,
+        made: b"",
+        got: FIRST_GOT,
+        words: b"words 1 0 1 2 3 4 0 0 0 0\n",
+    },
+    Left {
+        put: b"",
+        told: b"",
+        call: b"begin a loan l m\n",
+        steps: 1,
+        made: b"table = ok\n",
+        got: FIRST_GOT,
+        words: b"words 1 0 1 2 3 4 0 0 0 0\n",
+    },
+    Left {
+        put: ALL_PUT,
+        told: ALL_PUT_TOLD,
+        call: b"begin a discard l m\n",
+        steps: 0,
+        made: b"",
+        got: FIRST_GOT,
+        words: b"words 1 0 1 2 3 4 5 6 7 8\n",
+    },
+    Left {
+        put: ALL_PUT,
+        told: ALL_PUT_TOLD,
+        call: b"begin a discard l m\n",
+        steps: 1,
+        made: b"table = ok\n",
+        got: FIRST_GOT,
+        words: b"words 1 0 1 2 3 4 5 6 7 8\n",
+    },
+    Left {
+        put: LENT,
+        told: LENT_TOLD,
+        call: b"begin a put l 2 7\n",
+        steps: 0,
+        made: b"",
+        got: FIRST_GOT,
+        words: b"words 1 0 1 2 3 4 0 0 0 0\n",
+    },
+    Left {
+        put: LENT,
+        told: LENT_TOLD,
+        call: b"begin a put l 2 7\n",
+        steps: 1,
+        made: b"write 1:8 7 = ok\n",
+        got: FIRST_GOT,
+        words: b"words 1 0 1 2 3 4 0 0 7 0\n",
+    },
+    Left {
+        put: ALL_PUT,
+        told: ALL_PUT_TOLD,
+        call: b"begin a publish l m\n",
+        steps: 0,
+        made: b"",
+        got: FIRST_GOT,
+        words: b"words 1 0 1 2 3 4 5 6 7 8\n",
+    },
+    Left {
+        put: ALL_PUT,
+        told: ALL_PUT_TOLD,
+        call: b"begin a publish l m\n",
+        steps: 1,
+        made: b"write 1:0 2 = ok\n",
+        got: SECOND_GOT,
+        words: b"words 2 0 1 2 3 4 5 6 7 8\n",
+    },
+    Left {
+        put: LENT,
+        told: LENT_TOLD,
+        call: b"begin a fill l m q4:5,6,7,8\n",
+        steps: 0,
+        made: b"",
+        got: FIRST_GOT,
+        words: b"words 1 0 1 2 3 4 0 0 0 0\n",
+    },
+    Left {
+        put: LENT,
+        told: LENT_TOLD,
+        call: b"begin a fill l m q4:5,6,7,8\n",
+        steps: 1,
+        made: b"write 1:6 5\n",
+        got: FIRST_GOT,
+        words: b"words 1 0 1 2 3 4 5 0 0 0\n",
+    },
+    Left {
+        put: LENT,
+        told: LENT_TOLD,
+        call: b"begin a fill l m q4:5,6,7,8\n",
+        steps: 2,
+        made: b"write 1:6 5\nwrite 1:7 6\n",
+        got: FIRST_GOT,
+        words: b"words 1 0 1 2 3 4 5 6 0 0\n",
+    },
+    Left {
+        put: LENT,
+        told: LENT_TOLD,
+        call: b"begin a fill l m q4:5,6,7,8\n",
+        steps: 3,
+        made: b"write 1:6 5\nwrite 1:7 6\nwrite 1:8 7\n",
+        got: FIRST_GOT,
+        words: b"words 1 0 1 2 3 4 5 6 7 0\n",
+    },
+    Left {
+        put: LENT,
+        told: LENT_TOLD,
+        call: b"begin a fill l m q4:5,6,7,8\n",
+        steps: 4,
+        made: b"write 1:6 5\nwrite 1:7 6\nwrite 1:8 7\nwrite 1:9 8\n",
+        got: FIRST_GOT,
+        words: b"words 1 0 1 2 3 4 5 6 7 8\n",
+    },
+    Left {
+        put: LENT,
+        told: LENT_TOLD,
+        call: b"begin a fill l m q4:5,6,7,8\n",
+        steps: 5,
+        made: b"write 1:6 5\nwrite 1:7 6\nwrite 1:8 7\nwrite 1:9 8\nwrite 1:0 2 = ok\n",
+        got: SECOND_GOT,
+        words: b"words 2 0 1 2 3 4 5 6 7 8\n",
+    },
+];
 
 #[test]
-fn a_fill_abandoned_at_each_step(rt: HostRuntime) -> Result<(), Fail> {
-    let cases = [
-        Left {
-            put: LENT,
-            told: LENT_TOLD,
-            call: b"begin a fill l m q4:5,6,7,8\n",
-            steps: 0,
-            made: b"",
-            got: FIRST_GOT,
-            words: b"words 1 0 1 2 3 4 0 0 0 0\n",
-        },
-        Left {
-            put: LENT,
-            told: LENT_TOLD,
-            call: b"begin a fill l m q4:5,6,7,8\n",
-            steps: 1,
-            made: b"write 1:6 5\n",
-            got: FIRST_GOT,
-            words: b"words 1 0 1 2 3 4 5 0 0 0\n",
-        },
-        Left {
-            put: LENT,
-            told: LENT_TOLD,
-            call: b"begin a fill l m q4:5,6,7,8\n",
-            steps: 2,
-            made: b"write 1:6 5\nwrite 1:7 6\n",
-            got: FIRST_GOT,
-            words: b"words 1 0 1 2 3 4 5 6 0 0\n",
-        },
-        Left {
-            put: LENT,
-            told: LENT_TOLD,
-            call: b"begin a fill l m q4:5,6,7,8\n",
-            steps: 3,
-            made: b"write 1:6 5\nwrite 1:7 6\nwrite 1:8 7\n",
-            got: FIRST_GOT,
-            words: b"words 1 0 1 2 3 4 5 6 7 0\n",
-        },
-        Left {
-            put: LENT,
-            told: LENT_TOLD,
-            call: b"begin a fill l m q4:5,6,7,8\n",
-            steps: 4,
-            made: b"write 1:6 5\nwrite 1:7 6\nwrite 1:8 7\nwrite 1:9 8\n",
-            got: FIRST_GOT,
-            words: b"words 1 0 1 2 3 4 5 6 7 8\n",
-        },
-        Left {
-            put: LENT,
-            told: LENT_TOLD,
-            call: b"begin a fill l m q4:5,6,7,8\n",
-            steps: 5,
-            made: b"write 1:6 5\nwrite 1:7 6\nwrite 1:8 7\nwrite 1:9 8\nwrite 1:0 2 = ok\n",
-            got: SECOND_GOT,
-            words: b"words 2 0 1 2 3 4 5 6 7 8\n",
-        },
-    ];
-    for case in &cases {
+fn each_call_on_a_loan_abandoned_at_each_step(rt: HostRuntime) -> Result<(), Fail> {
+    for case in &CASES {
         is_left(&rt, rt.alloc(), case)?;
     }
     Ok(())
