@@ -62,8 +62,8 @@ impl Machine {
         }
     }
 
-    /// Answers a well-formed line.
-    pub(crate) fn answer(&mut self, line: Line, out: &mut Vec<u8>) -> Result<(), AllocError>
+    // Answers a line of the grammar.
+    fn answer(&mut self, line: Line, out: &mut Vec<u8>) -> Result<(), AllocError>
         requires led { IsLed self.old }
         requires line { IsLine line }
         requires empty { out.old.items ≡ [] }
