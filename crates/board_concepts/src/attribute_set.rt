@@ -52,6 +52,14 @@ impl AttributeSet {
         }
     }
 
+    /// The pairs of a list that is known to be short, and of texts.
+    pub fn from_vec(attributes: Vec<Attribute>) -> AttributeSet
+        requires { AreAttributes attributes.items }
+        ensures { result ≡ attributes.items }
+    {
+        AttributeSet { attributes }
+    }
+
     /// How many pairs there are.
     pub fn len(&self) -> usize
         ensures value { result ≡ length self.now }

@@ -2,7 +2,7 @@
 ghost use Rattle.std.specs.Prelude.{◌≡◌, ◌++◌, [], ◌∷◌, ◌↔◌, length, IsTrue, false, IfOk, IsErrOf};
 ghost use Rattle.std.specs.List.{list_all};
 ghost use Rattle.board_model.specs.Tables as tables;
-ghost use Rattle.board_concepts.specs.Attributes.{is_text, is_attribute, pair_of};
+ghost use Rattle.board_concepts.specs.Attributes.{AreKeys, is_text, is_attribute, pair_of};
 
 use crate::attribute_set::{AttributeSet, is_text};
 use crate::attribute_specifier::add;
@@ -69,6 +69,14 @@ impl AttributeVerifier {
             pairs: AttributeSet::new(alloc),
             keys: Vec::new(alloc),
         }
+    }
+
+    /// These pairs, and the keys of a list that is known to be short, and of texts.
+    pub fn from_lists(pairs: AttributeSet, keys: Vec<Text<64>>) -> Self
+        requires { AreKeys keys.items }
+        ensures { result ≡ record { pairs = pairs; keys = keys.items } }
+    {
+        AttributeVerifier { pairs, keys }
     }
 
     /// One more pair that must be there. A refusal gives the verifier up.

@@ -32,7 +32,7 @@ is_idle (line.Words b) why e = record {
 }
 is_idle l why e = absurd cc
 
-pub answered : {M : Type 0} (m : M) (session : Session) (bytes text : List ℕ) (l : Line) (why : Reason) → StandsFor {M = M} (λ machine s. s ≡ start) m session → Spells bytes l → there why ≡ idle_reason l → text ≡ answer_line (answer.Refused why) → HasAnswered {M = M} (λ machine s. s ≡ start) m session bytes text
+pub answered : {M : Type 0} (m : M) (session : Session) (bytes text : List ℕ) (l : Line) (why : Reason) → StandsFor {M = M} (λ machine n s. s ≡ start) m session → Spells bytes l → there why ≡ idle_reason l → text ≡ answer_line (answer.Refused why) → HasAnswered {M = M} (λ machine n s. s ≡ start) m session bytes text
 answered m session bytes text l why s spelled e told =
     let i = is_idle l why e in
     record {

@@ -104,30 +104,30 @@ fed_goes_on (Some i) (Some l) ps f h = some_first i ps (lines_of l) f (some_line
 
 -- ---- runs
 
-pub starts : {M : Type 0} (stands : M → State → Type 0) (m : M) (input before : Option (List ℕ)) (hand : List ℕ) → hand ≡ [] → stands m start → HasRun stands m 0 input (prepend_known hand input) before before
+pub starts : {M : Type 0} (stands : M → ℕ → State → Type 0) (m : M) (input before : Option (List ℕ)) (hand : List ℕ) → hand ≡ [] → stands m 0 start → HasRun stands m 0 input (prepend_known hand input) before before
 starts stands m None before hand e h = record { session = []; lawful = tt; state = h; counted = refl; fed = tt; output = Appends-nil before }
 starts stands m (Some i) before hand e h =
     let same : hand ++ i ≡ i = rw e refl in
     record { session = []; lawful = tt; state = h; counted = refl; fed = record { lines = []; all = sym (ap lines_of same); spelled = tt }; output = Appends-nil before }
 
 -- the machine of a run that is not long stands for its session
-pub stands_for : {M : Type 0} (stands : M → State → Type 0) (m : M) (count limit : ℕ) (input left before held : Option (List ℕ)) → count < limit → limit ≤ 4294967295 → (r : HasRun stands m count input left before held) → StandsFor stands m r.session
+pub stands_for : {M : Type 0} (stands : M → ℕ → State → Type 0) (m : M) (count limit : ℕ) (input left before held : Option (List ℕ)) → count < limit → limit ≤ 4294967295 → (r : HasRun stands m count input left before held) → StandsFor stands m r.session
 stands_for stands m count limit input left before held lt few r = record { lawful = r.lawful; few = omega (arith, r.counted, lt, few); state = r.state }
 
-pub goes_on : {M : Type 0} (stands : M → State → Type 0) (m new : M) (count : ℕ) (input left rest before held now : Option (List ℕ)) (b text : List ℕ) → (r : HasRun stands m count input left before held) → TakesLine left rest b → HasAnswered stands new r.session b text → Appends held now text → HasRun stands new (count + 1) input rest before now
+pub goes_on : {M : Type 0} (stands : M → ℕ → State → Type 0) (m new : M) (count : ℕ) (input left rest before held now : Option (List ℕ)) (b text : List ℕ) → (r : HasRun stands m count input left before held) → TakesLine left rest b → HasAnswered stands new r.session b text → Appends held now text → HasRun stands new (count + 1) input rest before now
 goes_on stands m new count input left rest before held now b text r t a w =
     let p : Line × Answer = (a.line, a.answer) in
     let w2 : Appends held now (answer_line a.answer) = subst (Appends held now) a.told w in
     record {
       session = r.session ++ p ∷ [];
       lawful = lawful_more start r.session p r.lawful a.right;
-      state = subst (stands new) (sym (state_more start r.session p)) a.state;
+      state = subst (λ n. stands new n (state_after start (r.session ++ p ∷ []))) (sym (length_more r.session p)) (subst (stands new (length r.session + 1)) (sym (state_more start r.session p)) a.state);
       counted = length_more r.session p ∙ ap (λ k. k + 1) r.counted;
       fed = fed_more input left rest r.session b p r.fed t a.spelled;
       output = subst (Appends before now) (sym (output_more r.session p)) (Appends-trans before held now (output_of r.session) (answer_line a.answer) r.output w2);
     }
 
-pub ends : {M : Type 0} (stands : M → State → Type 0) (m : M) (count limit : ℕ) (input left before held : Option (List ℕ)) → HasRun stands m count input left before held → count ≤ limit → IsAtEnd left → IsRunOf limit input before held
+pub ends : {M : Type 0} (stands : M → ℕ → State → Type 0) (m : M) (count limit : ℕ) (input left before held : Option (List ℕ)) → HasRun stands m count input left before held → count ≤ limit → IsAtEnd left → IsRunOf limit input before held
 ends stands m count limit input left before held r few e = record {
   session = r.session;
   lawful = r.lawful;
@@ -136,7 +136,7 @@ ends stands m count limit input left before held r few e = record {
   output = r.output;
 }
 
-pub read_cut : {M : Type 0} (stands : M → State → Type 0) (m : M) (count : ℕ) (input stream left before held : Option (List ℕ)) (part : List ℕ) → HasRun stands m count input stream before held → Keeps stream (prepend_known part left) → IsOneLine part → IsReadCut input left before held
+pub read_cut : {M : Type 0} (stands : M → ℕ → State → Type 0) (m : M) (count : ℕ) (input stream left before held : Option (List ℕ)) (part : List ℕ) → HasRun stands m count input stream before held → Keeps stream (prepend_known part left) → IsOneLine part → IsReadCut input left before held
 read_cut stands m count input stream left before held part r k one = record {
   session = r.session;
   lawful = r.lawful;
@@ -146,7 +146,7 @@ read_cut stands m count input stream left before held part r k one = record {
   output = r.output;
 }
 
-pub bad_at : {M : Type 0} (stands : M → State → Type 0) (m : M) (count limit : ℕ) (input left rest before held : Option (List ℕ)) (b : List ℕ) → HasRun stands m count input left before held → count < limit → TakesLine left rest b → SpellsNone b → IsBadAt (count + 1) limit input before held
+pub bad_at : {M : Type 0} (stands : M → ℕ → State → Type 0) (m : M) (count limit : ℕ) (input left rest before held : Option (List ℕ)) (b : List ℕ) → HasRun stands m count input left before held → count < limit → TakesLine left rest b → SpellsNone b → IsBadAt (count + 1) limit input before held
 bad_at stands m count limit input left rest before held b r lt t none = record {
   session = r.session;
   lawful = r.lawful;
@@ -156,7 +156,7 @@ bad_at stands m count limit input left rest before held b r lt t none = record {
   output = r.output;
 }
 
-pub long_at : {M : Type 0} (stands : M → State → Type 0) (m : M) (count limit : ℕ) (input left before held : Option (List ℕ)) → HasRun stands m count input left before held → count < limit → HasLongLine left → IsBadAt (count + 1) limit input before held
+pub long_at : {M : Type 0} (stands : M → ℕ → State → Type 0) (m : M) (count limit : ℕ) (input left before held : Option (List ℕ)) → HasRun stands m count input left before held → count < limit → HasLongLine left → IsBadAt (count + 1) limit input before held
 long_at stands m count limit input left before held r lt h = record {
   session = r.session;
   lawful = r.lawful;
@@ -166,7 +166,7 @@ long_at stands m count limit input left before held r lt h = record {
   output = r.output;
 }
 
-pub is_past : {M : Type 0} (stands : M → State → Type 0) (m : M) (count limit : ℕ) (input left before held : Option (List ℕ)) → HasRun stands m count input left before held → count ≡ limit → HasMore left → IsPast limit input before held
+pub is_past : {M : Type 0} (stands : M → ℕ → State → Type 0) (m : M) (count limit : ℕ) (input left before held : Option (List ℕ)) → HasRun stands m count input left before held → count ≡ limit → HasMore left → IsPast limit input before held
 is_past stands m count limit input left before held r all h = record {
   session = r.session;
   lawful = r.lawful;
@@ -175,7 +175,7 @@ is_past stands m count limit input left before held r all h = record {
   output = r.output;
 }
 
-pub is_spent : {M : Type 0} (stands : M → State → Type 0) (m : M) (count : ℕ) (input left before held : Option (List ℕ)) → HasRun stands m count input left before held → IsSpent input before held
+pub is_spent : {M : Type 0} (stands : M → ℕ → State → Type 0) (m : M) (count : ℕ) (input left before held : Option (List ℕ)) → HasRun stands m count input left before held → IsSpent input before held
 is_spent stands m count input left before held r = record { session = r.session; lawful = r.lawful; lines = fed_begins input left r.session r.fed; output = r.output }
 
 -- nothing was run
@@ -187,7 +187,7 @@ spent_at_once (Some i) before = record { session = []; lawful = tt; lines = (lin
 fronts : (all text : List ℕ) (n : ℕ) → all ++ take n text ≡ take (length all + n) (all ++ text)
 fronts all text n = sym (take-append-add all text n)
 
-pub write_cut : {M : Type 0} (stands : M → State → Type 0) (m new : M) (count : ℕ) (input left rest before held now : Option (List ℕ)) (b text : List ℕ) (n : ℕ) → (r : HasRun stands m count input left before held) → TakesLine left rest b → HasAnswered stands new r.session b text → Appends held now (take n text) → IsWriteCut input before now
+pub write_cut : {M : Type 0} (stands : M → ℕ → State → Type 0) (m new : M) (count : ℕ) (input left rest before held now : Option (List ℕ)) (b text : List ℕ) (n : ℕ) → (r : HasRun stands m count input left before held) → TakesLine left rest b → HasAnswered stands new r.session b text → Appends held now (take n text) → IsWriteCut input before now
 write_cut stands m new count input left rest before held now b text n r t a w =
     let p : Line × Answer = (a.line, a.answer) in
     let w2 : Appends held now (take n (answer_line a.answer)) = subst (λ (x : List ℕ). Appends held now (take n x)) a.told w in

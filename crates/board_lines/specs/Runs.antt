@@ -13,19 +13,19 @@ use Rattle.board_lines.specs.declared.error.ScriptError.TheVariants.{ReadFault, 
 
 -- ---- machines
 
--- the machine stands for this session, which is lawful and short enough that no number reaches its end
-pub record StandsFor {M : Type 0} (stands : M → State → Type 0) (m : M) (session : Session) : Type 0 where
+-- the machine stands for the number of lines and the last state of this session, which is lawful and short enough that no number reaches its end
+pub record StandsFor {M : Type 0} (stands : M → ℕ → State → Type 0) (m : M) (session : Session) : Type 0 where
   pub lawful : IsLawful session
   pub few : length session < 2 ^ 63
-  pub state : stands m (state_after start session)
+  pub state : stands m (length session) (state_after start session)
 
 -- the bytes spell a line, the text is the line of its right answer, and the machine stands for the session with this pair
-pub record HasAnswered {M : Type 0} (stands : M → State → Type 0) (new : M) (session : Session) (bytes text : List ℕ) : Type 0 where
+pub record HasAnswered {M : Type 0} (stands : M → ℕ → State → Type 0) (new : M) (session : Session) (bytes text : List ℕ) : Type 0 where
   pub line : Line
   pub answer : Answer
   pub spelled : Spells bytes line
   pub right : IsRight (state_after start session) line answer
-  pub state : stands new (after (state_after start session) line answer)
+  pub state : stands new (length session + 1) (after (state_after start session) line answer)
   pub told : text ≡ answer_line answer
 
 -- no line of the grammar has these bytes
@@ -94,10 +94,10 @@ IsStopped OutOfMemory limit input left before held = IsSpent input before held
 -- ---- inside a run
 
 -- so many lines were answered, and the rest is left
-pub record HasRun {M : Type 0} (stands : M → State → Type 0) (m : M) (count : ℕ) (input left before held : Option (List ℕ)) : Type 0 where
+pub record HasRun {M : Type 0} (stands : M → ℕ → State → Type 0) (m : M) (count : ℕ) (input left before held : Option (List ℕ)) : Type 0 where
   pub session : Session
   pub lawful : IsLawful session
-  pub state : stands m (state_after start session)
+  pub state : stands m (length session) (state_after start session)
   pub counted : length session ≡ count
   pub fed : Fed input left session
   pub output : Appends before held (output_of session)

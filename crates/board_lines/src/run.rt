@@ -1,5 +1,5 @@
 //! Lines that are run one after another.
-ghost use Rattle.std.specs.Prelude.{◌≡◌, ◌≤◌, ◌^◌, [], IfErr, IsErrOf, IsSomeAnd, List, OnErr, OnOk};
+ghost use Rattle.std.specs.Prelude.{◌≡◌, ◌≤◌, ◌^◌, [], IfErr, IsErrOf, IsSomeAnd, List, OnErr, OnOk, ℕ};
 ghost use Rattle.std.specs.Io.KnownBytes.{IsAtEnd};
 ghost use Rattle.board_model.specs.Lines.{Rose};
 ghost use Rattle.board_model.specs.Script.{IsScript};
@@ -14,9 +14,9 @@ use std::alloc::Global;
 
 /// What answers the lines of a script.
 ///
-/// Contracts see the states for which a machine stands: those after the lawful sessions that may have led to it.
+/// Contracts see for which numbers of lines and which states a machine stands: those of the lawful sessions that may have led to it.
 pub trait RunsLines {
-    ghost stands: { Self → State → Type 0 };
+    ghost stands: { Self → ℕ → State → Type 0 };
 
     /// Answers a line: `answer` then has the answer and its newline, and nothing else.
     ///
@@ -31,7 +31,7 @@ pub trait RunsLines {
 
         // A line outside the grammar is refused, no other one is, and nothing changes.
         ensures bad { IsErrOf result LineError.Bad → SpellsNone line.now }
-        ensures same { IsErrOf result LineError.Bad → (s : State) → stands self.old s → stands self.new s }
+        ensures same { IsErrOf result LineError.Bad → (n : ℕ) (s : State) → stands self.old n s → stands self.new n s }
 
         ensures err { OnErr result (answer.new.items ≡ []) };
 }
@@ -50,7 +50,7 @@ pub fn run_lines<M: RunsLines, S: Source, K: Sink>(
     sink: &mut K,
 ) -> Result<(), ScriptError>
     requires limit { limit ≤ 4294967295 }
-    requires machine { M.stands machine.old start }
+    requires machine { M.stands machine.old 0 start }
 
     // The sink gained the output of the lawful session of the input's lines, which was read to its end.
     ensures ok { OnOk result (IsRunOf limit (S.left source.old) (K.held sink.old) (K.held sink.new)) }

@@ -72,7 +72,7 @@ formed_board number name k limits attributes entries h le = record {
   name = h.text;
   readers = limit_number 8 limits.max_readers (omega arith) h.bounds.readers;
   nodes = limit_number 20 limits.max_nodes (omega arith) h.bounds.nodes;
-  attributes = h.few;
+  attributes = h.pairs.few;
   entries = omega (arith, entries_few (places_from 0 (shapes_of (map added_of entries))) entries, entries_paid entries, le);
   keys = subst (λ (x : KeyType). AllByRecursion (IsFormedEntry x) (entries_of (places_from 0 (shapes_of (map added_of entries))) (map added_of entries))) (sym (detail_again k)) (formed_entries k 0 entries h.each h.types);
 }

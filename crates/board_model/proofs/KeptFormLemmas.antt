@@ -146,8 +146,8 @@ formed_begun : (n : ℕ) (s : State) (p : List ℕ) (c : Call) → AreFormedTabl
 formed_begun n s p (call.Create f name k limits attributes entries) w z m h e =
     let q = call_accepted (s.parties p) (call_reason s.standing p (call.Create f name k limits attributes entries) (Some (table (create f name k limits attributes entries)))) e in
     let t : list_all (has_key_type k) entries ≡ true = typed_call (is_taken s.standing p (Some f)) (list_all (has_key_type k) entries) true true q in
-    (m, record { text = h.1; bounds = h.2; few = h.3.few; each = h.4; types = t })
-formed_begun n s p (call.Open f name k limits needs) w z m h e = (m, tt)
+    (m, record { text = h.1; bounds = h.2; pairs = h.3; each = h.4; types = t })
+formed_begun n s p (call.Open f name k limits needs) w z m h e = (m, record { text = h.1; needed = h.3 })
 formed_begun n s p (call.Reader r f) w z m h e = and_formed n p (held_of_kind s.standing thing_kind.Factory p f) _ (λ t. (m, tt))
 formed_begun n s p (call.Writer x f) w z m h e = and_formed n p (held_of_kind s.standing thing_kind.Factory p f) _ (λ t. (m, tt))
 formed_begun n s p (call.Entry d r k type) w z m h e = and_formed n p (held_of_kind s.standing thing_kind.Reader p r) _ (λ t. (m, tt))
@@ -169,7 +169,7 @@ formed_begun n s p (call.Gen d) w z m h e = and_formed n p (handle_of s.standing
 -- a call's port stays below a larger number
 weaker_table : (n : ℕ) (c : TableCall) → IsFormedInTable n c → IsFormedInTable (n + 1) c
 weaker_table n (create f name k limits attributes entries) h = h
-weaker_table n (join f name k limits needs) h = tt
+weaker_table n (join f name k limits needs) h = h
 weaker_table n (reader name x) h = tt
 weaker_table n (writer name x) h = tt
 weaker_table n (entry name x k type) h = tt

@@ -9,6 +9,7 @@ use Rattle.board_model.specs.declared.access.Access.{Access}
 use Rattle.board_model.specs.declared.access.Access.TheVariants as access
 use Rattle.board_model.specs.declared.tables.Board.{Board}
 use Rattle.board_model.specs.declared.tables.ThingKind.{ThingKind}
+use Rattle.board_model.specs.declared.value.Key.{Key}
 use Rattle.board_model.specs.Copies.{spare_at}
 use Rattle.board_model.specs.TypeTable.{value_words}
 use Rattle.board_model.specs.Tables.{Tables, board_at, entry_at, entry_in, entry_of, is_write_handle}
@@ -16,8 +17,8 @@ use Rattle.board_model.specs.Things.{Held, Standing, cell_shape, thing_of}
 use Rattle.board_model.specs.Requests.{Fetch, Request, TableCall, create, describe, entry, entry_mut, fill, fresh, get, give_back, identify, join, lend, list_keys, list_nodes, publish, put, reader, table, tell, update, writer}
 use Rattle.board_model.specs.Replies.{word_put}
 use Rattle.board_model.specs.Parties.{Party, Running, count_write, free, gone, notice, reading, running, with_party}
-use Rattle.board_model.specs.LawfulSession.{State}
-use Rattle.board_model.specs.Sound.{AreBoards, HasBoard, HasEntry, IsCalling, IsEntryOf, IsFree, IsGetting, IsHeldThing, IsHolding, IsLent, IsLoan, IsOfBoard, IsParty, IsPublishing, IsReading, IsTableCall, IsWriting, Sound, Stands, is_suspended}
+use Rattle.board_model.specs.LawfulSession.{State, is_typed_key}
+use Rattle.board_model.specs.Sound.{AreBoards, HasBoard, HasEntry, IsCalling, IsEntryOf, IsFree, IsGetting, IsHeldThing, IsHolding, IsLent, IsLoan, IsOfBoard, IsParty, IsPublishing, IsReading, IsTableCall, IsTypedKey, IsWriting, Sound, Stands, is_suspended}
 use Rattle.board_model.proofs.ListLemmas.{other_bytes, same_bytes}
 use Rattle.board_model.proofs.ThingLemmas.{all_found, different_bytes, of_entry, same_to_itself}
 
@@ -40,6 +41,9 @@ module _ (s new : Standing) (q : List ℕ) (k : KeepsThings s new q) where
 
   kept_held_thing : (kind : ThingKind) (x : Held) → IsHeldThing s q kind x → IsHeldThing new q kind x
   kept_held_thing kind x h = record { found = k.things x.name ∙ h.found; kind = h.kind }
+
+  kept_typed : (x : Held) (key : Key) → thing_of s.tables.things q x.name ≡ Some x → IsTypedKey s x key → IsTypedKey new x key
+  kept_typed x key f h = ap (λ (o : Option Board). is_typed_key o key) (k.boards x.name x f) ∙ h
 
   kept_entry : (name : List ℕ) (x : Held) (i : ℕ) → thing_of s.tables.things q name ≡ Some x → entry_at new.tables x.board i ≡ entry_at s.tables x.board i
   kept_entry name x i f = ap (λ (o : Option Board). entry_in o i) (k.boards name x f)
@@ -104,8 +108,8 @@ module _ (s new : State) (a : Access) (q : List ℕ) (k : Spares s new a q) wher
   spared_tables (join f name t limits needs) h = kept_free s.standing new.standing q k.things f h
   spared_tables (reader name x) h = (kept_free s.standing new.standing q k.things name h.0, kept_held_thing s.standing new.standing q k.things _ x h.1)
   spared_tables (writer name x) h = (kept_free s.standing new.standing q k.things name h.0, kept_held_thing s.standing new.standing q k.things _ x h.1)
-  spared_tables (entry name x t type) h = (kept_free s.standing new.standing q k.things name h.0, kept_held_thing s.standing new.standing q k.things _ x h.1)
-  spared_tables (entry_mut name x t type) h = (kept_free s.standing new.standing q k.things name h.0, kept_held_thing s.standing new.standing q k.things _ x h.1)
+  spared_tables (entry name x t type) h = (kept_free s.standing new.standing q k.things name h.0, kept_held_thing s.standing new.standing q k.things _ x h.1, kept_typed s.standing new.standing q k.things x t h.1.found h.2)
+  spared_tables (entry_mut name x t type) h = (kept_free s.standing new.standing q k.things name h.0, kept_held_thing s.standing new.standing q k.things _ x h.1, kept_typed s.standing new.standing q k.things x t h.1.found h.2)
   spared_tables (lend l) h = (kept_free s.standing new.standing q k.things l.loan h.0, spared_writing l.handle l.board l.entry l.shape l.generation false h.1)
   spared_tables (give_back l) h = (kept_free s.standing new.standing q k.things l.handle h.0, spared_writing l.loan l.board l.entry l.shape l.generation true h.1)
   spared_tables (list_keys x) h = kept_held_thing s.standing new.standing q k.things _ x h

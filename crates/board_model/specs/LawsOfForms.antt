@@ -3,6 +3,7 @@ use Rattle.std.specs.Prelude.{◌≡◌, ℕ, ◌^◌, ◌<◌, ◌≤◌, true,
 use Rattle.std.specs.List.{AllByRecursion, list_all}
 use Rattle.board_model.specs.declared.answer.Answer.{Answer}
 use Rattle.board_model.specs.declared.attributes.Attribute.{Attribute}
+use Rattle.board_model.specs.declared.attributes.Requirements.{Requirements}
 use Rattle.board_model.specs.declared.line.Line.{Line}
 use Rattle.board_model.specs.declared.tables.Board.{Board}
 use Rattle.board_model.specs.declared.tables.Entry.{Entry}
@@ -10,12 +11,12 @@ use Rattle.board_model.specs.declared.tables.Limits.{Limits}
 use Rattle.board_model.specs.declared.value.AddedEntry.{AddedEntry}
 use Rattle.board_model.specs.declared.value.Key.{Key}
 use Rattle.board_model.specs.declared.value.KeyType.{KeyType}
-use Rattle.board_model.specs.LineGrammar.{AreLimits, IsAddedEntry, IsKey, IsNumber, IsLine, is_board_name, is_name}
+use Rattle.board_model.specs.LineGrammar.{AreAttributes, AreLimits, AreRequirements, IsAddedEntry, IsKey, IsNumber, IsLine, is_board_name, is_name}
 use Rattle.board_model.specs.AnswerGrammar.{IsAnswer}
 use Rattle.board_model.specs.TypeTable.{key_bytes, key_type_of, type_of_key}
 use Rattle.board_model.specs.Tables.{port_of}
 use Rattle.board_model.specs.Things.{Held}
-use Rattle.board_model.specs.Requests.{Request, TableCall, create, identify, table}
+use Rattle.board_model.specs.Requests.{Request, TableCall, create, identify, join, table}
 use Rattle.board_model.specs.Parties.{Party, free, gone, running}
 use Rattle.board_model.specs.LawfulSession.{IsLawful, IsOwed, IsReasoned, IsReplied, IsRight, IsWord, Session, State, has_key_type, reason_of, start, state_after}
 use Rattle.board_model.specs.Sound.{BoardTables}
@@ -54,13 +55,19 @@ pub record AreFormedTables (t : BoardTables) (n : ℕ) : Type 0 where
 pub record IsFormedCreate (name : List ℕ) (k : KeyType) (limits : Limits) (attributes : List Attribute) (entries : List AddedEntry) : Type 0 where
   pub text : is_board_name name ≡ true
   pub bounds : AreLimits limits
-  pub few : length attributes ≤ 8
+  pub pairs : AreAttributes attributes
   pub each : AllByRecursion IsAddedEntry entries
   pub types : list_all (has_key_type k) entries ≡ true
 
--- a new board of a call is of the grammar, and a thing that it asks for has a port that was drawn
+-- what an opener names and needs
+pub record IsFormedOpen (name : List ℕ) (needs : Requirements) : Type 0 where
+  pub text : is_board_name name ≡ true
+  pub needed : AreRequirements needs
+
+-- a board that a call makes or opens is of the grammar, and a thing that it asks for has a port that was drawn
 abbrev pub IsFormedInTable : ℕ → TableCall → Type 0
 IsFormedInTable n (create f name k limits attributes entries) = IsFormedCreate name k limits attributes entries
+IsFormedInTable n (join f name k limits needs) = IsFormedOpen name needs
 IsFormedInTable n (identify x) = port_of x.kind ≤ n
 IsFormedInTable n c = Unit {0}
 

@@ -9,6 +9,7 @@ use Rattle.board_model.specs.declared.tables.Kind.{Kind}
 use Rattle.board_model.specs.declared.tables.Kind.TheVariants as kind
 use Rattle.board_model.specs.declared.tables.ThingKind.{ThingKind}
 use Rattle.board_model.specs.declared.tables.ThingKind.TheVariants as thing_kind
+use Rattle.board_model.specs.declared.value.Key.{Key}
 use Rattle.board_model.specs.declared.value.KeyType.{KeyType}
 use Rattle.board_model.specs.declared.value.ValueType.{ValueType}
 use Rattle.board_model.specs.Copies.{cell_end, current_at, spare_at}
@@ -19,7 +20,7 @@ use Rattle.board_model.specs.Things.{Held, Standing, cell_shape, thing_of}
 use Rattle.board_model.specs.Requests.{Fetch, Lending, Look, Published, Request, TableCall, create, describe, entry, entry_mut, fill, fresh, get, give_back, identify, join, lend, list_keys, list_nodes, publish, put, reader, table, tell, update, writer}
 use Rattle.board_model.specs.Replies.{latest, word_put}
 use Rattle.board_model.specs.Parties.{Party, Running, free, gone, reading, running}
-use Rattle.board_model.specs.LawfulSession.{State}
+use Rattle.board_model.specs.LawfulSession.{State, is_typed_key}
 
 -- ---- boards, words and lists
 
@@ -198,14 +199,18 @@ pub record IsHeldThing (s : Standing) (party : List ℕ) (k : ThingKind) (x : He
   pub found : thing_of s.tables.things party x.name ≡ Some x
   pub kind : kind_of x.kind ≡ k
 
--- what a call on the tables uses is still held, and the name for what it makes is free
+-- the key is of the type of the keys of the thing's board
+abbrev pub IsTypedKey : Standing → Held → Key → Type 0
+IsTypedKey s x k = is_typed_key (board_at s.tables x.board) k ≡ true
+
+-- what a call on the tables uses is still held, the name for what it makes is free, and its key is typed
 abbrev pub IsTableCall : State → List ℕ → TableCall → Type 0
 IsTableCall s party (create f name k limits attributes entries) = IsFree s.standing party f
 IsTableCall s party (join f name k limits needs) = IsFree s.standing party f
 IsTableCall s party (reader name x) = IsFree s.standing party name × IsHeldThing s.standing party thing_kind.Factory x
 IsTableCall s party (writer name x) = IsFree s.standing party name × IsHeldThing s.standing party thing_kind.Factory x
-IsTableCall s party (entry name x k type) = IsFree s.standing party name × IsHeldThing s.standing party thing_kind.Reader x
-IsTableCall s party (entry_mut name x k type) = IsFree s.standing party name × IsHeldThing s.standing party thing_kind.Writer x
+IsTableCall s party (entry name x k type) = IsFree s.standing party name × IsHeldThing s.standing party thing_kind.Reader x × IsTypedKey s.standing x k
+IsTableCall s party (entry_mut name x k type) = IsFree s.standing party name × IsHeldThing s.standing party thing_kind.Writer x × IsTypedKey s.standing x k
 IsTableCall s party (lend l) = IsFree s.standing party l.loan × IsLending s party l l.handle false
 IsTableCall s party (give_back l) = IsFree s.standing party l.handle × IsLending s party l l.loan true
 IsTableCall s party (list_keys x) = IsHeldThing s.standing party thing_kind.Factory x

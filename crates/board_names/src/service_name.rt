@@ -55,6 +55,14 @@ impl ServiceName {
         })
     }
 
+    /// The name of a text that is known to be one.
+    pub fn from_text(text: Text<255>) -> ServiceName
+        requires { IsServiceName text }
+        ensures { result ≡ text }
+    {
+        ServiceName { text }
+    }
+
     /// Its bytes.
     pub fn as_bytes(&self) -> &[u8]
         ensures value { result.now ≡ self.now }

@@ -55,7 +55,7 @@ impl RunsLines for Idle {
     ghost use Rattle.std.specs.Prelude.{◌≡◌};
     ghost use Rattle.board_model.specs.LawfulSession.{start};
 
-    ghost stands = { λ machine s. s ≡ start };
+    ghost stands = { λ machine n s. s ≡ start };
 
     fn line(&mut self, line: &[u8], answer: &mut Vec<u8>) -> Result<(), LineError> {
         answer.clear();

@@ -1,11 +1,11 @@
 //! New boards.
-ghost use Rattle.std.specs.Prelude.{◌≡◌, ◌≤◌, ◌<◌, ◌^◌, None, length, map, All, IfOk, OnOk, OnErr};
+ghost use Rattle.std.specs.Prelude.{◌≡◌, ◌≤◌, ◌<◌, ◌^◌, None, length, map, All, IfOk, IfSome, OnOk, OnErr};
 ghost use Rattle.board_layout.specs.Answer.{Answers, Refuses};
 ghost use Rattle.board_layout.specs.Keys.{details, same_keys};
-ghost use Rattle.board_layout.specs.Layout.{IsShape, payload, places_from};
+ghost use Rattle.board_layout.specs.Layout.{IsShape, opening_words, payload, places_from};
 ghost use Rattle.board_model.specs.Tables.{shapes_of};
 ghost use Rattle.board_service.specs.Domain as domain;
-ghost use Rattle.board_service.specs.Entries.{added_of};
+ghost use Rattle.board_service.specs.Entries.{IsOpening, added_of, words_in};
 ghost use Rattle.board_store.specs.Table.{at, putting};
 ghost use Rattle.board_store.specs.declared.statics.Stored.TheVariants.{Final};
 
@@ -38,6 +38,7 @@ fn make_described<C: Cells>(
     requires small { payload (shapes_of (map added_of entries.now.items)) < 2 ^ 32 }
     requires free { at descriptions.old path.now ≡ None }
     ensures opened { IfOk result (λ c. C.opened plan.now.cells.items (map added_of entries.now.items) c) }
+    ensures words { IfOk result (λ c. IfSome (C.words c) (λ ws. ws ≡ opening_words 0 plan.now.cells.items (map words_in (map added_of entries.now.items)))) }
     ensures ok { OnOk result (descriptions.new ≡ putting descriptions.old path.now (Final bytes.now)) }
     ensures err { OnErr result (descriptions.new ≡ descriptions.old) }
 {
@@ -54,7 +55,7 @@ fn make_described<C: Cells>(
 }
 
 impl<C: Cells> DomainCore<C> {
-    /// Makes a board, and a factory of it for a node. `number` is the board's. A limit of `None` is 8 readers or 20 nodes; one of 0 is raised to 1.
+    /// Makes a board, and a factory of it for a node. `number` is the board's. Where the cells tell their words, they are those that open with the entries' values. A limit of `None` is 8 readers or 20 nodes; one of 0 is raised to 1.
     ///
     /// # Errors
     /// The first that holds: `AlreadyExists`, a board of this name stands; `NoEntriesProvided`; `ServiceInCorruptedState`, two keys are equal by `K`, or the cells ask for more than 4294967295 bytes; `NumbersSpent`; `OutOfMemory`. All stays as it was.
@@ -70,7 +71,7 @@ impl<C: Cells> DomainCore<C> {
         requires shapes { All IsShape (shapes_of (map added_of entries.items)) }
         ensures answer { Answers result BlackboardCreateError.OutOfMemory (domain.create_answer self.old (same_keys K.eq K.value_of K.SIZE K.WORDS) name.now (map added_of entries.items)) }
         ensures refused { Refuses result (domain.create_answer self.old (same_keys K.eq K.value_of K.SIZE K.WORDS) name.now (map added_of entries.items)) }
-        ensures ok { OnOk result ((c : C) × C.opened (places_from 0 (shapes_of (map added_of entries.items))) (map added_of entries.items) c × (self.new ≡ domain.after_create self.old node name.now (details K.type_bytes K.SIZE K.ALIGNMENT) limits attributes (map added_of entries.items) c)) }
+        ensures ok { OnOk result ((c : C) × C.opened (places_from 0 (shapes_of (map added_of entries.items))) (map added_of entries.items) c × IsOpening (C.words c) (map added_of entries.items) × (self.new ≡ domain.after_create self.old node name.now (details K.type_bytes K.SIZE K.ALIGNMENT) limits attributes (map added_of entries.items) c)) }
         ensures err { OnErr result (self.new ≡ self.old) }
     {
         let wanted = entries.as_slice();

@@ -2,7 +2,7 @@
 ghost use Rattle.std.specs.Prelude.{◌≡◌, find, option_map, is_some, IsSome};
 ghost use Rattle.std.specs.Bool.{OnTrue};
 ghost use Rattle.board_layout.specs.Keys.{details};
-ghost use Rattle.board_model.specs.Tables.{board_at};
+ghost use Rattle.board_model.specs.Tables.{board_at, entry_at};
 ghost use Rattle.board_service.specs.Domain as domain;
 ghost use Rattle.board_service.specs.Descriptions.{ShowsDescription};
 ghost use Rattle.board_service.specs.Told as told;
@@ -16,7 +16,7 @@ use crate::lookups::{board_at, has_details, is_kind, thing_at, thing_of};
 use crate::told::{DynamicConfig, StaticConfig};
 use board_concepts::AttributeSet;
 use board_layout::{BoardKey, KeyMemory, TypeDetail, TypeVariant};
-use board_model::ThingKind;
+use board_model::{Entry, ThingKind};
 use board_names::ServiceName;
 
 impl<C: Cells> DomainCore<C> {
@@ -109,6 +109,16 @@ impl<C: Cells> DomainCore<C> {
     {
         match board_at(board, &self.boards) {
             Some(b) => node_at(b.number(), index, &self.things),
+            None => None,
+        }
+    }
+
+    /// The entry at this place among those of the board, in the order of adding.
+    pub fn entry_at(&self, board: u64, index: u64) -> Option<&Entry>
+        ensures { option_map (λ e. e.now) result ≡ entry_at self.now.tables board index }
+    {
+        match board_at(board, &self.boards) {
+            Some(b) => b.entries().get(index as usize),
             None => None,
         }
     }

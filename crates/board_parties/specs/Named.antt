@@ -1,0 +1,96 @@
+-- How the things that parties named stand for those of a domain's core. No public clause speaks of what follows.
+use Rattle.std.specs.Prelude.{◌≡◌, ◌≢◌, ℕ, ◌+◌, ◌-◌, ◌<◌, ◌≤◌, List, [], ◌∷◌, ◌++◌, length, map, replicate, take, Option, Some, None, slice_index_or, Result, Ok, Err}
+use Rattle.std.specs.List.{AllByRecursion, position_from}
+use Rattle.std.specs.Str.{bytes_eq}
+use Rattle.board_model.specs.declared.tables.Board.{Board}
+use Rattle.board_model.specs.declared.tables.Entry.{Entry}
+use Rattle.board_model.specs.declared.tables.Thing.{Thing}
+use Rattle.board_model.specs.Tables.{Added, rename}
+use Rattle.board_model.specs.Things.{Held}
+use Rattle.board_service.specs.Domain.{Domain}
+
+-- ---- keys
+
+-- eight bytes, and zeros behind them
+pub record IsShortKey (bytes : List ℕ) : Type 0 where
+  pub size : length (take 8 bytes) ≡ 8
+  pub small : AllByRecursion (λ b. b < 256) (take 8 bytes)
+  pub rest : bytes ≡ take 8 bytes ++ replicate 56 0
+
+abbrev pub HasShortKey : Added → Type 0
+HasShortKey a = IsShortKey a.key
+
+-- the keys of a board's entries are short
+abbrev pub HasShortKeys : Board → Type 0
+HasShortKeys b = AllByRecursion (λ (e : Entry). IsShortKey e.key.bytes) b.entries
+
+-- ---- nodes
+
+-- node n is the party at place n - 1
+abbrev pub party_at : List (List ℕ) → ℕ → List ℕ
+party_at nodes n = slice_index_or nodes (n - 1) []
+
+-- the place where the party stands
+abbrev pub node_place : List ℕ → List (List ℕ) → Option ℕ
+node_place party nodes = position_from (bytes_eq party) 0 nodes
+
+-- the number of a party that is a node, or the next number
+abbrev pub node_or_next : ℕ → Option ℕ → ℕ
+node_or_next next None = next
+node_or_next next (Some place) = place + 1
+
+abbrev pub node_number : List ℕ → List (List ℕ) → ℕ
+node_number party nodes = node_or_next (length nodes + 1) (node_place party nodes)
+
+-- the nodes with a party that may be one already
+abbrev pub nodes_or_more : List ℕ → List (List ℕ) → Option ℕ → List (List ℕ)
+nodes_or_more party nodes None = nodes ++ party ∷ []
+nodes_or_more party nodes (Some place) = nodes
+
+abbrev pub nodes_with : List ℕ → List (List ℕ) → List (List ℕ)
+nodes_with party nodes = nodes_or_more party nodes (node_place party nodes)
+
+-- each party is one node
+abbrev pub AreParties : List (List ℕ) → Type 0
+AreParties [] = Unit {0}
+AreParties (p ∷ ps) = AllByRecursion (λ q. bytes_eq p q ≡ false) ps × AreParties ps
+
+-- a thing's holder is one of so many nodes
+pub record IsOfNode (count : ℕ) (t : Thing ℕ ℕ) : Type 0 where
+  pub some : 0 < t.holder
+  pub most : t.holder ≤ count
+
+-- ---- things
+
+-- without its name
+abbrev pub nameless : {N : Type 0} → N → List ℕ
+nameless name = []
+
+-- the holder as it is
+abbrev pub own : List ℕ → List ℕ
+own party = party
+
+abbrev pub number_of : Thing ℕ ℕ → ℕ
+number_of t = t.name
+
+-- the numbers differ
+abbrev pub AreApart : List ℕ → Type 0
+AreApart [] = Unit {0}
+AreApart (n ∷ ns) = AllByRecursion (λ m. n ≢ m) ns × AreApart ns
+
+-- but for their names the things are the core's, with parties in place of nodes; each has its number
+pub record IsNamed {C : Type 0} (nodes : List (List ℕ)) (numbers : List ℕ) (things : List Held) (d : Domain C) : Type 0 where
+  pub same : map (rename (party_at nodes) nameless) d.tables.things ≡ map (rename own nameless) things
+  pub numbered : map number_of d.tables.things ≡ numbers
+  pub apart : AreApart numbers
+  pub drawn : AllByRecursion (λ n. n ≤ d.last_thing) numbers
+  pub holders : AllByRecursion (IsOfNode (length nodes)) d.tables.things
+  pub parties : AreParties nodes
+  pub keys : AllByRecursion HasShortKeys d.tables.boards
+
+-- ---- answers
+
+-- the number in an answer
+abbrev pub number_in : {M E : Type 0} → (M → ℕ) → Result M E → Result ℕ E
+number_in f (Ok m) = Ok (f m)
+number_in f (Err e) = Err e
