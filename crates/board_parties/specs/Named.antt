@@ -1,12 +1,12 @@
 -- How the things that parties named stand for those of a domain's core. No public clause speaks of what follows.
-use Rattle.std.specs.Prelude.{◌≡◌, ◌≢◌, ℕ, ◌+◌, ◌-◌, ◌<◌, ◌≤◌, List, [], ◌∷◌, ◌++◌, length, map, replicate, take, Option, Some, None, slice_index_or, Result, Ok, Err}
+use Rattle.std.specs.Prelude.{◌≡◌, ◌≢◌, ℕ, ◌+◌, ◌-◌, ◌<◌, ◌≤◌, List, [], ◌∷◌, ◌++◌, length, map, replicate, take, Option, Some, None, slice_get, slice_index_or, Result, Ok, Err}
 use Rattle.std.specs.List.{AllByRecursion, position_from}
 use Rattle.std.specs.Str.{bytes_eq}
 use Rattle.board_model.specs.declared.tables.Board.{Board}
 use Rattle.board_model.specs.declared.tables.Entry.{Entry}
 use Rattle.board_model.specs.declared.tables.Thing.{Thing}
 use Rattle.board_model.specs.Tables.{Added, rename}
-use Rattle.board_model.specs.Things.{Held}
+use Rattle.board_model.specs.Things.{Held, is_held_as}
 use Rattle.board_service.specs.Domain.{Domain}
 
 -- ---- keys
@@ -77,6 +77,10 @@ number_of t = t.name
 abbrev pub AreApart : List ℕ → Type 0
 AreApart [] = Unit {0}
 AreApart (n ∷ ns) = AllByRecursion (λ m. n ≢ m) ns × AreApart ns
+
+-- the thing stands first at the place of its number
+abbrev pub IsNumberIn : List Held → List ℕ → Held → ℕ → Type 0
+IsNumberIn things numbers x number = (place : ℕ) × (position_from (is_held_as x.holder x.name) 0 things ≡ Some place) × (slice_get numbers place ≡ Some number)
 
 -- but for their names the things are the core's, with parties in place of nodes; each has its number
 pub record IsNamed {C : Type 0} (nodes : List (List ℕ)) (numbers : List ℕ) (things : List Held) (d : Domain C) : Type 0 where

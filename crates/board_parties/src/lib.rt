@@ -9,7 +9,7 @@ mod replies;
 mod typed_calls;
 mod values;
 
-pub use lists::{keys_of, nodes_at};
+pub use lookups::Held;
 pub use party_domain::PartyDomain;
 pub use values::{
     key_bytes, key_detail, key_of, key_type_of, same_key_type, same_type, type_of, type_of_key,

@@ -1,12 +1,16 @@
 //! What stands among the things and the nodes.
-ghost use Rattle.std.specs.Prelude.{◌≡◌, ◌+◌, ◌<◌, length, option_map};
+ghost use Rattle.std.specs.Prelude.{◌≡◌, ◌+◌, ◌<◌, Some, length, map, option_map};
+ghost use Rattle.std_alloc.specs.Vec.{vec_capacity, vec_len};
 ghost use Rattle.std.specs.List.{position_from};
 ghost use Rattle.std.specs.Str.{bytes_eq};
 ghost use Rattle.board_model.specs.Tables as tables;
 ghost use Rattle.board_model.specs.Things as held;
-ghost use Rattle.board_parties.specs.Named.{node_number, node_place};
+ghost use Rattle.board_parties.specs.Named.{IsNumberIn, node_number, node_place, nodes_with};
 
 use board_model::{Kind, Name, Thing, ThingKind};
+use board_layout::Text;
+use board_names::ServiceName;
+use board_service::ThingId;
 
 /// A thing of a board, under its party and its name.
 pub type Held = Thing<Name, Name>;
@@ -108,4 +112,36 @@ pub(crate) fn join(party: Name, nodes: &mut Vec<Name>)
         Some(_) => {}
         None => nodes.push_reserved(party),
     }
+}
+
+/// The number of a thing that stands, where these are the numbers of the things, in their order.
+pub(crate) fn number_of(thing: &Held, things: &[Held], numbers: &[ThingId]) -> ThingId
+    requires stands { held.thing_of things.now thing.now.holder thing.now.name ≡ Some thing.now }
+    requires each { length numbers.now ≡ length things.now }
+    ensures { IsNumberIn things.now numbers.now thing.now result }
+{
+    match place_of_thing(&thing.holder, &thing.name, things) {
+        Some(place) => numbers[place],
+        None => unreachable!(),
+    }
+}
+
+/// The port of a writer, or of the handles made from it.
+pub(crate) fn port_of(kind: &Kind) -> u64
+    ensures { result ≡ tables.port_of kind.now }
+{
+    match kind {
+        Kind::Factory => 0,
+        Kind::Reader { port } => *port,
+        Kind::Writer { port } => *port,
+        Kind::ReadHandle { entry: _ } => 0,
+        Kind::WriteHandle { entry: _, port } => *port,
+    }
+}
+
+/// The text of a service's name.
+pub(crate) fn name_text(name: &ServiceName) -> Text<255>
+    ensures { result ≡ name.now }
+{
+    Text::of(name.as_bytes())
 }

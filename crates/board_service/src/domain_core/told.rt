@@ -2,7 +2,7 @@
 ghost use Rattle.std.specs.Prelude.{◌≡◌, find, option_map, is_some, IsSome};
 ghost use Rattle.std.specs.Bool.{OnTrue};
 ghost use Rattle.board_layout.specs.Keys.{details};
-ghost use Rattle.board_model.specs.Tables.{board_at, entry_at};
+ghost use Rattle.board_model.specs.Tables.{board_at};
 ghost use Rattle.board_service.specs.Domain as domain;
 ghost use Rattle.board_service.specs.Descriptions.{ShowsDescription};
 ghost use Rattle.board_service.specs.Told as told;
@@ -113,12 +113,12 @@ impl<C: Cells> DomainCore<C> {
         }
     }
 
-    /// The entry at this place among those of the board, in the order of adding.
-    pub fn entry_at(&self, board: u64, index: u64) -> Option<&Entry>
-        ensures { option_map (λ e. e.now) result ≡ entry_at self.now.tables board index }
+    /// The entries of the board, in the order of adding.
+    pub fn entries_of(&self, board: u64) -> Option<&[Entry]>
+        ensures { option_map (λ es. es.now) result ≡ option_map (λ b. b.entries) (board_at self.now.tables board) }
     {
         match board_at(board, &self.boards) {
-            Some(b) => b.entries().get(index as usize),
+            Some(b) => Some(b.entries()),
             None => None,
         }
     }
