@@ -16,5 +16,3 @@ pub use values::{
     value_detail, value_type_of, value_words,
 };
 
-#[cfg(test)]
-mod tests;

@@ -1,6 +1,5 @@
 //! What stands among the things and the nodes.
-ghost use Rattle.std.specs.Prelude.{◌≡◌, ◌+◌, ◌<◌, Some, length, map, option_map};
-ghost use Rattle.std_alloc.specs.Vec.{vec_capacity, vec_len};
+ghost use Rattle.std.specs.Prelude.{◌≡◌, ◌+◌, ◌<◌, Some, length, map, option_map, vec_capacity, vec_len};
 ghost use Rattle.std.specs.List.{position_from};
 ghost use Rattle.std.specs.Str.{bytes_eq};
 ghost use Rattle.board_model.specs.Tables as tables;
@@ -67,6 +66,19 @@ pub(crate) fn held_of_kind(
             }
         }
         None => None,
+    }
+}
+
+/// The place of a handle's entry among those of its board.
+pub(crate) fn entry_of(kind: &Kind) -> u64
+    ensures { result ≡ tables.entry_of kind.now }
+{
+    match kind {
+        Kind::Factory => 0,
+        Kind::Reader { port: _ } => 0,
+        Kind::Writer { port: _ } => 0,
+        Kind::ReadHandle { entry } => *entry,
+        Kind::WriteHandle { entry, port: _ } => *entry,
     }
 }
 

@@ -5,13 +5,13 @@ ghost use Rattle.board_model.specs.LineGrammar.{AreAttributes, AreRequirements, 
 ghost use Rattle.board_model.specs.Replies as replies;
 ghost use Rattle.board_model.specs.Tables as tables;
 ghost use Rattle.board_model.specs.Things as held;
-ghost use Rattle.board_parties.specs.Overview.{keys_shown};
+ghost use Rattle.board_parties.specs.Overview.{keys_shown, standing_with};
 ghost use Rattle.board_parties.specs.Parties.{HasWord, IsCreate, IsEntry, IsEntryMut, IsFew, IsLoaded, IsOpen, IsReader, IsReleased, IsStored, IsWriter, Stands, board_words, no_parties};
 
 use crate::adding::{attributes_for, entries_for, needs_for};
 use crate::lists::{keys_of, nodes_at};
 use crate::lookups::{
-    Held, held_of_kind, join, name_text, node_for, number_of, place_of_thing, port_of, rename, thing_of,
+    Held, entry_of, held_of_kind, join, name_text, node_for, number_of, place_of_thing, port_of, rename, thing_of,
 };
 use crate::replies::{
     create_refused, entry_mut_refused, entry_refused, open_refused, reader_refused, writer_refused,
@@ -43,7 +43,7 @@ pub struct PartyDomain<C: BoardWords> {
 impl<C: BoardWords> Model for PartyDomain<C> {
     ghost use Rattle.std.specs.Prelude.{map};
     ghost use Rattle.board_parties.specs.Named.{IsNamed};
-    ghost use Rattle.board_parties.specs.Overview.{keys_shown};
+    ghost use Rattle.board_parties.specs.Overview.{keys_shown, standing_with};
 ghost use Rattle.board_parties.specs.Parties.{Parties};
 
     ghost Value = { Parties };
@@ -356,6 +356,20 @@ impl<C: BoardWords + Drop> PartyDomain<C> {
             let number = self.numbers.remove(place);
             let _ = self.things.remove(place);
             let _ = self.core.release(number);
+        }
+    }
+
+    /// The port number of a reader or writer, the entry id of a handle.
+    pub fn id_of(&self, thing: &Held) -> u64
+        ensures { result ≡ replies.id_number (standing_with self.now.tables) thing.now thing.now.kind }
+    {
+        match &thing.kind {
+            Kind::Reader { port } => *port,
+            Kind::Writer { port } => *port,
+            kind => match self.entry_at(thing.board, entry_of(kind)) {
+                Some(entry) => entry.cell.place,
+                None => 0,
+            },
         }
     }
 

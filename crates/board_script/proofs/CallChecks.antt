@@ -57,13 +57,13 @@ pub taken_is : (m : Machine) (s : State) → Represents m s → (party : List �
 taken_is m s rep party None = refl
 taken_is m s rep party (Some name) =
     ap (λ t. is_some (thing_of t.things party name) || is_some (s.standing.values party name)) rep.tables
-    ∙ ap (λ (k : Option Kept). is_some (thing_of m.things.items party name) || is_some k) (rep.values party name)
+    ∙ ap (λ (k : Option Kept). is_some (thing_of m.domain.tables.things party name) || is_some k) (rep.values party name)
 
 -- ---- handles
 
 -- a read handle that is found is a handle
-pub read_handle : (m : Machine) (party name : List ℕ) (x : Held) → of_kind thing_kind.ReadHandle (thing_of m.things.items party name) ≡ Some x → IsHandle m x
-read_handle m party name x e = at (thing_of m.things.items party name) refl e
+pub read_handle : (m : Machine) (party name : List ℕ) (x : Held) → of_kind thing_kind.ReadHandle (thing_of m.domain.tables.things party name) ≡ Some x → IsHandle m x
+read_handle m party name x e = at (thing_of m.domain.tables.things party name) refl e
   where
     is : (k : Kind) → same_kind (kind_of k) thing_kind.ReadHandle ≡ true → is_handle k ≡ true
     is kind.Factory h = absurd cc
@@ -72,19 +72,19 @@ read_handle m party name x e = at (thing_of m.things.items party name) refl e
     is (kind.ReadHandle i) h = refl
     is (kind.WriteHandle i p) h = absurd cc
 
-    pick : (t : Held) (b : Bool) → same_kind (kind_of t.kind) thing_kind.ReadHandle ≡ b → thing_of m.things.items party name ≡ Some t → cond b (some_thing t) None ≡ Some x → IsHandle m x
+    pick : (t : Held) (b : Bool) → same_kind (kind_of t.kind) thing_kind.ReadHandle ≡ b → thing_of m.domain.tables.things party name ≡ Some t → cond b (some_thing t) None ≡ Some x → IsHandle m x
     pick t true h f q =
         let same : t ≡ x = some_same t x q in
         subst (λ (y : Held). IsHandle m y) same (record { party = party; name = name; found = f; handle = is t.kind h })
     pick t false h f q = absurd cc
 
-    at : (o : Option Held) → thing_of m.things.items party name ≡ o → of_kind thing_kind.ReadHandle o ≡ Some x → IsHandle m x
+    at : (o : Option Held) → thing_of m.domain.tables.things party name ≡ o → of_kind thing_kind.ReadHandle o ≡ Some x → IsHandle m x
     at None f q = absurd cc
     at (Some t) f q = pick t (same_kind (kind_of t.kind) thing_kind.ReadHandle) refl f q
 
 -- and so is a write handle
-pub write_handle : (m : Machine) (party name : List ℕ) (x : Held) → of_kind thing_kind.WriteHandle (thing_of m.things.items party name) ≡ Some x → IsHandle m x
-write_handle m party name x e = at (thing_of m.things.items party name) refl e
+pub write_handle : (m : Machine) (party name : List ℕ) (x : Held) → of_kind thing_kind.WriteHandle (thing_of m.domain.tables.things party name) ≡ Some x → IsHandle m x
+write_handle m party name x e = at (thing_of m.domain.tables.things party name) refl e
   where
     is : (k : Kind) → same_kind (kind_of k) thing_kind.WriteHandle ≡ true → is_handle k ≡ true
     is kind.Factory h = absurd cc
@@ -93,13 +93,13 @@ write_handle m party name x e = at (thing_of m.things.items party name) refl e
     is (kind.ReadHandle i) h = absurd cc
     is (kind.WriteHandle i p) h = refl
 
-    pick : (t : Held) (b : Bool) → same_kind (kind_of t.kind) thing_kind.WriteHandle ≡ b → thing_of m.things.items party name ≡ Some t → cond b (some_thing t) None ≡ Some x → IsHandle m x
+    pick : (t : Held) (b : Bool) → same_kind (kind_of t.kind) thing_kind.WriteHandle ≡ b → thing_of m.domain.tables.things party name ≡ Some t → cond b (some_thing t) None ≡ Some x → IsHandle m x
     pick t true h f q =
         let same : t ≡ x = some_same t x q in
         subst (λ (y : Held). IsHandle m y) same (record { party = party; name = name; found = f; handle = is t.kind h })
     pick t false h f q = absurd cc
 
-    at : (o : Option Held) → thing_of m.things.items party name ≡ o → of_kind thing_kind.WriteHandle o ≡ Some x → IsHandle m x
+    at : (o : Option Held) → thing_of m.domain.tables.things party name ≡ o → of_kind thing_kind.WriteHandle o ≡ Some x → IsHandle m x
     at None f q = absurd cc
     at (Some t) f q = pick t (same_kind (kind_of t.kind) thing_kind.WriteHandle) refl f q
 
@@ -113,7 +113,7 @@ handle_is m s rep party name =
 pub unlent_handle : (m : Machine) (party name : List ℕ) (x : Held) → handle_held m party name ≡ Some x → IsHandle m x
 unlent_handle m party name x e = by (is_some (lent_words m.loans.items party name)) e
   where
-    by : (b : Bool) → cond b None (of_kind thing_kind.WriteHandle (thing_of m.things.items party name)) ≡ some_thing x → IsHandle m x
+    by : (b : Bool) → cond b None (of_kind thing_kind.WriteHandle (thing_of m.domain.tables.things party name)) ≡ some_thing x → IsHandle m x
     by true q = absurd cc
     by false q = write_handle m party name x q
 
@@ -169,13 +169,13 @@ module _ (m : Machine) (s : State) (rep : Represents m s) (sound : Sound s) (n i
   counter_is_low g b c = subst (λ (k : ℕ). k + 1 < 2 ^ 64) (sym ((counter_at m s rep sound n i e in_state).is_length g c)) (b.lists n i)
 
   -- the thing under a handle's name, and its entry, in the state
-  handle_in : (party handle : List ℕ) (k : ThingKind) (x : Held) → of_kind k (thing_of m.things.items party handle) ≡ Some x → of_kind k (thing_of s.standing.tables.things party handle) ≡ Some x
+  handle_in : (party handle : List ℕ) (k : ThingKind) (x : Held) → of_kind k (thing_of m.domain.tables.things party handle) ≡ Some x → of_kind k (thing_of s.standing.tables.things party handle) ≡ Some x
   handle_in party handle k x held = ap (λ t. of_kind k (thing_of t.things party handle)) rep.tables ∙ held
 
   entry_in_state : (x : Held) → n ≡ x.board → i ≡ entry_of x.kind → entry_at s.standing.tables x.board (entry_of x.kind) ≡ Some e
   entry_in_state x nb ib = ap (λ (k : ℕ). entry_at s.standing.tables x.board k) (sym ib) ∙ ap (λ (k : ℕ). entry_at s.standing.tables k i) (sym nb) ∙ in_state
 
-  module _ (party handle : List ℕ) (x : Held) (nb : n ≡ x.board) (ib : i ≡ entry_of x.kind) (held : of_kind thing_kind.ReadHandle (thing_of m.things.items party handle) ≡ Some x) where
+  module _ (party handle : List ℕ) (x : Held) (nb : n ≡ x.board) (ib : i ≡ entry_of x.kind) (held : of_kind thing_kind.ReadHandle (thing_of m.domain.tables.things party handle) ≡ Some x) where
     abbrev fetched : Option (List ℕ) → Fetch
     fetched name = record { board = x.board; entry = entry_of x.kind; shape = cell_shape e.cell; type = e.value; handle = handle; name = name }
 
@@ -274,7 +274,7 @@ some_request t (Some q) h = (q, refl, h)
 
 pub begin_begun : (m new : Machine) (s : State) (rep : Represents m s) (party : List ℕ) (c : Call) (t : Task) → s.parties party ≡ free
     → IsChecked (call_reason s.standing party c (request_of s.standing s.published party c)) (request_of s.standing s.published party c) (checked.Accepted t)
-    → tables_of new ≡ tables_of m → new.words.items ≡ m.words.items → new.values.items ≡ m.values.items → new.loans.items ≡ m.loans.items → new.spent ≡ m.spent → new.parties.items ≡ m.parties.items ++ record { name = party; task = t } ∷ []
+    → tables_of new ≡ tables_of m → new.domain.words ≡ m.domain.words → new.values.items ≡ m.values.items → new.loans.items ≡ m.loans.items → new.spent ≡ m.spent → new.parties.items ≡ m.parties.items ++ record { name = party; task = t } ∷ []
     → IsLine (line.Begin party c) → IsRight s (line.Begin party c) answer.Begun × Represents new (after s (line.Begin party c) answer.Begun)
 begin_begun m new s rep party c t e h tables words values loans spent parties l =
     let r : free_reason (s.parties party) (call_reason s.standing party c (request_of s.standing s.published party c)) ≡ None = rw e h.0 in

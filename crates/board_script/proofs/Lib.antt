@@ -14,13 +14,11 @@ pub mod Notes
 pub mod OwedRows
 pub mod OwedWords
 pub mod PartyRows
-pub mod Places
 pub mod PlainCalls
 pub mod ReadSteps
 pub mod Releases
 pub mod Rows
 pub mod Shown
-pub mod Slots
 pub mod StepRefusals
 pub mod TableSteps
 pub mod Tallies

@@ -25,19 +25,19 @@ use Rattle.board_script.proofs.Rows.{first_at, place_found, place_missing}
 -- ---- the words of a board
 
 module _ (m : Machine) (s : State) (rep : Represents m s) (n : ℕ) where
-  pub place_inside : (k : ℕ) → Some k ≡ position_from (is_numbered n) 0 m.boards.items → k < length m.words.items
+  pub place_inside : (k : ℕ) → Some k ≡ position_from (is_numbered n) 0 m.domain.tables.boards → k < length m.domain.words
   place_inside k p =
-      let l : length m.words.items ≡ length m.boards.items = ap length rep.words ∙ length-map m.boards.items (λ (x : Board). s.memory x.number) in
-      omega (arith, (first_at (is_numbered n) k m.boards.items p).inside, l)
+      let l : length m.domain.words ≡ length m.domain.tables.boards = ap length rep.words ∙ length-map m.domain.tables.boards (λ (x : Board). s.memory x.number) in
+      omega (arith, (first_at (is_numbered n) k m.domain.tables.boards p).inside, l)
 
-  pub board_stands : (k : ℕ) → Some k ≡ position_from (is_numbered n) 0 m.boards.items → is_some (board_at s.standing.tables n) ≡ true
-  board_stands k p = ap (λ t. is_some (find (is_numbered n) t.boards)) rep.tables ∙ place_found (is_numbered n) 0 k m.boards.items (sym p)
+  pub board_stands : (k : ℕ) → Some k ≡ position_from (is_numbered n) 0 m.domain.tables.boards → is_some (board_at s.standing.tables n) ≡ true
+  board_stands k p = ap (λ t. is_some (find (is_numbered n) t.boards)) rep.tables ∙ place_found (is_numbered n) 0 k m.domain.tables.boards (sym p)
 
-  pub board_is_missing : None ≡ position_from (is_numbered n) 0 m.boards.items → is_some (board_at s.standing.tables n) ≡ false
-  board_is_missing p = ap (λ t. is_some (find (is_numbered n) t.boards)) rep.tables ∙ place_missing (is_numbered n) 0 m.boards.items (sym p)
+  pub board_is_missing : None ≡ position_from (is_numbered n) 0 m.domain.tables.boards → is_some (board_at s.standing.tables n) ≡ false
+  board_is_missing p = ap (λ t. is_some (find (is_numbered n) t.boards)) rep.tables ∙ place_missing (is_numbered n) 0 m.domain.tables.boards (sym p)
 
-  pub board_words : (k : ℕ) (d : List ℕ) → Some k ≡ position_from (is_numbered n) 0 m.boards.items → get_or m.words.items k d ≡ s.memory n
-  board_words k d p = ap (λ (ws : List (List ℕ)). get_or ws k d) rep.words ∙ words_at s.memory n m.boards.items k d p
+  pub board_words : (k : ℕ) (d : List ℕ) → Some k ≡ position_from (is_numbered n) 0 m.domain.tables.boards → get_or m.domain.words k d ≡ s.memory n
+  board_words k d p = ap (λ (ws : List (List ℕ)). get_or ws k d) rep.words ∙ words_at s.memory n m.domain.tables.boards k d p
 
 -- ---- answers to the line
 

@@ -38,7 +38,7 @@ a_loan x words = Some (x, words)
 -- the thing of a loan is a write handle
 pub loan_handle : (m : Machine) (party loan : List ℕ) (x : Held) (words : List (Option ℕ)) → loan_held m party loan ≡ Some (x, words) → IsHandle m x
 loan_handle m party loan x words e =
-    write_handle m party loan x (thing (of_kind thing_kind.WriteHandle (thing_of m.things.items party loan)) (lent_words m.loans.items party loan) e)
+    write_handle m party loan x (thing (of_kind thing_kind.WriteHandle (thing_of m.domain.tables.things party loan)) (lent_words m.loans.items party loan) e)
   where
     thing : (o : Option Held) (w : Option (List (Option ℕ))) → and_then o (λ t. and_then w (λ ws. a_loan t ws)) ≡ a_loan x words → o ≡ Some x
     thing None w e = absurd cc
@@ -58,16 +58,16 @@ thing_found k (Some t) x e = at (same_kind (kind_of t.kind) k) e
 
 -- a loan has a thing, and words
 loan_parts : (m : Machine) (party loan : List ℕ) (x : Held) (words : List (Option ℕ)) → loan_held m party loan ≡ Some (x, words)
-    → (thing_of m.things.items party loan ≡ Some x) × (lent_words m.loans.items party loan ≡ Some words)
-loan_parts m party loan x words e = parts (of_kind thing_kind.WriteHandle (thing_of m.things.items party loan)) refl (lent_words m.loans.items party loan) e
+    → (thing_of m.domain.tables.things party loan ≡ Some x) × (lent_words m.loans.items party loan ≡ Some words)
+loan_parts m party loan x words e = parts (of_kind thing_kind.WriteHandle (thing_of m.domain.tables.things party loan)) refl (lent_words m.loans.items party loan) e
   where
-    parts : (o : Option Held) → of_kind thing_kind.WriteHandle (thing_of m.things.items party loan) ≡ o → (w : Option (List (Option ℕ))) → and_then o (λ t. and_then w (λ ws. a_loan t ws)) ≡ a_loan x words
-        → (thing_of m.things.items party loan ≡ Some x) × (w ≡ Some words)
+    parts : (o : Option Held) → of_kind thing_kind.WriteHandle (thing_of m.domain.tables.things party loan) ≡ o → (w : Option (List (Option ℕ))) → and_then o (λ t. and_then w (λ ws. a_loan t ws)) ≡ a_loan x words
+        → (thing_of m.domain.tables.things party loan ≡ Some x) × (w ≡ Some words)
     parts None f w e = absurd cc
     parts (Some t) f None e = absurd cc
     parts (Some t) f (Some ws) e =
         let p : (t, ws) ≡ (x, words) = cc in
-        (thing_found thing_kind.WriteHandle (thing_of m.things.items party loan) x (f ∙ ap (λ (q : Held × List (Option ℕ)). Some q.0) p), ap (λ (q : Held × List (Option ℕ)). Some q.1) p)
+        (thing_found thing_kind.WriteHandle (thing_of m.domain.tables.things party loan) x (f ∙ ap (λ (q : Held × List (Option ℕ)). Some q.0) p), ap (λ (q : Held × List (Option ℕ)). Some q.1) p)
 
 module _ (m : Machine) (s : State) (rep : Represents m s) (party : List ℕ) where
   -- a loan is the same in the state

@@ -66,23 +66,23 @@ module _ (m : Machine) (s : State) (rep : Represents m s) (sound : Sound s) wher
   pub record StandsAt (n : ℕ) : Type 0 where
     pub board : Board
     pub place : ℕ
-    pub stands : a_place place ≡ position_from (is_numbered n) 0 m.boards.items
-    pub inside : place < length m.words.items
-    pub words : (d : List ℕ) → get_or m.words.items place d ≡ s.memory n
+    pub stands : a_place place ≡ position_from (is_numbered n) 0 m.domain.tables.boards
+    pub inside : place < length m.domain.words
+    pub words : (d : List ℕ) → get_or m.domain.words place d ≡ s.memory n
 
   pub stands_at : (n : ℕ) → is_some (board_at s.standing.tables n) ≡ true → StandsAt n
   stands_at n h =
       let b = some_board (board_at s.standing.tables n) h in
-      let f : find (is_numbered n) m.boards.items ≡ Some b.0 = ap (λ t. find (is_numbered n) t.boards) (sym rep.tables) ∙ b.1 in
-      let p = found_somewhere (is_numbered n) 0 m.boards.items b.0 f in
-      let first = first_at (is_numbered n) p.0 m.boards.items (sym p.1) in
-      let l : length m.words.items ≡ length m.boards.items = ap length rep.words ∙ length-map m.boards.items (λ (x : Board). s.memory x.number) in
+      let f : find (is_numbered n) m.domain.tables.boards ≡ Some b.0 = ap (λ t. find (is_numbered n) t.boards) (sym rep.tables) ∙ b.1 in
+      let p = found_somewhere (is_numbered n) 0 m.domain.tables.boards b.0 f in
+      let first = first_at (is_numbered n) p.0 m.domain.tables.boards (sym p.1) in
+      let l : length m.domain.words ≡ length m.domain.tables.boards = ap length rep.words ∙ length-map m.domain.tables.boards (λ (x : Board). s.memory x.number) in
       record {
         board = b.0;
         place = p.0;
         stands = sym p.1;
         inside = omega (arith, first.inside, l);
-        words = λ d. ap (λ (ws : List (List ℕ)). get_or ws p.0 d) rep.words ∙ words_at s.memory n m.boards.items p.0 d (sym p.1);
+        words = λ d. ap (λ (ws : List (List ℕ)). get_or ws p.0 d) rep.words ∙ words_at s.memory n m.domain.tables.boards p.0 d (sym p.1);
       }
 
   pub has_word : (n word : ℕ) → is_some (board_at s.standing.tables n) ≡ true → word < length (s.memory n) → HasWord m n word
@@ -97,14 +97,14 @@ module _ (m : Machine) (s : State) (rep : Represents m s) (sound : Sound s) wher
 
   -- the words after a write
   pub stored_words : (new : Machine) (n word value : ℕ) → is_some (board_at s.standing.tables n) ≡ true → IsStored m new n word value
-      → new.words.items ≡ words_of (store s.memory n word value) m.boards.items
+      → new.domain.words ≡ words_of (store s.memory n word value) m.domain.tables.boards
   stored_words new n word value h stored =
       let at = stands_at n h in
       let single = subst (λ t. count_by (is_numbered n) t.boards ≤ 1) rep.tables (sound.boards.single n) in
       stored.words at.place [] at.stands
-      ∙ ap (λ (w : List ℕ). set m.words.items at.place (set w word value)) (at.words [])
+      ∙ ap (λ (w : List ℕ). set m.domain.words at.place (set w word value)) (at.words [])
       ∙ ap (λ (ws : List (List ℕ)). set ws at.place (set (s.memory n) word value)) rep.words
-      ∙ sym (words-set s.memory (store s.memory n word value) n (λ k e. rw e refl) (set (s.memory n) word value) (store_here s.memory n word value n refl) m.boards.items at.place at.stands single)
+      ∙ sym (words-set s.memory (store s.memory n word value) n (λ k e. rw e refl) (set (s.memory n) word value) (store_here s.memory n word value n refl) m.domain.tables.boards at.place at.stands single)
 
 module _ (m : Machine) (s : State) (rep : Represents m s) (sound : Sound s) (party : List ℕ) (place : ℕ) (row : PartyRow) (at : RunsAt m.parties.items s.parties party place row) where
   calling : IsCalling s party at.r at.r.request

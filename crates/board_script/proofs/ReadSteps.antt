@@ -201,7 +201,7 @@ module _ (m : Machine) (s : State) (rep : Represents m s) (sound : Sound s) (par
     rest_is task.Gone h o e = absurd o
 
     -- another read leaves the rest of the call
-    pub read_goes_on : (new : Machine) → tables_of new ≡ tables_of m → new.words.items ≡ m.words.items → new.values.items ≡ m.values.items → new.loans.items ≡ m.loans.items → new.spent ≡ m.spent
+    pub read_goes_on : (new : Machine) → tables_of new ≡ tables_of m → new.domain.words ≡ m.domain.words → new.values.items ≡ m.values.items → new.loans.items ≡ m.loans.items → new.spent ≡ m.spent
         → (y : PartyRow) → y.name ≡ row.name → y.task ≡ ticked row.task v → is_last row.task v ≡ false → new.parties.items ≡ set m.parties.items place y
         → IsRight s (line.Step party) (answer.Step made None) × Represents new (after s (line.Step party) (answer.Step made None))
     read_goes_on new tables ws values loans spent y n t e rows =
@@ -306,7 +306,7 @@ module _ (m : Machine) (s : State) (rep : Represents m s) (sound : Sound s) (par
 
     -- the last read ends the call
     pub read_ends : (mid new : Machine) (y : PartyRow) → y.task ≡ ticked row.task v → is_last row.task v ≡ true
-        → tables_of mid ≡ tables_of m → mid.words.items ≡ m.words.items → mid.values.items ≡ m.values.items → mid.loans.items ≡ m.loans.items → mid.spent ≡ m.spent → mid.parties.items ≡ remove (set m.parties.items place y) place
+        → tables_of mid ≡ tables_of m → mid.domain.words ≡ m.domain.words → mid.values.items ≡ m.values.items → mid.loans.items ≡ m.loans.items → mid.spent ≡ m.spent → mid.parties.items ≡ remove (set m.parties.items place y) place
         → (told : Reply) → IsReadTold mid new party (ticked row.task v) told → IsReply told
         → IsRight s (line.Step party) (answer.Step made (Some told)) × Represents new (after s (line.Step party) (answer.Step made (Some told)))
     read_ends mid new y t e tables ws values loans spent rows told h r =
@@ -323,7 +323,7 @@ module _ (m : Machine) (s : State) (rep : Represents m s) (sound : Sound s) (par
           rw (at.runs) (record {
             alive = h.spent ∙ spent ∙ rep.alive;
             tables = left.tables ∙ rep.tables ∙ sym tables ∙ sym h.tables;
-            words = h.words ∙ ws ∙ rep.words ∙ ap (λ z. machine.words_of s.memory z.boards) (sym tables ∙ sym h.tables) ∙ ap (λ (z : ℕ → List ℕ). machine.words_of z new.boards.items) (sym left.memory);
+            words = h.words ∙ ws ∙ rep.words ∙ ap (λ z. machine.words_of s.memory z.boards) (sym tables ∙ sym h.tables) ∙ ap (λ (z : ℕ → List ℕ). machine.words_of z new.domain.tables.boards) (sym left.memory);
             parties = subst (λ (xs : List PartyRow). (p : List ℕ) → AreRowsOf (filter (is_row_of p) xs) (with_party (λ q. notice made (s.parties q)) party free p))
                 (sym (h.parties ∙ rows ∙ remove-set m.parties.items place y)) (ended m.parties.items s.parties rep.parties party place row at made);
             loans = λ p n. left.loans p n ∙ rep.loans p n ∙ ap (λ (xs : List Lent). lent_words xs p n) (sym loans ∙ sym h.loans);

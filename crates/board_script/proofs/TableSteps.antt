@@ -106,7 +106,7 @@ module _ (m : Machine) (s : State) (rep : Represents m s) (reached : IsReached s
     pub tables : (ask_tables s.standing s.published party c).standing.tables ≡ tables_of new
     pub loans : (p n : List ℕ) → (ask_tables s.standing s.published party c).standing.loans p n ≡ lent_words new.loans.items p n
     pub values : (p n : List ℕ) → (ask_tables s.standing s.published party c).standing.values p n ≡ kept new.values.items p n
-    pub words : new.words.items ≡ words_of (memory_after s.memory (table c) told) new.boards.items
+    pub words : new.domain.words ≡ words_of (memory_after s.memory (table c) told) new.domain.tables.boards
     pub parties : new.parties.items ≡ remove m.parties.items place
     pub alive : new.spent ≡ false
 
@@ -147,7 +147,7 @@ module _ (m : Machine) (s : State) (rep : Represents m s) (reached : IsReached s
 
   -- ---- one call after another
 
-  module _ (mid new : Machine) (same : tables_of mid ≡ tables_of m) (same_list : mid.words.items ≡ m.words.items) (rows : mid.parties.items ≡ remove m.parties.items place) (same_values : mid.values.items ≡ m.values.items) (same_loans : mid.loans.items ≡ m.loans.items) (alive : mid.spent ≡ false) where
+  module _ (mid new : Machine) (same : tables_of mid ≡ tables_of m) (same_list : mid.domain.words ≡ m.domain.words) (rows : mid.parties.items ≡ remove m.parties.items place) (same_values : mid.values.items ≡ m.values.items) (same_loans : mid.loans.items ≡ m.loans.items) (alive : mid.spent ≡ false) where
     tables_are : s.standing.tables ≡ tables_of mid
     tables_are = rep.tables ∙ sym same
 
@@ -155,7 +155,7 @@ module _ (m : Machine) (s : State) (rep : Represents m s) (reached : IsReached s
     kept_boards None n after before e = e
     kept_boards (Some x) n after before e = refl
 
-    kept_words : new.boards.items ≡ mid.boards.items → new.words.items ≡ mid.words.items → new.words.items ≡ words_of s.memory new.boards.items
+    kept_words : new.domain.tables.boards ≡ mid.domain.tables.boards → new.domain.words ≡ mid.domain.words → new.domain.words ≡ words_of s.memory new.domain.tables.boards
     kept_words b w =
         w ∙ same_list ∙ rep.words ∙ ap (λ (bs : List Board). words_of s.memory bs) (ap (λ t. t.boards) (sym same) ∙ sym b)
 
@@ -171,7 +171,7 @@ module _ (m : Machine) (s : State) (rep : Represents m s) (reached : IsReached s
     -- a call that changes only the tables
     asked_served : {E : Type 0} (c : TableCall) (error : E → Reply) (f : BoardTables → Result ℕ E × BoardTables) (told : Reply)
         → ask_tables s.standing s.published party c ≡ told_by s.standing error (f s.standing.tables)
-        → (f (tables_of mid)).1.boards ≡ mid.boards.items
+        → (f (tables_of mid)).1.boards ≡ mid.domain.tables.boards
         → memory_after s.memory (table c) told ≡ s.memory
         → IsAsked mid new error (f (tables_of mid)) told → IsServed new c told
     asked_served c error f told asks boards memory h = record {
@@ -179,7 +179,7 @@ module _ (m : Machine) (s : State) (rep : Represents m s) (reached : IsReached s
       tables = ap (λ (x : Asked). x.standing.tables) asks ∙ ap (λ t. (f t).1) tables_are ∙ sym h.tables;
       loans = λ p n. ap (λ (x : Asked). x.standing.loans p n) asks ∙ kept_loans h.loans p n;
       values = λ p n. ap (λ (x : Asked). x.standing.values p n) asks ∙ kept_values h.values p n;
-      words = kept_words (ap (λ t. t.boards) h.tables ∙ boards) h.words ∙ ap (λ (x : ℕ → List ℕ). words_of x new.boards.items) (sym memory);
+      words = kept_words (ap (λ t. t.boards) h.tables ∙ boards) h.words ∙ ap (λ (x : ℕ → List ℕ). words_of x new.domain.tables.boards) (sym memory);
       parties = h.parties ∙ rows;
       alive = h.spent ∙ alive;
     }
@@ -192,13 +192,13 @@ module _ (m : Machine) (s : State) (rep : Represents m s) (reached : IsReached s
       tables = ap (λ (x : Asked). x.standing.tables) asks ∙ tables_are ∙ ap tables_of (sym h.same);
       loans = λ p n. ap (λ (x : Asked). x.standing.loans p n) asks ∙ kept_loans (ap (λ (y : Machine). y.loans.items) h.same) p n;
       values = λ p n. ap (λ (x : Asked). x.standing.values p n) asks ∙ kept_values (ap (λ (y : Machine). y.values.items) h.same) p n;
-      words = kept_words (ap (λ (y : Machine). y.boards.items) h.same) (ap (λ (y : Machine). y.words.items) h.same) ∙ ap (λ (x : ℕ → List ℕ). words_of x new.boards.items) (sym memory);
+      words = kept_words (ap (λ (y : Machine). y.domain.tables.boards) h.same) (ap (λ (y : Machine). y.domain.words) h.same) ∙ ap (λ (x : ℕ → List ℕ). words_of x new.domain.tables.boards) (sym memory);
       parties = ap (λ (y : Machine). y.parties.items) h.same ∙ rows;
       alive = ap (λ (y : Machine). y.spent) h.same ∙ alive;
     }
 
     -- the keys of the machine's boards are told as they were added
-    keys_same : (x : Held) → keys_in (board_at s.standing.tables x.board) ≡ keys_shown (find (is_numbered x.board) mid.boards.items)
+    keys_same : (x : Held) → keys_in (board_at s.standing.tables x.board) ≡ keys_shown (find (is_numbered x.board) mid.domain.tables.boards)
     keys_same x = sym (board_shown x.board s.standing.tables.boards reached.formed.tables.boards) ∙ ap (λ t. keys_shown (find (is_numbered x.board) t.boards)) tables_are
 
     same_id : (t : BoardTables) (x : Held) (k : Kind) → id_number (record s.standing { tables = t }) x k ≡ id_number (standing_with t) x k
@@ -209,7 +209,7 @@ module _ (m : Machine) (s : State) (rep : Represents m s) (reached : IsReached s
     same_id t x (kind.WriteHandle i p) = refl
 
     -- the board of a factory stands
-    info_stands : (x : Held) → at.r.request ≡ table (describe x) → is_some (find (is_numbered x.board) mid.boards.items) ≡ true
+    info_stands : (x : Held) → at.r.request ≡ table (describe x) → is_some (find (is_numbered x.board) mid.domain.tables.boards) ≡ true
     info_stands x e =
         let held = (calling (describe x) e).1 in
         ap (λ t. is_some (find (is_numbered x.board) t.boards)) (sym tables_are) ∙ all_found (HasBoard s.standing.tables) _ s.standing.tables.things x reached.sound.things.standing held.found
@@ -252,7 +252,7 @@ module _ (m : Machine) (s : State) (rep : Represents m s) (reached : IsReached s
       tables = tables_are ∙ ap tables_of (sym h.same);
       loans = kept_loans (ap (λ (y : Machine). y.loans.items) h.same);
       values = kept_values (ap (λ (y : Machine). y.values.items) h.same);
-      words = kept_words (ap (λ (y : Machine). y.boards.items) h.same) (ap (λ (y : Machine). y.words.items) h.same);
+      words = kept_words (ap (λ (y : Machine). y.domain.tables.boards) h.same) (ap (λ (y : Machine). y.domain.words) h.same);
       parties = ap (λ (y : Machine). y.parties.items) h.same ∙ rows;
       alive = ap (λ (y : Machine). y.spent) h.same ∙ alive;
     }
@@ -291,7 +291,7 @@ module _ (m : Machine) (s : State) (rep : Represents m s) (reached : IsReached s
       told_of o = number_or reply.CreateError (asked o number (next s.standing.tables) s.standing.tables).0
 
       words_told : (o : Option BlackboardCreateError) (boards : List Board) → boards ≡ (asked o number (next s.standing.tables) s.standing.tables).1.boards
-          → words_with m.words.items entries (told_of o) ≡ words_of (memory_after s.memory (table (create f n k limits attributes entries)) (told_of o)) boards
+          → words_with m.domain.words entries (told_of o) ≡ words_of (memory_after s.memory (table (create f n k limits attributes entries)) (told_of o)) boards
       words_told None boards e =
           ap (λ (ws : List (List ℕ)). ws ++ opening_of entries ∷ []) (rep.words ∙ ap (λ t. words_of s.memory t.boards) (sym rep.tables)) ∙ words_more
           ∙ ap (λ (bs : List Board). words_of (with_board s.memory number (opening_of entries)) bs) (sym e)
@@ -309,8 +309,8 @@ module _ (m : Machine) (s : State) (rep : Represents m s) (reached : IsReached s
             values = kept_values h.values;
             words =
                 h.words ∙ ap (λ (ws : List (List ℕ)). words_with ws entries told) same_list
-                ∙ subst (λ (t : Reply). words_with m.words.items entries t ≡ words_of (memory_after s.memory (table (create f n k limits attributes entries)) t) new.boards.items) (sym told_same)
-                (words_told (refusal s.standing.tables) new.boards.items (ap (λ t. t.boards) tables_same));
+                ∙ subst (λ (t : Reply). words_with m.domain.words entries t ≡ words_of (memory_after s.memory (table (create f n k limits attributes entries)) t) new.domain.tables.boards) (sym told_same)
+                (words_told (refusal s.standing.tables) new.domain.tables.boards (ap (λ t. t.boards) tables_same));
             parties = h.parties ∙ rows;
             alive = h.spent ∙ alive;
           }

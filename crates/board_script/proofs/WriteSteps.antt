@@ -80,8 +80,8 @@ module _ (m : Machine) (s : State) (rep : Represents m s) (sound : Sound s) (par
     pub tables : (ask s.standing s.published party q).standing.tables ≡ tables_of new
     pub loans : (p n : List ℕ) → (ask s.standing s.published party q).standing.loans p n ≡ lent_words new.loans.items p n
     pub values : (p n : List ℕ) → (ask s.standing s.published party q).standing.values p n ≡ kept new.values.items p n
-    pub boards : new.boards.items ≡ mid.boards.items
-    pub words : new.words.items ≡ mid.words.items
+    pub boards : new.domain.tables.boards ≡ mid.domain.tables.boards
+    pub words : new.domain.words ≡ mid.domain.words
     pub parties : new.parties.items ≡ mid.parties.items
     pub spent : new.spent ≡ mid.spent
 
@@ -104,8 +104,8 @@ module _ (m : Machine) (s : State) (rep : Represents m s) (sound : Sound s) (par
           tables = tables ∙ ap tables_of (sym e);
           loans = λ p n. loans p n ∙ ap (λ (x : Machine). lent_words x.loans.items p n) (sym e);
           values = kept_values (ap (λ (x : Machine). x.values.items) e);
-          boards = ap (λ (x : Machine). x.boards.items) e;
-          words = ap (λ (x : Machine). x.words.items) e;
+          boards = ap (λ (x : Machine). x.domain.tables.boards) e;
+          words = ap (λ (x : Machine). x.domain.words) e;
           parties = ap (λ (x : Machine). x.parties.items) e;
           spent = ap (λ (x : Machine). x.spent) e;
         })
@@ -261,13 +261,13 @@ module _ (m : Machine) (s : State) (rep : Represents m s) (sound : Sound s) (par
       stored_values : (p n : List ℕ) → s.standing.values p n ≡ kept stored.values.items p n
       stored_values p n = rep.values p n ∙ ap (λ (vs : List KeptValue). kept vs p n) (sym is_stored.values)
 
-      all_words : (boards : List Board) → boards ≡ stored.boards.items → stored.words.items ≡ words_of (store s.memory w.board w.word w.value) boards
+      all_words : (boards : List Board) → boards ≡ stored.domain.tables.boards → stored.domain.words ≡ words_of (store s.memory w.board w.word w.value) boards
       all_words boards e =
           stored_words m s rep sound stored w.board w.word w.value step.board is_stored
           ∙ ap (λ (bs : List Board). words_of (store s.memory w.board w.word w.value) bs) (ap (λ t. t.boards) (sym is_stored.tables) ∙ sym e)
 
       -- the last write ends the call
-      pub write_ends : (mid new : Machine) → tables_of mid ≡ tables_of stored → mid.words.items ≡ stored.words.items → mid.values.items ≡ stored.values.items → mid.loans.items ≡ stored.loans.items → mid.spent ≡ stored.spent
+      pub write_ends : (mid new : Machine) → tables_of mid ≡ tables_of stored → mid.domain.words ≡ stored.words.items → mid.values.items ≡ stored.values.items → mid.loans.items ≡ stored.loans.items → mid.spent ≡ stored.spent
           → mid.parties.items ≡ remove stored.parties.items place → w.is_last ≡ true → IsSettled mid new party row.task
           → IsRight s (line.Step party) (answer.Step made (Some reply.Done)) × Represents new (after s (line.Step party) (answer.Step made (Some reply.Done)))
       write_ends mid new tables words values loans spent rows e settled =
@@ -286,8 +286,8 @@ module _ (m : Machine) (s : State) (rep : Represents m s) (sound : Sound s) (par
             rw (at.runs) (record {
               alive = left.spent ∙ spent ∙ is_stored.spent ∙ rep.alive;
               tables = left.tables;
-              words = left.words ∙ words ∙ all_words new.boards.items (left.boards ∙ ap (λ t. t.boards) tables)
-                  ∙ ap (λ (f : ℕ → List ℕ). words_of f new.boards.items) (sym (left.memory (store s.memory w.board w.word w.value)));
+              words = left.words ∙ words ∙ all_words new.domain.tables.boards (left.boards ∙ ap (λ t. t.boards) tables)
+                  ∙ ap (λ (f : ℕ → List ℕ). words_of f new.domain.tables.boards) (sym (left.memory (store s.memory w.board w.word w.value)));
               parties = subst (λ (xs : List PartyRow). (p : List ℕ) → AreRowsOf (filter (is_row_of p) xs) (with_party (λ q. notice made (s.parties q)) party free p))
                   (ap (λ (xs : List PartyRow). remove xs place) (sym is_stored.parties) ∙ sym (left.parties ∙ rows))
                   (ended m.parties.items s.parties rep.parties party place row at made);
@@ -297,7 +297,7 @@ module _ (m : Machine) (s : State) (rep : Represents m s) (sound : Sound s) (par
           )
 
       -- another write leaves the rest of the call
-      pub write_goes_on : (new : Machine) → tables_of new ≡ tables_of stored → new.words.items ≡ stored.words.items → new.values.items ≡ stored.values.items → new.loans.items ≡ stored.loans.items → new.spent ≡ stored.spent
+      pub write_goes_on : (new : Machine) → tables_of new ≡ tables_of stored → new.domain.words ≡ stored.words.items → new.values.items ≡ stored.values.items → new.loans.items ≡ stored.loans.items → new.spent ≡ stored.spent
           → (y : PartyRow) → y.name ≡ row.name → y.task ≡ ticked row.task 0 → w.is_last ≡ false → new.parties.items ≡ set stored.parties.items place y
           → IsRight s (line.Step party) (answer.Step made None) × Represents new (after s (line.Step party) (answer.Step made None))
       write_goes_on new tables words values loans spent y n t e rows =
@@ -314,7 +314,7 @@ module _ (m : Machine) (s : State) (rep : Represents m s) (sound : Sound s) (par
             rw (at.runs) (record {
               alive = spent ∙ is_stored.spent ∙ rep.alive;
               tables = rep.tables ∙ sym is_stored.tables ∙ sym tables;
-              words = words ∙ all_words new.boards.items (ap (λ t. t.boards) tables);
+              words = words ∙ all_words new.domain.tables.boards (ap (λ t. t.boards) tables);
               parties = subst (λ (xs : List PartyRow). (p : List ℕ) → AreRowsOf (filter (is_row_of p) xs) (with_party (λ q. notice made (s.parties q)) party (running next) p))
                   (ap (λ (xs : List PartyRow). set xs place y) (sym is_stored.parties) ∙ sym rows)
                   (went_on m.parties.items s.parties rep.parties party place row at made y next n of);

@@ -21,7 +21,7 @@ use Rattle.board_script.specs.Machine.{IsTaskOf, Represents, is_row_of, kept}
 
 -- a thing or a value
 abbrev pub holds : Machine → List ℕ → List ℕ → Bool
-holds m party name = is_some (thing_of m.things.items party name) || is_some (kept m.values.items party name)
+holds m party name = is_some (thing_of m.domain.tables.things party name) || is_some (kept m.values.items party name)
 
 abbrev pub holds_any : Machine → List ℕ → Option (List ℕ) → Bool
 holds_any m party None = false
@@ -38,7 +38,7 @@ is_handle (kind.WriteHandle i port) = true
 pub record IsHandle (m : Machine) (x : Held) : Type 0 where
   pub party : List ℕ
   pub name : List ℕ
-  pub found : thing_of m.things.items party name ≡ Some x
+  pub found : thing_of m.domain.tables.things party name ≡ Some x
   pub handle : is_handle x.kind ≡ true
 
 -- the party runs no call, and isn't gone
@@ -49,11 +49,11 @@ HasNoRow m party = None ≡ position_from (is_row_of party) 0 m.parties.items
 
 -- a write handle that isn't lent
 abbrev pub handle_held : Machine → List ℕ → List ℕ → Option Held
-handle_held m party name = if is_some (lent_words m.loans.items party name) then None else of_kind thing_kind.WriteHandle (thing_of m.things.items party name)
+handle_held m party name = if is_some (lent_words m.loans.items party name) then None else of_kind thing_kind.WriteHandle (thing_of m.domain.tables.things party name)
 
 -- the write handle that a loan is, and the words that were put
 abbrev pub loan_held : Machine → List ℕ → List ℕ → Option (Held × List (Option ℕ))
-loan_held m party name = and_then (of_kind thing_kind.WriteHandle (thing_of m.things.items party name)) (λ t. and_then (lent_words m.loans.items party name) (λ words. Some (t, words)))
+loan_held m party name = and_then (of_kind thing_kind.WriteHandle (thing_of m.domain.tables.things party name)) (λ t. and_then (lent_words m.loans.items party name) (λ words. Some (t, words)))
 
 -- a thing of this kind has an id: no factory has, and no loan
 abbrev pub has_id : Kind → Bool → Bool

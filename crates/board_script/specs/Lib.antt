@@ -1,12 +1,9 @@
 pub mod Begins
 pub mod Counting
-pub mod Counts
-pub mod Create
 pub mod LoanCalls
 pub mod Loans
 pub mod Generator
 pub mod LawsOfGenerator
-pub mod Overview
 pub mod Machine
 pub mod Steps
 pub mod Summary

@@ -12,7 +12,7 @@ use Rattle.board_script.specs.Machine.{tables_of}
 pub record IsLoaned (old new : Machine) (party handle loan : List ℕ) (count : ℕ) : Type 0 where
   pub tables : tables_of new ≡ with_name (tables_of old) party handle loan
   pub loans : (p n : List ℕ) → lent_words new.loans.items p n ≡ with_at (lent_words old.loans.items) party loan (Some (none_put count)) p n
-  pub words : new.words.items ≡ old.words.items
+  pub words : new.domain.words ≡ old.domain.words
   pub parties : new.parties.items ≡ old.parties.items
   pub values : new.values.items ≡ old.values.items
   pub spent : new.spent ≡ old.spent
@@ -21,7 +21,7 @@ pub record IsLoaned (old new : Machine) (party handle loan : List ℕ) (count : 
 pub record IsGivenBack (old new : Machine) (party loan handle : List ℕ) : Type 0 where
   pub tables : tables_of new ≡ with_name (tables_of old) party loan handle
   pub loans : (p n : List ℕ) → lent_words new.loans.items p n ≡ with_at (lent_words old.loans.items) party loan None p n
-  pub words : new.words.items ≡ old.words.items
+  pub words : new.domain.words ≡ old.domain.words
   pub parties : new.parties.items ≡ old.parties.items
   pub values : new.values.items ≡ old.values.items
   pub spent : new.spent ≡ old.spent
@@ -31,7 +31,7 @@ pub record IsWordPut (old new : Machine) (party loan : List ℕ) (index word : �
   pub tables : tables_of new ≡ tables_of old
   pub loans : (put_words : List (Option ℕ)) → lent_words old.loans.items party loan ≡ Some put_words
       → (p n : List ℕ) → lent_words new.loans.items p n ≡ with_at (lent_words old.loans.items) party loan (Some (slice_set put_words index (Some word))) p n
-  pub words : new.words.items ≡ old.words.items
+  pub words : new.domain.words ≡ old.domain.words
   pub parties : new.parties.items ≡ old.parties.items
   pub values : new.values.items ≡ old.values.items
   pub spent : new.spent ≡ old.spent

@@ -131,7 +131,7 @@ kept values party name = kept_from None party name values
 -- ---- the machine
 
 abbrev pub tables_of : Machine → Tables (List ℕ) (List ℕ)
-tables_of m = record { boards = m.boards.items; things = m.things.items; last_board = m.last_board; last_port = m.last_port }
+tables_of m = record { boards = m.domain.tables.boards; things = m.domain.tables.things; last_board = m.domain.tables.last_board; last_port = m.domain.tables.last_port }
 
 -- the words of the boards, one after another
 abbrev pub words_of : (ℕ → List ℕ) → List Board → List (List ℕ)
@@ -141,7 +141,7 @@ words_of memory boards = map (λ (b : Board). memory b.number) boards
 pub record Represents (m : Machine) (s : State) : Type 0 where
   pub alive : m.spent ≡ false
   pub tables : s.standing.tables ≡ tables_of m
-  pub words : m.words.items ≡ words_of s.memory m.boards.items
+  pub words : m.domain.words ≡ words_of s.memory m.domain.tables.boards
   pub parties : (p : List ℕ) → AreRowsOf (filter (is_row_of p) m.parties.items) (s.parties p)
   pub loans : (p n : List ℕ) → s.standing.loans p n ≡ lent_words m.loans.items p n
   pub values : (p n : List ℕ) → s.standing.values p n ≡ kept m.values.items p n

@@ -108,14 +108,14 @@ is_last t v = true
 -- the board stands, and has the word
 pub record HasWord (m : Machine) (board word : ℕ) : Type 0 where
   pub place : ℕ
-  pub stands : Some place ≡ position_from (is_numbered board) 0 m.boards.items
-  pub inside : place < length m.words.items
-  pub word_inside : (d : List ℕ) → word < length (slice_index_or m.words.items place d)
+  pub stands : Some place ≡ position_from (is_numbered board) 0 m.domain.tables.boards
+  pub inside : place < length m.domain.words
+  pub word_inside : (d : List ℕ) → word < length (slice_index_or m.domain.words place d)
 
 -- nothing of it changed
 pub record IsSame (old new : Machine) : Type 0 where
   pub tables : tables_of new ≡ tables_of old
-  pub words : new.words.items ≡ old.words.items
+  pub words : new.domain.words ≡ old.domain.words
   pub parties : new.parties.items ≡ old.parties.items
   pub values : new.values.items ≡ old.values.items
   pub loans : new.loans.items ≡ old.loans.items
@@ -128,42 +128,42 @@ pub record IsStored (old new : Machine) (board word value : ℕ) : Type 0 where
   pub values : new.values.items ≡ old.values.items
   pub loans : new.loans.items ≡ old.loans.items
   pub spent : new.spent ≡ old.spent
-  pub words : (place : ℕ) (d : List ℕ) → Some place ≡ position_from (is_numbered board) 0 old.boards.items
-      → new.words.items ≡ slice_set old.words.items place (slice_set (slice_index_or old.words.items place d) word value)
+  pub words : (place : ℕ) (d : List ℕ) → Some place ≡ position_from (is_numbered board) 0 old.domain.tables.boards
+      → new.domain.words ≡ slice_set old.domain.words place (slice_set (slice_index_or old.domain.words place d) word value)
 
 -- the word is this one
 abbrev pub IsLoaded : Machine → ℕ → ℕ → ℕ → Type 0
-IsLoaded m board word v = (place : ℕ) (d : List ℕ) → Some place ≡ position_from (is_numbered board) 0 m.boards.items → v ≡ slice_index (slice_index_or m.words.items place d) word
+IsLoaded m board word v = (place : ℕ) (d : List ℕ) → Some place ≡ position_from (is_numbered board) 0 m.domain.tables.boards → v ≡ slice_index (slice_index_or m.domain.words place d) word
 
 -- the board and the entry stand, and the entry's counter is a word of the board
 pub record HasCounter (m : Machine) (board i : ℕ) : Type 0 where
   pub place : ℕ
   pub entry : Entry
-  pub stands : Some place ≡ position_from (is_numbered board) 0 m.boards.items
+  pub stands : Some place ≡ position_from (is_numbered board) 0 m.domain.tables.boards
   pub found : entry_at (tables_of m) board i ≡ Some entry
-  pub inside : place < length m.words.items
-  pub word_inside : (d : List ℕ) → entry.cell.first < length (slice_index_or m.words.items place d)
+  pub inside : place < length m.domain.words
+  pub word_inside : (d : List ℕ) → entry.cell.first < length (slice_index_or m.domain.words place d)
 
 -- the number is the counter word of the entry
 abbrev pub IsCounter : Machine → ℕ → ℕ → ℕ → Type 0
-IsCounter m board i g = (place : ℕ) (e : Entry) (d : List ℕ) → Some place ≡ position_from (is_numbered board) 0 m.boards.items → entry_at (tables_of m) board i ≡ Some e
-    → g ≡ slice_index (slice_index_or m.words.items place d) e.cell.first
+IsCounter m board i g = (place : ℕ) (e : Entry) (d : List ℕ) → Some place ≡ position_from (is_numbered board) 0 m.domain.tables.boards → entry_at (tables_of m) board i ≡ Some e
+    → g ≡ slice_index (slice_index_or m.domain.words place d) e.cell.first
 
 -- ---- calls on the tables
 
 -- a number can be drawn for what the call makes, no loan has the name of a new one, and what is read stands
 abbrev pub CanRun : Machine → List ℕ → TableTask → Type 0
-CanRun m party (table_task.Create f n k l attributes entries) = m.last_board + 1 < 2 ^ 64
+CanRun m party (table_task.Create f n k l attributes entries) = m.domain.tables.last_board + 1 < 2 ^ 64
 CanRun m party (table_task.Open f n k l needs) = Unit {0}
-CanRun m party (table_task.Reader n x) = m.last_port + 1 < 2 ^ 64
-CanRun m party (table_task.Writer n x) = m.last_port + 1 < 2 ^ 64
+CanRun m party (table_task.Reader n x) = m.domain.tables.last_port + 1 < 2 ^ 64
+CanRun m party (table_task.Writer n x) = m.domain.tables.last_port + 1 < 2 ^ 64
 CanRun m party (table_task.Entry n x k type) = Unit {0}
 CanRun m party (table_task.EntryMut n x k type) = Unit {0}
 CanRun m party (table_task.Loan handle loan words) = lent_words m.loans.items party loan ≡ None
 CanRun m party (table_task.Discard loan handle) = Unit {0}
 CanRun m party (table_task.Keys x) = Unit {0}
 CanRun m party (table_task.Nodes x) = Unit {0}
-CanRun m party (table_task.Info x) = is_some (find (is_numbered x.board) m.boards.items) ≡ true
+CanRun m party (table_task.Info x) = is_some (find (is_numbered x.board) m.domain.tables.boards) ≡ true
 CanRun m party (table_task.Id x) = Unit {0}
 CanRun m party (table_task.Gen x) = HasCounter m x.board (entry_of x.kind)
 
@@ -189,9 +189,9 @@ IsTold old new party (table_task.Entry n x k type) told = IsEntry old new n x k 
 IsTold old new party (table_task.EntryMut n x k type) told = IsEntryMut old new n x k type told
 IsTold old new party (table_task.Loan handle loan words) told = (told ≡ reply.Done) × IsLoaned old new party handle loan words
 IsTold old new party (table_task.Discard loan handle) told = (told ≡ reply.Done) × IsGivenBack old new party loan handle
-IsTold old new party (table_task.Keys x) told = IsShown old new (reply.Keys (keys_shown (find (is_numbered x.board) old.boards.items))) told
-IsTold old new party (table_task.Nodes x) told = IsShown old new (reply.Nodes (nodes_of x.board old.things.items)) told
-IsTold old new party (table_task.Info x) told = IsShown old new (reply.Info (info_of old.things.items (find (is_numbered x.board) old.boards.items))) told
+IsTold old new party (table_task.Keys x) told = IsShown old new (reply.Keys (keys_shown (find (is_numbered x.board) old.domain.tables.boards))) told
+IsTold old new party (table_task.Nodes x) told = IsShown old new (reply.Nodes (nodes_of x.board old.domain.tables.things)) told
+IsTold old new party (table_task.Info x) told = IsShown old new (reply.Info (info_of old.domain.tables.things (find (is_numbered x.board) old.domain.tables.boards))) told
 IsTold old new party (table_task.Id x) told = IsShown old new (reply.Id (id_number (standing_with (tables_of old)) x x.kind)) told
 IsTold old new party (table_task.Gen x) told = IsGen old new x told
 
@@ -199,9 +199,9 @@ IsTold old new party (table_task.Gen x) told = IsGen old new x told
 
 -- what a party held under a name is gone, and a board with its last thing
 pub record IsReleased (old new : Machine) (party name : List ℕ) : Type 0 where
-  pub tables : tables_of new ≡ released_thing (tables_of old) party name (thing_of old.things.items party name)
+  pub tables : tables_of new ≡ released_thing (tables_of old) party name (thing_of old.domain.tables.things party name)
   -- the words of the boards that are left
-  pub words : (f : ℕ → List ℕ) → old.words.items ≡ words_of f old.boards.items → new.words.items ≡ words_of f new.boards.items
+  pub words : (f : ℕ → List ℕ) → old.domain.words ≡ words_of f old.domain.tables.boards → new.domain.words ≡ words_of f new.domain.tables.boards
   pub values : new.values.items ≡ filter (λ v. not (is_kept_as party name v)) old.values.items
   pub loans : new.loans.items ≡ filter (λ x. not (is_lent_as party name x)) old.loans.items
   pub parties : new.parties.items ≡ old.parties.items
@@ -236,7 +236,7 @@ pub record IsReadTold (old new : Machine) (party : List ℕ) (t : Task) (told : 
   pub told_is : read_told t ≡ Some told
   pub values : new.values.items ≡ old.values.items ++ values_read party t
   pub tables : tables_of new ≡ tables_of old
-  pub words : new.words.items ≡ old.words.items
+  pub words : new.domain.words ≡ old.domain.words
   pub parties : new.parties.items ≡ old.parties.items
   pub loans : new.loans.items ≡ old.loans.items
   pub spent : new.spent ≡ old.spent

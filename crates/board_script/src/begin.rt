@@ -1,7 +1,7 @@
 //! Lines `begin P CALL`.
 ghost use Rattle.std.specs.Prelude.{◌≡◌, ◌+◌, ◌<◌, ◌≤◌, ◌^◌, ◌||◌, true, Some, IfOk, find, is_some};
 ghost use Rattle.std.specs.List.{list_all};
-ghost use Rattle.board_model.specs.LawfulSession.{has_key_type, is_typed_key};
+ghost use Rattle.board_model.specs.LawfulSession.{has_key_type};
 ghost use Rattle.board_model.specs.Tables as tables;
 ghost use Rattle.board_model.specs.Things as held;
 ghost use Rattle.board_model.specs.declared.line.Call.TheVariants as call;
@@ -11,17 +11,14 @@ ghost use Rattle.board_script.specs.Begins.{Checks, HasNoRow, IsHandle, handle_h
 ghost use Rattle.board_script.specs.Loans.{lent_words};
 
 use crate::loans::words_lent;
-use crate::lookups::{
-    board_at, entry_at, entry_of, held_of_kind, place_of_party, thing_of, value_of,
-};
-use crate::machine::{Held, Machine, PartyRow, TableTask, Task};
-use crate::values::{
-    key_detail, same_key_type, same_type, type_of, type_of_key, value_detail, value_type_of,
-    value_words,
-};
+use crate::lookups::{entry_of, place_of_party, value_of};
+use crate::machine::{Machine, PartyRow, TableTask, Task};
 use board_model::{
-    AddedEntries, AddedEntry, Answer, Attributes, Board, BoardName, Call, Entry, Key, KeyType,
+    AddedEntries, AddedEntry, Answer, Attributes, BoardName, Call, Entry, Key, KeyType,
     Kind, Limits, Name, Reason, Requirements, ThingKind, Value, ValueType,
+};
+use board_parties::{
+    Held, same_key_type, same_type, type_of, type_of_key, value_detail, value_type_of, value_words,
 };
 use board_ports::{CellShape, ReadCore, WriteCore};
 use std::alloc::AllocError;
@@ -39,16 +36,6 @@ fn have_key_type(key_type: KeyType, entries: &[AddedEntry]) -> bool
     entries
         .iter()
         .all(|e| same_key_type(type_of_key(&e.key), key_type))
-}
-
-// Whether the key has the key type of the board.
-fn is_key_of(number: u64, key: &Key, boards: &[Board]) -> bool
-    ensures { result ≡ is_typed_key (find (tables.is_numbered number) boards.now) key.now }
-{
-    match board_at(number, boards) {
-        Some(board) => same_type(&board.key, &key_detail(type_of_key(key))),
-        None => false,
-    }
 }
 
 // Where the words of an entry lie.
@@ -100,7 +87,7 @@ impl Machine {
     pub(crate) fn holds(&self, party: &Name, name: &Name) -> bool
         ensures { result ≡ holds self.now party.now name.now }
     {
-        thing_of(party, name, &self.things).is_some()
+        self.domain.thing_of(party, name).is_some()
             || value_of(party, name, &self.values).is_some()
     }
 
@@ -128,7 +115,7 @@ impl Machine {
         if self.is_lent(party, name) {
             return None;
         }
-        held_of_kind(ThingKind::WriteHandle, party, name, &self.things)
+        self.domain.held_of_kind(ThingKind::WriteHandle, party, name)
     }
 
     /// The entry of a handle that a party holds.
@@ -137,7 +124,7 @@ impl Machine {
         requires held { IsHandle self.now handle.now }
         ensures { tables.entry_at (tables_of self.now) handle.now.board (tables.entry_of handle.now.kind) ≡ Some result.now }
     {
-        match entry_at(handle.board, entry_of(&handle.kind), &self.boards) {
+        match self.domain.entry_at(handle.board, entry_of(&handle.kind)) {
             Some(entry) => entry,
             None => unreachable!(),
         }
@@ -197,7 +184,7 @@ impl Machine {
     fn check_reader(&self, party: &Name, name: Name, factory: &Name) -> Checked
         ensures { Checks self.now party.now (call.Reader name factory.now) result }
     {
-        let Some(found) = held_of_kind(ThingKind::Factory, party, factory, &self.things) else {
+        let Some(found) = self.domain.held_of_kind(ThingKind::Factory, party, factory) else {
             return Checked::Refused(Reason::Unknown);
         };
         if self.holds(party, &name) {
@@ -212,7 +199,7 @@ impl Machine {
     fn check_writer(&self, party: &Name, name: Name, factory: &Name) -> Checked
         ensures { Checks self.now party.now (call.Writer name factory.now) result }
     {
-        let Some(found) = held_of_kind(ThingKind::Factory, party, factory, &self.things) else {
+        let Some(found) = self.domain.held_of_kind(ThingKind::Factory, party, factory) else {
             return Checked::Refused(Reason::Unknown);
         };
         if self.holds(party, &name) {
@@ -234,13 +221,13 @@ impl Machine {
     ) -> Checked
         ensures { Checks self.now party.now (call.Entry name reader.now key value_type) result }
     {
-        let Some(found) = held_of_kind(ThingKind::Reader, party, reader, &self.things) else {
+        let Some(found) = self.domain.held_of_kind(ThingKind::Reader, party, reader) else {
             return Checked::Refused(Reason::Unknown);
         };
         if self.holds(party, &name) {
             return Checked::Refused(Reason::Taken);
         }
-        if !is_key_of(found.board, &key, &self.boards) {
+        if !self.domain.is_key_of(found.board, &key) {
             return Checked::Refused(Reason::Type);
         }
         Checked::Accepted(Task::Table(TableTask::Entry {
@@ -261,13 +248,13 @@ impl Machine {
     ) -> Checked
         ensures { Checks self.now party.now (call.EntryMut name writer.now key value_type) result }
     {
-        let Some(found) = held_of_kind(ThingKind::Writer, party, writer, &self.things) else {
+        let Some(found) = self.domain.held_of_kind(ThingKind::Writer, party, writer) else {
             return Checked::Refused(Reason::Unknown);
         };
         if self.holds(party, &name) {
             return Checked::Refused(Reason::Taken);
         }
-        if !is_key_of(found.board, &key, &self.boards) {
+        if !self.domain.is_key_of(found.board, &key) {
             return Checked::Refused(Reason::Type);
         }
         Checked::Accepted(Task::Table(TableTask::EntryMut {
@@ -287,7 +274,7 @@ impl Machine {
         requires { IsLed self.now }
         ensures { IfOk result (Checks self.now party.now (call.Get handle.now name)) }
     {
-        let Some(found) = held_of_kind(ThingKind::ReadHandle, party, handle, &self.things) else {
+        let Some(found) = self.domain.held_of_kind(ThingKind::ReadHandle, party, handle) else {
             return Ok(Checked::Refused(Reason::Unknown));
         };
         let entry = self.entry_held(&found);
@@ -308,7 +295,7 @@ impl Machine {
         requires { IsLed self.now }
         ensures { Checks self.now party.now (call.Fresh handle.now value.now) result }
     {
-        let Some(found) = held_of_kind(ThingKind::ReadHandle, party, handle, &self.things) else {
+        let Some(found) = self.domain.held_of_kind(ThingKind::ReadHandle, party, handle) else {
             return Checked::Refused(Reason::Unknown);
         };
         let entry = self.entry_held(&found);
@@ -347,7 +334,7 @@ impl Machine {
     fn check_keys(&self, party: &Name, factory: &Name) -> Checked
         ensures { Checks self.now party.now (call.Keys factory.now) result }
     {
-        match held_of_kind(ThingKind::Factory, party, factory, &self.things) {
+        match self.domain.held_of_kind(ThingKind::Factory, party, factory) {
             Some(factory) => Checked::Accepted(Task::Table(TableTask::Keys { factory })),
             None => Checked::Refused(Reason::Unknown),
         }
@@ -356,7 +343,7 @@ impl Machine {
     fn check_nodes(&self, party: &Name, factory: &Name) -> Checked
         ensures { Checks self.now party.now (call.Nodes factory.now) result }
     {
-        match held_of_kind(ThingKind::Factory, party, factory, &self.things) {
+        match self.domain.held_of_kind(ThingKind::Factory, party, factory) {
             Some(factory) => Checked::Accepted(Task::Table(TableTask::Nodes { factory })),
             None => Checked::Refused(Reason::Unknown),
         }
@@ -365,7 +352,7 @@ impl Machine {
     fn check_info(&self, party: &Name, factory: &Name) -> Checked
         ensures { Checks self.now party.now (call.Info factory.now) result }
     {
-        match held_of_kind(ThingKind::Factory, party, factory, &self.things) {
+        match self.domain.held_of_kind(ThingKind::Factory, party, factory) {
             Some(factory) => Checked::Accepted(Task::Table(TableTask::Info { factory })),
             None => Checked::Refused(Reason::Unknown),
         }
@@ -374,7 +361,7 @@ impl Machine {
     fn check_id(&self, party: &Name, name: &Name) -> Checked
         ensures { Checks self.now party.now (call.Id name.now) result }
     {
-        let Some(thing) = thing_of(party, name, &self.things) else {
+        let Some(thing) = self.domain.thing_of(party, name) else {
             return Checked::Refused(Reason::Unknown);
         };
         if !has_id(&thing.kind, self.is_lent(party, name)) {

@@ -3,23 +3,17 @@
 
 mod abandon;
 mod begin;
-mod counts;
-mod create;
 mod generator;
 mod generator_laws;
 mod line;
 mod loans;
 mod lookups;
 mod machine;
-mod open;
-mod overview;
-mod ports;
 mod release;
 mod script;
 mod step;
 mod summary;
 mod top;
-mod values;
 mod worked_generator;
 
 pub use board_lines::{

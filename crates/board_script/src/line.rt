@@ -9,10 +9,10 @@ ghost use Rattle.board_model.specs.Tables as tables;
 ghost use Rattle.board_lines.specs.Runs.{HasAnswered, SpellsNone, StandsFor};
 ghost use Rattle.board_script.specs.Machine.{IsLed, Represents, Tells};
 
-use crate::lookups::place_of_board;
 use crate::machine::Machine;
 use board_lines::{LineError, RunsLines, parse_line, push_answer, push_refused, push_words};
 use board_model::{Line, Reason};
+use board_parties::PartyDomain;
 use std::alloc::{AllocError, Global};
 
 // Tells the words of a board.
@@ -30,11 +30,7 @@ impl Machine {
     {
         Machine {
             alloc,
-            boards: Vec::new(alloc),
-            things: Vec::new(alloc),
-            words: Vec::new(alloc),
-            last_board: 0,
-            last_port: 0,
+            domain: PartyDomain::new(alloc),
             parties: Vec::new(alloc),
             values: Vec::new(alloc),
             loans: Vec::new(alloc),
@@ -56,8 +52,8 @@ impl Machine {
         ensures stands { IfSome result (λ words. (s : State) → Represents self.now s → is_some (tables.board_at s.standing.tables number) ≡ true) }
         ensures words { IfSome result (λ words. (s : State) → Represents self.now s → words.now ≡ s.memory number) }
     {
-        match place_of_board(number, &self.boards) {
-            Some(place) => Some(self.words[place].as_slice()),
+        match self.domain.words_of(number) {
+            Some(words) => Some(words.as_slice()),
             None => None,
         }
     }

@@ -1,7 +1,6 @@
 //! Loans: write handles that are out, and the words that were put.
-ghost use Rattle.std.specs.Prelude.{◌≡◌, ◌<◌, Option, None, IfOk, OnOk, map, not, option_map};
+ghost use Rattle.std.specs.Prelude.{◌≡◌, ◌<◌, Option, None, IfOk, OnOk, not, option_map};
 ghost use Rattle.std.specs.List.{filter, position_from};
-ghost use Rattle.board_model.specs.Things as held;
 ghost use Rattle.board_model.specs.declared.answer.Reply.TheVariants as reply;
 ghost use Rattle.board_model.specs.declared.line.Call.TheVariants as call;
 ghost use Rattle.board_script.specs.Begins.{Checks, HasNoRow, loan_held};
@@ -10,10 +9,10 @@ ghost use Rattle.board_script.specs.Loans.{is_lent_as, lent_words};
 ghost use Rattle.board_script.specs.Machine.{IsLed};
 
 use crate::begin::{Checked, write_core};
-use crate::lookups::{entry_of, held_of_kind};
-use crate::machine::{Held, Lent, Machine, TableTask, Task};
-use crate::values::{same_type, type_of, value_detail, value_words};
+use crate::lookups::entry_of;
+use crate::machine::{Lent, Machine, TableTask, Task};
 use board_model::{Name, Reason, Reply, ThingKind, Value};
+use board_parties::{Held, same_type, type_of, value_detail, value_words};
 use board_ports::LoanCore;
 use std::alloc::AllocError;
 
@@ -50,24 +49,13 @@ pub(crate) fn forget_loan(party: &Name, name: &Name, loans: &mut Vec<Lent>)
     loans.retain(|x| !(*party == x.party && *name == x.name));
 }
 
-// Gives the party's thing another name.
-fn rename(party: &Name, old: &Name, new: &Name, things: &mut Vec<Held>)
-    ensures { things.new.items ≡ map (held.named_anew party.now old.now new.now) things.old.items }
-{
-    for thing in things.iter_mut() {
-        if thing.holder == *party && thing.name == *old {
-            thing.name = *new;
-        }
-    }
-}
-
 impl Machine {
     // The write handle that a loan of the party is, and its words.
     fn loan_held(&self, party: &Name, name: &Name) -> Option<(Held, &Vec<Option<u64>>)>
         ensures { option_map (λ l. (l.0, l.1.now.items)) result ≡ loan_held self.now party.now name.now }
     {
         match (
-            held_of_kind(ThingKind::WriteHandle, party, name, &self.things),
+            self.domain.held_of_kind(ThingKind::WriteHandle, party, name),
             words_lent(party, name, &self.loans),
         ) {
             (Some(found), Some(words)) => Some((found, words)),
@@ -208,7 +196,7 @@ impl Machine {
             name: loan,
             words: none_put,
         })?;
-        rename(&party, handle, &loan, &mut self.things);
+        self.domain.rename(&party, handle, &loan);
         Ok(Reply::Done)
     }
 
@@ -217,7 +205,7 @@ impl Machine {
         ensures { IsGivenBack self.old self.new party.now loan.now handle.now }
     {
         forget_loan(party, loan, &mut self.loans);
-        rename(party, loan, handle, &mut self.things);
+        self.domain.rename(party, loan, handle);
     }
 
     // Puts a word into a loan.

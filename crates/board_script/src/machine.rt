@@ -1,13 +1,11 @@
-//! The machine: the tables, the words of each board, and the calls that run.
+//! The machine: the domain, and the calls that run.
 use board_cell::{FreshCall, GetCall, PlainWords, PublishCall, PutCall, UpdateCall};
 use board_model::{
-    AddedEntries, Attributes, Board, BoardName, Key, KeyType, Limits, Name, Requirements, Thing,
-    ValueType, Words,
+    AddedEntries, Attributes, BoardName, Key, KeyType, Limits, Name, Requirements, ValueType,
+    Words,
 };
+use board_parties::{Held, PartyDomain};
 use std::alloc::Global;
-
-/// A thing of a board, under its party and its name.
-pub(crate) type Held = Thing<Name, Name>;
 
 /// A call on the tables, with the things that it uses found.
 #[derive(Drop, Debug)]
@@ -143,15 +141,11 @@ pub(crate) struct Lent {
 }
 
 /// Runs the lines of one script, one after another.
-#[derive(Drop, Debug)]
+#[derive(Drop)]
 pub struct Machine {
     pub(crate) alloc: Global,
-    pub(crate) boards: Vec<Board>,
-    pub(crate) things: Vec<Held>,
-    /// The words of each board, in the order of the boards.
-    pub(crate) words: Vec<PlainWords>,
-    pub(crate) last_board: u64,
-    pub(crate) last_port: u64,
+    /// The boards, their words, and the things that parties hold.
+    pub(crate) domain: PartyDomain<PlainWords>,
     /// The parties that run a call or are gone, each once.
     pub(crate) parties: Vec<PartyRow>,
     pub(crate) values: Vec<KeptValue>,

@@ -9,10 +9,9 @@ ghost use Rattle.board_script.specs.Steps as steps;
 ghost use Rattle.board_script.specs.Steps.{CanGoOn, CanRun, HasCounter, HasRead, HasWord, IsCounter, IsLoaded, IsOnlyWrite, IsOwedBy, IsOwedWrite, IsReadTold, IsSame, IsStored, IsTold, IsWrite, OwesAt, ticked};
 ghost use Rattle.board_script.specs.declared.step.OwedAccess.TheVariants as owed;
 
-use crate::lookups::{board_at, entry_at, entry_of, place_of_board, place_of_party};
+use crate::lookups::{entry_of, place_of_party};
 use crate::machine::{KeptValue, Machine, PartyRow, TableTask, Task};
-use crate::overview::{info_of, keys_at, nodes_at};
-use board_cell::{Access as CellAccess, Progress, UpdateCall, Words as CellWords};
+use board_cell::{Access as CellAccess, Progress, UpdateCall};
 use board_model::{Access, Answer, Name, Reason, Reply, Words};
 use std::alloc::AllocError;
 
@@ -179,13 +178,10 @@ impl Machine {
         ensures { IsCounter self.now board entry result }
     {
         match (
-            place_of_board(board, &self.boards),
-            entry_at(board, entry, &self.boards),
+            self.domain.words_of(board),
+            self.domain.entry_at(board, entry),
         ) {
-            (Some(place), Some(entry)) => {
-                let words = self.words[place].as_slice();
-                words[entry.cell.first as usize]
-            }
+            (Some(words), Some(entry)) => words.as_slice()[entry.cell.first as usize],
             _ => unreachable!(),
         }
     }
@@ -196,10 +192,7 @@ impl Machine {
         ensures value { IsLoaded self.old board word result }
         ensures same { IsSame self.old self.new }
     {
-        match place_of_board(board, &self.boards) {
-            Some(place) => self.words[place].load(word),
-            None => unreachable!(),
-        }
+        self.domain.load(board, word)
     }
 
     // Writes a word of a board.
@@ -207,10 +200,7 @@ impl Machine {
         requires { HasWord self.old board word }
         ensures { IsStored self.old self.new board word value }
     {
-        match place_of_board(board, &self.boards) {
-            Some(place) => self.words[place].store(word, value),
-            None => unreachable!(),
-        }
+        self.domain.store(board, word, value);
     }
 
     // The one step of a call on the tables.
@@ -226,28 +216,38 @@ impl Machine {
                 limits,
                 attributes,
                 entries,
-            } => self.make_board(party, factory, name, key_type, limits, attributes, entries),
+            } => self.domain.create(
+                party,
+                factory,
+                name,
+                key_type,
+                limits,
+                &attributes,
+                &entries,
+            ),
             TableTask::Open {
                 factory,
                 name,
                 key_type,
                 limits,
                 needs,
-            } => self.make_factory(party, factory, &name, key_type, limits, &needs),
-            TableTask::Reader { name, factory } => self.make_reader(name, &factory),
-            TableTask::Writer { name, factory } => self.make_writer(name, &factory),
+            } => self
+                .domain
+                .open(party, factory, name, key_type, limits, &needs),
+            TableTask::Reader { name, factory } => self.domain.reader(name, &factory),
+            TableTask::Writer { name, factory } => self.domain.writer(name, &factory),
             TableTask::Entry {
                 name,
                 reader,
                 key,
                 value_type,
-            } => self.make_read_handle(name, &reader, &key, value_type),
+            } => self.domain.entry(name, &reader, &key, value_type),
             TableTask::EntryMut {
                 name,
                 writer,
                 key,
                 value_type,
-            } => self.make_write_handle(name, &writer, &key, value_type),
+            } => self.domain.entry_mut(name, &writer, &key, value_type),
             TableTask::Loan {
                 handle,
                 loan,
@@ -258,16 +258,13 @@ impl Machine {
                 Ok(Reply::Done)
             }
             TableTask::Keys { factory } => {
-                Ok(Reply::Keys(keys_at(self.alloc, factory.board, &self.boards)?))
+                Ok(Reply::Keys(self.domain.keys(factory.board)?))
             }
             TableTask::Nodes { factory } => {
-                Ok(Reply::Nodes(nodes_at(self.alloc, factory.board, &self.things)?))
+                Ok(Reply::Nodes(self.domain.nodes(factory.board)?))
             }
-            TableTask::Info { factory } => match board_at(factory.board, &self.boards) {
-                Some(board) => Ok(Reply::Info(info_of(board, &self.things))),
-                None => unreachable!(),
-            },
-            TableTask::Id { thing } => Ok(Reply::Id(self.id_of(&thing))),
+            TableTask::Info { factory } => Ok(Reply::Info(self.domain.info(factory.board))),
+            TableTask::Id { thing } => Ok(Reply::Id(self.domain.id_of(&thing))),
             TableTask::Gen { handle } => Ok(Reply::Generation(self.counter(
                 handle.board,
                 entry_of(&handle.kind),

@@ -1,8 +1,0 @@
-use Rattle.std.proofs.Common.{◌≡◌, drop, map}
-use Rattle.board_model.specs.Replies.{added_of}
-use Rattle.board_model.specs.Tables as tables
-use Rattle.board_model.specs.TypeTable.{same_key}
-use Rattle.board_script.proofs.create.has_equal_keys.Given as goal
-
-abbrev pub invariant-loop-i : goal.invariant-loop-i
-invariant-loop-i l = tables.has_equal_keys (same_key l.key_type) (map added_of (drop l.i l.entries)) ≡ tables.has_equal_keys (same_key l.key_type) (map added_of l.entries)
