@@ -1,5 +1,5 @@
 -- How the things that parties named stand for those of a domain's core. No public clause speaks of what follows.
-use Rattle.std.specs.Prelude.{◌≡◌, ◌≢◌, ℕ, ◌+◌, ◌-◌, ◌<◌, ◌≤◌, List, [], ◌∷◌, ◌++◌, length, map, replicate, take, Option, Some, None, slice_get, slice_index_or, Result, Ok, Err}
+use Rattle.std.specs.Prelude.{◌≡◌, ◌≢◌, false, ℕ, ◌+◌, ◌-◌, ◌<◌, ◌≤◌, List, [], ◌∷◌, ◌++◌, length, map, replicate, take, Option, Some, None, slice_get, slice_index_or, Result, Ok, Err}
 use Rattle.std.specs.List.{AllByRecursion, position_from}
 use Rattle.std.specs.Str.{bytes_eq}
 use Rattle.board_model.specs.declared.tables.Board.{Board}

@@ -6,32 +6,28 @@ use Rattle.board_script.specs.declared.machine.Machine.{Machine}
 use Rattle.board_script.specs.declared.machine.Task.{Task}
 use Rattle.board_script.specs.declared.machine.Task.TheVariants as task
 use Rattle.board_script.specs.Loans.{lent_words}
-use Rattle.board_script.specs.Machine.{tables_of}
 
 -- the write handle is a loan of which no word was put; all else stays
 pub record IsLoaned (old new : Machine) (party handle loan : List ℕ) (count : ℕ) : Type 0 where
-  pub tables : tables_of new ≡ with_name (tables_of old) party handle loan
+  pub domain : new.domain ≡ record old.domain { tables = with_name old.domain.tables party handle loan }
   pub loans : (p n : List ℕ) → lent_words new.loans.items p n ≡ with_at (lent_words old.loans.items) party loan (Some (none_put count)) p n
-  pub words : new.domain.words ≡ old.domain.words
   pub parties : new.parties.items ≡ old.parties.items
   pub values : new.values.items ≡ old.values.items
   pub spent : new.spent ≡ old.spent
 
 -- the loan is a write handle, and its words are forgotten; all else stays
 pub record IsGivenBack (old new : Machine) (party loan handle : List ℕ) : Type 0 where
-  pub tables : tables_of new ≡ with_name (tables_of old) party loan handle
+  pub domain : new.domain ≡ record old.domain { tables = with_name old.domain.tables party loan handle }
   pub loans : (p n : List ℕ) → lent_words new.loans.items p n ≡ with_at (lent_words old.loans.items) party loan None p n
-  pub words : new.domain.words ≡ old.domain.words
   pub parties : new.parties.items ≡ old.parties.items
   pub values : new.values.items ≡ old.values.items
   pub spent : new.spent ≡ old.spent
 
 -- one word of the loan was put; all else stays
 pub record IsWordPut (old new : Machine) (party loan : List ℕ) (index word : ℕ) : Type 0 where
-  pub tables : tables_of new ≡ tables_of old
+  pub domain : new.domain ≡ old.domain
   pub loans : (put_words : List (Option ℕ)) → lent_words old.loans.items party loan ≡ Some put_words
       → (p n : List ℕ) → lent_words new.loans.items p n ≡ with_at (lent_words old.loans.items) party loan (Some (slice_set put_words index (Some word))) p n
-  pub words : new.domain.words ≡ old.domain.words
   pub parties : new.parties.items ≡ old.parties.items
   pub values : new.values.items ≡ old.values.items
   pub spent : new.spent ≡ old.spent

@@ -1,11 +1,10 @@
 -- The state of a script that a machine stands for.
-use Rattle.std.specs.Prelude.{◌≡◌, ℕ, ◌<◌, ◌^◌, Bool, false, ◌&&◌, if◌then◌else◌, List, [], ◌∷◌, length, map, Option, Some, None}
+use Rattle.std.specs.Prelude.{◌≡◌, ℕ, ◌<◌, ◌≤◌, ◌^◌, Bool, false, ◌&&◌, if◌then◌else◌, List, [], ◌∷◌, length, map, Option, Some, None}
 use Rattle.std.specs.List.{filter}
 use Rattle.std.specs.Str.{bytes_eq}
 use Rattle.board_model.specs.declared.access.Access.{Access}
 use Rattle.board_model.specs.declared.answer.Answer.{Answer}
 use Rattle.board_model.specs.declared.line.Line.{Line}
-use Rattle.board_model.specs.declared.tables.Board.{Board}
 use Rattle.board_model.specs.declared.value.ValueType.{ValueType}
 use Rattle.board_model.specs.TypeTable.{value_type_of, value_words}
 use Rattle.board_model.specs.Tables.{Tables}
@@ -19,6 +18,7 @@ use Rattle.board_model.specs.LawsOfForms.{AreFormed}
 use Rattle.board_model.specs.LawfulSession.{IsRight, State, after}
 use Rattle.board_model.specs.Sound.{Sound}
 use Rattle.board_cell.specs.Calls.{Asking, Getting, Updating}
+use Rattle.board_parties.specs.Parties.{words_of}
 use Rattle.board_script.specs.Loans.{IsDiscardTask, IsFillTask, IsLoanTask, IsPublishTask, IsPutTask, lent_words}
 use Rattle.board_script.specs.declared.machine.KeptValue.{KeptValue}
 use Rattle.board_script.specs.declared.machine.Machine.{Machine}
@@ -131,11 +131,7 @@ kept values party name = kept_from None party name values
 -- ---- the machine
 
 abbrev pub tables_of : Machine → Tables (List ℕ) (List ℕ)
-tables_of m = record { boards = m.domain.tables.boards; things = m.domain.tables.things; last_board = m.domain.tables.last_board; last_port = m.domain.tables.last_port }
-
--- the words of the boards, one after another
-abbrev pub words_of : (ℕ → List ℕ) → List Board → List (List ℕ)
-words_of memory boards = map (λ (b : Board). memory b.number) boards
+tables_of m = m.domain.tables
 
 -- the machine stands for the state
 pub record Represents (m : Machine) (s : State) : Type 0 where
@@ -160,6 +156,12 @@ pub record IsLed (m : Machine) : Type 0 where
   pub state : State
   pub represents : Represents m state
   pub reached : IsReached state
+  pub few : m.domain.drawn < 2 ^ 63
+
+-- after so many lines the machine stands for the state, and no line made more than one thing
+pub record StandsAfter (m : Machine) (count : ℕ) (s : State) : Type 0 where
+  pub represents : Represents m s
+  pub drawn : m.domain.drawn ≤ count
 
 -- the answer is right after each state that the machine stood for, and the machine stands for what follows
 abbrev pub Serves : Machine → Machine → Line → Answer → Type 0

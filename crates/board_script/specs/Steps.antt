@@ -7,7 +7,10 @@ use Rattle.board_model.specs.declared.tables.Entry.{Entry}
 use Rattle.board_model.specs.declared.value.ValueType.{ValueType}
 use Rattle.board_model.specs.Copies.{spare_at}
 use Rattle.board_model.specs.OwedAccesses.{Owed, hear, is_finished, owed_read, owed_write, to_read, to_write}
-use Rattle.board_model.specs.Tables.{entry_at, entry_of, is_numbered}
+use Rattle.board_model.specs.declared.tables.ThingKind.TheVariants as thing_kind
+use Rattle.board_model.specs.LawfulSession.{is_typed_key}
+use Rattle.board_model.specs.LineGrammar.{AreAttributes, AreRequirements, is_board_name}
+use Rattle.board_model.specs.Tables.{board_at, entry_at, entry_of, is_numbered, kind_of}
 use Rattle.board_model.specs.Things.{Held, thing_of}
 use Rattle.board_model.specs.Replies.{id_number, info_of, nodes_of, released_thing}
 use Rattle.board_cell.specs.Calls.{Getting, Updating, counter_of}
@@ -26,9 +29,10 @@ use Rattle.board_script.specs.declared.step.OwedAccess.TheVariants as owed
 use Rattle.board_script.specs.declared.step.OwedWrite.{OwedWrite}
 use Rattle.board_script.specs.LoanCalls.{IsGivenBack, IsLoaned}
 use Rattle.board_script.specs.Loans.{is_lent_as, lent_words}
-use Rattle.board_script.specs.Overview.{keys_shown, standing_with}
-use Rattle.board_script.specs.Machine.{is_kept_as, is_row_of, tables_of, words_of}
-use Rattle.board_script.specs.TableCalls.{IsCreate, IsEntry, IsEntryMut, IsOpen, IsReader, IsWriter}
+use Rattle.board_parties.specs.Overview.{keys_shown, standing_with}
+use Rattle.board_parties.specs.Parties.{IsCreate, IsEntry, IsEntryMut, IsFew, IsOpen, IsReader, IsReleased, IsStored, IsWriter, Stands}
+use Rattle.board_script.specs.Machine.{is_kept_as, is_row_of, tables_of}
+use Rattle.board_script.specs.TableCalls.{IsRest}
 
 -- ---- the access that is owed
 
@@ -105,35 +109,15 @@ is_last t v = true
 
 -- ---- words
 
--- the board stands, and has the word
-pub record HasWord (m : Machine) (board word : ℕ) : Type 0 where
-  pub place : ℕ
-  pub stands : Some place ≡ position_from (is_numbered board) 0 m.domain.tables.boards
-  pub inside : place < length m.domain.words
-  pub word_inside : (d : List ℕ) → word < length (slice_index_or m.domain.words place d)
-
 -- nothing of it changed
 pub record IsSame (old new : Machine) : Type 0 where
-  pub tables : tables_of new ≡ tables_of old
-  pub words : new.domain.words ≡ old.domain.words
-  pub parties : new.parties.items ≡ old.parties.items
-  pub values : new.values.items ≡ old.values.items
-  pub loans : new.loans.items ≡ old.loans.items
-  pub spent : new.spent ≡ old.spent
+  pub domain : new.domain ≡ old.domain
+  pub rest : IsRest old new
 
 -- one word of the board's words is set
-pub record IsStored (old new : Machine) (board word value : ℕ) : Type 0 where
-  pub tables : tables_of new ≡ tables_of old
-  pub parties : new.parties.items ≡ old.parties.items
-  pub values : new.values.items ≡ old.values.items
-  pub loans : new.loans.items ≡ old.loans.items
-  pub spent : new.spent ≡ old.spent
-  pub words : (place : ℕ) (d : List ℕ) → Some place ≡ position_from (is_numbered board) 0 old.domain.tables.boards
-      → new.domain.words ≡ slice_set old.domain.words place (slice_set (slice_index_or old.domain.words place d) word value)
-
--- the word is this one
-abbrev pub IsLoaded : Machine → ℕ → ℕ → ℕ → Type 0
-IsLoaded m board word v = (place : ℕ) (d : List ℕ) → Some place ≡ position_from (is_numbered board) 0 m.domain.tables.boards → v ≡ slice_index (slice_index_or m.domain.words place d) word
+pub record IsWordSet (old new : Machine) (board word value : ℕ) : Type 0 where
+  pub stored : IsStored old.domain new.domain board word value
+  pub rest : IsRest old new
 
 -- the board and the entry stand, and the entry's counter is a word of the board
 pub record HasCounter (m : Machine) (board i : ℕ) : Type 0 where
@@ -151,19 +135,19 @@ IsCounter m board i g = (place : ℕ) (e : Entry) (d : List ℕ) → Some place 
 
 -- ---- calls on the tables
 
--- a number can be drawn for what the call makes, no loan has the name of a new one, and what is read stands
+-- numbers can be drawn, names and attributes are of the grammar, what the call uses stands, and no loan has the name of a new one
 abbrev pub CanRun : Machine → List ℕ → TableTask → Type 0
-CanRun m party (table_task.Create f n k l attributes entries) = m.domain.tables.last_board + 1 < 2 ^ 64
-CanRun m party (table_task.Open f n k l needs) = Unit {0}
-CanRun m party (table_task.Reader n x) = m.domain.tables.last_port + 1 < 2 ^ 64
-CanRun m party (table_task.Writer n x) = m.domain.tables.last_port + 1 < 2 ^ 64
-CanRun m party (table_task.Entry n x k type) = Unit {0}
-CanRun m party (table_task.EntryMut n x k type) = Unit {0}
+CanRun m party (table_task.Create f n k l attributes entries) = IsFew m.domain × (is_board_name n ≡ true) × AreAttributes attributes
+CanRun m party (table_task.Open f n k l needs) = IsFew m.domain × (is_board_name n ≡ true) × AreRequirements needs
+CanRun m party (table_task.Reader n x) = IsFew m.domain × Stands m.domain x
+CanRun m party (table_task.Writer n x) = IsFew m.domain × Stands m.domain x
+CanRun m party (table_task.Entry n x k type) = IsFew m.domain × Stands m.domain x × (kind_of x.kind ≡ thing_kind.Reader) × (is_typed_key (board_at m.domain.tables x.board) k ≡ true)
+CanRun m party (table_task.EntryMut n x k type) = IsFew m.domain × Stands m.domain x × (kind_of x.kind ≡ thing_kind.Writer) × (is_typed_key (board_at m.domain.tables x.board) k ≡ true)
 CanRun m party (table_task.Loan handle loan words) = lent_words m.loans.items party loan ≡ None
 CanRun m party (table_task.Discard loan handle) = Unit {0}
 CanRun m party (table_task.Keys x) = Unit {0}
 CanRun m party (table_task.Nodes x) = Unit {0}
-CanRun m party (table_task.Info x) = is_some (find (is_numbered x.board) m.domain.tables.boards) ≡ true
+CanRun m party (table_task.Info x) = is_some (board_at m.domain.tables x.board) ≡ true
 CanRun m party (table_task.Id x) = Unit {0}
 CanRun m party (table_task.Gen x) = HasCounter m x.board (entry_of x.kind)
 
@@ -181,27 +165,25 @@ pub record IsShown (old new : Machine) (shown told : Reply) : Type 0 where
 
 -- what a call on the tables is told, and what it changes
 abbrev pub IsTold : Machine → Machine → List ℕ → TableTask → Reply → Type 0
-IsTold old new party (table_task.Create f n k l attributes entries) told = IsCreate old new party f n k l attributes entries told
-IsTold old new party (table_task.Open f n k l needs) told = IsOpen old new party f n k l needs told
-IsTold old new party (table_task.Reader n x) told = IsReader old new n x told
-IsTold old new party (table_task.Writer n x) told = IsWriter old new n x told
-IsTold old new party (table_task.Entry n x k type) told = IsEntry old new n x k type told
-IsTold old new party (table_task.EntryMut n x k type) told = IsEntryMut old new n x k type told
+IsTold old new party (table_task.Create f n k l attributes entries) told = IsCreate old.domain new.domain party f n k l attributes entries told × IsRest old new
+IsTold old new party (table_task.Open f n k l needs) told = IsOpen old.domain new.domain party f n k l needs told × IsRest old new
+IsTold old new party (table_task.Reader n x) told = IsReader old.domain new.domain n x told × IsRest old new
+IsTold old new party (table_task.Writer n x) told = IsWriter old.domain new.domain n x told × IsRest old new
+IsTold old new party (table_task.Entry n x k type) told = IsEntry old.domain new.domain n x k type told × IsRest old new
+IsTold old new party (table_task.EntryMut n x k type) told = IsEntryMut old.domain new.domain n x k type told × IsRest old new
 IsTold old new party (table_task.Loan handle loan words) told = (told ≡ reply.Done) × IsLoaned old new party handle loan words
 IsTold old new party (table_task.Discard loan handle) told = (told ≡ reply.Done) × IsGivenBack old new party loan handle
-IsTold old new party (table_task.Keys x) told = IsShown old new (reply.Keys (keys_shown (find (is_numbered x.board) old.domain.tables.boards))) told
+IsTold old new party (table_task.Keys x) told = IsShown old new (reply.Keys (keys_shown (board_at old.domain.tables x.board))) told
 IsTold old new party (table_task.Nodes x) told = IsShown old new (reply.Nodes (nodes_of x.board old.domain.tables.things)) told
-IsTold old new party (table_task.Info x) told = IsShown old new (reply.Info (info_of old.domain.tables.things (find (is_numbered x.board) old.domain.tables.boards))) told
-IsTold old new party (table_task.Id x) told = IsShown old new (reply.Id (id_number (standing_with (tables_of old)) x x.kind)) told
+IsTold old new party (table_task.Info x) told = IsShown old new (reply.Info (info_of old.domain.tables.things (board_at old.domain.tables x.board))) told
+IsTold old new party (table_task.Id x) told = IsShown old new (reply.Id (id_number (standing_with old.domain.tables) x x.kind)) told
 IsTold old new party (table_task.Gen x) told = IsGen old new x told
 
 -- ---- drop
 
 -- what a party held under a name is gone, and a board with its last thing
-pub record IsReleased (old new : Machine) (party name : List ℕ) : Type 0 where
-  pub tables : tables_of new ≡ released_thing (tables_of old) party name (thing_of old.domain.tables.things party name)
-  -- the words of the boards that are left
-  pub words : (f : ℕ → List ℕ) → old.domain.words ≡ words_of f old.domain.tables.boards → new.domain.words ≡ words_of f new.domain.tables.boards
+pub record IsLetGo (old new : Machine) (party name : List ℕ) : Type 0 where
+  pub domain : IsReleased old.domain new.domain party name
   pub values : new.values.items ≡ filter (λ v. not (is_kept_as party name v)) old.values.items
   pub loans : new.loans.items ≡ filter (λ x. not (is_lent_as party name x)) old.loans.items
   pub parties : new.parties.items ≡ old.parties.items
@@ -235,8 +217,7 @@ values_read party t = []
 pub record IsReadTold (old new : Machine) (party : List ℕ) (t : Task) (told : Reply) : Type 0 where
   pub told_is : read_told t ≡ Some told
   pub values : new.values.items ≡ old.values.items ++ values_read party t
-  pub tables : tables_of new ≡ tables_of old
-  pub words : new.domain.words ≡ old.domain.words
+  pub domain : new.domain ≡ old.domain
   pub parties : new.parties.items ≡ old.parties.items
   pub loans : new.loans.items ≡ old.loans.items
   pub spent : new.spent ≡ old.spent
