@@ -12,7 +12,8 @@ use Rattle.board_script.specs.declared.machine.Machine.{Machine}
 use Rattle.board_script.specs.declared.machine.PartyRow.{PartyRow}
 use Rattle.board_script.specs.declared.machine.Task.TheVariants as task
 use Rattle.board_script.specs.Loans.{lent_words}
-use Rattle.board_script.specs.Machine.{Represents, kept, tables_of, words_of}
+use Rattle.board_parties.specs.Parties.{words_of}
+use Rattle.board_script.specs.Machine.{Represents, kept, tables_of}
 use Rattle.board_script.proofs.PartyRows.{AreParties, RunsAt, left_behind, left_idle}
 
 pub abandon_again : (s : State) (party : List ℕ) → s.parties party ≡ gone → IsLine (line.Abandon party) → IsRight s (line.Abandon party) (answer.Refused reason.Abandoned)

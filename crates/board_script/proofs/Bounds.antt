@@ -4,8 +4,8 @@ use Rattle.board_model.specs.LawfulSession.{State}
 use Rattle.board_script.specs.Machine.{IsReached}
 
 pub record IsBounded (s : State) : Type 0 where
-  pub boards : s.standing.tables.last_board + 1 < 2 ^ 64
-  pub ports : s.standing.tables.last_port + 1 < 2 ^ 64
+  pub boards : s.standing.tables.last_board < 2 ^ 63
+  pub ports : s.standing.tables.last_port < 2 ^ 63
   pub lists : (n i : ℕ) → length (s.published n i) + 1 < 2 ^ 64
 
 pub bounded : (s : State) → IsReached s → IsBounded s

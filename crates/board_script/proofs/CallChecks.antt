@@ -39,7 +39,8 @@ use Rattle.board_script.specs.declared.machine.Task.{Task}
 use Rattle.board_script.specs.declared.machine.Task.TheVariants as task
 use Rattle.board_script.specs.Begins.{IsChecked, IsHandle, IsTaskFor, handle_held, holds_any, is_handle}
 use Rattle.board_script.specs.Loans.{lent_words}
-use Rattle.board_script.specs.Machine.{AreRowsOf, Represents, is_row_of, kept, tables_of, updating, words_of}
+use Rattle.board_parties.specs.Parties.{words_of}
+use Rattle.board_script.specs.Machine.{AreRowsOf, Represents, is_row_of, kept, tables_of, updating}
 use Rattle.board_script.specs.Steps.{HasCounter, IsCounter}
 use Rattle.board_script.proofs.Bounds.{IsBounded}
 use Rattle.board_script.proofs.PartyRows.{started}

@@ -33,15 +33,15 @@ short g lines h lt = omega (arith, run_length g lines h, lt)
 
 -- the machine of a run is led
 pub run_led : (g : Generator) (room : ℕ) → IsRunning g room → IsLed g.machine
-run_led g room h = led g.machine h.run.session (record { lawful = h.run.lawful; few = short g h.lines h.run (omega (arith, h.few)); state = h.run.state })
+run_led g room h = led g.machine h.run.session (record { lawful = h.run.lawful; few = short g h.lines h.run (omega (arith, h.few)); state = record { represents = h.run.state; drawn = h.run.drawn } })
 
 -- and its counts are low
 pub run_low : (g : Generator) (room : ℕ) → IsRunning g room → AreLow g.counts
 run_low g room h = counts_low h.run.session g.counts (short g h.lines h.run (omega (arith, h.few))) h.run.counts
 
 -- a line that was answered is one line more
-pub ran_line : (old new : Generator) (room : ℕ) (l : Line) (a : Answer) → IsRunning old room → IsPlain l → Serves old.machine new.machine l a → new.counts ≡ counted old.counts a → RanMore old new (l ∷ [])
-ran_line old new room l a here plain serves counts = record { run = run; entries = entries }
+pub ran_line : (old new : Generator) (room : ℕ) (l : Line) (a : Answer) → IsRunning old room → IsPlain l → Serves old.machine new.machine l a → new.machine.domain.drawn ≤ old.machine.domain.drawn + 1 → new.counts ≡ counted old.counts a → RanMore old new (l ∷ [])
+ran_line old new room l a here plain serves drawn counts = record { run = run; entries = entries }
   where
     run : (lines : List Line) → length (lines ++ l ∷ []) < 2 ^ 62 → HasRun old lines → HasRun new (lines ++ l ∷ [])
     run lines lt h =
@@ -53,6 +53,7 @@ ran_line old new room l a here plain serves counts = record { run = run; entries
           lawful = lawful_more start h.session (l, a) h.lawful served.0;
           lines_are = map-append _ h.session ((l, a) ∷ []) ∙ ap (λ (ls : List Line). ls ++ l ∷ []) h.lines_are;
           state = subst (Represents new.machine) (sym (state_more start h.session (l, a))) served.1;
+          drawn = omega (arith, length-append h.session ((l, a) ∷ []), h.drawn, drawn);
           plain = rw (state_more start h.session (l, a)) (plain_after s l a plain.plain h.plain);
           counts = counts ∙ ap (λ (c : Counts). counted c a) h.counts ∙ sym (counts_more h.session l a h.plain plain.plain served.0);
         }

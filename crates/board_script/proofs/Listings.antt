@@ -1,8 +1,9 @@
 -- Lines that list the words of a board.
-use Rattle.std.proofs.Common.{◌≡◌, ℕ, suc, ◌^◌, ◌<◌, true, false, List, [], ◌∷◌, ◌++◌, length, get_or, arith, refl, sym, ap, ◌∙◌, Some, None}
+use Rattle.std.proofs.Common.{◌≡◌, ℕ, suc, ◌+◌, ◌^◌, ◌<◌, ◌≤◌, true, false, List, [], ◌∷◌, ◌++◌, length, get_or, arith, refl, sym, ap, ◌∙◌, Option, Some, None}
 use Rattle.std.specs.Prelude.{find, is_some, OnOk, Result, Ok, Err}
 use Rattle.std.specs.List.{AllByRecursion, position_from}
 use Rattle.std.proofs.lemmas.List.{length-map}
+use Rattle.std.proofs.lemmas.Option.{get_or_from_slice_get, slice_get-get_or}
 use Rattle.board_model.specs.declared.answer.Answer.TheVariants as answer
 use Rattle.board_model.specs.declared.answer.Reason.TheVariants as reason
 use Rattle.board_model.specs.declared.line.Line.{Line}
@@ -17,8 +18,10 @@ use Rattle.board_model.proofs.KeptFormLemmas.{session_formed}
 use Rattle.board_model.proofs.NumberLemmas.{session_numbers}
 use Rattle.board_model.proofs.SoundLemmas.{sound_session}
 use Rattle.board_lines.specs.Runs.{HasAnswered, StandsFor}
+use Rattle.board_parties.specs.Parties.{board_words}
+use Rattle.board_service.specs.Domain.{at}
 use Rattle.board_script.specs.declared.machine.Machine.{Machine}
-use Rattle.board_script.specs.Machine.{IsLed, IsReached, Represents, Tells}
+use Rattle.board_script.specs.Machine.{IsLed, IsReached, Represents, StandsAfter, Tells}
 use Rattle.board_script.proofs.Memories.{words_at}
 use Rattle.board_script.proofs.Rows.{first_at, place_found, place_missing}
 
@@ -36,8 +39,26 @@ module _ (m : Machine) (s : State) (rep : Represents m s) (n : ℕ) where
   pub board_is_missing : None ≡ position_from (is_numbered n) 0 m.domain.tables.boards → is_some (board_at s.standing.tables n) ≡ false
   board_is_missing p = ap (λ t. is_some (find (is_numbered n) t.boards)) rep.tables ∙ place_missing (is_numbered n) 0 m.domain.tables.boards (sym p)
 
-  pub board_words : (k : ℕ) (d : List ℕ) → Some k ≡ position_from (is_numbered n) 0 m.domain.tables.boards → get_or m.domain.words k d ≡ s.memory n
-  board_words k d p = ap (λ (ws : List (List ℕ)). get_or ws k d) rep.words ∙ words_at s.memory n m.domain.tables.boards k d p
+  pub words_are : (k : ℕ) (d : List ℕ) → Some k ≡ position_from (is_numbered n) 0 m.domain.tables.boards → get_or m.domain.words k d ≡ s.memory n
+  words_are k d p = ap (λ (ws : List (List ℕ)). get_or ws k d) rep.words ∙ words_at s.memory n m.domain.tables.boards k d p
+
+  -- the words that the domain has of the board are those that stand
+  pub words_found : (ws : List ℕ) → board_words m.domain n ≡ Some ws → (is_some (board_at s.standing.tables n) ≡ true) × (ws ≡ s.memory n)
+  words_found ws e = by (position_from (is_numbered n) 0 m.domain.tables.boards) refl e
+    where
+      by : (o : Option ℕ) → position_from (is_numbered n) 0 m.domain.tables.boards ≡ o → at m.domain.words o ≡ Some ws → (is_some (board_at s.standing.tables n) ≡ true) × (ws ≡ s.memory n)
+      by None p h = absurd cc
+      by (Some k) p h = (board_stands k (sym p), sym (get_or_from_slice_get m.domain.words k ws ws h) ∙ words_are k ws (sym p))
+
+  -- the domain has none where no board stands
+  pub words_missing : board_words m.domain n ≡ None → is_some (board_at s.standing.tables n) ≡ false
+  words_missing e = by (position_from (is_numbered n) 0 m.domain.tables.boards) refl e
+    where
+      by : (o : Option ℕ) → position_from (is_numbered n) 0 m.domain.tables.boards ≡ o → at m.domain.words o ≡ None → is_some (board_at s.standing.tables n) ≡ false
+      by None p h = board_is_missing (sym p)
+      by (Some k) p h =
+          let there : Some (get_or m.domain.words k []) ≡ None = sym (slice_get-get_or m.domain.words k [] (place_inside k (sym p))) ∙ h in
+          absurd cc
 
 -- ---- answers to the line
 
@@ -98,22 +119,23 @@ reached_by session h lt = record {
 }
 
 -- a machine that stands for a lawful session is led
-pub led : (m : Machine) (session : Session) → StandsFor Represents m session → IsLed m
+pub led : (m : Machine) (session : Session) → StandsFor StandsAfter m session → IsLed m
 led m session h = record {
   state = state_after start session;
-  represents = h.state;
+  represents = h.state.represents;
   reached = reached_by session h.lawful h.few;
+  few = omega (arith, h.state.drawn, h.few);
 }
 
 -- so a right answer adds a pair to the session
-pub has_answered : (old new : Machine) (session : Session) (bytes text : List ℕ) (l : Line) → StandsFor Represents old session → Spells bytes l → Tells old new l text → HasAnswered Represents new session bytes text
-has_answered old new session bytes text l h spelled tells =
-    let t = tells (state_after start session) h.state (reached_by session h.lawful h.few) in
+pub has_answered : (old new : Machine) (session : Session) (bytes text : List ℕ) (l : Line) → StandsFor StandsAfter old session → Spells bytes l → Tells old new l text → new.domain.drawn ≤ old.domain.drawn + 1 → HasAnswered StandsAfter new session bytes text
+has_answered old new session bytes text l h spelled tells drawn =
+    let t = tells (state_after start session) h.state.represents (reached_by session h.lawful h.few) in
     record {
       line = l;
       answer = t.answer;
       spelled = spelled;
       right = t.right;
-      state = t.represents;
+      state = record { represents = t.represents; drawn = omega (arith, h.state.drawn, drawn) };
       told = t.told;
     }

@@ -4,6 +4,7 @@ use Rattle.board_model.specs.Requests.{Lending}
 use Rattle.board_model.specs.Replies.{given_back, lent, none_put, with_word}
 use Rattle.board_model.specs.Things.{with_name}
 use Rattle.board_model.specs.LawfulSession.{State}
+use Rattle.board_parties.specs.Parties.{Parties}
 use Rattle.board_script.specs.declared.machine.Machine.{Machine}
 use Rattle.board_script.specs.LoanCalls.{IsGivenBack, IsLoaned, IsWordPut}
 use Rattle.board_script.specs.Loans.{lent_words}
@@ -13,14 +14,14 @@ use Rattle.board_script.proofs.LoanRows.{with_at-same}
 module _ (s : State) (mid new : Machine) (tables : s.standing.tables ≡ tables_of mid) (loans : (p n : List ℕ) → s.standing.loans p n ≡ lent_words mid.loans.items p n) (party : List ℕ) (l : Lending) where
   module _ (h : IsLoaned mid new party l.handle l.loan l.shape.words) where
     pub lent_tables : (lent s.standing party l).tables ≡ tables_of new
-    lent_tables = ap (λ t. with_name t party l.handle l.loan) tables ∙ sym h.tables
+    lent_tables = ap (λ t. with_name t party l.handle l.loan) tables ∙ ap (λ (d : Parties). d.tables) (sym h.domain)
 
     pub lent_loans : (p n : List ℕ) → (lent s.standing party l).loans p n ≡ lent_words new.loans.items p n
     lent_loans p n = with_at-same s.standing.loans (lent_words mid.loans.items) party l.loan (Some (none_put l.shape.words)) loans p n ∙ sym (h.loans p n)
 
   module _ (h : IsGivenBack mid new party l.loan l.handle) where
     pub given_back_tables : (given_back s.standing party l).tables ≡ tables_of new
-    given_back_tables = ap (λ t. with_name t party l.loan l.handle) tables ∙ sym h.tables
+    given_back_tables = ap (λ t. with_name t party l.loan l.handle) tables ∙ ap (λ (d : Parties). d.tables) (sym h.domain)
 
     pub given_back_loans : (p n : List ℕ) → (given_back s.standing party l).loans p n ≡ lent_words new.loans.items p n
     given_back_loans p n = with_at-same s.standing.loans (lent_words mid.loans.items) party l.loan None loans p n ∙ sym (h.loans p n)

@@ -6,7 +6,7 @@ use Rattle.std.proofs.lemmas.List.Sums.{sum_by-cons}
 use Rattle.std.proofs.lemmas.Bool.{eqb-true}
 use Rattle.board_model.specs.declared.tables.Board.{Board}
 use Rattle.board_model.specs.Tables.{is_numbered}
-use Rattle.board_script.specs.Machine.{words_of}
+use Rattle.board_parties.specs.Parties.{words_of}
 
 chosen : {A : Type 0} (b : Bool) (x y z : A) → cond b x y ≡ z → ((b ≡ true) × (x ≡ z)) ⊎ ((b ≡ false) × (y ≡ z))
 chosen true x y z e = inl (refl, e)

@@ -14,12 +14,13 @@ use Rattle.board_model.specs.Sound.{IsCalling, IsReading, Sound}
 use Rattle.board_model.proofs.RunningLemmas.{runs}
 use Rattle.board_model.proofs.StoreLemmas.{store_here}
 use Rattle.board_cell.specs.Calls.{Asking, Getting, Publishing, Putting, Updating}
+use Rattle.board_parties.specs.Parties.{HasWord, IsStored, Parties, words_of}
 use Rattle.board_script.specs.declared.machine.Machine.{Machine}
 use Rattle.board_script.specs.declared.machine.PartyRow.{PartyRow}
 use Rattle.board_script.specs.declared.machine.Task.{Task}
 use Rattle.board_script.specs.declared.machine.Task.TheVariants as task
-use Rattle.board_script.specs.Machine.{IsTaskOf, Represents, words_of}
-use Rattle.board_script.specs.Steps.{CanGoOn, HasWord, IsStored}
+use Rattle.board_script.specs.Machine.{IsTaskOf, Represents}
+use Rattle.board_script.specs.Steps.{CanGoOn}
 use Rattle.board_script.proofs.Memories.{words-set, words_at}
 use Rattle.board_script.proofs.PartyRows.{RunsAt}
 use Rattle.board_script.proofs.Rows.{first_at, found_somewhere}
@@ -85,7 +86,7 @@ module _ (m : Machine) (s : State) (rep : Represents m s) (sound : Sound s) wher
         words = λ d. ap (λ (ws : List (List ℕ)). get_or ws p.0 d) rep.words ∙ words_at s.memory n m.domain.tables.boards p.0 d (sym p.1);
       }
 
-  pub has_word : (n word : ℕ) → is_some (board_at s.standing.tables n) ≡ true → word < length (s.memory n) → HasWord m n word
+  pub has_word : (n word : ℕ) → is_some (board_at s.standing.tables n) ≡ true → word < length (s.memory n) → HasWord m.domain n word
   has_word n word h lt =
       let at = stands_at n h in
       record {
@@ -96,8 +97,8 @@ module _ (m : Machine) (s : State) (rep : Represents m s) (sound : Sound s) wher
       }
 
   -- the words after a write
-  pub stored_words : (new : Machine) (n word value : ℕ) → is_some (board_at s.standing.tables n) ≡ true → IsStored m new n word value
-      → new.domain.words ≡ words_of (store s.memory n word value) m.domain.tables.boards
+  pub stored_words : (new : Parties) (n word value : ℕ) → is_some (board_at s.standing.tables n) ≡ true → IsStored m.domain new n word value
+      → new.words ≡ words_of (store s.memory n word value) m.domain.tables.boards
   stored_words new n word value h stored =
       let at = stands_at n h in
       let single = subst (λ t. count_by (is_numbered n) t.boards ≤ 1) rep.tables (sound.boards.single n) in

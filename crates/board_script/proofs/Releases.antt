@@ -22,7 +22,7 @@ use Rattle.board_script.specs.declared.machine.PartyRow.{PartyRow}
 use Rattle.board_script.specs.Begins.{holds}
 use Rattle.board_script.specs.Loans.{lent_words}
 use Rattle.board_script.specs.Machine.{AreRowsOf, Represents, is_kept_as, is_row_of, kept, kept_from, kept_of}
-use Rattle.board_script.specs.Steps.{IsReleased}
+use Rattle.board_script.specs.Steps.{IsLetGo}
 use Rattle.board_script.proofs.LoanRows.{forgotten, with_at-same}
 
 -- ---- values
@@ -110,7 +110,7 @@ module _ (m : Machine) (s : State) (rep : Represents m s) (party name : List ℕ
         reply = λ _. tt;
       }
 
-  pub released_right : (new : Machine) → s.parties party ≡ free → holds m party name ≡ true → IsReleased m new party name
+  pub released_right : (new : Machine) → s.parties party ≡ free → holds m party name ≡ true → IsLetGo m new party name
       → IsRight s (line.Release party name) (answer.Step access.Table (Some reply.Done)) × Represents new (after s (line.Release party name) (answer.Step access.Table (Some reply.Done)))
   released_right new e h is =
       let r : reason_of s (line.Release party name) ≡ None = reason_is true h ∙ rw e refl in (
@@ -124,8 +124,8 @@ module _ (m : Machine) (s : State) (rep : Represents m s) (party name : List ℕ
         },
         record {
           alive = is.spent ∙ rep.alive;
-          tables = ap (λ t. released_thing t party name (thing_of t.things party name)) rep.tables ∙ sym is.tables;
-          words = is.words s.memory rep.words;
+          tables = ap (λ t. released_thing t party name (thing_of t.things party name)) rep.tables ∙ sym is.domain.tables;
+          words = is.domain.words s.memory rep.words;
           parties = subst (λ (xs : List PartyRow). (p : List ℕ) → AreRowsOf (filter (is_row_of p) xs) (s.parties p)) (sym is.parties) rep.parties;
           loans = λ p n. with_at-same s.standing.loans (lent_words m.loans.items) party name None rep.loans p n ∙ sym (forgotten party name m.loans.items new.loans.items is.loans p n);
           values = values_left party name s.standing.values m.values.items new.values.items rep.values is.values;

@@ -15,7 +15,7 @@ use Rattle.board_model.specs.Tables.{is_numbered}
 use Rattle.board_model.specs.TypeTable.{key_bytes, key_of, key_type_of, type_of_key, up_to_zero}
 use Rattle.board_model.proofs.KeptKeyLemmas.{told_as_added}
 use Rattle.board_model.proofs.ThingLemmas.{all_found}
-use Rattle.board_script.specs.Overview.{key_shown, keys_shown}
+use Rattle.board_parties.specs.Overview.{key_shown, keys_shown}
 
 none_left : (xs : List ℕ) → length xs ≤ 0 → [] ≡ xs
 none_left [] h = refl

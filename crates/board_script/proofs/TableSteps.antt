@@ -28,28 +28,30 @@ use Rattle.board_model.specs.Requests.{Request, TableCall, create, describe, ent
 use Rattle.board_model.specs.Replies.{Asked, added_of, ask_tables, id_number, info_of, is_key, keys_in, nodes_of, number_or, only_told, told_by}
 use Rattle.board_model.specs.Tables.{Tables, board_at, entry_at, entry_found, entry_in, entry_of, is_numbered, kind_of, new_board}
 use Rattle.board_model.specs.TableCalls.{asked, create_asked, create_refusals, created, entry_asked, entry_mut_asked, first_of, open_asked, reader_asked, writer_asked}
-use Rattle.board_model.specs.Things.{Held}
+use Rattle.board_model.specs.declared.tables.ThingKind.{ThingKind}
+use Rattle.board_model.specs.Things.{Held, thing_of}
 use Rattle.board_model.specs.TypeTable.{key_detail, same_key, value_detail}
 use Rattle.board_model.specs.Parties.{Party, Running, free, notice, running, with_party}
-use Rattle.board_model.specs.LawfulSession.{IsRight, State, after}
-use Rattle.board_model.specs.LawsOfForms.{IsFormedParty, IsFormedRequest}
-use Rattle.board_model.specs.Sound.{HasBoard, HasEntry, HasEntryAt, IsCalling, IsFree, Sound}
+use Rattle.board_model.specs.LawfulSession.{IsRight, State, after, is_typed_key}
+use Rattle.board_model.specs.LawsOfForms.{IsFormedInTable, IsFormedParty, IsFormedRequest}
+use Rattle.board_model.specs.Sound.{HasBoard, HasEntry, HasEntryAt, IsCalling, IsFree, IsHeldThing, IsTypedKey, Sound}
 use Rattle.board_model.proofs.ListLemmas.{any_missing, count_none}
 use Rattle.board_model.proofs.ReplyFormLemmas.{reply_told}
 use Rattle.board_model.proofs.RunningLemmas.{runs}
-use Rattle.board_model.proofs.ThingLemmas.{all_found}
+use Rattle.board_model.proofs.ThingLemmas.{all_found, found_as}
 use Rattle.board_script.specs.declared.machine.Lent.{Lent}
 use Rattle.board_script.specs.declared.machine.Machine.{Machine}
 use Rattle.board_script.specs.declared.machine.PartyRow.{PartyRow}
 use Rattle.board_script.specs.declared.machine.KeptValue.{KeptValue}
 use Rattle.board_script.specs.declared.machine.TableTask.{TableTask}
 use Rattle.board_script.specs.declared.machine.TableTask.TheVariants as table_task
-use Rattle.board_script.specs.Overview.{keys_shown, standing_with}
+use Rattle.board_parties.specs.Overview.{keys_shown, standing_with}
+use Rattle.board_parties.specs.Parties.{IsAsked, IsCreate, IsFew, Parties, Stands, words_of, words_with}
 use Rattle.board_script.specs.LoanCalls.{IsGivenBack, IsLoaned}
 use Rattle.board_script.specs.Loans.{IsDiscardTask, IsLoanTask, lent_words}
-use Rattle.board_script.specs.Machine.{AreRowsOf, IsReached, IsTableTask, Represents, is_row_of, kept, tables_of, words_of}
+use Rattle.board_script.specs.Machine.{AreRowsOf, IsReached, IsTableTask, Represents, is_row_of, kept, tables_of}
 use Rattle.board_script.specs.Steps.{CanRun, HasCounter, IsCounter, IsGen, IsShown, IsTold}
-use Rattle.board_script.specs.TableCalls.{IsAsked, IsCreate, words_with}
+use Rattle.board_script.specs.TableCalls.{IsRest}
 use Rattle.board_script.proofs.Bounds.{IsBounded}
 use Rattle.board_script.proofs.LoanSteps.{given_back_loans, given_back_tables, lent_loans, lent_tables}
 use Rattle.board_script.proofs.Memories.{same_words}
@@ -173,15 +175,15 @@ module _ (m : Machine) (s : State) (rep : Represents m s) (reached : IsReached s
         → ask_tables s.standing s.published party c ≡ told_by s.standing error (f s.standing.tables)
         → (f (tables_of mid)).1.boards ≡ mid.domain.tables.boards
         → memory_after s.memory (table c) told ≡ s.memory
-        → IsAsked mid new error (f (tables_of mid)) told → IsServed new c told
+        → IsAsked mid.domain new.domain error (f (tables_of mid)) told × IsRest mid new → IsServed new c told
     asked_served c error f told asks boards memory h = record {
-      told_is = h.told_is ∙ ap (λ t. number_or error (f t).0) (sym tables_are) ∙ ap (λ (x : Asked). x.reply) (sym asks);
-      tables = ap (λ (x : Asked). x.standing.tables) asks ∙ ap (λ t. (f t).1) tables_are ∙ sym h.tables;
-      loans = λ p n. ap (λ (x : Asked). x.standing.loans p n) asks ∙ kept_loans h.loans p n;
-      values = λ p n. ap (λ (x : Asked). x.standing.values p n) asks ∙ kept_values h.values p n;
-      words = kept_words (ap (λ t. t.boards) h.tables ∙ boards) h.words ∙ ap (λ (x : ℕ → List ℕ). words_of x new.domain.tables.boards) (sym memory);
-      parties = h.parties ∙ rows;
-      alive = h.spent ∙ alive;
+      told_is = h.0.told_is ∙ ap (λ t. number_or error (f t).0) (sym tables_are) ∙ ap (λ (x : Asked). x.reply) (sym asks);
+      tables = ap (λ (x : Asked). x.standing.tables) asks ∙ ap (λ t. (f t).1) tables_are ∙ sym h.0.tables;
+      loans = λ p n. ap (λ (x : Asked). x.standing.loans p n) asks ∙ kept_loans h.1.loans p n;
+      values = λ p n. ap (λ (x : Asked). x.standing.values p n) asks ∙ kept_values h.1.values p n;
+      words = kept_words (ap (λ t. t.boards) h.0.tables ∙ boards) h.0.words ∙ ap (λ (x : ℕ → List ℕ). words_of x new.domain.tables.boards) (sym memory);
+      parties = h.1.parties ∙ rows;
+      alive = h.1.spent ∙ alive;
     }
 
     -- a call that only tells
@@ -198,8 +200,8 @@ module _ (m : Machine) (s : State) (rep : Represents m s) (reached : IsReached s
     }
 
     -- the keys of the machine's boards are told as they were added
-    keys_same : (x : Held) → keys_in (board_at s.standing.tables x.board) ≡ keys_shown (find (is_numbered x.board) mid.domain.tables.boards)
-    keys_same x = sym (board_shown x.board s.standing.tables.boards reached.formed.tables.boards) ∙ ap (λ t. keys_shown (find (is_numbered x.board) t.boards)) tables_are
+    keys_same : (x : Held) → keys_in (board_at s.standing.tables x.board) ≡ keys_shown (board_at mid.domain.tables x.board)
+    keys_same x = sym (board_shown x.board s.standing.tables.boards reached.formed.tables.boards) ∙ ap (λ t. keys_shown (board_at t x.board)) tables_are
 
     same_id : (t : BoardTables) (x : Held) (k : Kind) → id_number (record s.standing { tables = t }) x k ≡ id_number (standing_with t) x k
     same_id t x kind.Factory = refl
@@ -209,10 +211,10 @@ module _ (m : Machine) (s : State) (rep : Represents m s) (reached : IsReached s
     same_id t x (kind.WriteHandle i p) = refl
 
     -- the board of a factory stands
-    info_stands : (x : Held) → at.r.request ≡ table (describe x) → is_some (find (is_numbered x.board) mid.domain.tables.boards) ≡ true
+    info_stands : (x : Held) → at.r.request ≡ table (describe x) → is_some (board_at mid.domain.tables x.board) ≡ true
     info_stands x e =
         let held = (calling (describe x) e).1 in
-        ap (λ t. is_some (find (is_numbered x.board) t.boards)) (sym tables_are) ∙ all_found (HasBoard s.standing.tables) _ s.standing.tables.things x reached.sound.things.standing held.found
+        ap (λ t. is_some (board_at t x.board)) (sym tables_are) ∙ all_found (HasBoard s.standing.tables) _ s.standing.tables.things x reached.sound.things.standing held.found
 
     -- the entry of a write handle stands
     handle_entry : (x : Held) (k : Kind) → kind_of k ≡ thing_kind.WriteHandle → HasEntryAt s.standing.tables x.board k → is_some (entry_at s.standing.tables x.board (entry_of k)) ≡ true
@@ -297,22 +299,22 @@ module _ (m : Machine) (s : State) (rep : Represents m s) (reached : IsReached s
           ∙ ap (λ (bs : List Board). words_of (with_board s.memory number (opening_of entries)) bs) (sym e)
       words_told (Some why) boards e = rep.words ∙ ap (λ t. words_of s.memory t.boards) (sym rep.tables) ∙ ap (λ (bs : List Board). words_of s.memory bs) (sym e)
 
-      pub create_served : (told : Reply) → IsCreate mid new party f n k limits attributes entries told → IsServed new (create f n k limits attributes entries) told
+      pub create_served : (told : Reply) → IsCreate mid.domain new.domain party f n k limits attributes entries told × IsRest mid new → IsServed new (create f n k limits attributes entries) told
       create_served told h =
           let asked_of : BoardTables → Result ℕ BlackboardCreateError × BoardTables = λ t. create_asked (same_key k) t party f n (key_detail k) limits attributes (map added_of entries) in
-          let told_same : told ≡ told_of (refusal s.standing.tables) = h.told_is ∙ ap (λ t. number_or reply.CreateError (asked_of t).0) (sym tables_are) in
-          let tables_same : tables_of new ≡ (asked_of s.standing.tables).1 = h.tables ∙ ap (λ t. (asked_of t).1) (sym tables_are) in
+          let told_same : told ≡ told_of (refusal s.standing.tables) = h.0.told_is ∙ ap (λ t. number_or reply.CreateError (asked_of t).0) (sym tables_are) in
+          let tables_same : tables_of new ≡ (asked_of s.standing.tables).1 = h.0.tables ∙ ap (λ t. (asked_of t).1) (sym tables_are) in
           record {
             told_is = told_same;
             tables = sym tables_same;
-            loans = kept_loans h.loans;
-            values = kept_values h.values;
+            loans = kept_loans h.1.loans;
+            values = kept_values h.1.values;
             words =
-                h.words ∙ ap (λ (ws : List (List ℕ)). words_with ws entries told) same_list
+                h.0.words ∙ ap (λ (ws : List (List ℕ)). words_with ws entries told) same_list
                 ∙ subst (λ (t : Reply). words_with m.domain.words entries t ≡ words_of (memory_after s.memory (table (create f n k limits attributes entries)) t) new.domain.tables.boards) (sym told_same)
                 (words_told (refusal s.standing.tables) new.domain.tables.boards (ap (λ t. t.boards) tables_same));
-            parties = h.parties ∙ rows;
-            alive = h.spent ∙ alive;
+            parties = h.1.parties ∙ rows;
+            alive = h.1.spent ∙ alive;
           }
 
     -- ---- loans
@@ -338,7 +340,7 @@ module _ (m : Machine) (s : State) (rep : Represents m s) (reached : IsReached s
           tables = lent_tables s mid new tables_are mid_loans party l is;
           loans = lent_loans s mid new tables_are mid_loans party l is;
           values = kept_values h.values;
-          words = kept_words (ap (λ t. t.boards) h.tables) h.words;
+          words = kept_words (ap (λ (d : Parties). d.tables.boards) h.domain) (ap (λ (d : Parties). d.words) h.domain);
           parties = h.parties ∙ rows;
           alive = h.spent ∙ alive;
         }
@@ -353,7 +355,7 @@ module _ (m : Machine) (s : State) (rep : Represents m s) (reached : IsReached s
           tables = given_back_tables s mid new tables_are mid_loans party l is;
           loans = given_back_loans s mid new tables_are mid_loans party l is;
           values = kept_values h.values;
-          words = kept_words (ap (λ t. t.boards) h.tables) h.words;
+          words = kept_words (ap (λ (d : Parties). d.tables.boards) h.domain) (ap (λ (d : Parties). d.words) h.domain);
           parties = h.parties ∙ rows;
           alive = h.spent ∙ alive;
         }
@@ -388,18 +390,49 @@ module _ (m : Machine) (s : State) (rep : Represents m s) (reached : IsReached s
         let x = served t told e h in
         table_right new x.0 told x.1 x.2 l
 
+    -- numbers can be drawn
+    few : IsBounded s → mid.domain.drawn < 2 ^ 63 → IsFew mid.domain
+    few b d = record {
+      boards = subst (λ (t : BoardTables). t.last_board < 2 ^ 63) tables_are b.boards;
+      ports = subst (λ (t : BoardTables). t.last_port < 2 ^ 63) tables_are b.ports;
+      things = d;
+    }
+
+    -- what is held stands
+    stands : (k : ThingKind) (x : Held) → IsHeldThing s.standing party k x → Stands mid.domain x
+    stands k x h =
+        let n = (found_as s.standing.tables.things party x.name x h.found).holder in
+        subst (λ (t : BoardTables). thing_of t.things x.holder x.name ≡ Some x) tables_are (subst (λ (p : List ℕ). thing_of s.standing.tables.things p x.name ≡ Some x) (sym n) h.found)
+
+    typed : (x : Held) (k : Key) → IsTypedKey s.standing x k → is_typed_key (board_at mid.domain.tables x.board) k ≡ true
+    typed x k h = subst (λ (t : BoardTables). is_typed_key (board_at t x.board) k ≡ true) tables_are h
+
+    -- what is formed in a call that runs
+    formed : (c : TableCall) → at.r.request ≡ table c → IsFormedInTable reached.count c
+    formed c e =
+        let f = subst (λ (x : Party). IsFormedParty reached.count party x) at.runs (reached.formed.parties party) in
+        subst (IsFormedRequest reached.count) e f.1
+
     -- and it can be made
-    pub task_can_run : (t : TableTask) → IsBounded s → IsTableTask t at.r.request → CanRun mid party t
-    task_can_run (table_task.Create f n k limits attributes entries) b e = subst (λ (t : BoardTables). t.last_board + 1 < 2 ^ 64) tables_are b.boards
-    task_can_run (table_task.Open f n k limits needs) b e = tt
-    task_can_run (table_task.Reader n x) b e = subst (λ (t : BoardTables). t.last_port + 1 < 2 ^ 64) tables_are b.ports
-    task_can_run (table_task.Writer n x) b e = subst (λ (t : BoardTables). t.last_port + 1 < 2 ^ 64) tables_are b.ports
-    task_can_run (table_task.Entry n x k type) b e = tt
-    task_can_run (table_task.EntryMut n x k type) b e = tt
-    task_can_run (table_task.Loan handle loan words) b e = subst (λ (n : List ℕ). lent_words mid.loans.items party n ≡ None) (sym e.loan_is) (unlent e.lending.loan (calling (lend e.lending) e.request).1.0)
-    task_can_run (table_task.Discard loan handle) b e = tt
-    task_can_run (table_task.Keys x) b e = tt
-    task_can_run (table_task.Nodes x) b e = tt
-    task_can_run (table_task.Info x) b e = info_stands x e
-    task_can_run (table_task.Id x) b e = tt
-    task_can_run (table_task.Gen x) b e = gen_has x e
+    pub task_can_run : (t : TableTask) → IsBounded s → mid.domain.drawn < 2 ^ 63 → IsTableTask t at.r.request → CanRun mid party t
+    task_can_run (table_task.Create f n k limits attributes entries) b d e =
+        let h = formed (create f n k limits attributes entries) e in
+        (few b d, h.text, h.pairs)
+    task_can_run (table_task.Open f n k limits needs) b d e =
+        let h = formed (join f n k limits needs) e in
+        (few b d, h.text, h.needed)
+    task_can_run (table_task.Reader n x) b d e = (few b d, stands thing_kind.Factory x (calling (reader n x) e).1.1)
+    task_can_run (table_task.Writer n x) b d e = (few b d, stands thing_kind.Factory x (calling (writer n x) e).1.1)
+    task_can_run (table_task.Entry n x k type) b d e =
+        let c = (calling (entry n x k type) e).1 in
+        (few b d, stands thing_kind.Reader x c.1, c.1.kind, typed x k c.2)
+    task_can_run (table_task.EntryMut n x k type) b d e =
+        let c = (calling (entry_mut n x k type) e).1 in
+        (few b d, stands thing_kind.Writer x c.1, c.1.kind, typed x k c.2)
+    task_can_run (table_task.Loan handle loan words) b d e = subst (λ (n : List ℕ). lent_words mid.loans.items party n ≡ None) (sym e.loan_is) (unlent e.lending.loan (calling (lend e.lending) e.request).1.0)
+    task_can_run (table_task.Discard loan handle) b d e = tt
+    task_can_run (table_task.Keys x) b d e = tt
+    task_can_run (table_task.Nodes x) b d e = tt
+    task_can_run (table_task.Info x) b d e = info_stands x e
+    task_can_run (table_task.Id x) b d e = tt
+    task_can_run (table_task.Gen x) b d e = gen_has x e

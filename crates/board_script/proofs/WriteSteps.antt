@@ -35,8 +35,9 @@ use Rattle.board_script.specs.declared.step.OwedAccess.TheVariants as owed_acces
 use Rattle.board_script.specs.declared.step.OwedWrite.{OwedWrite}
 use Rattle.board_script.specs.LoanCalls.{CanSettle, IsGivenBack, IsSettled, IsWordPut}
 use Rattle.board_script.specs.Loans.{filling, lent_words}
-use Rattle.board_script.specs.Machine.{AreRowsOf, IsTaskOf, Represents, is_row_of, kept, tables_of, updating, words_of}
-use Rattle.board_script.specs.Steps.{HasWord, IsOwedBy, IsStored, ticked}
+use Rattle.board_parties.specs.Parties.{HasWord, Parties, words_of}
+use Rattle.board_script.specs.Machine.{AreRowsOf, IsTaskOf, Represents, is_row_of, kept, tables_of, updating}
+use Rattle.board_script.specs.Steps.{IsOwedBy, IsWordSet, ticked}
 use Rattle.board_script.proofs.LoanSteps.{given_back_loans, given_back_tables, put_loans}
 use Rattle.board_script.proofs.OwedWords.{has_word, stored_words}
 use Rattle.board_script.proofs.PartyRows.{RunsAt, ended, went_on}
@@ -116,11 +117,11 @@ module _ (m : Machine) (s : State) (rep : Represents m s) (sound : Sound s) (par
         subst (λ (q : Request). IsLeft mid new q) (sym h.request) (record {
           memory = λ f. refl;
           told = refl;
-          tables = tables ∙ sym e.tables;
+          tables = tables ∙ ap (λ (d : Parties). d.tables) (sym e.domain);
           loans = put_loans s mid new tables loans party l index word is p.words;
           values = kept_values e.values;
-          boards = ap (λ t. t.boards) e.tables;
-          words = e.words;
+          boards = ap (λ (d : Parties). d.tables.boards) e.domain;
+          words = ap (λ (d : Parties). d.words) e.domain;
           parties = e.parties;
           spent = e.spent;
         })
@@ -133,8 +134,8 @@ module _ (m : Machine) (s : State) (rep : Represents m s) (sound : Sound s) (par
           tables = given_back_tables s mid new tables loans party l is;
           loans = given_back_loans s mid new tables loans party l is;
           values = kept_values e.values;
-          boards = ap (λ t. t.boards) e.tables;
-          words = e.words;
+          boards = ap (λ (d : Parties). d.tables.boards) e.domain;
+          words = ap (λ (d : Parties). d.words) e.domain;
           parties = e.parties;
           spent = e.spent;
         })
@@ -147,8 +148,8 @@ module _ (m : Machine) (s : State) (rep : Represents m s) (sound : Sound s) (par
           tables = given_back_tables s mid new tables loans party l is;
           loans = given_back_loans s mid new tables loans party l is;
           values = kept_values e.values;
-          boards = ap (λ t. t.boards) e.tables;
-          words = e.words;
+          boards = ap (λ (d : Parties). d.tables.boards) e.domain;
+          words = ap (λ (d : Parties). d.words) e.domain;
           parties = e.parties;
           spent = e.spent;
         })
@@ -243,7 +244,7 @@ module _ (m : Machine) (s : State) (rep : Represents m s) (sound : Sound s) (par
     step : IsWriteStep row.task at.r.request
     step = write_step row.task at.task o
 
-    pub row_has_word : HasWord m w.board w.word
+    pub row_has_word : HasWord m.domain w.board w.word
     row_has_word =
         let inside = write_in_board s party at.r w.board w.word w.value sound at.runs (sym step.next) in
         has_word m s rep sound w.board w.word step.board inside.inside
@@ -254,24 +255,24 @@ module _ (m : Machine) (s : State) (rep : Represents m s) (sound : Sound s) (par
       pub word : IsNumber w.word
       pub value : IsNumber w.value
 
-    module _ (stored : Machine) (is_stored : IsStored m stored w.board w.word w.value) (numbers : AreWritten) (l : IsLine (line.Step party)) where
+    module _ (stored : Machine) (is_stored : IsWordSet m stored w.board w.word w.value) (numbers : AreWritten) (l : IsLine (line.Step party)) where
       stored_loans : (p n : List ℕ) → s.standing.loans p n ≡ lent_words stored.loans.items p n
-      stored_loans p n = rep.loans p n ∙ ap (λ (xs : List Lent). lent_words xs p n) (sym is_stored.loans)
+      stored_loans p n = rep.loans p n ∙ ap (λ (xs : List Lent). lent_words xs p n) (sym is_stored.rest.loans)
 
       stored_values : (p n : List ℕ) → s.standing.values p n ≡ kept stored.values.items p n
-      stored_values p n = rep.values p n ∙ ap (λ (vs : List KeptValue). kept vs p n) (sym is_stored.values)
+      stored_values p n = rep.values p n ∙ ap (λ (vs : List KeptValue). kept vs p n) (sym is_stored.rest.values)
 
       all_words : (boards : List Board) → boards ≡ stored.domain.tables.boards → stored.domain.words ≡ words_of (store s.memory w.board w.word w.value) boards
       all_words boards e =
-          stored_words m s rep sound stored w.board w.word w.value step.board is_stored
-          ∙ ap (λ (bs : List Board). words_of (store s.memory w.board w.word w.value) bs) (ap (λ t. t.boards) (sym is_stored.tables) ∙ sym e)
+          stored_words m s rep sound stored.domain w.board w.word w.value step.board is_stored.stored
+          ∙ ap (λ (bs : List Board). words_of (store s.memory w.board w.word w.value) bs) (ap (λ t. t.boards) (sym is_stored.stored.tables) ∙ sym e)
 
       -- the last write ends the call
-      pub write_ends : (mid new : Machine) → tables_of mid ≡ tables_of stored → mid.domain.words ≡ stored.words.items → mid.values.items ≡ stored.values.items → mid.loans.items ≡ stored.loans.items → mid.spent ≡ stored.spent
+      pub write_ends : (mid new : Machine) → tables_of mid ≡ tables_of stored → mid.domain.words ≡ stored.domain.words → mid.values.items ≡ stored.values.items → mid.loans.items ≡ stored.loans.items → mid.spent ≡ stored.spent
           → mid.parties.items ≡ remove stored.parties.items place → w.is_last ≡ true → IsSettled mid new party row.task
           → IsRight s (line.Step party) (answer.Step made (Some reply.Done)) × Represents new (after s (line.Step party) (answer.Step made (Some reply.Done)))
       write_ends mid new tables words values loans spent rows e settled =
-          let left = left_is mid new (rep.tables ∙ sym is_stored.tables ∙ sym tables)
+          let left = left_is mid new (rep.tables ∙ sym is_stored.stored.tables ∙ sym tables)
           (λ p n. stored_loans p n ∙ ap (λ (xs : List Lent). lent_words xs p n) (sym loans))
           (λ p n. stored_values p n ∙ ap (λ (vs : List KeptValue). kept vs p n) (sym values))
           row.task w at.task o settled in (
@@ -284,12 +285,12 @@ module _ (m : Machine) (s : State) (rep : Represents m s) (sound : Sound s) (par
               reply = λ _. rw (at.runs) (record { last = sym (step.last ∙ e); reply = sym left.told });
             },
             rw (at.runs) (record {
-              alive = left.spent ∙ spent ∙ is_stored.spent ∙ rep.alive;
+              alive = left.spent ∙ spent ∙ is_stored.rest.spent ∙ rep.alive;
               tables = left.tables;
               words = left.words ∙ words ∙ all_words new.domain.tables.boards (left.boards ∙ ap (λ t. t.boards) tables)
                   ∙ ap (λ (f : ℕ → List ℕ). words_of f new.domain.tables.boards) (sym (left.memory (store s.memory w.board w.word w.value)));
               parties = subst (λ (xs : List PartyRow). (p : List ℕ) → AreRowsOf (filter (is_row_of p) xs) (with_party (λ q. notice made (s.parties q)) party free p))
-                  (ap (λ (xs : List PartyRow). remove xs place) (sym is_stored.parties) ∙ sym (left.parties ∙ rows))
+                  (ap (λ (xs : List PartyRow). remove xs place) (sym is_stored.rest.parties) ∙ sym (left.parties ∙ rows))
                   (ended m.parties.items s.parties rep.parties party place row at made);
               loans = left.loans;
               values = left.values;
@@ -297,7 +298,7 @@ module _ (m : Machine) (s : State) (rep : Represents m s) (sound : Sound s) (par
           )
 
       -- another write leaves the rest of the call
-      pub write_goes_on : (new : Machine) → tables_of new ≡ tables_of stored → new.domain.words ≡ stored.words.items → new.values.items ≡ stored.values.items → new.loans.items ≡ stored.loans.items → new.spent ≡ stored.spent
+      pub write_goes_on : (new : Machine) → tables_of new ≡ tables_of stored → new.domain.words ≡ stored.domain.words → new.values.items ≡ stored.values.items → new.loans.items ≡ stored.loans.items → new.spent ≡ stored.spent
           → (y : PartyRow) → y.name ≡ row.name → y.task ≡ ticked row.task 0 → w.is_last ≡ false → new.parties.items ≡ set stored.parties.items place y
           → IsRight s (line.Step party) (answer.Step made None) × Represents new (after s (line.Step party) (answer.Step made None))
       write_goes_on new tables words values loans spent y n t e rows =
@@ -312,11 +313,11 @@ module _ (m : Machine) (s : State) (rep : Represents m s) (sound : Sound s) (par
               reply = λ _. rw (at.runs) (record { last = sym (step.last ∙ e); reply = tt });
             },
             rw (at.runs) (record {
-              alive = spent ∙ is_stored.spent ∙ rep.alive;
-              tables = rep.tables ∙ sym is_stored.tables ∙ sym tables;
+              alive = spent ∙ is_stored.rest.spent ∙ rep.alive;
+              tables = rep.tables ∙ sym is_stored.stored.tables ∙ sym tables;
               words = words ∙ all_words new.domain.tables.boards (ap (λ t. t.boards) tables);
               parties = subst (λ (xs : List PartyRow). (p : List ℕ) → AreRowsOf (filter (is_row_of p) xs) (with_party (λ q. notice made (s.parties q)) party (running next) p))
-                  (ap (λ (xs : List PartyRow). set xs place y) (sym is_stored.parties) ∙ sym rows)
+                  (ap (λ (xs : List PartyRow). set xs place y) (sym is_stored.rest.parties) ∙ sym rows)
                   (went_on m.parties.items s.parties rep.parties party place row at made y next n of);
               loans = λ p n. stored_loans p n ∙ ap (λ (xs : List Lent). lent_words xs p n) (sym loans);
               values = λ p n. stored_values p n ∙ ap (λ (vs : List KeptValue). kept vs p n) (sym values);

@@ -1,5 +1,5 @@
 -- Counting the lines of a script by their answers.
-use Rattle.std.specs.Prelude.{◌≡◌, ℕ, ◌+◌, ◌<◌, ◌^◌, Bool, true, false, if◌then◌else◌, List, ◌++◌, length, Some}
+use Rattle.std.specs.Prelude.{◌≡◌, ℕ, ◌+◌, ◌<◌, ◌≤◌, ◌^◌, Bool, true, false, if◌then◌else◌, List, ◌++◌, length, Some}
 use Rattle.board_model.specs.declared.access.Access.TheVariants as access
 use Rattle.board_model.specs.declared.answer.Answer.{Answer}
 use Rattle.board_model.specs.declared.answer.Answer.TheVariants as answer
@@ -96,6 +96,7 @@ pub record HasRun (g : Generator) (lines : List Line) : Type 0 where
   pub lawful : IsLawful session
   pub lines_are : lines_of session ≡ lines
   pub state : Represents g.machine (state_after start session)
+  pub drawn : g.machine.domain.drawn ≤ length session
   pub plain : RunsPlain (state_after start session)
   pub counts : g.counts ≡ counts_of session
 

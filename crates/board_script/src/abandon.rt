@@ -12,7 +12,8 @@ impl Machine {
     /// A line `abandon P`. The call of the party runs no more, and what it holds stands for good.
     pub(crate) fn abandon(&mut self, party: Name) -> Result<Answer, AllocError>
         requires { IsLed self.old }
-        ensures { IfOk result (λ a. Serves self.old self.new (line.Abandon party) a) }
+        ensures serves { IfOk result (λ a. Serves self.old self.new (line.Abandon party) a) }
+        ensures domain { self.new.domain ≡ self.old.domain }
     {
         let Some(at) = place_of_party(&party, &self.parties) else {
             self.parties.push(PartyRow {

@@ -438,7 +438,8 @@ impl Machine {
     /// A line `begin P CALL`.
     pub(crate) fn begin(&mut self, party: Name, call: Call) -> Result<Answer, AllocError>
         requires { IsLed self.old }
-        ensures { IfOk result (λ a. Serves self.old self.new (line.Begin party call) a) }
+        ensures serves { IfOk result (λ a. Serves self.old self.new (line.Begin party call) a) }
+        ensures domain { self.new.domain ≡ self.old.domain }
     {
         if let Some(at) = place_of_party(&party, &self.parties) {
             if self.parties[at].task.is_gone() {

@@ -1,5 +1,5 @@
 //! Runs of the script that is made from a number.
-ghost use Rattle.std.specs.Prelude.{◌≡◌, ◌∷◌, [], ◌≤◌, ◌<◌, ◌^◌, List, codes, length, true, None, IfErr, IfOk, IsErrOf, OnOk};
+ghost use Rattle.std.specs.Prelude.{◌≡◌, ◌+◌, ◌∷◌, [], ◌≤◌, ◌<◌, ◌^◌, List, codes, length, true, None, IfErr, IfOk, IsErrOf, OnOk};
 ghost use Rattle.board_model.specs.declared.line.Call.TheVariants as a_call;
 ghost use Rattle.board_model.specs.declared.line.Line.TheVariants as a_line;
 ghost use Rattle.board_model.specs.declared.value.Key.TheVariants as a_key;
@@ -22,7 +22,7 @@ use board_model::{
 use std::alloc::{AllocError, Global};
 
 /// A machine, and what is counted over the lines that it ran.
-#[derive(Drop, Debug)]
+#[derive(Drop)]
 pub(crate) struct Generator {
     pub(crate) machine: Machine,
     pub(crate) counts: Counts,
@@ -32,7 +32,8 @@ pub(crate) struct Generator {
 fn answer_to(machine: &mut Machine, line: Line) -> Result<Answer, AllocError>
     requires led { IsLed machine.old }
     requires plain { is_plain line ≡ true }
-    ensures { IfOk result (λ a. Serves machine.old machine.new line a) }
+    ensures serves { IfOk result (λ a. Serves machine.old machine.new line a) }
+    ensures drawn { OnOk result (machine.new.domain.drawn ≤ machine.old.domain.drawn + 1) }
 {
     match line {
         Line::Begin { party, call } => machine.begin(party, call),

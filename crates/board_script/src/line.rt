@@ -1,5 +1,5 @@
 //! The machine's one call: the line of a script, and the answer to it.
-ghost use Rattle.std.specs.Prelude.{◌≡◌, ◌++◌, ◌<◌, ◌^◌, [], true, false, IfNone, IfSome, IsErrOf, OnErr, OnOk, is_some};
+ghost use Rattle.std.specs.Prelude.{◌≡◌, ℕ, ◌+◌, ◌++◌, ◌<◌, ◌≤◌, ◌^◌, [], true, false, IfNone, IfSome, IsErrOf, OnErr, OnOk, is_some};
 ghost use Rattle.std.specs.List.{AllByRecursion};
 ghost use Rattle.board_model.specs.LawfulSession.{Session, State, start};
 ghost use Rattle.board_model.specs.AnswerGrammar.{answer_line};
@@ -7,7 +7,7 @@ ghost use Rattle.board_model.specs.LineGrammar.{IsNumber, IsLine};
 ghost use Rattle.board_model.specs.declared.answer.Answer.TheVariants as answer;
 ghost use Rattle.board_model.specs.Tables as tables;
 ghost use Rattle.board_lines.specs.Runs.{HasAnswered, SpellsNone, StandsFor};
-ghost use Rattle.board_script.specs.Machine.{IsLed, Represents, Tells};
+ghost use Rattle.board_script.specs.Machine.{IsLed, Represents, StandsAfter, Tells};
 
 use crate::machine::Machine;
 use board_lines::{LineError, RunsLines, parse_line, push_answer, push_refused, push_words};
@@ -26,7 +26,7 @@ fn push_listing(words: &[u64], out: &mut Vec<u8>) -> Result<(), AllocError>
 impl Machine {
     /// A machine that stands for the empty session. It takes no memory.
     pub fn new(alloc: Global) -> Machine
-        ensures { Represents result start }
+        ensures { StandsAfter result 0 start }
     {
         Machine {
             alloc,
@@ -63,7 +63,8 @@ impl Machine {
         requires led { IsLed self.old }
         requires line { IsLine line }
         requires empty { out.old.items ≡ [] }
-        ensures { OnOk result (Tells self.old self.new line out.new.items) }
+        ensures tells { OnOk result (Tells self.old self.new line out.new.items) }
+        ensures drawn { OnOk result (self.new.domain.drawn ≤ self.old.domain.drawn + 1) }
     {
         match line {
             Line::Begin { party, call } => {
@@ -96,14 +97,14 @@ impl Machine {
     /// spent. On both `answer` is empty.
     pub fn line(&mut self, line: &[u8], answer: &mut Vec<u8>) -> Result<(), LineError>
         // The machine isn't spent, and it stands for a lawful session of fewer than 2^63 lines.
-        requires { (session : Session) × StandsFor Represents self.old session }
+        requires { (session : Session) × StandsFor StandsAfter self.old session }
 
         // For each session that it stands for the answer is right, and it stands for the session with this pair.
-        ensures ok { OnOk result ((session : Session) → StandsFor Represents self.old session → HasAnswered Represents self.new session line.now answer.new.items) }
+        ensures ok { OnOk result ((session : Session) → StandsFor StandsAfter self.old session → HasAnswered StandsAfter self.new session line.now answer.new.items) }
 
         // A line outside the grammar is refused, no other one is, and nothing changes.
         ensures bad { IsErrOf result LineError.Bad → SpellsNone line.now }
-        ensures same { IsErrOf result LineError.Bad → (s : State) → Represents self.old s → Represents self.new s }
+        ensures same { IsErrOf result LineError.Bad → (n : ℕ) (s : State) → StandsAfter self.old n s → StandsAfter self.new n s }
 
         ensures spent { IsErrOf result LineError.OutOfMemory → self.new.spent ≡ true }
         ensures err { OnErr result (answer.new.items ≡ []) }
@@ -128,7 +129,7 @@ impl Machine {
 }
 
 impl RunsLines for Machine {
-    ghost stands = { Represents };
+    ghost stands = { StandsAfter };
 
     fn line(&mut self, line: &[u8], answer: &mut Vec<u8>) -> Result<(), LineError> {
         Machine::line(self, line, answer)

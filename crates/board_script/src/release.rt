@@ -30,7 +30,8 @@ impl Machine {
     /// A line `drop P T`.
     pub(crate) fn release(&mut self, party: &Name, name: &Name) -> Answer
         requires { IsLed self.old }
-        ensures { Serves self.old self.new (line.Release party.now name.now) result }
+        ensures serves { Serves self.old self.new (line.Release party.now name.now) result }
+        ensures drawn { self.new.domain.drawn ≡ self.old.domain.drawn }
     {
         if let Some(at) = place_of_party(party, &self.parties) {
             if self.parties[at].task.is_gone() {

@@ -1,12 +1,13 @@
 //! Lines `step P`.
-ghost use Rattle.std.specs.Prelude.{◌≡◌, ◌+◌, ◌<◌, ◌≤◌, ◌^◌, ◌==◌, IfOk, length, slice_set, slice_index_or};
+ghost use Rattle.std.specs.Prelude.{◌≡◌, ◌+◌, ◌<◌, ◌≤◌, ◌^◌, ◌==◌, IfOk, OnOk, length, slice_set, slice_index_or};
 ghost use Rattle.std.specs.List.{remove};
 ghost use Rattle.board_cell.specs.Calls.{progress_of, told};
 ghost use Rattle.board_model.specs.AnswerGrammar.{IsReply};
 ghost use Rattle.board_model.specs.declared.line.Line.TheVariants as line;
+ghost use Rattle.board_parties.specs.Parties.{HasWord, IsLoaded};
 ghost use Rattle.board_script.specs.Machine.{IsLed, Serves};
 ghost use Rattle.board_script.specs.Steps as steps;
-ghost use Rattle.board_script.specs.Steps.{CanGoOn, CanRun, HasCounter, HasRead, HasWord, IsCounter, IsLoaded, IsOnlyWrite, IsOwedBy, IsOwedWrite, IsReadTold, IsSame, IsStored, IsTold, IsWrite, OwesAt, ticked};
+ghost use Rattle.board_script.specs.Steps.{CanGoOn, CanRun, HasCounter, HasRead, IsCounter, IsOnlyWrite, IsOwedBy, IsOwedWrite, IsReadTold, IsSame, IsTold, IsWordSet, IsWrite, OwesAt, ticked};
 ghost use Rattle.board_script.specs.declared.step.OwedAccess.TheVariants as owed;
 
 use crate::lookups::{entry_of, place_of_party};
@@ -188,8 +189,8 @@ impl Machine {
 
     // Reads a word of a board.
     fn read_word(&mut self, board: u64, word: u64) -> u64
-        requires { HasWord self.old board word }
-        ensures value { IsLoaded self.old board word result }
+        requires { HasWord self.old.domain board word }
+        ensures value { IsLoaded self.old.domain board word result }
         ensures same { IsSame self.old self.new }
     {
         self.domain.load(board, word)
@@ -197,8 +198,8 @@ impl Machine {
 
     // Writes a word of a board.
     fn write_word(&mut self, board: u64, word: u64, value: u64)
-        requires { HasWord self.old board word }
-        ensures { IsStored self.old self.new board word value }
+        requires { HasWord self.old.domain board word }
+        ensures { IsWordSet self.old self.new board word value }
     {
         self.domain.store(board, word, value);
     }
@@ -206,7 +207,8 @@ impl Machine {
     // The one step of a call on the tables.
     fn run_table(&mut self, party: Name, task: TableTask) -> Result<Reply, AllocError>
         requires { CanRun self.old party task }
-        ensures { IfOk result (IsTold self.old self.new party task) }
+        ensures told { IfOk result (IsTold self.old self.new party task) }
+        ensures drawn { OnOk result (self.new.domain.drawn ≤ self.old.domain.drawn + 1) }
     {
         match task {
             TableTask::Create {
@@ -312,7 +314,8 @@ impl Machine {
     fn step_table(&mut self, party: &Name, at: usize) -> Result<Answer, AllocError>
         requires led { IsLed self.old }
         requires owes { OwesAt self.old party.now at owed.Table }
-        ensures { IfOk result (λ a. Serves self.old self.new (line.Step party.now) a) }
+        ensures serves { IfOk result (λ a. Serves self.old self.new (line.Step party.now) a) }
+        ensures drawn { OnOk result (self.new.domain.drawn ≤ self.old.domain.drawn + 1) }
     {
         let PartyRow { name, task } = self.parties.remove(at);
         match task {
@@ -331,7 +334,8 @@ impl Machine {
     fn step_read(&mut self, party: &Name, at: usize, read: OwedRead) -> Result<Answer, AllocError>
         requires led { IsLed self.old }
         requires owes { OwesAt self.old party.now at (owed.Read read) }
-        ensures { IfOk result (λ a. Serves self.old self.new (line.Step party.now) a) }
+        ensures serves { IfOk result (λ a. Serves self.old self.new (line.Step party.now) a) }
+        ensures drawn { OnOk result (self.new.domain.drawn ≤ self.old.domain.drawn + 1) }
     {
         let value = self.read_word(read.board, read.word);
         let access = Access::Read {
@@ -359,7 +363,8 @@ impl Machine {
     fn step_write(&mut self, party: &Name, at: usize, write: OwedWrite) -> Answer
         requires led { IsLed self.old }
         requires owes { OwesAt self.old party.now at (owed.Write write) }
-        ensures { Serves self.old self.new (line.Step party.now) result }
+        ensures serves { Serves self.old self.new (line.Step party.now) result }
+        ensures drawn { self.new.domain.drawn ≤ self.old.domain.drawn + 1 }
     {
         self.write_word(write.board, write.word, write.value);
         let access = Access::Write {
@@ -386,7 +391,8 @@ impl Machine {
     /// A line `step P`.
     pub(crate) fn step(&mut self, party: &Name) -> Result<Answer, AllocError>
         requires { IsLed self.old }
-        ensures { IfOk result (λ a. Serves self.old self.new (line.Step party.now) a) }
+        ensures serves { IfOk result (λ a. Serves self.old self.new (line.Step party.now) a) }
+        ensures drawn { OnOk result (self.new.domain.drawn ≤ self.old.domain.drawn + 1) }
     {
         let Some(at) = place_of_party(party, &self.parties) else {
             return Ok(Answer::Refused(Reason::Idle));

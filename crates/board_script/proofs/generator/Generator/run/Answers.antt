@@ -8,4 +8,4 @@ pub count-requires : goal.count-requires
 count-requires c = run_low c.args.self.now 1 c.requires.room
 
 pub returns : goal.returns
-returns c = ran_line c.args.self.now _ 1 c.args.line c.in_ok-answer.answer c.requires.room c.requires.plain c.in_ok-answer.ensures c.count.ensures
+returns c = ran_line c.args.self.now _ 1 c.args.line c.in_ok-answer.answer c.requires.room c.requires.plain c.in_ok-answer.ensures.serves c.in_ok-answer.ensures.drawn c.count.ensures

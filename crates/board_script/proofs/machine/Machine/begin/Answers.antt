@@ -20,28 +20,28 @@ index-requires c =
     let first = first_at (is_row_of c.args.party) c.in-Some.at c.args.self.now.parties.items place in
     search (rules, first.inside)
 
-pub returns-then-is_gone : goal.returns-then-is_gone
-returns-then-is_gone c =
+pub returns-then-is_gone-clause-serves : goal.returns-then-is_gone-clause-serves
+returns-then-is_gone-clause-serves c =
     let place : a_place c.in-Some.at ≡ position_from (is_row_of c.args.party) 0 c.args.self.now.parties.items = search rules in
     let g : is_gone c.index.result.now.task ≡ true = search rules in
     λ s rep reached l. (begin_gone s c.args.party c.args.call (gone_at c.args.self.now.parties.items s.parties rep.parties c.args.party c.in-Some.at c.index.result.now place c.index.ensures g) l, rep)
 
-pub returns-in-Some : goal.returns-in-Some
-returns-in-Some c =
+pub returns-in-Some-clause-serves : goal.returns-in-Some-clause-serves
+returns-in-Some-clause-serves c =
     let place : a_place c.in-Some.at ≡ position_from (is_row_of c.args.party) 0 c.args.self.now.parties.items = search rules in
     let g : is_gone c.index.result.now.task ≡ false = search rules in
     λ s rep reached l.
     let runs = runs_at c.args.self.now.parties.items s.parties rep.parties c.args.party c.in-Some.at c.index.result.now place c.index.ensures g in
     (begin_busy s c.args.party c.args.call runs.r runs.runs l, rep)
 
-pub returns-in-Refused : goal.returns-in-Refused
-returns-in-Refused c =
+pub returns-in-Refused-clause-serves : goal.returns-in-Refused-clause-serves
+returns-in-Refused-clause-serves c =
     let none : None ≡ position_from (is_row_of c.args.party) 0 c.args.self.now.parties.items = search rules in
     λ s rep reached l.
     (begin_refused s c.args.party c.args.call c.in-Refused.why (is_free c.args.self.now.parties.items s.parties rep.parties c.args.party none) (subst (λ (x : Checked). IsChecked (call_reason s.standing c.args.party c.args.call (request_of s.standing s.published c.args.party c.args.call)) (request_of s.standing s.published c.args.party c.args.call) x) c.in-Refused.is (c.in_ok-why.ensures s rep reached.sound)) l, rep)
 
-pub returns-in_ok-push-in-Accepted : goal.returns-in_ok-push-in-Accepted
-returns-in_ok-push-in-Accepted c =
+pub returns-in_ok-push-in-Accepted-clause-serves : goal.returns-in_ok-push-in-Accepted-clause-serves
+returns-in_ok-push-in-Accepted-clause-serves c =
     let none : None ≡ position_from (is_row_of c.args.party) 0 c.args.self.now.parties.items = search rules in
     λ s rep reached l.
     begin_begun c.args.self.now _ s rep c.args.party c.args.call c.in-Accepted.task (is_free c.args.self.now.parties.items s.parties rep.parties c.args.party none) (subst (λ (x : Checked). IsChecked (call_reason s.standing c.args.party c.args.call (request_of s.standing s.published c.args.party c.args.call)) (request_of s.standing s.published c.args.party c.args.call) x) c.in-Accepted.is (c.in_ok-why.ensures s rep reached.sound)) refl refl refl refl refl c.in_ok-push-in-Accepted.ensures.items l

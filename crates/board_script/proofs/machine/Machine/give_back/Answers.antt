@@ -8,9 +8,8 @@ pub returns : goal.returns
 returns c =
     let m = c.args.self.now in
     record {
-      tables = ap (λ (ts : List Held). record (tables_of m) { things = ts }) c.rename.ensures;
+      domain = c.rename.ensures;
       loans = forgotten c.args.party.now c.args.loan.now m.loans.items c.forget_loan.new.loans.items c.forget_loan.ensures;
-      words = refl;
       parties = refl;
       values = refl;
       spent = refl;

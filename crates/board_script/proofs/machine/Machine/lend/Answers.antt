@@ -15,11 +15,10 @@ returns-clause-loan c =
     let none : c.in_ok-none_put.none_put.items ≡ none_put c.args.words = search rules in
     let x : Lent = record { party = c.args.party; name = c.args.loan; words = c.in_ok-none_put.none_put } in
     record {
-      tables = ap (λ (ts : List Held). record (tables_of m) { things = ts }) c.rename.ensures;
+      domain = c.rename.ensures;
       loans = λ p n.
           added c.args.party c.args.loan m.loans.items c.push.new.self.items x c.in_ok-push.ensures.items (same_name c.args.party c.args.loan x refl refl) c.requires p n
           ∙ ap (λ (ws : List (Option ℕ)). with_at (lent_words m.loans.items) c.args.party c.args.loan (Some ws) p n) none;
-      words = refl {A = List (List ℕ)};
       parties = refl {A = List PartyRow};
       values = refl {A = List KeptValue};
       spent = refl;

@@ -11,4 +11,4 @@ answer-requires-clause-led c = led c.args.self.now c.requires.0 c.requires.1
 pub returns-in-Ok-clause-ok : goal.returns-in-Ok-clause-ok
 returns-in-Ok-clause-ok c =
     let spelled = subst (λ (o : Option Line). IfSome o (λ l. Spells c.args.line.now l)) c.in-Ok-Some.field-0-is c.in-Ok-Some.ensures.found in
-    λ session h. has_answered c.args.self.now c.answer.new.self session c.args.line.now c.answer.new.out.items c.in-Ok-Some.parsed h spelled c.in-Ok.ensures
+    λ session h. has_answered c.args.self.now c.answer.new.self session c.args.line.now c.answer.new.out.items c.in-Ok-Some.parsed h spelled c.in-Ok.ensures.tells c.in-Ok.ensures.drawn

@@ -37,12 +37,11 @@ returns c =
     let x = c.index_mut.result.now in
     let named : is_lent_as party loan x ≡ true = ap (is_lent_as party loan) c.index_mut.ensures.value ∙ first.passes x in
     record {
-      tables = refl;
+      domain = refl;
       loans = λ put_words lent p n.
           changed party loan m.loans.items _ c.in-Some.place _ refl place named p n
           ∙ ap (λ (ws : List (Option ℕ)). with_at (lent_words m.loans.items) party loan (Some (set ws c.args.index (Some c.args.word))) p n)
           (lent_at party loan m.loans.items c.in-Some.place x put_words place c.index_mut.ensures.value lent);
-      words = refl;
       parties = refl;
       values = refl;
       spent = refl;

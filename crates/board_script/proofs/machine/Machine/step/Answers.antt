@@ -13,8 +13,8 @@ use Rattle.board_script.proofs.machine.Machine.step.Goals as goal
 abbrev a_place : ℕ → Option ℕ
 a_place n = Some n
 
-pub returns-in_default : goal.returns-in_default
-returns-in_default c =
+pub returns-in_default-clause-serves : goal.returns-in_default-clause-serves
+returns-in_default-clause-serves c =
     let none : None ≡ position_from (is_row_of c.args.party.now) 0 c.args.self.now.parties.items = search rules in
     λ s rep reached l. (step_idle s c.args.party.now (is_free c.args.self.now.parties.items s.parties rep.parties c.args.party.now none) l, rep)
 
@@ -24,8 +24,8 @@ index-requires c =
     let first = first_at (is_row_of c.args.party.now) c.in-Some.at c.args.self.now.parties.items place in
     search (rules, first.inside)
 
-pub returns-then-is_gone : goal.returns-then-is_gone
-returns-then-is_gone c =
+pub returns-then-is_gone-clause-serves : goal.returns-then-is_gone-clause-serves
+returns-then-is_gone-clause-serves c =
     let place : a_place c.in-Some.at ≡ position_from (is_row_of c.args.party.now) 0 c.args.self.now.parties.items = search rules in
     let g : is_gone c.index.result.now.task ≡ true = search rules in
     λ s rep reached l. (step_gone s c.args.party.now (gone_at c.args.self.now.parties.items s.parties rep.parties c.args.party.now c.in-Some.at c.index.result.now place c.index.ensures g) l, rep)

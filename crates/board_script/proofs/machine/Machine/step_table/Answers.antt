@@ -29,10 +29,10 @@ run_table-requires c =
     let asked : IsTableTask c.in-Table.task runs.r.request = subst (λ (t : Task). IsTaskOf t runs.r.request runs.r.so_far) is_task runs.task in
     let name : c.remove-name.result.name ≡ party = ap (λ (z : PartyRow). z.name) is ∙ runs.name in
     let mid : Machine = record m { parties = c.remove-name.new.self } in
-    subst (λ (p : List ℕ). CanRun mid p c.in-Table.task) (sym name) (task_can_run m led.state led.represents led.reached party c.args.at row runs mid m refl refl c.remove-name.ensures.items refl refl led.represents.alive c.in-Table.task (bounded led.state led.reached) asked)
+    subst (λ (p : List ℕ). CanRun mid p c.in-Table.task) (sym name) (task_can_run m led.state led.represents led.reached party c.args.at row runs mid m refl refl c.remove-name.ensures.items refl refl led.represents.alive c.in-Table.task (bounded led.state led.reached) led.few asked)
 
-pub returns : goal.returns
-returns c =
+pub returns-clause-serves : goal.returns-clause-serves
+returns-clause-serves c =
     let m = c.args.self.now in
     let party = c.args.party.now in
     let owes = c.requires.owes in
@@ -44,5 +44,5 @@ returns c =
     let runs = row_runs m party c.args.at owed.Table owes s rep in
     let asked : IsTableTask c.in-Table.task runs.r.request = subst (λ (t : Task). IsTaskOf t runs.r.request runs.r.so_far) is_task runs.task in
     let name : c.remove-name.result.name ≡ party = ap (λ (z : PartyRow). z.name) is ∙ runs.name in
-    let told = subst (λ (p : List ℕ). IsTold mid c.run_table.new.self p c.in-Table.task c.in_ok-told-in-Table.told) name c.in_ok-told-in-Table.ensures in
+    let told = subst (λ (p : List ℕ). IsTold mid c.run_table.new.self p c.in-Table.task c.in_ok-told-in-Table.told) name c.in_ok-told-in-Table.ensures.told in
     task_right m s rep reached party c.args.at row runs mid c.run_table.new.self refl refl c.remove-name.ensures.items refl refl rep.alive c.in-Table.task c.in_ok-told-in-Table.told asked told l

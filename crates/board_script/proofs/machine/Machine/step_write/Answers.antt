@@ -21,13 +21,13 @@ write_word-requires c =
 pub remove-name-requires : goal.remove-name-requires
 remove-name-requires c =
     let inside = row_inside c.args.self.now c.args.party.now c.args.at (owed.Write c.args.write) c.requires.owes in
-    let still : c.args.at < length c.write_word.new.self.parties.items = subst (λ (xs : List PartyRow). c.args.at < length xs) (sym c.write_word.ensures.parties) inside in
+    let still : c.args.at < length c.write_word.new.self.parties.items = subst (λ (xs : List PartyRow). c.args.at < length xs) (sym c.write_word.ensures.rest.parties) inside in
     search (rules, still)
 
 pub index_mut-requires : goal.index_mut-requires
 index_mut-requires c =
     let inside = row_inside c.args.self.now c.args.party.now c.args.at (owed.Write c.args.write) c.requires.owes in
-    let still : c.args.at < length c.write_word.new.self.parties.items = subst (λ (xs : List PartyRow). c.args.at < length xs) (sym c.write_word.ensures.parties) inside in
+    let still : c.args.at < length c.write_word.new.self.parties.items = subst (λ (xs : List PartyRow). c.args.at < length xs) (sym c.write_word.ensures.rest.parties) inside in
     search (rules, still)
 
 pub took-requires : goal.took-requires
@@ -38,7 +38,7 @@ took-requires c =
     let owes = c.requires.owes in
     let led = c.requires.led in
     let y = c.index_mut.result.now in
-    let is = row_is m party c.args.at o owes y (c.index_mut.ensures.value ∙ ap (λ (xs : List PartyRow). get_or xs c.args.at y) c.write_word.ensures.parties) in
+    let is = row_is m party c.args.at o owes y (c.index_mut.ensures.value ∙ ap (λ (xs : List PartyRow). get_or xs c.args.at y) c.write_word.ensures.rest.parties) in
     subst (λ (x : PartyRow). CanGoOn x.task) (sym is) (row_goes_on m led.state led.represents led.reached.sound party c.args.at (owed_row m party c.args.at o owes) (row_runs m party c.args.at o owes led.state led.represents))
 
 pub settle-requires : goal.settle-requires
@@ -51,14 +51,14 @@ settle-requires c =
     let row = owed_row m party c.args.at o owes in
     let runs = row_runs m party c.args.at o owes led.state led.represents in
     let x = c.remove-name.result in
-    let is = row_is m party c.args.at o owes x (c.remove-name.ensures.value ∙ ap (λ (xs : List PartyRow). get_or xs c.args.at x) c.write_word.ensures.parties) in
+    let is = row_is m party c.args.at o owes x (c.remove-name.ensures.value ∙ ap (λ (xs : List PartyRow). get_or xs c.args.at x) c.write_word.ensures.rest.parties) in
     let mid : Machine = record c.write_word.new.self { parties = c.remove-name.new.self } in
-    let can = can_settle m led.state led.represents led.reached.sound party c.args.at row runs mid c.write_word.ensures.loans row.task runs.task in
+    let can = can_settle m led.state led.represents led.reached.sound party c.args.at row runs mid c.write_word.ensures.rest.loans row.task runs.task in
     let of_row : CanSettle mid row.name row.task = subst (λ (p : List ℕ). CanSettle mid p row.task) (sym runs.name) can in
     subst (λ (z : PartyRow). CanSettle mid z.name z.task) (sym is) of_row
 
-pub returns-then-write : goal.returns-then-write
-returns-then-write c =
+pub returns-then-write-clause-serves : goal.returns-then-write-clause-serves
+returns-then-write-clause-serves c =
     let m = c.args.self.now in
     let party = c.args.party.now in
     let o = owed.Write c.args.write in
@@ -68,7 +68,7 @@ returns-then-write c =
     let word : c.args.write.word < 2 ^ 64 = search rules in
     let value : c.args.write.value < 2 ^ 64 = search rules in
     let x = c.remove-name.result in
-    let is = row_is m party c.args.at o owes x (c.remove-name.ensures.value ∙ ap (λ (xs : List PartyRow). get_or xs c.args.at x) c.write_word.ensures.parties) in
+    let is = row_is m party c.args.at o owes x (c.remove-name.ensures.value ∙ ap (λ (xs : List PartyRow). get_or xs c.args.at x) c.write_word.ensures.rest.parties) in
     let mid : Machine = record c.write_word.new.self { parties = c.remove-name.new.self } in
     let of_row : IsSettled mid c.settle.new.self row.name row.task = subst (λ (z : PartyRow). IsSettled mid c.settle.new.self z.name z.task) is c.settle.ensures in
     λ s rep reached l.
@@ -77,14 +77,14 @@ returns-then-write c =
     write_ends m s rep reached.sound party c.args.at row runs c.args.write (row_owes m party c.args.at o owes) c.write_word.new.self c.write_word.ensures
     (record { board = board; word = word; value = value }) l mid c.settle.new.self refl refl refl refl refl c.remove-name.ensures.items c.if-write.true settled
 
-pub returns-else-write : goal.returns-else-write
-returns-else-write c =
+pub returns-else-write-clause-serves : goal.returns-else-write-clause-serves
+returns-else-write-clause-serves c =
     let m = c.args.self.now in
     let party = c.args.party.now in
     let o = owed.Write c.args.write in
     let owes = c.requires.owes in
     let y = c.index_mut.result.now in
-    let is = row_is m party c.args.at o owes y (c.index_mut.ensures.value ∙ ap (λ (xs : List PartyRow). get_or xs c.args.at y) c.write_word.ensures.parties) in
+    let is = row_is m party c.args.at o owes y (c.index_mut.ensures.value ∙ ap (λ (xs : List PartyRow). get_or xs c.args.at y) c.write_word.ensures.rest.parties) in
     let board : c.args.write.board < 2 ^ 64 = search rules in
     let word : c.args.write.word < 2 ^ 64 = search rules in
     let value : c.args.write.value < 2 ^ 64 = search rules in

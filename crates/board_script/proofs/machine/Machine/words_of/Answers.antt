@@ -1,29 +1,25 @@
-use Rattle.std.proofs.Common.{◌≡◌, ℕ, rules, ◌∙◌, Option, Some, None}
-use Rattle.std.specs.List.{position_from}
-use Rattle.board_model.specs.Tables.{is_numbered}
-use Rattle.board_script.proofs.Listings.{board_is_missing, board_stands, board_words, place_inside}
+use Rattle.std.proofs.Common.{rules, ◌≡◌, ℕ, List, Option, Some, None}
+use Rattle.board_parties.specs.Parties.{board_words}
+use Rattle.board_script.proofs.Listings.{words_found, words_missing}
 use Rattle.board_script.proofs.machine.Machine.words_of.Goals as goal
 
-abbrev a_place : ℕ → Option ℕ
-a_place n = Some n
+abbrev some_words : List ℕ → Option (List ℕ)
+some_words ws = Some ws
 
-pub index-requires : goal.index-requires
-index-requires c =
-    let place : a_place c.in-Some.place ≡ position_from (is_numbered c.args.number) 0 c.args.self.now.domain.tables.boards = search rules in
-    let inside = place_inside c.args.self.now c.requires.state c.requires.represents c.args.number c.in-Some.place place in
-    search (rules, inside)
+abbrev no_words : Option (List ℕ)
+no_words = None
 
 pub returns-in-Some-clause-stands : goal.returns-in-Some-clause-stands
 returns-in-Some-clause-stands c =
-    let place : a_place c.in-Some.place ≡ position_from (is_numbered c.args.number) 0 c.args.self.now.domain.tables.boards = search rules in
-    λ s rep. board_stands c.args.self.now s rep c.args.number c.in-Some.place place
+    let found : board_words c.args.self.now.domain c.args.number ≡ some_words c.in-Some.words.now = search rules in
+    λ s rep. (words_found c.args.self.now s rep c.args.number c.in-Some.words.now found).0
 
 pub returns-in-Some-clause-words : goal.returns-in-Some-clause-words
 returns-in-Some-clause-words c =
-    let place : a_place c.in-Some.place ≡ position_from (is_numbered c.args.number) 0 c.args.self.now.domain.tables.boards = search rules in
-    λ s rep. c.as_slice.ensures ∙ (c.index.ensures ∙ board_words c.args.self.now s rep c.args.number c.in-Some.place c.index.result.now place)
+    let found : board_words c.args.self.now.domain c.args.number ≡ some_words c.as_slice.result.now = search rules in
+    λ s rep. (words_found c.args.self.now s rep c.args.number c.as_slice.result.now found).1
 
 pub returns-in-None-clause-none : goal.returns-in-None-clause-none
 returns-in-None-clause-none c =
-    let none : None ≡ position_from (is_numbered c.args.number) 0 c.args.self.now.domain.tables.boards = search rules in
-    λ s rep. board_is_missing c.args.self.now s rep c.args.number none
+    let none : board_words c.args.self.now.domain c.args.number ≡ no_words = search rules in
+    λ s rep. words_missing c.args.self.now s rep c.args.number none
