@@ -43,7 +43,8 @@ use Rattle.board_script.specs.declared.step.OwedRead.{OwedRead}
 use Rattle.board_script.specs.Loans.{lent_words}
 use Rattle.board_script.specs.Machine as machine
 use Rattle.board_script.specs.Machine.{AreRowsOf, IsTaskOf, Represents, getting, asking, is_row_of, kept, kept_from, kept_of, tables_of}
-use Rattle.board_parties.specs.Parties.{HasWord, IsLoaded, Parties, words_of}
+use Rattle.board_parties.specs.Parties as parties
+use Rattle.board_parties.specs.Parties.{HasWord, IsLoaded, Parties}
 use Rattle.board_script.specs.Steps.{IsOwedBy, IsReadTold, is_last, kept_anew, read_told, ticked, values_read}
 use Rattle.board_script.proofs.PartyRows.{RunsAt, ended, went_on}
 use Rattle.board_script.proofs.Rows.{remove-set}
@@ -219,7 +220,7 @@ module _ (m : Machine) (s : State) (rep : Represents m s) (sound : Sound s) (par
           rw (at.runs) (record {
             alive = spent ∙ rep.alive;
             tables = rep.tables ∙ sym tables;
-            words = ws ∙ rep.words ∙ ap (λ z. words_of s.memory z.boards) (sym tables);
+            words = ws ∙ rep.words ∙ ap (λ z. parties.words_of s.memory z.boards) (sym tables);
             parties = subst (λ (xs : List PartyRow). (p : List ℕ) → AreRowsOf (filter (is_row_of p) xs) (with_party (λ q. notice made (s.parties q)) party (running next) p))
                 (sym rows) (went_on m.parties.items s.parties rep.parties party place row at made y next n of);
             loans = λ p n. rep.loans p n ∙ ap (λ (xs : List Lent). lent_words xs p n) (sym loans);
@@ -324,7 +325,7 @@ module _ (m : Machine) (s : State) (rep : Represents m s) (sound : Sound s) (par
           rw (at.runs) (record {
             alive = h.spent ∙ spent ∙ rep.alive;
             tables = left.tables ∙ rep.tables ∙ sym tables ∙ ap (λ (d : Parties). d.tables) (sym h.domain);
-            words = ap (λ (d : Parties). d.words) h.domain ∙ ws ∙ rep.words ∙ ap (λ z. words_of s.memory z.boards) (sym tables ∙ ap (λ (d : Parties). d.tables) (sym h.domain)) ∙ ap (λ (z : ℕ → List ℕ). words_of z new.domain.tables.boards) (sym left.memory);
+            words = ap (λ (d : Parties). d.words) h.domain ∙ ws ∙ rep.words ∙ ap (λ z. parties.words_of s.memory z.boards) (sym tables ∙ ap (λ (d : Parties). d.tables) (sym h.domain)) ∙ ap (λ (z : ℕ → List ℕ). parties.words_of z new.domain.tables.boards) (sym left.memory);
             parties = subst (λ (xs : List PartyRow). (p : List ℕ) → AreRowsOf (filter (is_row_of p) xs) (with_party (λ q. notice made (s.parties q)) party free p))
                 (sym (h.parties ∙ rows ∙ remove-set m.parties.items place y)) (ended m.parties.items s.parties rep.parties party place row at made);
             loans = λ p n. left.loans p n ∙ rep.loans p n ∙ ap (λ (xs : List Lent). lent_words xs p n) (sym loans ∙ sym h.loans);

@@ -1,5 +1,5 @@
 //! Lines `abandon P`.
-ghost use Rattle.std.specs.Prelude.{◌≡◌, IfOk};
+ghost use Rattle.std.specs.Prelude.{◌≡◌, ◌+◌, ◌≤◌, IfOk, OnOk};
 ghost use Rattle.board_model.specs.declared.line.Line.TheVariants as line;
 ghost use Rattle.board_script.specs.Machine.{IsLed, Serves};
 
@@ -13,7 +13,7 @@ impl Machine {
     pub(crate) fn abandon(&mut self, party: Name) -> Result<Answer, AllocError>
         requires { IsLed self.old }
         ensures serves { IfOk result (λ a. Serves self.old self.new (line.Abandon party) a) }
-        ensures domain { self.new.domain ≡ self.old.domain }
+        ensures drawn { OnOk result (self.new.domain.drawn ≤ self.old.domain.drawn + 1) }
     {
         let Some(at) = place_of_party(&party, &self.parties) else {
             self.parties.push(PartyRow {

@@ -1,5 +1,5 @@
 //! Lines `begin P CALL`.
-ghost use Rattle.std.specs.Prelude.{◌≡◌, ◌+◌, ◌<◌, ◌≤◌, ◌^◌, ◌||◌, true, Some, IfOk, find, is_some};
+ghost use Rattle.std.specs.Prelude.{◌≡◌, ◌+◌, ◌<◌, ◌≤◌, ◌^◌, ◌||◌, true, Some, IfOk, OnOk, find, is_some};
 ghost use Rattle.std.specs.List.{list_all};
 ghost use Rattle.board_model.specs.LawfulSession.{has_key_type};
 ghost use Rattle.board_model.specs.Tables as tables;
@@ -439,7 +439,7 @@ impl Machine {
     pub(crate) fn begin(&mut self, party: Name, call: Call) -> Result<Answer, AllocError>
         requires { IsLed self.old }
         ensures serves { IfOk result (λ a. Serves self.old self.new (line.Begin party call) a) }
-        ensures domain { self.new.domain ≡ self.old.domain }
+        ensures drawn { OnOk result (self.new.domain.drawn ≤ self.old.domain.drawn + 1) }
     {
         if let Some(at) = place_of_party(&party, &self.parties) {
             if self.parties[at].task.is_gone() {

@@ -1,6 +1,4 @@
-use Rattle.std.proofs.Common.{List, refl, ap}
-use Rattle.board_model.specs.Things.{Held}
-use Rattle.board_script.specs.Machine.{tables_of}
+use Rattle.std.proofs.Common.{refl}
 use Rattle.board_script.proofs.LoanRows.{forgotten}
 use Rattle.board_script.proofs.machine.Machine.give_back.Goals as goal
 

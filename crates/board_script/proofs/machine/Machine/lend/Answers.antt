@@ -1,11 +1,10 @@
 use Rattle.std.proofs.Common.{rules, ◌≡◌, ℕ, List, refl, ap, ◌∙◌, Option, Some}
 use Rattle.board_model.specs.Replies.{none_put}
-use Rattle.board_model.specs.Things.{Held, with_at}
+use Rattle.board_model.specs.Things.{with_at}
 use Rattle.board_script.specs.declared.machine.KeptValue.{KeptValue}
 use Rattle.board_script.specs.declared.machine.Lent.{Lent}
 use Rattle.board_script.specs.declared.machine.PartyRow.{PartyRow}
 use Rattle.board_script.specs.Loans.{lent_words}
-use Rattle.board_script.specs.Machine.{tables_of}
 use Rattle.board_script.proofs.LoanRows.{added, same_name}
 use Rattle.board_script.proofs.machine.Machine.lend.Goals as goal
 
