@@ -54,7 +54,7 @@ other_party p (q ∷ ps) (suc k) h b = other_party p ps k h.1 (omega (arith, b))
 same_party : (p : List ℕ) → bytes_eq p p ≡ true
 same_party p = (bytes_eq-Decides p p).1 refl
 
-turned : (p q : List ℕ) → bytes_eq p q ≡ bytes_eq q p
+pub turned : (p q : List ℕ) → bytes_eq p q ≡ bytes_eq q p
 turned p q = same_from_decides _ (bytes_eq q p) (bytes_eq-Decides p q) (λ e. sym ((bytes_eq-Decides q p).0 e), λ e. (bytes_eq-Decides q p).1 (sym e))
 
 next_same : (i j : ℕ) → nat_eq i j ≡ nat_eq (suc i) (suc j)

@@ -1,2 +1,6 @@
 pub mod Renaming
 pub mod Counts
+pub mod Places
+pub mod Growth
+pub mod Asked
+pub mod Ports
