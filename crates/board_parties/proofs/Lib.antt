@@ -4,3 +4,4 @@ pub mod Places
 pub mod Growth
 pub mod Asked
 pub mod Ports
+pub mod Handles
