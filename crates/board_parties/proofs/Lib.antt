@@ -5,3 +5,4 @@ pub mod Growth
 pub mod Asked
 pub mod Ports
 pub mod Handles
+pub mod Endings

@@ -85,13 +85,12 @@ pub record IsThing {C : Type 0} (nodes : List (List ℕ)) (d : Domain C) (x : He
 some_stands : (o : Option (Thing ℕ ℕ)) (t : Thing ℕ ℕ) → o ≡ Some t → IsSome o
 some_stands o t e = subst IsSome (sym e) refl
 
-pub thing_in : {C : Type 0} (nodes : List (List ℕ)) (numbers : List ℕ) (things : List Held) (d : Domain C) (x : Held) (number : ℕ) → IsNamed nodes numbers things d
-    → named.thing_of things x.holder x.name ≡ Some x → IsNumberIn things numbers x number → IsThing nodes d x number
-thing_in {C} nodes numbers things d x number h stands n =
-    let at = found_at (named.is_held_as x.holder x.name) n.0 x things n.1 stands in
+pub thing_at : {C : Type 0} (nodes : List (List ℕ)) (numbers : List ℕ) (things : List Held) (d : Domain C) (x : Held) (number k : ℕ) → IsNamed nodes numbers things d
+    → slice_get things k ≡ Some x → slice_get numbers k ≡ Some number → IsThing nodes d x number
+thing_at {C} nodes numbers things d x number k h at at_number =
     let apart : AreApart (map number_of d.tables.things) = subst AreApart (sym h.numbered) h.apart in
-    let numbered : slice_get (map number_of d.tables.things) n.0 ≡ Some number = subst (λ ns. slice_get ns n.0 ≡ Some number) (sym h.numbered) n.2 in
-    let l = looked (party_at nodes) (length nodes) n.0 number x d.tables.things things h.same apart h.holders at numbered in
+    let numbered : slice_get (map number_of d.tables.things) k ≡ Some number = subst (λ ns. slice_get ns k ≡ Some number) (sym h.numbered) at_number in
+    let l = looked (party_at nodes) (length nodes) k number x d.tables.things things h.same apart h.holders at numbered in
     let q : l.of ≡ held d number = sym (ap (λ (o : Option (Thing ℕ ℕ)). thing_or_none o) l.stands) in
     record {
       stands = some_stands (find (is_thing number) d.tables.things) l.of l.stands;
@@ -100,6 +99,11 @@ thing_in {C} nodes numbers things d x number h stands n =
       kind = subst (λ (t : Thing ℕ ℕ). t.kind ≡ x.kind) q l.kind;
       node = subst (λ (t : Thing ℕ ℕ). IsOfNode (length nodes) t) q l.node;
     }
+
+pub thing_in : {C : Type 0} (nodes : List (List ℕ)) (numbers : List ℕ) (things : List Held) (d : Domain C) (x : Held) (number : ℕ) → IsNamed nodes numbers things d
+    → named.thing_of things x.holder x.name ≡ Some x → IsNumberIn things numbers x number → IsThing nodes d x number
+thing_in nodes numbers things d x number h stands n =
+    thing_at nodes numbers things d x number n.0 h (found_at (named.is_held_as x.holder x.name) n.0 x things n.1 stands) n.2
 
 -- the same, where the lists were given room
 pub thing_of_call : {C : Type 0} (nodes : List (List ℕ)) (numbers ns : List ℕ) (things ts : List Held) (d : Domain C) (x : Held) (number : ℕ) → IsNamed nodes numbers things d
