@@ -1,0 +1,2 @@
+pub mod KeyTests
+pub mod NodeLookups

@@ -1,0 +1,2 @@
+-- Keys of eight bytes.
+use Rattle.std.proofs.Common.{◌≡◌, ℕ, ◌<◌, List, length, sym, Some, None, ⊥}
