@@ -1,2 +1,3 @@
 pub mod KeyTests
+pub mod KeyedCalls
 pub mod NodeLookups

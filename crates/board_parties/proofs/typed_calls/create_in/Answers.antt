@@ -1,19 +1,15 @@
-use Rattle.std.proofs.Common.{rules, ◌≡◌, true, All, OnOk, OnErr, map, ℕ, ◌+◌, ◌-◌, ◌*◌, ◌<◌, ◌≤◌, length, ◌/◌, ◌%◌, Bool, false, nat_eq, nat_lt, List, [], ◌∷◌, ◌++◌, slice_index_or, slice_set, bit_and, bit_or, Fits, w8, w32, w64, Bor, MutBor}
-use Rattle.std.specs.List.{AllByRecursion}
-use Rattle.board_layout.specs.Answer.{Answers}
-use Rattle.board_layout.specs.Layout.{IsShape, places_from}
-use Rattle.board_model.specs.Replies.{is_key}
-use Rattle.board_model.specs.Tables.{shapes_of}
+use Rattle.std.proofs.Common.{map, sym, ap, ◌∙◌}
 use Rattle.board_model.specs.TypeTable as types
-use Rattle.board_parties.specs.Named.{HasShortKey, HasShortKeys}
+use Rattle.board_model.specs.declared.value.KeyType.TheVariants as key_type
+use Rattle.board_model.specs.declared.value.KeyType.{KeyType}
 use Rattle.board_service.specs.Domain as domain
-use Rattle.board_service.specs.Entries.{IsOpening, added_of}
+use Rattle.board_service.specs.Entries.{added_of}
+use Rattle.board_parties.proofs.KeyTests.{same_numbers, same_texts}
+use Rattle.board_parties.proofs.KeyedCalls.{create_same}
 use Rattle.board_parties.proofs.typed_calls.create_in.Goals as goal
 
--- src/typed_calls.rt:24:1
 pub returns-in-U64-clause-answer : goal.returns-in-U64-clause-answer
-returns-in-U64-clause-answer g c = ?
+returns-in-U64-clause-answer g c = λ h. c.create.ensures.answer h ∙ create_same c.args.core.now _ (types.same_key key_type.U64) same_numbers c.args.name.now _ c.requires.keys ∙ ap (λ (k : KeyType). domain.create_answer c.args.core.now (types.same_key k) c.args.name.now (map added_of c.args.entries.items)) (sym c.in-U64.is)
 
--- src/typed_calls.rt:24:1
 pub returns-in-F8-clause-answer : goal.returns-in-F8-clause-answer
-returns-in-F8-clause-answer g c = ?
+returns-in-F8-clause-answer g c = λ h. c.create-in-F8.ensures.answer h ∙ create_same c.args.core.now _ (types.same_key key_type.F8) same_texts c.args.name.now _ c.requires.keys ∙ ap (λ (k : KeyType). domain.create_answer c.args.core.now (types.same_key k) c.args.name.now (map added_of c.args.entries.items)) (sym c.in-F8.is)

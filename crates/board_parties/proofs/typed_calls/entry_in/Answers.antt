@@ -1,27 +1,22 @@
-use Rattle.std.proofs.Common.{rules, ◌≡◌, true, All, OnOk, OnErr, map, ℕ, ◌+◌, ◌-◌, ◌*◌, ◌<◌, ◌≤◌, length, ◌/◌, ◌%◌, Bool, false, nat_eq, nat_lt, List, [], ◌∷◌, ◌++◌, slice_index_or, slice_set, bit_and, bit_or, Fits, w8, w32, w64, Bor, MutBor}
-use Rattle.std.specs.List.{AllByRecursion}
-use Rattle.board_layout.specs.Answer.{Answers}
-use Rattle.board_layout.specs.Layout.{IsShape, places_from}
-use Rattle.board_model.specs.Replies.{is_key}
-use Rattle.board_model.specs.Tables.{shapes_of}
-use Rattle.board_model.specs.TypeTable as types
-use Rattle.board_parties.specs.Named.{HasShortKey, HasShortKeys}
+use Rattle.std.proofs.Common.{◌≡◌, ℕ, ap, subst, ◌∙◌, Option, rules}
+use Rattle.std.specs.Prelude.{OnOk}
+use Rattle.board_model.specs.declared.tables.Entry.{Entry}
 use Rattle.board_service.specs.Domain as domain
-use Rattle.board_service.specs.Entries.{IsOpening, added_of}
+use Rattle.board_parties.proofs.KeyedCalls.{found_by_number, found_by_text}
 use Rattle.board_parties.proofs.typed_calls.entry_in.Goals as goal
 
--- src/typed_calls.rt:65:1
 pub returns-in-U64-clause-answer : goal.returns-in-U64-clause-answer
-returns-in-U64-clause-answer g c = ?
+returns-in-U64-clause-answer g c = λ h. c.entry.ensures.answer h
+    ∙ ap (λ (o : Option (ℕ × Entry)). domain.entry_answer c.args.core.now o) (found_by_number c.args.core.now c.requires.keys c.in-U64.n (search rules) c.args.key.now c.in-U64.is (domain.held c.args.core.now c.args.reader) c.args.value.now)
 
--- src/typed_calls.rt:65:1
 pub returns-in-U64-clause-ok : goal.returns-in-U64-clause-ok
-returns-in-U64-clause-ok g c = ?
+returns-in-U64-clause-ok g c = subst (λ (o : Option (ℕ × Entry)). OnOk c.entry.result (c.entry.new.self ≡ domain.after_entry c.args.core.now (domain.held c.args.core.now c.args.reader) o))
+    (found_by_number c.args.core.now c.requires.keys c.in-U64.n (search rules) c.args.key.now c.in-U64.is (domain.held c.args.core.now c.args.reader) c.args.value.now) c.entry.ensures.ok
 
--- src/typed_calls.rt:65:1
 pub returns-in-F8-clause-answer : goal.returns-in-F8-clause-answer
-returns-in-F8-clause-answer g c = ?
+returns-in-F8-clause-answer g c = λ h. c.entry-in-F8.ensures.answer h
+    ∙ ap (λ (o : Option (ℕ × Entry)). domain.entry_answer c.args.core.now o) (found_by_text c.args.core.now c.requires.keys c.in-F8.text c.f8_of-key.result (search rules) c.f8_of-key.ensures c.args.key.now c.in-F8.is (domain.held c.args.core.now c.args.reader) c.args.value.now)
 
--- src/typed_calls.rt:65:1
 pub returns-in-F8-clause-ok : goal.returns-in-F8-clause-ok
-returns-in-F8-clause-ok g c = ?
+returns-in-F8-clause-ok g c = subst (λ (o : Option (ℕ × Entry)). OnOk c.entry-in-F8.result (c.entry-in-F8.new.self ≡ domain.after_entry c.args.core.now (domain.held c.args.core.now c.args.reader) o))
+    (found_by_text c.args.core.now c.requires.keys c.in-F8.text c.f8_of-key.result (search rules) c.f8_of-key.ensures c.args.key.now c.in-F8.is (domain.held c.args.core.now c.args.reader) c.args.value.now) c.entry-in-F8.ensures.ok
