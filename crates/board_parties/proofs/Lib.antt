@@ -1,0 +1,11 @@
+pub mod Asked
+pub mod Counts
+pub mod Endings
+pub mod Growth
+pub mod Handles
+pub mod KeyTests
+pub mod KeyedCalls
+pub mod NodeLookups
+pub mod Places
+pub mod Ports
+pub mod Renaming

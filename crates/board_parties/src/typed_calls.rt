@@ -75,7 +75,10 @@ pub(crate) fn entry_in<C: Cells>(
     ensures err { OnErr result (core.new ≡ core.old) }
 {
     match key {
-        Key::U64(n) => core.entry::<u64>(reader, n, value),
+        Key::U64(n) => {
+            let key = *n;
+            core.entry::<u64>(reader, &key, value)
+        }
         Key::F8(text) => {
             let key = f8_of(text);
             core.entry::<F8>(reader, &key, value)
@@ -97,7 +100,10 @@ pub(crate) fn entry_mut_in<C: Cells>(
     ensures err { OnErr result (core.new ≡ core.old) }
 {
     match key {
-        Key::U64(n) => core.entry_mut::<u64>(writer, n, value),
+        Key::U64(n) => {
+            let key = *n;
+            core.entry_mut::<u64>(writer, &key, value)
+        }
         Key::F8(text) => {
             let key = f8_of(text);
             core.entry_mut::<F8>(writer, &key, value)
