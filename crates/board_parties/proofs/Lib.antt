@@ -1,3 +1,5 @@
+pub mod Attributes
 pub mod KeyTests
 pub mod KeyedCalls
+pub mod NewEntries
 pub mod NodeLookups
