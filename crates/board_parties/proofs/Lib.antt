@@ -1,10 +1,12 @@
 pub mod Asked
+pub mod Attributes
 pub mod Counts
 pub mod Endings
 pub mod Growth
 pub mod Handles
-pub mod KeyTests
 pub mod KeyedCalls
+pub mod KeyTests
+pub mod NewEntries
 pub mod NodeLookups
 pub mod Places
 pub mod Ports
