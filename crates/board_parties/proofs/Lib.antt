@@ -1,4 +1,5 @@
 pub mod Asked
+pub mod BoardNames
 pub mod Counts
 pub mod Endings
 pub mod Growth
@@ -6,6 +7,7 @@ pub mod Handles
 pub mod KeyTests
 pub mod KeyedCalls
 pub mod NodeLookups
+pub mod Openings
 pub mod Places
 pub mod Ports
 pub mod Renaming
