@@ -3,3 +3,4 @@ pub mod KeyTests
 pub mod KeyedCalls
 pub mod NewEntries
 pub mod NodeLookups
+pub mod WordLookups
