@@ -1,4 +1,5 @@
 pub mod Asked
+pub mod Attributes
 pub mod BoardNames
 pub mod Counts
 pub mod Endings
@@ -6,8 +7,10 @@ pub mod Growth
 pub mod Handles
 pub mod KeyTests
 pub mod KeyedCalls
+pub mod NewEntries
 pub mod NodeLookups
 pub mod Openings
 pub mod Places
 pub mod Ports
 pub mod Renaming
+pub mod WordLookups

@@ -4,6 +4,7 @@ ghost use Rattle.std.specs.Char.{to_ascii_lowercase};
 ghost use Rattle.board_layout.specs.Keys as keys;
 ghost use Rattle.board_layout.specs.Text.{padded};
 ghost use Rattle.board_model.specs.TypeTable as types;
+ghost use Rattle.board_parties.specs.Named.{IsShortKey};
 
 use board_layout::{F8, KeyMemory, Text, TypeDetail, TypeVariant};
 use board_model::{AddedEntry, Key, KeyType, Value, ValueType};
@@ -115,7 +116,8 @@ fn word_bytes(n: u64) -> [u8; 8]
 
 /// The bytes of a key as an entry keeps them.
 pub fn key_bytes(key: &Key) -> KeyMemory<64>
-    ensures { result.bytes ≡ types.key_bytes key.now }
+    ensures bytes { result.bytes ≡ types.key_bytes key.now }
+    ensures short { IsShortKey result.bytes }
 {
     match key {
         Key::U64(n) => key_memory(&word_bytes(*n)),
