@@ -10,12 +10,16 @@ use std::sync::Wait;
 use std::thread;
 use std::thread::Threads;
 
+// So many words, 128 bytes, lie between what two threads write: then they share no line of the cache.
+const APART: usize = 16;
+
 /// A reader, its buffer, and how many gets it made.
 #[derive(Drop)]
 pub struct Watcher {
     pub pass: ReaderPass,
     pub out: Vec<u64>,
     pub gets: u64,
+    pub apart: [u64; APART],
 }
 
 /// A race that was run: the ends of the writer and of the readers, and how many gets these made.
@@ -92,10 +96,13 @@ pub fn watchers_of(
 {
     let mut watchers = Vec::new(alloc);
     for _ in 0..readers {
+        let mut out = Vec::with_capacity(alloc, words.len().saturating_add(APART))?;
+        out.extend_from_slice(words)?;
         watchers.push(Watcher {
             pass: cell.split(first),
-            out: words.clone()?,
+            out,
             gets: 0,
+            apart: [0; APART],
         })?;
     }
     Ok(watchers)
@@ -177,6 +184,7 @@ pub fn passes_of(
             pass,
             out: _,
             gets: more,
+            apart: _,
         } = watcher;
         gets = gets.saturating_add(more);
         passes.push(pass)?;

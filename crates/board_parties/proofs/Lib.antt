@@ -1,5 +1,6 @@
 pub mod Asked
 pub mod Attributes
+pub mod BoardNames
 pub mod Counts
 pub mod Endings
 pub mod Growth
@@ -8,6 +9,8 @@ pub mod KeyedCalls
 pub mod KeyTests
 pub mod NewEntries
 pub mod NodeLookups
+pub mod Openings
 pub mod Places
 pub mod Ports
 pub mod Renaming
+pub mod WordLookups
