@@ -85,13 +85,6 @@ impl<C: BoardWords + Drop> PartyDomain<C> {
         held_of_kind(kind, party, name, &self.things)
     }
 
-    /// The things, in the order in which they were made.
-    pub fn things(&self) -> &[Held]
-        ensures { result.now ≡ self.now.tables.things }
-    {
-        &self.things
-    }
-
     /// Gives the party's thing another name.
     pub fn rename(&mut self, party: &Name, old: &Name, new: &Name)
         ensures { self.new ≡ record self.old { tables = held.with_name self.old.tables party.now old.now new.now } }

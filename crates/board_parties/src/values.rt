@@ -1,6 +1,5 @@
 //! Values and keys as words and bytes.
 ghost use Rattle.std.specs.Prelude.{◌≡◌, ◌≤◌, ◌<◌, ◌+◌, ◌*◌, ◌^◌, ◌++◌, ◌∷◌, [], IfOk, map, length, take};
-ghost use Rattle.std.specs.Char.{to_ascii_lowercase};
 ghost use Rattle.board_layout.specs.Keys as keys;
 ghost use Rattle.board_layout.specs.Text.{padded};
 ghost use Rattle.board_model.specs.TypeTable as types;
@@ -57,7 +56,7 @@ pub fn value_words(alloc: Global, value: Value) -> Result<Vec<u64>, AllocError>
 }
 
 /// The details of a key type.
-pub fn key_detail(key_type: KeyType) -> TypeDetail
+pub(crate) fn key_detail(key_type: KeyType) -> TypeDetail
     ensures { result ≡ types.key_detail key_type }
 {
     match key_type {
@@ -115,7 +114,7 @@ fn word_bytes(n: u64) -> [u8; 8]
 }
 
 /// The bytes of a key as an entry keeps them.
-pub fn key_bytes(key: &Key) -> KeyMemory<64>
+pub(crate) fn key_bytes(key: &Key) -> KeyMemory<64>
     ensures bytes { result.bytes ≡ types.key_bytes key.now }
     ensures short { IsShortKey result.bytes }
 {
@@ -154,7 +153,7 @@ fn up_to_zero(bytes: &[u8]) -> Text<8>
 }
 
 /// The key that an entry keeps in its first eight bytes.
-pub fn key_of(key_type: KeyType, key: &KeyMemory<64>) -> Key
+pub(crate) fn key_of(key_type: KeyType, key: &KeyMemory<64>) -> Key
     ensures { result ≡ types.key_of key_type (take 8 key.now.bytes) }
 {
     let bytes = &key.bytes[..8];
@@ -165,32 +164,13 @@ pub fn key_of(key_type: KeyType, key: &KeyMemory<64>) -> Key
 }
 
 /// The key type with these details.
-pub fn key_type_of(detail: &TypeDetail) -> KeyType
+pub(crate) fn key_type_of(detail: &TypeDetail) -> KeyType
     ensures { result ≡ types.key_type_of detail.now }
 {
     if same_type(detail, &key_detail(KeyType::U64)) {
         KeyType::U64
     } else {
         KeyType::F8
-    }
-}
-
-// The bytes with ASCII letters in lower case.
-fn lowered(key: &KeyMemory<64>) -> [u8; 64]
-    ensures { result ≡ map to_ascii_lowercase key.now.bytes }
-{
-    let mut bytes = key.bytes;
-    bytes.make_ascii_lowercase();
-    bytes
-}
-
-/// Whether two kept keys are equal.
-pub fn same_key(key_type: KeyType, a: &KeyMemory<64>, b: &KeyMemory<64>) -> bool
-    ensures { result ≡ types.same_key key_type a.now.bytes b.now.bytes }
-{
-    match key_type {
-        KeyType::U64 => a.bytes == b.bytes,
-        KeyType::F8 => lowered(a) == lowered(b),
     }
 }
 
