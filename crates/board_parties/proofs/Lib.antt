@@ -1,6 +1,15 @@
 pub mod Attributes
+pub mod Asked
+pub mod Counts
+pub mod Endings
+pub mod Growth
+pub mod Handles
 pub mod KeyTests
 pub mod KeyedCalls
 pub mod NewEntries
 pub mod NodeLookups
+pub mod Overview
+pub mod Places
+pub mod Ports
+pub mod Renaming
 pub mod WordLookups

@@ -15,4 +15,3 @@ pub use values::{
     key_bytes, key_detail, key_of, key_type_of, same_key_type, same_type, type_of, type_of_key,
     value_detail, value_type_of, value_words,
 };
-
