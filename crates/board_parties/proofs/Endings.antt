@@ -164,13 +164,13 @@ released_one {C} list nodes numbers things d after party name k number h l e =
     let t = (shown list d things).tables in
     let kept = list_any (is_of_board of.board) (without (is_thing number) d.tables.things) in
     let same : kept ≡ list_any (is_of_board of.board) (remove things k) =
-    ap (λ ts. list_any (is_of_board of.board) ts) l.gone ∙ sym (boards-same (party_at nodes) of.board (remove d.tables.things k) (remove things k) (same_removed (party_at nodes) k d.tables.things things h.same)) in
+      ap (λ ts. list_any (is_of_board of.board) ts) l.gone ∙ sym (boards-same (party_at nodes) of.board (remove d.tables.things k) (remove things k) (same_removed (party_at nodes) k d.tables.things things h.same)) in
     subst (λ a. IsReleased (shown list d things) (shown list a (remove things k)) party name) (sym e) (record {
       tables =
-          ap (λ b. less t (if b then d.tables.boards else without (is_numbered of.board) d.tables.boards) (remove things k)) same
-          ∙ ap (λ b. less t (boards_left d.tables.boards b (remove things k)) (remove things k)) l.thing.board
-          ∙ ap (λ (xs : List Held). less t (boards_left d.tables.boards x.board xs) xs) (sym l.first.rest)
-          ∙ ap (λ (o : Option Held). released_thing t party name o) (sym l.first.found);
+        ap (λ b. less t (if b then d.tables.boards else without (is_numbered of.board) d.tables.boards) (remove things k)) same
+        ∙ ap (λ b. less t (boards_left d.tables.boards b (remove things k)) (remove things k)) l.thing.board
+        ∙ ap (λ (xs : List Held). less t (boards_left d.tables.boards x.board xs) xs) (sym l.first.rest)
+        ∙ ap (λ (o : Option Held). released_thing t party name o) (sym l.first.found);
       words = λ f w. words_left list f of.board kept d.cells d.tables.boards w;
       drawn = refl;
     })
