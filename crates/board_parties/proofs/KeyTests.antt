@@ -95,10 +95,10 @@ text_word a h = ap (to_le_bytes w64) (front_word a h) ∙ front_again a h
 pub same_texts : (a b : List ℕ) → IsShortKey a → IsShortKey b → same_keys (on lowered (pointwise nat_eq)) first_text 8 1 a b ≡ same_key key_type.F8 a b
 same_texts a b h k =
     let e : same_keys (on lowered (pointwise nat_eq)) first_text 8 1 a b ≡ bytes_eq (map to_ascii_lowercase (take 8 a)) (map to_ascii_lowercase (take 8 b))
-        = ap (λ (x : List ℕ). bytes_eq (map to_ascii_lowercase x) (map to_ascii_lowercase (to_le_bytes w64 (little (take 8 (take 8 b)))))) (text_word a h)
-        ∙ ap (λ (y : List ℕ). bytes_eq (map to_ascii_lowercase (take 8 a)) (map to_ascii_lowercase y)) (text_word b k) in
+    = ap (λ (x : List ℕ). bytes_eq (map to_ascii_lowercase x) (map to_ascii_lowercase (to_le_bytes w64 (little (take 8 (take 8 b)))))) (text_word a h)
+    ∙ ap (λ (y : List ℕ). bytes_eq (map to_ascii_lowercase (take 8 a)) (map to_ascii_lowercase y)) (text_word b k) in
     let r : same_key key_type.F8 a b ≡ same_key key_type.F8 (take 8 a ++ replicate 56 0) (take 8 b ++ replicate 56 0)
-        = ap (λ (x : List ℕ). same_key key_type.F8 x b) h.rest ∙ ap (λ (y : List ℕ). same_key key_type.F8 (take 8 a ++ replicate 56 0) y) k.rest in
+    = ap (λ (x : List ℕ). same_key key_type.F8 x b) h.rest ∙ ap (λ (y : List ℕ). same_key key_type.F8 (take 8 a ++ replicate 56 0) y) k.rest in
     e ∙ same_low (take 8 a) (take 8 b) ∙ sym r
 
 -- ---- a key as an entry keeps it
@@ -156,8 +156,8 @@ is_number n small a h =
 pub is_text : (text : List ℕ) (k : F8) → length text ≤ 8 → k.bytes ≡ padded 8 text → (a : List ℕ) → IsShortKey a → is_key (on lowered (pointwise nat_eq)) first_text 8 1 k a ≡ replies.is_key (key.F8 text) a
 is_text text k most e a h =
     let x : is_key (on lowered (pointwise nat_eq)) first_text 8 1 k a ≡ bytes_eq (map to_ascii_lowercase (take 8 a)) (map to_ascii_lowercase (padded 8 text))
-        = ap (λ (x : List ℕ). bytes_eq (map to_ascii_lowercase x) (map to_ascii_lowercase k.bytes)) (text_word a h)
-        ∙ ap (λ (y : List ℕ). bytes_eq (map to_ascii_lowercase (take 8 a)) (map to_ascii_lowercase y)) e in
+    = ap (λ (x : List ℕ). bytes_eq (map to_ascii_lowercase x) (map to_ascii_lowercase k.bytes)) (text_word a h)
+    ∙ ap (λ (y : List ℕ). bytes_eq (map to_ascii_lowercase (take 8 a)) (map to_ascii_lowercase y)) e in
     let r : same_key key_type.F8 a (padded 64 text) ≡ same_key key_type.F8 (take 8 a ++ replicate 56 0) (padded 8 text ++ replicate 56 0)
-        = ap (λ (x : List ℕ). same_key key_type.F8 x (padded 64 text)) h.rest ∙ ap (λ (y : List ℕ). same_key key_type.F8 (take 8 a ++ replicate 56 0) y) (text_kept text most) in
+    = ap (λ (x : List ℕ). same_key key_type.F8 x (padded 64 text)) h.rest ∙ ap (λ (y : List ℕ). same_key key_type.F8 (take 8 a ++ replicate 56 0) y) (text_kept text most) in
     x ∙ same_low (take 8 a) (padded 8 text) ∙ sym r

@@ -10,6 +10,7 @@ pub mod KeyTests
 pub mod NewEntries
 pub mod NodeLookups
 pub mod Openings
+pub mod Overview
 pub mod Places
 pub mod Ports
 pub mod Renaming

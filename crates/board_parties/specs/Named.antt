@@ -1,4 +1,4 @@
--- How the things that parties named stand for those of a domain's core. No public clause speaks of what follows.
+-- How the things that parties named stand for those of a domain's core. Of what follows public clauses speak of short keys alone.
 use Rattle.std.specs.Prelude.{◌≡◌, ◌≢◌, false, ℕ, ◌+◌, ◌-◌, ◌<◌, ◌≤◌, List, [], ◌∷◌, ◌++◌, length, map, replicate, take, Option, Some, None, slice_get, slice_index_or, Result, Ok, Err}
 use Rattle.std.specs.List.{AllByRecursion, position_from}
 use Rattle.std.specs.Str.{bytes_eq}

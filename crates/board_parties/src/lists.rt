@@ -68,4 +68,3 @@ pub(crate) fn nodes_at(alloc: Global, board: u64, things: &[Held]) -> Result<Nam
     }
     Ok(Names::from_vec(names))
 }
-

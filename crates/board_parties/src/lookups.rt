@@ -6,8 +6,8 @@ ghost use Rattle.board_model.specs.Tables as tables;
 ghost use Rattle.board_model.specs.Things as held;
 ghost use Rattle.board_parties.specs.Named.{IsNumberIn, node_number, node_place, nodes_with};
 
-use board_model::{Kind, Name, Thing, ThingKind};
 use board_layout::Text;
+use board_model::{Kind, Name, Thing, ThingKind};
 use board_names::ServiceName;
 use board_service::ThingId;
 

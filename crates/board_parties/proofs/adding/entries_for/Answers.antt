@@ -1,4 +1,4 @@
-use Rattle.std.proofs.Common.{rules, map, sym, subst, arith, List}
+use Rattle.std.proofs.Common.{map, sym, subst, arith, List}
 use Rattle.std.specs.List.{AllByRecursion}
 use Rattle.std.specs.Prelude.{All}
 use Rattle.std.proofs.lemmas.Grind.{common_steps}

@@ -1,5 +1,4 @@
-use Rattle.std.proofs.Common.{sym, ap, ◌∙◌, rules, arith}
-use Rattle.board_layout.specs.Text.{padded}
+use Rattle.std.proofs.Common.{rules}
 use Rattle.board_parties.proofs.KeyTests.{text_is_short}
 use Rattle.board_parties.proofs.values.key_bytes.Goals as goal
 

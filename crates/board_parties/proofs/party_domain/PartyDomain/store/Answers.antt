@@ -1,4 +1,4 @@
-use Rattle.std.proofs.Common.{ap, sym, ◌∙◌}
+use Rattle.std.proofs.Common.{ap}
 use Rattle.board_parties.specs.Parties.{Parties}
 use Rattle.board_parties.proofs.WordLookups.{cells_stand, shown, word_inside, words_set}
 use Rattle.board_parties.proofs.party_domain.PartyDomain.store.Goals as goal
