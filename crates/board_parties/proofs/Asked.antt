@@ -1,15 +1,15 @@
 -- What a call is told, from what the core answers.
-use Rattle.std.proofs.Common.{arith, ◌≡◌, ◌≢◌, ℕ, ◌+◌, ◌≤◌, Bool, true, false, cond, List, [], ◌∷◌, ◌++◌, refl, sym, ap, ◌∙◌, subst, Option, Some, None, inl, inr}
+use Rattle.std.proofs.Common.{arith, ◌≡◌, ◌≢◌, ℕ, ◌+◌, ◌≤◌, Bool, false, cond, List, [], ◌∷◌, ◌++◌, refl, sym, ap, ◌∙◌, subst, Option, Some, None, inl, inr}
 use Rattle.std.specs.Prelude.{IfOk, Result, Ok, Err}
 use Rattle.board_layout.specs.Answer.{Answers}
 use Rattle.board_model.specs.declared.answer.Reply.{Reply}
 use Rattle.board_model.specs.declared.answer.Reply.TheVariants as reply
-use Rattle.board_model.specs.Replies.{number_or}
 use Rattle.board_model.specs.Tables.{Tables}
 use Rattle.board_model.specs.TableCalls.{answer_of, asked, first_of}
 use Rattle.board_parties.specs.Parties.{IsAsked, Parties}
 use Rattle.board_parties.proofs.Places.{chosen}
 
+-- the two answers, of types that are known
 abbrev pub ok_of : {M E : Type 0} → M → Result M E
 ok_of m = Ok m
 

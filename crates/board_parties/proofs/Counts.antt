@@ -1,5 +1,5 @@
 -- Whatever is counted over the things that parties named is counted over those of the core.
-use Rattle.std.proofs.Common.{◌≡◌, ℕ, ◌+◌, ◌-◌, ◌<◌, ◌≤◌, zero, suc, Bool, true, false, List, [], ◌∷◌, length, map, arith, refl, sym, ap, ◌∙◌, subst, eq-eqb}
+use Rattle.std.proofs.Common.{◌≡◌, ℕ, ◌-◌, ◌<◌, ◌≤◌, zero, suc, true, false, List, [], ◌∷◌, length, map, arith, refl, sym, ap, ◌∙◌}
 use Rattle.std.specs.Prelude.{nat_eq, slice_index_or}
 use Rattle.std.specs.List.{list_any, AllByRecursion}
 use Rattle.std.specs.Str.{bytes_eq}
@@ -54,6 +54,7 @@ other_party p (q ∷ ps) (suc k) h b = other_party p ps k h.1 (omega (arith, b))
 same_party : (p : List ℕ) → bytes_eq p p ≡ true
 same_party p = (bytes_eq-Decides p p).1 refl
 
+-- texts are the same both ways round
 pub turned : (p q : List ℕ) → bytes_eq p q ≡ bytes_eq q p
 turned p q = same_from_decides _ (bytes_eq q p) (bytes_eq-Decides p q) (λ e. sym ((bytes_eq-Decides q p).0 e), λ e. (bytes_eq-Decides q p).1 (sym e))
 

@@ -1,6 +1,6 @@
 -- One thing less.
 use Rattle.std.proofs.Common.{◌≡◌, ◌≢◌, ◌==◌, ℕ, ◌+◌, ◌<◌, ◌≤◌, zero, suc, Bool, true, false, if◌then◌else◌, List, [], ◌∷◌, length, map, arith, refl, sym, ap, ◌∙◌, subst, eq-eqb, Option, Some, None, inl, inr}
-use Rattle.std.specs.Prelude.{IsSome, find, remove, slice_get}
+use Rattle.std.specs.Prelude.{find, remove, slice_get}
 use Rattle.std.specs.List.{AllByRecursion, list_any, position_from}
 use Rattle.std.proofs.lemmas.Bool.{ne_eqb}
 use Rattle.std.proofs.lemmas.List.{length-map}
@@ -9,9 +9,8 @@ use Rattle.board_model.specs.declared.tables.Board.{Board}
 use Rattle.board_model.specs.declared.tables.Thing.{Thing}
 use Rattle.board_model.specs.Replies.{released_thing}
 use Rattle.board_model.specs.Tables.{Tables, is_numbered, is_of_board, rename, without}
-use Rattle.board_model.specs.TableCalls.{boards_left, released}
+use Rattle.board_model.specs.TableCalls.{boards_left}
 use Rattle.board_model.specs.Things.{Held, is_held_as}
-use Rattle.board_model.specs.Things as named
 use Rattle.board_parties.specs.Named.{AreApart, HasShortKeys, IsNamed, IsOfNode, nameless, number_of, own, party_at}
 use Rattle.board_parties.specs.Parties.{IsReleased, Parties, words_of}
 use Rattle.board_parties.proofs.Counts.{AreSame, boards-same}
@@ -28,6 +27,7 @@ pub record IsFirst {X : Type 0} (p : X → Bool) (xs : List X) (k : ℕ) : Type 
   pub there : slice_get xs k ≡ Some it
   pub rest : without p xs ≡ remove xs k
 
+-- where the list begins at place i
 first_from : {X : Type 0} (p : X → Bool) (i k : ℕ) (xs : List X) → position_from p i xs ≡ Some k → (j : ℕ) × (k ≡ j + i) × IsFirst p xs j
 first_from p i k [] e = absurd cc
 first_from {X = X} p i k (x ∷ xs) e =
@@ -52,6 +52,7 @@ none_from {X = X} p i (x ∷ xs) e =
       | inr h ↦ let more = none_from p (i + 1) xs h.1 in (rw h.0 more.0, rw h.0 (ap (λ (r : List X). x ∷ r) more.1))
     ]
 
+-- with the element at a place taken out
 map_remove : {A B : Type 0} (f : A → B) (k : ℕ) (xs : List A) → map f (remove xs k) ≡ remove (map f xs) k
 map_remove f zero [] = refl
 map_remove f (suc k) [] = refl
@@ -70,6 +71,7 @@ apart_removed (suc k) [] h = tt
 apart_removed zero (n ∷ ns) h = h.1
 apart_removed (suc k) (n ∷ ns) h = (all_removed (λ m. n ≢ m) k ns h.0, apart_removed k ns h.1)
 
+-- what all have, those that are left have
 all_without : {X : Type 0} (P : X → Type 0) (p : X → Bool) (xs : List X) → AllByRecursion P xs → AllByRecursion P (without p xs)
 all_without P p [] h = tt
 all_without {X} P p (x ∷ xs) h =
@@ -164,13 +166,13 @@ released_one {C} list nodes numbers things d after party name k number h l e =
     let t = (shown list d things).tables in
     let kept = list_any (is_of_board of.board) (without (is_thing number) d.tables.things) in
     let same : kept ≡ list_any (is_of_board of.board) (remove things k) =
-      ap (λ ts. list_any (is_of_board of.board) ts) l.gone ∙ sym (boards-same (party_at nodes) of.board (remove d.tables.things k) (remove things k) (same_removed (party_at nodes) k d.tables.things things h.same)) in
+    ap (λ ts. list_any (is_of_board of.board) ts) l.gone ∙ sym (boards-same (party_at nodes) of.board (remove d.tables.things k) (remove things k) (same_removed (party_at nodes) k d.tables.things things h.same)) in
     subst (λ a. IsReleased (shown list d things) (shown list a (remove things k)) party name) (sym e) (record {
       tables =
-        ap (λ b. less t (if b then d.tables.boards else without (is_numbered of.board) d.tables.boards) (remove things k)) same
-        ∙ ap (λ b. less t (boards_left d.tables.boards b (remove things k)) (remove things k)) l.thing.board
-        ∙ ap (λ (xs : List Held). less t (boards_left d.tables.boards x.board xs) xs) (sym l.first.rest)
-        ∙ ap (λ (o : Option Held). released_thing t party name o) (sym l.first.found);
+          ap (λ b. less t (if b then d.tables.boards else without (is_numbered of.board) d.tables.boards) (remove things k)) same
+          ∙ ap (λ b. less t (boards_left d.tables.boards b (remove things k)) (remove things k)) l.thing.board
+          ∙ ap (λ (xs : List Held). less t (boards_left d.tables.boards x.board xs) xs) (sym l.first.rest)
+          ∙ ap (λ (o : Option Held). released_thing t party name o) (sym l.first.found);
       words = λ f w. words_left list f of.board kept d.cells d.tables.boards w;
       drawn = refl;
     })

@@ -1,6 +1,6 @@
 -- One thing more.
-use Rattle.std.proofs.Common.{◌≡◌, ◌≢◌, ℕ, ◌+◌, ◌-◌, ◌<◌, ◌≤◌, zero, suc, Bool, true, false, List, [], ◌∷◌, ◌++◌, length, length-append, map, arith, refl, sym, ap, ◌∙◌, subst, Option, Some, None, inl, inr}
-use Rattle.std.specs.Prelude.{slice_index_or, slice_get}
+use Rattle.std.proofs.Common.{◌≡◌, ◌≢◌, ℕ, ◌+◌, ◌-◌, ◌<◌, ◌≤◌, zero, suc, false, List, [], ◌∷◌, ◌++◌, length, length-append, map, arith, refl, sym, ap, ◌∙◌, subst, Option, Some, None, inl, inr}
+use Rattle.std.specs.Prelude.{slice_index_or}
 use Rattle.std.specs.List.{AllByRecursion, position_from}
 use Rattle.std.specs.Str.{bytes_eq}
 use Rattle.std.proofs.lemmas.List.{map-append}
@@ -15,6 +15,7 @@ use Rattle.board_service.specs.Domain.{Domain}
 
 -- ---- lists
 
+-- what all have and one more has, all have then
 pub all_more : {X : Type 0} (P : X → Type 0) (x : X) (xs : List X) → AllByRecursion P xs → P x → AllByRecursion P (xs ++ x ∷ [])
 all_more P x [] h k = (k, tt)
 all_more P x (y ∷ ys) h k = (h.0, all_more P x ys h.1 k)
@@ -23,6 +24,7 @@ pub all_from : {X : Type 0} (P Q : X → Type 0) → ((x : X) → P x → Q x) �
 all_from P Q f [] h = tt
 all_from P Q f (x ∷ xs) h = (f x h.0, all_from P Q f xs h.1)
 
+-- the next number is a new one
 apart_more : (last n : ℕ) (numbers : List ℕ) → n ≡ last + 1 → AllByRecursion (λ m. m ≤ last) numbers → AreApart numbers → AreApart (numbers ++ n ∷ [])
 apart_more last n [] e h a = (tt, tt)
 apart_more last n (m ∷ ms) e h a = (all_more (λ k. m ≢ k) n ms a.0 (λ q. let b : m ≤ last = h.0 in absurd (omega (arith, b, q))), apart_more last n ms e h.1 a.1)
@@ -71,6 +73,7 @@ named_more {C} nodes numbers things d after t x n h m e =
 
 -- ---- a node
 
+-- the parties before, and the last
 index_before : (k : ℕ) (q : List ℕ) (ps : List (List ℕ)) → k < length ps → slice_index_or (ps ++ q ∷ []) k [] ≡ slice_index_or ps k []
 index_before k q [] b = absurd (omega (arith, b))
 index_before zero q (p ∷ ps) b = refl
@@ -130,6 +133,7 @@ pub record IsNode (party : List ℕ) (nodes : List (List ℕ)) (number : ℕ) : 
   pub most : number ≤ length nodes
   pub is : party_at nodes number ≡ party
 
+-- the party stands where it was found
 place_found : (q : List ℕ) (i k : ℕ) (ps : List (List ℕ)) → position_from (bytes_eq q) i ps ≡ Some k → (j : ℕ) × (k ≡ j + i) × (j < length ps) × (slice_index_or ps j [] ≡ q)
 place_found q i k [] e = absurd cc
 place_found q i k (p ∷ ps) e =

@@ -1,6 +1,6 @@
 -- Read handles and write handles.
-use Rattle.std.proofs.Common.{◌≡◌, ◌≢◌, ℕ, ◌+◌, ◌^◌, ◌<◌, ◌≤◌, Bool, true, false, ◌&&◌, if◌then◌else◌, List, [], ◌∷◌, ◌++◌, map, arith, refl, sym, ap, ◌∙◌, subst, Option, Some, None}
-use Rattle.std.specs.Prelude.{IsSome, Result, Ok, Err, find}
+use Rattle.std.proofs.Common.{◌≡◌, ◌≢◌, ℕ, ◌+◌, ◌^◌, ◌<◌, Bool, true, ◌&&◌, if◌then◌else◌, List, [], ◌∷◌, ◌++◌, arith, refl, sym, ap, ◌∙◌, subst, Option, Some, None}
+use Rattle.std.specs.Prelude.{IsSome, find}
 use Rattle.board_layout.specs.Answer.{Answers}
 use Rattle.board_layout.specs.declared.type_detail.TypeDetail.{TypeDetail}
 use Rattle.board_model.specs.declared.answer.Reply.{Reply}
@@ -10,13 +10,12 @@ use Rattle.board_model.specs.declared.errors.EntryHandleError.TheVariants as ent
 use Rattle.board_model.specs.declared.errors.EntryHandleMutError.{EntryHandleMutError}
 use Rattle.board_model.specs.declared.errors.EntryHandleMutError.TheVariants as entry_mut_error
 use Rattle.board_model.specs.declared.tables.Entry.{Entry}
-use Rattle.board_model.specs.declared.tables.Kind.{Kind}
 use Rattle.board_model.specs.declared.tables.Kind.TheVariants as kind
 use Rattle.board_model.specs.declared.tables.Thing.{Thing}
 use Rattle.board_model.specs.declared.tables.ThingKind.{ThingKind}
 use Rattle.board_model.specs.declared.value.Key.{Key}
 use Rattle.board_model.specs.LawfulSession.{is_typed_key}
-use Rattle.board_model.specs.Tables.{Tables, board_at, entry_found, holds_at, kind_of, port_of, same_kind}
+use Rattle.board_model.specs.Tables.{board_at, entry_found, holds_at, kind_of, port_of, same_kind}
 use Rattle.board_model.specs.TableCalls.{entry_asked, entry_mut_asked, entry_mut_refusals, entry_refusals, first_of, id_of, place_of, with_read_handle, with_write_handle}
 use Rattle.board_model.specs.Things.{Held}
 use Rattle.board_model.specs.TypeTable.{key_detail, type_of_key}
@@ -32,6 +31,7 @@ use Rattle.board_service.specs.Domain.{Domain, after_entry, after_entry_mut, ent
 
 -- ---- what is asked of the thing
 
+-- a test of the thing that stands
 held_so : (o : Option (Thing ℕ ℕ)) (test : Thing ℕ ℕ → Bool) → IsSome o → test (thing_or_none o) ≡ true → holds_at o test ≡ true
 held_so None test s h = absurd cc
 held_so (Some t) test s h = h
@@ -78,7 +78,7 @@ pub entry_made : {C : Type 0} (list : C → List ℕ) (nodes : List (List ℕ)) 
     → IsNamed nodes numbers things d → IsThing nodes d x number
     → Answers (ok_of m) entry_error.OutOfMemory (entry_answer d (entry_for d (held d number) is_key value)) → after ≡ after_entry d (held d number) (entry_for d (held d number) is_key value)
     → IsRead (shown list d things) (shown list after (things ++ from x name (kind.ReadHandle m.entry) ∷ [])) name x (found_for d x is_key value) (reply.Number m.place)
-      × IsNamed nodes (numbers ++ m.thing ∷ []) (things ++ from x name (kind.ReadHandle m.entry) ∷ []) after
+    × IsNamed nodes (numbers ++ m.thing ∷ []) (things ++ from x name (kind.ReadHandle m.entry) ∷ []) after
 entry_made {C} list nodes numbers things d after x number name is_key value m h i a ok =
     let of = held d number in
     let f = found_for d x is_key value in
@@ -91,14 +91,15 @@ entry_made {C} list nodes numbers things d after x number name is_key value m h 
     let thing : m.thing ≡ d.last_thing + 1 = ap (λ (k : Found). k.thing) by.same ∙ found-thing d f in
     let Told : Domain C → ℕ → ℕ → Type 0 = λ e j n. IsRead (shown list d things) (shown list e (things ++ from x name (kind.ReadHandle j) ∷ [])) name x f (reply.Number n) in
     let told : Told (after_entry d of f) (place_of f) (id_of f) =
-      told_made (shown list d things) (shown list (after_entry d of f) (things ++ from x name (kind.ReadHandle (place_of f)) ∷ [])) (λ e. reply.EntryError e)
-      (first_of (entry_refusals f)) (id_of f) (with_read_handle (shown list d things).tables x name f) by.none refl refl (omega arith) in
+    told_made (shown list d things) (shown list (after_entry d of f) (things ++ from x name (kind.ReadHandle (place_of f)) ∷ [])) (λ e. reply.EntryError e)
+    (first_of (entry_refusals f)) (id_of f) (with_read_handle (shown list d things).tables x name f) by.none refl refl (omega arith) in
     let Kept : Domain C → ℕ → Type 0 = λ e j. IsNamed nodes (numbers ++ m.thing ∷ []) (things ++ from x name (kind.ReadHandle j) ∷ []) e in
     let more : IsMore nodes d (after_entry d of f) (record { holder = of.holder; name = d.last_thing + 1; board = of.board; kind = kind.ReadHandle (place_of f) }) (from x name (kind.ReadHandle (place_of f))) =
-      record { things = refl; last = refl; number = refl; holder = i.holder; board = i.board; kind = refl; node = record { some = i.node.some; most = i.node.most }; keys = h.keys } in
-    let kept : Kept (after_entry d of f) (place_of f) = named_more nodes numbers things d (after_entry d of f) _ _ m.thing h more thing in
-    (subst (λ e. Told e m.entry m.place) (sym ok') (subst (λ n. Told (after_entry d of f) m.entry n) place (subst (λ j. Told (after_entry d of f) j (id_of f)) entry told)),
-     subst (λ e. Kept e m.entry) (sym ok') (subst (λ j. Kept (after_entry d of f) j) entry kept))
+    record { things = refl; last = refl; number = refl; holder = i.holder; board = i.board; kind = refl; node = record { some = i.node.some; most = i.node.most }; keys = h.keys } in
+    let kept : Kept (after_entry d of f) (place_of f) = named_more nodes numbers things d (after_entry d of f) _ _ m.thing h more thing in (
+      subst (λ e. Told e m.entry m.place) (sym ok') (subst (λ n. Told (after_entry d of f) m.entry n) place (subst (λ j. Told (after_entry d of f) j (id_of f)) entry told)),
+      subst (λ e. Kept e m.entry) (sym ok') (subst (λ j. Kept (after_entry d of f) j) entry kept),
+    )
 
 pub entry_not_made : {C : Type 0} (list : C → List ℕ) (nodes : List (List ℕ)) (numbers : List ℕ) (things : List Held) (d after : Domain C) (x : Held) (number : ℕ) (name : List ℕ) (is_key : List ℕ → Bool) (value : TypeDetail) (why : EntryHandleError)
     → IsNamed nodes numbers things d → IsThing nodes d x number → d.last_thing < 2 ^ 63 → why ≢ entry_error.OutOfMemory
@@ -131,7 +132,7 @@ pub entry_mut_made : {C : Type 0} (list : C → List ℕ) (nodes : List (List �
     → Answers (ok_of m) entry_mut_error.OutOfMemory (entry_mut_answer d (held d number) (entry_for d (held d number) is_key value))
     → after ≡ after_entry_mut d (held d number) (entry_for d (held d number) is_key value)
     → IsWrite (shown list d things) (shown list after (things ++ from x name (kind.WriteHandle m.entry port) ∷ [])) name x (found_for d x is_key value) (reply.Number m.place)
-      × IsNamed nodes (numbers ++ m.thing ∷ []) (things ++ from x name (kind.WriteHandle m.entry port) ∷ []) after
+    × IsNamed nodes (numbers ++ m.thing ∷ []) (things ++ from x name (kind.WriteHandle m.entry port) ∷ []) after
 entry_mut_made {C} list nodes numbers things d after x number name is_key value m port h i p a ok =
     let of = held d number in
     let f = found_for d x is_key value in
@@ -144,14 +145,15 @@ entry_mut_made {C} list nodes numbers things d after x number name is_key value 
     let thing : m.thing ≡ d.last_thing + 1 = ap (λ (k : Found). k.thing) by.same ∙ found-thing d f in
     let Told : Domain C → ℕ → ℕ → ℕ → Type 0 = λ e j q n. IsWrite (shown list d things) (shown list e (things ++ from x name (kind.WriteHandle j q) ∷ [])) name x f (reply.Number n) in
     let told : Told (after_entry_mut d of f) (place_of f) (port_of x.kind) (id_of f) =
-      told_made (shown list d things) (shown list (after_entry_mut d of f) (things ++ from x name (kind.WriteHandle (place_of f) (port_of x.kind)) ∷ [])) (λ e. reply.EntryMutError e)
-      (first_of (entry_mut_refusals things x.board f)) (id_of f) (with_write_handle (shown list d things).tables x name f) (handle_tests nodes numbers things d x number f h i ∙ by.none) refl refl (omega arith) in
+    told_made (shown list d things) (shown list (after_entry_mut d of f) (things ++ from x name (kind.WriteHandle (place_of f) (port_of x.kind)) ∷ [])) (λ e. reply.EntryMutError e)
+    (first_of (entry_mut_refusals things x.board f)) (id_of f) (with_write_handle (shown list d things).tables x name f) (handle_tests nodes numbers things d x number f h i ∙ by.none) refl refl (omega arith) in
     let Kept : Domain C → ℕ → ℕ → Type 0 = λ e j q. IsNamed nodes (numbers ++ m.thing ∷ []) (things ++ from x name (kind.WriteHandle j q) ∷ []) e in
     let more : IsMore nodes d (after_entry_mut d of f) (record { holder = of.holder; name = d.last_thing + 1; board = of.board; kind = kind.WriteHandle (place_of f) (port_of of.kind) }) (from x name (kind.WriteHandle (place_of f) (port_of x.kind))) =
-      record { things = refl; last = refl; number = refl; holder = i.holder; board = i.board; kind = ap (λ k. kind.WriteHandle (place_of f) (port_of k)) i.kind; node = record { some = i.node.some; most = i.node.most }; keys = h.keys } in
-    let kept : Kept (after_entry_mut d of f) (place_of f) (port_of x.kind) = named_more nodes numbers things d (after_entry_mut d of f) _ _ m.thing h more thing in
-    (subst (λ e. Told e m.entry port m.place) (sym ok') (subst (λ n. Told (after_entry_mut d of f) m.entry port n) place (subst (λ q. Told (after_entry_mut d of f) m.entry q (id_of f)) (sym p) (subst (λ j. Told (after_entry_mut d of f) j (port_of x.kind) (id_of f)) entry told))),
-     subst (λ e. Kept e m.entry port) (sym ok') (subst (λ q. Kept (after_entry_mut d of f) m.entry q) (sym p) (subst (λ j. Kept (after_entry_mut d of f) j (port_of x.kind)) entry kept)))
+    record { things = refl; last = refl; number = refl; holder = i.holder; board = i.board; kind = ap (λ k. kind.WriteHandle (place_of f) (port_of k)) i.kind; node = record { some = i.node.some; most = i.node.most }; keys = h.keys } in
+    let kept : Kept (after_entry_mut d of f) (place_of f) (port_of x.kind) = named_more nodes numbers things d (after_entry_mut d of f) _ _ m.thing h more thing in (
+      subst (λ e. Told e m.entry port m.place) (sym ok') (subst (λ n. Told (after_entry_mut d of f) m.entry port n) place (subst (λ q. Told (after_entry_mut d of f) m.entry q (id_of f)) (sym p) (subst (λ j. Told (after_entry_mut d of f) j (port_of x.kind) (id_of f)) entry told))),
+      subst (λ e. Kept e m.entry port) (sym ok') (subst (λ q. Kept (after_entry_mut d of f) m.entry q) (sym p) (subst (λ j. Kept (after_entry_mut d of f) j (port_of x.kind)) entry kept)),
+    )
 
 pub entry_mut_not_made : {C : Type 0} (list : C → List ℕ) (nodes : List (List ℕ)) (numbers : List ℕ) (things : List Held) (d after : Domain C) (x : Held) (number : ℕ) (name : List ℕ) (is_key : List ℕ → Bool) (value : TypeDetail) (why : EntryHandleMutError)
     → IsNamed nodes numbers things d → IsThing nodes d x number → d.last_thing < 2 ^ 63 → why ≢ entry_mut_error.OutOfMemory

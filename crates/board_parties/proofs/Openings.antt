@@ -1,6 +1,6 @@
 -- Factories, of new boards and of boards that stand.
-use Rattle.std.proofs.Common.{◌≡◌, ◌≢◌, ℕ, ◌+◌, ◌-◌, ◌^◌, ◌<◌, ◌≤◌, Bool, true, false, not, ◌&&◌, ◌||◌, if◌then◌else◌, List, [], ◌∷◌, ◌++◌, length, map, arith, refl, sym, ap, ◌∙◌, subst, Option, Some, None}
-use Rattle.std.specs.Prelude.{Result, Ok, Err, nat_eq, nat_le}
+use Rattle.std.proofs.Common.{◌≡◌, ◌≢◌, ℕ, ◌+◌, ◌-◌, ◌^◌, ◌<◌, false, not, ◌&&◌, ◌||◌, List, [], ◌∷◌, ◌++◌, length, map, arith, refl, sym, ap, ◌∙◌, subst, Option, Some, None}
+use Rattle.std.specs.Prelude.{nat_eq, nat_le}
 use Rattle.std.specs.List.{AllByRecursion}
 use Rattle.std.specs.Str.{bytes_eq}
 use Rattle.std.proofs.lemmas.List.{map-append}
@@ -30,7 +30,7 @@ use Rattle.board_model.specs.TableCalls.{asked, asks_above, create_refusals, cre
 use Rattle.board_model.specs.Things.{Held}
 use Rattle.board_model.specs.TypeTable.{key_detail, same_key, same_type, value_words}
 use Rattle.board_parties.specs.Named.{AreParties, HasShortKey, HasShortKeys, IsNamed, IsOfNode, IsShortKey, node_number, nodes_with, party_at}
-use Rattle.board_parties.specs.Parties.{IsAsked, IsCreate, Parties, words_with}
+use Rattle.board_parties.specs.Parties.{IsAsked, IsCreate, words_with}
 use Rattle.board_parties.proofs.Asked.{answered_made, answered_refused, err_of, ok_of, told_made, told_refused}
 use Rattle.board_parties.proofs.Counts.{AreSame, node-same, nodes-same}
 use Rattle.board_parties.proofs.Growth.{IsMore, IsNode, all_more, named_more, named_with, node_of}
@@ -45,6 +45,7 @@ factory_of party name board = record { holder = party; name = name; board = boar
 
 -- ---- boards that stand
 
+-- a party may be a node where its number may
 all_nodes_same : (nodes : List (List ℕ)) (party : List ℕ) (number : ℕ) (ts : List (Thing ℕ ℕ)) (xs : List Held) (b : Board) → AreParties nodes → IsNode party nodes number
     → AllByRecursion (IsOfNode (length nodes)) ts → AreSame (party_at nodes) ts xs → has_all_nodes bytes_eq party xs b ≡ has_all_nodes nat_eq number ts b
 all_nodes_same nodes party number ts xs b h n all e =
@@ -58,13 +59,13 @@ open_refused : (nodes : List (List ℕ)) (party : List ℕ) (number : ℕ) (ts :
 open_refused nodes party number ts xs None key limits needs h n all e = refl
 open_refused nodes party number ts xs (Some b) key limits needs h n all e =
     ap (λ x. first_of (
-      (false, open_error.DoesNotExist)
-      ∷ (not (same_type b.key key), open_error.IncompatibleKeys)
-      ∷ (not (meets needs b.attributes), open_error.IncompatibleAttributes)
-      ∷ (asks_above limits.max_readers b.max_readers, open_error.DoesNotSupportRequestedAmountOfReaders)
-      ∷ (asks_above limits.max_nodes b.max_nodes, open_error.DoesNotSupportRequestedAmountOfNodes)
-      ∷ (x, open_error.ExceedsMaxNumberOfNodes)
-      ∷ [])) (all_nodes_same nodes party number ts xs b h n all e)
+    (false, open_error.DoesNotExist)
+    ∷ (not (same_type b.key key), open_error.IncompatibleKeys)
+    ∷ (not (meets needs b.attributes), open_error.IncompatibleAttributes)
+    ∷ (asks_above limits.max_readers b.max_readers, open_error.DoesNotSupportRequestedAmountOfReaders)
+    ∷ (asks_above limits.max_nodes b.max_nodes, open_error.DoesNotSupportRequestedAmountOfNodes)
+    ∷ (x, open_error.ExceedsMaxNumberOfNodes)
+    ∷ [])) (all_nodes_same nodes party number ts xs b h n all e)
 
 -- what the party asks, and what the core is asked
 pub record IsOpened (party name : List ℕ) (needs : Requirements) (nodes : List (List ℕ)) (node : ℕ) (title : List ℕ) (wanted : Requirements) : Type 0 where
@@ -82,7 +83,7 @@ pub open_made : {C : Type 0} (list : C → List ℕ) (nodes : List (List ℕ)) (
     → IsNamed nodes numbers things d → IsOpened party name needs nodes node title wanted
     → Answers (ok_of m) open_error.OutOfMemory (open_answer d node title key limits wanted) → after ≡ after_open d node title
     → IsAsked (shown list d things) (shown list after (things ++ factory_of party factory m.number ∷ [])) (λ e. reply.OpenError e) (open_asked bytes_eq (shown list d things).tables party factory name key limits needs) (reply.Number m.number)
-      × IsNamed (nodes_with party nodes) (numbers ++ m.thing ∷ []) (things ++ factory_of party factory m.number ∷ []) after
+    × IsNamed (nodes_with party nodes) (numbers ++ m.thing ∷ []) (things ++ factory_of party factory m.number ∷ []) after
 open_made {C} list nodes numbers things d after party factory name key limits needs node title wanted m h o a ok =
     let n = node_number party nodes in
     let all = nodes_with party nodes in
@@ -95,11 +96,11 @@ open_made {C} list nodes numbers things d after party factory name key limits ne
     let Told : Domain C → Made → Type 0 = λ e k. IsAsked (shown list d things) (shown list e (things ++ factory_of party factory k.number ∷ [])) (λ e. reply.OpenError e) (open_asked bytes_eq (shown list d things).tables party factory name key limits needs) (reply.Number k.number) in
     let Kept : Domain C → Made → Type 0 = λ e k. IsNamed all (numbers ++ k.thing ∷ []) (things ++ factory_of party factory k.number ∷ []) e in
     let told : Told (after_open d n name) (made d (number_of board)) =
-      told_made (shown list d things) (shown list (after_open d n name) (things ++ factory_of party factory (number_of board) ∷ [])) (λ e. reply.OpenError e)
-      (first_of (open_refusals bytes_eq things party board key limits needs)) (number_of board) (joined (shown list d things).tables party factory board)
-      (open_refused all party n d.tables.things things board key limits needs h'.parties is h'.holders h'.same ∙ by.none) refl refl (omega arith) in
+    told_made (shown list d things) (shown list (after_open d n name) (things ++ factory_of party factory (number_of board) ∷ [])) (λ e. reply.OpenError e)
+    (first_of (open_refusals bytes_eq things party board key limits needs)) (number_of board) (joined (shown list d things).tables party factory board)
+    (open_refused all party n d.tables.things things board key limits needs h'.parties is h'.holders h'.same ∙ by.none) refl refl (omega arith) in
     let more : IsMore all d (after_open d n name) (record { holder = n; name = d.last_thing + 1; board = number_of board; kind = kind.Factory }) (factory_of party factory (number_of board)) =
-      record { things = refl; last = refl; number = refl; holder = is.is; board = refl; kind = refl; node = record { some = is.some; most = is.most }; keys = h.keys } in
+    record { things = refl; last = refl; number = refl; holder = is.is; board = refl; kind = refl; node = record { some = is.some; most = is.most }; keys = h.keys } in
     let kept : Kept (after_open d n name) (made d (number_of board)) = named_more all numbers things d (after_open d n name) _ _ (d.last_thing + 1) h' more refl in
     (subst (λ e. Told e m) (sym ok') (subst (λ k. Told (after_open d n name) k) (sym by.same) told), subst (λ e. Kept e m) (sym ok') (subst (λ k. Kept (after_open d n name) k) (sym by.same) kept))
 
@@ -121,6 +122,7 @@ open_not_made {C} list nodes numbers things d after party factory name key limit
 
 -- ---- new boards
 
+-- the keys of the entries of a new board
 short_entries : (cells : List CellPlace) (es : List Added) → AllByRecursion HasShortKey es → AllByRecursion (λ (e : Entry). IsShortKey e.key.bytes) (entries_of cells es)
 short_entries [] es h = tt
 short_entries (c ∷ cells) [] h = tt
@@ -170,7 +172,7 @@ pub create_made : {C : Type 0} (words : C → Option (List ℕ)) (list : C → L
     → ((x : C) → words x ≡ Some (list x)) → IsNamed nodes numbers things d → IsCreated party name attributes (map added_of entries) nodes node title given added → AllByRecursion HasShortKey added
     → Answers (ok_of m) create_error.OutOfMemory (create_answer d (same_key k) title added) → IsOpening (words cells) added → after ≡ after_create d node title (key_detail k) limits given added cells
     → IsCreate (shown list d things) (shown list after (things ++ factory_of party factory m.number ∷ [])) party factory name k limits attributes entries (reply.Number m.number)
-      × IsNamed (nodes_with party nodes) (numbers ++ m.thing ∷ []) (things ++ factory_of party factory m.number ∷ []) after
+    × IsNamed (nodes_with party nodes) (numbers ++ m.thing ∷ []) (things ++ factory_of party factory m.number ∷ []) after
 create_made {C} words list nodes numbers things d after party factory name k limits attributes entries node title given added m cells law h o short a opens ok =
     let n = node_number party nodes in
     let es = map added_of entries in
@@ -194,13 +196,20 @@ create_made {C} words list nodes numbers things d after party factory name k lim
       drawn = omega arith;
     } in
     let more : IsMore all d end (record { holder = n; name = d.last_thing + 1; board = d.tables.last_board + 1; kind = kind.Factory }) (factory_of party factory (d.tables.last_board + 1)) =
-      record {
-        things = refl; last = refl; number = refl; holder = is.is; board = refl; kind = refl; node = record { some = is.some; most = is.most };
-        keys = all_more HasShortKeys (new_board (d.tables.last_board + 1) name (key_detail k) limits attributes es) d.tables.boards h.keys (short_entries (places_from 0 (shapes_of es)) es short');
-      } in
+    record {
+      things = refl;
+      last = refl;
+      number = refl;
+      holder = is.is;
+      board = refl;
+      kind = refl;
+      node = record { some = is.some; most = is.most };
+      keys = all_more HasShortKeys (new_board (d.tables.last_board + 1) name (key_detail k) limits attributes es) d.tables.boards h.keys (short_entries (places_from 0 (shapes_of es)) es short');
+    } in
     let kept : Kept end (made d (d.tables.last_board + 1)) = named_more all numbers things d end _ _ (d.last_thing + 1) h' more refl in
     (subst (λ e. Told e m) (sym ok') (subst (λ j. Told end j) (sym by.same) told), subst (λ e. Kept e m) (sym ok') (subst (λ j. Kept end j) (sym by.same) kept))
 
+-- a refusal adds no words
 no_words : (words : List (List ℕ)) (entries : List AddedEntry) (why : BlackboardCreateError) → words ≡ words_with words entries (reply.CreateError why)
 no_words words entries why = refl
 

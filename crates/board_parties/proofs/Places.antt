@@ -1,5 +1,5 @@
 -- A thing under its party and name, and under its number.
-use Rattle.std.proofs.Common.{◌≡◌, ◌≢◌, ◌==◌, ℕ, ◌+◌, zero, suc, Bool, true, false, cond, List, [], ◌∷◌, length, map, arith, refl, sym, ap, ◌∙◌, subst, eq-eqb, Option, Some, None, ◌⊎◌, inl, inr}
+use Rattle.std.proofs.Common.{◌≡◌, ◌≢◌, ◌==◌, ℕ, ◌+◌, zero, suc, Bool, true, false, cond, List, [], ◌∷◌, length, map, arith, refl, sym, ap, subst, eq-eqb, Option, Some, ◌⊎◌, inl, inr}
 use Rattle.std.specs.Prelude.{find, slice_get, IsSome}
 use Rattle.std.specs.List.{AllByRecursion, position_from}
 use Rattle.board_model.specs.declared.tables.Thing.{Thing}
@@ -12,6 +12,7 @@ use Rattle.board_parties.proofs.Counts.{AreSame}
 use Rattle.board_service.specs.Domain.{Domain, held, is_thing, thing_or_none}
 use Rattle.std.proofs.lemmas.Bool.{ne_eqb}
 
+-- which of the two it was
 pub chosen : {A : Type 0} (b : Bool) (x y z : A) → cond b x y ≡ z → ((b ≡ true) × (x ≡ z)) ⊎ ((b ≡ false) × (y ≡ z))
 chosen true x y z e = inl (refl, e)
 chosen false x y z e = inr (refl, e)

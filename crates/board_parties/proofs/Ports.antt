@@ -1,8 +1,7 @@
 -- Readers and writers.
-use Rattle.std.proofs.Common.{◌≡◌, ◌≢◌, ℕ, ◌+◌, ◌^◌, ◌<◌, ◌≤◌, Bool, true, false, ◌||◌, if◌then◌else◌, List, [], ◌∷◌, ◌++◌, map, arith, refl, sym, ap, ◌∙◌, subst, Option, Some, None}
-use Rattle.std.specs.Prelude.{Result, Ok, Err, nat_le}
+use Rattle.std.proofs.Common.{◌≡◌, ◌≢◌, ℕ, ◌+◌, ◌^◌, ◌<◌, false, ◌||◌, if◌then◌else◌, List, [], ◌∷◌, ◌++◌, map, arith, refl, sym, ap, ◌∙◌, subst, Option, Some, None}
+use Rattle.std.specs.Prelude.{nat_le}
 use Rattle.board_layout.specs.Answer.{Answers}
-use Rattle.board_model.specs.declared.answer.Reply.{Reply}
 use Rattle.board_model.specs.declared.answer.Reply.TheVariants as reply
 use Rattle.board_model.specs.declared.errors.ReaderCreateError.{ReaderCreateError}
 use Rattle.board_model.specs.declared.errors.ReaderCreateError.TheVariants as reader_error
@@ -12,7 +11,7 @@ use Rattle.board_model.specs.declared.tables.Board.{Board}
 use Rattle.board_model.specs.declared.tables.Kind.{Kind}
 use Rattle.board_model.specs.declared.tables.Kind.TheVariants as kind
 use Rattle.board_model.specs.declared.tables.Thing.{Thing}
-use Rattle.board_model.specs.Tables.{Tables, board_at, is_numbered}
+use Rattle.board_model.specs.Tables.{board_at}
 use Rattle.board_model.specs.TableCalls.{first_of, reader_refusals, with_reader, with_writer, writer_refusals}
 use Rattle.board_model.specs.Things.{Held}
 use Rattle.board_parties.specs.Named.{IsNamed, party_at}
@@ -36,6 +35,7 @@ shown list d things = record {
 abbrev pub from : Held → List ℕ → Kind → Held
 from of name k = record { holder = of.holder; name = name; board = of.board; kind = k }
 
+-- numbers are left to draw
 pub few_left : (a b : ℕ) → a < 2 ^ 63 → b < 2 ^ 63 → (spent a || spent b) ≡ false
 few_left a b p q = grind (arith, p, q)
 
@@ -57,18 +57,18 @@ reader_tests nodes numbers things d x number h i =
 pub reader_made : {C : Type 0} (list : C → List ℕ) (nodes : List (List ℕ)) (numbers : List ℕ) (things : List Held) (d after : Domain C) (x : Held) (number : ℕ) (name : List ℕ) (m : Made)
     → IsNamed nodes numbers things d → IsThing nodes d x number → Answers (ok_of m) reader_error.OutOfMemory (reader_answer d (held d number)) → after ≡ after_reader d (held d number)
     → IsReader (shown list d things) (shown list after (things ++ from x name (kind.Reader m.number) ∷ [])) name x (reply.Number m.number)
-      × IsNamed nodes (numbers ++ m.thing ∷ []) (things ++ from x name (kind.Reader m.number) ∷ []) after
+    × IsNamed nodes (numbers ++ m.thing ∷ []) (things ++ from x name (kind.Reader m.number) ∷ []) after
 reader_made {C} list nodes numbers things d after x number name m h i a ok =
     let of = held d number in
     let by = answered_made (reader_refusals d.tables.things (board_at d.tables of.board)) (spent d.tables.last_port || spent d.last_thing, reader_error.NumbersSpent) reader_error.OutOfMemory m (made d (d.tables.last_port + 1)) a in
     let Told : Domain C → Made → Type 0 = λ e k. IsReader (shown list d things) (shown list e (things ++ from x name (kind.Reader k.number) ∷ [])) name x (reply.Number k.number) in
     let Kept : Domain C → Made → Type 0 = λ e k. IsNamed nodes (numbers ++ k.thing ∷ []) (things ++ from x name (kind.Reader k.number) ∷ []) e in
     let told : Told (after_reader d of) (made d (d.tables.last_port + 1)) =
-      told_made (shown list d things) (shown list (after_reader d of) (things ++ from x name (kind.Reader (d.tables.last_port + 1)) ∷ [])) (λ e. reply.ReaderError e)
-      (first_of (reader_refusals things (board_at d.tables x.board))) (d.tables.last_port + 1) (with_reader (shown list d things).tables x name)
-      (reader_tests nodes numbers things d x number h i ∙ by.none) refl refl (omega arith) in
+    told_made (shown list d things) (shown list (after_reader d of) (things ++ from x name (kind.Reader (d.tables.last_port + 1)) ∷ [])) (λ e. reply.ReaderError e)
+    (first_of (reader_refusals things (board_at d.tables x.board))) (d.tables.last_port + 1) (with_reader (shown list d things).tables x name)
+    (reader_tests nodes numbers things d x number h i ∙ by.none) refl refl (omega arith) in
     let more : IsMore nodes d (after_reader d of) (record { holder = of.holder; name = d.last_thing + 1; board = of.board; kind = kind.Reader (d.tables.last_port + 1) }) (from x name (kind.Reader (d.tables.last_port + 1))) =
-      record { things = refl; last = refl; number = refl; holder = i.holder; board = i.board; kind = refl; node = record { some = i.node.some; most = i.node.most }; keys = h.keys } in
+    record { things = refl; last = refl; number = refl; holder = i.holder; board = i.board; kind = refl; node = record { some = i.node.some; most = i.node.most }; keys = h.keys } in
     let kept : Kept (after_reader d of) (made d (d.tables.last_port + 1)) = named_more nodes numbers things d (after_reader d of) _ _ (d.last_thing + 1) h more refl in
     (subst (λ e. Told e m) (sym ok) (subst (λ k. Told (after_reader d of) k) (sym by.same) told), subst (λ e. Kept e m) (sym ok) (subst (λ k. Kept (after_reader d of) k) (sym by.same) kept))
 
@@ -94,18 +94,18 @@ writer_tests nodes numbers things d x number h i =
 pub writer_made : {C : Type 0} (list : C → List ℕ) (nodes : List (List ℕ)) (numbers : List ℕ) (things : List Held) (d after : Domain C) (x : Held) (number : ℕ) (name : List ℕ) (m : Made)
     → IsNamed nodes numbers things d → IsThing nodes d x number → Answers (ok_of m) writer_error.OutOfMemory (writer_answer d (held d number)) → after ≡ after_writer d (held d number)
     → IsWriter (shown list d things) (shown list after (things ++ from x name (kind.Writer m.number) ∷ [])) name x (reply.Number m.number)
-      × IsNamed nodes (numbers ++ m.thing ∷ []) (things ++ from x name (kind.Writer m.number) ∷ []) after
+    × IsNamed nodes (numbers ++ m.thing ∷ []) (things ++ from x name (kind.Writer m.number) ∷ []) after
 writer_made {C} list nodes numbers things d after x number name m h i a ok =
     let of = held d number in
     let by = answered_made (writer_refusals d.tables.things of.board) (spent d.tables.last_port || spent d.last_thing, writer_error.NumbersSpent) writer_error.OutOfMemory m (made d (d.tables.last_port + 1)) a in
     let Told : Domain C → Made → Type 0 = λ e k. IsWriter (shown list d things) (shown list e (things ++ from x name (kind.Writer k.number) ∷ [])) name x (reply.Number k.number) in
     let Kept : Domain C → Made → Type 0 = λ e k. IsNamed nodes (numbers ++ k.thing ∷ []) (things ++ from x name (kind.Writer k.number) ∷ []) e in
     let told : Told (after_writer d of) (made d (d.tables.last_port + 1)) =
-      told_made (shown list d things) (shown list (after_writer d of) (things ++ from x name (kind.Writer (d.tables.last_port + 1)) ∷ [])) (λ e. reply.WriterError e)
-      (first_of (writer_refusals things x.board)) (d.tables.last_port + 1) (with_writer (shown list d things).tables x name)
-      (writer_tests nodes numbers things d x number h i ∙ by.none) refl refl (omega arith) in
+    told_made (shown list d things) (shown list (after_writer d of) (things ++ from x name (kind.Writer (d.tables.last_port + 1)) ∷ [])) (λ e. reply.WriterError e)
+    (first_of (writer_refusals things x.board)) (d.tables.last_port + 1) (with_writer (shown list d things).tables x name)
+    (writer_tests nodes numbers things d x number h i ∙ by.none) refl refl (omega arith) in
     let more : IsMore nodes d (after_writer d of) (record { holder = of.holder; name = d.last_thing + 1; board = of.board; kind = kind.Writer (d.tables.last_port + 1) }) (from x name (kind.Writer (d.tables.last_port + 1))) =
-      record { things = refl; last = refl; number = refl; holder = i.holder; board = i.board; kind = refl; node = record { some = i.node.some; most = i.node.most }; keys = h.keys } in
+    record { things = refl; last = refl; number = refl; holder = i.holder; board = i.board; kind = refl; node = record { some = i.node.some; most = i.node.most }; keys = h.keys } in
     let kept : Kept (after_writer d of) (made d (d.tables.last_port + 1)) = named_more nodes numbers things d (after_writer d of) _ _ (d.last_thing + 1) h more refl in
     (subst (λ e. Told e m) (sym ok) (subst (λ k. Told (after_writer d of) k) (sym by.same) told), subst (λ e. Kept e m) (sym ok) (subst (λ k. Kept (after_writer d of) k) (sym by.same) kept))
 

@@ -1,4 +1,4 @@
-use Rattle.std.proofs.Common.{◌≡◌, ◌<◌, List, refl, length, Option, Some, None, arith, sym, ap, ◌∙◌, subst}
+use Rattle.std.proofs.Common.{◌≡◌, List, refl, length, Some, None, arith, sym, subst}
 use Rattle.std.specs.Prelude.{remove}
 use Rattle.std.specs.List.{position_from}
 use Rattle.std.proofs.lemmas.Option.{slice_get_read}
@@ -70,7 +70,7 @@ returns-in-Some g c =
     let n = slice_get_read s.numbers.items (length s.numbers.items) k c.remove-number.result refl (omega (arith, b, each_numbered s.nodes.items s.numbers.items s.things.items s.core c.self.invariant)) c.remove-number.ensures.value in
     let l = last_of s.nodes.items s.numbers.items s.things.items s.core p q k c.remove-number.result c.self.invariant e n in
     let left = carried (λ now xs. IsReleased now (shown g.C.Words.list c.release.new.self xs) p q) (shown g.C.Words.list s.core s.things.items) c.args.self.now (remove s.things.items k) c.remove.new.self.items c.self.view_is c.remove.ensures.items
-      (released_one g.C.Words.list s.nodes.items s.numbers.items s.things.items s.core c.release.new.self p q k c.remove-number.result c.self.invariant l c.release.ensures.after) in
+    (released_one g.C.Words.list s.nodes.items s.numbers.items s.things.items s.core c.release.new.self p q k c.remove-number.result c.self.invariant l c.release.ensures.after) in
     elim c.match-release.branch [
       | in-Some-1 w ↦ subst (λ now. IsReleased c.args.self.now now p q) (sym w.self-is) left
       | in-None-1 w ↦ subst (λ now. IsReleased c.args.self.now now p q) (sym w.self-is) left
