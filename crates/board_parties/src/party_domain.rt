@@ -11,7 +11,8 @@ ghost use Rattle.board_parties.specs.Parties.{HasWord, IsCreate, IsEntry, IsEntr
 use crate::adding::{attributes_for, entries_for, needs_for};
 use crate::lists::{keys_of, nodes_at};
 use crate::lookups::{
-    Held, entry_of, held_of_kind, join, name_text, node_for, number_of, place_of_thing, port_of, rename, thing_of,
+    Held, entry_of, held_of_kind, join, name_text, node_for, number_of, place_of_thing, port_of,
+    rename, thing_of,
 };
 use crate::replies::{
     create_refused, entry_mut_refused, entry_refused, open_refused, reader_refused, writer_refused,
@@ -20,8 +21,8 @@ use crate::typed_calls::{create_in, entry_in, entry_mut_in, open_in};
 use crate::values::{key_detail, key_type_of, same_type, type_of_key, value_detail};
 use board_cell::Words;
 use board_model::{
-    AddedEntries, Attributes, BoardName, Entry, Info, Key, KeyType, Keys, Kind, Limits, Name, Names,
-    Reply, Requirements, Thing, ThingKind, ValueType,
+    AddedEntries, Attributes, BoardName, Entry, Info, Key, KeyType, Keys, Kind, Limits, Name,
+    Names, Reply, Requirements, Thing, ThingKind, ValueType,
 };
 use board_names::ServiceName;
 use board_service::{BoardWords, DomainCore, NodeId, ThingId};
@@ -44,7 +45,7 @@ impl<C: BoardWords> Model for PartyDomain<C> {
     ghost use Rattle.std.specs.Prelude.{map};
     ghost use Rattle.board_parties.specs.Named.{IsNamed};
     ghost use Rattle.board_parties.specs.Overview.{keys_shown, standing_with};
-ghost use Rattle.board_parties.specs.Parties.{Parties};
+    ghost use Rattle.board_parties.specs.Parties.{Parties};
 
     ghost Value = { Parties };
 
