@@ -1,20 +1,19 @@
 -- A domain as the parties of a script see it, and what the calls on it do.
-use Rattle.std.specs.Prelude.{◌≡◌, ℕ, ◌+◌, ◌-◌, ◌<◌, ◌≤◌, ◌^◌, Bool, false, ◌==◌, List, [], ◌∷◌, ◌++◌, length, map, Option, Some, None, Result, slice_get, slice_index, slice_index_or, slice_set}
-use Rattle.std.specs.List.{AllByRecursion, position_from}
+use Rattle.std.specs.Prelude.{◌≡◌, ℕ, ◌+◌, ◌<◌, ◌≤◌, ◌^◌, List, [], ◌∷◌, ◌++◌, length, map, Option, Some, Result, slice_index, slice_index_or, slice_set}
+use Rattle.std.specs.List.{position_from}
 use Rattle.std.specs.Str.{bytes_eq}
 use Rattle.board_model.specs.declared.answer.Reply.{Reply}
 use Rattle.board_model.specs.declared.answer.Reply.TheVariants as reply
 use Rattle.board_model.specs.declared.attributes.Attribute.{Attribute}
 use Rattle.board_model.specs.declared.attributes.Requirements.{Requirements}
 use Rattle.board_model.specs.declared.tables.Board.{Board}
-use Rattle.board_model.specs.declared.tables.Entry.{Entry}
 use Rattle.board_model.specs.declared.tables.Limits.{Limits}
 use Rattle.board_model.specs.declared.value.AddedEntry.{AddedEntry}
 use Rattle.board_model.specs.declared.value.Key.{Key}
 use Rattle.board_model.specs.declared.value.KeyType.{KeyType}
 use Rattle.board_model.specs.declared.value.ValueType.{ValueType}
-use Rattle.board_model.specs.LawfulSession.{is_typed_key, no_tables}
-use Rattle.board_model.specs.Tables.{Tables, board_at, entry_at, entry_found, is_numbered}
+use Rattle.board_model.specs.LawfulSession.{no_tables}
+use Rattle.board_model.specs.Tables.{Tables, board_at, entry_found, is_numbered}
 use Rattle.board_model.specs.TableCalls.{create_asked, entry_asked, entry_mut_asked, open_asked, reader_asked, writer_asked}
 use Rattle.board_model.specs.Memory.{opening_of}
 use Rattle.board_model.specs.Things.{Held, thing_of}

@@ -1,6 +1,6 @@
 -- The step of a call on the tables is right, and the machine stands for what follows.
 use Rattle.std.proofs.Common.{◌≡◌, ℕ, ◌+◌, ◌^◌, ◌<◌, true, false, List, [], ◌∷◌, ◌++◌, length, get_or, map, arith, refl, sym, ap, subst, ◌∙◌, Option, Some, None}
-use Rattle.std.specs.Prelude.{find, nat_le, is_some, Result, slice_index}
+use Rattle.std.specs.Prelude.{nat_le, is_some, Result, slice_index}
 use Rattle.std.specs.Str.{bytes_eq}
 use Rattle.std.specs.List.{filter, position_from, remove}
 use Rattle.std.proofs.lemmas.Bool.{eq-eqb, le-leb}

@@ -1,5 +1,5 @@
 -- What the parts of a step do to a machine.
-use Rattle.std.specs.Prelude.{◌≡◌, ℕ, ◌+◌, ◌<◌, ◌≤◌, ◌^◌, ◌==◌, Bool, true, false, List, [], ◌∷◌, ◌++◌, length, Option, Some, None, IsSome, find, is_some, not, option_map, slice_index, slice_index_or, slice_set}
+use Rattle.std.specs.Prelude.{◌≡◌, ℕ, ◌+◌, ◌<◌, ◌≤◌, ◌==◌, Bool, true, false, List, [], ◌∷◌, ◌++◌, length, Option, Some, None, IsSome, is_some, not, option_map, slice_index, slice_index_or}
 use Rattle.std.specs.List.{filter, position_from}
 use Rattle.board_model.specs.declared.answer.Reply.{Reply}
 use Rattle.board_model.specs.declared.answer.Reply.TheVariants as reply
@@ -11,8 +11,8 @@ use Rattle.board_model.specs.declared.tables.ThingKind.TheVariants as thing_kind
 use Rattle.board_model.specs.LawfulSession.{is_typed_key}
 use Rattle.board_model.specs.LineGrammar.{AreAttributes, AreRequirements, is_board_name}
 use Rattle.board_model.specs.Tables.{board_at, entry_at, entry_of, is_numbered, kind_of}
-use Rattle.board_model.specs.Things.{Held, thing_of}
-use Rattle.board_model.specs.Replies.{id_number, info_of, nodes_of, released_thing}
+use Rattle.board_model.specs.Things.{Held}
+use Rattle.board_model.specs.Replies.{id_number, info_of, nodes_of}
 use Rattle.board_cell.specs.Calls.{Getting, Updating, counter_of}
 use Rattle.board_cell.specs.Calls as cells
 use Rattle.board_cell.specs.declared.access.Access.{Access}

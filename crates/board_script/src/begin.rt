@@ -14,8 +14,8 @@ use crate::loans::words_lent;
 use crate::lookups::{entry_of, place_of_party, value_of};
 use crate::machine::{Machine, PartyRow, TableTask, Task};
 use board_model::{
-    AddedEntries, AddedEntry, Answer, Attributes, BoardName, Call, Entry, Key, KeyType,
-    Kind, Limits, Name, Reason, Requirements, ThingKind, Value, ValueType,
+    AddedEntries, AddedEntry, Answer, Attributes, BoardName, Call, Entry, Key, KeyType, Kind,
+    Limits, Name, Reason, Requirements, ThingKind, Value, ValueType,
 };
 use board_parties::{
     Held, same_key_type, same_type, type_of, type_of_key, value_detail, value_type_of, value_words,
@@ -87,8 +87,7 @@ impl Machine {
     pub(crate) fn holds(&self, party: &Name, name: &Name) -> bool
         ensures { result ≡ holds self.now party.now name.now }
     {
-        self.domain.thing_of(party, name).is_some()
-            || value_of(party, name, &self.values).is_some()
+        self.domain.thing_of(party, name).is_some() || value_of(party, name, &self.values).is_some()
     }
 
     // The same, where there is a name.
@@ -115,7 +114,8 @@ impl Machine {
         if self.is_lent(party, name) {
             return None;
         }
-        self.domain.held_of_kind(ThingKind::WriteHandle, party, name)
+        self.domain
+            .held_of_kind(ThingKind::WriteHandle, party, name)
     }
 
     /// The entry of a handle that a party holds.
@@ -274,7 +274,10 @@ impl Machine {
         requires { IsLed self.now }
         ensures { IfOk result (Checks self.now party.now (call.Get handle.now name)) }
     {
-        let Some(found) = self.domain.held_of_kind(ThingKind::ReadHandle, party, handle) else {
+        let Some(found) = self
+            .domain
+            .held_of_kind(ThingKind::ReadHandle, party, handle)
+        else {
             return Ok(Checked::Refused(Reason::Unknown));
         };
         let entry = self.entry_held(&found);
@@ -295,7 +298,10 @@ impl Machine {
         requires { IsLed self.now }
         ensures { Checks self.now party.now (call.Fresh handle.now value.now) result }
     {
-        let Some(found) = self.domain.held_of_kind(ThingKind::ReadHandle, party, handle) else {
+        let Some(found) = self
+            .domain
+            .held_of_kind(ThingKind::ReadHandle, party, handle)
+        else {
             return Checked::Refused(Reason::Unknown);
         };
         let entry = self.entry_held(&found);

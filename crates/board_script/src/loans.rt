@@ -55,7 +55,8 @@ impl Machine {
         ensures { option_map (λ l. (l.0, l.1.now.items)) result ≡ loan_held self.now party.now name.now }
     {
         match (
-            self.domain.held_of_kind(ThingKind::WriteHandle, party, name),
+            self.domain
+                .held_of_kind(ThingKind::WriteHandle, party, name),
             words_lent(party, name, &self.loans),
         ) {
             (Some(found), Some(words)) => Some((found, words)),

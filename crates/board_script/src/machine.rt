@@ -1,8 +1,7 @@
 //! The machine: the domain, and the calls that run.
 use board_cell::{FreshCall, GetCall, PlainWords, PublishCall, PutCall, UpdateCall};
 use board_model::{
-    AddedEntries, Attributes, BoardName, Key, KeyType, Limits, Name, Requirements, ValueType,
-    Words,
+    AddedEntries, Attributes, BoardName, Key, KeyType, Limits, Name, Requirements, ValueType, Words,
 };
 use board_parties::{Held, PartyDomain};
 use std::alloc::Global;

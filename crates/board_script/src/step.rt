@@ -259,12 +259,8 @@ impl Machine {
                 self.give_back(&party, &loan, &handle);
                 Ok(Reply::Done)
             }
-            TableTask::Keys { factory } => {
-                Ok(Reply::Keys(self.domain.keys(factory.board)?))
-            }
-            TableTask::Nodes { factory } => {
-                Ok(Reply::Nodes(self.domain.nodes(factory.board)?))
-            }
+            TableTask::Keys { factory } => { Ok(Reply::Keys(self.domain.keys(factory.board)?)) }
+            TableTask::Nodes { factory } => { Ok(Reply::Nodes(self.domain.nodes(factory.board)?)) }
             TableTask::Info { factory } => Ok(Reply::Info(self.domain.info(factory.board))),
             TableTask::Id { thing } => Ok(Reply::Id(self.domain.id_of(&thing))),
             TableTask::Gen { handle } => Ok(Reply::Generation(self.counter(
