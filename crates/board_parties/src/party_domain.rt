@@ -1,5 +1,5 @@
 //! A domain whose nodes are the parties of a script.
-ghost use Rattle.std.specs.Prelude.{◌≡◌, true, Some, IfOk, IfNone, IfSome, IsSome, length, option_map, is_some};
+ghost use Rattle.std.specs.Prelude.{◌≡◌, true, Some, IfOk, OnErr, IfNone, IfSome, IsSome, length, option_map, is_some};
 ghost use Rattle.board_model.specs.LawfulSession.{is_typed_key};
 ghost use Rattle.board_model.specs.LineGrammar.{AreAttributes, AreRequirements, is_board_name};
 ghost use Rattle.board_model.specs.Replies as replies;
@@ -143,7 +143,10 @@ impl<C: BoardWords + Drop> PartyDomain<C> {
         }
     }
 
-    /// Makes a board with its words, and a factory of it for the party.
+    /// Makes a board with its words, and a factory of it for the party. What it is told is a number or an error of the call.
+    ///
+    /// # Errors
+    /// `AllocError` where memory is refused. All stays as it was.
     pub fn create(
         &mut self,
         party: Name,
@@ -157,7 +160,8 @@ impl<C: BoardWords + Drop> PartyDomain<C> {
         requires few { IsFew self.old }
         requires name { is_board_name name ≡ true }
         requires attributes { AreAttributes attributes.now }
-        ensures { IfOk result (IsCreate self.old self.new party factory name key_type limits attributes.now entries.now) }
+        ensures asked { IfOk result (IsCreate self.old self.new party factory name key_type limits attributes.now entries.now) }
+        ensures err { OnErr result (self.new ≡ self.old) }
     {
         let entries = entries_for(self.alloc, entries.as_slice())?;
         let attributes = attributes_for(self.alloc, attributes)?;
@@ -190,7 +194,10 @@ impl<C: BoardWords + Drop> PartyDomain<C> {
         }
     }
 
-    /// Makes a factory of a board that stands, for the party.
+    /// Makes a factory of a board that stands, for the party. What it is told is a number or an error of the call.
+    ///
+    /// # Errors
+    /// `AllocError` where memory is refused. All stays as it was.
     pub fn open(
         &mut self,
         party: Name,
@@ -203,7 +210,8 @@ impl<C: BoardWords + Drop> PartyDomain<C> {
         requires few { IsFew self.old }
         requires name { is_board_name name ≡ true }
         requires needs { AreRequirements needs.now }
-        ensures { IfOk result (IsOpen self.old self.new party factory name key_type limits needs.now) }
+        ensures asked { IfOk result (IsOpen self.old self.new party factory name key_type limits needs.now) }
+        ensures err { OnErr result (self.new ≡ self.old) }
     {
         let needs = needs_for(self.alloc, needs)?;
         self.nodes.reserve(1)?;
@@ -227,11 +235,15 @@ impl<C: BoardWords + Drop> PartyDomain<C> {
         }
     }
 
-    /// Makes a reader, at a factory.
+    /// Makes a reader, at a factory. What it is told is a number or an error of the call.
+    ///
+    /// # Errors
+    /// `AllocError` where memory is refused. All stays as it was.
     pub fn reader(&mut self, name: Name, factory: &Held) -> Result<Reply, AllocError>
         requires few { IsFew self.old }
         requires stands { Stands self.old factory.now }
-        ensures { IfOk result (IsReader self.old self.new name factory.now) }
+        ensures asked { IfOk result (IsReader self.old self.new name factory.now) }
+        ensures err { OnErr result (self.new ≡ self.old) }
     {
         self.things.reserve(1)?;
         self.numbers.reserve(1)?;
@@ -251,11 +263,15 @@ impl<C: BoardWords + Drop> PartyDomain<C> {
         }
     }
 
-    /// Makes a writer, at a factory.
+    /// Makes a writer, at a factory. What it is told is a number or an error of the call.
+    ///
+    /// # Errors
+    /// `AllocError` where memory is refused. All stays as it was.
     pub fn writer(&mut self, name: Name, factory: &Held) -> Result<Reply, AllocError>
         requires few { IsFew self.old }
         requires stands { Stands self.old factory.now }
-        ensures { IfOk result (IsWriter self.old self.new name factory.now) }
+        ensures asked { IfOk result (IsWriter self.old self.new name factory.now) }
+        ensures err { OnErr result (self.new ≡ self.old) }
     {
         self.things.reserve(1)?;
         self.numbers.reserve(1)?;
@@ -275,7 +291,10 @@ impl<C: BoardWords + Drop> PartyDomain<C> {
         }
     }
 
-    /// Makes a read handle, at a reader.
+    /// Makes a read handle, at a reader. What it is told is a number or an error of the call.
+    ///
+    /// # Errors
+    /// `AllocError` where memory is refused. All stays as it was.
     pub fn entry(
         &mut self,
         name: Name,
@@ -287,7 +306,8 @@ impl<C: BoardWords + Drop> PartyDomain<C> {
         requires stands { Stands self.old reader.now }
         requires kind { tables.kind_of reader.now.kind ≡ ThingKind.Reader }
         requires key { is_typed_key (tables.board_at self.old.tables reader.now.board) key.now ≡ true }
-        ensures { IfOk result (IsEntry self.old self.new name reader.now key.now value_type) }
+        ensures asked { IfOk result (IsEntry self.old self.new name reader.now key.now value_type) }
+        ensures err { OnErr result (self.new ≡ self.old) }
     {
         self.things.reserve(1)?;
         self.numbers.reserve(1)?;
@@ -307,7 +327,10 @@ impl<C: BoardWords + Drop> PartyDomain<C> {
         }
     }
 
-    /// Makes a write handle, at a writer.
+    /// Makes a write handle, at a writer. What it is told is a number or an error of the call.
+    ///
+    /// # Errors
+    /// `AllocError` where memory is refused. All stays as it was.
     pub fn entry_mut(
         &mut self,
         name: Name,
@@ -319,7 +342,8 @@ impl<C: BoardWords + Drop> PartyDomain<C> {
         requires stands { Stands self.old writer.now }
         requires kind { tables.kind_of writer.now.kind ≡ ThingKind.Writer }
         requires key { is_typed_key (tables.board_at self.old.tables writer.now.board) key.now ≡ true }
-        ensures { IfOk result (IsEntryMut self.old self.new name writer.now key.now value_type) }
+        ensures asked { IfOk result (IsEntryMut self.old self.new name writer.now key.now value_type) }
+        ensures err { OnErr result (self.new ≡ self.old) }
     {
         self.things.reserve(1)?;
         self.numbers.reserve(1)?;
@@ -368,6 +392,9 @@ impl<C: BoardWords + Drop> PartyDomain<C> {
     }
 
     /// The keys of a board, in the order of adding.
+    ///
+    /// # Errors
+    /// `AllocError` where memory is refused.
     pub fn keys(&self, board: u64) -> Result<Keys, AllocError>
         ensures { IfOk result (λ keys. keys ≡ keys_shown (tables.board_at self.now.tables board)) }
     {
@@ -380,6 +407,9 @@ impl<C: BoardWords + Drop> PartyDomain<C> {
     }
 
     /// The parties with a thing of the board, in the order of their bytes.
+    ///
+    /// # Errors
+    /// `AllocError` where memory is refused.
     pub fn nodes(&self, board: u64) -> Result<Names, AllocError>
         ensures { IfOk result (λ names. names ≡ replies.nodes_of board self.now.tables.things) }
     {

@@ -34,8 +34,8 @@ invariant_of-self-in-Ok g c =
     (c.push_reserved.ensures.items ∙ ap (λ (xs : List Held). xs ++ new ∷ []) c.reserve-2.ensures.items) both.1 in
     subst (λ ps. IsNamed ps c.push_reserved-in-Ok.new.self.items c.push_reserved.new.self.items c.create_in.new.core) (sym (c.join.ensures ∙ ap (λ ps. nodes_with c.args.party ps) c.reserve.ensures.items)) named
 
-pub returns-in-Ok : goal.returns-in-Ok
-returns-in-Ok g c =
+pub returns-in-Ok-clause-asked : goal.returns-in-Ok-clause-asked
+returns-in-Ok-clause-asked g c =
     let s = c.self.inside in
     let o : IsCreated c.args.party c.args.name c.args.attributes.now (map replies.added_of c.args.entries.now) s.nodes.items c.node_for.result c.from_text-name.result c.in_ok-attributes.attributes (map added_of c.in_ok-entries.entries.items) =
     record {
@@ -52,8 +52,8 @@ returns-in-Ok g c =
     (shown g.C.Words.list s.core s.things.items) c.args.self.now (s.things.items ++ new ∷ []) c.push_reserved.new.self.items
     c.self.view_is (c.push_reserved.ensures.items ∙ ap (λ (xs : List Held). xs ++ new ∷ []) c.reserve-2.ensures.items) both.0
 
-pub returns-in-Err : goal.returns-in-Err
-returns-in-Err g c =
+pub returns-in-Err-clause-asked : goal.returns-in-Err-clause-asked
+returns-in-Err-clause-asked g c =
     let s = c.self.inside in
     let o : IsCreated c.args.party c.args.name c.args.attributes.now (map replies.added_of c.args.entries.now) s.nodes.items c.node_for.result c.from_text-name.result c.in_ok-attributes.attributes (map added_of c.in_ok-entries.entries.items) =
     record {

@@ -27,8 +27,8 @@ invariant_of-self-in-Ok g c =
     (c.push_reserved.ensures.items ∙ ap (λ (xs : List Held). xs ++ new ∷ []) c.reserve-2.ensures.items) both.1 in
     subst (λ ps. IsNamed ps c.push_reserved-in-Ok.new.self.items c.push_reserved.new.self.items c.open_in.new.core) (sym (c.join.ensures ∙ ap (λ ps. nodes_with c.args.party ps) c.reserve.ensures.items)) named
 
-pub returns-in-Ok : goal.returns-in-Ok
-returns-in-Ok g c =
+pub returns-in-Ok-clause-asked : goal.returns-in-Ok-clause-asked
+returns-in-Ok-clause-asked g c =
     let s = c.self.inside in
     let o : IsOpened c.args.party c.args.name c.args.needs.now s.nodes.items c.node_for.result c.from_text-name.result c.in_ok-needs.needs =
     record { node_is = c.node_for.ensures ∙ ap (λ ns. node_number c.args.party ns) (c.deref.ensures.value ∙ c.reserve.ensures.items); title_is = c.from_text-name.ensures; wanted_is = c.in_ok-needs.ensures } in
@@ -39,8 +39,8 @@ returns-in-Ok g c =
     (shown g.C.Words.list s.core s.things.items) c.args.self.now (s.things.items ++ new ∷ []) c.push_reserved.new.self.items
     c.self.view_is (c.push_reserved.ensures.items ∙ ap (λ (xs : List Held). xs ++ new ∷ []) c.reserve-2.ensures.items) both.0
 
-pub returns : goal.returns
-returns g c =
+pub returns-clause-asked : goal.returns-clause-asked
+returns-clause-asked g c =
     let s = c.self.inside in
     let o : IsOpened c.args.party c.args.name c.args.needs.now s.nodes.items c.node_for.result c.from_text-name.result c.in_ok-needs.needs =
     record { node_is = c.node_for.ensures ∙ ap (λ ns. node_number c.args.party ns) (c.deref.ensures.value ∙ c.reserve.ensures.items); title_is = c.from_text-name.ensures; wanted_is = c.in_ok-needs.ensures } in

@@ -30,8 +30,8 @@ invariant_of-self-in-Ok g c =
     (sym (c.push_reserved-in-Ok.ensures.items ∙ ap (λ ns. ns ++ c.in-Ok.made.thing ∷ []) c.reserve-2.ensures.items))
     (c.push_reserved.ensures.items ∙ ap (λ (xs : List Held). xs ++ new ∷ []) c.reserve.ensures.items) both.1
 
-pub returns-in-Ok : goal.returns-in-Ok
-returns-in-Ok g c =
+pub returns-in-Ok-clause-asked : goal.returns-in-Ok-clause-asked
+returns-in-Ok-clause-asked g c =
     let s = c.self.inside in
     let x = c.args.factory.now in
     let i = thing_of_call s.nodes.items s.numbers.items c.deref-2.result.now s.things.items c.deref.result.now s.core x c.number_of-number.result c.self.invariant (stands_in (shown g.C.Words.list s.core s.things.items) _ x c.self.view_is c.requires.stands)
@@ -41,8 +41,8 @@ returns-in-Ok g c =
     carried (λ now xs. IsReader now (shown g.C.Words.list c.reader.new.self xs) c.args.name x (reply.Number c.in-Ok.made.number)) (shown g.C.Words.list s.core s.things.items) c.args.self.now (s.things.items ++ new ∷ []) c.push_reserved.new.self.items
     c.self.view_is (c.push_reserved.ensures.items ∙ ap (λ (xs : List Held). xs ++ new ∷ []) c.reserve.ensures.items) both.0
 
-pub returns-in-Err : goal.returns-in-Err
-returns-in-Err g c =
+pub returns-in-Err-clause-asked : goal.returns-in-Err-clause-asked
+returns-in-Err-clause-asked g c =
     let s = c.self.inside in
     let x = c.args.factory.now in
     let i = thing_of_call s.nodes.items s.numbers.items c.deref-2.result.now s.things.items c.deref.result.now s.core x c.number_of-number.result c.self.invariant (stands_in (shown g.C.Words.list s.core s.things.items) _ x c.self.view_is c.requires.stands)
