@@ -58,6 +58,19 @@ impl<C: BoardWords> Model for PartyDomain<C> {
     ghost invariant = { λ d. IsNamed d.nodes.items d.numbers.items d.things.items d.core };
 }
 
+// All words, read one after another.
+fn words_in<C: Words>(alloc: Global, words: &mut C) -> Result<Vec<u64>, AllocError>
+    ensures all { IfOk result (λ ws. ws.items ≡ C.list words.old) }
+    ensures same { C.list words.new ≡ C.list words.old }
+{
+    let count = words.len();
+    let mut all = Vec::with_capacity(alloc, count as usize)?;
+    for i in 0..count {
+        all.push(words.load(i))?;
+    }
+    Ok(all)
+}
+
 impl<C: BoardWords + Drop> PartyDomain<C> {
     /// No boards, no things and no nodes. Takes no memory.
     pub fn new(alloc: Global) -> PartyDomain<C>
@@ -118,6 +131,20 @@ impl<C: BoardWords + Drop> PartyDomain<C> {
         ensures { option_map (λ c. C.list c.now) result ≡ board_words self.now board }
     {
         self.core.cells(board)
+    }
+
+    /// The words of a board, where it stands, read one after another.
+    ///
+    /// # Errors
+    /// `AllocError` where memory is refused.
+    pub fn copy_words(&mut self, board: u64) -> Result<Option<Vec<u64>>, AllocError>
+        ensures words { IfOk result (λ found. option_map (λ ws. ws.items) found ≡ board_words self.old board) }
+        ensures same { self.new ≡ self.old }
+    {
+        match self.core.cells_mut(board) {
+            Some(cells) => Ok(Some(words_in(self.alloc, cells)?)),
+            None => Ok(None),
+        }
     }
 
     /// Reads a word of a board.

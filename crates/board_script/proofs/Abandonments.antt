@@ -26,7 +26,7 @@ abandon_again s party e l = record {
   reply = λ _. tt;
 }
 
-module _ (m new : Machine) (s : State) (rep : Represents m s) (party : List ℕ) (l : IsLine (line.Abandon party))
+module _ {C : Type 0} (m new : Machine C) (s : State) (rep : Represents m s) (party : List ℕ) (l : IsLine (line.Abandon party))
     (tables : tables_of new ≡ tables_of m) (words : new.domain.words ≡ m.domain.words) (values : new.values.items ≡ m.values.items) (loans : new.loans.items ≡ m.loans.items) (spent : new.spent ≡ m.spent) where
   right : abandon_reason (s.parties party) ≡ None → IsRight s (line.Abandon party) answer.Gone
   right e = record {

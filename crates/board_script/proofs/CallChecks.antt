@@ -54,7 +54,7 @@ some_same x y e = cc
 
 -- ---- what a party holds
 
-pub taken_is : (m : Machine) (s : State) → Represents m s → (party : List ℕ) (name : Option (List ℕ)) → is_taken s.standing party name ≡ holds_any m party name
+pub taken_is : {C : Type 0} (m : Machine C) (s : State) → Represents m s → (party : List ℕ) (name : Option (List ℕ)) → is_taken s.standing party name ≡ holds_any m party name
 taken_is m s rep party None = refl
 taken_is m s rep party (Some name) =
     ap (λ t. is_some (thing_of t.things party name) || is_some (s.standing.values party name)) rep.tables
@@ -63,7 +63,7 @@ taken_is m s rep party (Some name) =
 -- ---- handles
 
 -- a read handle that is found is a handle
-pub read_handle : (m : Machine) (party name : List ℕ) (x : Held) → of_kind thing_kind.ReadHandle (thing_of m.domain.tables.things party name) ≡ Some x → IsHandle m x
+pub read_handle : {C : Type 0} (m : Machine C) (party name : List ℕ) (x : Held) → of_kind thing_kind.ReadHandle (thing_of m.domain.tables.things party name) ≡ Some x → IsHandle m x
 read_handle m party name x e = at (thing_of m.domain.tables.things party name) refl e
   where
     is : (k : Kind) → same_kind (kind_of k) thing_kind.ReadHandle ≡ true → is_handle k ≡ true
@@ -84,7 +84,7 @@ read_handle m party name x e = at (thing_of m.domain.tables.things party name) r
     at (Some t) f q = pick t (same_kind (kind_of t.kind) thing_kind.ReadHandle) refl f q
 
 -- and so is a write handle
-pub write_handle : (m : Machine) (party name : List ℕ) (x : Held) → of_kind thing_kind.WriteHandle (thing_of m.domain.tables.things party name) ≡ Some x → IsHandle m x
+pub write_handle : {C : Type 0} (m : Machine C) (party name : List ℕ) (x : Held) → of_kind thing_kind.WriteHandle (thing_of m.domain.tables.things party name) ≡ Some x → IsHandle m x
 write_handle m party name x e = at (thing_of m.domain.tables.things party name) refl e
   where
     is : (k : Kind) → same_kind (kind_of k) thing_kind.WriteHandle ≡ true → is_handle k ≡ true
@@ -105,13 +105,13 @@ write_handle m party name x e = at (thing_of m.domain.tables.things party name) 
     at (Some t) f q = pick t (same_kind (kind_of t.kind) thing_kind.WriteHandle) refl f q
 
 -- a write handle that isn't lent is the same in the state
-pub handle_is : (m : Machine) (s : State) → Represents m s → (party name : List ℕ) → handle_of s.standing party name ≡ handle_held m party name
+pub handle_is : {C : Type 0} (m : Machine C) (s : State) → Represents m s → (party name : List ℕ) → handle_of s.standing party name ≡ handle_held m party name
 handle_is m s rep party name =
     ap (λ (o : Option (List (Option ℕ))). cond (is_some o) None (of_kind thing_kind.WriteHandle (thing_of s.standing.tables.things party name))) (rep.loans party name)
     ∙ ap (λ t. cond (is_some (lent_words m.loans.items party name)) None (of_kind thing_kind.WriteHandle (thing_of t.things party name))) rep.tables
 
 -- and it is a handle
-pub unlent_handle : (m : Machine) (party name : List ℕ) (x : Held) → handle_held m party name ≡ Some x → IsHandle m x
+pub unlent_handle : {C : Type 0} (m : Machine C) (party name : List ℕ) (x : Held) → handle_held m party name ≡ Some x → IsHandle m x
 unlent_handle m party name x e = by (is_some (lent_words m.loans.items party name)) e
   where
     by : (b : Bool) → cond b None (of_kind thing_kind.WriteHandle (thing_of m.domain.tables.things party name)) ≡ some_thing x → IsHandle m x
@@ -119,7 +119,7 @@ unlent_handle m party name x e = by (is_some (lent_words m.loans.items party nam
     by false q = write_handle m party name x q
 
 -- the entry of a handle stands
-pub entry_stands : (m : Machine) (s : State) → Represents m s → Sound s → (x : Held) → IsHandle m x → is_some (entry_at (tables_of m) x.board (entry_of x.kind)) ≡ true
+pub entry_stands : {C : Type 0} (m : Machine C) (s : State) → Represents m s → Sound s → (x : Held) → IsHandle m x → is_some (entry_at (tables_of m) x.board (entry_of x.kind)) ≡ true
 entry_stands m s rep sound x h =
     let found : thing_of s.standing.tables.things h.party h.name ≡ Some x = ap (λ t. thing_of t.things h.party h.name) rep.tables ∙ h.found in
     ap (λ t. is_some (entry_at t x.board (entry_of x.kind))) (sym rep.tables)
@@ -149,7 +149,7 @@ same_count type.Q4 type.Q4 e = refl
 value_size : (v : Value) (e : Entry) → IsTyped e → same_type (value_detail (type_of v)) e.value ≡ true → length (value_words v) ≡ e.cell.words
 value_size v e h t = sized v ∙ same_count (type_of v) h.type (subst (λ (d : TypeDetail). same_type (value_detail (type_of v)) d ≡ true) h.detail t) ∙ sym h.words
 
-module _ (m : Machine) (s : State) (rep : Represents m s) (sound : Sound s) (n i : ℕ) (e : Entry) (found : entry_at (tables_of m) n i ≡ Some e) where
+module _ {C : Type 0} (m : Machine C) (s : State) (rep : Represents m s) (sound : Sound s) (n i : ℕ) (e : Entry) (found : entry_at (tables_of m) n i ≡ Some e) where
   in_state : entry_at s.standing.tables n i ≡ Some e
   in_state = ap (λ t. entry_at t n i) rep.tables ∙ found
 
@@ -273,7 +273,7 @@ some_request : (t : Task) (o : Option Request) → IsTaskFor t o → (q : Reques
 some_request t None h = absurd h
 some_request t (Some q) h = (q, refl, h)
 
-pub begin_begun : (m new : Machine) (s : State) (rep : Represents m s) (party : List ℕ) (c : Call) (t : Task) → s.parties party ≡ free
+pub begin_begun : {C : Type 0} (m new : Machine C) (s : State) (rep : Represents m s) (party : List ℕ) (c : Call) (t : Task) → s.parties party ≡ free
     → IsChecked (call_reason s.standing party c (request_of s.standing s.published party c)) (request_of s.standing s.published party c) (checked.Accepted t)
     → tables_of new ≡ tables_of m → new.domain.words ≡ m.domain.words → new.values.items ≡ m.values.items → new.loans.items ≡ m.loans.items → new.spent ≡ m.spent → new.parties.items ≡ m.parties.items ++ record { name = party; task = t } ∷ []
     → IsLine (line.Begin party c) → IsRight s (line.Begin party c) answer.Begun × Represents new (after s (line.Begin party c) answer.Begun)

@@ -27,7 +27,7 @@ use Rattle.board_script.proofs.Rows.{first_at, place_found, place_missing}
 
 -- ---- the words of a board
 
-module _ (m : Machine) (s : State) (rep : Represents m s) (n : ℕ) where
+module _ {C : Type 0} (m : Machine C) (s : State) (rep : Represents m s) (n : ℕ) where
   pub place_inside : (k : ℕ) → Some k ≡ position_from (is_numbered n) 0 m.domain.tables.boards → k < length m.domain.words
   place_inside k p =
       let l : length m.domain.words ≡ length m.domain.tables.boards = ap length rep.words ∙ length-map m.domain.tables.boards (λ (x : Board). s.memory x.number) in
@@ -74,7 +74,7 @@ pub on_ok : {T E : Type 0} {P Q : Type 0} → (P → Q) → (r : Result T E) →
 on_ok f (Ok x) h = f h
 on_ok f (Err e) h = tt
 
-pub listed : (m : Machine) (n : ℕ) (ws old new : List ℕ) → ((s : State) → Represents m s → is_some (board_at s.standing.tables n) ≡ true) → ((s : State) → Represents m s → ws ≡ s.memory n)
+pub listed : {C : Type 0} (m : Machine C) (n : ℕ) (ws old new : List ℕ) → ((s : State) → Represents m s → is_some (board_at s.standing.tables n) ≡ true) → ((s : State) → Represents m s → ws ≡ s.memory n)
     → AllByRecursion IsNumber ws → IsLine (line.Words n) → old ≡ [] → new ≡ old ++ answer_line (answer.Words ws) → Tells m m (line.Words n) new
 listed m n ws old new stands words small l e f = λ s rep reached. record {
   answer = answer.Words ws;
@@ -90,7 +90,7 @@ listed m n ws old new stands words small l e f = λ s rep reached. record {
   told = from_nothing old new (answer_line (answer.Words ws)) e f;
 }
 
-pub not_listed : (m : Machine) (n : ℕ) (old new : List ℕ) → ((s : State) → Represents m s → is_some (board_at s.standing.tables n) ≡ false)
+pub not_listed : {C : Type 0} (m : Machine C) (n : ℕ) (old new : List ℕ) → ((s : State) → Represents m s → is_some (board_at s.standing.tables n) ≡ false)
     → IsLine (line.Words n) → old ≡ [] → new ≡ old ++ answer_line (answer.Refused reason.NoBoard) → Tells m m (line.Words n) new
 not_listed m n old new missing l e f = λ s rep reached. record {
   answer = answer.Refused reason.NoBoard;
@@ -119,7 +119,7 @@ reached_by session h lt = record {
 }
 
 -- a machine that stands for a lawful session is led
-pub led : (m : Machine) (session : Session) → StandsFor StandsAfter m session → IsLed m
+pub led : {C : Type 0} (m : Machine C) (session : Session) → StandsFor StandsAfter m session → IsLed m
 led m session h = record {
   state = state_after start session;
   represents = h.state.represents;
@@ -128,7 +128,7 @@ led m session h = record {
 }
 
 -- so a right answer adds a pair to the session
-pub has_answered : (old new : Machine) (session : Session) (bytes text : List ℕ) (l : Line) → StandsFor StandsAfter old session → Spells bytes l → Tells old new l text → new.domain.drawn ≤ old.domain.drawn + 1 → HasAnswered StandsAfter new session bytes text
+pub has_answered : {C : Type 0} (old new : Machine C) (session : Session) (bytes text : List ℕ) (l : Line) → StandsFor StandsAfter old session → Spells bytes l → Tells old new l text → new.domain.drawn ≤ old.domain.drawn + 1 → HasAnswered StandsAfter new session bytes text
 has_answered old new session bytes text l h spelled tells drawn =
     let t = tells (state_after start session) h.state.represents (reached_by session h.lawful h.few) in
     record {

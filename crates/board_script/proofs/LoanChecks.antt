@@ -36,7 +36,7 @@ abbrev a_loan : Held → List (Option ℕ) → Option (Held × List (Option ℕ)
 a_loan x words = Some (x, words)
 
 -- the thing of a loan is a write handle
-pub loan_handle : (m : Machine) (party loan : List ℕ) (x : Held) (words : List (Option ℕ)) → loan_held m party loan ≡ Some (x, words) → IsHandle m x
+pub loan_handle : {C : Type 0} (m : Machine C) (party loan : List ℕ) (x : Held) (words : List (Option ℕ)) → loan_held m party loan ≡ Some (x, words) → IsHandle m x
 loan_handle m party loan x words e =
     write_handle m party loan x (thing (of_kind thing_kind.WriteHandle (thing_of m.domain.tables.things party loan)) (lent_words m.loans.items party loan) e)
   where
@@ -57,7 +57,7 @@ thing_found k (Some t) x e = at (same_kind (kind_of t.kind) k) e
     at false e = absurd cc
 
 -- a loan has a thing, and words
-loan_parts : (m : Machine) (party loan : List ℕ) (x : Held) (words : List (Option ℕ)) → loan_held m party loan ≡ Some (x, words)
+loan_parts : {C : Type 0} (m : Machine C) (party loan : List ℕ) (x : Held) (words : List (Option ℕ)) → loan_held m party loan ≡ Some (x, words)
     → (thing_of m.domain.tables.things party loan ≡ Some x) × (lent_words m.loans.items party loan ≡ Some words)
 loan_parts m party loan x words e = parts (of_kind thing_kind.WriteHandle (thing_of m.domain.tables.things party loan)) refl (lent_words m.loans.items party loan) e
   where
@@ -69,7 +69,7 @@ loan_parts m party loan x words e = parts (of_kind thing_kind.WriteHandle (thing
         let p : (t, ws) ≡ (x, words) = cc in
         (thing_found thing_kind.WriteHandle (thing_of m.domain.tables.things party loan) x (f ∙ ap (λ (q : Held × List (Option ℕ)). Some q.0) p), ap (λ (q : Held × List (Option ℕ)). Some q.1) p)
 
-module _ (m : Machine) (s : State) (rep : Represents m s) (party : List ℕ) where
+module _ {C : Type 0} (m : Machine C) (s : State) (rep : Represents m s) (party : List ℕ) where
   -- a loan is the same in the state
   pub loan_is : (loan : List ℕ) → loan_of s.standing party loan ≡ loan_held m party loan
   loan_is loan =

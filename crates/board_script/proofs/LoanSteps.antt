@@ -11,7 +11,7 @@ use Rattle.board_script.specs.Loans.{lent_words}
 use Rattle.board_script.specs.Machine.{tables_of}
 use Rattle.board_script.proofs.LoanRows.{with_at-same}
 
-module _ (s : State) (mid new : Machine) (tables : s.standing.tables ≡ tables_of mid) (loans : (p n : List ℕ) → s.standing.loans p n ≡ lent_words mid.loans.items p n) (party : List ℕ) (l : Lending) where
+module _ (s : State) {C : Type 0} (mid new : Machine C) (tables : s.standing.tables ≡ tables_of mid) (loans : (p n : List ℕ) → s.standing.loans p n ≡ lent_words mid.loans.items p n) (party : List ℕ) (l : Lending) where
   module _ (h : IsLoaned mid new party l.handle l.loan l.shape.words) where
     pub lent_tables : (lent s.standing party l).tables ≡ tables_of new
     lent_tables = ap (λ t. with_name t party l.handle l.loan) tables ∙ ap (λ (d : Parties). d.tables) (sym h.domain)

@@ -24,7 +24,7 @@ not_gone (task.Publish b c l n) o h = refl
 not_gone (task.Fill b c l n) o h = refl
 not_gone task.Gone o h = absurd h
 
-module _ (m : Machine) (party : List ℕ) (at : ℕ) (o : OwedAccess) (owes : OwesAt m party at o) where
+module _ {C : Type 0} (m : Machine C) (party : List ℕ) (at : ℕ) (o : OwedAccess) (owes : OwesAt m party at o) where
   pub row_inside : at < length m.parties.items
   row_inside = (first_at (is_row_of party) at m.parties.items owes.stands).inside
 
@@ -43,7 +43,7 @@ module _ (m : Machine) (party : List ℕ) (at : ℕ) (o : OwedAccess) (owes : Ow
   row_is y e = e ∙ get_or-inside m.parties.items at y (record { name = party; task = task.Gone }) row_inside
 
 -- the call of a party's row owes an access
-pub owes_at : (m : Machine) (party : List ℕ) (at : ℕ) (o : OwedAccess) (x : PartyRow) → Some at ≡ position_from (is_row_of party) 0 m.parties.items → x ≡ get_or m.parties.items at x → IsOwedBy x.task o → OwesAt m party at o
+pub owes_at : {C : Type 0} (m : Machine C) (party : List ℕ) (at : ℕ) (o : OwedAccess) (x : PartyRow) → Some at ≡ position_from (is_row_of party) 0 m.parties.items → x ≡ get_or m.parties.items at x → IsOwedBy x.task o → OwesAt m party at o
 owes_at m party at o x p e h =
     let inside = (first_at (is_row_of party) at m.parties.items p).inside in
     record { stands = p; owes = λ d. subst (λ (y : PartyRow). IsOwedBy y.task o) (e ∙ get_or-inside m.parties.items at x d inside) h }

@@ -62,7 +62,7 @@ some_board : (o : Option Board) → is_some o ≡ true → (b : Board) × (o ≡
 some_board None e = absurd cc
 some_board (Some b) e = (b, refl)
 
-module _ (m : Machine) (s : State) (rep : Represents m s) (sound : Sound s) where
+module _ {C : Type 0} (m : Machine C) (s : State) (rep : Represents m s) (sound : Sound s) where
   -- a board of the state stands in the machine
   pub record StandsAt (n : ℕ) : Type 0 where
     pub board : Board
@@ -107,7 +107,7 @@ module _ (m : Machine) (s : State) (rep : Represents m s) (sound : Sound s) wher
       ∙ ap (λ (ws : List (List ℕ)). set ws at.place (set (s.memory n) word value)) rep.words
       ∙ sym (words-set s.memory (store s.memory n word value) n (λ k e. rw e refl) (set (s.memory n) word value) (store_here s.memory n word value n refl) m.domain.tables.boards at.place at.stands single)
 
-module _ (m : Machine) (s : State) (rep : Represents m s) (sound : Sound s) (party : List ℕ) (place : ℕ) (row : PartyRow) (at : RunsAt m.parties.items s.parties party place row) where
+module _ {C : Type 0} (m : Machine C) (s : State) (rep : Represents m s) (sound : Sound s) (party : List ℕ) (place : ℕ) (row : PartyRow) (at : RunsAt m.parties.items s.parties party place row) where
   calling : IsCalling s party at.r at.r.request
   calling = runs s party at.r at.r.request sound at.runs refl
 

@@ -119,7 +119,7 @@ finished_is opening e = absurd cc
 finished_is (trying c ws) e = absurd cc
 finished_is (finished c ws) e = refl
 
-module _ (m : Machine) (s : State) (rep : Represents m s) (sound : Sound s) (party : List ℕ) (place : ℕ) (row : PartyRow) (at : RunsAt m.parties.items s.parties party place row) (x : OwedRead) (o : IsOwedBy row.task (owed_access.Read x)) where
+module _ {C : Type 0} (m : Machine C) (s : State) (rep : Represents m s) (sound : Sound s) (party : List ℕ) (place : ℕ) (row : PartyRow) (at : RunsAt m.parties.items s.parties party place row) (x : OwedRead) (o : IsOwedBy row.task (owed_access.Read x)) where
   step : IsReadStep at.r.request at.r.so_far x
   step = read_step row.task at.r x at.task o
 
@@ -203,7 +203,7 @@ module _ (m : Machine) (s : State) (rep : Represents m s) (sound : Sound s) (par
     rest_is task.Gone h o e = absurd o
 
     -- another read leaves the rest of the call
-    pub read_goes_on : (new : Machine) → tables_of new ≡ tables_of m → new.domain.words ≡ m.domain.words → new.values.items ≡ m.values.items → new.loans.items ≡ m.loans.items → new.spent ≡ m.spent
+    pub read_goes_on : (new : Machine C) → tables_of new ≡ tables_of m → new.domain.words ≡ m.domain.words → new.values.items ≡ m.values.items → new.loans.items ≡ m.loans.items → new.spent ≡ m.spent
         → (y : PartyRow) → y.name ≡ row.name → y.task ≡ ticked row.task v → is_last row.task v ≡ false → new.parties.items ≡ set m.parties.items place y
         → IsRight s (line.Step party) (answer.Step made None) × Represents new (after s (line.Step party) (answer.Step made None))
     read_goes_on new tables ws values loans spent y n t e rows =
@@ -307,7 +307,7 @@ module _ (m : Machine) (s : State) (rep : Represents m s) (sound : Sound s) (par
     left_is task.Gone told vs h o e k = absurd o
 
     -- the last read ends the call
-    pub read_ends : (mid new : Machine) (y : PartyRow) → y.task ≡ ticked row.task v → is_last row.task v ≡ true
+    pub read_ends : (mid new : Machine C) (y : PartyRow) → y.task ≡ ticked row.task v → is_last row.task v ≡ true
         → tables_of mid ≡ tables_of m → mid.domain.words ≡ m.domain.words → mid.values.items ≡ m.values.items → mid.loans.items ≡ m.loans.items → mid.spent ≡ m.spent → mid.parties.items ≡ remove (set m.parties.items place y) place
         → (told : Reply) → IsReadTold mid new party (ticked row.task v) told → IsReply told
         → IsRight s (line.Step party) (answer.Step made (Some told)) × Represents new (after s (line.Step party) (answer.Step made (Some told)))

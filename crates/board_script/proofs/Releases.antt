@@ -67,7 +67,7 @@ module _ (party name : List ℕ) where
 
 -- ---- the line
 
-module _ (m : Machine) (s : State) (rep : Represents m s) (party name : List ℕ) (l : IsLine (line.Release party name)) where
+module _ {C : Type 0} (m : Machine C) (s : State) (rep : Represents m s) (party name : List ℕ) (l : IsLine (line.Release party name)) where
   pub release_busy : (r : Running) → s.parties party ≡ running r → IsRight s (line.Release party name) (answer.Refused reason.Busy)
   release_busy r e = record {
     line = l;
@@ -110,7 +110,7 @@ module _ (m : Machine) (s : State) (rep : Represents m s) (party name : List ℕ
         reply = λ _. tt;
       }
 
-  pub released_right : (new : Machine) → s.parties party ≡ free → holds m party name ≡ true → IsLetGo m new party name
+  pub released_right : (new : Machine C) → s.parties party ≡ free → holds m party name ≡ true → IsLetGo m new party name
       → IsRight s (line.Release party name) (answer.Step access.Table (Some reply.Done)) × Represents new (after s (line.Release party name) (answer.Step access.Table (Some reply.Done)))
   released_right new e h is =
       let r : reason_of s (line.Release party name) ≡ None = reason_is true h ∙ rw e refl in (

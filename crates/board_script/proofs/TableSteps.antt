@@ -71,7 +71,7 @@ some_entry (Some x) e = (x, refl)
 
 -- ---- counters
 
-module _ (m : Machine) (s : State) (rep : Represents m s) (sound : Sound s) where
+module _ {C : Type 0} (m : Machine C) (s : State) (rep : Represents m s) (sound : Sound s) where
   -- the counter word of an entry is the length of its list
   pub record CounterAt (n i : ℕ) : Type 0 where
     pub has : HasCounter m n i
@@ -101,9 +101,9 @@ module _ (m : Machine) (s : State) (rep : Represents m s) (sound : Sound s) wher
 
 -- ---- replies and what follows
 
-module _ (m : Machine) (s : State) (rep : Represents m s) (reached : IsReached s) (party : List ℕ) (place : ℕ) (row : PartyRow) (at : RunsAt m.parties.items s.parties party place row) where
+module _ {C : Type 0} (m : Machine C) (s : State) (rep : Represents m s) (reached : IsReached s) (party : List ℕ) (place : ℕ) (row : PartyRow) (at : RunsAt m.parties.items s.parties party place row) where
   -- a call on the tables is told so, and the machine has the tables after it
-  pub record IsServed (new : Machine) (c : TableCall) (told : Reply) : Type 0 where
+  pub record IsServed (new : Machine C) (c : TableCall) (told : Reply) : Type 0 where
     pub told_is : told ≡ (ask_tables s.standing s.published party c).reply
     pub tables : (ask_tables s.standing s.published party c).standing.tables ≡ tables_of new
     pub loans : (p n : List ℕ) → (ask_tables s.standing s.published party c).standing.loans p n ≡ lent_words new.loans.items p n
@@ -121,7 +121,7 @@ module _ (m : Machine) (s : State) (rep : Represents m s) (reached : IsReached s
       let f = subst (λ (x : Party). IsFormedParty reached.count party x) at.runs (reached.formed.parties party) in
       reply_told s reached.sound reached.count reached.within reached.few reached.numbers reached.formed party at.r (table c) (subst (IsFormedRequest reached.count) e f.1) (calling c e)
 
-  pub table_right : (new : Machine) (c : TableCall) (told : Reply) → at.r.request ≡ table c → IsServed new c told → IsLine (line.Step party)
+  pub table_right : (new : Machine C) (c : TableCall) (told : Reply) → at.r.request ≡ table c → IsServed new c told → IsLine (line.Step party)
       → IsRight s (line.Step party) (answer.Step access.Table (Some told)) × Represents new (after s (line.Step party) (answer.Step access.Table (Some told)))
   table_right new c told request h l =
       let of_call : Running = record at.r { request = table c } in
@@ -149,7 +149,7 @@ module _ (m : Machine) (s : State) (rep : Represents m s) (reached : IsReached s
 
   -- ---- one call after another
 
-  module _ (mid new : Machine) (same : tables_of mid ≡ tables_of m) (same_list : mid.domain.words ≡ m.domain.words) (rows : mid.parties.items ≡ remove m.parties.items place) (same_values : mid.values.items ≡ m.values.items) (same_loans : mid.loans.items ≡ m.loans.items) (alive : mid.spent ≡ false) where
+  module _ (mid new : Machine C) (same : tables_of mid ≡ tables_of m) (same_list : mid.domain.words ≡ m.domain.words) (rows : mid.parties.items ≡ remove m.parties.items place) (same_values : mid.values.items ≡ m.values.items) (same_loans : mid.loans.items ≡ m.loans.items) (alive : mid.spent ≡ false) where
     tables_are : s.standing.tables ≡ tables_of mid
     tables_are = rep.tables ∙ sym same
 
@@ -192,11 +192,11 @@ module _ (m : Machine) (s : State) (rep : Represents m s) (reached : IsReached s
     shown_served c shown told asks memory h = record {
       told_is = h.told_is ∙ ap (λ (x : Asked). x.reply) (sym asks);
       tables = ap (λ (x : Asked). x.standing.tables) asks ∙ tables_are ∙ ap tables_of (sym h.same);
-      loans = λ p n. ap (λ (x : Asked). x.standing.loans p n) asks ∙ kept_loans (ap (λ (y : Machine). y.loans.items) h.same) p n;
-      values = λ p n. ap (λ (x : Asked). x.standing.values p n) asks ∙ kept_values (ap (λ (y : Machine). y.values.items) h.same) p n;
-      words = kept_words (ap (λ (y : Machine). y.domain.tables.boards) h.same) (ap (λ (y : Machine). y.domain.words) h.same) ∙ ap (λ (x : ℕ → List ℕ). words_of x new.domain.tables.boards) (sym memory);
-      parties = ap (λ (y : Machine). y.parties.items) h.same ∙ rows;
-      alive = ap (λ (y : Machine). y.spent) h.same ∙ alive;
+      loans = λ p n. ap (λ (x : Asked). x.standing.loans p n) asks ∙ kept_loans (ap (λ (y : Machine C). y.loans.items) h.same) p n;
+      values = λ p n. ap (λ (x : Asked). x.standing.values p n) asks ∙ kept_values (ap (λ (y : Machine C). y.values.items) h.same) p n;
+      words = kept_words (ap (λ (y : Machine C). y.domain.tables.boards) h.same) (ap (λ (y : Machine C). y.domain.words) h.same) ∙ ap (λ (x : ℕ → List ℕ). words_of x new.domain.tables.boards) (sym memory);
+      parties = ap (λ (y : Machine C). y.parties.items) h.same ∙ rows;
+      alive = ap (λ (y : Machine C). y.spent) h.same ∙ alive;
     }
 
     -- the keys of the machine's boards are told as they were added
@@ -252,11 +252,11 @@ module _ (m : Machine) (s : State) (rep : Represents m s) (reached : IsReached s
     gen_served x told e h = record {
       told_is = h.told_is ∙ ap (λ (n : ℕ). reply.Generation n) ((handle_counter x e).is_length h.counter (gen_count x h.counter h.is_counter));
       tables = tables_are ∙ ap tables_of (sym h.same);
-      loans = kept_loans (ap (λ (y : Machine). y.loans.items) h.same);
-      values = kept_values (ap (λ (y : Machine). y.values.items) h.same);
-      words = kept_words (ap (λ (y : Machine). y.domain.tables.boards) h.same) (ap (λ (y : Machine). y.domain.words) h.same);
-      parties = ap (λ (y : Machine). y.parties.items) h.same ∙ rows;
-      alive = ap (λ (y : Machine). y.spent) h.same ∙ alive;
+      loans = kept_loans (ap (λ (y : Machine C). y.loans.items) h.same);
+      values = kept_values (ap (λ (y : Machine C). y.values.items) h.same);
+      words = kept_words (ap (λ (y : Machine C). y.domain.tables.boards) h.same) (ap (λ (y : Machine C). y.domain.words) h.same);
+      parties = ap (λ (y : Machine C). y.parties.items) h.same ∙ rows;
+      alive = ap (λ (y : Machine C). y.spent) h.same ∙ alive;
     }
 
     -- no board has the next number

@@ -50,14 +50,14 @@ done_when k n le = by (k == n) refl
     by true e = let same : k ≡ n = eqb-true k n e in le-leb _ _ (omega (arith, same))
     by false e = lt-leb _ _ (omega (arith, eqb-false k n e, le))
 
-module _ (m : Machine) (s : State) (rep : Represents m s) (sound : Sound s) (party : List ℕ) (place : ℕ) (row : PartyRow) (at : RunsAt m.parties.items s.parties party place row) where
+module _ {C : Type 0} (m : Machine C) (s : State) (rep : Represents m s) (sound : Sound s) (party : List ℕ) (place : ℕ) (row : PartyRow) (at : RunsAt m.parties.items s.parties party place row) where
   calling : (q : Request) → at.r.request ≡ q → IsCalling s party at.r q
   calling q e = runs s party at.r q sound at.runs e
 
   -- ---- the loan of a call
 
   -- the loan into which a word is put has the word
-  pub can_settle : (mid : Machine) → mid.loans.items ≡ m.loans.items → (t : Task) → IsTaskOf t at.r.request at.r.so_far → CanSettle mid party t
+  pub can_settle : (mid : Machine C) → mid.loans.items ≡ m.loans.items → (t : Task) → IsTaskOf t at.r.request at.r.so_far → CanSettle mid party t
   can_settle mid same (task.Table t) h = tt
   can_settle mid same (task.Get board call type name) h = tt
   can_settle mid same (task.Fresh board call) h = tt
@@ -75,7 +75,7 @@ module _ (m : Machine) (s : State) (rep : Represents m s) (sound : Sound s) (par
   can_settle mid same task.Gone h = tt
 
   -- what the last write of a call leaves
-  record IsLeft (mid new : Machine) (q : Request) : Type 0 where
+  record IsLeft (mid new : Machine C) (q : Request) : Type 0 where
     pub memory : (f : ℕ → List ℕ) → memory_after f q reply.Done ≡ f
     pub told : (ask s.standing s.published party q).reply ≡ reply.Done
     pub tables : (ask s.standing s.published party q).standing.tables ≡ tables_of new
@@ -86,7 +86,7 @@ module _ (m : Machine) (s : State) (rep : Represents m s) (sound : Sound s) (par
     pub parties : new.parties.items ≡ mid.parties.items
     pub spent : new.spent ≡ mid.spent
 
-  module _ (mid new : Machine) (tables : s.standing.tables ≡ tables_of mid) (loans : (p n : List ℕ) → s.standing.loans p n ≡ lent_words mid.loans.items p n) (values : (p n : List ℕ) → s.standing.values p n ≡ kept mid.values.items p n) where
+  module _ (mid new : Machine C) (tables : s.standing.tables ≡ tables_of mid) (loans : (p n : List ℕ) → s.standing.loans p n ≡ lent_words mid.loans.items p n) (values : (p n : List ℕ) → s.standing.values p n ≡ kept mid.values.items p n) where
     kept_values : new.values.items ≡ mid.values.items → (p n : List ℕ) → s.standing.values p n ≡ kept new.values.items p n
     kept_values e p n = values p n ∙ ap (λ (vs : List KeptValue). kept vs p n) (sym e)
 
@@ -103,12 +103,12 @@ module _ (m : Machine) (s : State) (rep : Represents m s) (sound : Sound s) (par
           memory = λ f. refl;
           told = refl;
           tables = tables ∙ ap tables_of (sym e);
-          loans = λ p n. loans p n ∙ ap (λ (x : Machine). lent_words x.loans.items p n) (sym e);
-          values = kept_values (ap (λ (x : Machine). x.values.items) e);
-          boards = ap (λ (x : Machine). x.domain.tables.boards) e;
-          words = ap (λ (x : Machine). x.domain.words) e;
-          parties = ap (λ (x : Machine). x.parties.items) e;
-          spent = ap (λ (x : Machine). x.spent) e;
+          loans = λ p n. loans p n ∙ ap (λ (x : Machine C). lent_words x.loans.items p n) (sym e);
+          values = kept_values (ap (λ (x : Machine C). x.values.items) e);
+          boards = ap (λ (x : Machine C). x.domain.tables.boards) e;
+          words = ap (λ (x : Machine C). x.domain.words) e;
+          parties = ap (λ (x : Machine C). x.parties.items) e;
+          spent = ap (λ (x : Machine C). x.spent) e;
         })
     left_is (task.Put board call loan index word) w h o e =
         let l = h.lending in
@@ -255,7 +255,7 @@ module _ (m : Machine) (s : State) (rep : Represents m s) (sound : Sound s) (par
       pub word : IsNumber w.word
       pub value : IsNumber w.value
 
-    module _ (stored : Machine) (is_stored : IsWordSet m stored w.board w.word w.value) (numbers : AreWritten) (l : IsLine (line.Step party)) where
+    module _ (stored : Machine C) (is_stored : IsWordSet m stored w.board w.word w.value) (numbers : AreWritten) (l : IsLine (line.Step party)) where
       stored_loans : (p n : List ℕ) → s.standing.loans p n ≡ lent_words stored.loans.items p n
       stored_loans p n = rep.loans p n ∙ ap (λ (xs : List Lent). lent_words xs p n) (sym is_stored.rest.loans)
 
@@ -268,7 +268,7 @@ module _ (m : Machine) (s : State) (rep : Represents m s) (sound : Sound s) (par
           ∙ ap (λ (bs : List Board). words_of (store s.memory w.board w.word w.value) bs) (ap (λ t. t.boards) (sym is_stored.stored.tables) ∙ sym e)
 
       -- the last write ends the call
-      pub write_ends : (mid new : Machine) → tables_of mid ≡ tables_of stored → mid.domain.words ≡ stored.domain.words → mid.values.items ≡ stored.values.items → mid.loans.items ≡ stored.loans.items → mid.spent ≡ stored.spent
+      pub write_ends : (mid new : Machine C) → tables_of mid ≡ tables_of stored → mid.domain.words ≡ stored.domain.words → mid.values.items ≡ stored.values.items → mid.loans.items ≡ stored.loans.items → mid.spent ≡ stored.spent
           → mid.parties.items ≡ remove stored.parties.items place → w.is_last ≡ true → IsSettled mid new party row.task
           → IsRight s (line.Step party) (answer.Step made (Some reply.Done)) × Represents new (after s (line.Step party) (answer.Step made (Some reply.Done)))
       write_ends mid new tables words values loans spent rows e settled =
@@ -298,7 +298,7 @@ module _ (m : Machine) (s : State) (rep : Represents m s) (sound : Sound s) (par
           )
 
       -- another write leaves the rest of the call
-      pub write_goes_on : (new : Machine) → tables_of new ≡ tables_of stored → new.domain.words ≡ stored.domain.words → new.values.items ≡ stored.values.items → new.loans.items ≡ stored.loans.items → new.spent ≡ stored.spent
+      pub write_goes_on : (new : Machine C) → tables_of new ≡ tables_of stored → new.domain.words ≡ stored.domain.words → new.values.items ≡ stored.values.items → new.loans.items ≡ stored.loans.items → new.spent ≡ stored.spent
           → (y : PartyRow) → y.name ≡ row.name → y.task ≡ ticked row.task 0 → w.is_last ≡ false → new.parties.items ≡ set stored.parties.items place y
           → IsRight s (line.Step party) (answer.Step made None) × Represents new (after s (line.Step party) (answer.Step made None))
       write_goes_on new tables words values loans spent y n t e rows =

@@ -20,10 +20,10 @@ use Rattle.board_script.specs.Machine.{IsTaskOf, Represents, is_row_of, kept}
 -- ---- what a party holds
 
 -- a thing or a value
-abbrev pub holds : Machine → List ℕ → List ℕ → Bool
+abbrev pub holds : {C : Type 0} → Machine C → List ℕ → List ℕ → Bool
 holds m party name = is_some (thing_of m.domain.tables.things party name) || is_some (kept m.values.items party name)
 
-abbrev pub holds_any : Machine → List ℕ → Option (List ℕ) → Bool
+abbrev pub holds_any : {C : Type 0} → Machine C → List ℕ → Option (List ℕ) → Bool
 holds_any m party None = false
 holds_any m party (Some name) = holds m party name
 
@@ -35,24 +35,24 @@ is_handle (kind.ReadHandle i) = true
 is_handle (kind.WriteHandle i port) = true
 
 -- a handle that some party holds
-pub record IsHandle (m : Machine) (x : Held) : Type 0 where
+pub record IsHandle {C : Type 0} (m : Machine C) (x : Held) : Type 0 where
   pub party : List ℕ
   pub name : List ℕ
   pub found : thing_of m.domain.tables.things party name ≡ Some x
   pub handle : is_handle x.kind ≡ true
 
 -- the party runs no call, and isn't gone
-abbrev pub HasNoRow : Machine → List ℕ → Type 0
+abbrev pub HasNoRow : {C : Type 0} → Machine C → List ℕ → Type 0
 HasNoRow m party = None ≡ position_from (is_row_of party) 0 m.parties.items
 
 -- ---- write handles and loans
 
 -- a write handle that isn't lent
-abbrev pub handle_held : Machine → List ℕ → List ℕ → Option Held
+abbrev pub handle_held : {C : Type 0} → Machine C → List ℕ → List ℕ → Option Held
 handle_held m party name = if is_some (lent_words m.loans.items party name) then None else of_kind thing_kind.WriteHandle (thing_of m.domain.tables.things party name)
 
 -- the write handle that a loan is, and the words that were put
-abbrev pub loan_held : Machine → List ℕ → List ℕ → Option (Held × List (Option ℕ))
+abbrev pub loan_held : {C : Type 0} → Machine C → List ℕ → List ℕ → Option (Held × List (Option ℕ))
 loan_held m party name = and_then (of_kind thing_kind.WriteHandle (thing_of m.domain.tables.things party name)) (λ t. and_then (lent_words m.loans.items party name) (λ words. Some (t, words)))
 
 -- a thing of this kind has an id: no factory has, and no loan
@@ -76,5 +76,5 @@ IsChecked reason request (checked.Refused why) = reason ≡ Some why
 IsChecked reason request (checked.Accepted t) = (reason ≡ None) × IsTaskFor t request
 
 -- a call of the party is looked at so, in each state that the machine stands for
-abbrev pub Checks : Machine → List ℕ → Call → Checked → Type 0
+abbrev pub Checks : {C : Type 0} → Machine C → List ℕ → Call → Checked → Type 0
 Checks m party c result = (s : State) → Represents m s → Sound s → IsChecked (call_reason s.standing party c (request_of s.standing s.published party c)) (request_of s.standing s.published party c) result

@@ -107,7 +107,7 @@ pub record IsRunning (g : Generator) (room : ℕ) : Type 0 where
   pub run : HasRun g lines
 
 -- the entry stands
-abbrev pub HasEntry : Machine → ℕ → ℕ → Type 0
+abbrev pub HasEntry : {C : Type 0} → Machine C → ℕ → ℕ → Type 0
 HasEntry m board i = (e : Entry) × (entry_at (tables_of m) board i ≡ Some e)
 
 -- lines were run behind others, and each entry that stood before still stands

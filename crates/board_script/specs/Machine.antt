@@ -130,11 +130,11 @@ kept values party name = kept_from None party name values
 
 -- ---- the machine
 
-abbrev pub tables_of : Machine → Tables (List ℕ) (List ℕ)
+abbrev pub tables_of : {C : Type 0} → Machine C → Tables (List ℕ) (List ℕ)
 tables_of m = m.domain.tables
 
 -- the machine stands for the state
-pub record Represents (m : Machine) (s : State) : Type 0 where
+pub record Represents {C : Type 0} (m : Machine C) (s : State) : Type 0 where
   pub alive : m.spent ≡ false
   pub tables : s.standing.tables ≡ tables_of m
   pub words : m.domain.words ≡ words_of s.memory m.domain.tables.boards
@@ -152,27 +152,27 @@ pub record IsReached (s : State) : Type 0 where
   pub formed : AreFormed s count
 
 -- the machine stands for a state that a lawful session led to
-pub record IsLed (m : Machine) : Type 0 where
+pub record IsLed {C : Type 0} (m : Machine C) : Type 0 where
   pub state : State
   pub represents : Represents m state
   pub reached : IsReached state
   pub few : m.domain.drawn < 2 ^ 63
 
 -- after so many lines the machine stands for the state, and no line made more than one thing
-pub record StandsAfter (m : Machine) (count : ℕ) (s : State) : Type 0 where
+pub record StandsAfter {C : Type 0} (m : Machine C) (count : ℕ) (s : State) : Type 0 where
   pub represents : Represents m s
   pub drawn : m.domain.drawn ≤ count
 
 -- the answer is right after each state that the machine stood for, and the machine stands for what follows
-abbrev pub Serves : Machine → Machine → Line → Answer → Type 0
+abbrev pub Serves : {C : Type 0} → Machine C → Machine C → Line → Answer → Type 0
 Serves old new l a = (s : State) → Represents old s → IsReached s → IsLine l → IsRight s l a × Represents new (after s l a)
 
 -- the text is the line of an answer that is right after each state that the machine stood for, and the machine stands for what follows
-pub record IsTelling (new : Machine) (s : State) (l : Line) (text : List ℕ) : Type 0 where
+pub record IsTelling {C : Type 0} (new : Machine C) (s : State) (l : Line) (text : List ℕ) : Type 0 where
   pub answer : Answer
   pub right : IsRight s l answer
   pub represents : Represents new (after s l answer)
   pub told : text ≡ answer_line answer
 
-abbrev pub Tells : Machine → Machine → Line → List ℕ → Type 0
+abbrev pub Tells : {C : Type 0} → Machine C → Machine C → Line → List ℕ → Type 0
 Tells old new l text = (s : State) → Represents old s → IsReached s → IsTelling new s l text

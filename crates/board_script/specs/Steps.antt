@@ -86,7 +86,7 @@ IsOwedBy (task.Fill board call loan handle) (owed.Write w) = IsOwedWrite board c
 IsOwedBy t o = ⊥
 
 -- the party's row stands here, and its call owes this access
-pub record OwesAt (m : Machine) (party : List ℕ) (at : ℕ) (o : OwedAccess) : Type 0 where
+pub record OwesAt {C : Type 0} (m : Machine C) (party : List ℕ) (at : ℕ) (o : OwedAccess) : Type 0 where
   pub stands : Some at ≡ position_from (is_row_of party) 0 m.parties.items
   pub owes : (d : PartyRow) → IsOwedBy (slice_index_or m.parties.items at d).task o
 
@@ -110,17 +110,17 @@ is_last t v = true
 -- ---- words
 
 -- nothing of it changed
-pub record IsSame (old new : Machine) : Type 0 where
+pub record IsSame {C : Type 0} (old new : Machine C) : Type 0 where
   pub domain : new.domain ≡ old.domain
   pub rest : IsRest old new
 
 -- one word of the board's words is set
-pub record IsWordSet (old new : Machine) (board word value : ℕ) : Type 0 where
+pub record IsWordSet {C : Type 0} (old new : Machine C) (board word value : ℕ) : Type 0 where
   pub stored : IsStored old.domain new.domain board word value
   pub rest : IsRest old new
 
 -- the board and the entry stand, and the entry's counter is a word of the board
-pub record HasCounter (m : Machine) (board i : ℕ) : Type 0 where
+pub record HasCounter {C : Type 0} (m : Machine C) (board i : ℕ) : Type 0 where
   pub place : ℕ
   pub entry : Entry
   pub stands : Some place ≡ position_from (is_numbered board) 0 m.domain.tables.boards
@@ -129,14 +129,14 @@ pub record HasCounter (m : Machine) (board i : ℕ) : Type 0 where
   pub word_inside : (d : List ℕ) → entry.cell.first < length (slice_index_or m.domain.words place d)
 
 -- the number is the counter word of the entry
-abbrev pub IsCounter : Machine → ℕ → ℕ → ℕ → Type 0
+abbrev pub IsCounter : {C : Type 0} → Machine C → ℕ → ℕ → ℕ → Type 0
 IsCounter m board i g = (place : ℕ) (e : Entry) (d : List ℕ) → Some place ≡ position_from (is_numbered board) 0 m.domain.tables.boards → entry_at (tables_of m) board i ≡ Some e
     → g ≡ slice_index (slice_index_or m.domain.words place d) e.cell.first
 
 -- ---- calls on the tables
 
 -- numbers can be drawn, names and attributes are of the grammar, what the call uses stands, and no loan has the name of a new one
-abbrev pub CanRun : Machine → List ℕ → TableTask → Type 0
+abbrev pub CanRun : {C : Type 0} → Machine C → List ℕ → TableTask → Type 0
 CanRun m party (table_task.Create f n k l attributes entries) = IsFew m.domain × (is_board_name n ≡ true) × AreAttributes attributes
 CanRun m party (table_task.Open f n k l needs) = IsFew m.domain × (is_board_name n ≡ true) × AreRequirements needs
 CanRun m party (table_task.Reader n x) = IsFew m.domain × Stands m.domain x
@@ -152,19 +152,19 @@ CanRun m party (table_task.Id x) = Unit {0}
 CanRun m party (table_task.Gen x) = HasCounter m x.board (entry_of x.kind)
 
 -- the counter is told, and nothing changes
-pub record IsGen (old new : Machine) (x : Held) (told : Reply) : Type 0 where
+pub record IsGen {C : Type 0} (old new : Machine C) (x : Held) (told : Reply) : Type 0 where
   pub counter : ℕ
   pub told_is : told ≡ reply.Generation counter
   pub is_counter : IsCounter old x.board (entry_of x.kind) counter
   pub same : new ≡ old
 
 -- the reply is told, and nothing changes
-pub record IsShown (old new : Machine) (shown told : Reply) : Type 0 where
+pub record IsShown {C : Type 0} (old new : Machine C) (shown told : Reply) : Type 0 where
   pub told_is : told ≡ shown
   pub same : new ≡ old
 
 -- what a call on the tables is told, and what it changes
-abbrev pub IsTold : Machine → Machine → List ℕ → TableTask → Reply → Type 0
+abbrev pub IsTold : {C : Type 0} → Machine C → Machine C → List ℕ → TableTask → Reply → Type 0
 IsTold old new party (table_task.Create f n k l attributes entries) told = IsCreate old.domain new.domain party f n k l attributes entries told × IsRest old new
 IsTold old new party (table_task.Open f n k l needs) told = IsOpen old.domain new.domain party f n k l needs told × IsRest old new
 IsTold old new party (table_task.Reader n x) told = IsReader old.domain new.domain n x told × IsRest old new
@@ -182,7 +182,7 @@ IsTold old new party (table_task.Gen x) told = IsGen old new x told
 -- ---- drop
 
 -- what a party held under a name is gone, and a board with its last thing
-pub record IsLetGo (old new : Machine) (party name : List ℕ) : Type 0 where
+pub record IsLetGo {C : Type 0} (old new : Machine C) (party name : List ℕ) : Type 0 where
   pub domain : IsReleased old.domain new.domain party name
   pub values : new.values.items ≡ filter (λ v. not (is_kept_as party name v)) old.values.items
   pub loans : new.loans.items ≡ filter (λ x. not (is_lent_as party name x)) old.loans.items
@@ -214,7 +214,7 @@ values_read party (task.Get board call type name) = kept_anew party name type ca
 values_read party t = []
 
 -- a finished read is told so, and its value is kept
-pub record IsReadTold (old new : Machine) (party : List ℕ) (t : Task) (told : Reply) : Type 0 where
+pub record IsReadTold {C : Type 0} (old new : Machine C) (party : List ℕ) (t : Task) (told : Reply) : Type 0 where
   pub told_is : read_told t ≡ Some told
   pub values : new.values.items ≡ old.values.items ++ values_read party t
   pub domain : new.domain ≡ old.domain

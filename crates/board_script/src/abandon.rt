@@ -6,9 +6,10 @@ ghost use Rattle.board_script.specs.Machine.{IsLed, Serves};
 use crate::lookups::place_of_party;
 use crate::machine::{Machine, PartyRow, Task};
 use board_model::{Answer, Name, Reason};
+use board_service::BoardWords;
 use std::alloc::AllocError;
 
-impl Machine {
+impl<C: BoardWords + Drop> Machine<C> {
     /// A line `abandon P`. The call of the party runs no more, and what it holds stands for good.
     pub(crate) fn abandon(&mut self, party: Name) -> Result<Answer, AllocError>
         requires { IsLed self.old }

@@ -21,6 +21,7 @@ use board_parties::{
     Held, same_key_type, same_type, type_of, type_of_key, value_detail, value_type_of, value_words,
 };
 use board_ports::{CellShape, ReadCore, WriteCore};
+use board_service::BoardWords;
 use std::alloc::AllocError;
 
 /// Whether a call may begin: what it has to do, or why not.
@@ -82,7 +83,7 @@ fn has_id(kind: &Kind, is_lent: bool) -> bool
     }
 }
 
-impl Machine {
+impl<C: BoardWords + Drop> Machine<C> {
     /// Whether the party has a thing or a value of this name.
     pub(crate) fn holds(&self, party: &Name, name: &Name) -> bool
         ensures { result ≡ holds self.now party.now name.now }
@@ -317,19 +318,25 @@ impl Machine {
         })
     }
 
-    fn check_update(&self, party: &Name, handle: &Name, value: Value) -> Result<Checked, AllocError>
-        requires { IsLed self.now }
-        ensures { IfOk result (Checks self.now party.now (call.Update handle.now value)) }
+    fn check_update(
+        &mut self,
+        party: &Name,
+        handle: &Name,
+        value: Value,
+    ) -> Result<Checked, AllocError>
+        requires { IsLed self.old }
+        ensures checks { IfOk result (Checks self.old party.now (call.Update handle.now value)) }
+        ensures same { self.new ≡ self.old }
     {
         let Some(found) = self.handle_held(party, handle) else {
             return Ok(Checked::Refused(Reason::Unknown));
         };
-        let entry = self.entry_held(&found);
+        let entry = *self.entry_held(&found);
         if !same_type(&value_detail(type_of(value)), &entry.value) {
             return Ok(Checked::Refused(Reason::Type));
         }
         let generation = self.counter(found.board, entry_of(&found.kind));
-        let core = write_core(entry, generation);
+        let core = write_core(&entry, generation);
         let words = value_words(self.alloc, value)?;
         Ok(Checked::Accepted(Task::Update {
             board: found.board,
@@ -386,10 +393,11 @@ impl Machine {
     }
 
     // Whether the call may begin.
-    fn check(&self, party: &Name, call: Call) -> Result<Checked, AllocError>
-        requires led { IsLed self.now }
-        requires free { HasNoRow self.now party.now }
-        ensures { IfOk result (Checks self.now party.now call) }
+    fn check(&mut self, party: &Name, call: Call) -> Result<Checked, AllocError>
+        requires led { IsLed self.old }
+        requires free { HasNoRow self.old party.now }
+        ensures checks { IfOk result (Checks self.old party.now call) }
+        ensures same { self.new ≡ self.old }
     {
         match call {
             Call::Create {

@@ -13,6 +13,7 @@ ghost use Rattle.board_script.specs.Summary.{IsSummed, LeavesOff};
 
 use crate::machine::Machine;
 use crate::summary::{Counts, summary_text};
+use board_cell::PlainWords;
 use board_layout::Text;
 use board_lines::{ScriptError, Sink, write_whole};
 use board_model::{
@@ -24,12 +25,12 @@ use std::alloc::{AllocError, Global};
 /// A machine, and what is counted over the lines that it ran.
 #[derive(Drop)]
 pub(crate) struct Generator {
-    pub(crate) machine: Machine,
+    pub(crate) machine: Machine<PlainWords>,
     pub(crate) counts: Counts,
 }
 
 // Answers a line that begins a call, or is a step.
-fn answer_to(machine: &mut Machine, line: Line) -> Result<Answer, AllocError>
+fn answer_to(machine: &mut Machine<PlainWords>, line: Line) -> Result<Answer, AllocError>
     requires led { IsLed machine.old }
     requires plain { is_plain line ≡ true }
     ensures serves { IfOk result (λ a. Serves machine.old machine.new line a) }
@@ -268,11 +269,11 @@ impl Generator {
     }
 
     // The six lines of what was run.
-    fn summary(&self) -> Text<256>
-        requires running { IsRunning self.now 0 }
-        requires first { HasEntry self.now.machine 1 0 }
-        requires second { HasEntry self.now.machine 1 1 }
-        ensures { (lines : List Line) → length lines < 2 ^ 62 → HasRun self.now lines → IsSummaryOf lines result }
+    fn summary(&mut self) -> Text<256>
+        requires running { IsRunning self.old 0 }
+        requires first { HasEntry self.old.machine 1 0 }
+        requires second { HasEntry self.old.machine 1 1 }
+        ensures { (lines : List Line) → length lines < 2 ^ 62 → HasRun self.old lines → IsSummaryOf lines result }
     {
         let first = self.machine.counter(1, 0);
         let second = self.machine.counter(1, 1);

@@ -1,5 +1,5 @@
 //! The machine's one call: the line of a script, and the answer to it.
-ghost use Rattle.std.specs.Prelude.{◌≡◌, ℕ, ◌+◌, ◌++◌, ◌<◌, ◌≤◌, ◌^◌, [], true, false, IfNone, IfSome, IsErrOf, OnErr, OnOk, is_some};
+ghost use Rattle.std.specs.Prelude.{◌≡◌, ℕ, ◌+◌, ◌++◌, ◌<◌, ◌≤◌, ◌^◌, [], true, false, IfNone, IfOk, IfSome, IsErrOf, OnErr, OnOk, is_some};
 ghost use Rattle.std.specs.List.{AllByRecursion};
 ghost use Rattle.board_model.specs.LawfulSession.{Session, State, start};
 ghost use Rattle.board_model.specs.AnswerGrammar.{answer_line};
@@ -13,6 +13,7 @@ use crate::machine::Machine;
 use board_lines::{LineError, RunsLines, parse_line, push_answer, push_refused, push_words};
 use board_model::{Line, Reason};
 use board_parties::PartyDomain;
+use board_service::BoardWords;
 use std::alloc::{AllocError, Global};
 
 // Tells the words of a board.
@@ -23,9 +24,9 @@ fn push_listing(words: &[u64], out: &mut Vec<u8>) -> Result<(), AllocError>
     push_words(words, out)
 }
 
-impl Machine {
+impl<C: BoardWords + Drop> Machine<C> {
     /// A machine that stands for the empty session. It takes no memory.
-    pub fn new(alloc: Global) -> Machine
+    pub fn new(alloc: Global) -> Machine<C>
         ensures { StandsAfter result 0 start }
     {
         Machine {
@@ -46,16 +47,14 @@ impl Machine {
     }
 
     // The words of a board, where it stands.
-    fn words_of(&self, number: u64) -> Option<&[u64]>
-        requires { IsLed self.now }
-        ensures none { IfNone result ((s : State) → Represents self.now s → is_some (tables.board_at s.standing.tables number) ≡ false) }
-        ensures stands { IfSome result (λ words. (s : State) → Represents self.now s → is_some (tables.board_at s.standing.tables number) ≡ true) }
-        ensures words { IfSome result (λ words. (s : State) → Represents self.now s → words.now ≡ s.memory number) }
+    fn words_of(&mut self, number: u64) -> Result<Option<Vec<u64>>, AllocError>
+        requires { IsLed self.old }
+        ensures same { self.new ≡ self.old }
+        ensures none { IfOk result (λ found. IfNone found ((s : State) → Represents self.old s → is_some (tables.board_at s.standing.tables number) ≡ false)) }
+        ensures stands { IfOk result (λ found. IfSome found (λ words. (s : State) → Represents self.old s → is_some (tables.board_at s.standing.tables number) ≡ true)) }
+        ensures words { IfOk result (λ found. IfSome found (λ words. (s : State) → Represents self.old s → words.items ≡ s.memory number)) }
     {
-        match self.domain.words_of(number) {
-            Some(words) => Some(words.as_slice()),
-            None => None,
-        }
+        self.domain.copy_words(number)
     }
 
     // Answers a line of the grammar.
@@ -83,8 +82,8 @@ impl Machine {
                 let answer = self.abandon(party)?;
                 push_answer(&answer, out)
             }
-            Line::Words { board } => match self.words_of(board) {
-                Some(words) => push_listing(words, out),
+            Line::Words { board } => match self.words_of(board)? {
+                Some(words) => push_listing(&words, out),
                 None => push_refused(Reason::NoBoard, out),
             },
         }
@@ -128,7 +127,7 @@ impl Machine {
     }
 }
 
-impl RunsLines for Machine {
+impl<C: BoardWords + Drop> RunsLines for Machine<C> {
     ghost stands = { StandsAfter };
 
     fn line(&mut self, line: &[u8], answer: &mut Vec<u8>) -> Result<(), LineError> {

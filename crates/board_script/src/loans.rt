@@ -14,6 +14,7 @@ use crate::machine::{Lent, Machine, TableTask, Task};
 use board_model::{Name, Reason, Reply, ThingKind, Value};
 use board_parties::{Held, same_type, type_of, value_detail, value_words};
 use board_ports::LoanCore;
+use board_service::BoardWords;
 use std::alloc::AllocError;
 
 /// The words of the loan that a party holds under a name.
@@ -49,7 +50,7 @@ pub(crate) fn forget_loan(party: &Name, name: &Name, loans: &mut Vec<Lent>)
     loans.retain(|x| !(*party == x.party && *name == x.name));
 }
 
-impl Machine {
+impl<C: BoardWords + Drop> Machine<C> {
     // The write handle that a loan of the party is, and its words.
     fn loan_held(&self, party: &Name, name: &Name) -> Option<(Held, &Vec<Option<u64>>)>
         ensures { option_map (λ l. (l.0, l.1.now.items)) result ≡ loan_held self.now party.now name.now }
@@ -97,10 +98,11 @@ impl Machine {
     }
 
     /// Whether a word may be put into a loan.
-    pub(crate) fn check_put(&self, party: &Name, loan: Name, index: u64, word: u64) -> Checked
-        requires led { IsLed self.now }
-        requires free { HasNoRow self.now party.now }
-        ensures { Checks self.now party.now (call.Put loan index word) result }
+    pub(crate) fn check_put(&mut self, party: &Name, loan: Name, index: u64, word: u64) -> Checked
+        requires led { IsLed self.old }
+        requires free { HasNoRow self.old party.now }
+        ensures checks { Checks self.old party.now (call.Put loan index word) result }
+        ensures same { self.new ≡ self.old }
     {
         let Some((found, words)) = self.loan_held(party, &loan) else {
             return Checked::Refused(Reason::Unknown);
@@ -121,10 +123,11 @@ impl Machine {
     }
 
     /// Whether the words of a loan may be published.
-    pub(crate) fn check_publish(&self, party: &Name, loan: Name, handle: Name) -> Checked
-        requires led { IsLed self.now }
-        requires free { HasNoRow self.now party.now }
-        ensures { Checks self.now party.now (call.Publish loan handle) result }
+    pub(crate) fn check_publish(&mut self, party: &Name, loan: Name, handle: Name) -> Checked
+        requires led { IsLed self.old }
+        requires free { HasNoRow self.old party.now }
+        ensures checks { Checks self.old party.now (call.Publish loan handle) result }
+        ensures same { self.new ≡ self.old }
     {
         let Some((found, words)) = self.loan_held(party, &loan) else {
             return Checked::Refused(Reason::Unknown);
@@ -148,15 +151,16 @@ impl Machine {
 
     /// Whether a loan may be filled with a value and published.
     pub(crate) fn check_fill(
-        &self,
+        &mut self,
         party: &Name,
         loan: Name,
         handle: Name,
         value: Value,
     ) -> Result<Checked, AllocError>
-        requires led { IsLed self.now }
-        requires free { HasNoRow self.now party.now }
-        ensures { IfOk result (Checks self.now party.now (call.Fill loan handle value)) }
+        requires led { IsLed self.old }
+        requires free { HasNoRow self.old party.now }
+        ensures checks { IfOk result (Checks self.old party.now (call.Fill loan handle value)) }
+        ensures same { self.new ≡ self.old }
     {
         let Some((found, put)) = self.loan_held(party, &loan) else {
             return Ok(Checked::Refused(Reason::Unknown));

@@ -1,9 +1,10 @@
 //! The machine: the domain, and the calls that run.
-use board_cell::{FreshCall, GetCall, PlainWords, PublishCall, PutCall, UpdateCall};
+use board_cell::{FreshCall, GetCall, PublishCall, PutCall, UpdateCall};
 use board_model::{
     AddedEntries, Attributes, BoardName, Key, KeyType, Limits, Name, Requirements, ValueType, Words,
 };
 use board_parties::{Held, PartyDomain};
+use board_service::BoardWords;
 use std::alloc::Global;
 
 /// A call on the tables, with the things that it uses found.
@@ -139,12 +140,12 @@ pub(crate) struct Lent {
     pub(crate) words: Vec<Option<u64>>,
 }
 
-/// Runs the lines of one script, one after another.
+/// Runs the lines of one script, one after another. The words of its boards are held by `C`.
 #[derive(Drop)]
-pub struct Machine {
+pub struct Machine<C: BoardWords> {
     pub(crate) alloc: Global,
     /// The boards, their words, and the things that parties hold.
-    pub(crate) domain: PartyDomain<PlainWords>,
+    pub(crate) domain: PartyDomain<C>,
     /// The parties that run a call or are gone, each once.
     pub(crate) parties: Vec<PartyRow>,
     pub(crate) values: Vec<KeptValue>,

@@ -9,6 +9,7 @@ use crate::loans::forget_loan;
 use crate::lookups::place_of_party;
 use crate::machine::{KeptValue, Machine};
 use board_model::{Access, Answer, Name, Reason, Reply};
+use board_service::BoardWords;
 
 /// Forgets what a party kept under a name.
 fn forget_values(party: &Name, name: &Name, values: &mut Vec<KeptValue>)
@@ -17,7 +18,7 @@ fn forget_values(party: &Name, name: &Name, values: &mut Vec<KeptValue>)
     values.retain(|v| !(*party == v.party && *name == v.name));
 }
 
-impl Machine {
+impl<C: BoardWords + Drop> Machine<C> {
     // Takes away what a party holds under a name, and the board with its last thing.
     fn let_go(&mut self, party: &Name, name: &Name)
         ensures { IsLetGo self.old self.new party.now name.now }

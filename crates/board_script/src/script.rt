@@ -6,6 +6,7 @@ ghost use Rattle.board_model.specs.Script.{IsScript};
 ghost use Rattle.board_lines.specs.Runs.{IsRunOf, IsStopped};
 
 use crate::machine::Machine;
+use board_cell::PlainWords;
 use board_lines::{RunsLines, ScriptError, Sink, Source, run_lines};
 use std::alloc::Global;
 
@@ -40,7 +41,7 @@ pub fn run_script_within<S: Source, K: Sink>(
     ensures read_later { S.faults source.old ≤ S.faults source.new }
     ensures write_later { K.faults sink.old ≤ K.faults sink.new }
 {
-    let mut machine = Machine::new(alloc);
+    let mut machine = Machine::<PlainWords>::new(alloc);
     run_lines(alloc, limit, &mut machine, source, sink)
 }
 

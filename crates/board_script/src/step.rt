@@ -14,6 +14,7 @@ use crate::lookups::{entry_of, place_of_party};
 use crate::machine::{KeptValue, Machine, PartyRow, TableTask, Task};
 use board_cell::{Access as CellAccess, Progress, UpdateCall};
 use board_model::{Access, Answer, Name, Reason, Reply, Words};
+use board_service::BoardWords;
 use std::alloc::AllocError;
 
 /// The read that a call owes.
@@ -172,18 +173,19 @@ impl Task {
     }
 }
 
-impl Machine {
+impl<C: BoardWords + Drop> Machine<C> {
     /// The counter of an entry.
-    pub(crate) fn counter(&self, board: u64, entry: u64) -> u64
-        requires { HasCounter self.now board entry }
-        ensures { IsCounter self.now board entry result }
+    pub(crate) fn counter(&mut self, board: u64, entry: u64) -> u64
+        requires { HasCounter self.old board entry }
+        ensures value { IsCounter self.old board entry result }
+        ensures same { self.new ≡ self.old }
     {
-        match (
-            self.domain.words_of(board),
-            self.domain.entry_at(board, entry),
-        ) {
-            (Some(words), Some(entry)) => words.as_slice()[entry.cell.first as usize],
-            _ => unreachable!(),
+        match self.domain.entry_at(board, entry) {
+            Some(entry) => {
+                let first = entry.cell.first;
+                self.domain.load(board, first)
+            }
+            None => unreachable!(),
         }
     }
 
