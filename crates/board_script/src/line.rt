@@ -89,6 +89,17 @@ impl<C: BoardWords + Drop> Machine<C> {
         }
     }
 
+    // After want of memory: the machine is spent, and what was answered is dropped.
+    fn give_up(&mut self, begun: &mut Vec<u8>) -> LineError
+        ensures error { result ≡ LineError.OutOfMemory }
+        ensures spent { self.new.spent ≡ true }
+        ensures dropped { begun.new.items ≡ [] }
+    {
+        begun.clear();
+        self.spent = true;
+        LineError::OutOfMemory
+    }
+
     /// Answers a line: `answer` then has the answer and its newline, and nothing else.
     ///
     /// # Errors
@@ -112,17 +123,10 @@ impl<C: BoardWords + Drop> Machine<C> {
         match parse_line(self.alloc, line) {
             Ok(Some(parsed)) => match self.answer(parsed, answer) {
                 Ok(()) => Ok(()),
-                Err(_) => {
-                    answer.clear();
-                    self.spent = true;
-                    Err(LineError::OutOfMemory)
-                }
+                Err(_) => Err(self.give_up(answer)),
             },
             Ok(None) => Err(LineError::Bad),
-            Err(_) => {
-                self.spent = true;
-                Err(LineError::OutOfMemory)
-            }
+            Err(_) => Err(self.give_up(answer)),
         }
     }
 }
