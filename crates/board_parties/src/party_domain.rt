@@ -141,9 +141,12 @@ impl<C: BoardWords + Drop> PartyDomain<C> {
         ensures words { IfOk result (λ found. option_map (λ ws. ws.items) found ≡ board_words self.old board) }
         ensures same { self.new ≡ self.old }
     {
-        match self.core.cells_mut(board) {
-            Some(cells) => Ok(Some(words_in(self.alloc, cells)?)),
-            None => Ok(None),
+        let Some(cells) = self.core.cells_mut(board) else {
+            return Ok(None);
+        };
+        match words_in(self.alloc, cells) {
+            Ok(words) => Ok(Some(words)),
+            Err(error) => Err(error),
         }
     }
 

@@ -1,6 +1,6 @@
 -- Lines that list the words of a board.
 use Rattle.std.proofs.Common.{◌≡◌, ℕ, suc, ◌+◌, ◌^◌, ◌<◌, ◌≤◌, true, false, List, [], ◌∷◌, ◌++◌, length, get_or, arith, refl, sym, ap, ◌∙◌, Option, Some, None}
-use Rattle.std.specs.Prelude.{find, is_some, OnOk, Result, Ok, Err}
+use Rattle.std.specs.Prelude.{find, is_some, option_map, IfNone, IfOk, IfSome, OnOk, Result, Ok, Err}
 use Rattle.std.specs.List.{AllByRecursion, position_from}
 use Rattle.std.proofs.lemmas.List.{length-map}
 use Rattle.std.proofs.lemmas.Option.{get_or_from_slice_get, slice_get-get_or}
@@ -59,6 +59,33 @@ module _ {C : Type 0} (m : Machine C) (s : State) (rep : Represents m s) (n : �
       by (Some k) p h =
           let there : Some (get_or m.domain.words k []) ≡ None = sym (slice_get-get_or m.domain.words k [] (place_inside k (sym p))) ∙ h in
           absurd cc
+
+-- ---- words that were copied
+
+module _ {C V E : Type 0} (m : Machine C) (n : ℕ) (items : V → List ℕ) (r : Result (Option V) E) (h : IfOk r (λ found. option_map items found ≡ board_words m.domain n)) where
+  pub copied_none : IfOk r (λ found. IfNone found ((s : State) → Represents m s → is_some (board_at s.standing.tables n) ≡ false))
+  copied_none = by r h
+    where
+      by : (r : Result (Option V) E) → IfOk r (λ found. option_map items found ≡ board_words m.domain n) → IfOk r (λ found. IfNone found ((s : State) → Represents m s → is_some (board_at s.standing.tables n) ≡ false))
+      by (Err e) h = tt
+      by (Ok None) h = λ s rep. words_missing m s rep n (sym h)
+      by (Ok (Some v)) h = tt
+
+  pub copied_stands : IfOk r (λ found. IfSome found (λ v. (s : State) → Represents m s → is_some (board_at s.standing.tables n) ≡ true))
+  copied_stands = by r h
+    where
+      by : (r : Result (Option V) E) → IfOk r (λ found. option_map items found ≡ board_words m.domain n) → IfOk r (λ found. IfSome found (λ v. (s : State) → Represents m s → is_some (board_at s.standing.tables n) ≡ true))
+      by (Err e) h = tt
+      by (Ok None) h = tt
+      by (Ok (Some v)) h = λ s rep. (words_found m s rep n (items v) (sym h)).0
+
+  pub copied_words : IfOk r (λ found. IfSome found (λ v. (s : State) → Represents m s → items v ≡ s.memory n))
+  copied_words = by r h
+    where
+      by : (r : Result (Option V) E) → IfOk r (λ found. option_map items found ≡ board_words m.domain n) → IfOk r (λ found. IfSome found (λ v. (s : State) → Represents m s → items v ≡ s.memory n))
+      by (Err e) h = tt
+      by (Ok None) h = tt
+      by (Ok (Some v)) h = λ s rep. (words_found m s rep n (items v) (sym h)).1
 
 -- ---- answers to the line
 

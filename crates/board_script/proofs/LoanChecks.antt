@@ -1,5 +1,5 @@
 -- Lines that begin a call on a loan that stands.
-use Rattle.std.proofs.Common.{◌≡◌, ℕ, ◌<◌, Bool, true, false, cond, List, length, refl, sym, ap, subst, ◌∙◌, Option, Some, None}
+use Rattle.std.proofs.Common.{◌≡◌, ℕ, ◌<◌, Bool, true, false, cond, List, length, refl, sym, ap, subst, ◌∙◌, Option, Some, None, option_map}
 use Rattle.std.proofs.lemmas.Bool.{lt-ltb}
 use Rattle.board_model.specs.declared.answer.Reason.TheVariants as reason
 use Rattle.board_model.specs.declared.line.Call.{Call}
@@ -21,11 +21,12 @@ use Rattle.board_script.specs.declared.begin.Checked.TheVariants as checked
 use Rattle.board_script.specs.declared.machine.Machine.{Machine}
 use Rattle.board_script.specs.declared.machine.TableTask.TheVariants as table_task
 use Rattle.board_script.specs.declared.machine.Task.TheVariants as task
-use Rattle.board_script.specs.Begins.{IsChecked, IsHandle, holds, loan_held}
+use Rattle.board_model.specs.declared.line.Call.TheVariants as call
+use Rattle.board_script.specs.Begins.{IsChecked, IsHandle, holds, loan_held, written_by}
 use Rattle.board_script.specs.Loans.{lent_words}
 use Rattle.board_script.specs.Machine.{Represents, tables_of}
 use Rattle.board_script.specs.Steps.{IsCounter}
-use Rattle.board_script.proofs.CallChecks.{entry_stands, taken_is, write_handle}
+use Rattle.board_script.proofs.CallChecks.{entry_stands, taken_is, write_handle, unlent_handle}
 use Rattle.board_script.proofs.TableSteps.{counter_at, some_entry}
 
 -- a call is looked at so in a state
@@ -46,6 +47,23 @@ loan_handle m party loan x words e =
     thing (Some t) (Some ws) e =
         let p : (t, ws) ≡ (x, words) = cc in
         ap (λ (q : Held × List (Option ℕ)). Some q.0) p
+
+abbrev a_thing : Held → Option Held
+a_thing x = Some x
+
+loan_thing : {C : Type 0} (m : Machine C) (party loan : List ℕ) (x : Held) (o : Option (Held × List (Option ℕ))) → loan_held m party loan ≡ o → option_map (λ l. l.0) o ≡ a_thing x → IsHandle m x
+loan_thing m party loan x None f e = absurd cc
+loan_thing m party loan x (Some l) f e =
+    let q : l.0 ≡ x = cc in
+    subst (IsHandle m) q (loan_handle m party loan l.0 l.1 f)
+
+-- what a call writes is a handle
+pub written_handle : {C : Type 0} (m : Machine C) (party : List ℕ) (c : Call) (x : Held) → written_by m party c ≡ Some x → IsHandle m x
+written_handle m party (call.Update h v) x e = unlent_handle m party h x e
+written_handle m party (call.Put l i w) x e = loan_thing m party l x (loan_held m party l) refl e
+written_handle m party (call.Publish l h) x e = loan_thing m party l x (loan_held m party l) refl e
+written_handle m party (call.Fill l h v) x e = loan_thing m party l x (loan_held m party l) refl e
+written_handle m party c x e = absurd cc
 
 -- the thing that was found, whatever its kind was asked to be
 thing_found : (k : ThingKind) (o : Option Held) (x : Held) → of_kind k o ≡ Some x → o ≡ Some x

@@ -1,8 +1,11 @@
 -- Whether a call may begin.
-use Rattle.std.specs.Prelude.{◌≡◌, ℕ, Bool, true, false, ◌||◌, if◌then◌else◌, List, [], Option, Some, None, is_some, not}
+use Rattle.std.specs.Prelude.{◌≡◌, ℕ, Bool, true, false, ◌||◌, if◌then◌else◌, List, [], Option, Some, None, is_some, not, option_map}
 use Rattle.std.specs.List.{position_from}
 use Rattle.board_model.specs.declared.answer.Reason.{Reason}
 use Rattle.board_model.specs.declared.line.Call.{Call}
+use Rattle.board_model.specs.declared.line.Call.TheVariants as call
+use Rattle.board_model.specs.Tables.{entry_of}
+use Rattle.board_script.specs.Steps.{IsCounter}
 use Rattle.board_model.specs.declared.tables.Kind.{Kind}
 use Rattle.board_model.specs.declared.tables.Kind.TheVariants as kind
 use Rattle.board_model.specs.Requests.{Request, and_then, request_of}
@@ -54,6 +57,23 @@ handle_held m party name = if is_some (lent_words m.loans.items party name) then
 -- the write handle that a loan is, and the words that were put
 abbrev pub loan_held : {C : Type 0} → Machine C → List ℕ → List ℕ → Option (Held × List (Option ℕ))
 loan_held m party name = and_then (of_kind thing_kind.WriteHandle (thing_of m.domain.tables.things party name)) (λ t. and_then (lent_words m.loans.items party name) (λ words. Some (t, words)))
+
+-- the number is the counter of the entry of this thing, where there is one
+abbrev pub IsGenerationOf : {C : Type 0} → Machine C → Option Held → ℕ → Type 0
+IsGenerationOf m None g = Unit {0}
+IsGenerationOf m (Some x) g = IsCounter m x.board (entry_of x.kind) g
+
+-- the handle or the loan whose entry the call writes, where the party has it
+abbrev pub written_by : {C : Type 0} → Machine C → List ℕ → Call → Option Held
+written_by m party (call.Update h v) = handle_held m party h
+written_by m party (call.Put l i w) = option_map (λ x. x.0) (loan_held m party l)
+written_by m party (call.Publish l h) = option_map (λ x. x.0) (loan_held m party l)
+written_by m party (call.Fill l h v) = option_map (λ x. x.0) (loan_held m party l)
+written_by m party c = None
+
+-- the number is the counter of the entry that the call writes
+abbrev pub HasGeneration : {C : Type 0} → Machine C → List ℕ → Call → ℕ → Type 0
+HasGeneration m party c g = IsGenerationOf m (written_by m party c) g
 
 -- a thing of this kind has an id: no factory has, and no loan
 abbrev pub has_id : Kind → Bool → Bool

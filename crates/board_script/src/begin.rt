@@ -7,7 +7,7 @@ ghost use Rattle.board_model.specs.Things as held;
 ghost use Rattle.board_model.specs.declared.line.Call.TheVariants as call;
 ghost use Rattle.board_model.specs.declared.line.Line.TheVariants as line;
 ghost use Rattle.board_script.specs.Machine.{IsLed, Serves, kept, tables_of};
-ghost use Rattle.board_script.specs.Begins.{Checks, HasNoRow, IsHandle, handle_held, has_id, holds, holds_any};
+ghost use Rattle.board_script.specs.Begins.{Checks, HasGeneration, HasNoRow, IsHandle, handle_held, has_id, holds, holds_any, written_by};
 ghost use Rattle.board_script.specs.Loans.{lent_words};
 
 use crate::loans::words_lent;
@@ -319,24 +319,24 @@ impl<C: BoardWords + Drop> Machine<C> {
     }
 
     fn check_update(
-        &mut self,
+        &self,
         party: &Name,
         handle: &Name,
         value: Value,
+        generation: u64,
     ) -> Result<Checked, AllocError>
-        requires { IsLed self.old }
-        ensures checks { IfOk result (Checks self.old party.now (call.Update handle.now value)) }
-        ensures same { self.new ≡ self.old }
+        requires led { IsLed self.now }
+        requires generation { HasGeneration self.now party.now (call.Update handle.now value) generation }
+        ensures { IfOk result (Checks self.now party.now (call.Update handle.now value)) }
     {
         let Some(found) = self.handle_held(party, handle) else {
             return Ok(Checked::Refused(Reason::Unknown));
         };
-        let entry = *self.entry_held(&found);
+        let entry = self.entry_held(&found);
         if !same_type(&value_detail(type_of(value)), &entry.value) {
             return Ok(Checked::Refused(Reason::Type));
         }
-        let generation = self.counter(found.board, entry_of(&found.kind));
-        let core = write_core(&entry, generation);
+        let core = write_core(entry, generation);
         let words = value_words(self.alloc, value)?;
         Ok(Checked::Accepted(Task::Update {
             board: found.board,
@@ -392,12 +392,45 @@ impl<C: BoardWords + Drop> Machine<C> {
         }
     }
 
-    // Whether the call may begin.
-    fn check(&mut self, party: &Name, call: Call) -> Result<Checked, AllocError>
-        requires led { IsLed self.old }
-        requires free { HasNoRow self.old party.now }
-        ensures checks { IfOk result (Checks self.old party.now call) }
+    // The handle or the loan whose entry the call writes, where the party has it.
+    fn written_by(&self, party: &Name, call: &Call) -> Option<Held>
+        ensures { result ≡ written_by self.now party.now call.now }
+    {
+        match call {
+            Call::Update { handle, value: _ } => self.handle_held(party, handle),
+            Call::Put {
+                loan,
+                index: _,
+                word: _,
+            } => self.thing_of_loan(party, loan),
+            Call::Publish { loan, handle: _ } => self.thing_of_loan(party, loan),
+            Call::Fill {
+                loan,
+                handle: _,
+                value: _,
+            } => self.thing_of_loan(party, loan),
+            _ => None,
+        }
+    }
+
+    // The counter of the entry that the call writes. 0 where the party has no such handle or loan.
+    fn generation_for(&mut self, party: &Name, call: &Call) -> u64
+        requires { IsLed self.old }
+        ensures generation { HasGeneration self.old party.now call.now result }
         ensures same { self.new ≡ self.old }
+    {
+        match self.written_by(party, call) {
+            Some(found) => self.counter(found.board, entry_of(&found.kind)),
+            None => 0,
+        }
+    }
+
+    // Whether the call may begin.
+    fn check(&self, party: &Name, call: Call, generation: u64) -> Result<Checked, AllocError>
+        requires led { IsLed self.now }
+        requires free { HasNoRow self.now party.now }
+        requires generation { HasGeneration self.now party.now call generation }
+        ensures { IfOk result (Checks self.now party.now call) }
     {
         match call {
             Call::Create {
@@ -431,16 +464,20 @@ impl<C: BoardWords + Drop> Machine<C> {
             } => Ok(self.check_entry_mut(party, handle, &writer, key, value_type)),
             Call::Get { handle, value } => self.check_get(party, &handle, value),
             Call::Fresh { handle, value } => Ok(self.check_fresh(party, &handle, &value)),
-            Call::Update { handle, value } => self.check_update(party, &handle, value),
+            Call::Update { handle, value } => self.check_update(party, &handle, value, generation),
             Call::Loan { loan, handle } => Ok(self.check_loan(party, loan, &handle)),
             Call::Discard { loan, handle } => Ok(self.check_discard(party, loan, handle)),
-            Call::Put { loan, index, word } => Ok(self.check_put(party, loan, index, word)),
-            Call::Publish { loan, handle } => Ok(self.check_publish(party, loan, handle)),
+            Call::Put { loan, index, word } => Ok(self.check_put(
+                party, loan, index, word, generation,
+            )),
+            Call::Publish { loan, handle } => Ok(self.check_publish(
+                party, loan, handle, generation,
+            )),
             Call::Fill {
                 loan,
                 handle,
                 value,
-            } => self.check_fill(party, loan, handle, value),
+            } => self.check_fill(party, loan, handle, value, generation),
             Call::Keys { factory } => Ok(self.check_keys(party, &factory)),
             Call::Nodes { factory } => Ok(self.check_nodes(party, &factory)),
             Call::Info { factory } => Ok(self.check_info(party, &factory)),
@@ -461,7 +498,8 @@ impl<C: BoardWords + Drop> Machine<C> {
             }
             return Ok(Answer::Refused(Reason::Busy));
         }
-        match self.check(&party, call)? {
+        let generation = self.generation_for(&party, &call);
+        match self.check(&party, call, generation)? {
             Checked::Refused(why) => Ok(Answer::Refused(why)),
             Checked::Accepted(task) => {
                 self.parties.push(PartyRow { name: party, task })?;

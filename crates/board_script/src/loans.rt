@@ -3,13 +3,12 @@ ghost use Rattle.std.specs.Prelude.{◌≡◌, ◌<◌, Option, None, IfOk, OnOk
 ghost use Rattle.std.specs.List.{filter, position_from};
 ghost use Rattle.board_model.specs.declared.answer.Reply.TheVariants as reply;
 ghost use Rattle.board_model.specs.declared.line.Call.TheVariants as call;
-ghost use Rattle.board_script.specs.Begins.{Checks, HasNoRow, loan_held};
+ghost use Rattle.board_script.specs.Begins.{Checks, HasGeneration, HasNoRow, loan_held};
 ghost use Rattle.board_script.specs.LoanCalls.{CanSettle, HasLoanWord, IsGivenBack, IsLoaned, IsSettled, IsWordPut};
 ghost use Rattle.board_script.specs.Loans.{is_lent_as, lent_words};
 ghost use Rattle.board_script.specs.Machine.{IsLed};
 
 use crate::begin::{Checked, write_core};
-use crate::lookups::entry_of;
 use crate::machine::{Lent, Machine, TableTask, Task};
 use board_model::{Name, Reason, Reply, ThingKind, Value};
 use board_parties::{Held, same_type, type_of, value_detail, value_words};
@@ -65,6 +64,16 @@ impl<C: BoardWords + Drop> Machine<C> {
         }
     }
 
+    /// The write handle that a loan of the party is.
+    pub(crate) fn thing_of_loan(&self, party: &Name, name: &Name) -> Option<Held>
+        ensures { result ≡ option_map (λ l. l.0) (loan_held self.now party.now name.now) }
+    {
+        match self.loan_held(party, name) {
+            Some((found, _)) => Some(found),
+            None => None,
+        }
+    }
+
     /// Whether a loan may be made.
     pub(crate) fn check_loan(&self, party: &Name, loan: Name, handle: &Name) -> Checked
         requires { IsLed self.now }
@@ -98,17 +107,23 @@ impl<C: BoardWords + Drop> Machine<C> {
     }
 
     /// Whether a word may be put into a loan.
-    pub(crate) fn check_put(&mut self, party: &Name, loan: Name, index: u64, word: u64) -> Checked
-        requires led { IsLed self.old }
-        requires free { HasNoRow self.old party.now }
-        ensures checks { Checks self.old party.now (call.Put loan index word) result }
-        ensures same { self.new ≡ self.old }
+    pub(crate) fn check_put(
+        &self,
+        party: &Name,
+        loan: Name,
+        index: u64,
+        word: u64,
+        generation: u64,
+    ) -> Checked
+        requires led { IsLed self.now }
+        requires free { HasNoRow self.now party.now }
+        requires generation { HasGeneration self.now party.now (call.Put loan index word) generation }
+        ensures { Checks self.now party.now (call.Put loan index word) result }
     {
         let Some((found, words)) = self.loan_held(party, &loan) else {
             return Checked::Refused(Reason::Unknown);
         };
         let entry = self.entry_held(&found);
-        let generation = self.counter(found.board, entry_of(&found.kind));
         let core = LoanCore::lent(write_core(entry, generation), words);
         let Some(call) = core.put(index, word) else {
             return Checked::Refused(Reason::Index);
@@ -123,11 +138,17 @@ impl<C: BoardWords + Drop> Machine<C> {
     }
 
     /// Whether the words of a loan may be published.
-    pub(crate) fn check_publish(&mut self, party: &Name, loan: Name, handle: Name) -> Checked
-        requires led { IsLed self.old }
-        requires free { HasNoRow self.old party.now }
-        ensures checks { Checks self.old party.now (call.Publish loan handle) result }
-        ensures same { self.new ≡ self.old }
+    pub(crate) fn check_publish(
+        &self,
+        party: &Name,
+        loan: Name,
+        handle: Name,
+        generation: u64,
+    ) -> Checked
+        requires led { IsLed self.now }
+        requires free { HasNoRow self.now party.now }
+        requires generation { HasGeneration self.now party.now (call.Publish loan handle) generation }
+        ensures { Checks self.now party.now (call.Publish loan handle) result }
     {
         let Some((found, words)) = self.loan_held(party, &loan) else {
             return Checked::Refused(Reason::Unknown);
@@ -136,7 +157,6 @@ impl<C: BoardWords + Drop> Machine<C> {
         if self.holds(party, &handle) {
             return Checked::Refused(Reason::Taken);
         }
-        let generation = self.counter(found.board, entry_of(&found.kind));
         let core = LoanCore::lent(write_core(entry, generation), words);
         if !core.is_filled() {
             return Checked::Refused(Reason::Unfilled);
@@ -151,16 +171,17 @@ impl<C: BoardWords + Drop> Machine<C> {
 
     /// Whether a loan may be filled with a value and published.
     pub(crate) fn check_fill(
-        &mut self,
+        &self,
         party: &Name,
         loan: Name,
         handle: Name,
         value: Value,
+        generation: u64,
     ) -> Result<Checked, AllocError>
-        requires led { IsLed self.old }
-        requires free { HasNoRow self.old party.now }
-        ensures checks { IfOk result (Checks self.old party.now (call.Fill loan handle value)) }
-        ensures same { self.new ≡ self.old }
+        requires led { IsLed self.now }
+        requires free { HasNoRow self.now party.now }
+        requires generation { HasGeneration self.now party.now (call.Fill loan handle value) generation }
+        ensures { IfOk result (Checks self.now party.now (call.Fill loan handle value)) }
     {
         let Some((found, put)) = self.loan_held(party, &loan) else {
             return Ok(Checked::Refused(Reason::Unknown));
@@ -172,7 +193,6 @@ impl<C: BoardWords + Drop> Machine<C> {
         if !same_type(&value_detail(type_of(value)), &entry.value) {
             return Ok(Checked::Refused(Reason::Type));
         }
-        let generation = self.counter(found.board, entry_of(&found.kind));
         let core = LoanCore::lent(write_core(entry, generation), put);
         let words = value_words(self.alloc, value)?;
         Ok(Checked::Accepted(Task::Fill {

@@ -12,30 +12,30 @@ abbrev a_place : ℕ → Option ℕ
 a_place n = Some n
 
 pub index-requires : goal.index-requires
-index-requires c =
+index-requires g c =
     let place : a_place c.in-Some.at ≡ position_from (is_row_of c.args.party) 0 c.args.self.now.parties.items = search rules in
     let first = first_at (is_row_of c.args.party) c.in-Some.at c.args.self.now.parties.items place in
     search (rules, first.inside)
 
 pub index_mut-requires : goal.index_mut-requires
-index_mut-requires c =
+index_mut-requires g c =
     let place : a_place c.in-Some.at ≡ position_from (is_row_of c.args.party) 0 c.args.self.now.parties.items = search rules in
     let first = first_at (is_row_of c.args.party) c.in-Some.at c.args.self.now.parties.items place in
     search (rules, first.inside)
 
 pub returns-in_default-clause-serves : goal.returns-in_default-clause-serves
-returns-in_default-clause-serves c =
+returns-in_default-clause-serves g c =
     let none : None ≡ position_from (is_row_of c.args.party) 0 c.args.self.now.parties.items = search rules in
     λ s rep reached l. free_leaves c.args.self.now _ s rep c.args.party l refl refl refl refl refl (is_free c.args.self.now.parties.items s.parties rep.parties c.args.party none) c.in_ok-push.ensures.items
 
 pub returns-then-is_gone-clause-serves : goal.returns-then-is_gone-clause-serves
-returns-then-is_gone-clause-serves c =
+returns-then-is_gone-clause-serves g c =
     let place : a_place c.in-Some.at ≡ position_from (is_row_of c.args.party) 0 c.args.self.now.parties.items = search rules in
     let g : is_gone c.index.result.now.task ≡ true = search rules in
     λ s rep reached l. (abandon_again s c.args.party (gone_at c.args.self.now.parties.items s.parties rep.parties c.args.party c.in-Some.at c.index.result.now place c.index.ensures g) l, rep)
 
 pub returns-clause-serves : goal.returns-clause-serves
-returns-clause-serves c =
+returns-clause-serves g c =
     let place : a_place c.in-Some.at ≡ position_from (is_row_of c.args.party) 0 c.args.self.now.parties.items = search rules in
     let g : is_gone c.index.result.now.task ≡ false = search rules in
     let items = c.args.self.now.parties.items in

@@ -8,7 +8,7 @@ abbrev a_loan : Held → List (Option ℕ) → Option (Held × List (Option ℕ)
 a_loan x words = Some (x, words)
 
 pub returns-then-holds : goal.returns-then-holds
-returns-then-holds c =
+returns-then-holds g c =
     let m = c.args.self.now in
     let party = c.args.party.now in
     let x = c.in-Some.field-0.0 in
@@ -20,7 +20,7 @@ returns-then-holds c =
     discard_taken m s rep party sound x e.0 e.1 c.args.loan words held c.args.handle taken
 
 pub returns : goal.returns
-returns c =
+returns g c =
     let m = c.args.self.now in
     let party = c.args.party.now in
     let x = c.in-Some.field-0.0 in

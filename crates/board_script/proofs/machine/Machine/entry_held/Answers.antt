@@ -11,7 +11,7 @@ none_stands None e h = absurd cc
 none_stands (Some x) e h = absurd cc
 
 pub unreachable-requires : goal.unreachable-requires
-unreachable-requires c =
+unreachable-requires g c =
     let led = c.requires.led in
     let x = c.args.handle.now in
     let none : entry_at (tables_of c.args.self.now) x.board (entry_of x.kind) ≡ None = search rules in

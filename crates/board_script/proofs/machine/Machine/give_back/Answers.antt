@@ -3,7 +3,7 @@ use Rattle.board_script.proofs.LoanRows.{forgotten}
 use Rattle.board_script.proofs.machine.Machine.give_back.Goals as goal
 
 pub returns : goal.returns
-returns c =
+returns g c =
     let m = c.args.self.now in
     record {
       domain = c.rename.ensures;

@@ -9,7 +9,7 @@ use Rattle.board_script.proofs.LoanRows.{added, same_name}
 use Rattle.board_script.proofs.machine.Machine.lend.Goals as goal
 
 pub returns-clause-loan : goal.returns-clause-loan
-returns-clause-loan c =
+returns-clause-loan g c =
     let m = c.args.self.now in
     let none : c.in_ok-none_put.none_put.items ≡ none_put c.args.words = search rules in
     let x : Lent = record { party = c.args.party; name = c.args.loan; words = c.in_ok-none_put.none_put } in

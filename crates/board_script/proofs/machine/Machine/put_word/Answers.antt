@@ -10,25 +10,25 @@ abbrev a_place : ℕ → Option ℕ
 a_place n = Some n
 
 pub index_mut-requires : goal.index_mut-requires
-index_mut-requires c =
+index_mut-requires g c =
     let place : a_place c.in-Some.place ≡ position_from (is_lent_as c.args.party.now c.args.loan.now) 0 c.args.self.now.loans.items = search rules in
     let first = first_at (is_lent_as c.args.party.now c.args.loan.now) c.in-Some.place c.args.self.now.loans.items place in
     search (rules, first.inside)
 
 pub index_mut-requires-in-Some : goal.index_mut-requires-in-Some
-index_mut-requires-in-Some c =
+index_mut-requires-in-Some g c =
     let place : a_place c.in-Some.place ≡ position_from (is_lent_as c.args.party.now c.args.loan.now) 0 c.args.self.now.loans.items = search rules in
     let here = lent_at c.args.party.now c.args.loan.now c.args.self.now.loans.items c.in-Some.place c.index_mut.result.now c.requires.words place c.index_mut.ensures.value c.requires.lent in
     let below : c.args.index < length c.index_mut.result.now.words.items = subst (λ (ws : List (Option ℕ)). c.args.index < length ws) (sym here) c.requires.below in
     search (rules, below)
 
 pub unreachable-requires : goal.unreachable-requires
-unreachable-requires c =
+unreachable-requires g c =
     let none : None ≡ position_from (is_lent_as c.args.party.now c.args.loan.now) 0 c.args.self.now.loans.items = search rules in
     lent_nowhere c.args.party.now c.args.loan.now c.args.self.now.loans.items c.requires.words none c.requires.lent
 
 pub returns : goal.returns
-returns c =
+returns g c =
     let m = c.args.self.now in
     let party = c.args.party.now in
     let loan = c.args.loan.now in

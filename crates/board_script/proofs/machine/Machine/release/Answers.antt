@@ -12,19 +12,19 @@ abbrev a_place : ℕ → Option ℕ
 a_place n = Some n
 
 pub index-requires : goal.index-requires
-index-requires c =
+index-requires g c =
     let place : a_place c.in-Some.at ≡ position_from (is_row_of c.args.party.now) 0 c.args.self.now.parties.items = search rules in
     let first = first_at (is_row_of c.args.party.now) c.in-Some.at c.args.self.now.parties.items place in
     search (rules, first.inside)
 
 pub returns-then-is_gone-clause-serves : goal.returns-then-is_gone-clause-serves
-returns-then-is_gone-clause-serves c =
+returns-then-is_gone-clause-serves g c =
     let place : a_place c.in-Some.at ≡ position_from (is_row_of c.args.party.now) 0 c.args.self.now.parties.items = search rules in
     let g : is_gone c.index.result.now.task ≡ true = search rules in
     λ s rep reached l. (release_gone c.args.self.now s rep c.args.party.now c.args.name.now l (gone_at c.args.self.now.parties.items s.parties rep.parties c.args.party.now c.in-Some.at c.index.result.now place c.index.ensures g), rep)
 
 pub returns-in-Some-clause-serves : goal.returns-in-Some-clause-serves
-returns-in-Some-clause-serves c =
+returns-in-Some-clause-serves g c =
     let place : a_place c.in-Some.at ≡ position_from (is_row_of c.args.party.now) 0 c.args.self.now.parties.items = search rules in
     let g : is_gone c.index.result.now.task ≡ false = search rules in
     λ s rep reached l.
@@ -32,14 +32,14 @@ returns-in-Some-clause-serves c =
     (release_busy c.args.self.now s rep c.args.party.now c.args.name.now l runs.r runs.runs, rep)
 
 pub returns-then-not-holds-clause-serves : goal.returns-then-not-holds-clause-serves
-returns-then-not-holds-clause-serves c =
+returns-then-not-holds-clause-serves g c =
     let m = c.args.self.now in
     let none : None ≡ position_from (is_row_of c.args.party.now) 0 m.parties.items = search rules in
     let held : holds m c.args.party.now c.args.name.now ≡ false = search rules in
     λ s rep reached l. (release_unknown m s rep c.args.party.now c.args.name.now l (is_free m.parties.items s.parties rep.parties c.args.party.now none) held, rep)
 
 pub returns-clause-serves : goal.returns-clause-serves
-returns-clause-serves c =
+returns-clause-serves g c =
     let m = c.args.self.now in
     let none : None ≡ position_from (is_row_of c.args.party.now) 0 m.parties.items = search rules in
     let held : holds m c.args.party.now c.args.name.now ≡ true = search rules in

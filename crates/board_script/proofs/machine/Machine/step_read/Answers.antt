@@ -1,7 +1,6 @@
 use Rattle.std.proofs.Common.{◌≡◌, ℕ, ◌<◌, ◌^◌, List, length, get_or, set, rules, sym, ap, subst, ◌∙◌}
 use Rattle.std.specs.List.{remove}
 use Rattle.board_parties.specs.Parties.{Parties}
-use Rattle.board_script.specs.declared.machine.Machine.{Machine}
 use Rattle.board_script.specs.declared.machine.PartyRow.{PartyRow}
 use Rattle.board_script.specs.declared.step.OwedAccess.TheVariants as owed
 use Rattle.board_script.specs.Steps.{CanGoOn, IsReadTold, is_last, ticked}
@@ -12,7 +11,7 @@ use Rattle.board_script.proofs.OwedWords.{row_goes_on}
 use Rattle.board_script.proofs.machine.Machine.step_read.Goals as goal
 
 pub read_word-value-requires : goal.read_word-value-requires
-read_word-value-requires c =
+read_word-value-requires g c =
     let m = c.args.self.now in
     let party = c.args.party.now in
     let o = owed.Read c.args.read in
@@ -21,13 +20,13 @@ read_word-value-requires c =
     row_has_read m led.state led.represents led.reached.sound party c.args.at (owed_row m party c.args.at o owes) (row_runs m party c.args.at o owes led.state led.represents) c.args.read (row_owes m party c.args.at o owes)
 
 pub index_mut-requires : goal.index_mut-requires
-index_mut-requires c =
+index_mut-requires g c =
     let inside = row_inside c.args.self.now c.args.party.now c.args.at (owed.Read c.args.read) c.requires.owes in
     let still : c.args.at < length c.read_word-value.new.self.parties.items = subst (λ (xs : List PartyRow). c.args.at < length xs) (sym c.read_word-value.ensures.same.rest.parties) inside in
     search (rules, still)
 
 pub took-requires : goal.took-requires
-took-requires c =
+took-requires g c =
     let m = c.args.self.now in
     let party = c.args.party.now in
     let o = owed.Read c.args.read in
@@ -38,13 +37,13 @@ took-requires c =
     subst (λ (x : PartyRow). CanGoOn x.task) (sym is) (row_goes_on m led.state led.represents led.reached.sound party c.args.at (owed_row m party c.args.at o owes) (row_runs m party c.args.at o owes led.state led.represents))
 
 pub remove-name-requires : goal.remove-name-requires
-remove-name-requires c =
+remove-name-requires g c =
     let inside = row_inside c.args.self.now c.args.party.now c.args.at (owed.Read c.args.read) c.requires.owes in
     let still : c.args.at < length c.read_word-value.new.self.parties.items = subst (λ (xs : List PartyRow). c.args.at < length xs) (sym c.read_word-value.ensures.same.rest.parties) inside in
     search (rules, still)
 
 pub returns-in-More-clause-serves : goal.returns-in-More-clause-serves
-returns-in-More-clause-serves c =
+returns-in-More-clause-serves g c =
     let m = c.args.self.now in
     let party = c.args.party.now in
     let at = c.args.at in
@@ -66,7 +65,7 @@ returns-in-More-clause-serves c =
     (ap (λ (z : PartyRow). is_last z.task v) (sym is) ∙ last) (ap (λ (xs : List PartyRow). set xs at y) same.rest.parties)
 
 pub returns-in_ok-told-in-Done-clause-serves : goal.returns-in_ok-told-in-Done-clause-serves
-returns-in_ok-told-in-Done-clause-serves c =
+returns-in_ok-told-in-Done-clause-serves g c =
     let m = c.args.self.now in
     let party = c.args.party.now in
     let at = c.args.at in
@@ -86,7 +85,7 @@ returns-in_ok-told-in-Done-clause-serves c =
     let inside = subst (λ (xs : List PartyRow). at < length xs) (sym same.rest.parties) (row_inside m party at o owes) in
     let gone = c.remove-name.result in
     let gone_is : gone ≡ y = c.remove-name.ensures.value ∙ set-there c.read_word-value.new.self.parties.items at y gone inside in
-    let mid : Machine = record c.read_word-value.new.self { parties = c.remove-name.new.self } in
+    let mid = record c.read_word-value.new.self { parties = c.remove-name.new.self } in
     let told_y : IsReadTold mid c.tell_read.new.self y.name y.task c.in_ok-told-in-Done.told = subst (λ (z : PartyRow). IsReadTold mid c.tell_read.new.self z.name z.task c.in_ok-told-in-Done.told) gone_is c.in_ok-told-in-Done.ensures.told in
     let rows = c.remove-name.ensures.items ∙ ap (λ (xs : List PartyRow). remove (set xs at y) at) same.rest.parties in
     λ s rep reached l.

@@ -1,5 +1,4 @@
 use Rattle.std.proofs.Common.{◌<◌, ℕ, ◌^◌, List, length, get_or, rules, refl, sym, ap, subst, ◌∙◌}
-use Rattle.board_script.specs.declared.machine.Machine.{Machine}
 use Rattle.board_script.specs.declared.machine.PartyRow.{PartyRow}
 use Rattle.board_script.specs.declared.step.OwedAccess.TheVariants as owed
 use Rattle.board_script.specs.LoanCalls.{CanSettle, IsSettled}
@@ -10,7 +9,7 @@ use Rattle.board_script.proofs.WriteSteps.{can_settle, row_has_word, write_ends,
 use Rattle.board_script.proofs.machine.Machine.step_write.Goals as goal
 
 pub write_word-requires : goal.write_word-requires
-write_word-requires c =
+write_word-requires g c =
     let m = c.args.self.now in
     let party = c.args.party.now in
     let o = owed.Write c.args.write in
@@ -19,19 +18,19 @@ write_word-requires c =
     row_has_word m led.state led.represents led.reached.sound party c.args.at (owed_row m party c.args.at o owes) (row_runs m party c.args.at o owes led.state led.represents) c.args.write (row_owes m party c.args.at o owes)
 
 pub remove-name-requires : goal.remove-name-requires
-remove-name-requires c =
+remove-name-requires g c =
     let inside = row_inside c.args.self.now c.args.party.now c.args.at (owed.Write c.args.write) c.requires.owes in
     let still : c.args.at < length c.write_word.new.self.parties.items = subst (λ (xs : List PartyRow). c.args.at < length xs) (sym c.write_word.ensures.rest.parties) inside in
     search (rules, still)
 
 pub index_mut-requires : goal.index_mut-requires
-index_mut-requires c =
+index_mut-requires g c =
     let inside = row_inside c.args.self.now c.args.party.now c.args.at (owed.Write c.args.write) c.requires.owes in
     let still : c.args.at < length c.write_word.new.self.parties.items = subst (λ (xs : List PartyRow). c.args.at < length xs) (sym c.write_word.ensures.rest.parties) inside in
     search (rules, still)
 
 pub took-requires : goal.took-requires
-took-requires c =
+took-requires g c =
     let m = c.args.self.now in
     let party = c.args.party.now in
     let o = owed.Write c.args.write in
@@ -42,7 +41,7 @@ took-requires c =
     subst (λ (x : PartyRow). CanGoOn x.task) (sym is) (row_goes_on m led.state led.represents led.reached.sound party c.args.at (owed_row m party c.args.at o owes) (row_runs m party c.args.at o owes led.state led.represents))
 
 pub settle-requires : goal.settle-requires
-settle-requires c =
+settle-requires g c =
     let m = c.args.self.now in
     let party = c.args.party.now in
     let o = owed.Write c.args.write in
@@ -52,13 +51,13 @@ settle-requires c =
     let runs = row_runs m party c.args.at o owes led.state led.represents in
     let x = c.remove-name.result in
     let is = row_is m party c.args.at o owes x (c.remove-name.ensures.value ∙ ap (λ (xs : List PartyRow). get_or xs c.args.at x) c.write_word.ensures.rest.parties) in
-    let mid : Machine = record c.write_word.new.self { parties = c.remove-name.new.self } in
+    let mid = record c.write_word.new.self { parties = c.remove-name.new.self } in
     let can = can_settle m led.state led.represents led.reached.sound party c.args.at row runs mid c.write_word.ensures.rest.loans row.task runs.task in
     let of_row : CanSettle mid row.name row.task = subst (λ (p : List ℕ). CanSettle mid p row.task) (sym runs.name) can in
     subst (λ (z : PartyRow). CanSettle mid z.name z.task) (sym is) of_row
 
 pub returns-then-write-clause-serves : goal.returns-then-write-clause-serves
-returns-then-write-clause-serves c =
+returns-then-write-clause-serves g c =
     let m = c.args.self.now in
     let party = c.args.party.now in
     let o = owed.Write c.args.write in
@@ -69,7 +68,7 @@ returns-then-write-clause-serves c =
     let value : c.args.write.value < 2 ^ 64 = search rules in
     let x = c.remove-name.result in
     let is = row_is m party c.args.at o owes x (c.remove-name.ensures.value ∙ ap (λ (xs : List PartyRow). get_or xs c.args.at x) c.write_word.ensures.rest.parties) in
-    let mid : Machine = record c.write_word.new.self { parties = c.remove-name.new.self } in
+    let mid = record c.write_word.new.self { parties = c.remove-name.new.self } in
     let of_row : IsSettled mid c.settle.new.self row.name row.task = subst (λ (z : PartyRow). IsSettled mid c.settle.new.self z.name z.task) is c.settle.ensures in
     λ s rep reached l.
     let runs = row_runs m party c.args.at o owes s rep in
@@ -78,7 +77,7 @@ returns-then-write-clause-serves c =
     (record { board = board; word = word; value = value }) l mid c.settle.new.self refl refl refl refl refl c.remove-name.ensures.items c.if-write.true settled
 
 pub returns-else-write-clause-serves : goal.returns-else-write-clause-serves
-returns-else-write-clause-serves c =
+returns-else-write-clause-serves g c =
     let m = c.args.self.now in
     let party = c.args.party.now in
     let o = owed.Write c.args.write in
