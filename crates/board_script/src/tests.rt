@@ -4,7 +4,11 @@ mod generator;
 mod loans;
 mod readers;
 
-use crate::{MemorySink, MemorySource, ScriptError, run_script, run_script_within, run_words};
+use crate::{
+    Machine, MemorySink, MemorySource, ScriptError, run_script, run_script_within, run_words,
+};
+use board_cell::SeatWords;
+use board_lines::run_lines;
 use std::alloc::Global;
 use std::process::Abort;
 use std::test::Fail;
@@ -59,6 +63,19 @@ const FIRST_RUN: Row = Row {
 #[test]
 fn the_first_run(rt: HostRuntime) -> Result<(), Fail> {
     agrees(&rt, rt.alloc(), &FIRST_RUN, 0, 0)
+}
+
+#[test]
+fn the_first_run_on_shared_words(rt: HostRuntime) -> Result<(), Fail> {
+    let alloc = rt.alloc();
+    let mut machine = Machine::<SeatWords>::new(alloc);
+    let script = Vec::from_slice(alloc, FIRST_RUN.script)?;
+    let mut source = MemorySource::new(script, 0, Vec::new(alloc));
+    let mut sink = MemorySink::new(alloc, 4096, 0, Vec::new(alloc))?;
+    let ran = run_lines(alloc, 100, &mut machine, &mut source, &mut sink);
+    assert!(rt; ran.is_ok());
+    assert_eq!(rt; sink.held(), FIRST_RUN.output);
+    Ok(())
 }
 
 #[test]
