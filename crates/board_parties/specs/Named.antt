@@ -17,6 +17,7 @@ pub record IsShortKey (bytes : List ℕ) : Type 0 where
   pub small : AllByRecursion (λ b. b < 256) (take 8 bytes)
   pub rest : bytes ≡ take 8 bytes ++ replicate 56 0
 
+-- the key of an entry that is to be added is short
 abbrev pub HasShortKey : Added → Type 0
 HasShortKey a = IsShortKey a.key
 
@@ -39,6 +40,7 @@ abbrev pub node_or_next : ℕ → Option ℕ → ℕ
 node_or_next next None = next
 node_or_next next (Some place) = place + 1
 
+-- the number of the party as a node: its own, or the next one
 abbrev pub node_number : List ℕ → List (List ℕ) → ℕ
 node_number party nodes = node_or_next (length nodes + 1) (node_place party nodes)
 
@@ -47,6 +49,7 @@ abbrev pub nodes_or_more : List ℕ → List (List ℕ) → Option ℕ → List 
 nodes_or_more party nodes None = nodes ++ party ∷ []
 nodes_or_more party nodes (Some place) = nodes
 
+-- the nodes after a call of the party: it is one of them
 abbrev pub nodes_with : List ℕ → List (List ℕ) → List (List ℕ)
 nodes_with party nodes = nodes_or_more party nodes (node_place party nodes)
 
@@ -70,6 +73,7 @@ nameless name = []
 abbrev pub own : List ℕ → List ℕ
 own party = party
 
+-- the core's number of a thing
 abbrev pub number_of : Thing ℕ ℕ → ℕ
 number_of t = t.name
 

@@ -12,6 +12,7 @@ use Rattle.board_model.specs.TypeTable.{key_of, key_type_of}
 abbrev pub key_shown : KeyType → Entry → Key
 key_shown k e = key_of k (take 8 e.key.bytes)
 
+-- the keys of a board, each from the first bytes that its entry keeps
 abbrev pub keys_shown : Option Board → List Key
 keys_shown None = []
 keys_shown (Some b) = map (key_shown (key_type_of b.key)) b.entries

@@ -48,19 +48,24 @@ pub record IsAsked {E : Type 0} (old new : Parties) (error : E → Reply) (asked
   pub words : new.words ≡ old.words
   pub drawn : new.drawn ≤ old.drawn + 1
 
+-- a board is opened, or not, as the definitions say
 abbrev pub IsOpen : Parties → Parties → List ℕ → List ℕ → List ℕ → KeyType → Limits → Requirements → Reply → Type 0
 IsOpen old new party factory name k limits needs told = IsAsked old new reply.OpenError (open_asked bytes_eq old.tables party factory name (key_detail k) limits needs) told
 
+-- a reader is made, or not, as the definitions say
 abbrev pub IsReader : Parties → Parties → List ℕ → Held → Reply → Type 0
 IsReader old new name x told = IsAsked old new reply.ReaderError (reader_asked old.tables x name) told
 
+-- a writer is made, or not, as the definitions say
 abbrev pub IsWriter : Parties → Parties → List ℕ → Held → Reply → Type 0
 IsWriter old new name x told = IsAsked old new reply.WriterError (writer_asked old.tables x name) told
 
+-- a read handle is made, or not, as the definitions say
 abbrev pub IsEntry : Parties → Parties → List ℕ → Held → Key → ValueType → Reply → Type 0
 IsEntry old new name x k type told =
     IsAsked old new reply.EntryError (entry_asked old.tables x name (entry_found (board_at old.tables x.board) (is_key k) (value_detail type))) told
 
+-- a write handle is made, or not, as the definitions say
 abbrev pub IsEntryMut : Parties → Parties → List ℕ → Held → Key → ValueType → Reply → Type 0
 IsEntryMut old new name x k type told =
     IsAsked old new reply.EntryMutError (entry_mut_asked old.tables x name (entry_found (board_at old.tables x.board) (is_key k) (value_detail type))) told

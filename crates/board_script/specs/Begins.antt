@@ -26,10 +26,12 @@ use Rattle.board_script.specs.Machine.{IsTaskOf, Represents, is_row_of, kept}
 abbrev pub holds : {C : Type 0} → Machine C → List ℕ → List ℕ → Bool
 holds m party name = is_some (thing_of m.domain.tables.things party name) || is_some (kept m.values.items party name)
 
+-- the same, where there is a name
 abbrev pub holds_any : {C : Type 0} → Machine C → List ℕ → Option (List ℕ) → Bool
 holds_any m party None = false
 holds_any m party (Some name) = holds m party name
 
+-- a read or a write handle
 abbrev pub is_handle : Kind → Bool
 is_handle kind.Factory = false
 is_handle (kind.Reader port) = false

@@ -30,6 +30,7 @@ use Rattle.board_script.specs.declared.machine.TableTask.TheVariants as table_ta
 
 -- ---- running calls
 
+-- the row is of this party
 abbrev pub is_row_of : List ℕ → PartyRow → Bool
 is_row_of party row = bytes_eq party row.name
 
@@ -62,6 +63,7 @@ pub record IsGet (board : ℕ) (call : Getting) (type : ValueType) (name : Optio
   pub type_is : type ≡ value_type_of fetch.type
   pub name_is : name ≡ fetch.name
 
+-- a look that has read nothing
 abbrev pub asking : Look → Asking
 asking l = record { shape = l.shape; generation = l.generation; counter = None }
 
@@ -114,9 +116,11 @@ AreRowsOf rows gone = IsGoneRow rows
 
 -- ---- values
 
+-- the party keeps the value under the name
 abbrev pub is_kept_as : List ℕ → List ℕ → KeptValue → Bool
 is_kept_as party name v = bytes_eq party v.party && bytes_eq name v.name
 
+-- a value without its names
 abbrev pub kept_of : KeptValue → Kept
 kept_of v = record { type = v.value_type; words = v.words; generation = v.generation }
 
@@ -125,11 +129,13 @@ abbrev pub kept_from : Option Kept → List ℕ → List ℕ → List KeptValue 
 kept_from found party name [] = found
 kept_from found party name (v ∷ vs) = kept_from (if is_kept_as party name v then Some (kept_of v) else found) party name vs
 
+-- the value that a party kept last under a name
 abbrev pub kept : List KeptValue → List ℕ → List ℕ → Option Kept
 kept values party name = kept_from None party name values
 
 -- ---- the machine
 
+-- the tables of the machine's domain
 abbrev pub tables_of : {C : Type 0} → Machine C → Tables (List ℕ) (List ℕ)
 tables_of m = m.domain.tables
 
@@ -174,5 +180,6 @@ pub record IsTelling {C : Type 0} (new : Machine C) (s : State) (l : Line) (text
   pub represents : Represents new (after s l answer)
   pub told : text ≡ answer_line answer
 
+-- so the text is, after each state that the machine stood for
 abbrev pub Tells : {C : Type 0} → Machine C → Machine C → Line → List ℕ → Type 0
 Tells old new l text = (s : State) → Represents old s → IsReached s → IsTelling new s l text

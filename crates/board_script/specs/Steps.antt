@@ -36,6 +36,7 @@ use Rattle.board_script.specs.TableCalls.{IsRest}
 
 -- ---- the access that is owed
 
+-- the party was abandoned
 abbrev pub is_gone : Task → Bool
 is_gone (task.Table t) = false
 is_gone (task.Get board call type name) = false

@@ -7,6 +7,7 @@ use Rattle.board_lines.specs.declared.error.ScriptError.TheVariants.{ReadFault, 
 use Rattle.board_lines.specs.Runs.{IsRunOf, IsStopped}
 use Rattle.board_script.specs.Summary.{IsSummed, LeavesOff}
 
+-- the status of a run
 abbrev pub status_of : Result (Unit {0}) ScriptError → ℕ
 status_of (Ok x) = 0
 status_of (Err ReadFault) = 3
@@ -24,6 +25,7 @@ note_of (Err (BadLine n)) = codes "line " ++ decimal n ++ codes ": not in the gr
 note_of (Err TooLong) = codes "too long\n"
 note_of (Err OutOfMemory) = codes "out of memory\n"
 
+-- the note on how the program is called
 abbrev pub usage_note : List ℕ
 usage_note = codes "usage: board_run [gen N]\n"
 
