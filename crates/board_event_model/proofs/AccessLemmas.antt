@@ -164,7 +164,7 @@ ready_move now (begin p c) sound ready ok = record {
 }
 ready_move now (step p a b) sound ready ok = some_ready now p a b sound ready (now.running p) refl ok
 ready_move now (expire p) sound ready ok = gone_ready now p now.event.gone ready
-ready_move now (abandon p) sound ready ok = gone_ready now p (now.event.gone || bytes_eq p now.listener) ready
+ready_move now (abandon p) sound ready ok = gone_ready now p _ ready
 ready_move now release_listener sound ready ok = record { signals = ready.signals; clears = λ p r g. same_clears now.event (record now.event { held = false }) (call_of r) refl (ready.clears p r g) }
 ready_move now elsewhere sound ready ok = record { signals = ready.signals; clears = ready.clears }
 ready_move now (notifiers n) sound ready ok = record { signals = ready.signals; clears = λ p r g. same_clears now.event (record now.event { notifiers = n }) (call_of r) refl (ready.clears p r g) }

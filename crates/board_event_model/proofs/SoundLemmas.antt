@@ -420,7 +420,7 @@ sound_move : (now : Moment) (m : EventMove) → Sound now → IsAllowed now m �
 sound_move now (begin p c) sound ok = sound_begin now p c sound ok.1
 sound_move now (step p a b) sound ok = some_step now p a b sound (now.running p) refl ok
 sound_move now (expire p) sound ok = gone_sound now p now.event.gone sound
-sound_move now (abandon p) sound ok = gone_sound now p (now.event.gone || bytes_eq p now.listener) sound
+sound_move now (abandon p) sound ok = gone_sound now p _ sound
 sound_move now release_listener sound ok = memory_sound now (record now.event { held = false }) refl refl refl refl sound
 sound_move now elsewhere sound ok = record {
   bits = sound.bits;

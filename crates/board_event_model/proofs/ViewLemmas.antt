@@ -1,5 +1,5 @@
 -- What of a session concerns one event is a run on it.
-use Rattle.std.proofs.Common.{◌≡◌, ℕ, zero, suc, ◌<◌, ◌≤◌, true, false, eqb, refl, sym, ◌∙◌, ap, inl, inr, arith, rules, subst, Some, None, Option, List, [], ◌∷◌}
+use Rattle.std.proofs.Common.{◌≡◌, ℕ, zero, suc, ◌+◌, ◌<◌, ◌≤◌, true, false, eqb, refl, sym, ◌∙◌, ap, inl, inr, arith, rules, subst, Some, None, Option, List, [], ◌∷◌}
 use Rattle.std.specs.Prelude.{if◌then◌else◌, ◌==◌, IsSomeAnd}
 use Rattle.std.proofs.lemmas.Bool.{false≢true}
 use Rattle.std.specs.Str.{bytes_eq}
@@ -63,11 +63,11 @@ held_gone stands p m st (Some o) e h = record { old = o; was = e; is = sym (some
 
 record Good (s : EventSession) : Type 0 where
   views : (n : ℕ) (st : StandingEvent) → s.stands n ≡ Some st → IsReached (view s n st)
-  low : (n : ℕ) (st : StandingEvent) → s.stands n ≡ Some st → n < s.count
-  made : (p : PartyName) (d : PartyCall) → s.doing p ≡ Some d → d.on < s.count
-  fresh : (n : ℕ) → s.count ≤ n → history_on n s.history ≡ []
+  low : (n : ℕ) (st : StandingEvent) → s.stands n ≡ Some st → n ≤ s.count
+  made : (p : PartyName) (d : PartyCall) → s.doing p ≡ Some d → d.on ≤ s.count
+  fresh : (n : ℕ) → s.count < n → history_on n s.history ≡ []
 
-not_on : (s : EventSession) (n : ℕ) (x : Option PartyCall) → ((d : PartyCall) → x ≡ Some d → d.on < s.count) → s.count ≤ n → running_on n x ≡ None
+not_on : (s : EventSession) (n : ℕ) (x : Option PartyCall) → ((d : PartyCall) → x ≡ Some d → d.on ≤ s.count) → s.count < n → running_on n x ≡ None
 not_on s n None h low = refl
 not_on s n (Some d) h low =
     elim (either (eqb d.on n)) [
@@ -77,17 +77,17 @@ not_on s n (Some d) h low =
 
 listen_good : (s : EventSession) (p : PartyName) (k : EventKind) (name : List ℕ) (max : ℕ) → Good s → Good (next_session s (listen p k name max))
 listen_good s p k name max good = record {
-  views = λ n st h. elim (either (eqb n s.count)) [
+  views = λ n st h. elim (either (eqb n (s.count + 1))) [
     | inl same ↦ (
         let is : record { event = new_event k name max; listener = p } ≡ st = some_same _ st (rw same at h) in
-        let at = eqb_true n s.count same in
+        let at = eqb_true n (s.count + 1) same in
         subst (λ (x : StandingEvent). IsReached (view s n x)) is (
         subst (λ (hs : List TakenAccess). IsReached (record (view s n (record { event = new_event k name max; listener = p })) { history = hs })) (sym (good.fresh n (let e = at in omega arith)))
         (same_now (record (listened k name max p) { begun = s.begun }) (λ q. running_on n (s.doing q)) (λ q. sym (not_on s n (s.doing q) (good.made q) (let e = at in omega arith))) (after_calls k name max p s.begun))))
     | inr apart ↦ good.views n st (rw apart at h)
   ];
-  low = λ n st h. elim (either (eqb n s.count)) [
-    | inl same ↦ (let e = eqb_true n s.count same in omega arith)
+  low = λ n st h. elim (either (eqb n (s.count + 1))) [
+    | inl same ↦ (let e = eqb_true n (s.count + 1) same in omega arith)
     | inr apart ↦ (let l = good.low n st (rw apart at h) in omega arith)
   ];
   made = λ q d h. let l = good.made q d h in omega arith;
@@ -118,11 +118,11 @@ some_and : {A : Type 0} (P : A → Type 0) (x : Option A) (y : A) → x ≡ Some
 some_and P x y e h = subst (λ (z : Option _). IsSomeAnd z P) e h
 
 -- what is done afterwards was done before, or is the new
-do_made : (s : EventSession) (p : PartyName) (x : Option PartyCall) → ((q : PartyName) (d : PartyCall) → s.doing q ≡ Some d → d.on < s.count) → ((d : PartyCall) → x ≡ Some d → d.on < s.count) → (q : PartyName) (d : PartyCall) → do_at s.doing p x q ≡ Some d → d.on < s.count
+do_made : (s : EventSession) (p : PartyName) (x : Option PartyCall) → ((q : PartyName) (d : PartyCall) → s.doing q ≡ Some d → d.on ≤ s.count) → ((d : PartyCall) → x ≡ Some d → d.on ≤ s.count) → (q : PartyName) (d : PartyCall) → do_at s.doing p x q ≡ Some d → d.on ≤ s.count
 do_made s p x old new q d =
-    elim (bytes_eq q p) as (λ b. (if b then x else s.doing q) ≡ Some d → d.on < s.count) [ true ↦ λ e. new d e | false ↦ λ e. old q d e ]
+    elim (bytes_eq q p) as (λ b. (if b then x else s.doing q) ≡ Some d → d.on ≤ s.count) [ true ↦ λ e. new d e | false ↦ λ e. old q d e ]
 
-stands_low : (P : StandingEvent → Type 0) (s : EventSession) (n : ℕ) (x : Option StandingEvent) → s.stands n ≡ x → ((m : ℕ) (st : StandingEvent) → s.stands m ≡ Some st → m < s.count) → IsSomeAnd x P → n < s.count
+stands_low : (P : StandingEvent → Type 0) (s : EventSession) (n : ℕ) (x : Option StandingEvent) → s.stands n ≡ x → ((m : ℕ) (st : StandingEvent) → s.stands m ≡ Some st → m ≤ s.count) → IsSomeAnd x P → n ≤ s.count
 stands_low P s n None e low h = absurd h
 stands_low P s n (Some st) e low h = low n st e
 
@@ -139,7 +139,7 @@ begin_good s p n c good ok = record {
         (reach_more (view s m st) elsewhere (good.views m st h) (search rules))
   ];
   low = good.low;
-  made = λ q d h. do_made s p (Some (record { on = n; call = new_call s.begun c })) good.made (λ d e. subst (λ (x : PartyCall). x.on < s.count) (some_same _ _ e) (stands_low (λ st. IsCallOf st.event st.listener p c) s n (s.stands n) refl good.low ok.1)) q d h;
+  made = λ q d h. do_made s p (Some (record { on = n; call = new_call s.begun c })) good.made (λ d e. subst (λ (x : PartyCall). x.on ≤ s.count) (some_same _ _ e) (stands_low (λ st. IsCallOf st.event st.listener p c) s n (s.stands n) refl good.low ok.1)) q d h;
   fresh = good.fresh;
 }
 
@@ -226,9 +226,9 @@ on_same n m (Some r) same = rw same refl
 swap_eqb : (a b : ℕ) → eqb a b ≡ false → eqb b a ≡ false
 swap_eqb a b h = elim (either (eqb b a)) [ inl y ↦ absurd (false≢true (sym h ∙ ap (eqb a) (eqb_true b a y) ∙ eqb_self a)) | inr n ↦ n ]
 
-doing_low : (s : EventSession) (n : ℕ) (x : Option RunningCall) (d : PartyCall) → n < s.count → doing_on n x ≡ Some d → d.on < s.count
+doing_low : (s : EventSession) (n : ℕ) (x : Option RunningCall) (d : PartyCall) → n ≤ s.count → doing_on n x ≡ Some d → d.on ≤ s.count
 doing_low s n None d low h = absurd (none_some _ h)
-doing_low s n (Some r) d low h = subst (λ (x : PartyCall). x.on < s.count) (some_same _ d h) low
+doing_low s n (Some r) d low h = subst (λ (x : PartyCall). x.on ≤ s.count) (some_same _ d h) low
 
 -- the view after a step here
 abbrev view_after : EventSession → PartyName → EventAccess → EventAnswer → PartyCall → StandingEvent → ℕ → StandingEvent → Moment

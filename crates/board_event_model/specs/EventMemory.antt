@@ -11,7 +11,7 @@ use Rattle.board_event_model.specs.declared.access.EventAnswer.TheVariants as an
 use Rattle.board_event_model.specs.Ids.{Ids, has, IsWord, in_word, ids_where}
 
 -- an event. The pending ids of a bit set are in `pending`, those of a queue in `queue`, oldest first.
--- `held`: its listener was not released. `gone`: its listener's party was abandoned
+-- `held`: its listener was not released. `gone`: its listener's party was abandoned before that
 pub record Event : Type 0 where
   pub kind : EventKind
   pub name : List ℕ
@@ -31,6 +31,14 @@ new_event k name max = record { kind = k; name = name; max = max; pending = set.
 abbrev pub is_bits : EventKind → Bool
 is_bits kind.Bits = true
 is_bits kind.Queue = false
+
+-- whether a listener or a notifier of it is held
+abbrev pub is_held : Event → Bool
+is_held e = e.held || nat_lt 0 e.notifiers
+
+-- a bits name is held by the listener or a notifier, a queue name by the listener
+abbrev pub holds_name : Event → Bool
+holds_name e = elim e.kind [ kind.Bits ↦ is_held e | kind.Queue ↦ e.held ]
 
 -- whether an id is pending
 abbrev pub is_pending : Event → ℕ → Bool

@@ -1,5 +1,5 @@
 -- Runs on one event: what many parties may do, one move after another, abandoned anywhere.
-use Rattle.std.specs.Prelude.{◌≡◌, ℕ, ◌+◌, ◌/◌, Bool, true, false, ◌||◌, if◌then◌else◌, List, [], ◌∷◌, ◌++◌, Option, Some, None, IsSomeAnd, ⊤}
+use Rattle.std.specs.Prelude.{◌≡◌, ℕ, ◌+◌, ◌/◌, Bool, true, false, ◌||◌, ◌&&◌, if◌then◌else◌, List, [], ◌∷◌, ◌++◌, Option, Some, None, IsSomeAnd, ⊤}
 use Rattle.std.specs.Str.{bytes_eq}
 use Rattle.board_event_model.specs.declared.kind.EventKind.{EventKind}
 use Rattle.board_event_model.specs.declared.access.EventAccess.{EventAccess}
@@ -106,7 +106,7 @@ abbrev pub moved : Moment → EventMove → Moment
 moved now (begin p call) = record now { running = put now.running p (Some (new_call now.begun call)); begun = now.begun + 1 }
 moved now (step p a answer) = stepped now p a answer (now.running p)
 moved now (expire p) = record now { running = put now.running p None }
-moved now (abandon p) = record now { running = put now.running p None; event = record now.event { gone = now.event.gone || bytes_eq p now.listener } }
+moved now (abandon p) = record now { running = put now.running p None; event = record now.event { gone = now.event.gone || (now.event.held && bytes_eq p now.listener) } }
 moved now release_listener = record now { event = record now.event { held = false } }
 moved now (notifiers n) = record now { event = record now.event { notifiers = n } }
 moved now elsewhere = record now { begun = now.begun + 1 }

@@ -1,5 +1,5 @@
 -- Sessions on many events, and what of them concerns one event.
-use Rattle.std.specs.Prelude.{◌≡◌, ℕ, ◌+◌, true, false, ◌||◌, ◌==◌, if◌then◌else◌, List, [], ◌∷◌, Option, Some, None, IsSomeAnd, ⊤}
+use Rattle.std.specs.Prelude.{◌≡◌, ℕ, ◌+◌, true, false, ◌||◌, ◌&&◌, ◌==◌, if◌then◌else◌, List, [], ◌∷◌, Option, Some, None, IsSomeAnd, ⊤}
 use Rattle.std.specs.Str.{bytes_eq}
 use Rattle.board_event_model.specs.declared.kind.EventKind.{EventKind}
 use Rattle.board_event_model.specs.declared.access.EventAccess.{EventAccess}
@@ -23,7 +23,7 @@ pub record SessionAccess : Type 0 where
   pub on : ℕ
   pub taken : TakenAccess
 
--- a session of events; those below `count` were made
+-- a session of events; those from 1 to `count` were made
 pub record EventSession : Type 0 where
   pub stands : ℕ → Option StandingEvent
   pub count : ℕ
@@ -49,9 +49,9 @@ do_at doing p x q = if bytes_eq q p then x else doing q
 abbrev pub change_at : (ℕ → Option StandingEvent) → ℕ → (Event → Event) → ℕ → Option StandingEvent
 change_at stands n f m = elim (stands m) [ None ↦ None | Some st ↦ Some (record st { event = if m == n then f st.event else st.event }) ]
 
--- the event, after its listener's party may have been abandoned
+-- the event, after its listener's party may have been abandoned while it had the listener
 abbrev pub gone_with : PartyName → StandingEvent → StandingEvent
-gone_with p st = record st { event = record st.event { gone = st.event.gone || bytes_eq p st.listener } }
+gone_with p st = record st { event = record st.event { gone = st.event.gone || (st.event.held && bytes_eq p st.listener) } }
 
 -- all events, after a party was abandoned
 abbrev pub all_gone : (ℕ → Option StandingEvent) → PartyName → ℕ → Option StandingEvent
@@ -96,7 +96,7 @@ stepped_on s p a answer (Some d) = took_step s p a answer d (event_of s.stands d
 
 -- after a line
 abbrev pub next_session : EventSession → EventLine → EventSession
-next_session s (listen p k name max) = record s { stands = (λ m. if m == s.count then Some (record { event = new_event k name max; listener = p }) else s.stands m); count = s.count + 1 }
+next_session s (listen p k name max) = record s { stands = (λ m. if m == s.count + 1 then Some (record { event = new_event k name max; listener = p }) else s.stands m); count = s.count + 1 }
 next_session s (begin_on p n c) = record s { doing = do_at s.doing p (Some (record { on = n; call = new_call s.begun c })); begun = s.begun + 1 }
 next_session s (step_of p a answer) = stepped_on s p a answer (s.doing p)
 next_session s (expire_of p) = record s { doing = do_at s.doing p None }

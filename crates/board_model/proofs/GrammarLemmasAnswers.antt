@@ -182,6 +182,7 @@ flat_reason reason.Taken = refl
 flat_reason reason.Type = refl
 flat_reason reason.Index = refl
 flat_reason reason.Unfilled = refl
+flat_reason reason.NotWaiting = refl
 flat_reason reason.NoBoard = refl
 
 flat_told : (told : Option Reply) → IfSome told IsReply → IsFlat (told_text told)

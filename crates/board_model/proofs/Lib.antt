@@ -39,6 +39,4 @@ pub mod FormLemmas
 pub mod KeptFormLemmas
 pub mod ReplyFormLemmas
 pub mod FormLaws
-pub mod ScriptLemmas
-pub mod OutputLaws
 pub mod KeyLaws

@@ -156,6 +156,7 @@ reason_text reason.Taken = codes "taken"
 reason_text reason.Type = codes "type"
 reason_text reason.Index = codes "index"
 reason_text reason.Unfilled = codes "unfilled"
+reason_text reason.NotWaiting = codes "notwaiting"
 reason_text reason.NoBoard = codes "noboard"
 
 -- what a step prints of the reply, where it ends its call

@@ -24,8 +24,5 @@ pub mod LawsOfSessions
 pub mod LawsOfIds
 pub mod LawOfSoundness
 pub mod WorkedSessions
-pub mod Script
 pub mod LawsOfForms
-pub mod LawsOfScripts
-pub mod LawsOfOutputs
 pub mod LawsOfKeys

@@ -4,9 +4,8 @@ use crate::errors::{
     BlackboardCreateError, BlackboardOpenError, EntryHandleError, EntryHandleMutError,
     ReaderCreateError, WriterCreateError,
 };
-use crate::lists::{Keys, Names, Words};
+use crate::lists::{Keys, LongName, Names, Words};
 use crate::value::{KeyType, ValueType};
-use board_layout::Text;
 
 /// Why a line changes nothing.
 #[derive(Clone, Copy, Debug, PartialEq, Eq)]
@@ -19,13 +18,14 @@ pub enum Reason {
     Type,
     Index,
     Unfilled,
+    NotWaiting,
     NoBoard,
 }
 
 /// What is told of a board: its limits, how many entries and attributes it has, and what is taken of it.
-#[derive(Clone, Copy, Debug, PartialEq, Eq)]
+#[derive(Drop, Debug)]
 pub struct Info {
-    pub name: Text<255>,
+    pub name: LongName,
     pub key_type: KeyType,
     pub max_readers: u64,
     pub max_nodes: u64,

@@ -14,9 +14,7 @@ pub mod id_laws;
 pub mod key_laws;
 mod line;
 mod lists;
-pub mod output_laws;
 pub mod read_laws;
-pub mod script_laws;
 pub mod session_laws;
 pub mod sound_law;
 mod tables;
@@ -31,6 +29,6 @@ pub use errors::{
     ReaderCreateError, WriterCreateError,
 };
 pub use line::{BoardName, Call, Line, Name};
-pub use lists::{AddedEntries, Entries, Keys, Names, Words};
+pub use lists::{AddedEntries, Entries, Keys, LongName, Names, Words};
 pub use tables::{Board, Entry, Kind, Limits, Thing, ThingKind};
 pub use value::{AddedEntry, Key, KeyType, Value, ValueType};

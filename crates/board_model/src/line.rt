@@ -1,6 +1,6 @@
 //! The lines of a script.
 use crate::attributes::{Attributes, Requirements};
-use crate::lists::AddedEntries;
+use crate::lists::{AddedEntries, LongName};
 use crate::tables::Limits;
 use crate::value::{Key, KeyType, Value, ValueType};
 use board_layout::Text;
@@ -9,7 +9,7 @@ use board_layout::Text;
 pub type Name = Text<16>;
 
 /// The name of a board, 1 to 255 bytes.
-pub type BoardName = Text<255>;
+pub type BoardName = LongName;
 
 /// What a party asks for.
 #[derive(Drop, Debug)]

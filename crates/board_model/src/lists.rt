@@ -1,10 +1,47 @@
 //! Lists that contracts see as lists.
-ghost use Rattle.std.specs.Prelude.{◌≡◌};
+ghost use Rattle.std.specs.Prelude.{◌≡◌, IfOk};
 
 use crate::tables::Entry;
 use crate::value::{AddedEntry, Key};
 use board_layout::Text;
+use std::alloc::{AllocError, Global};
 use std::marker::Model;
+
+/// A name of at most 255 bytes, seen as its bytes. It lies in memory of its own, so that lines and answers stay short.
+#[derive(Drop, Debug)]
+pub struct LongName {
+    text: Box<Text<255>>,
+}
+
+impl Model for LongName {
+    ghost use Rattle.std.specs.Prelude.{List, ℕ};
+    ghost use Rattle.std.specs.Box.{box_value};
+
+    ghost Value = { List ℕ };
+
+    ghost view = { λ t. box_value t.text };
+}
+
+impl LongName {
+    /// A name of this text.
+    ///
+    /// # Errors
+    /// `AllocError` where memory is refused.
+    pub fn new(alloc: Global, text: Text<255>) -> Result<LongName, AllocError>
+        ensures { IfOk result (λ name. name ≡ text) }
+    {
+        Ok(LongName {
+            text: Box::new(alloc, text)?,
+        })
+    }
+
+    /// The name as a text.
+    pub fn as_text(&self) -> &Text<255>
+        ensures { result.now ≡ self.now }
+    {
+        &*self.text
+    }
+}
 
 /// Words, seen as their list.
 #[derive(Drop, Debug)]
