@@ -17,8 +17,8 @@ use Rattle.board_event_model.specs.declared.kind.EventKind.{EventKind}
 use Rattle.board_event_model.specs.declared.kind.EventKind.TheVariants as kind
 use Rattle.board_event_model.specs.declared.access.EventAccess.{EventAccess}
 use Rattle.board_event_model.specs.declared.access.EventAccess.TheVariants as access
-use Rattle.board_event_model.specs.EventMemory.{Event, after, new_event}
-use Rattle.board_event.specs.EventTable.{AreLeft, EventTable, freed, HoldsName, IsEventTable, LosesName, changed, event_at, holds_name, is_held, listened, named_with, names_of, settled, settled_with, with_event, with_gone, with_names, with_notifier, without_event}
+use Rattle.board_event_model.specs.EventMemory.{Event, after, holds_name, is_held, new_event}
+use Rattle.board_event.specs.EventTable.{AreLeft, EventTable, freed, HoldsName, IsEventTable, LosesName, changed, event_at, listened, named_with, names_of, settled, settled_with, with_event, with_gone, with_names, with_notifier, without_event}
 
 -- ---- equal keys
 

@@ -11,7 +11,7 @@ use Rattle.board_names.specs.declared.errors.event.NotifierCreateError.{Notifier
 use Rattle.board_names.specs.declared.errors.event.NotifierCreateError.TheVariants as notifier_error
 use Rattle.board_event_model.specs.declared.kind.EventKind.{EventKind}
 use Rattle.board_event_model.specs.declared.kind.EventKind.TheVariants as kind
-use Rattle.board_event_model.specs.EventMemory.{Event, new_event}
+use Rattle.board_event_model.specs.EventMemory.{Event, holds_name, is_held, new_event}
 use Rattle.board_event.specs.Memories.{event_code}
 
 -- how many numbers were drawn, the events that stand by their numbers, and the held names of each kind with the number of the event that holds it
@@ -72,14 +72,6 @@ abbrev pub without_name_of : EventTable → ℕ → Event → EventTable
 without_name_of t n e = with_names e.kind t (freed (names_of e.kind t) e.name n)
 
 -- ---- holders
-
--- whether a listener or a notifier of it is held
-abbrev pub is_held : Event → Bool
-is_held e = e.held || nat_lt 0 e.notifiers
-
--- a bits name is held by the listener or a notifier, a queue name by the listener
-abbrev pub holds_name : Event → Bool
-holds_name e = elim e.kind [ kind.Bits ↦ is_held e | kind.Queue ↦ e.held ]
 
 -- the event of a held name: it is of the name's kind, it has the name, and somebody holds the name
 pub record HoldsName (k : EventKind) (full_name : List ℕ) (e : Event) : Type 0 where

@@ -1,8 +1,8 @@
 //! The memory of one event.
 ghost use Rattle.std.specs.Prelude.{◌≡◌, ◌≤◌, ◌<◌, ◌+◌, ◌-◌, ◌^◌, ◌/◌, ℕ, IfOk, [], true, false, IsTrue, ◌↔◌};
 ghost use Rattle.std.specs.FinSet as set;
-ghost use Rattle.board_event_model.specs.EventMemory.{Event, CanPerform, IsRight, after, new_event, pop_answer, push_answer, yes_or_no};
-ghost use Rattle.board_event.specs.EventTable.{holds_name, is_held, with_gone, with_notifier, without_listener, without_notifier};
+ghost use Rattle.board_event_model.specs.EventMemory.{CanPerform, Event, IsRight, after, holds_name, is_held, new_event, pop_answer, push_answer, yes_or_no};
+ghost use Rattle.board_event.specs.EventTable.{with_gone, with_notifier, without_listener, without_notifier};
 
 use crate::bit_set::BitSet;
 use crate::semaphore::Semaphore;
@@ -90,10 +90,10 @@ impl EventMemory {
     }
 
     /// Its full name.
-    pub fn name(&self) -> FilePath
-        ensures { result ≡ self.now.name }
+    pub fn name(&self) -> &FilePath
+        ensures { result.now ≡ self.now.name }
     {
-        self.name
+        &self.name
     }
 
     /// The greatest id that was handed to `new`.

@@ -210,7 +210,7 @@ impl EventRows {
         let Some(memory) = self.events.get(&event) else {
             unreachable!()
         };
-        let (kind, name) = (memory.kind(), memory.name());
+        let (kind, name) = (memory.kind(), *memory.name());
         if !memory.holds_name() {
             self.free_name(kind, &name, event);
         }

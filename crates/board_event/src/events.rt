@@ -187,6 +187,28 @@ impl Events {
         }
     }
 
+    /// The kind of an event.
+    pub fn kind_of(&self, event: u64) -> EventKind
+        requires { IsSome (event_at self.now event) }
+        ensures { IsSomeAnd (event_at self.now event) (λ e. result ≡ e.kind) }
+    {
+        let Some(memory) = self.rows.event(event) else {
+            unreachable!()
+        };
+        memory.kind()
+    }
+
+    /// The full name with which an event was made.
+    pub fn full_name_of(&self, event: u64) -> &FilePath
+        requires { IsSome (event_at self.now event) }
+        ensures { IsSomeAnd (event_at self.now event) (λ e. result.now ≡ e.name) }
+    {
+        let Some(memory) = self.rows.event(event) else {
+            unreachable!()
+        };
+        memory.name()
+    }
+
     /// The greatest id that was handed to `listen`.
     pub fn max_of(&self, event: u64) -> u64
         requires { IsSome (event_at self.now event) }

@@ -53,6 +53,20 @@ impl WaitCall {
         }
     }
 
+    /// Whether it waits for all ids.
+    pub fn is_many(&self) -> bool
+        ensures { result ≡ self.now.many }
+    {
+        self.many
+    }
+
+    /// How long it goes on.
+    pub fn mode(&self) -> WaitMode
+        ensures { result ≡ self.now.mode }
+    {
+        self.mode
+    }
+
     /// Whether no access is owed.
     pub fn is_done(&self) -> bool
         ensures { IsTrue result ↔ (self.now.stage ≡ WaitStage.Finished) }

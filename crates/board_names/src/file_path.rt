@@ -24,7 +24,7 @@ impl Model for FilePath {
 
 impl FilePath {
     /// The full name with this text.
-    pub(crate) fn from_text(text: Text<1021>) -> FilePath
+    pub fn from_text(text: Text<1021>) -> FilePath
         ensures { result ≡ text }
     {
         FilePath { text }

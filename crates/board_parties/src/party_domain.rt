@@ -20,9 +20,10 @@ use crate::replies::{
 use crate::typed_calls::{create_in, entry_in, entry_mut_in, open_in};
 use crate::values::{key_detail, key_type_of, same_type, type_of_key, value_detail};
 use board_cell::Words;
+use board_layout::Text;
 use board_model::{
-    AddedEntries, Attributes, BoardName, Entry, Info, Key, KeyType, Keys, Kind, Limits, Name,
-    Names, Reply, Requirements, Thing, ThingKind, ValueType,
+    AddedEntries, Attributes, Entry, Info, Key, KeyType, Keys, Kind, Limits, LongName, Name, Names,
+    Reply, Requirements, Thing, ThingKind, ValueType,
 };
 use board_names::ServiceName;
 use board_service::{BoardWords, DomainCore, NodeId, ThingId};
@@ -181,7 +182,7 @@ impl<C: BoardWords + Drop> PartyDomain<C> {
         &mut self,
         party: Name,
         factory: Name,
-        name: BoardName,
+        name: Text<255>,
         key_type: KeyType,
         limits: Limits,
         attributes: &Attributes,
@@ -232,7 +233,7 @@ impl<C: BoardWords + Drop> PartyDomain<C> {
         &mut self,
         party: Name,
         factory: Name,
-        name: BoardName,
+        name: Text<255>,
         key_type: KeyType,
         limits: Limits,
         needs: &Requirements,
@@ -447,9 +448,12 @@ impl<C: BoardWords + Drop> PartyDomain<C> {
     }
 
     /// The limits of a board that stands, how many entries and attributes it has, and what is taken of it.
-    pub fn info(&self, board: u64) -> Info
+    ///
+    /// # Errors
+    /// `AllocError` where memory is refused.
+    pub fn info(&self, board: u64) -> Result<Info, AllocError>
         requires { is_some (tables.board_at self.now.tables board) ≡ true }
-        ensures { result ≡ replies.info_of self.now.tables.things (tables.board_at self.now.tables board) }
+        ensures { IfOk result (λ info. info ≡ replies.info_of self.now.tables.things (tables.board_at self.now.tables board)) }
     {
         match (
             self.core.name_of(board),
@@ -457,8 +461,8 @@ impl<C: BoardWords + Drop> PartyDomain<C> {
             self.core.attributes_of(board),
             self.core.use_of(board),
         ) {
-            (Some(name), Some(config), Some(attributes), Some(taken)) => Info {
-                name: name_text(name),
+            (Some(name), Some(config), Some(attributes), Some(taken)) => Ok(Info {
+                name: LongName::new(self.alloc, name_text(name))?,
                 key_type: key_type_of(&config.type_details),
                 max_readers: config.max_readers,
                 max_nodes: config.max_nodes,
@@ -467,7 +471,7 @@ impl<C: BoardWords + Drop> PartyDomain<C> {
                 readers: taken.readers,
                 writers: taken.writers,
                 nodes: taken.nodes,
-            },
+            }),
             _ => unreachable!(),
         }
     }

@@ -12,6 +12,7 @@ returns g c =
     let d = c.self.inside in
     let h = c.self.invariant in
     let in_all = c.in-Some-Some-Some-Some in
+    let named = c.in_ok-new-in-Some-Some-Some-Some in
     let ts = d.core.tables.things in
     let alike : TakeAlike d.things.items ts = record {
       readers = λ n. readers-same (party_at d.nodes.items) n ts d.things.items h.same;
@@ -20,5 +21,5 @@ returns g c =
     } in
     info_told d.things.items ts (tables.board_at d.core.tables c.args.board) in_all.name.now in_all.config in_all.attributes.now in_all.taken alike
     (record { name_is = in_all.ensures; config_is = in_all.ensures'; attributes_are = in_all.ensures''; taken_is = in_all.ensures''' })
-    c.name_text.result c.key_type_of.result c.len.result c.name_text.ensures c.key_type_of.ensures c.len.ensures.value
+    named.field-0 c.key_type_of.result c.len.result (named.ensures ∙ c.name_text.ensures) c.key_type_of.ensures c.len.ensures.value
     ∙ ap (λ (p : Parties). replies.info_of p.tables.things (tables.board_at p.tables c.args.board)) c.self.view_is
