@@ -1,0 +1,2 @@
+pub mod PartyEvents
+pub mod Calls
