@@ -1,17 +1,17 @@
 -- A script of the grammar is neither outside it nor too long.
-use Rattle.std.proofs.Common.{◌≡◌, ℕ, suc, ◌+◌, ◌<◌, ◌≤◌, List, [], ◌∷◌, ◌++◌, length, arith, refl, sym, ap, subst, Option, Some, None}
+use Rattle.std.proofs.Common.{◌≡◌, ℕ, suc, List, [], ◌∷◌, ◌++◌, length, arith, refl, ap, subst, Option, Some, None}
 use Rattle.std.specs.Prelude.{IsSomeAnd}
 use Rattle.std.specs.List.{AllByRecursion}
 use Rattle.std.proofs.lemmas.List.{length-append}
-use Rattle.board_model.specs.declared.line.Line.{Line}
-use Rattle.board_model.specs.LineGrammar.{Spells}
-use Rattle.board_model.specs.LawfulSession.{Session}
 use Rattle.board_model.specs.Lines.{lines_of}
-use Rattle.board_model.specs.Script.{FollowedBy, IsScript, SpellsAll}
+use Rattle.board_script_model.specs.declared.line.ScriptLine.{ScriptLine}
+use Rattle.board_script_model.specs.ScriptGrammar.{SpellsLine}
+use Rattle.board_script_model.specs.ScriptSession.{Session}
+use Rattle.board_script_model.specs.ScriptOutput.{FollowedBy, IsScript, SpellsAll}
 use Rattle.board_lines.specs.Runs.{IsBadAt, IsPast}
 
 abbrev IsSpelled : List ℕ → Type 0
-IsSpelled bytes = (l : Line) × Spells bytes l
+IsSpelled bytes = (l : ScriptLine) × SpellsLine bytes l
 
 spelled_behind : (ls more : List (List ℕ)) (b : List ℕ) → AllByRecursion IsSpelled (ls ++ b ∷ more) → IsSpelled b
 spelled_behind [] more b h = h.0

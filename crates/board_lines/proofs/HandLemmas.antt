@@ -1,9 +1,8 @@
 -- The bytes that a line reader has in hand: a part of its buffer.
-use Rattle.std.proofs.Common.{◌≡◌, ℕ, ◌+◌, ◌-◌, ◌<◌, ◌≤◌, Bool, true, false, List, [], ◌∷◌, ◌++◌, length, take, drop, arith, Option, Some, None, refl, sym, ap, subst, ◌∙◌, eqb, All, IfNone}
-use Rattle.std.specs.Prelude.{IfSome}
+use Rattle.std.proofs.Common.{◌≡◌, ℕ, ◌+◌, ◌-◌, ◌≤◌, false, List, ◌++◌, length, take, drop, arith, Option, Some, None, refl, sym, ap, subst, ◌∙◌, eqb, IfNone}
 use Rattle.std.specs.Io.KnownBytes.{Consumes, Keeps, prepend_known}
-use Rattle.std.proofs.Math.Seq.{take-append_seam, drop-append_seam, take-add}
-use Rattle.std.proofs.lemmas.List.{take-append-le, take-append-drop, drop-drop, drop-take, length-take, length-take-le, length-drop, drop_all, take_all}
+use Rattle.std.proofs.Math.Seq.{take-add}
+use Rattle.std.proofs.lemmas.List.{take-append-le, take-append-drop, drop-drop, drop-take, length-take, take_all}
 use Rattle.std.proofs.lemmas.List.Elements.{All-append}
 use Rattle.board_model.specs.Lines.{IsOneLine}
 use Rattle.board_lines.specs.Reader.{between}

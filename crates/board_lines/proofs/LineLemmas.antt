@@ -1,11 +1,10 @@
 -- The lines of bytes, from the front.
-use Rattle.std.proofs.Common.{add-one, drop-cons, take-append-drop, take, drop, get_or, ◌≡◌, ℕ, zero, suc, ◌+◌, ◌<◌, ◌≤◌, Bool, true, false, cond, eqb, List, [], ◌∷◌, ◌++◌, length, arith, rules, refl, sym, ap, subst, ◌∙◌, All, append_assoc, Option, Some, None}
+use Rattle.std.proofs.Common.{add-one, drop-cons, take-append-drop, take, drop, get_or, ◌≡◌, ℕ, suc, ◌+◌, ◌<◌, ◌≤◌, Bool, true, false, cond, eqb, List, [], ◌∷◌, ◌++◌, length, arith, refl, sym, ap, subst, ◌∙◌, append_assoc, Option, Some, None}
 use Rattle.std.specs.List.{slice_split, onto_first, AllByRecursion}
 use Rattle.std.proofs.lemmas.List.{append-nil, drop_all, length-append, take_all}
 use Rattle.std.proofs.lemmas.List.Splits.{slice_split_at, slice_split_none, slice_split-cons_no, length-slice_split}
 use Rattle.std.proofs.lemmas.List.Elements.{recursion_from_All}
 use Rattle.std.specs.Io.KnownBytes.{prepend_known, Keeps, IsAtEnd}
-use Rattle.std.specs.Prelude.{slice_get, IsSomeAnd, IsErrOf}
 use Rattle.board_model.specs.Lines.{IsOneLine, lines_of, whole_parts, TakesLine}
 use Rattle.board_lines.specs.Streams.{HasLongLine}
 

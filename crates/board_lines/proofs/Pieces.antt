@@ -1,7 +1,7 @@
 -- Bytes that are read and written in pieces.
-use Rattle.std.proofs.Common.{◌≡◌, ℕ, ◌+◌, ◌-◌, ◌<◌, ◌≤◌, List, [], ◌∷◌, ◌++◌, length, take, drop, arith, rules, refl, sym, ap, ◌∙◌, append_assoc, Option, Some, None, eqb, get_or, Bool, true, false, suc, add-one, drop-cons}
+use Rattle.std.proofs.Common.{◌≡◌, ℕ, ◌+◌, ◌-◌, ◌≤◌, List, ◌++◌, length, take, drop, arith, sym, ap, ◌∙◌, append_assoc, Option, Some, None}
 use Rattle.std.proofs.Math.Seq.{take-add}
-use Rattle.std.proofs.lemmas.List.{take_rest, take-append-drop, drop-drop, drop_all, length-take, length-drop, take-append-le, take_all}
+use Rattle.std.proofs.lemmas.List.{take_rest, take-append-drop, drop-drop, length-take, length-drop, take-append-le, take_all}
 use Rattle.std.specs.Io.KnownBytes.{Appends, Consumes, Keeps, prepend_known}
 
 pub more_written : (a b c : Option (List ℕ)) (bytes : List ℕ) (at n : ℕ) → Appends a b (take at bytes) → Appends b c (take n (take (length bytes - at) (drop at bytes))) → Appends a c (take (at + n) bytes)

@@ -1,45 +1,45 @@
 -- Runs that go on, and that end.
-use Rattle.std.proofs.Common.{◌≡◌, ℕ, zero, suc, ◌+◌, ◌-◌, ◌<◌, ◌≤◌, ◌^◌, List, [], ◌∷◌, ◌++◌, length, take, arith, refl, sym, ap, subst, ◌∙◌, append_assoc, Option, Some, None}
+use Rattle.std.proofs.Common.{◌≡◌, ℕ, ◌+◌, ◌<◌, ◌≤◌, List, [], ◌∷◌, ◌++◌, length, take, arith, refl, sym, ap, subst, ◌∙◌, append_assoc, Option, Some, None}
 use Rattle.std.specs.Prelude.{IsSomeAnd, slice_get}
 use Rattle.std.specs.Io.KnownBytes.{Appends, IsAtEnd, Keeps, prepend_known}
 use Rattle.std.proofs.KnownBytes.{Appends-trans, Appends-nil}
-use Rattle.std.proofs.lemmas.List.{append-nil, length-append, take-append-le}
+use Rattle.std.proofs.lemmas.List.{append-nil, length-append}
 use Rattle.std.proofs.Math.Seq.{take-append-add}
-use Rattle.board_model.specs.declared.line.Line.{Line}
-use Rattle.board_model.specs.declared.answer.Answer.{Answer}
-use Rattle.board_model.specs.LineGrammar.{Spells}
-use Rattle.board_model.specs.AnswerGrammar.{answer_line}
-use Rattle.board_model.specs.LawfulSession.{State, Session, start, after, state_after, IsLawful, IsLawfulFrom, IsRight}
 use Rattle.board_model.specs.Lines.{IsOneLine, lines_of, TakesLine}
-use Rattle.board_model.specs.Script.{AreLinesOf, BeginsWith, Fed, FollowedBy, GoesOnAfter, LeavesGrammarAfter, SpellsAll, output_of}
+use Rattle.board_script_model.specs.declared.line.ScriptLine.{ScriptLine}
+use Rattle.board_script_model.specs.ScriptAnswers.{ScriptAnswer, script_answer_line}
+use Rattle.board_script_model.specs.ScriptGrammar.{SpellsLine}
+use Rattle.board_script_model.specs.ScriptSession.{Session, start, after, state_after, IsLawfulFrom, IsRight}
+use Rattle.board_script_model.specs.ScriptTurns.{ScriptState}
+use Rattle.board_script_model.specs.ScriptOutput.{AreLinesOf, BeginsWith, Fed, FollowedBy, GoesOnAfter, LeavesGrammarAfter, SpellsAll, output_of}
 use Rattle.board_lines.specs.Streams.{HasLongLine, HasMore}
 use Rattle.board_lines.proofs.LineLemmas.{some_lines}
 use Rattle.board_lines.specs.Runs.{HasAnswered, HasRun, IsBadAt, IsPast, IsReadCut, IsRunOf, IsSpent, IsWriteCut, SpellsNone, StandsFor}
 
 -- ---- a session with one more pair
 
-lawful_more : (s : State) (ps : Session) (p : Line × Answer) → IsLawfulFrom s ps → IsRight (state_after s ps) p.0 p.1 → IsLawfulFrom s (ps ++ p ∷ [])
+lawful_more : (s : ScriptState) (ps : Session) (p : ScriptLine × ScriptAnswer) → IsLawfulFrom s ps → IsRight (state_after s ps) p.0 p.1 → IsLawfulFrom s (ps ++ p ∷ [])
 lawful_more s [] p h r = (r, tt)
 lawful_more s (q ∷ ps) p h r = (h.0, lawful_more (after s q.0 q.1) ps p h.1 r)
 
-state_more : (s : State) (ps : Session) (p : Line × Answer) → state_after s (ps ++ p ∷ []) ≡ after (state_after s ps) p.0 p.1
+state_more : (s : ScriptState) (ps : Session) (p : ScriptLine × ScriptAnswer) → state_after s (ps ++ p ∷ []) ≡ after (state_after s ps) p.0 p.1
 state_more s [] p = refl
 state_more s (q ∷ ps) p = state_more (after s q.0 q.1) ps p
 
-spells_more : (ls : List (List ℕ)) (ps : Session) (b : List ℕ) (p : Line × Answer) → SpellsAll ls ps → Spells b p.0 → SpellsAll (ls ++ b ∷ []) (ps ++ p ∷ [])
+spells_more : (ls : List (List ℕ)) (ps : Session) (b : List ℕ) (p : ScriptLine × ScriptAnswer) → SpellsAll ls ps → SpellsLine b p.0 → SpellsAll (ls ++ b ∷ []) (ps ++ p ∷ [])
 spells_more [] [] b p h s = (s, tt)
 spells_more (l ∷ ls) (q ∷ ps) b p h s = (h.0, spells_more ls ps b p h.1 s)
 spells_more [] (q ∷ ps) b p h s = absurd h
 spells_more (l ∷ ls) [] b p h s = absurd h
 
-output_more : (ps : Session) (p : Line × Answer) → output_of (ps ++ p ∷ []) ≡ output_of ps ++ answer_line p.1
-output_more [] p = append-nil (answer_line p.1)
-output_more (q ∷ ps) p = ap (λ (x : List ℕ). answer_line q.1 ++ x) (output_more ps p) ∙ sym (append_assoc (answer_line q.1) (output_of ps) (answer_line p.1))
+output_more : (ps : Session) (p : ScriptLine × ScriptAnswer) → output_of (ps ++ p ∷ []) ≡ output_of ps ++ script_answer_line p.1
+output_more [] p = append-nil (script_answer_line p.1)
+output_more (q ∷ ps) p = ap (λ (x : List ℕ). script_answer_line q.1 ++ x) (output_more ps p) ∙ sym (append_assoc (script_answer_line q.1) (output_of ps) (script_answer_line p.1))
 
-length_more : (ps : Session) (p : Line × Answer) → length (ps ++ p ∷ []) ≡ length ps + 1
+length_more : (ps : Session) (p : ScriptLine × ScriptAnswer) → length (ps ++ p ∷ []) ≡ length ps + 1
 length_more ps p = length-append ps (p ∷ [])
 
-fed_more : (input left rest : Option (List ℕ)) (ps : Session) (b : List ℕ) (p : Line × Answer) → Fed input left ps → TakesLine left rest b → Spells b p.0 → Fed input rest (ps ++ p ∷ [])
+fed_more : (input left rest : Option (List ℕ)) (ps : Session) (b : List ℕ) (p : ScriptLine × ScriptAnswer) → Fed input left ps → TakesLine left rest b → SpellsLine b p.0 → Fed input rest (ps ++ p ∷ [])
 fed_more None left rest ps b p f t s = tt
 fed_more (Some i) None rest ps b p f t s = absurd f
 fed_more (Some i) (Some l) None ps b p f t s = absurd t
@@ -104,30 +104,30 @@ fed_goes_on (Some i) (Some l) ps f h = some_first i ps (lines_of l) f (some_line
 
 -- ---- runs
 
-pub starts : {M : Type 0} (stands : M → ℕ → State → Type 0) (m : M) (input before : Option (List ℕ)) (hand : List ℕ) → hand ≡ [] → stands m 0 start → HasRun stands m 0 input (prepend_known hand input) before before
+pub starts : {M : Type 0} (stands : M → ℕ → ScriptState → Type 0) (m : M) (input before : Option (List ℕ)) (hand : List ℕ) → hand ≡ [] → stands m 0 start → HasRun stands m 0 input (prepend_known hand input) before before
 starts stands m None before hand e h = record { session = []; lawful = tt; state = h; counted = refl; fed = tt; output = Appends-nil before }
 starts stands m (Some i) before hand e h =
     let same : hand ++ i ≡ i = rw e refl in
     record { session = []; lawful = tt; state = h; counted = refl; fed = record { lines = []; all = sym (ap lines_of same); spelled = tt }; output = Appends-nil before }
 
 -- the machine of a run that is not long stands for its session
-pub stands_for : {M : Type 0} (stands : M → ℕ → State → Type 0) (m : M) (count limit : ℕ) (input left before held : Option (List ℕ)) → count < limit → limit ≤ 4294967295 → (r : HasRun stands m count input left before held) → StandsFor stands m r.session
+pub stands_for : {M : Type 0} (stands : M → ℕ → ScriptState → Type 0) (m : M) (count limit : ℕ) (input left before held : Option (List ℕ)) → count < limit → limit ≤ 4294967295 → (r : HasRun stands m count input left before held) → StandsFor stands m r.session
 stands_for stands m count limit input left before held lt few r = record { lawful = r.lawful; few = omega (arith, r.counted, lt, few); state = r.state }
 
-pub goes_on : {M : Type 0} (stands : M → ℕ → State → Type 0) (m new : M) (count : ℕ) (input left rest before held now : Option (List ℕ)) (b text : List ℕ) → (r : HasRun stands m count input left before held) → TakesLine left rest b → HasAnswered stands new r.session b text → Appends held now text → HasRun stands new (count + 1) input rest before now
+pub goes_on : {M : Type 0} (stands : M → ℕ → ScriptState → Type 0) (m new : M) (count : ℕ) (input left rest before held now : Option (List ℕ)) (b text : List ℕ) → (r : HasRun stands m count input left before held) → TakesLine left rest b → HasAnswered stands new r.session b text → Appends held now text → HasRun stands new (count + 1) input rest before now
 goes_on stands m new count input left rest before held now b text r t a w =
-    let p : Line × Answer = (a.line, a.answer) in
-    let w2 : Appends held now (answer_line a.answer) = subst (Appends held now) a.told w in
+    let p : ScriptLine × ScriptAnswer = (a.line, a.answer) in
+    let w2 : Appends held now (script_answer_line a.answer) = subst (Appends held now) a.told w in
     record {
       session = r.session ++ p ∷ [];
       lawful = lawful_more start r.session p r.lawful a.right;
       state = subst (λ n. stands new n (state_after start (r.session ++ p ∷ []))) (sym (length_more r.session p)) (subst (stands new (length r.session + 1)) (sym (state_more start r.session p)) a.state);
       counted = length_more r.session p ∙ ap (λ k. k + 1) r.counted;
       fed = fed_more input left rest r.session b p r.fed t a.spelled;
-      output = subst (Appends before now) (sym (output_more r.session p)) (Appends-trans before held now (output_of r.session) (answer_line a.answer) r.output w2);
+      output = subst (Appends before now) (sym (output_more r.session p)) (Appends-trans before held now (output_of r.session) (script_answer_line a.answer) r.output w2);
     }
 
-pub ends : {M : Type 0} (stands : M → ℕ → State → Type 0) (m : M) (count limit : ℕ) (input left before held : Option (List ℕ)) → HasRun stands m count input left before held → count ≤ limit → IsAtEnd left → IsRunOf limit input before held
+pub ends : {M : Type 0} (stands : M → ℕ → ScriptState → Type 0) (m : M) (count limit : ℕ) (input left before held : Option (List ℕ)) → HasRun stands m count input left before held → count ≤ limit → IsAtEnd left → IsRunOf limit input before held
 ends stands m count limit input left before held r few e = record {
   session = r.session;
   lawful = r.lawful;
@@ -136,7 +136,7 @@ ends stands m count limit input left before held r few e = record {
   output = r.output;
 }
 
-pub read_cut : {M : Type 0} (stands : M → ℕ → State → Type 0) (m : M) (count : ℕ) (input stream left before held : Option (List ℕ)) (part : List ℕ) → HasRun stands m count input stream before held → Keeps stream (prepend_known part left) → IsOneLine part → IsReadCut input left before held
+pub read_cut : {M : Type 0} (stands : M → ℕ → ScriptState → Type 0) (m : M) (count : ℕ) (input stream left before held : Option (List ℕ)) (part : List ℕ) → HasRun stands m count input stream before held → Keeps stream (prepend_known part left) → IsOneLine part → IsReadCut input left before held
 read_cut stands m count input stream left before held part r k one = record {
   session = r.session;
   lawful = r.lawful;
@@ -146,7 +146,7 @@ read_cut stands m count input stream left before held part r k one = record {
   output = r.output;
 }
 
-pub bad_at : {M : Type 0} (stands : M → ℕ → State → Type 0) (m : M) (count limit : ℕ) (input left rest before held : Option (List ℕ)) (b : List ℕ) → HasRun stands m count input left before held → count < limit → TakesLine left rest b → SpellsNone b → IsBadAt (count + 1) limit input before held
+pub bad_at : {M : Type 0} (stands : M → ℕ → ScriptState → Type 0) (m : M) (count limit : ℕ) (input left rest before held : Option (List ℕ)) (b : List ℕ) → HasRun stands m count input left before held → count < limit → TakesLine left rest b → SpellsNone b → IsBadAt (count + 1) limit input before held
 bad_at stands m count limit input left rest before held b r lt t none = record {
   session = r.session;
   lawful = r.lawful;
@@ -156,7 +156,7 @@ bad_at stands m count limit input left rest before held b r lt t none = record {
   output = r.output;
 }
 
-pub long_at : {M : Type 0} (stands : M → ℕ → State → Type 0) (m : M) (count limit : ℕ) (input left before held : Option (List ℕ)) → HasRun stands m count input left before held → count < limit → HasLongLine left → IsBadAt (count + 1) limit input before held
+pub long_at : {M : Type 0} (stands : M → ℕ → ScriptState → Type 0) (m : M) (count limit : ℕ) (input left before held : Option (List ℕ)) → HasRun stands m count input left before held → count < limit → HasLongLine left → IsBadAt (count + 1) limit input before held
 long_at stands m count limit input left before held r lt h = record {
   session = r.session;
   lawful = r.lawful;
@@ -166,7 +166,7 @@ long_at stands m count limit input left before held r lt h = record {
   output = r.output;
 }
 
-pub is_past : {M : Type 0} (stands : M → ℕ → State → Type 0) (m : M) (count limit : ℕ) (input left before held : Option (List ℕ)) → HasRun stands m count input left before held → count ≡ limit → HasMore left → IsPast limit input before held
+pub is_past : {M : Type 0} (stands : M → ℕ → ScriptState → Type 0) (m : M) (count limit : ℕ) (input left before held : Option (List ℕ)) → HasRun stands m count input left before held → count ≡ limit → HasMore left → IsPast limit input before held
 is_past stands m count limit input left before held r all h = record {
   session = r.session;
   lawful = r.lawful;
@@ -175,7 +175,7 @@ is_past stands m count limit input left before held r all h = record {
   output = r.output;
 }
 
-pub is_spent : {M : Type 0} (stands : M → ℕ → State → Type 0) (m : M) (count : ℕ) (input left before held : Option (List ℕ)) → HasRun stands m count input left before held → IsSpent input before held
+pub is_spent : {M : Type 0} (stands : M → ℕ → ScriptState → Type 0) (m : M) (count : ℕ) (input left before held : Option (List ℕ)) → HasRun stands m count input left before held → IsSpent input before held
 is_spent stands m count input left before held r = record { session = r.session; lawful = r.lawful; lines = fed_begins input left r.session r.fed; output = r.output }
 
 -- nothing was run
@@ -187,15 +187,15 @@ spent_at_once (Some i) before = record { session = []; lawful = tt; lines = (lin
 fronts : (all text : List ℕ) (n : ℕ) → all ++ take n text ≡ take (length all + n) (all ++ text)
 fronts all text n = sym (take-append-add all text n)
 
-pub write_cut : {M : Type 0} (stands : M → ℕ → State → Type 0) (m new : M) (count : ℕ) (input left rest before held now : Option (List ℕ)) (b text : List ℕ) (n : ℕ) → (r : HasRun stands m count input left before held) → TakesLine left rest b → HasAnswered stands new r.session b text → Appends held now (take n text) → IsWriteCut input before now
+pub write_cut : {M : Type 0} (stands : M → ℕ → ScriptState → Type 0) (m new : M) (count : ℕ) (input left rest before held now : Option (List ℕ)) (b text : List ℕ) (n : ℕ) → (r : HasRun stands m count input left before held) → TakesLine left rest b → HasAnswered stands new r.session b text → Appends held now (take n text) → IsWriteCut input before now
 write_cut stands m new count input left rest before held now b text n r t a w =
-    let p : Line × Answer = (a.line, a.answer) in
-    let w2 : Appends held now (take n (answer_line a.answer)) = subst (λ (x : List ℕ). Appends held now (take n x)) a.told w in
-    let all : Appends before now (output_of r.session ++ take n (answer_line a.answer)) = Appends-trans before held now (output_of r.session) (take n (answer_line a.answer)) r.output w2 in
+    let p : ScriptLine × ScriptAnswer = (a.line, a.answer) in
+    let w2 : Appends held now (take n (script_answer_line a.answer)) = subst (λ (x : List ℕ). Appends held now (take n x)) a.told w in
+    let all : Appends before now (output_of r.session ++ take n (script_answer_line a.answer)) = Appends-trans before held now (output_of r.session) (take n (script_answer_line a.answer)) r.output w2 in
     record {
       session = r.session ++ p ∷ [];
       lawful = lawful_more start r.session p r.lawful a.right;
       lines = fed_begins input rest (r.session ++ p ∷ []) (fed_more input left rest r.session b p r.fed t a.spelled);
       written = length (output_of r.session) + n;
-      output = subst (λ (x : List ℕ). Appends before now (take (length (output_of r.session) + n) x)) (sym (output_more r.session p)) (subst (Appends before now) (fronts (output_of r.session) (answer_line a.answer) n) all);
+      output = subst (λ (x : List ℕ). Appends before now (take (length (output_of r.session) + n) x)) (sym (output_more r.session p)) (subst (Appends before now) (fronts (output_of r.session) (script_answer_line a.answer) n) all);
     }

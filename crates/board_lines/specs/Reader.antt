@@ -1,5 +1,5 @@
 -- What a line reader has in hand.
-use Rattle.std.specs.Prelude.{◌≡◌, ℕ, ◌<◌, ◌-◌, Bool, true, List, length, take, drop, Option, IsTrue, Result, IfOk}
+use Rattle.std.specs.Prelude.{ℕ, ◌-◌, Bool, List, take, drop, Option}
 use Rattle.std.specs.Io.KnownBytes.{IsAtEnd}
 use Rattle.board_lines.specs.declared.line_reader.LineReader.{LineReader}
 use Rattle.board_lines.specs.declared.line_reader.Fetched.{Fetched}

@@ -1,36 +1,36 @@
 -- Machines that answer lines, and what a run of them has done.
 use Rattle.std.specs.Prelude.{◌≡◌, ℕ, ◌+◌, ◌≤◌, ◌<◌, ◌^◌, List, length, take, Option}
 use Rattle.std.specs.Io.KnownBytes.{Appends, prepend_known}
-use Rattle.board_model.specs.declared.line.Line.{Line}
-use Rattle.board_model.specs.declared.answer.Answer.{Answer}
-use Rattle.board_model.specs.LineGrammar.{Spells}
-use Rattle.board_model.specs.AnswerGrammar.{answer_line}
-use Rattle.board_model.specs.LawfulSession.{State, Session, start, after, state_after, IsLawful, IsRight}
 use Rattle.board_model.specs.Lines.{IsOneLine}
-use Rattle.board_model.specs.Script.{AreLinesOf, BeginsWith, Fed, GoesOnAfter, LeavesGrammarAfter, output_of}
+use Rattle.board_script_model.specs.declared.line.ScriptLine.{ScriptLine}
+use Rattle.board_script_model.specs.ScriptAnswers.{ScriptAnswer, script_answer_line}
+use Rattle.board_script_model.specs.ScriptGrammar.{SpellsLine}
+use Rattle.board_script_model.specs.ScriptSession.{Session, start, after, state_after, IsLawful, IsRight}
+use Rattle.board_script_model.specs.ScriptTurns.{ScriptState}
+use Rattle.board_script_model.specs.ScriptOutput.{AreLinesOf, BeginsWith, Fed, GoesOnAfter, LeavesGrammarAfter, output_of}
 use Rattle.board_lines.specs.declared.error.ScriptError.{ScriptError}
 use Rattle.board_lines.specs.declared.error.ScriptError.TheVariants.{ReadFault, WriteFault, BadLine, TooLong, OutOfMemory}
 
 -- ---- machines
 
 -- the machine stands for the number of lines and the last state of this session, which is lawful and short enough that no number reaches its end
-pub record StandsFor {M : Type 0} (stands : M → ℕ → State → Type 0) (m : M) (session : Session) : Type 0 where
+pub record StandsFor {M : Type 0} (stands : M → ℕ → ScriptState → Type 0) (m : M) (session : Session) : Type 0 where
   pub lawful : IsLawful session
   pub few : length session < 2 ^ 63
   pub state : stands m (length session) (state_after start session)
 
 -- the bytes spell a line, the text is the line of its right answer, and the machine stands for the session with this pair
-pub record HasAnswered {M : Type 0} (stands : M → ℕ → State → Type 0) (new : M) (session : Session) (bytes text : List ℕ) : Type 0 where
-  pub line : Line
-  pub answer : Answer
-  pub spelled : Spells bytes line
+pub record HasAnswered {M : Type 0} (stands : M → ℕ → ScriptState → Type 0) (new : M) (session : Session) (bytes text : List ℕ) : Type 0 where
+  pub line : ScriptLine
+  pub answer : ScriptAnswer
+  pub spelled : SpellsLine bytes line
   pub right : IsRight (state_after start session) line answer
   pub state : stands new (length session + 1) (after (state_after start session) line answer)
-  pub told : text ≡ answer_line answer
+  pub told : text ≡ script_answer_line answer
 
 -- no line of the grammar has these bytes
 abbrev pub SpellsNone : List ℕ → Type 0
-SpellsNone bytes = (l : Line) → Spells bytes l → ⊥
+SpellsNone bytes = (l : ScriptLine) → SpellsLine bytes l → ⊥
 
 -- ---- runs over an input: the sink held `before`, and now it holds `held`
 
@@ -94,7 +94,7 @@ IsStopped OutOfMemory limit input left before held = IsSpent input before held
 -- ---- inside a run
 
 -- so many lines were answered, and the rest is left
-pub record HasRun {M : Type 0} (stands : M → ℕ → State → Type 0) (m : M) (count : ℕ) (input left before held : Option (List ℕ)) : Type 0 where
+pub record HasRun {M : Type 0} (stands : M → ℕ → ScriptState → Type 0) (m : M) (count : ℕ) (input left before held : Option (List ℕ)) : Type 0 where
   pub session : Session
   pub lawful : IsLawful session
   pub state : stands m (length session) (state_after start session)

@@ -1,5 +1,5 @@
 -- What reads, writes and looks for a line do.
-use Rattle.std.specs.Prelude.{◌≡◌, ℕ, ◌<◌, ◌≤◌, List, length, Result, IfOk, Option, Some, None, ⊤, IsSomeAnd, slice_get}
+use Rattle.std.specs.Prelude.{ℕ, ◌<◌, ◌≤◌, List, length, Result, IfOk, Option, Some, None, ⊤, IsSomeAnd, slice_get}
 use Rattle.board_model.specs.Lines.{lines_of}
 
 -- how much of a piece was written: at least a byte of one that is not empty

@@ -65,7 +65,7 @@ fn push_told(reply: &Option<Reply>, out: &mut Vec<u8>) -> Result<(), AllocError>
 }
 
 // Adds each number behind a space.
-fn push_numbers(numbers: &[u64], out: &mut Vec<u8>) -> Result<(), AllocError>
+pub(crate) fn push_numbers(numbers: &[u64], out: &mut Vec<u8>) -> Result<(), AllocError>
     ensures { OnOk result (out.new.items ≡ out.old.items ++ flat_map number_text numbers.now) }
 {
     for number in numbers {

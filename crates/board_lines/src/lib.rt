@@ -3,6 +3,7 @@
 
 mod answers;
 mod error;
+mod event_answers;
 mod line_reader;
 mod memory;
 mod names;
@@ -16,6 +17,7 @@ mod writer;
 pub use answers::{push_answer, push_begun, push_gone, push_refused, push_step, push_words};
 pub use board_parse::parse_line;
 pub use error::{LineError, ScriptError, SinkError};
+pub use event_answers::{push_event_asked, push_event_step, push_expired};
 pub use line_reader::{Fetched, LineReader};
 pub use memory::{MemorySink, MemorySource};
 pub use run::{RunsLines, run_lines};

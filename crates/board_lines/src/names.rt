@@ -2,7 +2,10 @@
 ghost use Rattle.std.specs.Prelude.{◌≡◌};
 ghost use Rattle.board_model.specs.AnswerGrammar.{create_error_text, entry_error_text, entry_mut_error_text, open_error_text, reader_error_text, reason_text, writer_error_text};
 ghost use Rattle.board_model.specs.LineGrammar.{key_type_text};
+ghost use Rattle.board_script_model.specs.ScriptAnswers.{notify_error_text};
+ghost use Rattle.board_script_model.specs.ScriptGrammar.{kind_text};
 
+use board_event_model::{EventKind, NotifierNotifyError};
 use board_model::{
     BlackboardCreateError, BlackboardOpenError, EntryHandleError, EntryHandleMutError, KeyType,
     ReaderCreateError, Reason, WriterCreateError,
@@ -20,6 +23,7 @@ pub(crate) fn reason_name(reason: Reason) -> &'static [u8]
         Reason::Type => b"type",
         Reason::Index => b"index",
         Reason::Unfilled => b"unfilled",
+        Reason::NotWaiting => b"notwaiting",
         Reason::NoBoard => b"noboard",
     }
 }
@@ -120,5 +124,26 @@ pub(crate) fn entry_mut_error_name(error: EntryHandleMutError) -> &'static [u8]
         EntryHandleMutError::ThingUnknown(_) => b"ThingUnknown",
         EntryHandleMutError::NumbersSpent => b"NumbersSpent",
         EntryHandleMutError::OutOfMemory => b"OutOfMemory",
+    }
+}
+
+pub(crate) fn event_kind_name(kind: EventKind) -> &'static [u8]
+    ensures { result.now ≡ kind_text kind }
+{
+    match kind {
+        EventKind::Bits => b"bits",
+        EventKind::Queue => b"queue",
+    }
+}
+
+pub(crate) fn notify_error_name(error: NotifierNotifyError) -> &'static [u8]
+    ensures { result.now ≡ notify_error_text error }
+{
+    match error {
+        NotifierNotifyError::Interrupt => b"Interrupt",
+        NotifierNotifyError::FailedToDeliverSignal => b"FailedToDeliverSignal",
+        NotifierNotifyError::TriggerIdOutOfBounds => b"TriggerIdOutOfBounds",
+        NotifierNotifyError::Disconnected => b"Disconnected",
+        NotifierNotifyError::InternalFailure => b"InternalFailure",
     }
 }

@@ -107,7 +107,7 @@ fn push_names(names: &[Name], out: &mut Vec<u8>) -> Result<(), AllocError>
 }
 
 // Adds a text and another.
-fn push_both(first: &[u8], second: &[u8], out: &mut Vec<u8>) -> Result<(), AllocError>
+pub(crate) fn push_both(first: &[u8], second: &[u8], out: &mut Vec<u8>) -> Result<(), AllocError>
     ensures { OnOk result (out.new.items ≡ out.old.items ++ (first.now ++ second.now)) }
 {
     out.extend_from_slice(first)?;
@@ -149,7 +149,7 @@ fn push_limits(info: &Info, out: &mut Vec<u8>) -> Result<(), AllocError>
 fn push_info(info: &Info, out: &mut Vec<u8>) -> Result<(), AllocError>
     ensures { OnOk result (out.new.items ≡ out.old.items ++ info_text info.now) }
 {
-    push_both(b"info ", info.name.as_bytes(), out)?;
+    push_both(b"info ", info.name.as_text().as_bytes(), out)?;
     push_both(b" ", key_type_name(info.key_type), out)?;
     push_limits(info, out)
 }

@@ -2,8 +2,9 @@
 ghost use Rattle.std.specs.Prelude.{◌≡◌, ◌≤◌, ◌^◌, [], IfErr, IsErrOf, IsSomeAnd, List, OnErr, OnOk, ℕ};
 ghost use Rattle.std.specs.Io.KnownBytes.{IsAtEnd};
 ghost use Rattle.board_model.specs.Lines.{Rose};
-ghost use Rattle.board_model.specs.Script.{IsScript};
-ghost use Rattle.board_model.specs.LawfulSession.{Session, State, start};
+ghost use Rattle.board_script_model.specs.ScriptOutput.{IsScript};
+ghost use Rattle.board_script_model.specs.ScriptSession.{Session, start};
+ghost use Rattle.board_script_model.specs.ScriptTurns.{ScriptState};
 ghost use Rattle.board_lines.specs.Runs.{HasAnswered, IsRunOf, IsStopped, SpellsNone, StandsFor};
 
 use crate::error::{LineError, ScriptError};
@@ -16,7 +17,7 @@ use std::alloc::Global;
 ///
 /// Contracts see for which numbers of lines and which states a machine stands: those of the lawful sessions that may have led to it.
 pub trait RunsLines {
-    ghost stands: { Self → ℕ → State → Type 0 };
+    ghost stands: { Self → ℕ → ScriptState → Type 0 };
 
     /// Answers a line: `answer` then has the answer and its newline, and nothing else.
     ///
@@ -31,7 +32,7 @@ pub trait RunsLines {
 
         // A line outside the grammar is refused, no other one is, and nothing changes.
         ensures bad { IsErrOf result LineError.Bad → SpellsNone line.now }
-        ensures same { IsErrOf result LineError.Bad → (n : ℕ) (s : State) → stands self.old n s → stands self.new n s }
+        ensures same { IsErrOf result LineError.Bad → (n : ℕ) (s : ScriptState) → stands self.old n s → stands self.new n s }
 
         ensures err { OnErr result (answer.new.items ≡ []) };
 }

@@ -1,3 +1,4 @@
+mod events;
 mod idle;
 mod reading;
 mod running;

@@ -6,7 +6,7 @@ ghost use Rattle.board_model.specs.LineReading.{is_plain, read_attribute_key, re
 
 use crate::bytes::{bytes_behind, is_word};
 use board_layout::Text;
-use board_model::{BoardName, Key, KeyType, Name, ValueType};
+use board_model::{Key, KeyType, Name, ValueType};
 
 fn has_name_bytes(text: &[u8]) -> bool
     ensures { result ≡ list_all is_name_byte text.now }
@@ -31,7 +31,7 @@ fn is_name(text: &[u8]) -> bool
 }
 
 // Whether these are 1 to so many visible bytes.
-fn is_visible(text: &[u8], most: usize) -> bool
+pub(crate) fn is_visible(text: &[u8], most: usize) -> bool
     ensures { result ≡ is_visible most text.now }
 {
     if text.is_empty() || text.len() > most {
@@ -51,7 +51,7 @@ pub(crate) fn name_of(text: &[u8]) -> Option<Name>
 }
 
 #[tactic(auto, unfolding(board_model::specs::LineReading::read_board_name))]
-pub(crate) fn board_name_of(text: &[u8]) -> Option<BoardName>
+pub(crate) fn board_name_of(text: &[u8]) -> Option<Text<255>>
     ensures { result ≡ read_board_name text.now }
 {
     if !is_visible(text, 255) {

@@ -7,7 +7,7 @@ use crate::bytes::is_word;
 use crate::options::{attributes_of, needs_of};
 use crate::tokens::Tokens;
 use crate::values::entries_of;
-use board_model::{Call, Name};
+use board_model::{Call, LongName, Name};
 use std::alloc::{AllocError, Global};
 
 #[tactic(auto, unfolding(board_model::specs::LineReading::read_one_name))]
@@ -277,7 +277,7 @@ fn create_of(alloc: Global, tokens: &mut Tokens) -> Result<Option<Call>, AllocEr
     };
     Ok(Some(Call::Create {
         factory,
-        name,
+        name: LongName::new(alloc, name)?,
         key_type,
         limits,
         attributes,
@@ -309,7 +309,7 @@ fn open_of(alloc: Global, tokens: &mut Tokens) -> Result<Option<Call>, AllocErro
     }
     Ok(Some(Call::Open {
         factory,
-        name,
+        name: LongName::new(alloc, name)?,
         key_type,
         limits,
         needs,

@@ -4,6 +4,7 @@
 mod atoms;
 mod bytes;
 mod calls;
+mod events;
 mod options;
 mod parse;
 #[cfg(test)]

@@ -1,14 +1,17 @@
 //! Lines, from their bytes.
 ghost use Rattle.std.specs.Prelude.{◌≡◌, IfNone, IfOk, IfSome};
-ghost use Rattle.board_model.specs.declared.line.Line.{Line};
-ghost use Rattle.board_model.specs.LineGrammar.{Spells};
 ghost use Rattle.board_model.specs.LineReading.{read_begin, read_line, read_plain_line, read_words, split_tokens};
+ghost use Rattle.board_parse.specs.EventReading.{read_script_line};
+ghost use Rattle.board_script_model.specs.declared.line.ScriptLine.{ScriptLine};
+ghost use Rattle.board_script_model.specs.ScriptGrammar.{SpellsLine};
 
 use crate::atoms::name_of;
 use crate::bytes::is_word;
 use crate::calls::{call_of, one_name, two_names};
+use crate::events::event_line_of;
 use crate::tokens::Tokens;
 use board_model::Line;
+use board_script_model::ScriptLine;
 use std::alloc::{AllocError, Global};
 
 // A line has no more bytes than these.
@@ -67,7 +70,7 @@ fn plain_line_of(word: &[u8], tokens: &mut Tokens) -> Option<Line>
     None
 }
 
-// The line that these tokens make.
+// The board line that these tokens make.
 #[tactic(auto, unfolding(board_model::specs::LineReading::read_line))]
 fn line_of(alloc: Global, tokens: &mut Tokens) -> Result<Option<Line>, AllocError>
     ensures { IfOk result (λ o. o ≡ read_line tokens.old) }
@@ -81,17 +84,28 @@ fn line_of(alloc: Global, tokens: &mut Tokens) -> Result<Option<Line>, AllocErro
     Ok(plain_line_of(word, tokens))
 }
 
+// The line of a script that these bytes make, which may be longer than a line.
+#[tactic(auto, unfolding(crate::specs::EventReading::read_script_line, crate::specs::EventReading::board_line_first))]
+fn script_line_of(alloc: Global, bytes: &[u8]) -> Result<Option<ScriptLine>, AllocError>
+    ensures { IfOk result (λ o. o ≡ read_script_line (split_tokens bytes.now)) }
+{
+    if let Some(line) = line_of(alloc, &mut Tokens::between(bytes, 32))? {
+        return Ok(Some(ScriptLine::Board(line)));
+    }
+    event_line_of(alloc, &mut Tokens::between(bytes, 32))
+}
+
 /// The line of the script that these bytes spell, or `None` where no line of the grammar does.
-/// Memory is taken for the entries and attributes of a `create` and the needs of an `open` alone.
+/// Memory is taken for the names of boards and events, the entries and attributes of a `create` and the needs of an `open` alone.
 ///
 /// # Errors
 /// `AllocError` where memory is refused.
-pub fn parse_line(alloc: Global, bytes: &[u8]) -> Result<Option<Line>, AllocError>
-    ensures found { IfOk result (λ o. IfSome o (λ l. Spells bytes.now l)) }
-    ensures only { IfOk result (λ o. IfNone o ((l : Line) → Spells bytes.now l → ⊥)) }
+pub fn parse_line(alloc: Global, bytes: &[u8]) -> Result<Option<ScriptLine>, AllocError>
+    ensures found { IfOk result (λ o. IfSome o (λ l. SpellsLine bytes.now l)) }
+    ensures only { IfOk result (λ o. IfNone o ((l : ScriptLine) → SpellsLine bytes.now l → ⊥)) }
 {
     if bytes.len() > MOST_BYTES {
         return Ok(None);
     }
-    line_of(alloc, &mut Tokens::between(bytes, 32))
+    script_line_of(alloc, bytes)
 }

@@ -225,6 +225,40 @@ fn lines_of_loans_are_in_the_grammar(rt: HostRuntime) -> Result<(), Fail> {
     Ok(())
 }
 
+#[test]
+fn lines_of_events_are_in_the_grammar(rt: HostRuntime) -> Result<(), Fail> {
+    let cases: [(&[u8], bool); 24] = [
+        (b"begin p listen l bits door 0", true),
+        (b"begin p listen l bits door 65535", true),
+        (b"begin p listen l queue ~!:...", true),
+        (b"begin p notifier n bits listen", true),
+        (b"begin p notifier n queue door", true),
+        (b"begin p notify n 18446744073709551615", true),
+        (b"begin p wait l one try", true),
+        (b"begin p wait l all timed", true),
+        (b"begin wait wait wait all block", true),
+        (b"expire p", true),
+        (b"begin p listen l bits door", false),
+        (b"begin p listen l bits door 65536", false),
+        (b"begin p listen l bits door 01", false),
+        (b"begin p listen l queue door 1", false),
+        (b"begin p listen l words door", false),
+        (b"begin p listen l queue a/b", false),
+        (b"begin p listen l queue a\\b", false),
+        (b"begin p notifier n queue .", false),
+        (b"begin p notifier n queue ..", false),
+        (b"begin p notify n", false),
+        (b"begin p notify n 18446744073709551616", false),
+        (b"begin p wait l try one", false),
+        (b"begin p wait l all", false),
+        (b"expire p q", false),
+    ];
+    for (bytes, is_line) in cases {
+        assert_eq!(rt; parse_line(rt.alloc(), bytes)?.is_some(), is_line);
+    }
+    Ok(())
+}
+
 // A create line of 17 bytes, the name, 4 bytes and 254 entries of 16 bytes.
 fn create_line(alloc: Global, name: &[u8]) -> Result<Vec<u8>, AllocError> {
     let mut line = Vec::from_slice(alloc, b"begin p create f ")?;

@@ -10,7 +10,7 @@ use crate::atoms::{
 };
 use crate::bytes::{is_word, place_of};
 use board_layout::Text;
-use board_model::{BoardName, Key, KeyType, Name, ValueType};
+use board_model::{Key, KeyType, Name, ValueType};
 use std::marker::Model;
 
 // The parts that are left of a text.
@@ -94,7 +94,7 @@ impl<'a> Tokens<'a> {
         name_of(self.next()?)
     }
 
-    pub(crate) fn board_name(&mut self) -> Option<BoardName>
+    pub(crate) fn board_name(&mut self) -> Option<Text<255>>
         ensures { with_rest result self.new ≡ first_by read_board_name self.old }
     {
         board_name_of(self.next()?)

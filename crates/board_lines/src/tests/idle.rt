@@ -1,14 +1,15 @@
-//! A machine on which no call was begun. It answers steps and looks at boards, and has no memory for anything else.
+//! A machine on which no call was begun and nothing is held. It answers steps, expiries, looks at boards and the use of listeners and notifiers, and has no memory for anything else.
 ghost use Rattle.std.specs.Prelude.{◌≡◌, [], IfErr, IfOk, IsErrOf, OnErr, OnOk, Some};
-ghost use Rattle.board_model.specs.declared.line.Line.{Line};
 ghost use Rattle.board_model.specs.declared.answer.Answer.TheVariants as answers;
 ghost use Rattle.board_model.specs.AnswerGrammar.{answer_line};
-ghost use Rattle.board_model.specs.LineGrammar.{Spells};
+ghost use Rattle.board_script_model.specs.declared.line.ScriptLine.{ScriptLine};
+ghost use Rattle.board_script_model.specs.ScriptGrammar.{SpellsLine};
 ghost use Rattle.board_lines.specs.Runs.{SpellsNone};
 ghost use Rattle.board_lines.specs.IdleMachine.{idle_reason};
 
 use crate::{LineError, RunsLines, parse_line, push_refused};
 use board_model::{Line, Reason};
+use board_script_model::{EventRequest, ScriptLine};
 use std::alloc::Global;
 
 #[derive(Drop)]
@@ -16,19 +17,28 @@ pub(super) struct Idle {
     pub(super) alloc: Global,
 }
 
-fn reason_of(line: &Line) -> Option<Reason>
+fn reason_of(line: &ScriptLine) -> Option<Reason>
     ensures { result ≡ idle_reason line.now }
 {
     match line {
-        Line::Step { .. } => Some(Reason::Idle),
-        Line::Words { .. } => Some(Reason::NoBoard),
+        ScriptLine::Board(Line::Step { .. }) => Some(Reason::Idle),
+        ScriptLine::Board(Line::Words { .. }) => Some(Reason::NoBoard),
+        ScriptLine::Event {
+            request: EventRequest::Notify { .. },
+            ..
+        } => Some(Reason::Unknown),
+        ScriptLine::Event {
+            request: EventRequest::Wait { .. },
+            ..
+        } => Some(Reason::Unknown),
+        ScriptLine::Expire { .. } => Some(Reason::Idle),
         _ => None,
     }
 }
 
 // Why the line of these bytes is refused.
 fn refusal(alloc: Global, bytes: &[u8]) -> Result<Reason, LineError>
-    ensures ok { IfOk result (λ why. (l : Line) × Spells bytes.now l × (Some why ≡ idle_reason l)) }
+    ensures ok { IfOk result (λ why. (l : ScriptLine) × SpellsLine bytes.now l × (Some why ≡ idle_reason l)) }
     ensures bad { IsErrOf result LineError.Bad → SpellsNone bytes.now }
 {
     let Some(line) = parse_line(alloc, bytes)? else {
@@ -53,7 +63,7 @@ fn write_refusal(reason: Reason, answer: &mut Vec<u8>) -> Result<(), LineError>
 
 impl RunsLines for Idle {
     ghost use Rattle.std.specs.Prelude.{◌≡◌};
-    ghost use Rattle.board_model.specs.LawfulSession.{start};
+    ghost use Rattle.board_script_model.specs.ScriptSession.{start};
 
     ghost stands = { λ machine n s. s ≡ start };
 

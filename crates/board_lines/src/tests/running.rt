@@ -68,6 +68,12 @@ fn lines_are_answered_in_order(rt: HostRuntime) -> Result<(), Fail> {
             written: b"refused idle\nrefused idle\n",
             ..PLAIN
         },
+        Trial {
+            script: b"begin a notify n 1\nbegin a wait l all try\nexpire a\nbegin a notify n\n",
+            result: Err(ScriptError::BadLine(4)),
+            written: b"refused unknown\nrefused unknown\nrefused idle\n",
+            ..PLAIN
+        },
     ];
     for trial in &trials {
         assert!(rt; check(rt.alloc(), trial)?);

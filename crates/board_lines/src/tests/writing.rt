@@ -2,8 +2,8 @@ use crate::{push_answer, push_words};
 use board_layout::Text;
 use board_model::{
     Access, Answer, BlackboardCreateError, BlackboardOpenError, EntryHandleError,
-    EntryHandleMutError, Info, Key, KeyType, Keys, Names, ReaderCreateError, Reason, Reply,
-    ValueType, Words, WriterCreateError,
+    EntryHandleMutError, Info, Key, KeyType, Keys, LongName, Names, ReaderCreateError, Reason,
+    Reply, ValueType, Words, WriterCreateError,
 };
 use std::alloc::{AllocError, Global};
 use std::test::Fail;
@@ -34,9 +34,10 @@ fn answers_without_lists(rt: HostRuntime) -> Result<(), Fail> {
         word: 20,
         value: 18446744073709551615,
     };
-    let cases: [(Answer, &[u8]); 9] = [
+    let cases: [(Answer, &[u8]); 10] = [
         (Answer::Begun, b"ok\n"),
         (Answer::Gone, b"gone\n"),
+        (Answer::Refused(Reason::NotWaiting), b"refused notwaiting\n"),
         (Answer::Refused(Reason::NoBoard), b"refused noboard\n"),
         (
             Answer::Step {
@@ -164,7 +165,7 @@ fn a_board_is_told_in_one_line(rt: HostRuntime) -> Result<(), Fail> {
     let keys = Vec::from_array(rt.alloc(), [Key::U64(5), Key::F8(Text::of(b"ab"))])?;
     let names = Vec::from_array(rt.alloc(), [Text::of(b"a"), Text::of(b"b1")])?;
     let info = Info {
-        name: Text::of(b"board"),
+        name: LongName::new(rt.alloc(), Text::of(b"board"))?,
         key_type: KeyType::F8,
         max_readers: 8,
         max_nodes: 20,

@@ -1,6 +1,6 @@
-use Rattle.std.proofs.Common.{◌≡◌, ◌≤◌, ◌<◌, ℕ, List, refl, sym, subst, rules, arith}
+use Rattle.std.proofs.Common.{subst, rules, arith}
 use Rattle.board_lines.specs.Reader.{line_given}
-use Rattle.board_lines.specs.Runs.{HasAnswered, SpellsNone, StandsFor}
+use Rattle.board_lines.specs.Runs.{SpellsNone}
 use Rattle.board_lines.proofs.CompleteLemmas.{not_bad, not_past}
 use Rattle.board_lines.proofs.RunLemmas.{bad_at, goes_on, is_past, is_spent, long_at, spent_at_once, stands_for, write_cut}
 use Rattle.board_lines.proofs.run.run_lines.Goals as goal

@@ -1,4 +1,4 @@
-use Rattle.std.proofs.Common.{arith, rules}
+use Rattle.std.proofs.Common.{rules}
 use Rattle.board_lines.proofs.Pieces.{more_written}
 use Rattle.board_lines.proofs.writer.write_whole.Goals as goal
 

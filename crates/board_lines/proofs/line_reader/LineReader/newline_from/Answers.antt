@@ -1,5 +1,4 @@
-use Rattle.std.proofs.Common.{◌≡◌, ◌≤◌, ◌+◌, None, refl, rules}
-use Rattle.std.specs.Prelude.{IfNone}
+use Rattle.std.proofs.Common.{◌≤◌, ◌+◌, refl, rules}
 use Rattle.board_model.specs.Lines.{IsOneLine}
 use Rattle.board_lines.specs.Reader.{between}
 use Rattle.board_lines.proofs.HandLemmas.{all_lack, fits, front_lacks}

@@ -1,4 +1,4 @@
-use Rattle.std.proofs.Common.{◌≡◌, ◌<◌, length, arith, rules}
+use Rattle.std.proofs.Common.{◌<◌, arith, rules}
 use Rattle.board_lines.specs.Reader.{in_hand}
 use Rattle.board_lines.proofs.LineLemmas.{gave_line, gave_last, is_long}
 use Rattle.board_lines.proofs.line_reader.LineReader.next.Goals as goal

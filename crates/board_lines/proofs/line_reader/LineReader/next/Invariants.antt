@@ -1,4 +1,4 @@
-use Rattle.std.proofs.Common.{◌≡◌, ◌≤◌, ◌-◌, ◌+◌, length, take, cond, IsTrue}
+use Rattle.std.proofs.Common.{◌≤◌, ◌-◌, ◌+◌, length, take, cond, IsTrue}
 use Rattle.std.specs.Io.KnownBytes.{IsAtEnd, Keeps, prepend_known}
 use Rattle.board_model.specs.Lines.{IsOneLine}
 use Rattle.board_lines.specs.Reader.{has_ended, in_hand}

@@ -1,6 +1,5 @@
-use Rattle.std.proofs.Common.{◌≡◌, ◌≤◌, ℕ, arith, rules, drop, take, ◌+◌, ◌-◌, length, ap, ◌∙◌, refl}
+use Rattle.std.proofs.Common.{◌≡◌, ◌≤◌, arith, rules, drop, take, ◌+◌, ◌-◌, length, ◌∙◌, refl}
 use Rattle.std.proofs.lemmas.List.{drop_all, length-append, length-drop}
-use Rattle.std.proofs.lemmas.Grind.{common_steps}
 use Rattle.board_lines.proofs.Pieces.{read_front}
 use Rattle.board_lines.proofs.memory.ends.MemorySourceSource.read.Goals as goal
 
