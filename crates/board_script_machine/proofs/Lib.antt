@@ -1,0 +1,3 @@
+pub mod CounterLemmas
+pub mod Sessions
+pub mod Turns
