@@ -8,7 +8,7 @@ use Rattle.board_model.specs.LineReading.{read_number}
 use Rattle.board_model.proofs.GrammarLemmasNumbers.{number_again, number_takes}
 use Rattle.board_lines.specs.declared.error.ScriptError.{ScriptError}
 use Rattle.board_lines.specs.declared.error.ScriptError.TheVariants as error
-use Rattle.board_script.specs.Summary.{IsSummed, LeavesOff}
+use Rattle.board_generator.specs.Summary.{IsSummed, LeavesOff}
 use Rattle.board_script.specs.Top.{IsGen, IsGenerated, IsNoted, IsSummedUp, note_of, status_of}
 
 pub same_text : (a b : List ℕ) → false ≡ not (bytes_eq a b) → a ≡ b

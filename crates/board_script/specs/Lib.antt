@@ -1,12 +1,1 @@
-pub mod Begins
-pub mod Counting
-pub mod LoanCalls
-pub mod Loans
-pub mod Generator
-pub mod LawsOfGenerator
-pub mod Machine
-pub mod Steps
-pub mod Summary
-pub mod TableCalls
 pub mod Top
-pub mod WorkedGenerator

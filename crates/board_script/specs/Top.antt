@@ -5,7 +5,7 @@ use Rattle.board_model.specs.Lines.{Rose}
 use Rattle.board_lines.specs.declared.error.ScriptError.{ScriptError}
 use Rattle.board_lines.specs.declared.error.ScriptError.TheVariants.{ReadFault, WriteFault, BadLine, TooLong, OutOfMemory}
 use Rattle.board_lines.specs.Runs.{IsRunOf, IsStopped}
-use Rattle.board_script.specs.Summary.{IsSummed, LeavesOff}
+use Rattle.board_generator.specs.Summary.{IsSummed, LeavesOff}
 
 -- the status of a run
 abbrev pub status_of : Result (Unit {0}) ScriptError → ℕ

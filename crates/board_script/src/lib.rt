@@ -1,31 +1,19 @@
-//! The machine that runs the lines of a script, and the program's top call.
+//! Scripts, run from their source to their sink, and the program's top call.
 #![tactic(auto)]
 
-mod abandon;
-mod begin;
-mod generator;
-mod generator_laws;
-mod line;
-mod loans;
-mod lookups;
-mod machine;
-mod release;
 mod script;
-mod step;
-mod summary;
 mod top;
-mod worked_generator;
 
+pub use board_generator::{
+    generated_scripts_are_scripts, run_generated, the_run_for_one_is_lawful,
+};
 pub use board_lines::{
     Failed, Fetched, LineError, LineReader, MemorySink, MemorySource, RunsLines, ScriptError, Sink,
     SinkError, Source,
 };
-pub use generator::run_generated;
-pub use generator_laws::generated_scripts_are_scripts;
-pub use machine::Machine;
+pub use board_script_machine::Machine;
 pub use script::{run_script, run_script_within};
 pub use top::run_words;
-pub use worked_generator::the_run_for_one_is_lawful;
 
 #[cfg(test)]
 mod tests;

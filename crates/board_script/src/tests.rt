@@ -1,5 +1,6 @@
 //! Worked scripts, from their bytes to the bytes of their output.
 mod domain;
+mod events;
 mod generator;
 mod loans;
 mod readers;
@@ -44,13 +45,27 @@ fn agrees(
 // Runs a script to its end.
 fn gives(rt: &impl Abort, alloc: Global, script: Vec<u8>, output: &[u8]) -> Result<(), Fail> {
     let mut source = MemorySource::new(script, 0, Vec::new(alloc));
-    let mut sink = MemorySink::new(alloc, 4096, 0, Vec::new(alloc))?;
+    let mut sink = MemorySink::new(alloc, output.len(), 0, Vec::new(alloc))?;
     let mut notes = MemorySink::new(alloc, 100, 0, Vec::new(alloc))?;
     let words = Vec::new(alloc);
     let status = run_words(alloc, &words, &mut source, &mut sink, &mut notes);
     assert_eq!(rt; status, 0);
     assert_eq!(rt; sink.held(), output);
     Ok(())
+}
+
+// The first lines of a text.
+fn front(text: &[u8], lines: usize) -> &[u8] {
+    let mut left = lines;
+    for (i, byte) in text.iter().enumerate() {
+        if left == 0 {
+            return &text[..i];
+        }
+        if *byte == b'\n' {
+            left -= 1;
+        }
+    }
+    text
 }
 
 const FIRST_RUN: Row = Row {
@@ -136,7 +151,7 @@ fn is_bad(rt: &impl Abort, alloc: Global, line: &[u8]) -> Result<(), Fail> {
 
 #[test]
 fn lines_outside_the_grammar(rt: HostRuntime) -> Result<(), Fail> {
-    let lines: [&[u8]; 9] = [
+    let lines: [&[u8]; 17] = [
         b"",
         b"step a\r",
         b"step  a",
@@ -146,6 +161,14 @@ fn lines_outside_the_grammar(rt: HostRuntime) -> Result<(), Fail> {
         b"stop a",
         b"begin a create f b\x7f u64",
         b"words 00",
+        b"begin a listen e bits ev 65536",
+        b"begin a listen e bits ev",
+        b"begin a listen e queue q 1",
+        b"begin a listen e queue a/b",
+        b"begin a notifier n queue ..",
+        b"begin a wait e some try",
+        b"begin a wait e one later",
+        b"expire",
     ];
     for line in lines {
         is_bad(&rt, rt.alloc(), line)?;

@@ -3,11 +3,11 @@ ghost use Rattle.std.specs.Prelude.{◌≡◌, ℕ, ◌<◌, [], length, map, Er
 ghost use Rattle.std.specs.String.{string_bytes};
 ghost use Rattle.std.specs.Io.KnownBytes.{IsAtEnd};
 ghost use Rattle.board_lines.specs.Runs.{IsRunOf};
-ghost use Rattle.board_script.specs.Summary.{IsSummed};
+ghost use Rattle.board_generator.specs.Summary.{IsSummed};
 ghost use Rattle.board_script.specs.Top.{IsAnswered, IsGen, IsNoted, IsSummedUp, IsUsage, note_of, status_of, usage_note};
 
-use crate::generator::run_generated;
 use crate::script::run_script;
+use board_generator::run_generated;
 use board_layout::Text;
 use board_lines::{ScriptError, Sink, Source, write_whole};
 use board_parse::number_of;

@@ -1,5 +1,5 @@
 //! Worked scripts of readers, and each abandoned at every step.
-use super::{Row, agrees, gives};
+use super::{Row, agrees, front, gives};
 use std::alloc::Global;
 use std::process::Abort;
 use std::test::Fail;
@@ -182,20 +182,6 @@ fn a_kept_value_is_fresh_until_an_update(rt: HostRuntime) -> Result<(), Fail> {
         b"ok\nread 1:0 1 = true\nok\nwrite 1:3 5\nwrite 1:0 2 = ok\nok\nread 1:0 2 = false\nrefused taken\nrefused unknown\n",
     )?;
     gives(&rt, rt.alloc(), script, &output)
-}
-
-// The first lines of a text.
-fn front(text: &[u8], lines: usize) -> &[u8] {
-    let mut left = lines;
-    for (i, byte) in text.iter().enumerate() {
-        if left == 0 {
-            return &text[..i];
-        }
-        if *byte == b'\n' {
-            left -= 1;
-        }
-    }
-    text
 }
 
 // Each with how many lines it has, and how many come before it abandons `a` itself.
