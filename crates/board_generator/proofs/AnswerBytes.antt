@@ -63,7 +63,7 @@ read_told : (b w v : ℕ) (told : Option Reply) → is_some told ≡ is_last_rea
 read_told b w v None = refl
 read_told b w v (Some r) = refl
 
-last_write : (a : Answer) → IsAnswer a → (begins (answer_line a) (codes "write ") && replies (answer_line a)) ≡ is_last_write a
+last_write : (a : Answer) → IsAnswer a → (begins (answer_line a) (codes "wr") && replies (answer_line a)) ≡ is_last_write a
 last_write answer.Begun h = refl
 last_write (answer.Refused why) h = refl
 last_write (answer.Step access.Table told) h = refl
@@ -72,7 +72,7 @@ last_write (answer.Step (access.Write b w v) told) h = step_replies (access.Writ
 last_write answer.Gone h = refl
 last_write (answer.Words ws) h = refl
 
-last_read : (a : Answer) → IsAnswer a → (begins (answer_line a) (codes "read ") && replies (answer_line a)) ≡ is_last_read a
+last_read : (a : Answer) → IsAnswer a → (begins (answer_line a) (codes "rea") && replies (answer_line a)) ≡ is_last_read a
 last_read answer.Begun h = refl
 last_read (answer.Refused why) h = refl
 last_read (answer.Step access.Table told) h = refl
@@ -84,13 +84,13 @@ last_read (answer.Words ws) h = refl
 -- ---- the bytes of an answer
 
 -- with this front the byte tells whether a write is the last
-pub write_is_last : (bytes : List ℕ) (front reply : Bool) → front ≡ true → front ≡ begins bytes (codes "write ") → reply ≡ replies bytes → OfAnswer bytes (λ a. reply ≡ is_last_write a)
+pub write_is_last : (bytes : List ℕ) (front reply : Bool) → front ≡ true → front ≡ begins bytes (codes "wr") → reply ≡ replies bytes → OfAnswer bytes (λ a. reply ≡ is_last_write a)
 write_is_last bytes front reply t f r = λ a h e.
-    let b : begins (answer_line a) (codes "write ") ≡ true = ap (λ (x : List ℕ). begins x (codes "write ")) (sym e) ∙ (sym f ∙ t) in
+    let b : begins (answer_line a) (codes "wr") ≡ true = ap (λ (x : List ℕ). begins x (codes "wr")) (sym e) ∙ (sym f ∙ t) in
     r ∙ (ap (λ (x : List ℕ). replies x) e ∙ (ap (λ (v : Bool). v && replies (answer_line a)) (sym b) ∙ last_write a h))
 
 -- and with this one whether a read is
-pub read_is_last : (bytes : List ℕ) (front reply : Bool) → front ≡ true → front ≡ begins bytes (codes "read ") → reply ≡ replies bytes → OfAnswer bytes (λ a. reply ≡ is_last_read a)
+pub read_is_last : (bytes : List ℕ) (front reply : Bool) → front ≡ true → front ≡ begins bytes (codes "rea") → reply ≡ replies bytes → OfAnswer bytes (λ a. reply ≡ is_last_read a)
 read_is_last bytes front reply t f r = λ a h e.
-    let b : begins (answer_line a) (codes "read ") ≡ true = ap (λ (x : List ℕ). begins x (codes "read ")) (sym e) ∙ (sym f ∙ t) in
+    let b : begins (answer_line a) (codes "rea") ≡ true = ap (λ (x : List ℕ). begins x (codes "rea")) (sym e) ∙ (sym f ∙ t) in
     r ∙ (ap (λ (x : List ℕ). replies x) e ∙ (ap (λ (v : Bool). v && replies (answer_line a)) (sym b) ∙ last_read a h))

@@ -36,6 +36,14 @@ fn number_after(x: u64) -> u64
         .wrapping_add(1442695040888963407)
 }
 
+// Writes the line of these bytes.
+fn write_line(bytes: &[u8], line: &mut Vec<u8>) -> Result<(), AllocError>
+    ensures { OnOk result (line.new.items ≡ bytes.now) }
+{
+    line.clear();
+    line.extend_from_slice(bytes)
+}
+
 // Writes the line by which the party begins the call of these bytes.
 fn write_begin(party: &[u8], call: &[u8], line: &mut Vec<u8>) -> Result<(), AllocError>
     ensures { OnOk result (line.new.items ≡ codes "begin " ++ (party.now ++ (codes " " ++ call.now))) }
@@ -90,13 +98,13 @@ fn write_drawn(number: u64, k: u64, line: &mut Vec<u8>) -> Result<(), AllocError
     match (number >> 32) % 16 {
         0 => write_update_of_one(k, line),
         1 => write_update_of_four(k, line),
-        2 => write_begin(b"a", b"get h0", line),
-        3 => write_begin(b"a", b"get h1", line),
-        4 => write_begin(b"b", b"get h0", line),
-        5 => write_begin(b"b", b"get h1", line),
-        6..=9 => write_step(b"w", line),
-        10..=12 => write_step(b"a", line),
-        _ => write_step(b"b", line),
+        2 => write_line(b"begin a get h0", line),
+        3 => write_line(b"begin a get h1", line),
+        4 => write_line(b"begin b get h0", line),
+        5 => write_line(b"begin b get h1", line),
+        6..=9 => write_line(b"step w", line),
+        10..=12 => write_line(b"step a", line),
+        _ => write_line(b"step b", line),
     }
 }
 
