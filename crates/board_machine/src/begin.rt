@@ -11,17 +11,17 @@ ghost use Rattle.board_machine.specs.Begins.{Checks, HasGeneration, HasNoRow, Is
 ghost use Rattle.board_machine.specs.Loans.{lent_words};
 
 use crate::loans::words_lent;
-use crate::lookups::{entry_of, place_of_party, value_of};
+use crate::lookups::{place_of_party, value_of};
 use crate::machine::{BoardMachine, PartyRow, TableTask, Task};
 use board_model::{
     AddedEntries, AddedEntry, Answer, Attributes, BoardName, Call, Entry, Key, KeyType, Kind,
     Limits, Name, Reason, Requirements, ThingKind, Value, ValueType,
 };
 use board_parties::{
-    Held, same_key_type, same_type, type_of, type_of_key, value_detail, value_type_of, value_words,
+    Held, entry_of, same_key_type, type_of, type_of_key, value_detail, value_type_of, value_words,
 };
 use board_ports::{CellShape, ReadCore, WriteCore};
-use board_service::BoardWords;
+use board_service::{BoardWords, same_type};
 use std::alloc::AllocError;
 
 /// Whether a call may begin: what it has to do, or why not.

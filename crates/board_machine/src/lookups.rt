@@ -1,14 +1,10 @@
 //! What stands in the machine's lists.
-ghost use Rattle.std.specs.Prelude.{◌≡◌, ◌+◌, ◌<◌, Option, option_map, find, length, is_some};
+ghost use Rattle.std.specs.Prelude.{◌≡◌, option_map};
 ghost use Rattle.std.specs.List.{position_from};
-ghost use Rattle.board_model.specs.Tables as tables;
-ghost use Rattle.board_model.specs.Things as held;
-ghost use Rattle.board_model.specs.Replies as replies;
-ghost use Rattle.board_model.specs.TypeTable as types;
 ghost use Rattle.board_machine.specs.Machine.{is_row_of, kept, kept_of};
 
 use crate::machine::{KeptValue, PartyRow};
-use board_model::{Kind, Name};
+use board_model::Name;
 
 /// Where the row of a party stands.
 pub(crate) fn place_of_party(party: &Name, parties: &[PartyRow]) -> Option<usize>
@@ -37,17 +33,4 @@ pub(crate) fn value_of<'a>(
         }
     }
     found
-}
-
-/// The place of a handle's entry among those of its board.
-pub(crate) fn entry_of(kind: &Kind) -> u64
-    ensures { result ≡ tables.entry_of kind.now }
-{
-    match kind {
-        Kind::Factory => 0,
-        Kind::Reader { port: _ } => 0,
-        Kind::Writer { port: _ } => 0,
-        Kind::ReadHandle { entry } => *entry,
-        Kind::WriteHandle { entry, port: _ } => *entry,
-    }
 }

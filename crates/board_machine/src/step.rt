@@ -10,10 +10,11 @@ ghost use Rattle.board_machine.specs.Steps as steps;
 ghost use Rattle.board_machine.specs.Steps.{CanGoOn, CanGoOnAt, CanRun, GoesOnAt, HasCounter, HasRead, HoldsAsBefore, IsCounter, IsOnlyWrite, IsOwedBy, IsOwedWrite, IsReadTold, IsSame, IsTold, IsWordSet, IsWrite, OwesAt, ticked};
 ghost use Rattle.board_machine.specs.declared.step.OwedAccess.TheVariants as owed;
 
-use crate::lookups::{entry_of, place_of_party};
+use crate::lookups::place_of_party;
 use crate::machine::{BoardMachine, KeptValue, PartyRow, TableTask, Task};
 use board_cell::{Access as CellAccess, Progress, UpdateCall};
 use board_model::{Access, Answer, Name, Reason, Reply, Words};
+use board_parties::entry_of;
 use board_service::BoardWords;
 use std::alloc::AllocError;
 

@@ -9,8 +9,6 @@ mod replies;
 mod typed_calls;
 mod values;
 
-pub use lookups::Held;
+pub use lookups::{Held, entry_of};
 pub use party_domain::PartyDomain;
-pub use values::{
-    same_key_type, same_type, type_of, type_of_key, value_detail, value_type_of, value_words,
-};
+pub use values::{same_key_type, type_of, type_of_key, value_detail, value_type_of, value_words};

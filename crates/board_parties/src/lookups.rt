@@ -9,7 +9,7 @@ ghost use Rattle.board_parties.specs.Named.{IsNumberIn, node_number, node_place,
 use board_layout::Text;
 use board_model::{Kind, Name, Thing, ThingKind};
 use board_names::ServiceName;
-use board_service::ThingId;
+use board_service::{ThingId, is_kind};
 
 /// A thing of a board, under its party and its name.
 pub type Held = Thing<Name, Name>;
@@ -35,19 +35,6 @@ pub(crate) fn thing_of<'a>(party: &Name, name: &Name, things: &'a [Held]) -> Opt
         .find(|t| t.holder == *party && t.name == *name)
 }
 
-fn is_kind(kind: ThingKind, of: &Kind) -> bool
-    ensures { result ≡ tables.same_kind (tables.kind_of of.now) kind }
-{
-    match (of, kind) {
-        (Kind::Factory, ThingKind::Factory) => true,
-        (Kind::Reader { port: _ }, ThingKind::Reader) => true,
-        (Kind::Writer { port: _ }, ThingKind::Writer) => true,
-        (Kind::ReadHandle { entry: _ }, ThingKind::ReadHandle) => true,
-        (Kind::WriteHandle { entry: _, port: _ }, ThingKind::WriteHandle) => true,
-        _ => false,
-    }
-}
-
 /// The same, where it is of this kind.
 pub(crate) fn held_of_kind(
     kind: ThingKind,
@@ -70,7 +57,7 @@ pub(crate) fn held_of_kind(
 }
 
 /// The place of a handle's entry among those of its board.
-pub(crate) fn entry_of(kind: &Kind) -> u64
+pub fn entry_of(kind: &Kind) -> u64
     ensures { result ≡ tables.entry_of kind.now }
 {
     match kind {
@@ -135,19 +122,6 @@ pub(crate) fn number_of(thing: &Held, things: &[Held], numbers: &[ThingId]) -> T
     match place_of_thing(&thing.holder, &thing.name, things) {
         Some(place) => numbers[place],
         None => unreachable!(),
-    }
-}
-
-/// The port of a writer, or of the handles made from it.
-pub(crate) fn port_of(kind: &Kind) -> u64
-    ensures { result ≡ tables.port_of kind.now }
-{
-    match kind {
-        Kind::Factory => 0,
-        Kind::Reader { port } => *port,
-        Kind::Writer { port } => *port,
-        Kind::ReadHandle { entry: _ } => 0,
-        Kind::WriteHandle { entry: _, port } => *port,
     }
 }
 

@@ -11,14 +11,14 @@ ghost use Rattle.board_parties.specs.Parties.{HasWord, IsCreate, IsEntry, IsEntr
 use crate::adding::{attributes_for, entries_for, needs_for};
 use crate::lists::{keys_of, nodes_at};
 use crate::lookups::{
-    Held, entry_of, held_of_kind, join, name_text, node_for, number_of, place_of_thing, port_of,
-    rename, thing_of,
+    Held, entry_of, held_of_kind, join, name_text, node_for, number_of, place_of_thing, rename,
+    thing_of,
 };
 use crate::replies::{
     create_refused, entry_mut_refused, entry_refused, open_refused, reader_refused, writer_refused,
 };
 use crate::typed_calls::{create_in, entry_in, entry_mut_in, open_in};
-use crate::values::{key_detail, key_type_of, same_type, type_of_key, value_detail};
+use crate::values::{key_detail, key_type_of, type_of_key, value_detail};
 use board_cell::Words;
 use board_layout::Text;
 use board_model::{
@@ -26,7 +26,7 @@ use board_model::{
     Reply, Requirements, Thing, ThingKind, ValueType,
 };
 use board_names::ServiceName;
-use board_service::{BoardWords, DomainCore, NodeId, ThingId};
+use board_service::{BoardWords, DomainCore, NodeId, ThingId, port_of, same_type};
 use std::alloc::{AllocError, Global};
 use std::marker::Model;
 

@@ -7,6 +7,7 @@ ghost use Rattle.board_parties.specs.Named.{IsShortKey};
 
 use board_layout::{F8, KeyMemory, Text, TypeDetail, TypeVariant};
 use board_model::{AddedEntry, Key, KeyType, Value, ValueType};
+use board_service::same_type;
 use std::alloc::{AllocError, Global};
 
 /// The details of a value type.
@@ -172,25 +173,4 @@ pub(crate) fn key_type_of(detail: &TypeDetail) -> KeyType
     } else {
         KeyType::F8
     }
-}
-
-// The variants are the same.
-fn same_variant(a: TypeVariant, b: TypeVariant) -> bool
-    ensures { result ≡ types.same_variant a b }
-{
-    match (a, b) {
-        (TypeVariant::FixedSize, TypeVariant::FixedSize) => true,
-        (TypeVariant::Dynamic, TypeVariant::Dynamic) => true,
-        _ => false,
-    }
-}
-
-/// Whether these are the details of one type.
-pub fn same_type(a: &TypeDetail, b: &TypeDetail) -> bool
-    ensures { result ≡ types.same_type a.now b.now }
-{
-    same_variant(a.variant, b.variant)
-        && a.type_name == b.type_name
-        && a.size == b.size
-        && a.alignment == b.alignment
 }

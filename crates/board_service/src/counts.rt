@@ -128,7 +128,7 @@ pub(crate) fn has_thing_of(board: u64, things: &[Held]) -> bool
 }
 
 /// The port of a reader, a writer or a write handle.
-pub(crate) fn port_of(kind: &Kind) -> u64
+pub fn port_of(kind: &Kind) -> u64
     ensures { result ≡ tables.port_of kind.now }
 {
     match kind {

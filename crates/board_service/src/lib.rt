@@ -17,8 +17,10 @@ mod told;
 
 pub use board_model::{Limits, ThingKind};
 pub use cells::{BoardWords, Cells};
+pub use counts::port_of;
 pub use domain_core::DomainCore;
 pub use ids::{NodeId, ThingId};
+pub use lookups::{is_kind, same_type};
 pub use made::{Found, Made};
 pub use new_entry::NewEntry;
 pub use told::{DynamicConfig, StaticConfig};

@@ -118,7 +118,7 @@ pub(crate) fn has_all_readers(board: u64, boards: &[BoardRow], things: &[Held]) 
 }
 
 /// Whether a thing is of the kind.
-pub(crate) fn is_kind(kind: ThingKind, of: &Kind) -> bool
+pub fn is_kind(kind: ThingKind, of: &Kind) -> bool
     ensures { result ≡ tables.same_kind (tables.kind_of of.now) kind }
 {
     match (of, kind) {
@@ -142,7 +142,7 @@ fn same_variant(a: TypeVariant, b: TypeVariant) -> bool
 }
 
 /// Whether these are the details of one type.
-pub(crate) fn same_type(a: &TypeDetail, b: &TypeDetail) -> bool
+pub fn same_type(a: &TypeDetail, b: &TypeDetail) -> bool
     ensures { result ≡ types.same_type a.now b.now }
 {
     same_variant(a.variant, b.variant)
