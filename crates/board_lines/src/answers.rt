@@ -4,7 +4,7 @@ ghost use Rattle.std.specs.List.{flat_map};
 ghost use Rattle.board_model.specs.declared.answer.Answer.TheVariants as answer;
 ghost use Rattle.board_model.specs.AnswerGrammar.{access_text, answer_line, answer_text, number_text, place_text, reply_text, told_text};
 
-use crate::names::reason_name;
+use crate::names::refusal_line;
 use crate::replies::push_reply;
 use board_model::{Access, Answer, Reason, Reply};
 use itoa::Buffer;
@@ -105,10 +105,7 @@ pub fn push_gone(out: &mut Vec<u8>) -> Result<(), AllocError>
 pub fn push_refused(reason: Reason, out: &mut Vec<u8>) -> Result<(), AllocError>
     ensures { OnOk result (out.new.items ≡ out.old.items ++ answer_line (answer.Refused reason)) }
 {
-    out.extend_from_slice(b"refused ")?;
-    out.extend_from_slice(reason_name(reason))?;
-    out.push(10)?;
-    Ok(())
+    out.extend_from_slice(refusal_line(reason))
 }
 
 /// Adds the line of a step.

@@ -1,6 +1,7 @@
-//! The words of reasons, types and errors.
+//! The lines of refusals, and the words of types and errors.
 ghost use Rattle.std.specs.Prelude.{◌≡◌};
-ghost use Rattle.board_model.specs.AnswerGrammar.{create_error_text, entry_error_text, entry_mut_error_text, open_error_text, reader_error_text, reason_text, writer_error_text};
+ghost use Rattle.board_model.specs.declared.answer.Answer.TheVariants as answer;
+ghost use Rattle.board_model.specs.AnswerGrammar.{answer_line, create_error_text, entry_error_text, entry_mut_error_text, open_error_text, reader_error_text, writer_error_text};
 ghost use Rattle.board_model.specs.LineGrammar.{key_type_text};
 ghost use Rattle.board_script_model.specs.ScriptAnswers.{notify_error_text};
 ghost use Rattle.board_script_model.specs.ScriptGrammar.{kind_text};
@@ -11,20 +12,21 @@ use board_model::{
     ReaderCreateError, Reason, WriterCreateError,
 };
 
-pub(crate) fn reason_name(reason: Reason) -> &'static [u8]
-    ensures { result.now ≡ reason_text reason }
+/// The line that refuses a line for this reason.
+pub(crate) fn refusal_line(reason: Reason) -> &'static [u8]
+    ensures { result.now ≡ answer_line (answer.Refused reason) }
 {
     match reason {
-        Reason::Abandoned => b"abandoned",
-        Reason::Busy => b"busy",
-        Reason::Idle => b"idle",
-        Reason::Unknown => b"unknown",
-        Reason::Taken => b"taken",
-        Reason::Type => b"type",
-        Reason::Index => b"index",
-        Reason::Unfilled => b"unfilled",
-        Reason::NotWaiting => b"notwaiting",
-        Reason::NoBoard => b"noboard",
+        Reason::Abandoned => b"refused abandoned\n",
+        Reason::Busy => b"refused busy\n",
+        Reason::Idle => b"refused idle\n",
+        Reason::Unknown => b"refused unknown\n",
+        Reason::Taken => b"refused taken\n",
+        Reason::Type => b"refused type\n",
+        Reason::Index => b"refused index\n",
+        Reason::Unfilled => b"refused unfilled\n",
+        Reason::NotWaiting => b"refused notwaiting\n",
+        Reason::NoBoard => b"refused noboard\n",
     }
 }
 

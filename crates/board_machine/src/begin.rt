@@ -11,7 +11,7 @@ ghost use Rattle.board_machine.specs.Begins.{Checks, HasGeneration, HasNoRow, Is
 ghost use Rattle.board_machine.specs.Loans.{lent_words};
 
 use crate::loans::words_lent;
-use crate::lookups::{place_of_party, value_of};
+use crate::lookups::value_of;
 use crate::machine::{BoardMachine, PartyRow, TableTask, Task};
 use board_model::{
     AddedEntries, AddedEntry, Answer, Attributes, BoardName, Call, Entry, Key, KeyType, Kind,
@@ -491,18 +491,13 @@ impl<C: BoardWords + Drop> BoardMachine<C> {
         }
     }
 
-    /// A line `begin P CALL`.
-    pub fn begin(&mut self, party: Name, call: Call) -> Result<Answer, AllocError>
-        requires { IsLed self.old }
+    // A line `begin P CALL` of a free party.
+    fn begin_free(&mut self, party: Name, call: Call) -> Result<Answer, AllocError>
+        requires led { IsLed self.old }
+        requires free { HasNoRow self.old party }
         ensures serves { IfOk result (λ a. Serves self.old self.new (line.Begin party call) a) }
         ensures drawn { OnOk result (self.new.domain.drawn ≤ self.old.domain.drawn + 1) }
     {
-        if let Some(at) = place_of_party(&party, &self.parties) {
-            if self.parties[at].task.is_gone() {
-                return Ok(Answer::Refused(Reason::Abandoned));
-            }
-            return Ok(Answer::Refused(Reason::Busy));
-        }
         let generation = self.generation_for(&party, &call);
         match self.check(&party, call, generation)? {
             Checked::Refused(why) => Ok(Answer::Refused(why)),
@@ -510,6 +505,18 @@ impl<C: BoardWords + Drop> BoardMachine<C> {
                 self.parties.push(PartyRow { name: party, task })?;
                 Ok(Answer::Begun)
             }
+        }
+    }
+
+    /// A line `begin P CALL`.
+    pub fn begin(&mut self, party: Name, call: Call) -> Result<Answer, AllocError>
+        requires { IsLed self.old }
+        ensures serves { IfOk result (λ a. Serves self.old self.new (line.Begin party call) a) }
+        ensures drawn { OnOk result (self.new.domain.drawn ≤ self.old.domain.drawn + 1) }
+    {
+        match self.refusal_of_party(&party) {
+            Some(why) => Ok(Answer::Refused(why)),
+            None => self.begin_free(party, call),
         }
     }
 }
