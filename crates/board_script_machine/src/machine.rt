@@ -1,5 +1,7 @@
 //! The machine's one call: the line of a script, and the answer to it.
 ghost use Rattle.std.specs.Prelude.{◌≡◌, ℕ, ◌+◌, ◌≤◌, [], true, IsErrOf, OnErr, OnOk};
+ghost use Rattle.board_model.specs.LineGrammar.{IsLine};
+ghost use Rattle.board_script_model.specs.declared.line.ScriptLine.TheVariants as script_line;
 ghost use Rattle.board_script_model.specs.ScriptGrammar.{IsScriptLine};
 ghost use Rattle.board_script_model.specs.ScriptSession.{Session, start};
 ghost use Rattle.board_script_model.specs.ScriptTurns.{ScriptState};
@@ -44,6 +46,24 @@ impl<C: BoardWords + Drop> Machine<C> {
         self.spent
     }
 
+    // Answers a line of boards, or one that boards and events share. Inlined, so that the line isn't copied.
+    #[inline(always)]
+    fn board_line(&mut self, line: Line, out: &mut Vec<u8>) -> Result<(), AllocError>
+        requires led { IsLed self.old }
+        requires line { IsLine line }
+        requires empty { out.old.items ≡ [] }
+        ensures tells { OnOk result (Tells self.old self.new (script_line.Board line) out.new.items) }
+        ensures drawn { OnOk result (drawn_by self.new.boards ≤ drawn_by self.old.boards + 1) }
+    {
+        match line {
+            Line::Begin { party, call } => self.begin(party, call, out),
+            Line::Step { party } => self.step(&party, out),
+            Line::Release { party, thing } => self.release(&party, &thing, out),
+            Line::Abandon { party } => self.abandon(party, out),
+            Line::Words { board } => self.tell_words(board, out),
+        }
+    }
+
     // Answers a line of the grammar.
     fn answer(&mut self, line: ScriptLine, out: &mut Vec<u8>) -> Result<(), AllocError>
         requires led { IsLed self.old }
@@ -53,11 +73,7 @@ impl<C: BoardWords + Drop> Machine<C> {
         ensures drawn { OnOk result (drawn_by self.new.boards ≤ drawn_by self.old.boards + 1) }
     {
         match line {
-            ScriptLine::Board(Line::Begin { party, call }) => self.begin(party, call, out),
-            ScriptLine::Board(Line::Step { party }) => self.step(&party, out),
-            ScriptLine::Board(Line::Release { party, thing }) => self.release(&party, &thing, out),
-            ScriptLine::Board(Line::Abandon { party }) => self.abandon(party, out),
-            ScriptLine::Board(Line::Words { board }) => self.tell_words(board, out),
+            ScriptLine::Board(line) => self.board_line(line, out),
             ScriptLine::Event { party, request } => self.event_call(party, request, out),
             ScriptLine::Expire { party } => self.expire(&party, out),
         }
