@@ -36,14 +36,6 @@ fn number_after(x: u64) -> u64
         .wrapping_add(1442695040888963407)
 }
 
-// Writes the line of these bytes.
-fn write_line(bytes: &[u8], line: &mut Vec<u8>) -> Result<(), AllocError>
-    ensures { OnOk result (line.new.items ≡ bytes.now) }
-{
-    line.clear();
-    line.extend_from_slice(bytes)
-}
-
 // Writes the line by which the party begins the call of these bytes.
 fn write_begin(party: &[u8], call: &[u8], line: &mut Vec<u8>) -> Result<(), AllocError>
     ensures { OnOk result (line.new.items ≡ codes "begin " ++ (party.now ++ (codes " " ++ call.now))) }
@@ -91,20 +83,26 @@ fn write_update_of_four(k: u64, line: &mut Vec<u8>) -> Result<(), AllocError>
     line.extend_from_slice(digits)
 }
 
-// Writes line `k` of those that are drawn, for the number drawn.
-fn write_drawn(number: u64, k: u64, line: &mut Vec<u8>) -> Result<(), AllocError>
-    ensures { OnOk result (line.new.items ≡ spell (line_for (generator.choice number) k)) }
+// Line `k` of those that are drawn, for the number drawn. That of an update is written into the buffer.
+fn drawn_line<'a>(number: u64, k: u64, buffer: &'a mut Vec<u8>) -> Result<&'a [u8], AllocError>
+    ensures { IfOk result (λ line. line.now ≡ spell (line_for (generator.choice number) k)) }
 {
     match (number >> 32) % 16 {
-        0 => write_update_of_one(k, line),
-        1 => write_update_of_four(k, line),
-        2 => write_line(b"begin a get h0", line),
-        3 => write_line(b"begin a get h1", line),
-        4 => write_line(b"begin b get h0", line),
-        5 => write_line(b"begin b get h1", line),
-        6..=9 => write_line(b"step w", line),
-        10..=12 => write_line(b"step a", line),
-        _ => write_line(b"step b", line),
+        0 => {
+            write_update_of_one(k, buffer)?;
+            Ok(buffer)
+        }
+        1 => {
+            write_update_of_four(k, buffer)?;
+            Ok(buffer)
+        }
+        2 => Ok(b"begin a get h0"),
+        3 => Ok(b"begin a get h1"),
+        4 => Ok(b"begin b get h0"),
+        5 => Ok(b"begin b get h1"),
+        6..=9 => Ok(b"step w"),
+        10..=12 => Ok(b"step a"),
+        _ => Ok(b"step b"),
     }
 }
 
@@ -214,13 +212,13 @@ fn summary_of(alloc: Global, n: u64) -> Result<Text<256>, AllocError>
     ensures { IfOk result (IsSummaryOf (generated n)) }
 {
     let mut generator = Generator::new(alloc);
-    let mut line = Vec::new(alloc);
-    generator.open(&mut line)?;
+    let mut buffer = Vec::new(alloc);
+    generator.open(&mut buffer)?;
     let mut number = n;
     for k in 0..n {
         number = number_after(number);
-        write_drawn(number, k + 1, &mut line)?;
-        generator.run(&line)?;
+        let line = drawn_line(number, k + 1, &mut buffer)?;
+        generator.run(line)?;
     }
     Ok(generator.summary())
 }

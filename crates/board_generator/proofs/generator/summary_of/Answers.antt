@@ -16,14 +16,14 @@ run-requires-clause-room c = record {
 pub run-requires-clause-plain : goal.run-requires-clause-plain
 run-requires-clause-plain c =
     let few : c.loop-k.k + 1 < 2 ^ 64 = let most = c.requires in omega (arith, c.loop-k-test.true, most) in
-    (_, spells_drawn (choice c.number_after-number.result) (c.loop-k.k + 1) c.deref.result.now few (c.deref.ensures.value ∙ c.in_ok-write_drawn.ensures))
+    (_, spells_drawn (choice c.number_after-number.result) (c.loop-k.k + 1) c.in_ok-line.line.now few c.in_ok-line.ensures)
 
 pub loop-k-preserved : goal.loop-k-preserved
 loop-k-preserved c =
     let x = c.number_after-number.ensures ∙ ap number_after c.loop-k.invariant.number in
     let l : Line = line_for (choice c.number_after-number.result) (c.loop-k.k + 1) in
     let most = c.requires in
-    let spells = spells_drawn (choice c.number_after-number.result) (c.loop-k.k + 1) c.deref.result.now (omega (arith, c.loop-k-test.true, most)) (c.deref.ensures.value ∙ c.in_ok-write_drawn.ensures) in
+    let spells = spells_drawn (choice c.number_after-number.result) (c.loop-k.k + 1) c.in_ok-line.line.now (omega (arith, c.loop-k-test.true, most)) c.in_ok-line.ensures in
     let ran = c.in_ok-run.ensures l spells in
     let all = drawn_more c.args.n c.loop-k.k c.number_after-number.result x in
     let few : length ((opening ++ drawn c.args.n c.loop-k.k) ++ l ∷ []) < 2 ^ 62 = subst (λ (ls : List Line). length ls < 2 ^ 62) (sym all) (omega (arith, length_run c.args.n (c.loop-k.k + 1), c.loop-k-test.true, most)) in
