@@ -7,7 +7,7 @@ pub fn an_update_writes_a_word_a_step()
     ensures { IsLawful (updated after_one_word) }
 {}
 
-/// An update may not write its words in its first step and then idle, whatever its steps are answered.
+/// The same update is wrong where all four words stand after its first step, though its steps are answered as before.
 pub fn an_update_at_once_is_wrong()
     ensures { IsLawful (updated after_all_words) → ⊥ }
 {}
