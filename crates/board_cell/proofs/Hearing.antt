@@ -3,7 +3,7 @@ use Rattle.std.proofs.Common.{◌≡◌, ◌≢◌, ℕ, ◌+◌, ◌<◌, ◌�
 use Rattle.std.proofs.lemmas.Grind.{common_steps}
 use Rattle.std.proofs.lemmas.List.{append-nil, drop_more}
 use Rattle.board_layout.specs.declared.shape.CellShape.{CellShape}
-use Rattle.board_model.specs.OwedAccesses.{Owed, Reading, opening, trying, finished, hear, reading_from, is_finished, owed_read}
+use Rattle.board_cell_model.specs.OwedAccesses.{Owed, Reading, opening, trying, finished, hear, reading_from, is_finished, owed_read}
 use Rattle.board_cell.specs.Runs.{owed_reads}
 
 -- what is heard later, is heard after what was heard first

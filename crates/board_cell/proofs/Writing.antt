@@ -1,7 +1,7 @@
 -- The accesses of a publication, one by one.
 use Rattle.std.proofs.Common.{◌≡◌, ℕ, suc, ◌+◌, ◌-◌, ◌≤◌, List, [], ◌∷◌, ◌++◌, length, ap, sym, ◌∙◌, append_assoc, arith}
 use Rattle.board_layout.specs.declared.shape.CellShape.{CellShape}
-use Rattle.board_model.specs.OwedAccesses.{Owed, owed_write}
+use Rattle.board_cell_model.specs.OwedAccesses.{Owed, owed_write}
 use Rattle.board_cell.specs.Calls.{Updating}
 use Rattle.board_cell.specs.Runs.{owed_writes, owed_writes_from}
 

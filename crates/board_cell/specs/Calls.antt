@@ -1,7 +1,7 @@
 -- The calls on a cell, as contracts see them.
 use Rattle.std.specs.Prelude.{ℕ, Bool, true, false, List, [], Option}
 use Rattle.board_layout.specs.declared.shape.CellShape.{CellShape}
-use Rattle.board_model.specs.OwedAccesses.{Owed, to_read, to_write, Reading, opening, trying, finished}
+use Rattle.board_cell_model.specs.OwedAccesses.{Owed, to_read, to_write, Reading, opening, trying, finished}
 use Rattle.board_cell.specs.declared.access.Access.{Access}
 use Rattle.board_cell.specs.declared.access.Access.TheVariants as access
 use Rattle.board_cell.specs.declared.access.Progress.{Progress}

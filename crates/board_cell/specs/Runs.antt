@@ -1,7 +1,7 @@
 -- The accesses of whole runs, one after another.
 use Rattle.std.specs.Prelude.{ℕ, zero, suc, ◌+◌, ◌-◌, List, [], ◌∷◌, length}
 use Rattle.board_layout.specs.declared.shape.CellShape.{CellShape}
-use Rattle.board_model.specs.OwedAccesses.{Owed, to_read, Reading, finished, hear, owed_read, owed_write}
+use Rattle.board_cell_model.specs.OwedAccesses.{Owed, to_read, Reading, finished, hear, owed_read, owed_write}
 
 -- what a get owes before each of these words, until it is finished
 abbrev pub owed_reads : ℕ → CellShape → Reading → List ℕ → List Owed

@@ -1,6 +1,6 @@
 -- How the fields of a get give what contracts see of it. No public clause cites this module.
 use Rattle.std.specs.Prelude.{ℕ, List}
-use Rattle.board_model.specs.OwedAccesses.{Reading, opening, trying, finished}
+use Rattle.board_cell_model.specs.OwedAccesses.{Reading, opening, trying, finished}
 use Rattle.board_cell.specs.declared.get_call.Stage.{Stage}
 use Rattle.board_cell.specs.declared.get_call.Stage.TheVariants.{Opening, Trying, Finished}
 

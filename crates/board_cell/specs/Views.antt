@@ -2,7 +2,7 @@
 use Rattle.std.specs.Prelude.{◌≡◌, ℕ, ◌+◌, ◌<◌, ◌≤◌, max, Bool, true, false, eqb, List, [], ◌∷◌, ◌++◌, length}
 use Rattle.std.specs.List.{All}
 use Rattle.atomic_table.specs.Table.{Me, Step}
-use Rattle.board_model.specs.OwedAccesses.{trying}
+use Rattle.board_cell_model.specs.OwedAccesses.{trying}
 use Rattle.board_cell.specs.Calls.{Getting, Updating}
 use Rattle.board_cell.specs.Passes.{cell_shape, note, Stands, NotesRise, ClimbsFrom, last_from}
 use Rattle.board_cell.specs.declared.threaded.view.Note.{Note}

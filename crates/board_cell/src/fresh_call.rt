@@ -1,5 +1,5 @@
 ghost use Rattle.std.specs.Prelude.{ℕ, ◌≡◌, ◌==◌, None, Some, IsSome, IfSome};
-ghost use Rattle.board_model.specs.OwedAccesses.{to_read};
+ghost use Rattle.board_cell_model.specs.OwedAccesses.{to_read};
 ghost use Rattle.board_cell.specs.Calls.{told};
 ghost use Rattle.board_cell.specs.declared.access.Progress.TheVariants.{Done};
 

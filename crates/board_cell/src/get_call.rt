@@ -1,6 +1,6 @@
 ghost use Rattle.std.specs.Prelude.{ℕ, ◌≡◌, ◌+◌, ◌^◌, ◌<◌, nat_lt, true, false, if◌then◌else◌, ◌++◌, [], ◌∷◌, List, length};
-ghost use Rattle.board_model.specs.Copies.{cell_end};
-ghost use Rattle.board_model.specs.OwedAccesses.{Reading, opening, trying, hear, reading_from, is_finished, owed_read};
+ghost use Rattle.board_cell_model.specs.Copies.{cell_end};
+ghost use Rattle.board_cell_model.specs.OwedAccesses.{Reading, opening, trying, hear, reading_from, is_finished, owed_read};
 ghost use Rattle.board_cell.specs.Calls.{told, progress_of, counter_of, words_of};
 
 use crate::access::{Access, Progress};
@@ -28,7 +28,7 @@ pub struct GetCall {
 
 impl Model for GetCall {
     ghost use Rattle.std.specs.Prelude.{◌≡◌, ◌^◌, ◌<◌, ◌≤◌, length, take};
-    ghost use Rattle.board_model.specs.Copies.{cell_end};
+    ghost use Rattle.board_cell_model.specs.Copies.{cell_end};
     ghost use Rattle.board_cell.specs.declared.get_call.Stage.TheVariants.{Opening, Finished};
     ghost use Rattle.board_cell.specs.Calls.{Getting};
     ghost use Rattle.board_cell.specs.Stages.{reading_of};

@@ -1,7 +1,7 @@
 //! Laws of the calls' runs, over the definitions alone.
 ghost use Rattle.std.specs.Prelude.{ℕ, ◌≡◌, ◌≢◌, ◌≤◌, List, [], ◌∷◌, ◌++◌, length, slice_get, Some};
 ghost use Rattle.std.specs.List.{All};
-ghost use Rattle.board_model.specs.OwedAccesses.{Reading, opening, trying, finished, hear, reading_from};
+ghost use Rattle.board_cell_model.specs.OwedAccesses.{Reading, opening, trying, finished, hear, reading_from};
 ghost use Rattle.board_cell.specs.Passes.{Stands, NotesRise};
 ghost use Rattle.board_cell.specs.History.{IsLegal, history, publishes_in, reads_in};
 ghost use Rattle.board_cell.specs.declared.threaded.view.Note.{Note};

@@ -1,6 +1,6 @@
 ghost use Rattle.std.specs.Prelude.{ℕ, ◌≡◌, ◌+◌, ◌^◌, ◌<◌, true, false};
-ghost use Rattle.board_model.specs.Copies.{spare_at, cell_end};
-ghost use Rattle.board_model.specs.OwedAccesses.{to_write};
+ghost use Rattle.board_cell_model.specs.Copies.{spare_at, cell_end};
+ghost use Rattle.board_cell_model.specs.OwedAccesses.{to_write};
 ghost use Rattle.board_cell.specs.Calls.{told};
 ghost use Rattle.board_cell.specs.declared.access.Progress.TheVariants.{Done};
 
@@ -21,7 +21,7 @@ pub struct PutCall {
 
 impl Model for PutCall {
     ghost use Rattle.std.specs.Prelude.{◌^◌, ◌<◌};
-    ghost use Rattle.board_model.specs.Copies.{cell_end};
+    ghost use Rattle.board_cell_model.specs.Copies.{cell_end};
     ghost use Rattle.board_cell.specs.Calls.{Putting};
 
     ghost Value = { Putting };

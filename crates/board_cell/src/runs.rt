@@ -1,7 +1,7 @@
 //! Whole runs of a call.
 ghost use Rattle.std.specs.Prelude.{ℕ, ◌≡◌, ◌≤◌, ◌+◌, ◌==◌, true, false, [], ◌∷◌, ◌++◌, List, length, map, slice_get, None, option_map, IfOk, OnOk};
-ghost use Rattle.board_model.specs.Copies.{spare_at};
-ghost use Rattle.board_model.specs.OwedAccesses.{to_write, opening, is_finished, reading_from};
+ghost use Rattle.board_cell_model.specs.Copies.{spare_at};
+ghost use Rattle.board_cell_model.specs.OwedAccesses.{to_write, opening, is_finished, reading_from};
 ghost use Rattle.board_cell.specs.Calls.{told};
 ghost use Rattle.board_cell.specs.Runs.{owed_reads, owed_looks, owed_writes};
 

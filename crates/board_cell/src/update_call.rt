@@ -1,6 +1,6 @@
 ghost use Rattle.std.specs.Prelude.{ℕ, ◌≡◌, ◌+◌, ◌^◌, ◌<◌, ◌≤◌, ◌==◌, nat_lt, List, length, slice_index};
-ghost use Rattle.board_model.specs.Copies.{cell_end};
-ghost use Rattle.board_model.specs.OwedAccesses.{owed_write};
+ghost use Rattle.board_cell_model.specs.Copies.{cell_end};
+ghost use Rattle.board_cell_model.specs.OwedAccesses.{owed_write};
 ghost use Rattle.board_cell.specs.Calls.{told, progress_of};
 
 use crate::access::{Access, Progress};
@@ -47,7 +47,7 @@ pub struct UpdateCall<W: ValueWords = Vec<u64>> {
 
 impl<W: ValueWords> Model for UpdateCall<W> {
     ghost use Rattle.std.specs.Prelude.{◌≡◌, ◌+◌, ◌^◌, ◌<◌, ◌≤◌, length};
-    ghost use Rattle.board_model.specs.Copies.{cell_end};
+    ghost use Rattle.board_cell_model.specs.Copies.{cell_end};
     ghost use Rattle.board_cell.specs.Calls.{Updating};
 
     ghost Value = { Updating };

@@ -6,8 +6,7 @@ ghost use Rattle.board_event_model.specs.Ids.{has, IsWord, in_word};
 ghost use Rattle.board_event.specs.IdSets.{IdSet, IsAcquired, IsLeastIn, IsListOf};
 
 use crate::id_tracker::IdTracker;
-use board_event_model::NotifierNotifyError;
-use board_names::{ListenerCreateError, TriggerId};
+use board_names::{ListenerCreateError, NotifierNotifyError, TriggerId};
 use std::alloc::{AllocError, Global};
 use std::marker::Model;
 

@@ -4,8 +4,7 @@ ghost use Rattle.std.specs.List.{FoldsTo};
 ghost use Rattle.std.specs.FinSet as set;
 ghost use Rattle.board_event.specs.IdSets.{IdSet, IsAcquired, IsListOf};
 
-use board_event_model::NotifierNotifyError;
-use board_names::TriggerId;
+use board_names::{NotifierNotifyError, TriggerId};
 
 /// Keeps ids up to a greatest one until they are taken. Clauses see them as a set.
 pub trait IdTracker {

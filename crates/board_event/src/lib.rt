@@ -14,11 +14,11 @@ mod wait_call;
 
 pub use bit_set::BitSet;
 pub use board_event_model::{
-    EventAccess, EventAnswer, EventKind, EventProgress, NotifierNotifyError, NotifyStage, WaitMode,
-    WaitStage,
+    EventAccess, EventAnswer, EventKind, EventProgress, NotifyStage, WaitMode, WaitStage,
 };
 pub use board_names::{
-    EventId, ListenerCreateError, ListenerWaitError, NotifierCreateError, TriggerId,
+    EventId, ListenerCreateError, ListenerWaitError, NotifierCreateError, NotifierNotifyError,
+    TriggerId,
 };
 pub use event_memory::QUEUE_CAPACITY;
 pub use events::{Events, held_names_stand};

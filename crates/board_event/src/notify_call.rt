@@ -2,9 +2,8 @@
 ghost use Rattle.std.specs.Prelude.{◌≡◌, ◌≢◌, IsTrue, ◌↔◌};
 ghost use Rattle.board_event_model.specs.NotifyCalls.{notify_bits, notify_owed, notify_queue, notify_turn, pushed};
 
-use board_event_model::{
-    EventAccess, EventAnswer, EventProgress, NotifierNotifyError, NotifyStage,
-};
+use board_event_model::{EventAccess, EventAnswer, EventProgress, NotifyStage};
+use board_names::NotifierNotifyError;
 use std::marker::Model;
 
 /// A notify, one access after another. Clauses see where it stands; `notify_owed` and `notify_turn` say what it owes there and what an answer leads to.

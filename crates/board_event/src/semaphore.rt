@@ -2,8 +2,7 @@
 ghost use Rattle.std.specs.Prelude.{◌≡◌, ◌<◌, ◌+◌, ◌-◌, ◌^◌, nat_lt};
 
 use crate::signal_mechanism::SignalMechanism;
-use board_event_model::NotifierNotifyError;
-use board_names::{ListenerCreateError, ListenerWaitError};
+use board_names::{ListenerCreateError, ListenerWaitError, NotifierNotifyError};
 use std::marker::Model;
 
 /// A count of signals. Clauses see it as that number.

@@ -1,8 +1,7 @@
 //! What tells a listener that there is something to take.
 ghost use Rattle.std.specs.Prelude.{◌≡◌, ◌<◌, ◌+◌, ◌-◌, ◌^◌, ℕ, nat_lt, Ok};
 
-use board_event_model::NotifierNotifyError;
-use board_names::{ListenerCreateError, ListenerWaitError};
+use board_names::{ListenerCreateError, ListenerWaitError, NotifierNotifyError};
 
 /// Signals that were posted and not yet taken. Clauses see how many.
 pub trait SignalMechanism: Sized {

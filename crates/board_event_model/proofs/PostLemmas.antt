@@ -7,7 +7,7 @@ use Rattle.board_event_model.specs.declared.access.EventAccess.TheVariants as ac
 use Rattle.board_event_model.specs.declared.access.EventAnswer.{EventAnswer}
 use Rattle.board_event_model.specs.declared.call.EventProgress.{EventProgress}
 use Rattle.board_event_model.specs.declared.call.EventProgress.TheVariants as progress
-use Rattle.board_event_model.specs.declared.errors.NotifierNotifyError.TheVariants as error
+use Rattle.board_names.specs.declared.errors.event.NotifierNotifyError.TheVariants as error
 use Rattle.board_event_model.specs.declared.call.NotifyStage.{NotifyStage}
 use Rattle.board_event_model.specs.declared.call.NotifyStage.TheVariants as notify
 use Rattle.board_event_model.specs.declared.call.WaitStage.{WaitStage}

@@ -1,5 +1,5 @@
 //! The calls on an event: how long a wait goes on, where a call stands, and what it has come to.
-use crate::errors::NotifierNotifyError;
+use board_names::NotifierNotifyError;
 
 /// How long a wait goes on.
 #[derive(Clone, Copy, Debug, PartialEq, Eq)]

@@ -5,7 +5,6 @@ mod access;
 pub mod access_laws;
 mod call;
 pub mod call_laws;
-mod errors;
 mod kind;
 pub mod quiet_laws;
 pub mod session_laws;
@@ -13,5 +12,4 @@ pub mod worked_runs;
 
 pub use access::{EventAccess, EventAnswer};
 pub use call::{EventProgress, NotifyStage, WaitMode, WaitStage};
-pub use errors::NotifierNotifyError;
 pub use kind::EventKind;

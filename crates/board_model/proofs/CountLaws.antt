@@ -3,8 +3,8 @@ use Rattle.std.proofs.Common.{◌≡◌, ℕ, ◌+◌, ◌*◌, ◌<◌, true, f
 use Rattle.std.specs.Prelude.{nat_le}
 use Rattle.std.proofs.lemmas.Bool.{le-leb, leb-true}
 use Rattle.std.proofs.lemmas.List.{length_push}
-use Rattle.board_model.specs.declared.access.Access.{Access}
-use Rattle.board_model.specs.OwedAccesses.{Reading, finished, is_finished, opening, trying}
+use Rattle.board_cell_model.specs.declared.access.Access.{Access}
+use Rattle.board_cell_model.specs.OwedAccesses.{Reading, finished, is_finished, opening, trying}
 use Rattle.board_model.specs.TypeTable.{value_words}
 use Rattle.board_model.specs.Requests.{Fetch, Request, fill, fresh, get, publish, put, table, update}
 use Rattle.board_model.specs.Parties.{Running, is_done, reading}

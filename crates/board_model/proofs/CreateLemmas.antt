@@ -12,7 +12,7 @@ use Rattle.board_model.specs.declared.tables.Limits.{Limits}
 use Rattle.board_model.specs.declared.value.AddedEntry.{AddedEntry}
 use Rattle.board_model.specs.declared.value.KeyType.{KeyType}
 use Rattle.board_model.specs.TypeTable.{key_detail}
-use Rattle.board_model.specs.Copies.{cell_end}
+use Rattle.board_cell_model.specs.Copies.{cell_end}
 use Rattle.board_model.specs.Tables.{board_at, entry_at, entry_in, is_numbered, is_write_handle, new_board, shapes_of}
 use Rattle.board_model.specs.TableCalls.{created}
 use Rattle.board_model.specs.Things.{Held, cell_shape, is_held_as, thing_of}

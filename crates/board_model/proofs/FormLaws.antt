@@ -4,8 +4,8 @@ use Rattle.std.specs.Prelude.{is_some, IfSome, if◌then◌else◌}
 use Rattle.std.specs.List.{AllByRecursion}
 use Rattle.std.proofs.lemmas.List.{append-nil, length_push}
 use Rattle.std.proofs.lemmas.Option.{slice_get-get_or}
-use Rattle.board_model.specs.declared.access.Access.{Access}
-use Rattle.board_model.specs.declared.access.Access.TheVariants as access
+use Rattle.board_cell_model.specs.declared.access.Access.{Access}
+use Rattle.board_cell_model.specs.declared.access.Access.TheVariants as access
 use Rattle.board_model.specs.declared.answer.Answer.{Answer}
 use Rattle.board_model.specs.declared.answer.Answer.TheVariants as answer
 use Rattle.board_model.specs.declared.answer.Reason.{Reason}
@@ -15,7 +15,7 @@ use Rattle.board_model.specs.declared.line.Line.{Line}
 use Rattle.board_model.specs.declared.line.Line.TheVariants as line
 use Rattle.board_model.specs.LineGrammar.{IsNumber, IsLine}
 use Rattle.board_model.specs.AnswerGrammar.{IsAccess, IsAnswer, IsReply}
-use Rattle.board_model.specs.OwedAccesses.{Owed, owed_of, to_read, to_table, to_write}
+use Rattle.board_cell_model.specs.OwedAccesses.{Owed, owed_of, to_read, to_table, to_write}
 use Rattle.board_model.specs.Replies.{ask}
 use Rattle.board_model.specs.Memory.{IsStanding}
 use Rattle.board_model.specs.Parties.{Party, Running, free, gone, is_done, owed, running}

@@ -8,7 +8,7 @@ use Rattle.std.proofs.lemmas.List.{length_push, length-map}
 use Rattle.board_layout.specs.declared.shape.CellPlace.{CellPlace}
 use Rattle.board_layout.specs.Layout.{cell_bytes, payload, places_from, start_of}
 use Rattle.board_model.specs.declared.attributes.Attribute.{Attribute}
-use Rattle.board_model.specs.declared.errors.BlackboardCreateError.TheVariants as create_error
+use Rattle.board_names.specs.declared.errors.boards.BlackboardCreateError.TheVariants as create_error
 use Rattle.board_model.specs.declared.tables.Board.{Board}
 use Rattle.board_model.specs.declared.tables.Entry.{Entry}
 use Rattle.board_model.specs.declared.tables.Kind.TheVariants as kind

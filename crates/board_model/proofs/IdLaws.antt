@@ -4,14 +4,14 @@ use Rattle.std.specs.Prelude.{slice_get, ◌⊎◌, if◌then◌else◌}
 use Rattle.std.specs.List.{list_any}
 use Rattle.board_layout.specs.declared.type_detail.TypeDetail.{TypeDetail}
 use Rattle.board_model.specs.declared.answer.Reply.TheVariants as reply
-use Rattle.board_model.specs.declared.errors.EntryHandleMutError.TheVariants as entry_mut_error
+use Rattle.board_names.specs.declared.errors.boards.EntryHandleMutError.TheVariants as entry_mut_error
 use Rattle.board_model.specs.declared.line.Line.{Line}
 use Rattle.board_model.specs.declared.answer.Answer.{Answer}
 use Rattle.board_model.specs.declared.tables.Board.{Board}
 use Rattle.board_model.specs.declared.tables.Entry.{Entry}
 use Rattle.board_model.specs.declared.value.Key.{Key}
 use Rattle.board_model.specs.declared.value.ValueType.{ValueType}
-use Rattle.board_model.specs.Copies.{cell_end}
+use Rattle.board_cell_model.specs.Copies.{cell_end}
 use Rattle.board_model.specs.TypeTable.{same_type, value_detail}
 use Rattle.board_model.specs.Tables.{board_at, entry_at, entry_found, entry_from, entry_in, is_write_handle, of_type}
 use Rattle.board_model.specs.TableCalls.{asked, entry_asked, entry_mut_asked, first_of, place_of, with_write_handle}

@@ -5,12 +5,12 @@ use Rattle.std.specs.List.{AllByRecursion, count_by}
 use Rattle.std.specs.Str.{bytes_eq}
 use Rattle.std.proofs.lemmas.List.{length-take-le}
 use Rattle.board_layout.specs.declared.shape.CellShape.{CellShape}
-use Rattle.board_model.specs.declared.access.Access.{Access}
-use Rattle.board_model.specs.declared.access.Access.TheVariants as access
+use Rattle.board_cell_model.specs.declared.access.Access.{Access}
+use Rattle.board_cell_model.specs.declared.access.Access.TheVariants as access
 use Rattle.board_model.specs.declared.tables.Board.{Board}
 use Rattle.board_model.specs.declared.tables.ThingKind.{ThingKind}
 use Rattle.board_model.specs.declared.value.Key.{Key}
-use Rattle.board_model.specs.Copies.{spare_at}
+use Rattle.board_cell_model.specs.Copies.{spare_at}
 use Rattle.board_model.specs.TypeTable.{value_words}
 use Rattle.board_model.specs.Tables.{Tables, board_at, entry_at, entry_in, entry_of, is_write_handle}
 use Rattle.board_model.specs.Things.{Held, Standing, cell_shape, thing_of}

@@ -1,11 +1,3 @@
-pub mod GrammarLemmasNumbers
-pub mod GrammarLemmasSplits
-pub mod GrammarLemmasTokens
-pub mod GrammarLemmasOptions
-pub mod GrammarLemmasCalls
-pub mod GrammarLemmasLines
-pub mod GrammarLemmasSpaces
-pub mod GrammarLemmasAnswers
 pub mod ListLemmas
 pub mod ThingLemmas
 pub mod KeptLemmas

@@ -1,7 +1,7 @@
 -- What a right line can do.
 use Rattle.std.proofs.Common.{◌≡◌, Bool, true, false, List, refl, ap, subst, Option, Some, None}
 use Rattle.std.specs.Prelude.{ℕ}
-use Rattle.board_model.specs.declared.access.Access.{Access}
+use Rattle.board_cell_model.specs.declared.access.Access.{Access}
 use Rattle.board_model.specs.declared.answer.Answer.{Answer}
 use Rattle.board_model.specs.declared.answer.Answer.TheVariants as answer
 use Rattle.board_model.specs.declared.answer.Reason.{Reason}
@@ -10,7 +10,7 @@ use Rattle.board_model.specs.declared.line.Call.{Call}
 use Rattle.board_model.specs.declared.line.Line.{Line}
 use Rattle.board_model.specs.declared.line.Line.TheVariants as line
 use Rattle.board_model.specs.LineGrammar.{IsLine}
-use Rattle.board_model.specs.OwedAccesses.{owed_of}
+use Rattle.board_cell_model.specs.OwedAccesses.{owed_of}
 use Rattle.board_model.specs.Requests.{request_of}
 use Rattle.board_model.specs.Replies.{dropped}
 use Rattle.board_model.specs.Memory.{IsStanding}

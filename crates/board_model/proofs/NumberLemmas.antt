@@ -6,8 +6,8 @@ use Rattle.std.specs.Str.{bytes_eq}
 use Rattle.board_layout.specs.declared.shape.CellPlace.{CellPlace}
 use Rattle.board_layout.specs.declared.shape.CellShape.{CellShape}
 use Rattle.board_layout.specs.Layout.{opening_cell, opening_words, places_from}
-use Rattle.board_model.specs.declared.access.Access.{Access}
-use Rattle.board_model.specs.declared.access.Access.TheVariants as access
+use Rattle.board_cell_model.specs.declared.access.Access.{Access}
+use Rattle.board_cell_model.specs.declared.access.Access.TheVariants as access
 use Rattle.board_model.specs.declared.answer.Reply.{Reply}
 use Rattle.board_model.specs.declared.answer.Reply.TheVariants as reply
 use Rattle.board_model.specs.declared.attributes.Attribute.{Attribute}
@@ -18,8 +18,8 @@ use Rattle.board_model.specs.declared.value.AddedEntry.{AddedEntry}
 use Rattle.board_model.specs.declared.value.KeyType.{KeyType}
 use Rattle.board_model.specs.declared.value.Value.{Value}
 use Rattle.board_model.specs.declared.value.Value.TheVariants as value
-use Rattle.board_model.specs.Copies.{spare_at}
-use Rattle.board_model.specs.OwedAccesses.{owed_of, owed_write, to_write}
+use Rattle.board_cell_model.specs.Copies.{spare_at}
+use Rattle.board_cell_model.specs.OwedAccesses.{owed_of, owed_write, to_write}
 use Rattle.board_model.specs.LineGrammar.{IsAddedEntry, IsCall, IsNumber, IsValue}
 use Rattle.board_model.specs.TypeTable.{value_words}
 use Rattle.board_model.specs.Tables.{shapes_of}

@@ -6,9 +6,9 @@ use Rattle.std.proofs.lemmas.List.{length-set, length_push, take_all}
 use Rattle.std.proofs.lemmas.Option.{same_Some}
 use Rattle.std.proofs.Math.Nat.{mul-le-mul_right}
 use Rattle.board_layout.specs.declared.shape.CellShape.{CellShape}
-use Rattle.board_model.specs.declared.access.Access.TheVariants as access
-use Rattle.board_model.specs.Copies.{spare_at}
-use Rattle.board_model.specs.OwedAccesses.{Reading, finished, opening, trying}
+use Rattle.board_cell_model.specs.declared.access.Access.TheVariants as access
+use Rattle.board_cell_model.specs.Copies.{spare_at}
+use Rattle.board_cell_model.specs.OwedAccesses.{Reading, finished, opening, trying}
 use Rattle.board_model.specs.Tables.{entry_at, entry_of}
 use Rattle.board_model.specs.Things.{Standing, cell_shape, thing_of, with_at, with_name}
 use Rattle.board_model.specs.Requests.{Fetch, Lending, Published, Request, get}

@@ -4,10 +4,10 @@ use Rattle.std.specs.Prelude.{slice_get, ◌==◌, nat_le, is_some, IfSome}
 use Rattle.std.proofs.lemmas.Bool.{le-leb}
 use Rattle.std.proofs.lemmas.List.{nil_from_length}
 use Rattle.board_layout.specs.declared.type_detail.TypeDetail.{TypeDetail}
-use Rattle.board_model.specs.declared.access.Access.{Access}
+use Rattle.board_cell_model.specs.declared.access.Access.{Access}
 use Rattle.board_model.specs.declared.answer.Reply.{Reply}
 use Rattle.board_model.specs.declared.answer.Reply.TheVariants as reply
-use Rattle.board_model.specs.OwedAccesses.{Reading, is_finished, finished, heard, opening, owed_of, to_read, trying}
+use Rattle.board_cell_model.specs.OwedAccesses.{Reading, is_finished, finished, heard, opening, owed_of, to_read, trying}
 use Rattle.board_model.specs.TypeTable.{value_type_of}
 use Rattle.board_model.specs.Requests.{Request, fill, fresh, get, publish, put, table, update}
 use Rattle.board_model.specs.Replies.{ask, latest}

@@ -9,18 +9,18 @@ use Rattle.std.proofs.lemmas.Option.{get_or_from_slice_get, same_Some}
 use Rattle.board_layout.specs.declared.shape.CellShape.{CellShape}
 use Rattle.board_layout.specs.declared.type_detail.TypeDetail.{TypeDetail}
 use Rattle.board_layout.specs.Layout.{payload}
-use Rattle.board_model.specs.declared.access.Access.{Access}
-use Rattle.board_model.specs.declared.access.Access.TheVariants as access
+use Rattle.board_cell_model.specs.declared.access.Access.{Access}
+use Rattle.board_cell_model.specs.declared.access.Access.TheVariants as access
 use Rattle.board_model.specs.declared.answer.Reply.{Reply}
 use Rattle.board_model.specs.declared.answer.Reply.TheVariants as reply
 use Rattle.board_model.specs.declared.attributes.Attribute.{Attribute}
 use Rattle.board_model.specs.declared.attributes.Requirements.{Requirements}
-use Rattle.board_model.specs.declared.errors.BlackboardCreateError.{BlackboardCreateError}
-use Rattle.board_model.specs.declared.errors.BlackboardCreateError.TheVariants as create_error
-use Rattle.board_model.specs.declared.errors.BlackboardOpenError.{BlackboardOpenError}
+use Rattle.board_names.specs.declared.errors.boards.BlackboardCreateError.{BlackboardCreateError}
+use Rattle.board_names.specs.declared.errors.boards.BlackboardCreateError.TheVariants as create_error
+use Rattle.board_names.specs.declared.errors.boards.BlackboardOpenError.{BlackboardOpenError}
 use Rattle.board_model.specs.declared.tables.Board.{Board}
 use Rattle.board_model.specs.declared.tables.Entry.{Entry}
-use Rattle.board_model.specs.declared.errors.EntryHandleMutError.TheVariants as entry_mut_error
+use Rattle.board_names.specs.declared.errors.boards.EntryHandleMutError.TheVariants as entry_mut_error
 use Rattle.board_model.specs.declared.tables.Kind.{Kind}
 use Rattle.board_model.specs.declared.tables.Kind.TheVariants as kind
 use Rattle.board_model.specs.declared.tables.Limits.{Limits}
@@ -30,8 +30,8 @@ use Rattle.board_model.specs.declared.value.KeyType.{KeyType}
 use Rattle.board_model.specs.declared.value.Value.{Value}
 use Rattle.board_model.specs.declared.value.ValueType.{ValueType}
 use Rattle.board_model.specs.TypeTable.{key_detail, same_key, same_type, value_detail, value_words}
-use Rattle.board_model.specs.Copies.{spare_at}
-use Rattle.board_model.specs.OwedAccesses.{Reading, finished, hear, is_finished, opening, owed_of, owed_read, owed_write, to_read, to_table, to_write, trying}
+use Rattle.board_cell_model.specs.Copies.{spare_at}
+use Rattle.board_cell_model.specs.OwedAccesses.{Reading, finished, hear, is_finished, opening, owed_of, owed_read, owed_write, to_read, to_table, to_write, trying}
 use Rattle.board_model.specs.Tables.{board_at, board_named, entry_at, entry_found, entry_from, entry_in, has_equal_keys, has_name, is_numbered, is_write_handle, of_type, port_of, shapes_of}
 use Rattle.board_model.specs.TableCalls.{asked, entry_mut_refusals, entry_refusals, id_of, create_refusals, created, first_of, is_corrupted, joined, number_of, open_refusals, place_of, with_thing}
 use Rattle.board_model.specs.Things.{Held, Standing, thing_of}

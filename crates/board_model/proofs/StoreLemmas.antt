@@ -7,10 +7,10 @@ use Rattle.std.proofs.lemmas.Bool.{cases_eq, cases_lt, eq-eqb, eqb-true}
 use Rattle.std.proofs.lemmas.List.{length-set}
 use Rattle.std.proofs.lemmas.Option.{slice_get_within}
 use Rattle.board_layout.specs.declared.shape.CellShape.{CellShape}
-use Rattle.board_model.specs.declared.access.Access.TheVariants as access
+use Rattle.board_cell_model.specs.declared.access.Access.TheVariants as access
 use Rattle.board_model.specs.declared.tables.Board.{Board}
 use Rattle.board_model.specs.declared.tables.Entry.{Entry}
-use Rattle.board_model.specs.Copies.{cell_end, spare_at}
+use Rattle.board_cell_model.specs.Copies.{cell_end, spare_at}
 use Rattle.board_model.specs.Tables.{board_at, entry_at, entry_in, entry_of, is_write_handle}
 use Rattle.board_model.specs.Things.{Held, Standing, cell_shape, is_held_as, thing_of}
 use Rattle.board_model.specs.Requests.{Fetch, Published, get}

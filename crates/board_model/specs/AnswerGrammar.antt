@@ -1,8 +1,8 @@
 -- The answers to the lines of a script and their bytes.
 use Rattle.std.specs.Prelude.{◌≡◌, ℕ, Bool, true, false, ◌==◌, if◌then◌else◌, List, [], ◌∷◌, ◌++◌, map, slice_index, codes, decimal, Option, Some, None, IfSome}
 use Rattle.std.specs.List.{join_with_byte, flat_map, AllByRecursion}
-use Rattle.board_model.specs.declared.access.Access.{Access}
-use Rattle.board_model.specs.declared.access.Access.TheVariants as access
+use Rattle.board_cell_model.specs.declared.access.Access.{Access}
+use Rattle.board_cell_model.specs.declared.access.Access.TheVariants as access
 use Rattle.board_model.specs.declared.answer.Reason.{Reason}
 use Rattle.board_model.specs.declared.answer.Reason.TheVariants as reason
 use Rattle.board_model.specs.declared.answer.Reply.{Reply}
@@ -13,18 +13,18 @@ use Rattle.board_model.specs.declared.answer.Answer.TheVariants as answer
 use Rattle.board_model.specs.declared.value.Key.{Key}
 use Rattle.board_model.specs.declared.value.ValueType.{ValueType}
 use Rattle.board_model.specs.declared.value.ValueType.TheVariants as type
-use Rattle.board_model.specs.declared.errors.BlackboardCreateError.{BlackboardCreateError}
-use Rattle.board_model.specs.declared.errors.BlackboardCreateError.TheVariants as create_error
-use Rattle.board_model.specs.declared.errors.BlackboardOpenError.{BlackboardOpenError}
-use Rattle.board_model.specs.declared.errors.BlackboardOpenError.TheVariants as open_error
-use Rattle.board_model.specs.declared.errors.ReaderCreateError.{ReaderCreateError}
-use Rattle.board_model.specs.declared.errors.ReaderCreateError.TheVariants as reader_error
-use Rattle.board_model.specs.declared.errors.WriterCreateError.{WriterCreateError}
-use Rattle.board_model.specs.declared.errors.WriterCreateError.TheVariants as writer_error
-use Rattle.board_model.specs.declared.errors.EntryHandleError.{EntryHandleError}
-use Rattle.board_model.specs.declared.errors.EntryHandleError.TheVariants as entry_error
-use Rattle.board_model.specs.declared.errors.EntryHandleMutError.{EntryHandleMutError}
-use Rattle.board_model.specs.declared.errors.EntryHandleMutError.TheVariants as entry_mut_error
+use Rattle.board_names.specs.declared.errors.boards.BlackboardCreateError.{BlackboardCreateError}
+use Rattle.board_names.specs.declared.errors.boards.BlackboardCreateError.TheVariants as create_error
+use Rattle.board_names.specs.declared.errors.boards.BlackboardOpenError.{BlackboardOpenError}
+use Rattle.board_names.specs.declared.errors.boards.BlackboardOpenError.TheVariants as open_error
+use Rattle.board_names.specs.declared.errors.boards.ReaderCreateError.{ReaderCreateError}
+use Rattle.board_names.specs.declared.errors.boards.ReaderCreateError.TheVariants as reader_error
+use Rattle.board_names.specs.declared.errors.boards.WriterCreateError.{WriterCreateError}
+use Rattle.board_names.specs.declared.errors.boards.WriterCreateError.TheVariants as writer_error
+use Rattle.board_names.specs.declared.errors.boards.EntryHandleError.{EntryHandleError}
+use Rattle.board_names.specs.declared.errors.boards.EntryHandleError.TheVariants as entry_error
+use Rattle.board_names.specs.declared.errors.boards.EntryHandleMutError.{EntryHandleMutError}
+use Rattle.board_names.specs.declared.errors.boards.EntryHandleMutError.TheVariants as entry_mut_error
 use Rattle.board_model.specs.LineGrammar.{IsKey, IsNumber, is_board_name, is_name, key_text, key_type_text}
 
 -- ---- texts

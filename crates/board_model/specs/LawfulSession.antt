@@ -1,8 +1,8 @@
 -- Which answers a script may be given: the lawful sessions.
 use Rattle.std.specs.Prelude.{◌≡◌, ℕ, Bool, true, false, not, nat_lt, if◌then◌else◌, List, [], ◌∷◌, ◌++◌, Option, Some, None, is_some, IfSome}
 use Rattle.std.specs.List.{list_all}
-use Rattle.board_model.specs.declared.access.Access.{Access}
-use Rattle.board_model.specs.declared.access.Access.TheVariants as access
+use Rattle.board_cell_model.specs.declared.access.Access.{Access}
+use Rattle.board_cell_model.specs.declared.access.Access.TheVariants as access
 use Rattle.board_model.specs.declared.answer.Reply.{Reply}
 use Rattle.board_model.specs.declared.answer.Reply.TheVariants as reply
 use Rattle.board_model.specs.declared.answer.Reason.{Reason}
@@ -19,7 +19,7 @@ use Rattle.board_model.specs.declared.value.KeyType.{KeyType}
 use Rattle.board_model.specs.LineGrammar.{IsLine}
 use Rattle.board_model.specs.AnswerGrammar.{IsAnswer}
 use Rattle.board_model.specs.TypeTable.{key_detail, same_key_type, same_type, type_of, type_of_key, value_detail}
-use Rattle.board_model.specs.OwedAccesses.{owed_of}
+use Rattle.board_cell_model.specs.OwedAccesses.{owed_of}
 use Rattle.board_model.specs.Tables.{Tables, board_at, holds_at}
 use Rattle.board_model.specs.Things.{Standing, is_held}
 use Rattle.board_model.specs.Requests.{Published, Request, TableCall, create, entry, entry_mut, fill, fresh, new_name, publish, put, request_of, table, update}

@@ -4,7 +4,7 @@ use Rattle.std.specs.List.{AllByRecursion}
 use Rattle.board_model.specs.declared.answer.Answer.{Answer}
 use Rattle.board_model.specs.declared.line.Line.{Line}
 use Rattle.board_model.specs.LineGrammar.{IsAddedEntry, IsNumber, IsValue}
-use Rattle.board_model.specs.OwedAccesses.{to_read, to_write}
+use Rattle.board_cell_model.specs.OwedAccesses.{to_read, to_write}
 use Rattle.board_model.specs.Requests.{Request, TableCall, create, fill, put, table, update}
 use Rattle.board_model.specs.Parties.{Party, Running, free, gone, owed, running}
 use Rattle.board_model.specs.LawfulSession.{IsLawful, IsRight, Session, State, after, start, state_after}

@@ -1,6 +1,6 @@
 -- Laws of entry ids.
 use Rattle.std.specs.Prelude.{◌≡◌, ℕ, List, Some}
-use Rattle.board_model.specs.declared.access.Access.{Access}
+use Rattle.board_cell_model.specs.declared.access.Access.{Access}
 use Rattle.board_model.specs.declared.answer.Answer.{Answer}
 use Rattle.board_model.specs.declared.answer.Answer.TheVariants as answer
 use Rattle.board_model.specs.declared.answer.Reply.TheVariants as reply

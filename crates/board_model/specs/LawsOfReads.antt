@@ -1,10 +1,10 @@
 -- Laws of what a get and a look have read.
 use Rattle.std.specs.Prelude.{◌≡◌, ℕ, Bool, true, false, List, [], ◌∷◌, ◌++◌, length, Option, Some, is_some}
-use Rattle.board_model.specs.declared.access.Access.{Access}
+use Rattle.board_cell_model.specs.declared.access.Access.{Access}
 use Rattle.board_model.specs.declared.answer.Answer.TheVariants as answer
 use Rattle.board_model.specs.declared.answer.Reply.{Reply}
 use Rattle.board_model.specs.declared.line.Line.TheVariants as line
-use Rattle.board_model.specs.OwedAccesses.{finished, owed_of}
+use Rattle.board_cell_model.specs.OwedAccesses.{finished, owed_of}
 use Rattle.board_model.specs.Requests.{Fetch, Request, fresh, get}
 use Rattle.board_model.specs.Replies.{ask, latest}
 use Rattle.board_model.specs.Memory.{IsStanding}

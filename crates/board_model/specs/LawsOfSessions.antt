@@ -1,7 +1,7 @@
 -- Laws of whole sessions: what gets and looks tell beside what was published.
 use Rattle.std.specs.Prelude.{◌≡◌, ℕ, ◌+◌, ◌≤◌, ◌==◌, ◌&&◌, Bool, false, if◌then◌else◌, List, [], ◌∷◌, ◌++◌, length, map, Option, Some}
 use Rattle.std.specs.List.{count_by}
-use Rattle.board_model.specs.declared.access.Access.{Access}
+use Rattle.board_cell_model.specs.declared.access.Access.{Access}
 use Rattle.board_model.specs.declared.answer.Answer.{Answer}
 use Rattle.board_model.specs.declared.answer.Answer.TheVariants as answer
 use Rattle.board_model.specs.declared.answer.Reply.{Reply}

@@ -1,10 +1,7 @@
 -- what scripts, boards and sessions are, and the laws that hold of them
-pub mod Copies
-pub mod OwedAccesses
 pub mod TypeTable
 pub mod LineGrammar
 pub mod AnswerGrammar
-pub mod LineReading
 pub mod Tables
 pub mod TableCalls
 pub mod Things
@@ -15,7 +12,6 @@ pub mod Parties
 pub mod LawfulSession
 pub mod Sound
 pub mod Lines
-pub mod GrammarLaws
 pub mod LawsOfReads
 pub mod LawsOfCounts
 pub mod LawsOfBounds
@@ -26,3 +22,4 @@ pub mod LawOfSoundness
 pub mod WorkedSessions
 pub mod LawsOfForms
 pub mod LawsOfKeys
+pub mod WorkedUpdates

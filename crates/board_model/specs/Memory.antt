@@ -1,8 +1,8 @@
 -- The word memory: of each board number its words.
 use Rattle.std.specs.Prelude.{◌≡◌, ℕ, ◌==◌, if◌then◌else◌, List, map, slice_get, slice_set, Some}
 use Rattle.board_layout.specs.Layout.{opening_words, places_from}
-use Rattle.board_model.specs.declared.access.Access.{Access}
-use Rattle.board_model.specs.declared.access.Access.TheVariants as access
+use Rattle.board_cell_model.specs.declared.access.Access.{Access}
+use Rattle.board_cell_model.specs.declared.access.Access.TheVariants as access
 use Rattle.board_model.specs.declared.answer.Reply.{Reply}
 use Rattle.board_model.specs.declared.answer.Reply.TheVariants as reply
 use Rattle.board_model.specs.declared.value.AddedEntry.{AddedEntry}

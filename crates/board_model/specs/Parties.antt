@@ -2,12 +2,12 @@
 use Rattle.std.specs.Prelude.{ℕ, ◌+◌, Bool, false, not, ◌&&◌, ◌==◌, nat_le, if◌then◌else◌, List, [], ◌∷◌, length, map, Option, Some, None}
 use Rattle.std.specs.Str.{bytes_eq}
 use Rattle.board_layout.specs.declared.type_detail.TypeDetail.{TypeDetail}
-use Rattle.board_model.specs.declared.access.Access.{Access}
-use Rattle.board_model.specs.declared.access.Access.TheVariants as access
+use Rattle.board_cell_model.specs.declared.access.Access.{Access}
+use Rattle.board_cell_model.specs.declared.access.Access.TheVariants as access
 use Rattle.board_model.specs.declared.answer.Reply.{Reply}
 use Rattle.board_model.specs.declared.answer.Reply.TheVariants as reply
-use Rattle.board_model.specs.Copies.{spare_at}
-use Rattle.board_model.specs.OwedAccesses.{Owed, Reading, finished, heard, is_finished, opening, owed_read, owed_write, reading_from, to_read, to_table, to_write, trying}
+use Rattle.board_cell_model.specs.Copies.{spare_at}
+use Rattle.board_cell_model.specs.OwedAccesses.{Owed, Reading, finished, heard, is_finished, opening, owed_read, owed_write, reading_from, to_read, to_table, to_write, trying}
 use Rattle.board_model.specs.TypeTable.{value_type_of, value_words}
 use Rattle.board_model.specs.Requests.{Request, fill, fresh, get, publish, put, table, update}
 

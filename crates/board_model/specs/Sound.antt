@@ -2,7 +2,7 @@
 use Rattle.std.specs.Prelude.{◌≡◌, ℕ, ◌+◌, ◌-◌, ◌*◌, ◌<◌, ◌≤◌, Bool, true, false, ◌&&◌, ◌==◌, List, [], length, take, map, slice_get, slice_index, Option, Some, None, is_some}
 use Rattle.std.specs.List.{AllByRecursion, count_by}
 use Rattle.board_layout.specs.declared.shape.CellShape.{CellShape}
-use Rattle.board_model.specs.declared.access.Access.{Access}
+use Rattle.board_cell_model.specs.declared.access.Access.{Access}
 use Rattle.board_model.specs.declared.tables.Board.{Board}
 use Rattle.board_model.specs.declared.tables.Entry.{Entry}
 use Rattle.board_model.specs.declared.tables.Kind.{Kind}
@@ -12,8 +12,8 @@ use Rattle.board_model.specs.declared.tables.ThingKind.TheVariants as thing_kind
 use Rattle.board_model.specs.declared.value.Key.{Key}
 use Rattle.board_model.specs.declared.value.KeyType.{KeyType}
 use Rattle.board_model.specs.declared.value.ValueType.{ValueType}
-use Rattle.board_model.specs.Copies.{cell_end, current_at, spare_at}
-use Rattle.board_model.specs.OwedAccesses.{Reading, finished, opening, trying}
+use Rattle.board_cell_model.specs.Copies.{cell_end, current_at, spare_at}
+use Rattle.board_cell_model.specs.OwedAccesses.{Reading, finished, opening, trying}
 use Rattle.board_model.specs.TypeTable.{key_detail, value_detail, value_words, word_count}
 use Rattle.board_model.specs.Tables.{Tables, board_at, entry_at, entry_of, is_numbered, is_write_handle, kind_of}
 use Rattle.board_model.specs.Things.{Held, Standing, cell_shape, thing_of}

@@ -10,18 +10,18 @@ use Rattle.board_model.specs.declared.tables.Thing.{Thing}
 use Rattle.board_model.specs.declared.tables.Board.{Board}
 use Rattle.board_model.specs.declared.tables.Limits.{Limits}
 use Rattle.board_model.specs.declared.tables.Kind.TheVariants as kind
-use Rattle.board_model.specs.declared.errors.BlackboardCreateError.{BlackboardCreateError}
-use Rattle.board_model.specs.declared.errors.BlackboardCreateError.TheVariants as create_error
-use Rattle.board_model.specs.declared.errors.BlackboardOpenError.{BlackboardOpenError}
-use Rattle.board_model.specs.declared.errors.BlackboardOpenError.TheVariants as open_error
-use Rattle.board_model.specs.declared.errors.ReaderCreateError.{ReaderCreateError}
-use Rattle.board_model.specs.declared.errors.ReaderCreateError.TheVariants as reader_error
-use Rattle.board_model.specs.declared.errors.WriterCreateError.{WriterCreateError}
-use Rattle.board_model.specs.declared.errors.WriterCreateError.TheVariants as writer_error
-use Rattle.board_model.specs.declared.errors.EntryHandleError.{EntryHandleError}
-use Rattle.board_model.specs.declared.errors.EntryHandleError.TheVariants as entry_error
-use Rattle.board_model.specs.declared.errors.EntryHandleMutError.{EntryHandleMutError}
-use Rattle.board_model.specs.declared.errors.EntryHandleMutError.TheVariants as entry_mut_error
+use Rattle.board_names.specs.declared.errors.boards.BlackboardCreateError.{BlackboardCreateError}
+use Rattle.board_names.specs.declared.errors.boards.BlackboardCreateError.TheVariants as create_error
+use Rattle.board_names.specs.declared.errors.boards.BlackboardOpenError.{BlackboardOpenError}
+use Rattle.board_names.specs.declared.errors.boards.BlackboardOpenError.TheVariants as open_error
+use Rattle.board_names.specs.declared.errors.boards.ReaderCreateError.{ReaderCreateError}
+use Rattle.board_names.specs.declared.errors.boards.ReaderCreateError.TheVariants as reader_error
+use Rattle.board_names.specs.declared.errors.boards.WriterCreateError.{WriterCreateError}
+use Rattle.board_names.specs.declared.errors.boards.WriterCreateError.TheVariants as writer_error
+use Rattle.board_names.specs.declared.errors.boards.EntryHandleError.{EntryHandleError}
+use Rattle.board_names.specs.declared.errors.boards.EntryHandleError.TheVariants as entry_error
+use Rattle.board_names.specs.declared.errors.boards.EntryHandleMutError.{EntryHandleMutError}
+use Rattle.board_names.specs.declared.errors.boards.EntryHandleMutError.TheVariants as entry_mut_error
 use Rattle.board_model.specs.TypeTable.{same_type}
 use Rattle.board_model.specs.Tables.{Tables, Added, holds_at, without, is_numbered, has_name, board_at, board_named, is_of_board, reader_slots, writer_slots, is_write_handle, is_node, nodes_taken, shapes_of, has_equal_keys, new_board, meets, port_of}
 

@@ -1,11 +1,11 @@
 //! The answers to the lines of a script.
-use crate::access::Access;
-use crate::errors::{
+use crate::lists::{Keys, LongName, Names, Words};
+use crate::value::{KeyType, ValueType};
+use board_cell_model::Access;
+use board_names::{
     BlackboardCreateError, BlackboardOpenError, EntryHandleError, EntryHandleMutError,
     ReaderCreateError, WriterCreateError,
 };
-use crate::lists::{Keys, LongName, Names, Words};
-use crate::value::{KeyType, ValueType};
 
 /// Why a line changes nothing.
 #[derive(Clone, Copy, Debug, PartialEq, Eq)]

@@ -1,7 +1,6 @@
 //! Why calls are refused, an enum for each call. `Display` writes `EnumName::Variant`.
-//!
-//! The errors of calls on boards stand in `board_model`, since the definitions there answer with them.
 
+pub mod boards;
 pub mod communication_channel;
 pub mod concept;
 pub mod event;

@@ -24,15 +24,14 @@ mod tests;
 mod trigger_id;
 
 pub use base64url::Base64Url;
-pub use board_event_model::NotifierNotifyError;
-pub use board_model::{
-    BlackboardCreateError, BlackboardOpenError, EntryHandleError, EntryHandleMutError,
-    ReaderCreateError, WriterCreateError,
-};
 pub use configuration::{Configuration, NamedConceptConfiguration};
 pub use constants::{
     MAX_ATTRIBUTE_KEY_LENGTH, MAX_ATTRIBUTE_VALUE_LENGTH, MAX_ATTRIBUTES, MAX_NODE_NAME_LENGTH,
     MAX_SERVICE_NAME_LENGTH,
+};
+pub use errors::boards::{
+    BlackboardCreateError, BlackboardOpenError, EntryHandleError, EntryHandleMutError,
+    ReaderCreateError, WriterCreateError,
 };
 pub use errors::communication_channel::{
     CommunicationChannelCreateError, CommunicationChannelOpenError,
@@ -42,7 +41,9 @@ pub use errors::concept::{
     NamedConceptDoesExistError, NamedConceptListError, NamedConceptPathHintRemoveError,
     NamedConceptRemoveError, RegistryError, SemanticStringError,
 };
-pub use errors::event::{ListenerCreateError, ListenerWaitError, NotifierCreateError};
+pub use errors::event::{
+    ListenerCreateError, ListenerWaitError, NotifierCreateError, NotifierNotifyError,
+};
 pub use errors::monitoring::{
     MonitoringCreateCleanerError, MonitoringCreateMonitorError, MonitoringCreateTokenError,
     MonitoringStateError,

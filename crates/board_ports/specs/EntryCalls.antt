@@ -1,7 +1,7 @@
 -- The calls on an entry's cell of this shape, before their first access.
 use Rattle.std.specs.Prelude.{ℕ, false, List, None}
 use Rattle.board_layout.specs.declared.shape.CellShape.{CellShape}
-use Rattle.board_model.specs.OwedAccesses.{opening}
+use Rattle.board_cell_model.specs.OwedAccesses.{opening}
 use Rattle.board_cell.specs.Calls.{Getting, Asking, Updating, Putting, Publishing}
 
 abbrev pub get_of : CellShape → Getting

@@ -1,7 +1,7 @@
 //! Standard input, output and error as source and sinks. They tell no bytes.
 ghost use Rattle.std.specs.Prelude.{None};
 ghost use Rattle.board_model.specs.Lines.{HasCause};
-ghost use Rattle.board_lines.specs.Streams.{Writes};
+ghost use Rattle.script_loop.specs.Streams.{Writes};
 
 use board_script::{Failed, Sink, Source};
 use std::io::{Read, Stderr, Stdin, Stdout, Write};

@@ -4,11 +4,11 @@ use Rattle.std.specs.Prelude.{codes, decimal, ◌⊎◌, not, IfNone, OnOk, IfEr
 use Rattle.std.specs.Str.{bytes_eq}
 use Rattle.std.proofs.lemmas.Slice.Eq.{bytes_eq-Decides}
 use Rattle.board_model.specs.Lines.{Rose}
-use Rattle.board_model.specs.LineReading.{read_number}
-use Rattle.board_model.proofs.GrammarLemmasNumbers.{number_again, number_takes}
-use Rattle.board_lines.specs.declared.error.ScriptError.{ScriptError}
-use Rattle.board_lines.specs.declared.error.ScriptError.TheVariants as error
-use Rattle.board_generator.specs.Summary.{IsSummed, LeavesOff}
+use Rattle.script_grammar.specs.LineReading.{read_number}
+use Rattle.script_grammar.proofs.NumeralLemmas.{number_again, number_takes}
+use Rattle.script_loop.specs.declared.error.ScriptError.{ScriptError}
+use Rattle.script_loop.specs.declared.error.ScriptError.TheVariants as error
+use Rattle.script_generator.specs.Summary.{IsSummed, LeavesOff}
 use Rattle.board_script.specs.Top.{IsGen, IsGenerated, IsNoted, IsSummedUp, note_of, status_of}
 
 pub same_text : (a b : List ℕ) → false ≡ not (bytes_eq a b) → a ≡ b

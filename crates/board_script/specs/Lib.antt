@@ -1,2 +1,1 @@
 pub mod Top
-pub mod WorkedUpdates

@@ -2,10 +2,10 @@
 use Rattle.std.specs.Prelude.{◌≡◌, ℕ, ◌<◌, ◌≤◌, ◌++◌, List, [], ◌∷◌, length, take, codes, decimal, Option, Result, Ok, Err, IfErr, IsErrOf, OnOk}
 use Rattle.std.specs.Io.KnownBytes.{Appends, IsAtEnd}
 use Rattle.board_model.specs.Lines.{Rose}
-use Rattle.board_lines.specs.declared.error.ScriptError.{ScriptError}
-use Rattle.board_lines.specs.declared.error.ScriptError.TheVariants.{ReadFault, WriteFault, BadLine, TooLong, OutOfMemory}
-use Rattle.board_lines.specs.Runs.{IsRunOf, IsStopped}
-use Rattle.board_generator.specs.Summary.{IsSummed, LeavesOff}
+use Rattle.script_loop.specs.declared.error.ScriptError.{ScriptError}
+use Rattle.script_loop.specs.declared.error.ScriptError.TheVariants.{ReadFault, WriteFault, BadLine, TooLong, OutOfMemory}
+use Rattle.script_loop.specs.Runs.{IsRunOf, IsStopped}
+use Rattle.script_generator.specs.Summary.{IsSummed, LeavesOff}
 
 -- the status of a run
 abbrev pub status_of : Result (Unit {0}) ScriptError → ℕ

@@ -2,12 +2,12 @@
 ghost use Rattle.std.specs.Prelude.{◌≡◌, ◌≤◌, IfErr, IsErrOf, IsSomeAnd, OnOk};
 ghost use Rattle.std.specs.Io.KnownBytes.{IsAtEnd};
 ghost use Rattle.board_model.specs.Lines.{Rose};
-ghost use Rattle.board_script_model.specs.ScriptOutput.{IsScript};
-ghost use Rattle.board_lines.specs.Runs.{IsRunOf, IsStopped};
+ghost use Rattle.script_model.specs.ScriptOutput.{IsScript};
+ghost use Rattle.script_loop.specs.Runs.{IsRunOf, IsStopped};
 
 use board_cell::PlainWords;
-use board_lines::{RunsLines, ScriptError, Sink, Source, run_lines};
-use board_script_machine::Machine;
+use script_loop::{RunsLines, ScriptError, Sink, Source, run_lines};
+use script_machine::Machine;
 use std::alloc::Global;
 
 /// The most lines of a script.

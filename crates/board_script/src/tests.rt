@@ -9,7 +9,7 @@ use crate::{
     Machine, MemorySink, MemorySource, ScriptError, run_script, run_script_within, run_words,
 };
 use board_cell::SeatWords;
-use board_lines::run_lines;
+use script_loop::run_lines;
 use std::alloc::Global;
 use std::process::Abort;
 use std::test::Fail;

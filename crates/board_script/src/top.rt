@@ -2,16 +2,16 @@
 ghost use Rattle.std.specs.Prelude.{◌≡◌, ℕ, ◌<◌, [], length, map, Err, IfNone, IfSome};
 ghost use Rattle.std.specs.String.{string_bytes};
 ghost use Rattle.std.specs.Io.KnownBytes.{IsAtEnd};
-ghost use Rattle.board_lines.specs.Runs.{IsRunOf};
-ghost use Rattle.board_generator.specs.Summary.{IsSummed};
+ghost use Rattle.script_loop.specs.Runs.{IsRunOf};
+ghost use Rattle.script_generator.specs.Summary.{IsSummed};
 ghost use Rattle.board_script.specs.Top.{IsAnswered, IsGen, IsNoted, IsSummedUp, IsUsage, note_of, status_of, usage_note};
 
 use crate::script::run_script;
-use board_generator::run_generated;
 use board_layout::Text;
-use board_lines::{ScriptError, Sink, Source, write_whole};
-use board_parse::number_of;
 use itoa::Buffer;
+use script_generator::run_generated;
+use script_loop::{ScriptError, Sink, Source, write_whole};
+use script_parse::number_of;
 use std::alloc::Global;
 
 // Writes a note. That it fails changes nothing else.

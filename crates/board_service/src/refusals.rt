@@ -16,8 +16,8 @@ use crate::new_entry::NewEntry;
 use crate::planned::is_too_large;
 use board_concepts::AttributeVerifier;
 use board_layout::{BoardKey, KeyMemory, TypeDetail, same_keys};
-use board_model::{BlackboardCreateError, BlackboardOpenError, Limits};
-use board_names::ServiceName;
+use board_model::Limits;
+use board_names::{BlackboardCreateError, BlackboardOpenError, ServiceName};
 
 /// The last number from which no other is drawn: 2^64 - 2.
 pub(crate) const LAST: u64 = 18446744073709551614;

@@ -1,5 +1,5 @@
 ghost use Rattle.std.specs.Prelude.{ℕ, ◌≡◌, ◌==◌, ◌<◌, [], max, length, IfOk, IfErr};
-ghost use Rattle.board_model.specs.OwedAccesses.{finished};
+ghost use Rattle.board_cell_model.specs.OwedAccesses.{finished};
 ghost use Rattle.board_cell.specs.Calls.{words_of};
 ghost use Rattle.board_cell.specs.Passes.{cell_shape, new_reader, NotesRise, Gets, GetsWithin, GivesUp, Looks};
 ghost use Rattle.board_cell.specs.Views.{reader_of, IsTrying, AfterTries, AfterTriesWithin, AfterFailures};

@@ -1,6 +1,6 @@
 //! The atomic steps of a call: one step of its core, and one of the cell's table.
 ghost use Rattle.std.specs.Prelude.{◌≡◌, ◌≢◌, ◌+◌, ◌<◌, ◌≤◌, [], ◌∷◌, ◌++◌, None, Some, length, slice_index};
-ghost use Rattle.board_model.specs.OwedAccesses.{opening, trying, finished};
+ghost use Rattle.board_cell_model.specs.OwedAccesses.{opening, trying, finished};
 ghost use Rattle.board_cell.specs.Passes.{cell_shape, NotesRise};
 ghost use Rattle.board_cell.specs.Calls.{words_of};
 ghost use Rattle.board_cell.specs.Views.{writer_of, reader_of, with_word, with_publish, with_item, with_open, with_found, with_words, with_close, with_note, with_load, IsTrying, IsWriting};

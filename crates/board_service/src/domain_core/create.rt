@@ -20,8 +20,8 @@ use crate::planned::{entries_for, plan_for};
 use crate::refusals::{create_refusal, limit_of};
 use board_concepts::{AttributeSet, Description};
 use board_layout::{BoardKey, Plan, TypeDetail, TypeVariant};
-use board_model::{BlackboardCreateError, Entries, Kind, Limits, Thing};
-use board_names::{FilePath, ServiceName};
+use board_model::{Entries, Kind, Limits, Thing};
+use board_names::{BlackboardCreateError, FilePath, ServiceName};
 use board_store::Statics;
 use std::alloc::{AllocError, Global};
 

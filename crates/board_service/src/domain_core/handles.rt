@@ -13,7 +13,8 @@ use crate::lookups::{find_entry, thing_of};
 use crate::made::Found;
 use crate::refusals::LAST;
 use board_layout::{BoardKey, CellPlace, CellShape, TypeDetail};
-use board_model::{EntryHandleError, EntryHandleMutError, Kind, Thing, ThingKind};
+use board_model::{Kind, Thing, ThingKind};
+use board_names::{EntryHandleError, EntryHandleMutError};
 
 // Where the words of a planned cell lie.
 fn shape_of(cell: &CellPlace) -> CellShape

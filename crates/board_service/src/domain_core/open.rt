@@ -11,8 +11,8 @@ use crate::made::Made;
 use crate::refusals::{number_of_named, open_refusal};
 use board_concepts::AttributeVerifier;
 use board_layout::{BoardKey, TypeDetail, TypeVariant};
-use board_model::{BlackboardOpenError, Kind, Limits, Thing};
-use board_names::ServiceName;
+use board_model::{Kind, Limits, Thing};
+use board_names::{BlackboardOpenError, ServiceName};
 
 impl<C: Cells> DomainCore<C> {
     /// Makes a factory of the board with this name, for a node. `number` is the board's. A limit of `None` or 0 asks nothing.

@@ -10,7 +10,8 @@ use crate::ids::ThingId;
 use crate::lookups::{has_all_readers, thing_of};
 use crate::made::Made;
 use crate::refusals::LAST;
-use board_model::{Kind, ReaderCreateError, Thing, WriterCreateError};
+use board_model::{Kind, Thing};
+use board_names::{ReaderCreateError, WriterCreateError};
 
 impl<C: Cells> DomainCore<C> {
     /// Makes a reader of a factory's board. `number` is its port's.

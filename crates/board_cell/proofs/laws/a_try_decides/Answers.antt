@@ -1,5 +1,5 @@
 use Rattle.std.proofs.Common.{ℕ, List, [], ◌∙◌, ap, ◌≤◌, ◌≡◌, length, arith}
-use Rattle.board_model.specs.OwedAccesses.{reading_from}
+use Rattle.board_cell_model.specs.OwedAccesses.{reading_from}
 use Rattle.board_cell.proofs.Hearing.{try_hears, try_closes, hear-last, hear-again}
 use Rattle.board_cell.proofs.laws.a_try_decides.Goals as goal
 

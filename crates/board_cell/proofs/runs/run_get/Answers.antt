@@ -1,6 +1,6 @@
 use Rattle.std.proofs.Common.{rules, ◌∙◌, ap, ◌++◌, [], ◌∷◌, map}
 use Rattle.std.proofs.lemmas.List.{map-append}
-use Rattle.board_model.specs.OwedAccesses.{owed_read}
+use Rattle.board_cell_model.specs.OwedAccesses.{owed_read}
 use Rattle.board_cell.specs.Calls.{told}
 use Rattle.board_cell.proofs.Hearing.{run_owes}
 use Rattle.board_cell.proofs.runs.run_get.Goals as goal

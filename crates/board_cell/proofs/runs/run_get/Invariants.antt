@@ -1,6 +1,6 @@
 use Rattle.std.proofs.Common.{ℕ, ◌≡◌, false, ◌++◌, map}
 use Rattle.std.specs.Prelude.{drop}
-use Rattle.board_model.specs.OwedAccesses.{is_finished, reading_from}
+use Rattle.board_cell_model.specs.OwedAccesses.{is_finished, reading_from}
 use Rattle.board_cell.specs.Calls.{told}
 use Rattle.board_cell.specs.Runs.{owed_reads}
 use Rattle.board_cell.proofs.runs.run_get.Given as goal

@@ -1,5 +1,5 @@
 use Rattle.std.proofs.Common.{rules, ◌≡◌, ℕ, ◌+◌, ◌<◌, length, slice_index, sym, ap, ◌∙◌, arith}
-use Rattle.board_model.specs.Copies.{spare_at}
+use Rattle.board_cell_model.specs.Copies.{spare_at}
 use Rattle.board_cell.specs.Passes.{cell_shape}
 use Rattle.board_cell.specs.Views.{writer_of, with_word}
 use Rattle.board_cell.specs.declared.threaded.view.View.TheVariants.{Writer}

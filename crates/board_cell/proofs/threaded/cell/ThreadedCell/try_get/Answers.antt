@@ -1,6 +1,6 @@
 use Rattle.std.proofs.Common.{◌≡◌, ℕ, List, sym, ap, ◌∙◌, subst}
 use Rattle.std.proofs.lemmas.Result.{IfOk-weaker}
-use Rattle.board_model.specs.OwedAccesses.{is_finished}
+use Rattle.board_cell_model.specs.OwedAccesses.{is_finished}
 use Rattle.board_cell.specs.Calls.{words_of}
 use Rattle.board_cell.specs.Passes.{ReaderSeen, GetsWithin}
 use Rattle.board_cell.proofs.Climbs.{got_within, seen}

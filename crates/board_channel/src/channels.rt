@@ -1,0 +1,174 @@
+//! Channels by full names.
+ghost use Rattle.std.specs.Prelude.{◌≡◌, ℕ, ◌≤◌, List, [], ◌∷◌, Some, None, Ok, Err, OnOk, OnErr, is_some, IfOk, IsOkUnless, max, Bool};
+ghost use Rattle.board_layout.specs.Answer.{Answers, Refuses};
+ghost use Rattle.board_store.specs.Table.{at, putting, without, name_at};
+ghost use Rattle.board_channel.specs.Channels.{size_of, create_answer, open_answer};
+
+use crate::queue::Queue;
+use board_names::{CommunicationChannelCreateError, CommunicationChannelOpenError, FilePath};
+use board_store::Table;
+use std::alloc::{AllocError, Global};
+use std::collections::BTreeMap;
+use std::marker::Model;
+use std::sync::{Arc, Mutex};
+
+/// A queue that many values share. Clauses see how many numbers it holds and whether it overflows; its numbers stand
+/// behind its own lock.
+#[derive(Drop)]
+pub struct SharedQueue {
+    pub(crate) queue: Arc<Mutex<Queue>, Global>,
+    capacity: usize,
+    overflow: bool,
+}
+
+impl Model for SharedQueue {
+    ghost use Rattle.board_channel.specs.Channels.{Size};
+
+    ghost Value = { Size };
+
+    ghost view = { λ q. record { capacity = q.capacity; overflow = q.overflow } };
+}
+
+impl SharedQueue {
+    /// An empty queue. A capacity of 0 counts as 1.
+    ///
+    /// # Errors
+    /// `OutOfMemory`.
+    pub fn new(
+        alloc: Global,
+        capacity: usize,
+        overflow: bool,
+    ) -> Result<SharedQueue, CommunicationChannelCreateError>
+        ensures value { IfOk result (λ shared. shared ≡ size_of capacity overflow) }
+        ensures memory { IsOkUnless result CommunicationChannelCreateError.OutOfMemory }
+    {
+        let queue = Queue::new(alloc, capacity, overflow)?;
+        let capacity = queue.capacity();
+        match Arc::new(alloc, Mutex::new(queue)) {
+            Ok(queue) => Ok(SharedQueue {
+                queue,
+                capacity,
+                overflow,
+            }),
+            Err(_) => Err(CommunicationChannelCreateError::OutOfMemory),
+        }
+    }
+
+    /// One more owner of the same queue.
+    ///
+    /// # Errors
+    /// Want of memory.
+    pub fn share(&self) -> Result<SharedQueue, AllocError>
+        ensures { IfOk result (λ shared. shared ≡ self.now) }
+    {
+        let queue = Arc::try_clone(&self.queue)?;
+        Ok(SharedQueue {
+            queue,
+            capacity: self.capacity,
+            overflow: self.overflow,
+        })
+    }
+
+    /// How many numbers it holds.
+    pub fn capacity(&self) -> usize
+        ensures { result ≡ self.now.capacity }
+    {
+        self.capacity
+    }
+
+    /// Whether it gives its oldest number back in place of a refusal.
+    pub fn overflows(&self) -> bool
+        ensures { result ≡ self.now.overflow }
+    {
+        self.overflow
+    }
+}
+
+/// Channels by full names. Clauses see the pairs of name and size, in the order of the names.
+#[derive(Drop)]
+pub struct Channels {
+    pub(crate) names: Table<SharedQueue>,
+    alloc: Global,
+}
+
+impl Model for Channels {
+    ghost use Rattle.std.specs.Prelude.{ℕ, List};
+    ghost use Rattle.board_channel.specs.Channels.{Size};
+
+    ghost Value = { List (List ℕ × Size) };
+
+    ghost view = { λ c. c.names.entries };
+}
+
+impl Channels {
+    /// No channels. Takes no memory.
+    pub fn new(alloc: Global) -> Channels
+        ensures { result ≡ [] }
+    {
+        Channels {
+            names: BTreeMap::new(alloc),
+            alloc,
+        }
+    }
+
+    /// Makes a channel under a name, and shares its queue.
+    ///
+    /// # Errors
+    /// `AlreadyExists` where the name is held; `OutOfMemory`. The channels stay as they were.
+    pub fn create(
+        &mut self,
+        name: &FilePath,
+        capacity: usize,
+        overflow: bool,
+    ) -> Result<SharedQueue, CommunicationChannelCreateError>
+        ensures value { IfOk result (λ shared. shared ≡ size_of capacity overflow) }
+        ensures answer { Answers result CommunicationChannelCreateError.OutOfMemory (create_answer (size_of capacity overflow) (at self.old name.now)) }
+        ensures refused { Refuses result (create_answer (size_of capacity overflow) (at self.old name.now)) }
+        ensures ok { OnOk result (self.new ≡ putting self.old name.now (size_of capacity overflow)) }
+        ensures err { OnErr result (self.new ≡ self.old) }
+    {
+        if self.names.contains_key(name) {
+            return Err(CommunicationChannelCreateError::AlreadyExists);
+        }
+        let queue = SharedQueue::new(self.alloc, capacity, overflow)?;
+        let Ok(shared) = queue.share() else {
+            return Err(CommunicationChannelCreateError::OutOfMemory);
+        };
+        match self.names.insert(*name, queue) {
+            Ok(_) => Ok(shared),
+            Err(_) => Err(CommunicationChannelCreateError::OutOfMemory),
+        }
+    }
+
+    /// Shares the queue of the channel under a name.
+    ///
+    /// # Errors
+    /// `DoesNotExist` where the name isn't held; `OutOfMemory`.
+    pub fn open(&self, name: &FilePath) -> Result<SharedQueue, CommunicationChannelOpenError>
+        ensures answer { Answers result CommunicationChannelOpenError.OutOfMemory (open_answer (at self.now name.now)) }
+        ensures refused { Refuses result (open_answer (at self.now name.now)) }
+    {
+        match self.names.get(name) {
+            None => Err(CommunicationChannelOpenError::DoesNotExist),
+            Some(queue) => match queue.share() {
+                Ok(shared) => Ok(shared),
+                Err(_) => Err(CommunicationChannelOpenError::OutOfMemory),
+            },
+        }
+    }
+
+    /// Lets a name go, and tells whether it was held. Who shares the channel goes on with it.
+    pub fn remove(&mut self, name: &FilePath) -> bool
+        ensures value { result ≡ is_some (at self.old name.now) }
+        ensures after { self.new ≡ without self.old name.now }
+    {
+        self.names.remove(name).is_some()
+    }
+
+    /// The name at an index, counted from 0 in the order of the names.
+    pub fn name_at(&self, index: usize) -> Option<FilePath>
+        ensures { result ≡ name_at self.now index }
+    {
+        self.names.keys().nth(index).copied()
+    }
+}

@@ -1,0 +1,259 @@
+//! Channels by the typed calls, and again by the lent forms.
+use crate::{
+    Channel, ChannelRegistry, Channels, CommunicationChannel, CommunicationChannelConnector,
+    CommunicationChannelCreator, CommunicationChannelParticipant, CommunicationChannelReceiver,
+    CommunicationChannelSender, Connector, Creator, DEFAULT_RECEIVER_BUFFER_SIZE, Duplex, Queue,
+    SharedQueue,
+};
+use board_names::{
+    CommunicationChannelCreateError, CommunicationChannelOpenError, CommunicationChannelSendError,
+    Configuration, FileName, FilePath, NamedConcept, NamedConceptBuilder,
+    NamedConceptConfiguration, NamedConceptMgmt,
+};
+use std::alloc::Global;
+use std::process::Abort;
+use std::sync::Wait;
+use std::test::Fail;
+
+fn creator(value: &[u8], registry: &ChannelRegistry) -> Result<Creator, Fail> {
+    Ok(Creator::new(&FileName::new(value)?, registry)?)
+}
+
+fn connector(value: &[u8], registry: &ChannelRegistry) -> Result<Connector, Fail> {
+    Ok(Connector::new(&FileName::new(value)?, registry)?)
+}
+
+fn channels() -> Configuration {
+    Configuration::with_suffix(&Channel::default_suffix())
+}
+
+fn path() -> Result<FilePath, Fail> {
+    Ok(monitored().path_for(&FileName::new(b"t")?))
+}
+
+fn fills<R: Wait + Abort>(rt: &R, sender: &Duplex) {
+    assert_eq!(rt; sender.send(rt, &1), Ok(None));
+    assert_eq!(rt; sender.try_send(rt, &2), Ok(None));
+}
+
+fn refuses<R: Wait + Abort>(rt: &R, alloc: Global, registry: &ChannelRegistry) -> Result<(), Fail> {
+    let creator = creator(b"c", registry)?.buffer_size(2);
+    let receiver = creator.create_receiver(rt, alloc)?;
+    assert!(rt; !receiver.does_enable_safe_overflow());
+    let sender = connector(b"c", registry)?.open_sender(rt)?;
+    fills(rt, &sender);
+    assert_eq!(rt;
+        sender.send(rt, &3),
+        Err(CommunicationChannelSendError::ReceiverCacheIsFull)
+    );
+    assert_eq!(rt; receiver.receive(rt), Ok(Some(1)));
+    assert_eq!(rt; receiver.receive(rt), Ok(Some(2)));
+    assert_eq!(rt; receiver.receive(rt), Ok(None));
+    Ok(())
+}
+
+fn overflows<R: Wait + Abort>(
+    rt: &R,
+    alloc: Global,
+    registry: &ChannelRegistry,
+) -> Result<(), Fail> {
+    let creator = creator(b"d", registry)?.buffer_size(2);
+    let receiver = creator.enable_safe_overflow().create_receiver(rt, alloc)?;
+    let sender = connector(b"d", registry)?.try_open_sender(rt)?;
+    assert!(rt; sender.does_enable_safe_overflow());
+    fills(rt, &sender);
+    assert_eq!(rt; sender.send(rt, &3), Ok(Some(1)));
+    // Both ends go on without the name.
+    receiver.release(rt);
+    assert_eq!(rt; sender.receive(rt), Ok(Some(2)));
+    let late = connector(b"d", registry)?.open_sender(rt);
+    assert_eq!(rt;
+        late.err(),
+        Some(CommunicationChannelOpenError::DoesNotExist)
+    );
+    Ok(())
+}
+
+fn is_made_once<R: Wait + Abort>(
+    rt: &R,
+    alloc: Global,
+    registry: &ChannelRegistry,
+) -> Result<(), Fail> {
+    let creator_of_one = creator(b"e", registry)?.buffer_size(0);
+    let receiver = creator_of_one.create_receiver(rt, alloc)?;
+    assert_eq!(rt; receiver.buffer_size(), 1);
+    let shared = registry.share()?;
+    let again = creator(b"e", &shared)?.create_receiver(rt, alloc);
+    assert_eq!(rt;
+        again.err(),
+        Some(CommunicationChannelCreateError::AlreadyExists)
+    );
+    let absent = connector(b"f", &shared)?.open_sender(rt);
+    assert_eq!(rt;
+        absent.err(),
+        Some(CommunicationChannelOpenError::DoesNotExist)
+    );
+    Ok(())
+}
+
+#[test]
+fn channels_refuse_overflow_and_are_made_once(rt: HostRuntime) -> Result<(), Fail> {
+    assert_eq!(rt; Channel::default_suffix(), FileName::new(b".com")?);
+    assert!(rt; Channel::does_support_safe_overflow());
+    assert!(rt; Channel::has_configurable_buffer_size());
+    let registry = ChannelRegistry::new(rt.alloc())?;
+    refuses(&rt, rt.alloc(), &registry)?;
+    overflows(&rt, rt.alloc(), &registry)?;
+    is_made_once(&rt, rt.alloc(), &registry)
+}
+
+fn fills_in<R: Abort>(rt: &R, end: &Duplex, queue: &mut Queue) {
+    assert_eq!(rt; end.send_in(queue, &1), Ok(None));
+    assert_eq!(rt; end.try_send_in(queue, &2), Ok(None));
+}
+
+fn refuses_in<R: Abort>(rt: &R, alloc: Global, end: &Duplex) -> Result<(), Fail> {
+    let mut queue = Queue::new(alloc, 2, false)?;
+    fills_in(rt, end, &mut queue);
+    assert_eq!(rt;
+        end.send_in(&mut queue, &3),
+        Err(CommunicationChannelSendError::ReceiverCacheIsFull)
+    );
+    assert_eq!(rt; end.receive_in(&mut queue), Ok(Some(1)));
+    assert_eq!(rt; end.receive_in(&mut queue), Ok(Some(2)));
+    assert_eq!(rt; end.receive_in(&mut queue), Ok(None));
+    Ok(())
+}
+
+fn overflows_in<R: Abort>(rt: &R, alloc: Global, end: &Duplex) -> Result<(), Fail> {
+    let mut queue = Queue::new(alloc, 2, true)?;
+    fills_in(rt, end, &mut queue);
+    assert_eq!(rt; end.send_in(&mut queue, &3), Ok(Some(1)));
+    assert_eq!(rt; end.receive_in(&mut queue), Ok(Some(2)));
+    Ok(())
+}
+
+fn is_made_once_in<R: Abort>(
+    rt: &R,
+    alloc: Global,
+    registry: &ChannelRegistry,
+    state: &mut Channels,
+) -> Result<(), Fail> {
+    let creator_of_one = creator(b"e", registry)?.buffer_size(0);
+    let receiver = creator_of_one.create_receiver_in(state, alloc)?;
+    assert_eq!(rt; receiver.buffer_size(), 1);
+    let again = creator(b"e", registry)?.create_receiver_in(state, alloc);
+    assert_eq!(rt;
+        again.err(),
+        Some(CommunicationChannelCreateError::AlreadyExists)
+    );
+    let absent = connector(b"f", registry)?.open_sender_in(state);
+    assert_eq!(rt;
+        absent.err(),
+        Some(CommunicationChannelOpenError::DoesNotExist)
+    );
+    receiver.release_in(state);
+    Ok(())
+}
+
+#[test]
+fn channels_refuse_overflow_and_are_made_once_when_lent(rt: HostRuntime) -> Result<(), Fail> {
+    let registry = ChannelRegistry::new(rt.alloc())?;
+    let mut state = Channels::new(rt.alloc());
+    let creator = creator(b"c", &registry)?;
+    let end = creator.create_receiver_in(&mut state, rt.alloc())?;
+    refuses_in(&rt, rt.alloc(), &end)?;
+    overflows_in(&rt, rt.alloc(), &end)?;
+    is_made_once_in(&rt, rt.alloc(), &registry, &mut state)
+}
+
+#[test]
+fn lent_channels_are_opened_and_let_go(rt: HostRuntime) -> Result<(), Fail> {
+    let registry = ChannelRegistry::new(rt.alloc())?;
+    let mut state = Channels::new(rt.alloc());
+    let creator = creator(b"c", &registry)?.buffer_size(3);
+    let receiver = creator.create_receiver_in(&mut state, rt.alloc())?;
+    let sender = connector(b"c", &registry)?.open_sender_in(&mut state)?;
+    assert_eq!(rt; sender.buffer_size(), 3);
+    let other = connector(b"c", &registry)?.try_open_sender_in(&mut state)?;
+    assert_eq!(rt; *other.name(), FileName::new(b"c")?);
+    sender.release_in(&mut state);
+    assert!(rt; state.name_at(0).is_some());
+    receiver.release_in(&mut state);
+    assert_eq!(rt; state.name_at(0), None);
+    Ok(())
+}
+
+#[test]
+fn channels_are_listed(rt: HostRuntime) -> Result<(), Fail> {
+    let registry = ChannelRegistry::new(rt.alloc())?;
+    let receiver = creator(b"c", &registry)?.create_receiver(&rt, rt.alloc())?;
+    assert_eq!(rt; receiver.buffer_size(), 8);
+    assert_eq!(rt; DEFAULT_RECEIVER_BUFFER_SIZE, 8);
+    let c = FileName::new(b"c")?;
+    let listed = Channel::list_cfg(&rt, rt.alloc(), &registry, &channels())?;
+    assert_eq!(rt; listed.as_slice(), [c].as_slice());
+    let held = Channel::does_exist_cfg(&rt, &registry, &c, &channels());
+    assert_eq!(rt; held, Ok(true));
+    let removed = Channel::remove_cfg(&rt, &registry, &c, &channels());
+    assert_eq!(rt; removed, Ok(true));
+    let again = Channel::remove_cfg(&rt, &registry, &c, &channels());
+    assert_eq!(rt; again, Ok(false));
+    Ok(())
+}
+
+#[test]
+fn channels_are_listed_when_lent(rt: HostRuntime) -> Result<(), Fail> {
+    let registry = ChannelRegistry::new(rt.alloc())?;
+    let mut state = Channels::new(rt.alloc());
+    let _receiver = creator(b"c", &registry)?.create_receiver_in(&mut state, rt.alloc())?;
+    let c = FileName::new(b"c")?;
+    let listed = Channel::list_cfg_in(&mut state, rt.alloc(), &channels())?;
+    assert_eq!(rt; listed.as_slice(), [c].as_slice());
+    let held = Channel::does_exist_cfg_in(&mut state, &c, &channels());
+    assert_eq!(rt; held, Ok(true));
+    let removed = Channel::remove_cfg_in(&mut state, &c, &channels());
+    assert_eq!(rt; removed, Ok(true));
+    Ok(())
+}
+
+fn size_made<R: Wait, C: CommunicationChannelCreator>(
+    rt: &R,
+    alloc: Global,
+    creator: C,
+) -> Result<usize, CommunicationChannelCreateError>
+where
+    C::Receiver: Drop,
+{
+    let receiver = creator.buffer_size(3).create_receiver(rt, alloc)?;
+    Ok(receiver.buffer_size())
+}
+
+#[test]
+fn any_channel_is_made_by_the_traits(rt: HostRuntime) -> Result<(), Fail> {
+    let registry = ChannelRegistry::new(rt.alloc())?;
+    let creator = creator(b"c", &registry)?;
+    assert_eq!(rt; size_made(&rt, rt.alloc(), creator)?, 3);
+    Ok(())
+}
+
+#[test]
+fn channels_are_kept_by_name(rt: HostRuntime) -> Result<(), Fail> {
+    let mut state = Channels::new(rt.alloc());
+    let name = path()?;
+    let made = state.create(&name, 4, true)?;
+    assert_eq!(rt; (made.capacity(), made.overflows()), (4, true));
+    assert_eq!(rt; state.open(&name)?.capacity(), 4);
+    assert!(rt; state.remove(&name) && !state.remove(&name));
+    let alone = SharedQueue::new(rt.alloc(), 0, false)?;
+    assert_eq!(rt; alone.share()?.capacity(), 1);
+    Ok(())
+}
+
+fn sent<T: Send>(value: T) -> T {
+    value
+}
+
+fn is_sent(end: Duplex) -> Duplex {
+    sent(end)
+}

@@ -1,3 +1,0 @@
-pub mod Monitors
-pub mod Queue
-pub mod Channels

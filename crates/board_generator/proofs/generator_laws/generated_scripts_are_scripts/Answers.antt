@@ -1,5 +1,0 @@
-use Rattle.board_generator.proofs.GeneratedBytes.{scripts_are_scripts}
-use Rattle.board_generator.proofs.generator_laws.generated_scripts_are_scripts.Goals as goal
-
-pub returns : goal.returns
-returns c = scripts_are_scripts

@@ -1,7 +1,0 @@
-//! Laws of the generated scripts. The function's contract is a theorem over the definitions alone.
-ghost use Rattle.board_generator.specs.LawsOfGenerator.{GeneratedScriptsAreScripts};
-
-/// A session of the generated lines is one of the script that their bytes are.
-pub fn generated_scripts_are_scripts()
-    ensures { GeneratedScriptsAreScripts }
-{}

@@ -1,7 +1,0 @@
-pub mod ReplyLemmas
-pub mod Pieces
-pub mod HandLemmas
-pub mod LineLemmas
-pub mod RunLemmas
-pub mod CompleteLemmas
-pub mod IdleLemmas

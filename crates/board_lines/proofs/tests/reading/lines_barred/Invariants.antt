@@ -1,8 +1,0 @@
-use Rattle.std.proofs.Common.{IsTrue}
-use Rattle.std.specs.Io.KnownBytes.{IsAtEnd}
-use Rattle.board_lines.specs.Memory.{source_left}
-use Rattle.board_lines.specs.Reader.{has_ended}
-use Rattle.board_lines.proofs.tests.reading.lines_barred.Given as goal
-
-abbrev pub invariant-loop : goal.invariant-loop
-invariant-loop l = IsTrue (has_ended l.reader) → IsAtEnd (source_left l.source)

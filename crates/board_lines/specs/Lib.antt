@@ -1,6 +1,0 @@
-pub mod Texts
-pub mod Streams
-pub mod Memory
-pub mod Reader
-pub mod Runs
-pub mod IdleMachine

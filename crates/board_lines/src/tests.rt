@@ -1,5 +1,0 @@
-mod events;
-mod idle;
-mod reading;
-mod running;
-mod writing;

@@ -1,7 +1,0 @@
-use Rattle.std.proofs.Common.{sym, ◌∙◌}
-use Rattle.board_machine.proofs.PastNames.{past_party}
-use Rattle.board_machine.proofs.machine.BoardMachine.begin.Goals as goal
-
-pub returns-in-Some-clause-serves : goal.returns-in-Some-clause-serves
-returns-in-Some-clause-serves g c =
-    λ s rep reached l. ((past_party s c.args.party c.args.call c.in-Some.why (sym c.in-Some.is ∙ c.refusal_of_party.ensures.reason s rep)).1 l, rep)

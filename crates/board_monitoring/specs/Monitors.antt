@@ -1,0 +1,64 @@
+-- Monitored names, and what their calls answer.
+use Rattle.std.specs.Prelude.{ℕ, List, Option, Some, None, Result, Ok, Err, is_some, if◌then◌else◌}
+use Rattle.board_names.specs.declared.configuration.Configuration.{Configuration}
+use Rattle.board_names.specs.Configuration.{full_name}
+use Rattle.board_store.specs.Table.{at, putting, taking}
+use Rattle.board_layout.specs.Answer.{with_value}
+use Rattle.board_monitoring.specs.declared.monitors.Life.{Life}
+use Rattle.board_monitoring.specs.declared.monitors.Life.TheVariants.{Alive, Dead, OwnedByCleaner}
+use Rattle.board_monitoring.specs.declared.monitoring.State.{State}
+use Rattle.board_monitoring.specs.declared.monitoring.State.TheVariants.{Alive as SeenAlive, Dead as SeenDead, DoesNotExist as NotSeen}
+use Rattle.board_names.specs.declared.errors.monitoring.MonitoringCreateTokenError.{MonitoringCreateTokenError}
+use Rattle.board_names.specs.declared.errors.monitoring.MonitoringCreateTokenError.TheVariants.{AlreadyExists}
+use Rattle.board_names.specs.declared.errors.monitoring.MonitoringCreateCleanerError.{MonitoringCreateCleanerError}
+use Rattle.board_names.specs.declared.errors.monitoring.MonitoringCreateCleanerError.TheVariants.{InstanceStillAlive, AlreadyOwnedByAnotherInstance, DoesNotExist}
+
+-- monitored names
+abbrev pub Lives : Type 0
+Lives = List (List ℕ × Life)
+
+-- the names with this one dead, where it is held
+abbrev pub marked : Lives → List ℕ → Lives
+marked lives name = if is_some (at lives name) then putting lives name Dead else lives
+
+-- the names after a cleaner asked for one of them, by what stands there
+abbrev pub claimed : Lives → List ℕ → Option Life → Lives
+claimed lives name (Some Dead) = putting lives name OwnedByCleaner
+claimed lives name (Some Alive) = lives
+claimed lives name (Some OwnedByCleaner) = lives
+claimed lives name None = lives
+
+-- what a monitor sees, by what stands there
+abbrev pub state_of : Option Life → State
+state_of None = NotSeen
+state_of (Some Alive) = SeenAlive
+state_of (Some Dead) = SeenDead
+state_of (Some OwnedByCleaner) = SeenDead
+
+-- what `token` answers
+abbrev pub token_answer : Option Life → Result (Unit {0}) MonitoringCreateTokenError
+token_answer = taking tt AlreadyExists
+
+-- what `cleaner` answers
+abbrev pub cleaner_answer : Option Life → Result (Unit {0}) MonitoringCreateCleanerError
+cleaner_answer None = Err DoesNotExist
+cleaner_answer (Some Alive) = Err InstanceStillAlive
+cleaner_answer (Some OwnedByCleaner) = Err AlreadyOwnedByAnotherInstance
+cleaner_answer (Some Dead) = Ok tt
+
+-- what clauses see of a token, of a monitor and of a cleaner
+pub record Watched : Type 0 where
+  pub name : List ℕ
+  pub path : List ℕ
+
+-- the token, monitor or cleaner that a builder of this name makes
+abbrev pub watched : List ℕ → Configuration → Watched
+watched name config = record { name = name; path = full_name config name }
+
+-- what a builder's `token` answers
+abbrev pub token_of : Watched → Option Life → Result Watched MonitoringCreateTokenError
+token_of made = taking made AlreadyExists
+
+-- what a builder's `cleaner` answers
+abbrev pub cleaner_of : Watched → Option Life → Result Watched MonitoringCreateCleanerError
+cleaner_of made life = with_value (λ u. made) (cleaner_answer life)

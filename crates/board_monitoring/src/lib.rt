@@ -1,0 +1,27 @@
+//! Monitoring: whether who took a name still lives.
+//!
+//! A typed call takes the lock of its registry and does what its lent form does, whose name ends in `_in`. The lent form
+//! has the same answers over the value behind the lock, and its contract says them.
+#![tactic(auto)]
+
+mod cleaner;
+mod monitor;
+pub mod monitoring;
+mod monitoring_builder;
+mod monitoring_registry;
+mod monitors;
+mod process_local_monitoring;
+#[cfg(test)]
+mod tests;
+mod token;
+
+pub use cleaner::Cleaner;
+pub use monitor::Monitor;
+pub use monitoring::{
+    Monitoring, MonitoringBuilder, MonitoringCleaner, MonitoringMonitor, MonitoringToken, State,
+};
+pub use monitoring_builder::Builder;
+pub use monitoring_registry::MonitoringRegistry;
+pub use monitors::{Life, Monitors};
+pub use process_local_monitoring::ProcessLocalMonitoring;
+pub use token::Token;

@@ -1,9 +1,0 @@
-use Rattle.std.proofs.Common.{List, ℕ, ap, ◌∙◌}
-use Rattle.board_parties.proofs.WordLookups.{seen, words_stay}
-use Rattle.board_parties.proofs.party_domain.PartyDomain.copy_words.Goals as goal
-
-pub returns-clause-same : goal.returns-clause-same
-returns-clause-same g c =
-    let core = c.self.inside.core in
-    ap (λ (words : List (List ℕ)). record (seen g.C.Words.list core c.self.inside.things.items) { words = words })
-    (words_stay g.C.Words.list core.cells _ c.in-Some.cells.now c.words_in.new.words c.in-Some.ensures.value c.words_in.ensures.same) ∙ c.self.view_is

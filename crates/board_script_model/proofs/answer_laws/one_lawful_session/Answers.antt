@@ -1,5 +1,0 @@
-use Rattle.board_script_model.proofs.AnswerLaws.{one_session}
-use Rattle.board_script_model.proofs.answer_laws.one_lawful_session.Goals as goal
-
-pub returns : goal.returns
-returns c = one_session

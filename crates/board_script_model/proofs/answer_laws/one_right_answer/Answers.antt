@@ -1,5 +1,0 @@
-use Rattle.board_script_model.proofs.AnswerLaws.{one_answer}
-use Rattle.board_script_model.proofs.answer_laws.one_right_answer.Goals as goal
-
-pub returns : goal.returns
-returns c = one_answer

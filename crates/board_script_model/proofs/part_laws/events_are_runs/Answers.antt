@@ -1,5 +1,0 @@
-use Rattle.board_script_model.proofs.PartLemmas.{events_law_holds}
-use Rattle.board_script_model.proofs.part_laws.events_are_runs.Goals as goal
-
-pub returns : goal.returns
-returns c = events_law_holds

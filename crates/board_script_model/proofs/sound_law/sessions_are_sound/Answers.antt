@@ -1,5 +1,0 @@
-use Rattle.board_script_model.proofs.ScriptSoundLemmas.{sessions_sound}
-use Rattle.board_script_model.proofs.sound_law.sessions_are_sound.Goals as goal
-
-pub returns : goal.returns
-returns c = sessions_sound

@@ -1,5 +1,0 @@
-use Rattle.board_script_model.proofs.ScriptSoundLemmas.{stays_sound}
-use Rattle.board_script_model.proofs.sound_law.stays_sound.Goals as goal
-
-pub returns : goal.returns
-returns c = stays_sound

@@ -1,5 +1,0 @@
-use Rattle.board_script_model.proofs.WorkedEvent.{expire_wrong}
-use Rattle.board_script_model.proofs.worked_events.an_early_expire_is_wrong.Goals as goal
-
-pub returns : goal.returns
-returns c = expire_wrong

@@ -1,5 +1,0 @@
-use Rattle.board_script_model.proofs.WorkedEvent.{newest_wrong}
-use Rattle.board_script_model.proofs.worked_events.the_newest_id_first_is_wrong.Goals as goal
-
-pub returns : goal.returns
-returns c = newest_wrong

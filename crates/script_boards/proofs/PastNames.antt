@@ -1,0 +1,81 @@
+-- Refusals that no name has to do with.
+use Rattle.std.proofs.Common.{◌≡◌, ℕ, Bool, true, false, cond, List, refl, sym, subst, ◌∙◌, Option, Some, None}
+use Rattle.std.specs.Prelude.{not}
+use Rattle.board_model.specs.declared.answer.Answer.TheVariants as answer
+use Rattle.board_model.specs.declared.answer.Reason.{Reason}
+use Rattle.board_model.specs.declared.answer.Reason.TheVariants as reason
+use Rattle.board_model.specs.declared.line.Call.{Call}
+use Rattle.board_model.specs.declared.line.Line.TheVariants as line
+use Rattle.board_model.specs.LineGrammar.{IsLine}
+use Rattle.board_model.specs.Parties.{Party, free, gone, running}
+use Rattle.board_model.specs.Requests.{Request, new_name, request_of}
+use Rattle.board_model.specs.LawfulSession.{IsRight, State, call_reason, free_reason, is_filled, is_indexed, is_taken, is_typed}
+use Rattle.script_boards.specs.declared.begin.Checked.{Checked}
+use Rattle.script_boards.specs.declared.begin.Checked.TheVariants as checked
+use Rattle.script_boards.specs.Begins.{IsChecked, finds_all, is_for_unknown, is_unknown}
+use Rattle.script_boards.proofs.CallChecks.{begin_busy, begin_gone, begin_refused}
+
+abbrev some_reason : Reason → Option Reason
+some_reason why = Some why
+
+-- a call that finds what it uses is refused for another reason, if for one
+later_reasons : (a b c d : Bool) → cond a (some_reason reason.Taken) (cond b (Some reason.Type) (cond c (Some reason.Index) (cond d (Some reason.Unfilled) None))) ≡ Some reason.Unknown → ⊥
+later_reasons true b c d e = absurd cc
+later_reasons false true c d e = absurd cc
+later_reasons false false true d e = absurd cc
+later_reasons false false false true e = absurd cc
+later_reasons false false false false e = absurd cc
+
+the_unknown : (why : Reason) → is_for_unknown why ≡ true → why ≡ reason.Unknown
+the_unknown reason.Abandoned e = absurd cc
+the_unknown reason.Busy e = absurd cc
+the_unknown reason.Idle e = absurd cc
+the_unknown reason.Unknown e = refl
+the_unknown reason.Taken e = absurd cc
+the_unknown reason.Type e = absurd cc
+the_unknown reason.Index e = absurd cc
+the_unknown reason.Unfilled e = absurd cc
+the_unknown reason.NotWaiting e = absurd cc
+the_unknown reason.NoBoard e = absurd cc
+
+module _ (s : State) (party : List ℕ) (c : Call) where
+  abbrev request : Option Request
+  request = request_of s.standing s.published party c
+
+  abbrev IsPast : Reason → Type 0
+  IsPast why = (finds_all (s.parties party) request ≡ false) × (IsLine (line.Begin party c) → IsRight s (line.Begin party c) (answer.Refused why))
+
+  -- a party that isn't free
+  pub past_party : (why : Reason) → some_reason why ≡ free_reason (s.parties party) None → IsPast why
+  past_party why e = at (s.parties party) refl
+    where
+      at : (x : Party) → s.parties party ≡ x → IsPast why
+      at free h = absurd (let f : some_reason why ≡ None = e ∙ (rw h refl) in cc)
+      at (running r) h =
+          let f : some_reason why ≡ Some reason.Busy = e ∙ (rw h refl) in
+          let w : why ≡ reason.Busy = cc in
+          (rw h refl, λ l. subst (λ (x : Reason). IsRight s (line.Begin party c) (answer.Refused x)) (sym w) (begin_busy s party c r h l))
+      at gone h =
+          let f : some_reason why ≡ Some reason.Abandoned = e ∙ (rw h refl) in
+          let w : why ≡ reason.Abandoned = cc in
+          (rw h refl, λ l. subst (λ (x : Reason). IsRight s (line.Begin party c) (answer.Refused x)) (sym w) (begin_gone s party c h l))
+
+  -- something that the call uses isn't held
+  pub past_unknown : (x : Checked) → s.parties party ≡ free → IsChecked (call_reason s.standing party c request) request x → is_unknown x ≡ true → IsPast reason.Unknown
+  past_unknown (checked.Accepted t) h k e = absurd cc
+  past_unknown (checked.Refused why) h k e =
+      let u : call_reason s.standing party c request ≡ Some reason.Unknown = k ∙ rw (the_unknown why e) refl in
+      (rw h (none request u), λ l. begin_refused s party c reason.Unknown h u l)
+    where
+      none : (q : Option Request) → call_reason s.standing party c q ≡ Some reason.Unknown → finds_all free q ≡ false
+      none None u = refl
+      none (Some q) u = absurd (later_reasons (is_taken s.standing party (new_name c)) (not (is_typed s.standing q)) (not (is_indexed q)) (not (is_filled q)) u)
+
+  -- all that it uses is held
+  pub past_found : (x : Checked) → s.parties party ≡ free → IsChecked (call_reason s.standing party c request) request x → is_unknown x ≡ false → finds_all (s.parties party) request ≡ true
+  past_found x h k e = rw h (some request x k e)
+    where
+      some : (q : Option Request) (x : Checked) → IsChecked (call_reason s.standing party c q) q x → is_unknown x ≡ false → finds_all free q ≡ true
+      some (Some q) x k e = refl
+      some None (checked.Accepted t) k e = absurd k.1
+      some None (checked.Refused why) k e = absurd (let w : some_reason reason.Unknown ≡ Some why = k in let v : reason.Unknown ≡ why = cc in let u : is_for_unknown why ≡ true = rw (sym v) refl in cc)

@@ -1,0 +1,84 @@
+use Rattle.std.specs.Prelude.{option_map}
+use Rattle.std.proofs.Common.{◌≡◌, ℕ, ◌+◌, ◌<◌, ◌^◌, List, length, rules, sym, ap, subst, ◌∙◌, Option, Some, true, false}
+use Rattle.board_layout.specs.declared.shape.CellShape.{CellShape}
+use Rattle.board_cell_model.specs.Copies.{cell_end}
+use Rattle.board_cell.specs.Calls.{Updating}
+use Rattle.board_model.specs.Tables.{entry_of}
+use Rattle.board_model.specs.Things.{Held, cell_shape}
+use Rattle.board_model.specs.TypeTable.{same_type, type_of, value_detail, value_words}
+use Rattle.script_boards.specs.Begins.{IsGenerationOf, holds, loan_held}
+use Rattle.script_boards.proofs.Bounds.{bounded}
+use Rattle.script_boards.proofs.CallChecks.{cell_is_low, counter_is_low, value_fits}
+use Rattle.script_boards.proofs.LoanChecks.{fill_begins, fill_mistyped, loan_width}
+use Rattle.board_ports.specs.Loans.{LoanSeen}
+use Rattle.script_boards.proofs.PartyRows.{is_free}
+use Rattle.script_boards.proofs.machine.BoardMachine.check_fill.Goals as goal
+
+abbrev a_loan : Held → List (Option ℕ) → Option (Held × List (Option ℕ))
+a_loan x words = Some (x, words)
+
+abbrev a_fill : CellShape → ℕ → List ℕ → Updating
+a_fill x g words = record { shape = x; generation = g; words = words; written = 0 }
+
+pub lent-core-requires : goal.lent-core-requires
+lent-core-requires g c =
+    let led = c.requires.led in
+    let words = c.in-Some.put.now.items in
+    let held : loan_held c.args.self.now c.args.party.now c.args.loan ≡ a_loan c.in-Some.found words = search rules in
+    let s = led.state in
+    loan_width c.args.self.now s led.represents c.args.party.now led.reached.sound (is_free c.args.self.now.parties.items s.parties led.represents.parties c.args.party.now c.requires.free)
+    c.in-Some.found c.entry_held-entry.result.now c.entry_held-entry.ensures c.args.loan words held
+    ∙ ap (λ (x : CellShape). x.words) (sym c.write_core.ensures.shape)
+
+pub fill-requires-clause-width : goal.fill-requires-clause-width
+fill-requires-clause-width g c =
+    let t : same_type (value_detail (type_of c.args.value)) c.entry_held-entry.result.now.value ≡ true = search rules in
+    let w : c.in_ok-words.words.items ≡ value_words c.args.value = search rules in
+    let led = c.requires.led in
+    ap (λ (ws : List ℕ). length ws) w ∙ value_fits c.args.self.now led.state led.represents led.reached.sound c.in-Some.found.board (entry_of c.in-Some.found.kind) c.entry_held-entry.result.now c.entry_held-entry.ensures c.args.value t
+    ∙ ap (λ (x : CellShape). x.words) (sym (ap (λ (l : LoanSeen). l.handle.shape) c.lent-core.ensures ∙ c.write_core.ensures.shape))
+
+pub fill-requires-clause-shape : goal.fill-requires-clause-shape
+fill-requires-clause-shape g c =
+    let led = c.requires.led in
+    subst (λ (x : CellShape). cell_end x < 2 ^ 64) (sym (ap (λ (l : LoanSeen). l.handle.shape) c.lent-core.ensures ∙ c.write_core.ensures.shape))
+    (cell_is_low c.args.self.now led.state led.represents led.reached.sound c.in-Some.found.board (entry_of c.in-Some.found.kind) c.entry_held-entry.result.now c.entry_held-entry.ensures)
+
+pub fill-requires-clause-room : goal.fill-requires-clause-room
+fill-requires-clause-room g c =
+    let held : loan_held c.args.self.now c.args.party.now c.args.loan ≡ a_loan c.in-Some.found c.in-Some.put.now.items = search rules in
+    let led = c.requires.led in
+    subst (λ (g : ℕ). g + 1 < 2 ^ 64) (sym (ap (λ (l : LoanSeen). l.handle.generation) c.lent-core.ensures ∙ c.write_core.ensures.generation))
+    (counter_is_low c.args.self.now led.state led.represents led.reached.sound c.in-Some.found.board (entry_of c.in-Some.found.kind) c.entry_held-entry.result.now c.entry_held-entry.ensures c.args.generation (bounded led.state led.reached)
+    (subst (λ (o : Option Held). IsGenerationOf c.args.self.now o c.args.generation) (ap (λ (o : Option (Held × List (Option ℕ))). option_map (λ l. l.0) o) held) c.requires.generation))
+
+pub returns : goal.returns
+returns g c =
+    let m = c.args.self.now in
+    let party = c.args.party.now in
+    let x = c.in-Some.found in
+    let entry = c.entry_held-entry.result.now in
+    let words = c.in-Some.put.now.items in
+    let held : loan_held m party c.args.loan ≡ a_loan x words = search rules in
+    let counter = subst (λ (o : Option Held). IsGenerationOf m o c.args.generation) (ap (λ (o : Option (Held × List (Option ℕ))). option_map (λ l. l.0) o) held) c.requires.generation in
+    let untaken : holds m party c.args.handle ≡ false = search rules in
+    let t : same_type (value_detail (type_of c.args.value)) entry.value ≡ true = search rules in
+    let w : c.in_ok-words.words.items ≡ value_words c.args.value = search rules in
+    λ s rep sound.
+    fill_begins m s rep party sound x entry c.entry_held-entry.ensures c.args.loan words held c.args.handle c.args.value untaken t c.args.generation counter c.fill.result
+    (c.fill.ensures ∙ ap (λ (g : ℕ). a_fill c.lent-core.result.handle.shape g c.in_ok-words.words.items) (ap (λ (l : LoanSeen). l.handle.generation) c.lent-core.ensures ∙ c.write_core.ensures.generation)
+    ∙ ap (λ (y : CellShape). a_fill y c.args.generation c.in_ok-words.words.items) (ap (λ (l : LoanSeen). l.handle.shape) c.lent-core.ensures ∙ c.write_core.ensures.shape)
+    ∙ ap (λ (ws : List ℕ). a_fill (cell_shape entry.cell) c.args.generation ws) w)
+
+pub returns-then-not-same_type : goal.returns-then-not-same_type
+returns-then-not-same_type g c =
+    let m = c.args.self.now in
+    let party = c.args.party.now in
+    let x = c.in-Some.found in
+    let entry = c.entry_held-entry.result.now in
+    let words = c.in-Some.put.now.items in
+    let held : loan_held m party c.args.loan ≡ a_loan x words = search rules in
+    let untaken : holds m party c.args.handle ≡ false = search rules in
+    let t : same_type (value_detail (type_of c.args.value)) entry.value ≡ false = search rules in
+    λ s rep sound.
+    fill_mistyped m s rep party sound x entry c.entry_held-entry.ensures c.args.loan words held c.args.handle c.args.value untaken t

@@ -1,0 +1,74 @@
+-- Loans, and what the calls on them have to do.
+use Rattle.std.specs.Prelude.{◌≡◌, ℕ, Bool, false, ◌&&◌, List, Option, find, option_map}
+use Rattle.std.specs.Str.{bytes_eq}
+use Rattle.board_model.specs.declared.value.Value.{Value}
+use Rattle.board_model.specs.TypeTable.{value_words}
+use Rattle.board_model.specs.Requests.{Lending, Request, fill, give_back, lend, publish, put, table}
+use Rattle.board_cell.specs.Calls.{Publishing, Putting, Updating}
+use Rattle.script_boards.specs.declared.machine.Lent.{Lent}
+
+-- ---- loans
+
+-- the loan is the party's, under the name
+abbrev pub is_lent_as : List ℕ → List ℕ → Lent → Bool
+is_lent_as party name x = bytes_eq party x.party && bytes_eq name x.name
+
+-- the words of the loan that a party holds under a name
+abbrev pub lent_words : List Lent → List ℕ → List ℕ → Option (List (Option ℕ))
+lent_words loans party name = option_map (λ (x : Lent). x.words.items) (find (is_lent_as party name) loans)
+
+-- ---- tasks
+
+-- a loan that is to be made has as many words as the entry
+pub record IsLoanTask (handle loan : List ℕ) (words : ℕ) (q : Request) : Type 0 where
+  pub lending : Lending
+  pub request : q ≡ table (lend lending)
+  pub handle_is : handle ≡ lending.handle
+  pub loan_is : loan ≡ lending.loan
+  pub words_is : words ≡ lending.shape.words
+
+-- a loan that is to be discarded
+pub record IsDiscardTask (loan handle : List ℕ) (q : Request) : Type 0 where
+  pub lending : Lending
+  pub request : q ≡ table (give_back lending)
+  pub loan_is : loan ≡ lending.loan
+  pub handle_is : handle ≡ lending.handle
+
+-- a put that has made no access
+abbrev pub putting : Lending → ℕ → ℕ → Putting
+putting l i w = record { shape = l.shape; generation = l.generation; index = i; word = w; done = false }
+
+-- a put that runs is this one
+pub record IsPutTask (board : ℕ) (call : Putting) (loan : List ℕ) (index word : ℕ) (q : Request) : Type 0 where
+  pub lending : Lending
+  pub request : q ≡ put lending index word
+  pub board_is : board ≡ lending.board
+  pub call_is : call ≡ putting lending index word
+  pub loan_is : loan ≡ lending.loan
+
+-- a publish that has made no access
+abbrev pub publishing : Lending → Publishing
+publishing l = record { shape = l.shape; generation = l.generation; done = false }
+
+-- a publish that runs is this one
+pub record IsPublishTask (board : ℕ) (call : Publishing) (loan handle : List ℕ) (q : Request) : Type 0 where
+  pub lending : Lending
+  pub request : q ≡ publish lending
+  pub board_is : board ≡ lending.board
+  pub call_is : call ≡ publishing lending
+  pub loan_is : loan ≡ lending.loan
+  pub handle_is : handle ≡ lending.handle
+
+-- a fill after so many accesses
+abbrev pub filling : Lending → Value → ℕ → Updating
+filling l v k = record { shape = l.shape; generation = l.generation; words = value_words v; written = k }
+
+-- a fill that runs is what is left of this one
+pub record IsFillTask (board : ℕ) (call : Updating) (loan handle : List ℕ) (q : Request) (k : ℕ) : Type 0 where
+  pub lending : Lending
+  pub value : Value
+  pub request : q ≡ fill lending value
+  pub board_is : board ≡ lending.board
+  pub call_is : call ≡ filling lending value k
+  pub loan_is : loan ≡ lending.loan
+  pub handle_is : handle ≡ lending.handle

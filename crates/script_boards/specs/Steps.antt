@@ -1,0 +1,242 @@
+-- What the parts of a step do to a machine.
+use Rattle.std.specs.Prelude.{◌≡◌, ℕ, ◌+◌, ◌<◌, ◌≤◌, ◌==◌, Bool, true, false, List, [], ◌∷◌, ◌++◌, length, Option, Some, None, IsSome, is_some, not, option_map, slice_index, slice_index_or, slice_set}
+use Rattle.std.specs.List.{filter, position_from}
+use Rattle.board_model.specs.declared.answer.Reply.{Reply}
+use Rattle.board_model.specs.declared.answer.Reply.TheVariants as reply
+use Rattle.board_model.specs.declared.tables.Entry.{Entry}
+use Rattle.board_model.specs.declared.value.ValueType.{ValueType}
+use Rattle.board_cell_model.specs.Copies.{spare_at}
+use Rattle.board_cell_model.specs.OwedAccesses.{Owed, hear, is_finished, owed_read, owed_write, to_read, to_write}
+use Rattle.board_model.specs.declared.tables.ThingKind.TheVariants as thing_kind
+use Rattle.board_model.specs.LawfulSession.{is_typed_key}
+use Rattle.board_model.specs.LineGrammar.{AreAttributes, AreRequirements, is_board_name}
+use Rattle.board_model.specs.Tables.{board_at, entry_at, entry_of, is_numbered, kind_of}
+use Rattle.board_model.specs.Things.{Held}
+use Rattle.board_model.specs.Replies.{id_number, info_of, nodes_of}
+use Rattle.board_cell.specs.Calls.{Getting, Updating, counter_of}
+use Rattle.board_cell.specs.Calls as cells
+use Rattle.board_cell.specs.declared.access.Access.{Access}
+use Rattle.board_cell.specs.declared.access.Access.TheVariants as access
+use Rattle.script_boards.specs.declared.machine.KeptValue.{KeptValue}
+use Rattle.script_boards.specs.declared.machine.BoardMachine.{BoardMachine}
+use Rattle.script_boards.specs.declared.machine.PartyRow.{PartyRow}
+use Rattle.script_boards.specs.declared.machine.TableTask.{TableTask}
+use Rattle.script_boards.specs.declared.machine.TableTask.TheVariants as table_task
+use Rattle.script_boards.specs.declared.machine.Task.{Task}
+use Rattle.script_boards.specs.declared.machine.Task.TheVariants as task
+use Rattle.script_boards.specs.declared.step.OwedAccess.{OwedAccess}
+use Rattle.script_boards.specs.declared.step.OwedAccess.TheVariants as owed
+use Rattle.script_boards.specs.declared.step.OwedWrite.{OwedWrite}
+use Rattle.script_boards.specs.LoanCalls.{IsGivenBack, IsLoaned}
+use Rattle.script_boards.specs.Loans.{is_lent_as, lent_words}
+use Rattle.script_parties.specs.Overview.{keys_shown, standing_with}
+use Rattle.script_parties.specs.Parties.{IsCreate, IsEntry, IsEntryMut, IsFew, IsOpen, IsReader, IsReleased, IsStored, IsWriter, Stands}
+use Rattle.script_boards.specs.Machine.{is_kept_as, is_row_of, tables_of}
+use Rattle.script_boards.specs.TableCalls.{IsRest}
+
+-- ---- the access that is owed
+
+-- the party was abandoned
+abbrev pub is_gone : Task → Bool
+is_gone (task.Table t) = false
+is_gone (task.Get board call type name) = false
+is_gone (task.Fresh board call) = false
+is_gone (task.Update board call) = false
+is_gone (task.Put board call loan index word) = false
+is_gone (task.Publish board call loan handle) = false
+is_gone (task.Fill board call loan handle) = false
+is_gone task.Gone = true
+
+-- the call owes an access
+abbrev pub CanGoOn : Task → Type 0
+CanGoOn (task.Table t) = Unit {0}
+CanGoOn (task.Get board call type name) = is_finished call.reading ≡ false
+CanGoOn (task.Fresh board call) = call.counter ≡ None
+CanGoOn (task.Update board call) = call.written ≤ length call.words
+CanGoOn (task.Put board call loan index word) = call.done ≡ false
+CanGoOn (task.Publish board call loan handle) = call.done ≡ false
+CanGoOn (task.Fill board call loan handle) = call.written ≤ length call.words
+CanGoOn task.Gone = ⊥
+
+-- the write is the one that a publication of words owes
+pub record IsOwedWrite (board : ℕ) (call : Updating) (w : OwedWrite) : Type 0 where
+  pub board_is : w.board ≡ board
+  pub access : to_write w.board w.word w.value ≡ owed_write board call.shape call.generation call.words call.written
+  pub last : w.is_last ≡ (call.written == length call.words)
+
+-- the access is a write
+abbrev pub IsWrite : Access → Type 0
+IsWrite (access.Read word) = ⊥
+IsWrite (access.Write word value) = Unit {0}
+
+-- the write is the one that a call of one write owes
+pub record IsOnlyWrite (board : ℕ) (owes : Owed) (w : OwedWrite) : Type 0 where
+  pub board_is : w.board ≡ board
+  pub access : to_write w.board w.word w.value ≡ owes
+  pub last : w.is_last ≡ true
+
+-- the call owes this access
+abbrev pub IsOwedBy : Task → OwedAccess → Type 0
+IsOwedBy (task.Table t) owed.Table = Unit {0}
+IsOwedBy (task.Get board call type name) (owed.Read r) = to_read r.board r.word ≡ owed_read board call.shape call.reading
+IsOwedBy (task.Fresh board call) (owed.Read r) = to_read r.board r.word ≡ to_read board call.shape.first
+IsOwedBy (task.Update board call) (owed.Write w) = IsOwedWrite board call w
+IsOwedBy (task.Put board call loan index word) (owed.Write w) = IsOnlyWrite board (to_write board (spare_at call.shape call.generation + call.index) call.word) w
+IsOwedBy (task.Publish board call loan handle) (owed.Write w) = IsOnlyWrite board (to_write board call.shape.first (call.generation + 1)) w
+IsOwedBy (task.Fill board call loan handle) (owed.Write w) = IsOwedWrite board call w
+IsOwedBy t o = ⊥
+
+-- the party's row stands here, and its call owes this access
+pub record OwesAt {C : Type 0} (m : BoardMachine C) (party : List ℕ) (at : ℕ) (o : OwedAccess) : Type 0 where
+  pub stands : Some at ≡ position_from (is_row_of party) 0 m.parties.items
+  pub owes : (d : PartyRow) → IsOwedBy (slice_index_or m.parties.items at d).task o
+
+-- an access was made, and a read gave this word
+abbrev pub ticked : Task → ℕ → Task
+ticked (task.Get board call type name) v = task.Get board (record call { reading = hear call.shape.words call.reading v }) type name
+ticked (task.Fresh board call) v = task.Fresh board (record call { counter = Some v })
+ticked (task.Update board call) v = task.Update board (record call { written = call.written + 1 })
+ticked (task.Put board call loan index word) v = task.Put board (record call { done = true }) loan index word
+ticked (task.Publish board call loan handle) v = task.Publish board (record call { done = true }) loan handle
+ticked (task.Fill board call loan handle) v = task.Fill board (record call { written = call.written + 1 }) loan handle
+ticked t v = t
+
+-- the access is the last of its call
+abbrev pub is_last : Task → ℕ → Bool
+is_last (task.Get board call type name) v = is_finished (hear call.shape.words call.reading v)
+is_last (task.Update board call) v = call.written == length call.words
+is_last (task.Fill board call loan handle) v = call.written == length call.words
+is_last t v = true
+
+-- ---- rows
+
+-- the boards and their words stand, and each party holds what it held
+pub record HoldsAsBefore {C : Type 0} (old new : BoardMachine C) : Type 0 where
+  pub domain : new.domain ≡ old.domain
+  pub values : new.values.items ≡ old.values.items
+  pub loans : new.loans.items ≡ old.loans.items
+
+-- the call whose row stands here owes an access
+abbrev pub CanGoOnAt : List PartyRow → ℕ → Type 0
+CanGoOnAt rows i = (d : PartyRow) → CanGoOn (slice_index_or rows i d).task
+
+-- the call whose row stands here made a write, and no other row changes
+abbrev pub GoesOnAt : List PartyRow → List PartyRow → ℕ → Type 0
+GoesOnAt old new i = (row : PartyRow) → row ≡ slice_index_or old i row → new ≡ slice_set old i (record row { task = ticked row.task 0 })
+
+-- the party whose row stands here is gone, and no other row changes
+abbrev pub IsGoneAt : List PartyRow → List PartyRow → ℕ → Type 0
+IsGoneAt old new i = (row : PartyRow) → row ≡ slice_index_or old i row → new ≡ slice_set old i (record row { task = task.Gone })
+
+-- ---- words
+
+-- nothing of it changed
+pub record IsSame {C : Type 0} (old new : BoardMachine C) : Type 0 where
+  pub domain : new.domain ≡ old.domain
+  pub rest : IsRest old new
+
+-- one word of the board's words is set
+pub record IsWordSet {C : Type 0} (old new : BoardMachine C) (board word value : ℕ) : Type 0 where
+  pub stored : IsStored old.domain new.domain board word value
+  pub rest : IsRest old new
+
+-- the board and the entry stand, and the entry's counter is a word of the board
+pub record HasCounter {C : Type 0} (m : BoardMachine C) (board i : ℕ) : Type 0 where
+  pub place : ℕ
+  pub entry : Entry
+  pub stands : Some place ≡ position_from (is_numbered board) 0 m.domain.tables.boards
+  pub found : entry_at (tables_of m) board i ≡ Some entry
+  pub inside : place < length m.domain.words
+  pub word_inside : (d : List ℕ) → entry.cell.first < length (slice_index_or m.domain.words place d)
+
+-- the number is the counter word of the entry
+abbrev pub IsCounter : {C : Type 0} → BoardMachine C → ℕ → ℕ → ℕ → Type 0
+IsCounter m board i g = (place : ℕ) (e : Entry) (d : List ℕ) → Some place ≡ position_from (is_numbered board) 0 m.domain.tables.boards → entry_at (tables_of m) board i ≡ Some e
+    → g ≡ slice_index (slice_index_or m.domain.words place d) e.cell.first
+
+-- ---- calls on the tables
+
+-- numbers can be drawn, names and attributes are of the grammar, what the call uses stands, and no loan has the name of a new one
+abbrev pub CanRun : {C : Type 0} → BoardMachine C → List ℕ → TableTask → Type 0
+CanRun m party (table_task.Create f n k l attributes entries) = IsFew m.domain × (is_board_name n ≡ true) × AreAttributes attributes
+CanRun m party (table_task.Open f n k l needs) = IsFew m.domain × (is_board_name n ≡ true) × AreRequirements needs
+CanRun m party (table_task.Reader n x) = IsFew m.domain × Stands m.domain x
+CanRun m party (table_task.Writer n x) = IsFew m.domain × Stands m.domain x
+CanRun m party (table_task.Entry n x k type) = IsFew m.domain × Stands m.domain x × (kind_of x.kind ≡ thing_kind.Reader) × (is_typed_key (board_at m.domain.tables x.board) k ≡ true)
+CanRun m party (table_task.EntryMut n x k type) = IsFew m.domain × Stands m.domain x × (kind_of x.kind ≡ thing_kind.Writer) × (is_typed_key (board_at m.domain.tables x.board) k ≡ true)
+CanRun m party (table_task.Loan handle loan words) = lent_words m.loans.items party loan ≡ None
+CanRun m party (table_task.Discard loan handle) = Unit {0}
+CanRun m party (table_task.Keys x) = Unit {0}
+CanRun m party (table_task.Nodes x) = Unit {0}
+CanRun m party (table_task.Info x) = is_some (board_at m.domain.tables x.board) ≡ true
+CanRun m party (table_task.Id x) = Unit {0}
+CanRun m party (table_task.Gen x) = HasCounter m x.board (entry_of x.kind)
+
+-- the counter is told, and nothing changes
+pub record IsGen {C : Type 0} (old new : BoardMachine C) (x : Held) (told : Reply) : Type 0 where
+  pub counter : ℕ
+  pub told_is : told ≡ reply.Generation counter
+  pub is_counter : IsCounter old x.board (entry_of x.kind) counter
+  pub same : new ≡ old
+
+-- the reply is told, and nothing changes
+pub record IsShown {C : Type 0} (old new : BoardMachine C) (shown told : Reply) : Type 0 where
+  pub told_is : told ≡ shown
+  pub same : new ≡ old
+
+-- what a call on the tables is told, and what it changes
+abbrev pub IsTold : {C : Type 0} → BoardMachine C → BoardMachine C → List ℕ → TableTask → Reply → Type 0
+IsTold old new party (table_task.Create f n k l attributes entries) told = IsCreate old.domain new.domain party f n k l attributes entries told × IsRest old new
+IsTold old new party (table_task.Open f n k l needs) told = IsOpen old.domain new.domain party f n k l needs told × IsRest old new
+IsTold old new party (table_task.Reader n x) told = IsReader old.domain new.domain n x told × IsRest old new
+IsTold old new party (table_task.Writer n x) told = IsWriter old.domain new.domain n x told × IsRest old new
+IsTold old new party (table_task.Entry n x k type) told = IsEntry old.domain new.domain n x k type told × IsRest old new
+IsTold old new party (table_task.EntryMut n x k type) told = IsEntryMut old.domain new.domain n x k type told × IsRest old new
+IsTold old new party (table_task.Loan handle loan words) told = (told ≡ reply.Done) × IsLoaned old new party handle loan words
+IsTold old new party (table_task.Discard loan handle) told = (told ≡ reply.Done) × IsGivenBack old new party loan handle
+IsTold old new party (table_task.Keys x) told = IsShown old new (reply.Keys (keys_shown (board_at old.domain.tables x.board))) told
+IsTold old new party (table_task.Nodes x) told = IsShown old new (reply.Nodes (nodes_of x.board old.domain.tables.things)) told
+IsTold old new party (table_task.Info x) told = IsShown old new (reply.Info (info_of old.domain.tables.things (board_at old.domain.tables x.board))) told
+IsTold old new party (table_task.Id x) told = IsShown old new (reply.Id (id_number (standing_with old.domain.tables) x x.kind)) told
+IsTold old new party (table_task.Gen x) told = IsGen old new x told
+
+-- ---- drop
+
+-- what a party held under a name is gone, and a board with its last thing
+pub record IsLetGo {C : Type 0} (old new : BoardMachine C) (party name : List ℕ) : Type 0 where
+  pub domain : IsReleased old.domain new.domain party name
+  pub values : new.values.items ≡ filter (λ v. not (is_kept_as party name v)) old.values.items
+  pub loans : new.loans.items ≡ filter (λ x. not (is_lent_as party name x)) old.loans.items
+  pub parties : new.parties.items ≡ old.parties.items
+
+-- ---- reads that end
+
+-- the read has all of its words
+abbrev pub HasRead : Task → Type 0
+HasRead (task.Get board call type name) = is_finished call.reading ≡ true
+HasRead (task.Fresh board call) = IsSome call.counter
+HasRead t = ⊥
+
+-- the value, where it is to be kept
+abbrev pub kept_anew : List ℕ → Option (List ℕ) → ValueType → Getting → List KeptValue
+kept_anew party None type call = []
+kept_anew party (Some name) type call = record { party = party; name = name; value_type = type; words = cells.words_of call.reading; generation = counter_of call.reading } ∷ []
+
+-- what a finished read tells
+abbrev pub read_told : Task → Option Reply
+read_told (task.Get board call type name) = Some (reply.Got type (cells.words_of call.reading) (counter_of call.reading))
+read_told (task.Fresh board call) = option_map (λ v. reply.Fresh (v == call.generation)) call.counter
+read_told t = None
+
+-- the values that a finished read adds
+abbrev pub values_read : List ℕ → Task → List KeptValue
+values_read party (task.Get board call type name) = kept_anew party name type call
+values_read party t = []
+
+-- a finished read is told so, and its value is kept
+pub record IsReadTold {C : Type 0} (old new : BoardMachine C) (party : List ℕ) (t : Task) (told : Reply) : Type 0 where
+  pub told_is : read_told t ≡ Some told
+  pub values : new.values.items ≡ old.values.items ++ values_read party t
+  pub domain : new.domain ≡ old.domain
+  pub parties : new.parties.items ≡ old.parties.items
+  pub loans : new.loans.items ≡ old.loans.items

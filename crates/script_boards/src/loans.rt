@@ -1,0 +1,275 @@
+//! Loans: write handles that are out, and the words that were put.
+ghost use Rattle.std.specs.Prelude.{◌≡◌, ◌<◌, Option, None, IfOk, OnOk, not, option_map};
+ghost use Rattle.std.specs.List.{filter, position_from};
+ghost use Rattle.board_model.specs.declared.answer.Reply.TheVariants as reply;
+ghost use Rattle.board_model.specs.declared.line.Call.TheVariants as call;
+ghost use Rattle.script_boards.specs.Begins.{Checks, HasGeneration, HasNoRow, loan_held};
+ghost use Rattle.script_boards.specs.LoanCalls.{CanSettle, HasLoanWord, IsGivenBack, IsLoaned, IsSettled, IsWordPut};
+ghost use Rattle.script_boards.specs.Loans.{is_lent_as, lent_words};
+ghost use Rattle.script_boards.specs.Machine.{IsLed};
+
+use crate::begin::{Checked, write_core};
+use crate::machine::{BoardMachine, Lent, TableTask, Task};
+use board_model::{Name, Reason, Reply, ThingKind, Value};
+use board_ports::LoanCore;
+use board_service::{BoardWords, same_type};
+use script_parties::{Held, type_of, value_detail, value_words};
+use std::alloc::AllocError;
+
+/// The words of the loan that a party holds under a name.
+pub(crate) fn words_lent<'a>(
+    party: &Name,
+    name: &Name,
+    loans: &'a [Lent],
+) -> Option<&'a Vec<Option<u64>>>
+    ensures { option_map (λ ws. ws.now.items) result ≡ lent_words loans.now party.now name.now }
+{
+    loans
+        .iter()
+        .find(|x| *party == x.party && *name == x.name)
+        .map(|x| &x.words)
+}
+
+// Where the loan stands that a party holds under a name.
+fn place_of_loan(party: &Name, name: &Name, loans: &[Lent]) -> Option<usize>
+    ensures { result ≡ position_from (is_lent_as party.now name.now) 0 loans.now }
+{
+    for (i, lent) in loans.iter().enumerate() {
+        if *party == lent.party && *name == lent.name {
+            return Some(i);
+        }
+    }
+    None
+}
+
+/// Forgets the words of the loan that a party holds under a name.
+pub(crate) fn forget_loan(party: &Name, name: &Name, loans: &mut Vec<Lent>)
+    ensures { loans.new.items ≡ filter (λ x. not (is_lent_as party.now name.now x)) loans.old.items }
+{
+    loans.retain(|x| !(*party == x.party && *name == x.name));
+}
+
+impl<C: BoardWords + Drop> BoardMachine<C> {
+    // The write handle that a loan of the party is, and its words.
+    fn loan_held(&self, party: &Name, name: &Name) -> Option<(Held, &Vec<Option<u64>>)>
+        ensures { option_map (λ l. (l.0, l.1.now.items)) result ≡ loan_held self.now party.now name.now }
+    {
+        match (
+            self.domain
+                .held_of_kind(ThingKind::WriteHandle, party, name),
+            words_lent(party, name, &self.loans),
+        ) {
+            (Some(found), Some(words)) => Some((found, words)),
+            _ => None,
+        }
+    }
+
+    /// The write handle that a loan of the party is.
+    pub(crate) fn thing_of_loan(&self, party: &Name, name: &Name) -> Option<Held>
+        ensures { result ≡ option_map (λ l. l.0) (loan_held self.now party.now name.now) }
+    {
+        match self.loan_held(party, name) {
+            Some((found, _)) => Some(found),
+            None => None,
+        }
+    }
+
+    /// Whether a loan may be made.
+    pub(crate) fn check_loan(&self, party: &Name, loan: Name, handle: &Name) -> Checked
+        requires { IsLed self.now }
+        ensures { Checks self.now party.now (call.Loan loan handle.now) result }
+    {
+        let Some(found) = self.handle_held(party, handle) else {
+            return Checked::Refused(Reason::Unknown);
+        };
+        let entry = self.entry_held(&found);
+        if self.holds(party, &loan) {
+            return Checked::Refused(Reason::Taken);
+        }
+        Checked::Accepted(Task::Table(TableTask::Loan {
+            handle: *handle,
+            loan,
+            words: entry.cell.words,
+        }))
+    }
+
+    /// Whether a loan may be discarded.
+    pub(crate) fn check_discard(&self, party: &Name, loan: Name, handle: Name) -> Checked
+        ensures { Checks self.now party.now (call.Discard loan handle) result }
+    {
+        let Some(_) = self.loan_held(party, &loan) else {
+            return Checked::Refused(Reason::Unknown);
+        };
+        if self.holds(party, &handle) {
+            return Checked::Refused(Reason::Taken);
+        }
+        Checked::Accepted(Task::Table(TableTask::Discard { loan, handle }))
+    }
+
+    /// Whether a word may be put into a loan.
+    pub(crate) fn check_put(
+        &self,
+        party: &Name,
+        loan: Name,
+        index: u64,
+        word: u64,
+        generation: u64,
+    ) -> Checked
+        requires led { IsLed self.now }
+        requires free { HasNoRow self.now party.now }
+        requires generation { HasGeneration self.now party.now (call.Put loan index word) generation }
+        ensures { Checks self.now party.now (call.Put loan index word) result }
+    {
+        let Some((found, words)) = self.loan_held(party, &loan) else {
+            return Checked::Refused(Reason::Unknown);
+        };
+        let entry = self.entry_held(&found);
+        let core = LoanCore::lent(write_core(entry, generation), words);
+        let Some(call) = core.put(index, word) else {
+            return Checked::Refused(Reason::Index);
+        };
+        Checked::Accepted(Task::Put {
+            board: found.board,
+            call,
+            loan,
+            index,
+            word,
+        })
+    }
+
+    /// Whether the words of a loan may be published.
+    pub(crate) fn check_publish(
+        &self,
+        party: &Name,
+        loan: Name,
+        handle: Name,
+        generation: u64,
+    ) -> Checked
+        requires led { IsLed self.now }
+        requires free { HasNoRow self.now party.now }
+        requires generation { HasGeneration self.now party.now (call.Publish loan handle) generation }
+        ensures { Checks self.now party.now (call.Publish loan handle) result }
+    {
+        let Some((found, words)) = self.loan_held(party, &loan) else {
+            return Checked::Refused(Reason::Unknown);
+        };
+        let entry = self.entry_held(&found);
+        if self.holds(party, &handle) {
+            return Checked::Refused(Reason::Taken);
+        }
+        let core = LoanCore::lent(write_core(entry, generation), words);
+        if !core.is_filled() {
+            return Checked::Refused(Reason::Unfilled);
+        }
+        Checked::Accepted(Task::Publish {
+            board: found.board,
+            call: core.publish(),
+            loan,
+            handle,
+        })
+    }
+
+    /// Whether a loan may be filled with a value and published.
+    pub(crate) fn check_fill(
+        &self,
+        party: &Name,
+        loan: Name,
+        handle: Name,
+        value: Value,
+        generation: u64,
+    ) -> Result<Checked, AllocError>
+        requires led { IsLed self.now }
+        requires free { HasNoRow self.now party.now }
+        requires generation { HasGeneration self.now party.now (call.Fill loan handle value) generation }
+        ensures { IfOk result (Checks self.now party.now (call.Fill loan handle value)) }
+    {
+        let Some((found, put)) = self.loan_held(party, &loan) else {
+            return Ok(Checked::Refused(Reason::Unknown));
+        };
+        let entry = self.entry_held(&found);
+        if self.holds(party, &handle) {
+            return Ok(Checked::Refused(Reason::Taken));
+        }
+        if !same_type(&value_detail(type_of(value)), &entry.value) {
+            return Ok(Checked::Refused(Reason::Type));
+        }
+        let core = LoanCore::lent(write_core(entry, generation), put);
+        let words = value_words(self.alloc, value)?;
+        Ok(Checked::Accepted(Task::Fill {
+            board: found.board,
+            call: core.fill(words),
+            loan,
+            handle,
+        }))
+    }
+
+    /// Makes a loan of a write handle. No word of it is put.
+    pub(crate) fn lend(
+        &mut self,
+        party: Name,
+        handle: &Name,
+        loan: Name,
+        words: u64,
+    ) -> Result<Reply, AllocError>
+        requires { lent_words self.old.loans.items party loan ≡ None }
+        ensures told { IfOk result (λ told. told ≡ reply.Done) }
+        ensures loan { OnOk result (IsLoaned self.old self.new party handle.now loan words) }
+    {
+        let none_put = Vec::from_elem(self.alloc, None, words as usize)?;
+        self.loans.push(Lent {
+            party,
+            name: loan,
+            words: none_put,
+        })?;
+        self.domain.rename(&party, handle, &loan);
+        Ok(Reply::Done)
+    }
+
+    /// Makes a write handle of a loan again, and forgets its words.
+    pub(crate) fn give_back(&mut self, party: &Name, loan: &Name, handle: &Name)
+        ensures { IsGivenBack self.old self.new party.now loan.now handle.now }
+    {
+        forget_loan(party, loan, &mut self.loans);
+        self.domain.rename(party, loan, handle);
+    }
+
+    // Puts a word into a loan.
+    fn put_word(&mut self, party: &Name, loan: &Name, index: u64, word: u64)
+        requires { HasLoanWord self.old party.now loan.now index }
+        ensures { IsWordPut self.old self.new party.now loan.now index word }
+    {
+        match place_of_loan(party, loan, &self.loans) {
+            Some(place) => self.loans[place].words[index as usize] = Some(word),
+            None => unreachable!(),
+        }
+    }
+
+    /// What the last write of a call does to its loan.
+    pub(crate) fn settle(&mut self, party: &Name, task: Task)
+        requires { CanSettle self.old party.now task }
+        ensures { IsSettled self.old self.new party.now task }
+    {
+        match task {
+            Task::Put {
+                board: _,
+                call: _,
+                loan,
+                index,
+                word,
+            } => self.put_word(party, &loan, index, word),
+            Task::Publish {
+                board: _,
+                call: _,
+                loan,
+                handle,
+            } => self.give_back(party, &loan, &handle),
+            Task::Fill {
+                board: _,
+                call: _,
+                loan,
+                handle,
+            } => self.give_back(party, &loan, &handle),
+            _ => {}
+        }
+    }
+}

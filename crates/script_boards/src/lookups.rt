@@ -1,0 +1,36 @@
+//! What stands in the machine's lists.
+ghost use Rattle.std.specs.Prelude.{◌≡◌, option_map};
+ghost use Rattle.std.specs.List.{position_from};
+ghost use Rattle.script_boards.specs.Machine.{is_row_of, kept, kept_of};
+
+use crate::machine::{KeptValue, PartyRow};
+use board_model::Name;
+
+/// Where the row of a party stands.
+pub(crate) fn place_of_party(party: &Name, parties: &[PartyRow]) -> Option<usize>
+    ensures { result ≡ position_from (is_row_of party.now) 0 parties.now }
+{
+    for (i, row) in parties.iter().enumerate() {
+        if *party == row.name {
+            return Some(i);
+        }
+    }
+    None
+}
+
+/// The value that a party kept last under a name.
+pub(crate) fn value_of<'a>(
+    party: &Name,
+    name: &Name,
+    values: &'a [KeptValue],
+) -> Option<&'a KeptValue>
+    ensures { option_map (λ v. kept_of v.now) result ≡ kept values.now party.now name.now }
+{
+    let mut found = None;
+    for value in values {
+        if *party == value.party && *name == value.name {
+            found = Some(value);
+        }
+    }
+    found
+}

@@ -1,0 +1,153 @@
+//! The machine: the domain, and the calls that run.
+use board_cell::{FreshCall, GetCall, PublishCall, PutCall, UpdateCall};
+use board_model::{
+    AddedEntries, Attributes, BoardName, Key, KeyType, Limits, Name, Requirements, ValueType, Words,
+};
+use board_service::BoardWords;
+use script_parties::{Held, PartyDomain};
+use std::alloc::Global;
+
+/// A call on the tables, with the things that it uses found.
+#[derive(Drop, Debug)]
+pub(crate) enum TableTask {
+    Create {
+        factory: Name,
+        name: BoardName,
+        key_type: KeyType,
+        limits: Limits,
+        attributes: Attributes,
+        entries: AddedEntries,
+    },
+    Open {
+        factory: Name,
+        name: BoardName,
+        key_type: KeyType,
+        limits: Limits,
+        needs: Requirements,
+    },
+    Reader {
+        name: Name,
+        factory: Held,
+    },
+    Writer {
+        name: Name,
+        factory: Held,
+    },
+    Entry {
+        name: Name,
+        reader: Held,
+        key: Key,
+        value_type: ValueType,
+    },
+    EntryMut {
+        name: Name,
+        writer: Held,
+        key: Key,
+        value_type: ValueType,
+    },
+    /// The write handle becomes a loan of so many words.
+    Loan {
+        handle: Name,
+        loan: Name,
+        words: u64,
+    },
+    Discard {
+        loan: Name,
+        handle: Name,
+    },
+    Keys {
+        factory: Held,
+    },
+    Nodes {
+        factory: Held,
+    },
+    Info {
+        factory: Held,
+    },
+    Id {
+        thing: Held,
+    },
+    Gen {
+        handle: Held,
+    },
+}
+
+/// What a call that runs has still to do.
+#[derive(Drop, Debug)]
+pub(crate) enum Task {
+    Table(TableTask),
+    /// The value is kept under the name, where there is one.
+    Get {
+        board: u64,
+        call: GetCall,
+        value_type: ValueType,
+        name: Option<Name>,
+    },
+    Fresh {
+        board: u64,
+        call: FreshCall,
+    },
+    Update {
+        board: u64,
+        call: UpdateCall,
+    },
+    Put {
+        board: u64,
+        call: PutCall,
+        loan: Name,
+        index: u64,
+        word: u64,
+    },
+    /// The loan becomes a write handle under the name.
+    Publish {
+        board: u64,
+        call: PublishCall,
+        loan: Name,
+        handle: Name,
+    },
+    Fill {
+        board: u64,
+        call: UpdateCall,
+        loan: Name,
+        handle: Name,
+    },
+    /// Nothing, ever: the party was abandoned.
+    Gone,
+}
+
+/// A party whose call runs, or that is gone.
+#[derive(Drop, Debug)]
+pub(crate) struct PartyRow {
+    pub(crate) name: Name,
+    pub(crate) task: Task,
+}
+
+/// A value that a party read and kept under a name.
+#[derive(Drop, Debug)]
+pub(crate) struct KeptValue {
+    pub(crate) party: Name,
+    pub(crate) name: Name,
+    pub(crate) value_type: ValueType,
+    pub(crate) words: Words,
+    pub(crate) generation: u64,
+}
+
+/// A loan of a party: it is a write handle under the name, with the words that were put.
+#[derive(Drop, Debug)]
+pub(crate) struct Lent {
+    pub(crate) party: Name,
+    pub(crate) name: Name,
+    pub(crate) words: Vec<Option<u64>>,
+}
+
+/// Runs the lines of one script, one after another. The words of its boards are held by `C`.
+#[derive(Drop)]
+pub struct BoardMachine<C: BoardWords> {
+    pub(crate) alloc: Global,
+    /// The boards, their words, and the things that parties hold.
+    pub(crate) domain: PartyDomain<C>,
+    /// The parties that run a call or are gone, each once.
+    pub(crate) parties: Vec<PartyRow>,
+    pub(crate) values: Vec<KeptValue>,
+    pub(crate) loans: Vec<Lent>,
+}

@@ -1,0 +1,69 @@
+//! Refusals that no name has to do with, and names that parties hold.
+ghost use Rattle.std.specs.Prelude.{◌≡◌, None, IfNone, IfOk};
+ghost use Rattle.board_model.specs.LawfulSession.{State, free_reason};
+ghost use Rattle.board_model.specs.Things as held;
+ghost use Rattle.script_boards.specs.Begins.{HasNoRow, LooksPastNames, is_unknown};
+ghost use Rattle.script_boards.specs.Machine.{IsLed, Represents};
+
+use crate::begin::Checked;
+use crate::lookups::place_of_party;
+use crate::machine::BoardMachine;
+use board_model::{Call, Name, Reason};
+use board_service::BoardWords;
+use std::alloc::AllocError;
+
+// Whether a call doesn't find all that it uses.
+fn is_unknown(checked: &Checked) -> bool
+    ensures { result ≡ is_unknown checked.now }
+{
+    matches!(checked, Checked::Refused(Reason::Unknown))
+}
+
+impl<C: BoardWords + Drop> BoardMachine<C> {
+    /// Whether the party has a thing of a board, or a value, under the name.
+    pub fn is_held(&self, party: &Name, name: &Name) -> bool
+        ensures { (s : State) → Represents self.now s → result ≡ held.is_held s.standing party.now name.now }
+    {
+        self.holds(party, name)
+    }
+
+    /// Why a line is refused that only a free party may have. None where the party is free.
+    pub fn refusal_of_party(&self, party: &Name) -> Option<Reason>
+        ensures reason { (s : State) → Represents self.now s → result ≡ free_reason (s.parties party.now) None }
+        ensures free { IfNone result (HasNoRow self.now party.now) }
+    {
+        let Some(at) = place_of_party(party, &self.parties) else {
+            return None;
+        };
+        if self.parties[at].task.is_gone() {
+            Some(Reason::Abandoned)
+        } else {
+            Some(Reason::Busy)
+        }
+    }
+
+    /// Why a call may not begin, whatever names are held. None where its party is free and holds all that the call uses.
+    ///
+    /// # Errors
+    /// `AllocError` where memory is refused.
+    pub fn refusal_past_names(
+        &mut self,
+        party: &Name,
+        call: Call,
+    ) -> Result<Option<Reason>, AllocError>
+        requires { IsLed self.old }
+        ensures told { IfOk result (LooksPastNames self.old party.now call) }
+        ensures same { self.new ≡ self.old }
+    {
+        if let Some(why) = self.refusal_of_party(party) {
+            return Ok(Some(why));
+        }
+        let generation = self.generation_for(party, &call);
+        let checked = self.check(party, call, generation)?;
+        if is_unknown(&checked) {
+            Ok(Some(Reason::Unknown))
+        } else {
+            Ok(None)
+        }
+    }
+}

@@ -1,0 +1,53 @@
+//! Lines `drop P T`.
+ghost use Rattle.std.specs.Prelude.{◌≡◌, ◌≤◌, ◌+◌, not};
+ghost use Rattle.std.specs.List.{filter};
+ghost use Rattle.board_model.specs.declared.line.Line.TheVariants as line;
+ghost use Rattle.script_boards.specs.Machine.{IsLed, Serves, is_kept_as};
+ghost use Rattle.script_boards.specs.Steps.{IsLetGo};
+
+use crate::loans::forget_loan;
+use crate::lookups::place_of_party;
+use crate::machine::{BoardMachine, KeptValue};
+use board_cell_model::Access;
+use board_model::{Answer, Name, Reason, Reply};
+use board_service::BoardWords;
+
+/// Forgets what a party kept under a name.
+fn forget_values(party: &Name, name: &Name, values: &mut Vec<KeptValue>)
+    ensures { values.new.items ≡ filter (λ v. not (is_kept_as party.now name.now v)) values.old.items }
+{
+    values.retain(|v| !(*party == v.party && *name == v.name));
+}
+
+impl<C: BoardWords + Drop> BoardMachine<C> {
+    // Takes away what a party holds under a name, and the board with its last thing.
+    fn let_go(&mut self, party: &Name, name: &Name)
+        ensures { IsLetGo self.old self.new party.now name.now }
+    {
+        forget_values(party, name, &mut self.values);
+        forget_loan(party, name, &mut self.loans);
+        self.domain.release(party, name);
+    }
+
+    /// A line `drop P T`.
+    pub fn release(&mut self, party: &Name, name: &Name) -> Answer
+        requires { IsLed self.old }
+        ensures serves { Serves self.old self.new (line.Release party.now name.now) result }
+        ensures drawn { self.new.domain.drawn ≡ self.old.domain.drawn }
+    {
+        if let Some(at) = place_of_party(party, &self.parties) {
+            if self.parties[at].task.is_gone() {
+                return Answer::Refused(Reason::Abandoned);
+            }
+            return Answer::Refused(Reason::Busy);
+        }
+        if !self.holds(party, name) {
+            return Answer::Refused(Reason::Unknown);
+        }
+        self.let_go(party, name);
+        Answer::Step {
+            access: Access::Table,
+            reply: Some(Reply::Done),
+        }
+    }
+}

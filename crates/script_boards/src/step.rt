@@ -1,0 +1,420 @@
+//! Lines `step P`.
+ghost use Rattle.std.specs.Prelude.{◌≡◌, ◌+◌, ◌<◌, ◌≤◌, ◌^◌, ◌==◌, IfOk, OnOk, length, slice_set, slice_index_or};
+ghost use Rattle.std.specs.List.{remove};
+ghost use Rattle.board_cell.specs.Calls.{progress_of, told};
+ghost use Rattle.board_model.specs.AnswerGrammar.{IsReply};
+ghost use Rattle.board_model.specs.declared.line.Line.TheVariants as line;
+ghost use Rattle.script_parties.specs.Parties.{HasWord, IsLoaded};
+ghost use Rattle.script_boards.specs.Machine.{IsLed, Serves};
+ghost use Rattle.script_boards.specs.Steps as steps;
+ghost use Rattle.script_boards.specs.Steps.{CanGoOn, CanGoOnAt, CanRun, GoesOnAt, HasCounter, HasRead, HoldsAsBefore, IsCounter, IsOnlyWrite, IsOwedBy, IsOwedWrite, IsReadTold, IsSame, IsTold, IsWordSet, IsWrite, OwesAt, ticked};
+ghost use Rattle.script_boards.specs.declared.step.OwedAccess.TheVariants as owed;
+
+use crate::lookups::place_of_party;
+use crate::machine::{BoardMachine, KeptValue, PartyRow, TableTask, Task};
+use board_cell::{Access as CellAccess, Progress, UpdateCall};
+use board_cell_model::Access;
+use board_model::{Answer, Name, Reason, Reply, Words};
+use board_service::BoardWords;
+use script_parties::entry_of;
+use std::alloc::AllocError;
+
+/// The read that a call owes.
+#[derive(Clone, Copy, Debug, PartialEq, Eq)]
+pub(crate) struct OwedRead {
+    pub(crate) board: u64,
+    pub(crate) word: u64,
+}
+
+/// The write that a call owes, and whether it is its last.
+#[derive(Clone, Copy, Debug, PartialEq, Eq)]
+pub(crate) struct OwedWrite {
+    pub(crate) board: u64,
+    pub(crate) word: u64,
+    pub(crate) value: u64,
+    pub(crate) is_last: bool,
+}
+
+/// The access that a call owes next.
+#[derive(Clone, Copy, Debug, PartialEq, Eq)]
+pub(crate) enum OwedAccess {
+    Table,
+    Read(OwedRead),
+    Write(OwedWrite),
+}
+
+// The write that a publication of words owes.
+fn write_of(board: u64, call: &UpdateCall) -> OwedWrite
+    requires { call.now.written ≤ length call.now.words }
+    ensures { IsOwedWrite board call.now result }
+{
+    match call.next() {
+        CellAccess::Write { word, value } => OwedWrite {
+            board,
+            word,
+            value,
+            is_last: !call.owes_word(),
+        },
+        CellAccess::Read { word: _ } => unreachable!(),
+    }
+}
+
+// The write of a call that has no other access.
+fn only_write_of(board: u64, access: CellAccess) -> OwedWrite
+    requires { IsWrite access }
+    ensures { IsOnlyWrite board (told board access) result }
+{
+    match access {
+        CellAccess::Write { word, value } => OwedWrite {
+            board,
+            word,
+            value,
+            is_last: true,
+        },
+        CellAccess::Read { word: _ } => unreachable!(),
+    }
+}
+
+impl Task {
+    /// Whether the party was abandoned.
+    pub(crate) fn is_gone(&self) -> bool
+        ensures { result ≡ steps.is_gone self.now }
+    {
+        match self {
+            Task::Gone => true,
+            _ => false,
+        }
+    }
+
+    /// The access that is owed.
+    fn owed(&self) -> OwedAccess
+        requires { CanGoOn self.now }
+        ensures { IsOwedBy self.now result }
+    {
+        match self {
+            Task::Table(_) => OwedAccess::Table,
+            Task::Get {
+                board,
+                call,
+                value_type: _,
+                name: _,
+            } => match call.next() {
+                CellAccess::Read { word } => OwedAccess::Read(OwedRead {
+                    board: *board,
+                    word,
+                }),
+                CellAccess::Write { word: _, value: _ } => unreachable!(),
+            },
+            Task::Fresh { board, call } => match call.next() {
+                CellAccess::Read { word } => OwedAccess::Read(OwedRead {
+                    board: *board,
+                    word,
+                }),
+                CellAccess::Write { word: _, value: _ } => unreachable!(),
+            },
+            Task::Update { board, call } => OwedAccess::Write(write_of(*board, call)),
+            Task::Put {
+                board,
+                call,
+                loan: _,
+                index: _,
+                word: _,
+            } => OwedAccess::Write(only_write_of(*board, call.next())),
+            Task::Publish {
+                board,
+                call,
+                loan: _,
+                handle: _,
+            } => OwedAccess::Write(only_write_of(*board, call.next())),
+            Task::Fill {
+                board,
+                call,
+                loan: _,
+                handle: _,
+            } => OwedAccess::Write(write_of(*board, call)),
+            Task::Gone => unreachable!(),
+        }
+    }
+
+    /// An access was made; a read gave this word.
+    fn took(&mut self, word: u64) -> Progress
+        requires { CanGoOn self.old }
+        ensures call { self.new ≡ ticked self.old word }
+        ensures progress { result ≡ progress_of (steps.is_last self.old word) }
+    {
+        match self {
+            Task::Get {
+                board: _,
+                call,
+                value_type: _,
+                name: _,
+            } => call.took(word),
+            Task::Fresh { board: _, call } => call.took(word),
+            Task::Update { board: _, call } => call.took(word),
+            Task::Put {
+                board: _,
+                call,
+                loan: _,
+                index: _,
+                word: _,
+            } => call.took(word),
+            Task::Publish {
+                board: _,
+                call,
+                loan: _,
+                handle: _,
+            } => call.took(word),
+            Task::Fill {
+                board: _,
+                call,
+                loan: _,
+                handle: _,
+            } => call.took(word),
+            _ => Progress::Done,
+        }
+    }
+}
+
+impl<C: BoardWords + Drop> BoardMachine<C> {
+    /// The counter of an entry.
+    pub fn counter(&mut self, board: u64, entry: u64) -> u64
+        requires { HasCounter self.old board entry }
+        ensures value { IsCounter self.old board entry result }
+        ensures same { self.new ≡ self.old }
+    {
+        match self.domain.entry_at(board, entry) {
+            Some(entry) => {
+                let first = entry.cell.first;
+                self.domain.load(board, first)
+            }
+            None => unreachable!(),
+        }
+    }
+
+    // Reads a word of a board.
+    fn read_word(&mut self, board: u64, word: u64) -> u64
+        requires { HasWord self.old.domain board word }
+        ensures value { IsLoaded self.old.domain board word result }
+        ensures same { IsSame self.old self.new }
+    {
+        self.domain.load(board, word)
+    }
+
+    // Writes a word of a board.
+    fn write_word(&mut self, board: u64, word: u64, value: u64)
+        requires { HasWord self.old.domain board word }
+        ensures { IsWordSet self.old self.new board word value }
+    {
+        self.domain.store(board, word, value);
+    }
+
+    // The call whose row stands here has made a write that isn't its last.
+    fn go_on(&mut self, at: usize)
+        requires inside { at < length self.old.parties.items }
+        requires owes { CanGoOnAt self.old.parties.items at }
+        ensures held { HoldsAsBefore self.old self.new }
+        ensures ticked { GoesOnAt self.old.parties.items self.new.parties.items at }
+    {
+        let _ = self.parties[at].task.took(0);
+    }
+
+    // The one step of a call on the tables.
+    fn run_table(&mut self, party: Name, task: TableTask) -> Result<Reply, AllocError>
+        requires { CanRun self.old party task }
+        ensures told { IfOk result (IsTold self.old self.new party task) }
+        ensures drawn { OnOk result (self.new.domain.drawn ≤ self.old.domain.drawn + 1) }
+    {
+        match task {
+            TableTask::Create {
+                factory,
+                name,
+                key_type,
+                limits,
+                attributes,
+                entries,
+            } => self.domain.create(
+                party,
+                factory,
+                *name.as_text(),
+                key_type,
+                limits,
+                &attributes,
+                &entries,
+            ),
+            TableTask::Open {
+                factory,
+                name,
+                key_type,
+                limits,
+                needs,
+            } => self
+                .domain
+                .open(party, factory, *name.as_text(), key_type, limits, &needs),
+            TableTask::Reader { name, factory } => self.domain.reader(name, &factory),
+            TableTask::Writer { name, factory } => self.domain.writer(name, &factory),
+            TableTask::Entry {
+                name,
+                reader,
+                key,
+                value_type,
+            } => self.domain.entry(name, &reader, &key, value_type),
+            TableTask::EntryMut {
+                name,
+                writer,
+                key,
+                value_type,
+            } => self.domain.entry_mut(name, &writer, &key, value_type),
+            TableTask::Loan {
+                handle,
+                loan,
+                words,
+            } => self.lend(party, &handle, loan, words),
+            TableTask::Discard { loan, handle } => {
+                self.give_back(&party, &loan, &handle);
+                Ok(Reply::Done)
+            }
+            TableTask::Keys { factory } => { Ok(Reply::Keys(self.domain.keys(factory.board)?)) }
+            TableTask::Nodes { factory } => { Ok(Reply::Nodes(self.domain.nodes(factory.board)?)) }
+            TableTask::Info { factory } => Ok(Reply::Info(self.domain.info(factory.board)?)),
+            TableTask::Id { thing } => Ok(Reply::Id(self.domain.id_of(&thing))),
+            TableTask::Gen { handle } => Ok(Reply::Generation(self.counter(
+                handle.board,
+                entry_of(&handle.kind),
+            ))),
+        }
+    }
+
+    // What a call that has read its last word is told. The value read is kept where the call names it.
+    fn tell_read(&mut self, party: Name, task: Task) -> Result<Reply, AllocError>
+        requires { HasRead task }
+        ensures told { IfOk result (IsReadTold self.old self.new party task) }
+        ensures is_reply { IfOk result IsReply }
+    {
+        match task {
+            Task::Get {
+                board: _,
+                call,
+                value_type,
+                name,
+            } => {
+                let generation = call.generation();
+                let words = call.into_buffer();
+                if let Some(name) = name {
+                    let copy = Vec::from_slice(self.alloc, &words)?;
+                    self.values.push(KeptValue {
+                        party,
+                        name,
+                        value_type,
+                        words: Words::from_vec(copy),
+                        generation,
+                    })?;
+                }
+                Ok(Reply::Got {
+                    value_type,
+                    words: Words::from_vec(words),
+                    generation,
+                })
+            }
+            Task::Fresh { board: _, call } => Ok(Reply::Fresh(call.answer())),
+            _ => unreachable!(),
+        }
+    }
+
+    // A step of a call on the tables.
+    fn step_table(&mut self, party: &Name, at: usize) -> Result<Answer, AllocError>
+        requires led { IsLed self.old }
+        requires owes { OwesAt self.old party.now at owed.Table }
+        ensures serves { IfOk result (λ a. Serves self.old self.new (line.Step party.now) a) }
+        ensures drawn { OnOk result (self.new.domain.drawn ≤ self.old.domain.drawn + 1) }
+    {
+        let PartyRow { name, task } = self.parties.remove(at);
+        match task {
+            Task::Table(task) => {
+                let told = self.run_table(name, task)?;
+                Ok(Answer::Step {
+                    access: Access::Table,
+                    reply: Some(told),
+                })
+            }
+            _ => unreachable!(),
+        }
+    }
+
+    // A step of a call that reads a word.
+    fn step_read(&mut self, party: &Name, at: usize, read: OwedRead) -> Result<Answer, AllocError>
+        requires led { IsLed self.old }
+        requires owes { OwesAt self.old party.now at (owed.Read read) }
+        ensures serves { IfOk result (λ a. Serves self.old self.new (line.Step party.now) a) }
+        ensures drawn { OnOk result (self.new.domain.drawn ≤ self.old.domain.drawn + 1) }
+    {
+        let value = self.read_word(read.board, read.word);
+        let access = Access::Read {
+            board: read.board,
+            word: read.word,
+            value,
+        };
+        match self.parties[at].task.took(value) {
+            Progress::More => Ok(Answer::Step {
+                access,
+                reply: None,
+            }),
+            Progress::Done => {
+                let PartyRow { name, task } = self.parties.remove(at);
+                let told = self.tell_read(name, task)?;
+                Ok(Answer::Step {
+                    access,
+                    reply: Some(told),
+                })
+            }
+        }
+    }
+
+    // A step of a call that writes a word.
+    fn step_write(&mut self, party: &Name, at: usize, write: OwedWrite) -> Answer
+        requires led { IsLed self.old }
+        requires owes { OwesAt self.old party.now at (owed.Write write) }
+        ensures serves { Serves self.old self.new (line.Step party.now) result }
+        ensures drawn { self.new.domain.drawn ≤ self.old.domain.drawn + 1 }
+    {
+        self.write_word(write.board, write.word, write.value);
+        let access = Access::Write {
+            board: write.board,
+            word: write.word,
+            value: write.value,
+        };
+        if write.is_last {
+            let PartyRow { name, task } = self.parties.remove(at);
+            self.settle(&name, task);
+            Answer::Step {
+                access,
+                reply: Some(Reply::Done),
+            }
+        } else {
+            self.go_on(at);
+            Answer::Step {
+                access,
+                reply: None,
+            }
+        }
+    }
+
+    /// A line `step P`.
+    pub fn step(&mut self, party: &Name) -> Result<Answer, AllocError>
+        requires { IsLed self.old }
+        ensures serves { IfOk result (λ a. Serves self.old self.new (line.Step party.now) a) }
+        ensures drawn { OnOk result (self.new.domain.drawn ≤ self.old.domain.drawn + 1) }
+    {
+        let Some(at) = place_of_party(party, &self.parties) else {
+            return Ok(Answer::Refused(Reason::Idle));
+        };
+        let task = &self.parties[at].task;
+        if task.is_gone() {
+            return Ok(Answer::Refused(Reason::Abandoned));
+        }
+        match task.owed() {
+            OwedAccess::Table => self.step_table(party, at),
+            OwedAccess::Read(read) => self.step_read(party, at, read),
+            OwedAccess::Write(write) => Ok(self.step_write(party, at, write)),
+        }
+    }
+}

@@ -1,0 +1,284 @@
+-- What parties hold after a listener or a notifier was asked for.
+use Rattle.std.proofs.Common.{◌≡◌, ℕ, ◌+◌, ◌<◌, ◌≤◌, true, false, List, [], ◌∷◌, ◌++◌, refl, sym, ap, subst, ◌∙◌, Option, Some, None, inl, inr, arith}
+use Rattle.std.specs.Prelude.{if◌then◌else◌, ◌==◌, ◌^◌, ◌-◌, nat_lt, Result, Ok, Err, IsSomeAnd}
+use Rattle.board_store.specs.Table.{at}
+use Rattle.board_event_model.specs.declared.kind.EventKind.{EventKind}
+use Rattle.board_event_model.specs.EventMemory.{Event, is_held, new_event}
+use Rattle.board_event_model.specs.EventSessions.{EventSession, StandingEvent, event_of, listen, next_session}
+use Rattle.board_event_model.proofs.QuietLemmas.{eqb_true}
+use Rattle.board_event_model.proofs.SoundLemmas.{some_same}
+use Rattle.board_event.specs.EventTable.{EventTable, IsNotifierAnswer, changed, event_at, listen_answer, listened, names_of, notifier_of, with_notifier}
+use Rattle.board_names.specs.declared.errors.event.ListenerCreateError.{ListenerCreateError}
+use Rattle.board_names.specs.declared.errors.event.ListenerCreateError.TheVariants as listener_error
+use Rattle.board_names.specs.declared.errors.event.NotifierCreateError.{NotifierCreateError}
+use Rattle.board_names.specs.declared.errors.event.NotifierCreateError.TheVariants as notifier_error
+use Rattle.script_model.specs.ScriptEvents.{EventThing, ScriptEvents, listener, notifier, to_listen, to_notify, with_listener, with_name}
+use Rattle.script_model.specs.ScriptEvents as script
+use Rattle.script_model.specs.SoundEvents.{AreSoundEvents}
+use Rattle.script_model.specs.declared.reply.EventReply.TheVariants as reply
+use Rattle.script_events.specs.declared.rows.EventRow.{EventRow}
+use Rattle.script_events.specs.declared.rows.Role.TheVariants as role
+use Rattle.script_events.specs.Calls.{AnswersAsk, HasFewNotifiers, IsAsked}
+use Rattle.script_events.specs.PartyEvents.{Holds, listener_rows, listeners_in, listens_on, notifier_rows, notifiers_in, notifies_on, thing_of, where_held}
+use Rattle.script_events.proofs.Lists.{either}
+use Rattle.script_events.proofs.TableCalls.{HasNames, IsChange, IsListened, change, listening}
+use Rattle.script_events.proofs.Holding.{count_more, event_of-none, event_of-some, one_if, other_change, own_change, things_more}
+
+-- ---- a new event
+
+event_of-listen : (s : EventSession) (p : List ℕ) (k : EventKind) (name : List ℕ) (max q : ℕ) → event_of (next_session s (listen p k name max)).stands q ≡ (if q == s.count + 1 then Some (new_event k name max) else event_of s.stands q)
+event_of-listen s p k name max q = elim (either (q == s.count + 1)) [
+  | inl f ↦ rw (f, event_of) refl
+  | inr f ↦ rw (f, event_of) refl
+]
+
+module _ (t u : EventTable) (rows : List EventRow) (x : ScriptEvents) (count : ℕ) (sound : AreSoundEvents x count) (holds : Holds t rows x) (party name : List ℕ) (k : EventKind) (event : List ℕ) (max : ℕ)
+    (unheld : x.names k event ≡ None) (fresh : x.things party name ≡ None) (is : u ≡ listened t k event max) where
+  free : (o : Option StandingEvent) → x.session.stands (x.session.count + 1) ≡ o → x.session.stands (x.session.count + 1) ≡ None
+  free None e = e
+  free (Some st) e = absurd (let low = sound.numbered (x.session.count + 1) st e in omega arith)
+
+  no_event : event_of x.session.stands (x.session.count + 1) ≡ None
+  no_event = event_of-none x.session.stands (x.session.count + 1) (free (x.session.stands (x.session.count + 1)) refl)
+
+  new_table : IsListened t u k event max
+  new_table = subst (λ (v : EventTable). IsListened t v k event max) (sym is)
+      (listening t k event max holds.once (holds.events (t.drawn + 1) ∙ ap (λ (m : ℕ). where_held (event_of x.session.stands (m + 1))) holds.drawn ∙ ap where_held no_event) (holds.names k event ∙ unheld))
+
+  abbrev row : ℕ → EventRow
+  row n = record { party = party; name = name; role = role.Listener; event = n }
+
+  abbrev after : ScriptEvents
+  after = with_listener x party name k event max
+
+  events : (q : ℕ) → event_at u q ≡ where_held (event_of after.session.stands q)
+  events q =
+      let new : event_at u q ≡ (if q == x.session.count + 1 then Some (new_event k event max) else event_at t q) = new_table.events q ∙ ap (λ (m : ℕ). if q == m + 1 then Some (new_event k event max) else event_at t q) holds.drawn in
+      new ∙ elim (either (q == x.session.count + 1)) as (λ _. (if q == x.session.count + 1 then Some (new_event k event max) else event_at t q) ≡ where_held (event_of after.session.stands q)) [
+        | inl f ↦ rw (event_of-listen x.session party k event max q) (rw f refl)
+        | inr f ↦ rw (event_of-listen x.session party k event max q) (rw f (holds.events q))
+      ]
+
+  listeners : (q : ℕ) → listener_rows q (rows ++ row (x.session.count + 1) ∷ []) ≡ listeners_in (event_of after.session.stands q)
+  listeners q = count_more (λ (r : EventRow). listens_on q (thing_of r)) rows (row (x.session.count + 1)) ∙ ap (λ (m : ℕ). m + one_if (q == x.session.count + 1)) (holds.listeners q) ∙ elim (either (q == x.session.count + 1)) as (λ _. listeners_in (event_of x.session.stands q) + one_if (q == x.session.count + 1) ≡ listeners_in (event_of after.session.stands q)) [
+    | inl f ↦ rw (event_of-listen x.session party k event max q) (rw (f, eqb_true q (x.session.count + 1) f, no_event) refl)
+    | inr f ↦ rw (event_of-listen x.session party k event max q) (rw f (omega arith))
+  ]
+
+  notifiers : (q : ℕ) → notifier_rows q (rows ++ row (x.session.count + 1) ∷ []) ≡ notifiers_in (event_of after.session.stands q)
+  notifiers q = count_more (λ (r : EventRow). notifies_on q (thing_of r)) rows (row (x.session.count + 1)) ∙ ap (λ (m : ℕ). m + 0) (holds.notifiers q) ∙ elim (either (q == x.session.count + 1)) as (λ _. notifiers_in (event_of x.session.stands q) + 0 ≡ notifiers_in (event_of after.session.stands q)) [
+    | inl f ↦ rw (event_of-listen x.session party k event max q) (rw (f, eqb_true q (x.session.count + 1) f, no_event) refl)
+    | inr f ↦ rw (event_of-listen x.session party k event max q) (rw f (omega arith))
+  ]
+
+  -- a listener more
+  pub listener_more : (n : ℕ) → n ≡ t.drawn + 1 → Holds u (rows ++ row n ∷ []) after
+  listener_more n number = subst (λ (m : ℕ). Holds u (rows ++ row m ∷ []) after) (sym (number ∙ ap (λ (m : ℕ). m + 1) holds.drawn)) (record {
+    once = new_table.once;
+    events = events;
+    drawn = new_table.drawn ∙ ap (λ (m : ℕ). m + 1) holds.drawn;
+    names = subst (λ (m : ℕ). HasNames u (with_name x.names k event (Some (m + 1)))) holds.drawn (new_table.names x.names holds.names);
+    things = things_more party name rows x.things holds.things fresh (row (x.session.count + 1)) refl refl;
+    listeners = listeners;
+    notifiers = notifiers;
+  })
+
+-- ---- a notifier more
+
+module _ (t u : EventTable) (rows : List EventRow) (x : ScriptEvents) (holds : Holds t rows x) (party name : List ℕ) (n : ℕ) (e : Event)
+    (stands : event_of x.session.stands n ≡ Some e) (held : e.held ≡ true) (fresh : x.things party name ≡ None) (is : u ≡ changed t n with_notifier) where
+  more_table : IsChange t u n (with_notifier e)
+  more_table = change t u n e with_notifier holds.once (holds.events n ∙ ap where_held stands ∙ rw held refl) is
+
+  abbrev more_row : EventRow
+  more_row = record { party = party; name = name; role = role.Notifier; event = n }
+
+  abbrev with_more : ScriptEvents
+  with_more = script.with_notifier x party name n e
+
+  abbrev more : Event → Event
+  more d = record d { notifiers = e.notifiers + 1 }
+
+  own : (q : ℕ) → (q == n) ≡ true → event_of with_more.session.stands q ≡ Some (more e)
+  own q f = own_change x.session.stands n more e stands q f
+
+  other : (q : ℕ) → (q == n) ≡ false → event_of with_more.session.stands q ≡ event_of x.session.stands q
+  other q f = other_change x.session.stands n more q f
+
+  own_was : (q : ℕ) → (q == n) ≡ true → event_of x.session.stands q ≡ Some e
+  own_was q f = ap (event_of x.session.stands) (eqb_true q n f) ∙ stands
+
+  more_listeners : (q : ℕ) → listeners_in (event_of x.session.stands q) + 0 ≡ listeners_in (event_of with_more.session.stands q)
+  more_listeners q = elim (either (q == n)) [
+    | inl f ↦ (let a : listeners_in (event_of x.session.stands q) ≡ 1 = ap listeners_in (own_was q f) ∙ rw held refl in
+        let b : listeners_in (event_of with_more.session.stands q) ≡ 1 = ap listeners_in (own q f) ∙ rw held refl in omega (arith, a, b))
+    | inr f ↦ (let a : listeners_in (event_of with_more.session.stands q) ≡ listeners_in (event_of x.session.stands q) = ap listeners_in (other q f) in omega (arith, a))
+  ]
+
+  more_notifiers : (q : ℕ) → notifiers_in (event_of x.session.stands q) + one_if (q == n) ≡ notifiers_in (event_of with_more.session.stands q)
+  more_notifiers q = elim (either (q == n)) [
+    | inl f ↦ (let a : notifiers_in (event_of x.session.stands q) ≡ e.notifiers = ap notifiers_in (own_was q f) in
+        let b : notifiers_in (event_of with_more.session.stands q) ≡ e.notifiers + 1 = ap notifiers_in (own q f) in rw f (omega (arith, a, b)))
+    | inr f ↦ (let a : notifiers_in (event_of with_more.session.stands q) ≡ notifiers_in (event_of x.session.stands q) = ap notifiers_in (other q f) in rw f (omega (arith, a)))
+  ]
+
+  pub notifier_more : Holds u (rows ++ more_row ∷ []) with_more
+  notifier_more = record {
+    once = more_table.once;
+    events = λ q. more_table.events q ∙ elim (either (q == n)) as (λ _. (if q == n then Some (with_notifier e) else event_at t q) ≡ where_held (event_of with_more.session.stands q)) [
+      | inl f ↦ rw (f, own q f, held) refl
+      | inr f ↦ rw (f, other q f) (holds.events q)
+    ];
+    drawn = more_table.drawn ∙ holds.drawn;
+    names = λ k text. ap (λ (names : List (List ℕ × ℕ)). at names text) (more_table.names k) ∙ holds.names k text;
+    things = things_more party name rows x.things holds.things fresh more_row refl refl;
+    listeners = λ q. count_more (λ (r : EventRow). listens_on q (thing_of r)) rows more_row ∙ ap (λ (m : ℕ). m + 0) (holds.listeners q) ∙ more_listeners q;
+    notifiers = λ q. count_more (λ (r : EventRow). notifies_on q (thing_of r)) rows more_row ∙ ap (λ (m : ℕ). m + one_if (q == n)) (holds.notifiers q) ∙ more_notifiers q;
+  }
+
+-- ---- what the table answers
+
+abbrev no_listener : ListenerCreateError → Result ℕ ListenerCreateError
+no_listener e = Err e
+
+abbrev no_notifier : NotifierCreateError → Result ℕ NotifierCreateError
+no_notifier e = Err e
+
+-- a listen's number
+pub listen_drawn : (t : EventTable) (n : ℕ) (o : Option ℕ) → Ok n ≡ listen_answer t o → (o ≡ None) × (n ≡ t.drawn + 1)
+listen_drawn t n (Some m) e = absurd cc
+listen_drawn t n None e = elim (either (nat_lt t.drawn (2 ^ 64 - 2))) [
+  | inl f ↦ (refl, (let h : Ok n ≡ Ok (t.drawn + 1) = (rw f at e) in cc))
+  | inr f ↦ absurd (let h : Ok n ≡ Err listener_error.NumbersSpent = (rw f at e) in cc)
+]
+
+-- a notifier's event has its listener, and the number is that of the name
+pub notifier_numbered : (n m : ℕ) (e : Event) → Ok n ≡ notifier_of m e → (e.held ≡ true) × (n ≡ m)
+notifier_numbered n m e h = elim (either e.held) [
+  | inr f ↦ absurd (let g : Ok n ≡ Err notifier_error.DoesNotExist = (rw f at h) in cc)
+  | inl f ↦ elim (either (nat_lt e.notifiers (2 ^ 64 - 2))) [
+    | inl g ↦ (f, (let k : Ok n ≡ Ok m = (rw (f, g) at h) in cc))
+    | inr g ↦ absurd (let k : Ok n ≡ Err notifier_error.NumbersSpent = (rw (f, g) at h) in cc)
+  ]
+]
+
+pub listen_done : (t u : EventTable) (rows rows' : List EventRow) (party name : List ℕ) (k : EventKind) (event : List ℕ) (max n : ℕ) → Ok n ≡ listen_answer t (at (names_of k t) event) → u ≡ listened t k event max
+    → rows' ≡ rows ++ record { party = party; name = name; role = role.Listener; event = n } ∷ [] → AnswersAsk t rows u rows' party (to_listen name k event max) reply.Done
+listen_done t u rows rows' party name k event max n answer is more x count sound asked holds =
+    let drawn = listen_drawn t n (at (names_of k t) event) answer in
+    let unheld : x.names k event ≡ None = sym (holds.names k event) ∙ drawn.0 in
+    let fresh = sound.unheld party (to_listen name k event max) asked in
+    let after : Holds u rows' (with_listener x party name k event max) = rw more (listener_more t u rows x count sound holds party name k event max unheld fresh is n drawn.1) in
+    record {
+      told_is = rw unheld refl;
+      held = rw unheld after;
+    }
+
+pub listen_refused : (t u : EventTable) (rows rows' : List EventRow) (party name : List ℕ) (k : EventKind) (event : List ℕ) (max : ℕ) → no_listener listener_error.AlreadyExists ≡ listen_answer t (at (names_of k t) event) → u ≡ t → rows' ≡ rows
+    → AnswersAsk t rows u rows' party (to_listen name k event max) reply.AlreadyExists
+listen_refused t u rows rows' party name k event max answer is same x count sound asked holds = by (at (names_of k t) event) refl answer
+  where
+    by : (o : Option ℕ) → at (names_of k t) event ≡ o → no_listener listener_error.AlreadyExists ≡ listen_answer t o → IsAsked u rows' x party (to_listen name k event max) reply.AlreadyExists
+    by None e h = absurd (elim (either (nat_lt t.drawn (2 ^ 64 - 2))) [
+      | inl f ↦ (let g : no_listener listener_error.AlreadyExists ≡ Ok (t.drawn + 1) = (rw f at h) in cc)
+      | inr f ↦ (let g : no_listener listener_error.AlreadyExists ≡ Err listener_error.NumbersSpent = (rw f at h) in cc)
+    ])
+    by (Some m) e h =
+        let held : x.names k event ≡ Some m = sym (holds.names k event) ∙ e in
+        let after : Holds u rows' x = rw (is, same) holds in
+        record { told_is = rw held refl; held = rw held after }
+
+-- what stands under the name of a script's events
+named_event : (t : EventTable) (rows : List EventRow) (x : ScriptEvents) → Holds t rows x → (n : ℕ) (e : Event) → event_at t n ≡ Some e → event_of x.session.stands n ≡ Some e
+named_event t rows x holds n e found = by (event_of x.session.stands n) refl (sym (holds.events n) ∙ found)
+  where
+    by : (o : Option Event) → event_of x.session.stands n ≡ o → where_held o ≡ Some e → event_of x.session.stands n ≡ Some e
+    by None f h = absurd cc
+    by (Some d) f h = elim (either (is_held d)) [
+      | inl g ↦ f ∙ (rw g at h)
+      | inr g ↦ absurd (let none : None ≡ Some e = (rw g at h) in cc)
+    ]
+
+-- and no event has more notifiers than lines
+pub few_notifiers : (t : EventTable) (rows : List EventRow) (x : ScriptEvents) (count : ℕ) → count < 2 ^ 63 → AreSoundEvents x count → Holds t rows x → HasFewNotifiers t
+few_notifiers t rows x count few sound holds n e found = by (x.session.stands n) refl (named_event t rows x holds n e found)
+  where
+    by : (o : Option StandingEvent) → x.session.stands n ≡ o → event_of x.session.stands n ≡ Some e → e.notifiers < 2 ^ 63
+    by None f h = absurd (let none : None ≡ Some e = sym (event_of-none x.session.stands n f) ∙ h in cc)
+    by (Some st) f h = (let same : st.event ≡ e = some_same st.event e (sym (event_of-some x.session.stands n st f) ∙ h) in
+        let low : st.event.notifiers ≤ count = (sound.formed n st f).notifiers in
+        let is : st.event.notifiers ≡ e.notifiers = ap (λ (d : Event). d.notifiers) same in
+        omega (arith, low, few, is))
+
+pub notifier_done : (t u : EventTable) (rows rows' : List EventRow) (party name : List ℕ) (k : EventKind) (event : List ℕ) (n : ℕ) → IsNotifierAnswer t (Ok n) (at (names_of k t) event) → u ≡ changed t n with_notifier
+    → rows' ≡ rows ++ record { party = party; name = name; role = role.Notifier; event = n } ∷ [] → AnswersAsk t rows u rows' party (to_notify name k event) reply.Done
+notifier_done t u rows rows' party name k event n answer is more x count sound asked holds = by (at (names_of k t) event) refl answer
+  where
+    fresh : x.things party name ≡ None
+    fresh = sound.unheld party (to_notify name k event) asked
+
+    there : (m : ℕ) → at (names_of k t) event ≡ Some m → (o : Option Event) → event_at t m ≡ o → IsSomeAnd o (λ e. Ok n ≡ notifier_of m e) → IsAsked u rows' x party (to_notify name k event) reply.Done
+    there m f None g h = absurd h
+    there m f (Some e) g h =
+        let found = notifier_numbered n m e h in
+        let stands : event_of x.session.stands n ≡ Some e = rw found.1 (named_event t rows x holds m e g) in
+        let named : x.names k event ≡ Some n = sym (holds.names k event) ∙ f ∙ ap (λ (i : ℕ). Some i) (sym found.1) in
+        let after : Holds u rows' (script.with_notifier x party name n e) = rw more (notifier_more t u rows x holds party name n e stands found.0 fresh is) in
+        record { told_is = rw (named, stands, found.0) refl; held = rw (named, stands, found.0) after }
+
+    by : (o : Option ℕ) → at (names_of k t) event ≡ o → IsNotifierAnswer t (Ok n) o → IsAsked u rows' x party (to_notify name k event) reply.Done
+    by None f h = absurd cc
+    by (Some m) f h = there m f (event_at t m) refl h
+
+-- a refusal that is told
+refused_by : (m : ℕ) (e : Event) → no_notifier notifier_error.DoesNotExist ≡ notifier_of m e → e.held ≡ false
+refused_by m e h = elim (either e.held) [
+  | inr f ↦ f
+  | inl f ↦ absurd (elim (either (nat_lt e.notifiers (2 ^ 64 - 2))) [
+    | inl g ↦ (let k : no_notifier notifier_error.DoesNotExist ≡ Ok m = (rw (f, g) at h) in cc)
+    | inr g ↦ (let k : no_notifier notifier_error.DoesNotExist ≡ Err notifier_error.NumbersSpent = (rw (f, g) at h) in cc)
+  ])
+]
+
+pub notifier_refused : (t u : EventTable) (rows rows' : List EventRow) (party name : List ℕ) (k : EventKind) (event : List ℕ) → IsNotifierAnswer t (Err notifier_error.DoesNotExist) (at (names_of k t) event) → u ≡ t → rows' ≡ rows
+    → AnswersAsk t rows u rows' party (to_notify name k event) reply.DoesNotExist
+notifier_refused t u rows rows' party name k event answer is same x count sound asked holds = by (at (names_of k t) event) refl answer
+  where
+    after : Holds u rows' x
+    after = rw (is, same) holds
+
+    there : (m : ℕ) → at (names_of k t) event ≡ Some m → (o : Option Event) → event_at t m ≡ o → IsSomeAnd o (λ e. no_notifier notifier_error.DoesNotExist ≡ notifier_of m e) → IsAsked u rows' x party (to_notify name k event) reply.DoesNotExist
+    there m f None g h = absurd h
+    there m f (Some e) g h =
+        let held = refused_by m e h in
+        let stands : event_of x.session.stands m ≡ Some e = named_event t rows x holds m e g in
+        let named : x.names k event ≡ Some m = sym (holds.names k event) ∙ f in
+        record { told_is = rw (named, stands, held) refl; held = rw (named, stands, held) after }
+
+    by : (o : Option ℕ) → at (names_of k t) event ≡ o → IsNotifierAnswer t (Err notifier_error.DoesNotExist) o → IsAsked u rows' x party (to_notify name k event) reply.DoesNotExist
+    by None f h =
+        let named : x.names k event ≡ None = sym (holds.names k event) ∙ f in
+        record { told_is = rw named refl; held = rw named after }
+    by (Some m) f h = there m f (event_at t m) refl h
+
+-- the numbers aren't spent
+pub not_spent : (t : EventTable) (o : Option ℕ) → t.drawn < 2 ^ 63 → (e : ListenerCreateError) → no_listener e ≡ listen_answer t o → e ≡ listener_error.AlreadyExists
+not_spent t (Some m) few e h = cc
+not_spent t None few e h = elim (either (nat_lt t.drawn (2 ^ 64 - 2))) [
+  | inl f ↦ absurd (let g : no_listener e ≡ Ok (t.drawn + 1) = (rw f at h) in cc)
+  | inr f ↦ absurd (grind arith)
+]
+
+pub notifiers_not_spent : (t : EventTable) (o : Option ℕ) → HasFewNotifiers t → (e : NotifierCreateError) → IsNotifierAnswer t (Err e) o → e ≡ notifier_error.DoesNotExist
+notifiers_not_spent t None few e h = cc
+notifiers_not_spent t (Some m) few e h = by (event_at t m) refl h
+  where
+    by : (o : Option Event) → event_at t m ≡ o → IsSomeAnd o (λ d. no_notifier e ≡ notifier_of m d) → e ≡ notifier_error.DoesNotExist
+    by None f g = absurd g
+    by (Some d) f g = elim (either d.held) [
+      | inr i ↦ (let k : no_notifier e ≡ Err notifier_error.DoesNotExist = (rw i at g) in cc)
+      | inl i ↦ elim (either (nat_lt d.notifiers (2 ^ 64 - 2))) [
+        | inl j ↦ absurd (let k : no_notifier e ≡ Ok m = (rw (i, j) at g) in cc)
+        | inr j ↦ absurd (let low = few m d f in grind arith)
+      ]
+    ]

@@ -1,0 +1,12 @@
+use Rattle.std.proofs.Common.{rules}
+use Rattle.std.specs.Prelude.{Ok}
+use Rattle.board_store.specs.Table.{at}
+use Rattle.board_event.specs.EventTable.{IsNotifierAnswer, names_of}
+use Rattle.script_events.proofs.Asks.{notifier_done}
+use Rattle.script_events.proofs.asking.add_notifier.Goals as goal
+
+pub returns-in-Ok : goal.returns-in-Ok
+returns-in-Ok c =
+    let t = c.args.events.now in
+    let answer : IsNotifierAnswer t (Ok c.in-Ok.number) (at (names_of c.args.kind t) c.args.event.now) = rw c.full_name.ensures at c.in-Ok.ensures.answer in
+    notifier_done t c.notifier.new.self c.args.things.now.items c.push_reserved.new.self.items c.args.party c.args.name c.args.kind c.args.event.now c.in-Ok.number answer c.in-Ok.ensures.ok (search rules)

@@ -1,0 +1,27 @@
+use Rattle.std.proofs.Common.{◌≡◌, ◌∙◌, Bool, Some, ap, refl, rules, subst, sym, true}
+use Rattle.board_event_model.specs.EventCalls.{is_last}
+use Rattle.script_model.specs.declared.reply.EventReply.{EventReply}
+use Rattle.script_model.specs.ScriptEvents.{end_told, is_for_all}
+use Rattle.script_events.specs.declared.step.Stepped.TheVariants as stepped
+use Rattle.script_events.specs.Calls.{StartsWord}
+use Rattle.script_events.specs.PartyEvents.{event_call}
+use Rattle.script_events.proofs.Running.{same_many, turn_words}
+use Rattle.script_events.proofs.party_events.PartyEvents.go_on.Goals as goal
+
+pub tell-requires : goal.tell-requires
+tell-requires c = subst StartsWord (sym c.step-step.ensures.progress) (turn_words (event_call c.args.act.call) c.step-step.result.answer)
+
+pub returns-then-is_last : goal.returns-then-is_last
+returns-then-is_last c =
+    let p = c.step-step.result.progress in
+    let last : is_last p ≡ true = search rules in
+    let many : c.is_for_all.result ≡ is_for_all (event_call c.args.act.call) = c.is_for_all.ensures ∙ ap is_for_all c.step-step.ensures.goes_on ∙ same_many (event_call c.args.act.call) c.step-step.result.answer in
+    let told : c.end_told-told.result ≡ end_told (is_for_all (event_call c.args.act.call)) c.args.act.told.items p = c.end_told-told.ensures c.args.act.told.items c.in_ok-tell.ensures ∙ ap (λ (b : Bool). end_told b c.args.act.told.items p) many in
+    record {
+      step = c.step-step.result;
+      next = event_call c.step-step.new.self;
+      made = c.step-step.ensures;
+      things = refl;
+      told_is = rw last (ap (λ (r : EventReply). stepped.Acted c.args.act.event c.step-step.result.access c.step-step.result.answer (Some r)) told);
+      rows = rw last refl;
+    }

@@ -1,0 +1,74 @@
+use Rattle.std.proofs.Common.{◌≡◌, refl, rules, sym, subst}
+use Rattle.std.specs.List.{filter}
+use Rattle.script_model.specs.ScriptEvents.{to_listen, to_notify}
+use Rattle.script_events.specs.declared.party_events.PartyEvents.{PartyEvents}
+use Rattle.script_events.specs.declared.rows.CallTask.{CallTask}
+use Rattle.script_events.specs.declared.rows.CallTask.TheVariants as task
+use Rattle.script_events.specs.Calls.{IsWentOn}
+use Rattle.script_events.specs.PartyEvents.{IsAskedBy, IsStepped, OfEach, is_call_of}
+use Rattle.script_events.proofs.Asks.{few_notifiers}
+use Rattle.script_events.proofs.Steps.{act_can, act_goes_on, act_stepped, ask_stepped, if_ok, one_row, own_row}
+use Rattle.script_events.proofs.party_events.PartyEvents.step.Goals as goal
+
+pub take_call-party-requires : goal.take_call-party-requires
+take_call-party-requires c =
+    let m = c.args.self.now in
+    let party = c.args.party.now in
+    let led = c.requires.led in
+    one_row (filter (is_call_of party) m.calls.items) (led.state.asked party) (led.state.session.doing party) (led.represents.calls party) (c.requires.runs led.state led.count led.few led.sound led.represents)
+
+pub add_notifier-requires : goal.add_notifier-requires
+add_notifier-requires c =
+    let m = c.args.self.now in
+    let led = c.requires.led in
+    record { few = few_notifiers m.events m.things.items led.state led.count led.few led.sound led.represents.held }
+
+pub go_on-requires-clause-goes_on : goal.go_on-requires-clause-goes_on
+go_on-requires-clause-goes_on c =
+    let m = c.args.self.now in
+    let party = c.args.party.now in
+    let led = c.requires.led in
+    let row = c.take_call-party.result in
+    let is : row.task ≡ task.Act c.in-Act.act = search rules in
+    act_goes_on m led.state led.count led.few led.sound led.represents party row c.take_call-party.ensures.one c.in-Act.act is
+
+pub go_on-requires-clause-can : goal.go_on-requires-clause-can
+go_on-requires-clause-can c =
+    let m = c.args.self.now in
+    let party = c.args.party.now in
+    let led = c.requires.led in
+    let row = c.take_call-party.result in
+    let is : row.task ≡ task.Act c.in-Act.act = search rules in
+    act_can m led.state led.count led.few led.sound led.represents party row c.take_call-party.ensures.one c.in-Act.act is
+
+pub returns-in_ok-reply-in-Listen : goal.returns-in_ok-reply-in-Listen
+returns-in_ok-reply-in-Listen c =
+    let m = c.args.self.now in
+    let party = c.args.party.now in
+    let row = c.take_call-party.result in
+    let q = to_listen c.in-Listen.name c.in-Listen.kind c.in-Listen.event c.in-Listen.max in
+    let is : row.task ≡ task.Listen c.in-Listen.name c.in-Listen.kind c.in-Listen.event c.in-Listen.max = search rules in
+    λ x count few sound rep.
+    ask_stepped m _ x count sound rep party row c.take_call-party.ensures.one q (subst (λ (t : CallTask). IsAskedBy t q) (sym is) refl) c.in_ok-reply-in-Listen.reply c.in_ok-reply-in-Listen.ensures c.take_call-party.ensures.left
+
+pub returns-in_ok-reply-in-Notifier : goal.returns-in_ok-reply-in-Notifier
+returns-in_ok-reply-in-Notifier c =
+    let m = c.args.self.now in
+    let party = c.args.party.now in
+    let row = c.take_call-party.result in
+    let q = to_notify c.in-Notifier.name c.in-Notifier.kind c.in-Notifier.event in
+    let is : row.task ≡ task.Notifier c.in-Notifier.name c.in-Notifier.kind c.in-Notifier.event = search rules in
+    λ x count few sound rep.
+    ask_stepped m _ x count sound rep party row c.take_call-party.ensures.one q (subst (λ (t : CallTask). IsAskedBy t q) (sym is) refl) c.in_ok-reply-in-Notifier.reply c.in_ok-reply-in-Notifier.ensures c.take_call-party.ensures.left
+
+pub returns-in-Act : goal.returns-in-Act
+returns-in-Act c =
+    let m = c.args.self.now in
+    let party = c.args.party.now in
+    let row = c.take_call-party.result in
+    let is : row.task ≡ task.Act c.in-Act.act = search rules in
+    let mid : PartyEvents = record m { calls = c.take_call-party.new.calls } in
+    let own : row.party ≡ party = own_row party m.calls.items row c.take_call-party.ensures.one in
+    if_ok c.go_on.result (IsWentOn mid c.go_on.new.self row.party c.in-Act.act) (λ told. OfEach m (λ x. IsStepped c.go_on.new.self x party told))
+    (λ told went x count few sound rep. act_stepped m mid c.go_on.new.self x count few sound rep party row c.take_call-party.ensures.one c.in-Act.act is refl refl c.take_call-party.ensures.left told (subst (λ p. IsWentOn mid c.go_on.new.self p c.in-Act.act told) own went))
+    c.go_on.ensures

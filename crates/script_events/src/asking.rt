@@ -1,0 +1,78 @@
+//! Listeners and notifiers are asked for.
+ghost use Rattle.std.specs.Prelude.{◌≡◌, ◌<◌, ◌^◌, IfOk};
+ghost use Rattle.script_model.specs.ScriptEvents.{to_listen, to_notify};
+ghost use Rattle.script_events.specs.Calls.{AnswersAsk, HasFewNotifiers};
+
+use crate::rows::{EventRow, Role};
+use board_event::{Events, ListenerCreateError, NotifierCreateError};
+use board_event_model::EventKind;
+use board_layout::Text;
+use board_model::Name;
+use board_names::FilePath;
+use script_model::{EventName, EventReply};
+use std::alloc::AllocError;
+
+/// The full name of an event.
+fn full_name(event: &EventName) -> FilePath
+    ensures { result ≡ event.now }
+{
+    FilePath::from_text(Text::of(event.as_text().as_bytes()))
+}
+
+/// Makes an event with its listener, where its name is free.
+pub(crate) fn listen(
+    events: &mut Events,
+    things: &mut Vec<EventRow>,
+    party: Name,
+    name: Name,
+    kind: EventKind,
+    event: &EventName,
+    max: u64,
+) -> Result<EventReply, AllocError>
+    requires few { events.old.drawn < 2 ^ 63 }
+    ensures { IfOk result (AnswersAsk events.old things.old.items events.new things.new.items party (to_listen name kind event.now max)) }
+{
+    things.reserve(1)?;
+    match events.listen(kind, &full_name(event), max) {
+        Ok(number) => {
+            things.push_reserved(EventRow {
+                party,
+                name,
+                role: Role::Listener,
+                event: number,
+            });
+            Ok(EventReply::Done)
+        }
+        Err(ListenerCreateError::AlreadyExists) => Ok(EventReply::AlreadyExists),
+        Err(ListenerCreateError::OutOfMemory) => Err(AllocError),
+        Err(_) => unreachable!(),
+    }
+}
+
+/// Makes a notifier of an event that has its listener.
+pub(crate) fn add_notifier(
+    events: &mut Events,
+    things: &mut Vec<EventRow>,
+    party: Name,
+    name: Name,
+    kind: EventKind,
+    event: &EventName,
+) -> Result<EventReply, AllocError>
+    requires few { HasFewNotifiers events.old }
+    ensures { IfOk result (AnswersAsk events.old things.old.items events.new things.new.items party (to_notify name kind event.now)) }
+{
+    things.reserve(1)?;
+    match events.notifier(kind, &full_name(event)) {
+        Ok(number) => {
+            things.push_reserved(EventRow {
+                party,
+                name,
+                role: Role::Notifier,
+                event: number,
+            });
+            Ok(EventReply::Done)
+        }
+        Err(NotifierCreateError::DoesNotExist) => Ok(EventReply::DoesNotExist),
+        Err(_) => unreachable!(),
+    }
+}

@@ -1,0 +1,68 @@
+//! The events of a script, as its parties see them.
+ghost use Rattle.std.specs.Prelude.{◌≡◌, true, IsSome, IsSomeAnd};
+ghost use Rattle.board_event.specs.EventTable.{event_at};
+ghost use Rattle.script_model.specs.ScriptEvents.{holds_event, no_events, runs_on_events};
+ghost use Rattle.script_events.specs.PartyEvents.{OfEach, Represents};
+
+use crate::lookups::{place_of_call, place_of_thing};
+use crate::rows::{CallRow, EventRow};
+use board_event::Events;
+use board_event_model::EventKind;
+use board_model::Name;
+use board_names::FilePath;
+use std::alloc::Global;
+
+/// Events, the listeners and notifiers that parties hold of them, and the calls that run.
+#[derive(Drop)]
+pub struct PartyEvents {
+    pub(crate) alloc: Global,
+    pub(crate) events: Events,
+    /// What parties hold, each under a name of its own.
+    pub(crate) things: Vec<EventRow>,
+    /// The parties that run a call on events, each once.
+    pub(crate) calls: Vec<CallRow>,
+}
+
+impl PartyEvents {
+    /// No events. Takes no memory.
+    pub fn new(alloc: Global) -> PartyEvents
+        ensures { Represents result no_events }
+    {
+        PartyEvents {
+            alloc,
+            events: Events::new(alloc),
+            things: Vec::new(alloc),
+            calls: Vec::new(alloc),
+        }
+    }
+
+    /// Whether a call of the party runs on events.
+    pub fn runs(&self, party: &Name) -> bool
+        ensures { OfEach self.now (λ x. result ≡ runs_on_events x party.now) }
+    {
+        place_of_call(party, &self.calls).is_some()
+    }
+
+    /// Whether the party holds a listener or a notifier under the name.
+    pub fn holds(&self, party: &Name, name: &Name) -> bool
+        ensures { OfEach self.now (λ x. result ≡ holds_event x party.now name.now) }
+    {
+        place_of_thing(party, name, &self.things).is_some()
+    }
+
+    /// The kind of an event.
+    pub fn kind_of(&self, event: u64) -> EventKind
+        requires { IsSome (event_at self.now.events event) }
+        ensures { IsSomeAnd (event_at self.now.events event) (λ e. result ≡ e.kind) }
+    {
+        self.events.kind_of(event)
+    }
+
+    /// The name of an event.
+    pub fn name_of(&self, event: u64) -> &FilePath
+        requires { IsSome (event_at self.now.events event) }
+        ensures { IsSomeAnd (event_at self.now.events event) (λ e. result.now ≡ e.name) }
+    {
+        self.events.full_name_of(event)
+    }
+}

@@ -1,0 +1,108 @@
+//! Steps of calls on events.
+ghost use Rattle.std.specs.Prelude.{◌≡◌, true, IfOk, IsSomeAnd};
+ghost use Rattle.board_event_model.specs.EventCalls.{owed};
+ghost use Rattle.board_event_model.specs.EventMemory.{CanPerform};
+ghost use Rattle.board_event.specs.EventTable.{event_at};
+ghost use Rattle.script_model.specs.ScriptEvents.{runs_on_events};
+ghost use Rattle.script_events.specs.Calls.{GoesOn, IsWentOn};
+ghost use Rattle.script_events.specs.PartyEvents.{IsLed, IsStepped, OfEach, event_call};
+
+use crate::asking::{add_notifier, listen};
+use crate::calls::{end_told, is_last, is_waiting, tell};
+use crate::lookups::take_call;
+use crate::party_events::PartyEvents;
+use crate::rows::{Act, CallRow, CallTask};
+use board_event_model::{EventAccess, EventAnswer};
+use board_model::Name;
+use script_model::EventReply;
+use std::alloc::AllocError;
+
+/// What a step was told.
+#[derive(Drop, Debug)]
+pub enum Stepped {
+    /// A listener or a notifier was asked for.
+    Asked(EventReply),
+    /// A call made an access to its event, and maybe ended.
+    Acted {
+        event: u64,
+        access: EventAccess,
+        answer: EventAnswer,
+        told: Option<EventReply>,
+    },
+}
+
+impl PartyEvents {
+    /// The call that a party runs on events makes its step.
+    ///
+    /// # Errors
+    /// `AllocError` where memory is refused.
+    pub fn step(&mut self, party: &Name) -> Result<Stepped, AllocError>
+        requires led { IsLed self.old }
+        requires runs { OfEach self.old (λ x. runs_on_events x party.now ≡ true) }
+        ensures { IfOk result (λ told. OfEach self.old (λ x. IsStepped self.new x party.now told)) }
+    {
+        let CallRow { party, task } = take_call(party, &mut self.calls);
+        match task {
+            CallTask::Listen {
+                name,
+                kind,
+                event,
+                max,
+            } => {
+                let reply = listen(
+                    &mut self.events,
+                    &mut self.things,
+                    party,
+                    name,
+                    kind,
+                    &event,
+                    max,
+                )?;
+                Ok(Stepped::Asked(reply))
+            }
+            CallTask::Notifier { name, kind, event } => {
+                let reply = add_notifier(
+                    &mut self.events,
+                    &mut self.things,
+                    party,
+                    name,
+                    kind,
+                    &event,
+                )?;
+                Ok(Stepped::Asked(reply))
+            }
+            CallTask::Act(act) => self.go_on(party, act),
+        }
+    }
+
+    /// A call makes the access that it owes, and stands among the calls again unless that was its last.
+    fn go_on(&mut self, party: Name, mut act: Act) -> Result<Stepped, AllocError>
+        requires goes_on { GoesOn (event_call act.call) }
+        requires can { IsSomeAnd (event_at self.old.events act.event) (λ e. CanPerform e (owed (event_call act.call))) }
+        ensures { IfOk result (IsWentOn self.old self.new party act) }
+    {
+        let event = act.event;
+        let step = act.call.step(&mut self.events, event);
+        tell(step.progress, &mut act.told)?;
+        if is_last(step.progress) {
+            let told = end_told(act.call.is_for_all(), step.progress, act.told);
+            return Ok(Stepped::Acted {
+                event,
+                access: step.access,
+                answer: step.answer,
+                told: Some(told),
+            });
+        }
+        act.waited = is_waiting(step.progress);
+        self.calls.push(CallRow {
+            party,
+            task: CallTask::Act(act),
+        })?;
+        Ok(Stepped::Acted {
+            event,
+            access: step.access,
+            answer: step.answer,
+            told: None,
+        })
+    }
+}

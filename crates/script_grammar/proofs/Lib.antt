@@ -1,0 +1,13 @@
+pub mod NumeralLemmas
+pub mod SplitLemmas
+pub mod TokenLemmas
+pub mod OptionLemmas
+pub mod CallLemmas
+pub mod BoardLineLemmas
+pub mod SpaceLemmas
+pub mod AnswerLemmas
+pub mod LineLemmas
+pub mod EventLemmas
+pub mod NewlineLemmas
+pub mod ScriptLemmas
+pub mod OutputLaws

@@ -1,0 +1,221 @@
+-- The tokens of a line hold no space, so the line's bytes are cut where they were joined.
+use Rattle.std.proofs.Common.{◌≡◌, ℕ, ◌<◌, ◌≤◌, arith, true, false, List, [], ◌∷◌, ◌++◌, length, Option, Some, None, refl, sym, ap, subst, ◌∙◌, eqb}
+use Rattle.std.specs.Prelude.{◌&&◌, not, nat_le, codes, decimal, IfSome, IfNone}
+use Rattle.std.specs.List.{join_with_byte, flat_map, list_all, AllByRecursion}
+use Rattle.std.proofs.lemmas.List.Splits.{join_with_byte-slice_split}
+use Rattle.std.proofs.lemmas.List.Concat.{flat_map-cons}
+use Rattle.board_model.specs.declared.attributes.Attribute.{Attribute}
+use Rattle.board_model.specs.declared.tables.Limits.{Limits}
+use Rattle.board_model.specs.declared.value.AddedEntry.{AddedEntry}
+use Rattle.board_model.specs.declared.value.Key.{Key}
+use Rattle.board_model.specs.declared.value.Key.TheVariants as key
+use Rattle.board_model.specs.declared.value.Value.{Value}
+use Rattle.board_model.specs.declared.value.Value.TheVariants as value
+use Rattle.board_model.specs.declared.value.KeyType.{KeyType}
+use Rattle.board_model.specs.declared.value.KeyType.TheVariants as key_type
+use Rattle.board_model.specs.declared.value.ValueType.{ValueType}
+use Rattle.board_model.specs.declared.value.ValueType.TheVariants as type
+use Rattle.board_model.specs.declared.line.Call.{Call}
+use Rattle.board_model.specs.declared.line.Call.TheVariants as call
+use Rattle.board_model.specs.declared.line.Line.{Line}
+use Rattle.board_model.specs.declared.line.Line.TheVariants as line
+use Rattle.board_model.specs.LineGrammar.{is_name, is_name_byte, is_visible, is_visible_byte, is_attribute_key, key_text, key_type_text, value_text, value_type_text, limit_tokens, limits_tokens, pair_tokens, needed_key_tokens, entry_tokens, name_tokens, call_tokens, tokens, spell, IsNumber, IsNumberIfAny, IsNameIfAny, IsAddedEntry, IsAttribute, AreLimits, IsCall, IsKey, IsValue, IsLine, Spells}
+use Rattle.script_grammar.specs.LineReading.{split_tokens, read_line}
+use Rattle.script_grammar.proofs.NumeralLemmas.{both}
+use Rattle.script_grammar.proofs.SplitLemmas.{IsFree, lacks, split_free, free_from, free_number}
+use Rattle.script_grammar.proofs.BoardLineLemmas.{line_takes, line_again}
+
+-- ---- texts without a byte
+
+pub free_append : (c : ℕ) (a b : List ℕ) → IsFree c a → IsFree c b → IsFree c (a ++ b)
+free_append c [] b ha hb = hb
+free_append c (x ∷ a) b ha hb = let s = both (not (eqb x c)) (lacks c a) ha in rw (s.0, free_append c a b s.1 hb) refl
+
+pub free_joined : (c s : ℕ) → eqb s c ≡ false → (ts : List (List ℕ)) → AllByRecursion (IsFree c) ts → IsFree c (join_with_byte s ts)
+free_joined c s apart [] h = refl
+free_joined c s apart (t ∷ []) h = h.0
+free_joined c s apart (t ∷ u ∷ us) h = free_append c t (s ∷ join_with_byte s (u ∷ us)) h.0 (rw (apart, free_joined c s apart (u ∷ us) h.1) refl)
+
+pub free_visible : (c most : ℕ) → is_visible_byte c ≡ false → (text : List ℕ) → is_visible most text ≡ true → IsFree c text
+free_visible c most bar text h = free_from c is_visible_byte bar text (both (not (eqb (length text) 0) && nat_le (length text) most) (list_all is_visible_byte text) h).1
+
+pub free_name : (c : ℕ) → is_name_byte c ≡ false → (text : List ℕ) → is_name text ≡ true → IsFree c text
+free_name c bar text h = free_from c is_name_byte bar text (both (not (eqb (length text) 0) && nat_le (length text) 16) (list_all is_name_byte text) h).1
+
+-- ---- the tokens of a line
+
+abbrev IsPlain : List ℕ → Type 0
+IsPlain text = IsFree 32 text
+
+abbrev ArePlain : List (List ℕ) → Type 0
+ArePlain ts = AllByRecursion IsPlain ts
+
+plain_number : (n : ℕ) → IsNumber n → IsPlain (decimal n)
+plain_number n h = free_number 32 refl n h
+
+plain_name : (n : List ℕ) → is_name n ≡ true → IsPlain n
+plain_name n h = free_name 32 refl n h
+
+plain_key_type : (k : KeyType) → IsPlain (key_type_text k)
+plain_key_type key_type.U64 = refl
+plain_key_type key_type.F8 = refl
+
+plain_value_type : (v : ValueType) → IsPlain (value_type_text v)
+plain_value_type type.Bool = refl
+plain_value_type type.U64 = refl
+plain_value_type type.Q4 = refl
+
+plain_key : (k : Key) → IsKey k → IsPlain (key_text k)
+plain_key (key.U64 n) h = plain_number n h
+plain_key (key.F8 text) h = free_visible 32 8 refl text h
+
+plain_value : (v : Value) → IsValue v → IsPlain (value_text v)
+plain_value (value.Bool true) h = refl
+plain_value (value.Bool false) h = refl
+plain_value (value.U64 n) h = plain_number n h
+plain_value (value.Q4 a b c d) h = free_joined 32 44 refl (decimal a ∷ decimal b ∷ decimal c ∷ decimal d ∷ []) (plain_number a h.0, (plain_number b h.1, (plain_number c h.2, (plain_number d h.3, tt))))
+
+plain_append : (as_ bs : List (List ℕ)) → ArePlain as_ → ArePlain bs → ArePlain (as_ ++ bs)
+plain_append [] bs ha hb = hb
+plain_append (a ∷ as_) bs ha hb = (ha.0, plain_append as_ bs ha.1 hb)
+
+plain_each : {A : Type 0} (Is : A → Type 0) (f : A → List (List ℕ)) → ((x : A) → Is x → ArePlain (f x)) → (xs : List A) → AllByRecursion Is xs → ArePlain (flat_map f xs)
+plain_each Is f one [] h = tt
+plain_each Is f one (x ∷ xs) h = subst ArePlain (sym (flat_map-cons f x xs)) (plain_append (f x) (flat_map f xs) (one x h.0) (plain_each Is f one xs h.1))
+
+plain_limit : (word : List ℕ) → IsPlain word → (n : Option ℕ) → IsNumberIfAny n → ArePlain (limit_tokens word n)
+plain_limit word w None h = tt
+plain_limit word w (Some n) h = (w, (plain_number n h, tt))
+
+plain_limits : (l : Limits) → AreLimits l → ArePlain (limits_tokens l)
+plain_limits l h = plain_append (limit_tokens (codes "readers") l.max_readers) (limit_tokens (codes "nodes") l.max_nodes) (plain_limit (codes "readers") refl l.max_readers h.readers) (plain_limit (codes "nodes") refl l.max_nodes h.nodes)
+
+plain_pair : (word : List ℕ) → IsPlain word → (a : Attribute) → IsAttribute a → ArePlain (pair_tokens word a)
+plain_pair word w a h = (w, (free_visible 32 64 refl a.key h.key, (free_visible 32 256 refl a.value h.value, tt)))
+
+plain_needed : (k : List ℕ) → is_attribute_key k ≡ true → ArePlain (needed_key_tokens k)
+plain_needed k h = (refl, (free_visible 32 64 refl k h, tt))
+
+plain_entry : (e : AddedEntry) → IsAddedEntry e → ArePlain (entry_tokens e)
+plain_entry e h = (refl, (plain_key e.key h.key, (plain_value e.value h.value, tt)))
+
+plain_name_if_any : (v : Option (List ℕ)) → IsNameIfAny v → ArePlain (name_tokens v)
+plain_name_if_any None h = tt
+plain_name_if_any (Some v) h = (plain_name v h, tt)
+
+plain_one : (word a : List ℕ) → IsPlain word → is_name a ≡ true → ArePlain (word ∷ a ∷ [])
+plain_one word a w h = (w, (plain_name a h, tt))
+
+plain_two : (word a b : List ℕ) → IsPlain word → is_name a ≡ true → is_name b ≡ true → ArePlain (word ∷ a ∷ b ∷ [])
+plain_two word a b w ha hb = (w, (plain_name a ha, (plain_name b hb, tt)))
+
+plain_call : (c : Call) → IsCall c → ArePlain (call_tokens c)
+plain_call (call.Create f n k l attrs es) h = (
+  refl,
+  (
+    plain_name f h.0,
+    (
+      free_visible 32 255 refl n h.1,
+      (
+        plain_key_type k,
+        plain_append (limits_tokens l) (flat_map (pair_tokens (codes "attr")) attrs ++ flat_map entry_tokens es) (plain_limits l h.2)
+            (plain_append (flat_map (pair_tokens (codes "attr")) attrs) (flat_map entry_tokens es)
+            (plain_each IsAttribute (pair_tokens (codes "attr")) (plain_pair (codes "attr") refl) attrs h.3.each)
+            (plain_each IsAddedEntry entry_tokens plain_entry es h.4)),
+      ),
+    ),
+  ),
+)
+plain_call (call.Open f n k l needs) h = (
+  refl,
+  (
+    plain_name f h.0,
+    (
+      free_visible 32 255 refl n h.1,
+      (
+        plain_key_type k,
+        plain_append (limits_tokens l) (flat_map (pair_tokens (codes "need")) needs.pairs ++ flat_map needed_key_tokens needs.keys) (plain_limits l h.2)
+            (plain_append (flat_map (pair_tokens (codes "need")) needs.pairs) (flat_map needed_key_tokens needs.keys)
+            (plain_each IsAttribute (pair_tokens (codes "need")) (plain_pair (codes "need") refl) needs.pairs h.3.pairs.each)
+            (plain_each (λ k. is_attribute_key k ≡ true) needed_key_tokens plain_needed needs.keys h.3.each)),
+      ),
+    ),
+  ),
+)
+plain_call (call.Reader r f) h = plain_two (codes "reader") r f refl h.0 h.1
+plain_call (call.Writer w f) h = plain_two (codes "writer") w f refl h.0 h.1
+plain_call (call.Entry x r k t) h = (refl, (plain_name x h.0, (plain_name r h.1, (plain_key k h.2, (plain_value_type t, tt)))))
+plain_call (call.EntryMut m w k t) h = (refl, (plain_name m h.0, (plain_name w h.1, (plain_key k h.2, (plain_value_type t, tt)))))
+plain_call (call.Get x v) h = (refl, (plain_name x h.0, plain_name_if_any v h.1))
+plain_call (call.Fresh x v) h = plain_two (codes "fresh") x v refl h.0 h.1
+plain_call (call.Update m v) h = (refl, (plain_name m h.0, (plain_value v h.1, tt)))
+plain_call (call.Loan l m) h = plain_two (codes "loan") l m refl h.0 h.1
+plain_call (call.Discard l m) h = plain_two (codes "discard") l m refl h.0 h.1
+plain_call (call.Put l i w) h = (refl, (plain_name l h.0, (plain_number i h.1, (plain_number w h.2, tt))))
+plain_call (call.Publish l m) h = plain_two (codes "publish") l m refl h.0 h.1
+plain_call (call.Fill l m v) h = (refl, (plain_name l h.0, (plain_name m h.1, (plain_value v h.2, tt))))
+plain_call (call.Keys f) h = plain_one (codes "keys") f refl h
+plain_call (call.Nodes f) h = plain_one (codes "nodes") f refl h
+plain_call (call.Info f) h = plain_one (codes "info") f refl h
+plain_call (call.Id t) h = plain_one (codes "id") t refl h
+plain_call (call.Gen m) h = plain_one (codes "gen") m refl h
+
+plain_line : (l : Line) → IsLine l → ArePlain (tokens l)
+plain_line (line.Begin p c) h = (refl, (plain_name p h.0, plain_call c h.1))
+plain_line (line.Step p) h = plain_one (codes "step") p refl h
+plain_line (line.Release p t) h = plain_two (codes "drop") p t refl h.0 h.1
+plain_line (line.Abandon p) h = plain_one (codes "abandon") p refl h
+plain_line (line.Words b) h = (refl, (plain_number b h, tt))
+
+some_tokens : (l : Line) → 0 < length (tokens l)
+some_tokens (line.Begin p c) = omega arith
+some_tokens (line.Step p) = omega arith
+some_tokens (line.Release p t) = omega arith
+some_tokens (line.Abandon p) = omega arith
+some_tokens (line.Words b) = omega arith
+
+-- the tokens of a line's bytes are the line's tokens
+pub split_spell : (l : Line) → IsLine l → split_tokens (spell l) ≡ tokens l
+split_spell l h = split_free 32 refl (tokens l) (some_tokens l) (plain_line l h)
+
+-- ---- bytes of lines
+
+-- what is read is the line of these bytes
+pub read_is : (bytes : List ℕ) (l : Line) → length bytes ≤ 4096 → read_line (split_tokens bytes) ≡ Some l → Spells bytes l
+read_is bytes l le e =
+    let t = line_takes (split_tokens bytes) l e in
+    record { line = t.1; bytes = sym (join_with_byte-slice_split 32 bytes) ∙ ap (join_with_byte 32) t.0; short = le }
+
+-- each line's bytes are read as that line
+pub is_read : (bytes : List ℕ) (l : Line) → Spells bytes l → read_line (split_tokens bytes) ≡ Some l
+is_read bytes l h = ap (λ (b : List ℕ). read_line (split_tokens b)) h.bytes ∙ ap read_line (split_spell l h.line) ∙ line_again l h.line
+
+-- and so is a line whose bytes are more than a script allows
+formed_is_read : (l : Line) → IsLine l → read_line (split_tokens (spell l)) ≡ Some l
+formed_is_read l h = ap read_line (split_spell l h) ∙ line_again l h
+
+abbrev a_line : Line → Option Line
+a_line l = Some l
+
+one_line : (k l : Line) → a_line k ≡ a_line l → k ≡ l
+one_line k l e = cc
+
+-- the same bytes spell one line
+pub spells_one : (bytes : List ℕ) (k l : Line) → Spells bytes k → Spells bytes l → k ≡ l
+spells_one bytes k l hk hl = one_line k l (sym (is_read bytes k hk) ∙ is_read bytes l hl)
+
+-- lines of any form are told apart by their bytes
+pub forms_apart : (k l : Line) → IsLine k → IsLine l → spell k ≡ spell l → k ≡ l
+forms_apart k l hk hl e = one_line k l (sym (formed_is_read k hk) ∙ ap (λ (b : List ℕ). read_line (split_tokens b)) e ∙ formed_is_read l hl)
+
+-- bytes that spell no line
+pub none_spells : (bytes : List ℕ) → read_line (split_tokens bytes) ≡ None → (l : Line) → Spells bytes l → ⊥
+none_spells bytes e l h = let s : a_line l ≡ None = sym (is_read bytes l h) ∙ e in cc
+
+pub is_found : (bytes : List ℕ) (o : Option Line) → length bytes ≤ 4096 → o ≡ read_line (split_tokens bytes) → IfSome o (λ l. Spells bytes l)
+is_found bytes None le e = tt
+is_found bytes (Some l) le e = read_is bytes l le (sym e)
+
+pub is_only : (bytes : List ℕ) (o : Option Line) → o ≡ read_line (split_tokens bytes) → IfNone o ((l : Line) → Spells bytes l → ⊥)
+is_only bytes None e = none_spells bytes (sym e)
+is_only bytes (Some l) e = tt

@@ -1,0 +1,70 @@
+-- What the machine of the tests answers is right.
+use Rattle.std.proofs.Common.{◌≡◌, ℕ, List, refl, sym, subst, Option, Some}
+use Rattle.board_model.specs.declared.line.Line.{Line}
+use Rattle.board_model.specs.declared.line.Line.TheVariants as board_line
+use Rattle.board_model.specs.declared.answer.Reason.{Reason}
+use Rattle.board_model.specs.declared.answer.Answer.TheVariants as answer
+use Rattle.board_model.specs.LineGrammar.{IsLine}
+use Rattle.board_model.specs.LawfulSession as boards
+use Rattle.script_model.specs.declared.line.EventRequest.TheVariants as request
+use Rattle.script_model.specs.declared.line.ScriptLine.{ScriptLine}
+use Rattle.script_model.specs.declared.line.ScriptLine.TheVariants as line
+use Rattle.script_model.specs.ScriptAnswers.{ScriptAnswer, of_boards, script_answer_line}
+use Rattle.script_model.specs.ScriptGrammar.{IsScriptLine, SpellsLine}
+use Rattle.script_model.specs.ScriptSession.{Session, start, after, IsRight}
+use Rattle.script_model.specs.ScriptTurns.{ScriptState}
+use Rattle.script_loop.specs.Runs.{HasAnswered, StandsFor}
+use Rattle.script_loop.specs.IdleMachine.{idle_reason}
+
+abbrev refused : Reason → ScriptAnswer
+refused why = of_boards (answer.Refused why)
+
+record IsIdle (l : ScriptLine) (why : Reason) : Type 0 where
+  pub right : IsScriptLine l → IsRight start l (refused why)
+  pub same : after start l (refused why) ≡ start
+
+abbrev there : Reason → Option Reason
+there why = Some why
+
+the_reason : (a b : Reason) → there a ≡ there b → a ≡ b
+the_reason a b e = cc
+
+refused_so : (a b : Reason) → there a ≡ there b → refused a ≡ refused b
+refused_so a b e = subst (λ (w : Reason). refused a ≡ refused w) (the_reason a b e) refl
+
+-- a line of boards that has a reason
+right_on_boards : (l : Line) (why : Reason) → there why ≡ boards.reason_of boards.start l → IsLine l → boards.IsRight boards.start l (answer.Refused why)
+right_on_boards l why e h = record {
+  line = h;
+  answer = tt;
+  reason = subst (λ (o : Option Reason). boards.IsReasoned o (answer.Refused why)) e refl;
+  owed = λ none. absurd cc;
+  word = λ none. absurd cc;
+  reply = λ none. absurd cc;
+}
+
+is_idle : (l : ScriptLine) (why : Reason) → there why ≡ idle_reason l → IsIdle l why
+is_idle (line.Board (board_line.Step p)) why e = record {
+  right = λ h. record { line = h; rule = record { answer = answer.Refused why; right = right_on_boards (board_line.Step p) why e h; is = refl } };
+  same = refl;
+}
+is_idle (line.Board (board_line.Words b)) why e = record {
+  right = λ h. record { line = h; rule = record { answer = answer.Refused why; right = right_on_boards (board_line.Words b) why e h; is = refl } };
+  same = refl;
+}
+is_idle (line.Event p (request.Notify n id)) why e = record { right = λ h. record { line = h; rule = refused_so why _ e }; same = refl }
+is_idle (line.Event p (request.Wait n many m)) why e = record { right = λ h. record { line = h; rule = refused_so why _ e }; same = refl }
+is_idle (line.Expire p) why e = record { right = λ h. record { line = h; rule = refused_so why _ e }; same = refl }
+is_idle l why e = absurd cc
+
+pub answered : {M : Type 0} (m : M) (session : Session) (bytes text : List ℕ) (l : ScriptLine) (why : Reason) → StandsFor {M = M} (λ machine n s. s ≡ start) m session → SpellsLine bytes l → there why ≡ idle_reason l → text ≡ script_answer_line (refused why) → HasAnswered {M = M} (λ machine n s. s ≡ start) m session bytes text
+answered m session bytes text l why s spelled e told =
+    let i = is_idle l why e in
+    record {
+      line = l;
+      answer = refused why;
+      spelled = spelled;
+      right = subst (λ (x : ScriptState). IsRight x l (refused why)) (sym s.state) (i.right spelled.line);
+      state = subst (λ (x : ScriptState). after x l (refused why) ≡ start) (sym s.state) i.same;
+      told = told;
+    }

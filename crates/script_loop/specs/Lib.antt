@@ -1,0 +1,5 @@
+pub mod Streams
+pub mod Memory
+pub mod Reader
+pub mod Runs
+pub mod IdleMachine

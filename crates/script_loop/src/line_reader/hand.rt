@@ -1,0 +1,119 @@
+ghost use Rattle.std.specs.Prelude.{◌≡◌, ◌<◌, ◌≤◌, ◌+◌, [], IfErr, IfNone, IfOk, IfSome, IsTrue, OnErr, OnOk, drop, false, length, slice_index, take};
+ghost use Rattle.std.specs.Io.KnownBytes.{Consumes, Keeps, IsAtEnd, prepend_known};
+ghost use Rattle.board_model.specs.Lines.{HasCause, IsOneLine};
+ghost use Rattle.script_loop.specs.Reader.{has_ended, in_hand, line_given};
+
+use super::LineReader;
+use crate::error::LineError;
+use crate::stream::{Failed, Source};
+use script_parse::place_of;
+use std::alloc::Global;
+
+// Reads into the bytes from a place on, and tells how many came.
+fn read_behind<S: Source>(bytes: &mut [u8], from: usize, source: &mut S) -> Result<usize, Failed>
+    requires { from < length bytes.old }
+    ensures bound { IfOk result (λ count. from + count ≤ length bytes.old) }
+    ensures front { take from bytes.new ≡ take from bytes.old }
+    ensures ok { IfOk result (λ count. Consumes (S.left source.old) (S.left source.new) (take count (drop from bytes.new))) }
+    ensures end { IfOk result (λ count. count ≡ 0 → IsAtEnd (S.left source.new)) }
+    ensures err { OnErr result (Keeps (S.left source.old) (S.left source.new)) }
+    ensures cause { HasCause (S.faults source.old) (S.faults source.new) result }
+{
+    source.read(&mut bytes[from..])
+}
+
+impl LineReader {
+    /// A reader with nothing in hand. It takes its whole buffer, and no memory after that.
+    ///
+    /// # Errors
+    /// `OutOfMemory` where memory is refused.
+    pub fn new(alloc: Global) -> Result<LineReader, LineError>
+        ensures hand { IfOk result (λ reader. in_hand reader ≡ []) }
+        ensures ended { IfOk result (λ reader. has_ended reader ≡ false) }
+        ensures err { IfErr result (λ e. e ≡ LineError.OutOfMemory) }
+    {
+        let bytes = vec![in alloc; 0; 4097]?;
+        Ok(LineReader {
+            bytes,
+            start: 0,
+            end: 0,
+            line_start: 0,
+            line_end: 0,
+            ended: false,
+        })
+    }
+
+    /// The line that was given last, without its newline.
+    pub fn line(&self) -> &[u8]
+        ensures { result.now ≡ line_given self.now }
+    {
+        &self.bytes[self.line_start..self.line_end]
+    }
+
+    // How many bytes are in hand.
+    pub(super) fn hand_len(&self) -> usize
+        ensures len { result ≡ length (in_hand self.now) }
+        ensures most { result ≤ 4097 }
+    {
+        self.end - self.start
+    }
+
+    // Where the first newline in hand stands; it is looked for behind the first bytes, so many of them.
+    pub(super) fn newline_from(&self, searched: usize) -> Option<usize>
+        requires inside { searched ≤ length (in_hand self.now) }
+        requires none_before { IsOneLine (take searched (in_hand self.now)) }
+        ensures none { IfNone result (IsOneLine (in_hand self.now)) }
+        ensures inside { IfSome result (λ at. at < length (in_hand self.now)) }
+        ensures found { IfSome result (λ at. slice_index (in_hand self.now) at ≡ 10) }
+        ensures first { IfSome result (λ at. IsOneLine (take at (in_hand self.now))) }
+    {
+        let at = place_of(&self.bytes[self.start + searched..self.end], 10)?;
+        Some(searched + at)
+    }
+
+    // Gives the first bytes in hand out as a line, and drops so many behind them.
+    pub(super) fn give(&mut self, len: usize, dropped: usize)
+        requires { len + dropped ≤ length (in_hand self.old) }
+        ensures line { line_given self.new ≡ take len (in_hand self.old) }
+        ensures hand { in_hand self.new ≡ drop (len + dropped) (in_hand self.old) }
+        ensures ended { has_ended self.new ≡ has_ended self.old }
+    {
+        self.line_start = self.start;
+        self.line_end = self.start + len;
+        self.start = self.line_end + dropped;
+    }
+
+    // Moves the bytes in hand to the front of the buffer.
+    fn to_front(&mut self)
+        ensures front { self.new.start ≡ 0 }
+        ensures hand { in_hand self.new ≡ in_hand self.old }
+        ensures ended { has_ended self.new ≡ has_ended self.old }
+    {
+        if self.start > 0 {
+            self.bytes.copy_within(self.start..self.end, 0);
+            self.end -= self.start;
+            self.start = 0;
+            self.line_start = 0;
+            self.line_end = 0;
+        }
+    }
+
+    // Takes more bytes in hand, as many as the buffer has room for, and notes where none is left.
+    pub(super) fn fill<S: Source>(&mut self, source: &mut S) -> Result<(), Failed>
+        requires room { length (in_hand self.old) < 4097 }
+        requires open { has_ended self.old ≡ false }
+        ensures kept { Keeps (prepend_known (in_hand self.old) (S.left source.old)) (prepend_known (in_hand self.new) (S.left source.new)) }
+        ensures front { take (length (in_hand self.old)) (in_hand self.new) ≡ in_hand self.old }
+        ensures grew { OnOk result (has_ended self.new ≡ false → length (in_hand self.old) < length (in_hand self.new)) }
+        ensures same { IsTrue (has_ended self.new) → in_hand self.new ≡ in_hand self.old }
+        ensures failed { OnErr result (in_hand self.new ≡ in_hand self.old) }
+        ensures ended { IsTrue (has_ended self.new) → IsAtEnd (S.left source.new) }
+        ensures cause { HasCause (S.faults source.old) (S.faults source.new) result }
+    {
+        self.to_front();
+        let count = read_behind(&mut self.bytes, self.end, source)?;
+        self.end += count;
+        self.ended = count == 0;
+        Ok(())
+    }
+}

@@ -1,0 +1,57 @@
+//! Where a script's bytes come from, and where its output goes.
+ghost use Rattle.std.specs.Prelude.{List, ℕ, Option};
+ghost use Rattle.std.specs.Io.{ReadsAtMost};
+ghost use Rattle.std.specs.Io.KnownBytes.{ReadConsumes, WriteAppends};
+ghost use Rattle.board_model.specs.Lines.{HasCause};
+ghost use Rattle.script_loop.specs.Streams.{Writes};
+
+use thiserror::Error;
+
+/// A source or a sink failed.
+#[derive(Clone, Copy, Debug, PartialEq, Eq, Error)]
+#[error("failed")]
+pub struct Failed;
+
+/// Where bytes come from.
+///
+/// Contracts see the bytes that are `left` to read, where a source tells them, and a count of `faults` that never falls.
+pub trait Source {
+    ghost left: { Self → Option (List ℕ) };
+
+    ghost faults: { Self → ℕ };
+
+    /// Fills a front of `buf` with the next bytes, and tells how many. 0 for a `buf` that isn't empty means the end.
+    ///
+    /// # Errors
+    /// `Failed` where no byte could be had; the bytes that are left stay.
+    fn read(&mut self, buf: &mut [u8]) -> Result<usize, Failed>
+        ensures bound { ReadsAtMost result buf.new }
+
+        // The next bytes are given, and lost to the source. None comes only where none is left. A failed read takes none.
+        ensures bytes { ReadConsumes (left self.old) (left self.new) result buf.new }
+
+        // It fails only where the count of faults rises.
+        ensures cause { HasCause (faults self.old) (faults self.new) result };
+}
+
+/// Where bytes go.
+///
+/// Contracts see the bytes that are `held`, where a sink tells them, and a count of `faults` that never falls.
+pub trait Sink {
+    ghost held: { Self → Option (List ℕ) };
+
+    ghost faults: { Self → ℕ };
+
+    /// Takes a front of `bytes`, at least one byte where there is one, and tells how many.
+    ///
+    /// # Errors
+    /// `Failed` where no byte could be taken; what is held stays.
+    fn write(&mut self, bytes: &[u8]) -> Result<usize, Failed>
+        ensures bound { Writes result bytes.now }
+
+        // The sink holds the bytes that it took. A failed write takes none.
+        ensures bytes { WriteAppends (held self.old) (held self.new) result bytes.now }
+
+        // It fails only where the count of faults rises.
+        ensures cause { HasCause (faults self.old) (faults self.new) result };
+}

@@ -1,0 +1,16 @@
+use Rattle.std.proofs.Common.{◌≡◌, true, false, sym, ◌∙◌}
+use Rattle.board_model.specs.declared.line.Line.TheVariants as board_line
+use Rattle.script_boards.proofs.Listings.{on_ok}
+use Rattle.script_model.specs.ScriptEvents.{runs_on_events}
+use Rattle.script_machine.proofs.Turns.{from_nothing, step_alone, told_alone}
+use Rattle.script_machine.proofs.machine.Machine.step.Goals as goal
+
+pub step_on_events-requires-clause-runs : goal.step_on_events-requires-clause-runs
+step_on_events-requires-clause-runs g c = λ x count few sound rep. sym (c.runs.ensures x count few sound rep) ∙ c.if-runs.true
+
+pub returns-clause-tells : goal.returns-clause-tells
+returns-clause-tells g c = on_ok (λ e s count rep reached.
+    let runs : runs_on_events s.events c.args.party.now ≡ false = sym (c.runs.ensures s.events count reached.few reached.sound.events rep.events) ∙ c.if-runs.false in
+    let served = c.in_ok-answer.ensures.serves s.boards rep.boards reached.boards c.requires.line in
+    told_alone _ s (board_line.Step c.args.party.now) c.in_ok-answer.answer _ (step_alone s c.args.party.now runs) c.requires.line served.0
+    (record { alive = rep.alive; boards = served.1; events = rep.events }) (from_nothing _ _ _ c.requires.empty e)) c.push_answer.result c.push_answer.ensures.ok

@@ -1,0 +1,34 @@
+use Rattle.std.proofs.Common.{◌≡◌, ℕ, true, false, refl, sym, subst, ◌∙◌, Option, Vec, Global}
+use Rattle.std.specs.Prelude.{IfNone, IfSome, is_some}
+use Rattle.board_model.specs.declared.answer.Answer.TheVariants as answer
+use Rattle.board_model.specs.declared.answer.Reason.TheVariants as reason
+use Rattle.board_model.specs.declared.line.Line.TheVariants as board_line
+use Rattle.board_model.specs.LawfulSession.{State}
+use Rattle.board_model.specs.Tables.{board_at}
+use Rattle.script_boards.specs.Machine as boards
+use Rattle.script_boards.proofs.Listings.{on_ok}
+use Rattle.script_machine.proofs.Turns.{from_nothing, listed_right, same_boards, told_alone, unlisted_right}
+use Rattle.script_machine.proofs.machine.Machine.tell_words.Goals as goal
+
+pub returns-in-Some-clause-tells : goal.returns-in-Some-clause-tells
+returns-in-Some-clause-tells g c =
+    let m = c.args.self.now.boards in
+    let n = c.args.board in
+    let found = c.in_ok-words.ensures in
+    let stands = subst (λ (o : Option (Vec ℕ Global)). IfSome o (λ ws. (s : State) → boards.Represents m s → is_some (board_at s.standing.tables n) ≡ true)) c.in-Some.is found.stands in
+    let words = subst (λ (o : Option (Vec ℕ Global)). IfSome o (λ ws. (s : State) → boards.Represents m s → ws.items ≡ s.memory n)) c.in-Some.is found.words in
+    on_ok (λ e s count rep reached.
+    told_alone _ s (board_line.Words n) (answer.Words c.deref.result.now) _ refl c.requires.line
+    (listed_right s.boards n c.deref.result.now (stands s.boards rep.boards) (c.deref.ensures.value ∙ words s.boards rep.boards) c.push_listing.ensures.numbers c.requires.line)
+    (same_boards c.args.self.now s c.words_of.new.self found.same rep) (from_nothing _ _ _ c.requires.empty e)) c.push_listing.result c.push_listing.ensures.told
+
+pub returns-in-None-clause-tells : goal.returns-in-None-clause-tells
+returns-in-None-clause-tells g c =
+    let m = c.args.self.now.boards in
+    let n = c.args.board in
+    let found = c.in_ok-words.ensures in
+    let none = subst (λ (o : Option (Vec ℕ Global)). IfNone o ((s : State) → boards.Represents m s → is_some (board_at s.standing.tables n) ≡ false)) c.in-None.is found.none in
+    on_ok (λ e s count rep reached.
+    told_alone _ s (board_line.Words n) (answer.Refused reason.NoBoard) _ refl c.requires.line
+    (unlisted_right s.boards n (none s.boards rep.boards) c.requires.line)
+    (same_boards c.args.self.now s c.words_of.new.self found.same rep) (from_nothing _ _ _ c.requires.empty e)) c.push_refused.result c.push_refused.ensures

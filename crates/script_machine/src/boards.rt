@@ -1,0 +1,197 @@
+//! Lines of boards, and those that boards and events share.
+ghost use Rattle.std.specs.Prelude.{◌≡◌, ◌+◌, ◌++◌, ◌≤◌, [], true, OnOk};
+ghost use Rattle.std.specs.List.{AllByRecursion};
+ghost use Rattle.board_model.specs.declared.answer.Answer.TheVariants as answer;
+ghost use Rattle.board_model.specs.declared.line.Line.TheVariants as board_line;
+ghost use Rattle.board_model.specs.AnswerGrammar.{answer_line};
+ghost use Rattle.board_model.specs.LineGrammar.{IsLine, IsNumber};
+ghost use Rattle.board_model.specs.Requests as requests;
+ghost use Rattle.script_model.specs.declared.line.ScriptLine.TheVariants as line;
+ghost use Rattle.script_model.specs.ScriptEvents.{runs_on_events};
+ghost use Rattle.script_model.specs.ScriptTurns.{takes_event_name};
+ghost use Rattle.script_boards.specs.Machine.{drawn_by};
+ghost use Rattle.script_events.specs.PartyEvents as events;
+ghost use Rattle.script_machine.specs.ScriptMachine.{IsLed, OfEach, Tells, is_gone};
+
+use crate::machine::Machine;
+use board_cell_model::Access;
+use board_model::{Answer, Call, Name, Reason, Reply};
+use board_service::BoardWords;
+use script_events::Stepped;
+use script_print::{push_answer, push_event_asked, push_event_step, push_refused, push_words};
+use std::alloc::AllocError;
+
+// Tells the words of a board.
+fn push_listing(words: &[u64], out: &mut Vec<u8>) -> Result<(), AllocError>
+    ensures numbers { AllByRecursion IsNumber words.now }
+    ensures told { OnOk result (out.new.items ≡ out.old.items ++ answer_line (answer.Words words.now)) }
+{
+    push_words(words, out)
+}
+
+// Whether a party was abandoned.
+fn is_gone(answer: &Answer) -> bool
+    ensures { result ≡ is_gone answer.now }
+{
+    matches!(answer, Answer::Gone)
+}
+
+// The name of the thing that a call makes.
+fn new_name(call: &Call) -> Option<Name>
+    ensures { result ≡ requests.new_name call.now }
+{
+    match call {
+        Call::Create { factory, .. } => Some(*factory),
+        Call::Open { factory, .. } => Some(*factory),
+        Call::Reader { reader, .. } => Some(*reader),
+        Call::Writer { writer, .. } => Some(*writer),
+        Call::Entry { handle, .. } => Some(*handle),
+        Call::EntryMut { handle, .. } => Some(*handle),
+        Call::Get { value, .. } => *value,
+        Call::Loan { loan, .. } => Some(*loan),
+        Call::Discard { handle, .. } => Some(*handle),
+        Call::Publish { handle, .. } => Some(*handle),
+        Call::Fill { handle, .. } => Some(*handle),
+        _ => None,
+    }
+}
+
+impl<C: BoardWords + Drop> Machine<C> {
+    // Whether the thing that a call makes would have the name of a listener or notifier of its party.
+    fn takes_event_name(&self, party: &Name, call: &Call) -> bool
+        ensures { OfEach self.now (λ s. result ≡ takes_event_name s.events party.now (requests.new_name call.now)) }
+    {
+        match new_name(call) {
+            Some(name) => self.events.holds(party, &name),
+            None => false,
+        }
+    }
+
+    /// A line `begin P CALL` of a call on boards.
+    pub(crate) fn begin(
+        &mut self,
+        party: Name,
+        call: Call,
+        out: &mut Vec<u8>,
+    ) -> Result<(), AllocError>
+        requires led { IsLed self.old }
+        requires line { IsLine (board_line.Begin party call) }
+        requires empty { out.old.items ≡ [] }
+        ensures tells { OnOk result (Tells self.old self.new (line.Board (board_line.Begin party call)) out.new.items) }
+        ensures drawn { OnOk result (drawn_by self.new.boards ≤ drawn_by self.old.boards + 1) }
+    {
+        if self.events.runs(&party) {
+            return push_refused(Reason::Busy, out);
+        }
+        if self.takes_event_name(&party, &call) {
+            return match self.boards.refusal_past_names(&party, call)? {
+                Some(why) => push_refused(why, out),
+                None => push_refused(Reason::Taken, out),
+            };
+        }
+        let answer = self.boards.begin(party, call)?;
+        push_answer(&answer, out)
+    }
+
+    /// A line `step P`.
+    pub(crate) fn step(&mut self, party: &Name, out: &mut Vec<u8>) -> Result<(), AllocError>
+        requires led { IsLed self.old }
+        requires line { IsLine (board_line.Step party.now) }
+        requires empty { out.old.items ≡ [] }
+        ensures tells { OnOk result (Tells self.old self.new (line.Board (board_line.Step party.now)) out.new.items) }
+        ensures drawn { OnOk result (drawn_by self.new.boards ≤ drawn_by self.old.boards + 1) }
+    {
+        if self.events.runs(party) {
+            return self.step_on_events(party, out);
+        }
+        let answer = self.boards.step(party)?;
+        push_answer(&answer, out)
+    }
+
+    // A step of a party whose call on events runs.
+    fn step_on_events(&mut self, party: &Name, out: &mut Vec<u8>) -> Result<(), AllocError>
+        requires led { IsLed self.old }
+        requires line { IsLine (board_line.Step party.now) }
+        requires runs { events.OfEach self.old.events (λ x. runs_on_events x party.now ≡ true) }
+        requires empty { out.old.items ≡ [] }
+        ensures tells { OnOk result (Tells self.old self.new (line.Board (board_line.Step party.now)) out.new.items) }
+        ensures drawn { drawn_by self.new.boards ≡ drawn_by self.old.boards }
+    {
+        match self.events.step(party)? {
+            Stepped::Asked(reply) => push_event_asked(&reply, out),
+            Stepped::Acted {
+                event,
+                access,
+                answer,
+                told,
+            } => push_event_step(
+                self.events.kind_of(event),
+                self.events.name_of(event).as_bytes(),
+                access,
+                answer,
+                told.as_ref(),
+                out,
+            ),
+        }
+    }
+
+    /// A line `drop P T`.
+    pub(crate) fn release(
+        &mut self,
+        party: &Name,
+        name: &Name,
+        out: &mut Vec<u8>,
+    ) -> Result<(), AllocError>
+        requires led { IsLed self.old }
+        requires line { IsLine (board_line.Release party.now name.now) }
+        requires empty { out.old.items ≡ [] }
+        ensures tells { OnOk result (Tells self.old self.new (line.Board (board_line.Release party.now name.now)) out.new.items) }
+        ensures drawn { OnOk result (drawn_by self.new.boards ≤ drawn_by self.old.boards + 1) }
+    {
+        if self.events.runs(party) {
+            return push_refused(Reason::Busy, out);
+        }
+        if self.boards.refusal_of_party(party).is_none() && self.events.holds(party, name) {
+            self.events.release(party, name);
+            return push_answer(
+                &Answer::Step {
+                    access: Access::Table,
+                    reply: Some(Reply::Done),
+                },
+                out,
+            );
+        }
+        let answer = self.boards.release(party, name);
+        push_answer(&answer, out)
+    }
+
+    /// A line `abandon P`.
+    pub(crate) fn abandon(&mut self, party: Name, out: &mut Vec<u8>) -> Result<(), AllocError>
+        requires led { IsLed self.old }
+        requires line { IsLine (board_line.Abandon party) }
+        requires empty { out.old.items ≡ [] }
+        ensures tells { OnOk result (Tells self.old self.new (line.Board (board_line.Abandon party)) out.new.items) }
+        ensures drawn { OnOk result (drawn_by self.new.boards ≤ drawn_by self.old.boards + 1) }
+    {
+        let answer = self.boards.abandon(party)?;
+        if is_gone(&answer) {
+            self.events.abandon(&party);
+            return push_answer(&answer, out);
+        }
+        push_answer(&answer, out)
+    }
+
+    /// A line `words NUM`.
+    pub(crate) fn tell_words(&mut self, board: u64, out: &mut Vec<u8>) -> Result<(), AllocError>
+        requires led { IsLed self.old }
+        requires line { IsLine (board_line.Words board) }
+        requires empty { out.old.items ≡ [] }
+        ensures tells { OnOk result (Tells self.old self.new (line.Board (board_line.Words board)) out.new.items) }
+        ensures drawn { OnOk result (drawn_by self.new.boards ≤ drawn_by self.old.boards + 1) }
+    {
+        match self.boards.words_of(board)? {
+            Some(words) => push_listing(&words, out),
+            None => push_refused(Reason::NoBoard, out),
+        }
+    }
+}

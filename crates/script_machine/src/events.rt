@@ -1,0 +1,92 @@
+//! Lines of events.
+ghost use Rattle.std.specs.Prelude.{◌≡◌, ◌+◌, ◌≤◌, [], OnOk};
+ghost use Rattle.script_model.specs.declared.line.ScriptLine.TheVariants as line;
+ghost use Rattle.script_model.specs.ScriptEvents.{name_made};
+ghost use Rattle.script_model.specs.ScriptGrammar.{IsScriptLine};
+ghost use Rattle.script_boards.specs.Machine.{drawn_by};
+ghost use Rattle.script_events.specs.PartyEvents.{takes_board_name};
+ghost use Rattle.script_machine.specs.ScriptMachine.{IsLed, OfEach, Tells, no_wait};
+
+use crate::machine::Machine;
+use board_model::{Answer, Name, Reason};
+use board_service::BoardWords;
+use script_model::EventRequest;
+use script_print::{push_answer, push_expired, push_refused};
+use std::alloc::AllocError;
+
+// The name of the listener or notifier that a call makes.
+fn name_made(request: &EventRequest) -> Option<Name>
+    ensures { result ≡ name_made request.now }
+{
+    match request {
+        EventRequest::ListenBits { listener, .. } => Some(*listener),
+        EventRequest::ListenQueue { listener, .. } => Some(*listener),
+        EventRequest::Notifier { notifier, .. } => Some(*notifier),
+        _ => None,
+    }
+}
+
+// Why an expiry is refused of a party that isn't free: a call on boards is no timed wait.
+fn no_wait(why: Reason) -> Reason
+    ensures { result ≡ no_wait why }
+{
+    match why {
+        Reason::Busy => Reason::NotWaiting,
+        _ => why,
+    }
+}
+
+impl<C: BoardWords + Drop> Machine<C> {
+    // Whether boards hold the name of what a call on events makes.
+    fn takes_board_name(&self, party: &Name, request: &EventRequest) -> bool
+        ensures { OfEach self.now (λ s. result ≡ takes_board_name s.boards party.now (name_made request.now)) }
+    {
+        match name_made(request) {
+            Some(name) => self.boards.is_held(party, &name),
+            None => false,
+        }
+    }
+
+    /// A line `begin P CALL` of a call on events.
+    pub(crate) fn event_call(
+        &mut self,
+        party: Name,
+        request: EventRequest,
+        out: &mut Vec<u8>,
+    ) -> Result<(), AllocError>
+        requires led { IsLed self.old }
+        requires line { IsScriptLine (line.Event party request) }
+        requires empty { out.old.items ≡ [] }
+        ensures tells { OnOk result (Tells self.old self.new (line.Event party request) out.new.items) }
+        ensures drawn { drawn_by self.new.boards ≡ drawn_by self.old.boards }
+    {
+        if self.events.runs(&party) {
+            return push_refused(Reason::Busy, out);
+        }
+        if let Some(why) = self.boards.refusal_of_party(&party) {
+            return push_refused(why, out);
+        }
+        let taken = self.takes_board_name(&party, &request);
+        match self.events.begin(party, request, taken)? {
+            Some(why) => push_refused(why, out),
+            None => push_answer(&Answer::Begun, out),
+        }
+    }
+
+    /// A line `expire P`.
+    pub(crate) fn expire(&mut self, party: &Name, out: &mut Vec<u8>) -> Result<(), AllocError>
+        requires led { IsLed self.old }
+        requires line { IsScriptLine (line.Expire party.now) }
+        requires empty { out.old.items ≡ [] }
+        ensures tells { OnOk result (Tells self.old self.new (line.Expire party.now) out.new.items) }
+        ensures drawn { drawn_by self.new.boards ≡ drawn_by self.old.boards }
+    {
+        if let Some(why) = self.boards.refusal_of_party(party) {
+            return push_refused(no_wait(why), out);
+        }
+        match self.events.expire(party) {
+            Some(why) => push_refused(why, out),
+            None => push_expired(out),
+        }
+    }
+}

@@ -1,0 +1,131 @@
+//! The machine's one call: the line of a script, and the answer to it.
+ghost use Rattle.std.specs.Prelude.{◌≡◌, ℕ, ◌+◌, ◌≤◌, [], true, IsErrOf, OnErr, OnOk};
+ghost use Rattle.board_model.specs.LineGrammar.{IsLine};
+ghost use Rattle.script_model.specs.declared.line.ScriptLine.TheVariants as script_line;
+ghost use Rattle.script_model.specs.ScriptGrammar.{IsScriptLine};
+ghost use Rattle.script_model.specs.ScriptSession.{Session, start};
+ghost use Rattle.script_model.specs.ScriptTurns.{ScriptState};
+ghost use Rattle.script_loop.specs.Runs.{HasAnswered, SpellsNone, StandsFor};
+ghost use Rattle.script_boards.specs.Machine.{drawn_by};
+ghost use Rattle.script_machine.specs.ScriptMachine.{IsLed, StandsAfter, Tells};
+
+use board_model::Line;
+use board_service::BoardWords;
+use script_boards::BoardMachine;
+use script_events::PartyEvents;
+use script_loop::{LineError, RunsLines};
+use script_model::ScriptLine;
+use script_parse::parse_line;
+use std::alloc::{AllocError, Global};
+
+/// Runs the lines of one script, one after another. The words of its boards are held by `C`.
+#[derive(Drop)]
+pub struct Machine<C: BoardWords> {
+    pub(crate) alloc: Global,
+    pub(crate) boards: BoardMachine<C>,
+    pub(crate) events: PartyEvents,
+    pub(crate) spent: bool,
+}
+
+impl<C: BoardWords + Drop> Machine<C> {
+    /// A machine that stands for the empty session. It takes no memory.
+    pub fn new(alloc: Global) -> Machine<C>
+        ensures { StandsAfter result 0 start }
+    {
+        Machine {
+            alloc,
+            boards: BoardMachine::new(alloc),
+            events: PartyEvents::new(alloc),
+            spent: false,
+        }
+    }
+
+    /// Whether memory was refused in an earlier line. Then no further line may be run.
+    pub fn is_spent(&self) -> bool
+        ensures { result ≡ self.now.spent }
+    {
+        self.spent
+    }
+
+    // Answers a line of boards, or one that boards and events share. Inlined, so that the line isn't copied.
+    #[inline(always)]
+    fn board_line(&mut self, line: Line, out: &mut Vec<u8>) -> Result<(), AllocError>
+        requires led { IsLed self.old }
+        requires line { IsLine line }
+        requires empty { out.old.items ≡ [] }
+        ensures tells { OnOk result (Tells self.old self.new (script_line.Board line) out.new.items) }
+        ensures drawn { OnOk result (drawn_by self.new.boards ≤ drawn_by self.old.boards + 1) }
+    {
+        match line {
+            Line::Begin { party, call } => self.begin(party, call, out),
+            Line::Step { party } => self.step(&party, out),
+            Line::Release { party, thing } => self.release(&party, &thing, out),
+            Line::Abandon { party } => self.abandon(party, out),
+            Line::Words { board } => self.tell_words(board, out),
+        }
+    }
+
+    // Answers a line of the grammar.
+    fn answer(&mut self, line: ScriptLine, out: &mut Vec<u8>) -> Result<(), AllocError>
+        requires led { IsLed self.old }
+        requires line { IsScriptLine line }
+        requires empty { out.old.items ≡ [] }
+        ensures tells { OnOk result (Tells self.old self.new line out.new.items) }
+        ensures drawn { OnOk result (drawn_by self.new.boards ≤ drawn_by self.old.boards + 1) }
+    {
+        match line {
+            ScriptLine::Board(line) => self.board_line(line, out),
+            ScriptLine::Event { party, request } => self.event_call(party, request, out),
+            ScriptLine::Expire { party } => self.expire(&party, out),
+        }
+    }
+
+    // After want of memory: the machine is spent, and what was answered is dropped.
+    fn give_up(&mut self, begun: &mut Vec<u8>) -> LineError
+        ensures error { result ≡ LineError.OutOfMemory }
+        ensures spent { self.new.spent ≡ true }
+        ensures dropped { begun.new.items ≡ [] }
+    {
+        begun.clear();
+        self.spent = true;
+        LineError::OutOfMemory
+    }
+
+    /// Answers a line: `answer` then has the answer and its newline, and nothing else.
+    ///
+    /// # Errors
+    /// `Bad` exactly where the line is outside the grammar, and then nothing changes. After `OutOfMemory` the machine is
+    /// spent. On both `answer` is empty.
+    pub fn line(&mut self, line: &[u8], answer: &mut Vec<u8>) -> Result<(), LineError>
+        // The machine isn't spent, and it stands for a lawful session of fewer than 2^63 lines.
+        requires { (session : Session) × StandsFor StandsAfter self.old session }
+
+        // For each session that it stands for the answer is right, and it stands for the session with this pair.
+        ensures ok { OnOk result ((session : Session) → StandsFor StandsAfter self.old session → HasAnswered StandsAfter self.new session line.now answer.new.items) }
+
+        // A line outside the grammar is refused, no other one is, and nothing changes.
+        ensures bad { IsErrOf result LineError.Bad → SpellsNone line.now }
+        ensures same { IsErrOf result LineError.Bad → (n : ℕ) (s : ScriptState) → StandsAfter self.old n s → StandsAfter self.new n s }
+
+        ensures spent { IsErrOf result LineError.OutOfMemory → self.new.spent ≡ true }
+        ensures err { OnErr result (answer.new.items ≡ []) }
+    {
+        answer.clear();
+        match parse_line(self.alloc, line) {
+            Ok(Some(parsed)) => match self.answer(parsed, answer) {
+                Ok(()) => Ok(()),
+                Err(_) => Err(self.give_up(answer)),
+            },
+            Ok(None) => Err(LineError::Bad),
+            Err(_) => Err(self.give_up(answer)),
+        }
+    }
+}
+
+impl<C: BoardWords + Drop> RunsLines for Machine<C> {
+    ghost stands = { StandsAfter };
+
+    fn line(&mut self, line: &[u8], answer: &mut Vec<u8>) -> Result<(), LineError> {
+        Machine::line(self, line, answer)
+    }
+}

@@ -1,0 +1,17 @@
+pub mod AnswerLaws
+pub mod CompositionLemmas
+pub mod EachLaws
+pub mod EachLemmas
+pub mod EventLemmas
+pub mod FormLaws
+pub mod HolderLemmas
+pub mod OneLemmas
+pub mod OwedLemmas
+pub mod PartLemmas
+pub mod ScriptSoundLemmas
+pub mod TaskLemmas
+pub mod TurnLemmas
+pub mod WordLemmas
+pub mod WorkedEvent
+pub mod WorkedScript
+pub mod WorkedSet

@@ -1,0 +1,261 @@
+-- The session that was worked out by hand, with a set.
+use Rattle.std.proofs.Common.{rules, ◌≡◌, ℕ, ◌+◌, ◌*◌, false, eqb, refl, sym, ◌∙◌, ap, inl, inr, arith, lit<, Some, None, Option, List, [], ◌∷◌, ◌++◌}
+use Rattle.std.specs.Prelude.{codes, if◌then◌else◌, ◌==◌}
+use lib.Count.{count_trailing_zeros}
+use Rattle.std.specs.List.{list_any}
+use Rattle.std.specs.FinSet as set
+use Rattle.std.specs.Int.{bit_at}
+use Rattle.std.proofs.lemmas.Bool.{false≢true}
+use Rattle.std.proofs.lemmas.Nat.Bits.{bit_at-pow_other}
+use Rattle.board_event_model.specs.declared.access.EventAccess.{EventAccess}
+use Rattle.board_event_model.specs.declared.access.EventAccess.TheVariants as event_access
+use Rattle.board_event_model.specs.declared.access.EventAnswer.{EventAnswer}
+use Rattle.board_event_model.specs.declared.access.EventAnswer.TheVariants as event_answer
+use Rattle.board_event_model.specs.declared.call.WaitMode.TheVariants as mode
+use Rattle.board_event_model.specs.declared.call.WaitStage.TheVariants as stage
+use Rattle.board_event_model.specs.declared.kind.EventKind.TheVariants as kind
+use Rattle.board_event_model.specs.Ids.{has}
+use Rattle.board_event_model.specs.EventMemory.{Event, IsWordAnswer, taken}
+use Rattle.board_event_model.specs.WaitCalls.{Wait}
+use Rattle.board_event_model.proofs.SetLemmas.{either, has_empty, has_inserted, has_itself, is_false}
+use Rattle.board_event_model.proofs.QuietLemmas.{eqb_self, eqb_true}
+use Rattle.board_cell_model.specs.declared.access.Access.TheVariants as access
+use Rattle.board_model.specs.declared.answer.Answer.TheVariants as answer
+use Rattle.board_model.specs.declared.answer.Answer.{Answer}
+use Rattle.board_model.specs.declared.answer.Reply.{Reply}
+use Rattle.board_model.specs.declared.answer.Reply.TheVariants as reply
+use Rattle.board_model.specs.declared.line.Line.{Line}
+use Rattle.board_model.specs.declared.line.Line.TheVariants as board_line
+use Rattle.board_model.specs.AnswerGrammar.{IsAnswer}
+use Rattle.board_model.specs.declared.value.ValueType.TheVariants as type
+use Rattle.board_model.specs.Tables.{entry_at}
+use Rattle.board_model.specs.WorkedSessions as boards
+use Rattle.script_model.specs.declared.line.EventRequest.{EventRequest}
+use Rattle.script_model.specs.declared.line.EventRequest.TheVariants as request
+use Rattle.script_model.specs.declared.reply.EventReply.{EventReply}
+use Rattle.script_model.specs.declared.reply.EventReply.TheVariants as event_reply
+use Rattle.script_model.specs.ScriptSession.{IsLawful, IsLawfulFrom, IsRight, Session, after, start, state_after}
+use Rattle.script_model.specs.ScriptTurns.{ScriptState}
+use Rattle.script_model.specs.LawsOfComposition.{EndsGet, EndsPublication, IsIdOf, IsNotifiedGet, IsUntaken, Notifies, Pair, TakesId, at, of_pair, past, to_asked, to_begun, to_got, to_notified, to_published, to_taken}
+use Rattle.script_model.specs.WorkedScripts.{a_reader_told_by_a_set, asked, set_access}
+use Rattle.script_model.proofs.WorkedScript.{found, get_runs, runs, the_get}
+
+-- ---- the word of the set in which 0 is pending
+
+-- bit i of it
+zero_bit : (i : ℕ) → bit_at 1 i ≡ (if has (set.insert set.empty 0) (64 * 0 + i) then 1 else 0)
+zero_bit i =
+    elim (either (eqb i 0)) [
+      | inl same ↦ (let e = eqb_true i 0 same in rw e (rw (has_itself set.empty 0) refl))
+      | inr apart ↦ (
+          let none : has (set.insert set.empty 0) (64 * 0 + i) ≡ false = is_false _ (λ h. elim (has_inserted set.empty 0 (64 * 0 + i) h) [
+            | inl e ↦ (let zero : i ≡ 0 = omega (arith, e) in false≢true (sym apart ∙ ap (λ (k : ℕ). eqb k 0) zero ∙ eqb_self 0))
+            | inr e ↦ has_empty (64 * 0 + i) e
+          ]) in
+          rw none (bit_at-pow_other 0 i (λ e. false≢true (sym apart ∙ ap (λ (k : ℕ). eqb k 0) e ∙ eqb_self 0))))
+    ]
+
+zero_word : IsWordAnswer (set.insert set.empty 0) 0 (event_answer.Word 1)
+zero_word = (1, refl, record { small = lit< tt; bits = λ i low. zero_bit i })
+
+lawful_join : (xs ys : Session) (s : ScriptState) → IsLawfulFrom s xs → IsLawfulFrom (state_after s xs) ys → IsLawfulFrom s (xs ++ ys)
+lawful_join [] ys s h k = k
+lawful_join (x ∷ xs) ys s h k = (h.0, lawful_join xs ys (after s x.0 x.1) h.1 k)
+
+-- an access that is right
+abbrev Right : Session → Pair → Type 0
+Right before pair = IsRight (at before) pair.0 pair.1
+
+-- what comes before each access
+abbrev to_look : Session
+to_look = to_begun a_reader_told_by_a_set ++ a_reader_told_by_a_set.begun ∷ []
+
+abbrev to_post : Session
+to_post = to_notified a_reader_told_by_a_set ++ a_reader_told_by_a_set.notified ∷ []
+
+abbrev the_look : Pair
+the_look = set_access (codes "a") event_access.Listener event_answer.Yes None
+
+abbrev the_post : Pair
+the_post = set_access (codes "a") event_access.Post event_answer.Done (Some event_reply.Done)
+
+abbrev the_wait_begins : Pair
+the_wait_begins = asked (codes "b") (request.Wait (codes "e") false mode.Block)
+
+abbrev a_signal : EventAnswer → Pair
+a_signal b = set_access (codes "b") event_access.Signal b None
+
+abbrev the_scan : Pair
+the_scan = set_access (codes "b") (event_access.Scan 0) (event_answer.Word 1) None
+
+abbrev to_drain : Session
+to_drain = to_post ++ (the_post ∷ the_wait_begins ∷ [])
+
+abbrev to_scan : Session
+to_scan = to_drain ++ (a_signal event_answer.Yes ∷ a_signal event_answer.No ∷ [])
+
+abbrev the_gets : Session
+the_gets = a_reader_told_by_a_set.asked ∷ (a_reader_told_by_a_set.before_got ++ a_reader_told_by_a_set.got ∷ [])
+
+begun_lawful : IsLawful to_look
+begun_lawful = search rules
+
+look_right : Right to_look the_look
+look_right = record { line = refl; rule = record { answer = event_answer.Yes; right = refl; printed = refl } }
+
+set_right : Right (to_look ++ the_look ∷ []) a_reader_told_by_a_set.notified
+set_right = record { line = refl; rule = record { answer = event_answer.Done; right = refl; printed = refl } }
+
+post_right : Right to_post the_post
+post_right = record { line = refl; rule = record { answer = event_answer.Done; right = refl; printed = refl } }
+
+begin_right : Right (to_post ++ the_post ∷ []) the_wait_begins
+begin_right = record { line = (refl, refl); rule = refl }
+
+drain_right : Right to_drain (a_signal event_answer.Yes)
+drain_right = record { line = refl; rule = record { answer = event_answer.Yes; right = refl; printed = refl } }
+
+drained_right : Right (to_drain ++ a_signal event_answer.Yes ∷ []) (a_signal event_answer.No)
+drained_right = record { line = refl; rule = record { answer = event_answer.No; right = refl; printed = refl } }
+
+scan_right : Right to_scan the_scan
+scan_right = record { line = refl; rule = record { answer = event_answer.Word 1; right = zero_word; printed = refl } }
+
+clear_right : Right (to_scan ++ the_scan ∷ []) a_reader_told_by_a_set.taken
+unfolding count_trailing_zeros
+clear_right = record { line = refl; rule = record { answer = event_answer.Done; right = (refl, has_itself set.empty 0); printed = refl } }
+
+get_begins : Right (to_asked a_reader_told_by_a_set) a_reader_told_by_a_set.asked
+get_begins = record { line = (refl, (refl, tt)); rule = record { answer = answer.Begun; right = record { line = (refl, (refl, tt)); answer = tt; reason = tt; owed = λ e. refl; word = λ e. tt; reply = λ e. tt }; is = refl } }
+
+-- the reads of the get
+abbrev a_read : ℕ → ℕ → Option Reply → Line × Answer
+a_read word value told = (board_line.Step (codes "b"), answer.Step (access.Read 1 word value) told)
+
+first_answer : IsAnswer (answer.Step (access.Read 1 0 2) None)
+first_answer = search rules
+
+second_answer : IsAnswer (answer.Step (access.Read 1 3 9) None)
+second_answer = search rules
+
+last_answer : IsAnswer (answer.Step (access.Read 1 0 2) (Some (reply.Got type.U64 (9 ∷ []) 2)))
+last_answer = search rules
+
+abbrev to_read : Session
+to_read = to_asked a_reader_told_by_a_set ++ a_reader_told_by_a_set.asked ∷ []
+
+first_read : Right to_read (of_pair (a_read 0 2 None))
+first_read = record { line = refl; rule = record { answer = answer.Step (access.Read 1 0 2) None; right = record { line = refl; answer = first_answer; reason = tt; owed = λ e. refl; word = λ e. refl; reply = λ e. record { last = refl; reply = tt } }; is = refl } }
+
+second_read : Right (to_read ++ of_pair (a_read 0 2 None) ∷ []) (of_pair (a_read 3 9 None))
+second_read = record { line = refl; rule = record { answer = answer.Step (access.Read 1 3 9) None; right = record { line = refl; answer = second_answer; reason = tt; owed = λ e. refl; word = λ e. refl; reply = λ e. record { last = refl; reply = tt } }; is = refl } }
+
+last_read : Right (to_got a_reader_told_by_a_set) a_reader_told_by_a_set.got
+last_read = record { line = refl; rule = record { answer = answer.Step (access.Read 1 0 2) (Some (reply.Got type.U64 (9 ∷ []) 2)); right = record { line = refl; answer = last_answer; reason = tt; owed = λ e. refl; word = λ e. refl; reply = λ e. record { last = refl; reply = refl } }; is = refl } }
+
+lawful : IsLawful (to_got a_reader_told_by_a_set ++ a_reader_told_by_a_set.got ∷ [])
+lawful =
+    lawful_join to_look (the_look ∷ a_reader_told_by_a_set.notified ∷ the_post ∷ the_wait_begins ∷ a_signal event_answer.Yes ∷ a_signal event_answer.No ∷ the_scan ∷ a_reader_told_by_a_set.taken ∷ the_gets) start begun_lawful
+    (look_right, (set_right, (post_right, (begin_right, (drain_right, (drained_right, (scan_right, (clear_right, (get_begins, (first_read, (second_read, (last_read, tt))))))))))))
+
+-- ---- what each of the six pairs is
+
+published : EndsPublication (at (to_published a_reader_told_by_a_set)) a_reader_told_by_a_set.published 1 0 (9 ∷ []) 2
+published =
+    let update_runs = runs ((at (to_published a_reader_told_by_a_set)).boards.parties (codes "a")) refl in
+    record {
+      ends = boards.ended (codes "a") (access.Write 1 0 2) reply.Done;
+      is = refl;
+      publication = record { party = codes "a"; call = update_runs.call; access = access.Write 1 0 2; told = reply.Done; runs = update_runs.is; request = (refl, refl, refl, refl); line = refl; answer = refl };
+    }
+
+place : IsIdOf (at (to_begun a_reader_told_by_a_set)) 1 0 0
+place =
+    let entry = found (entry_at (at (to_begun a_reader_told_by_a_set)).boards.standing.tables 1 0) refl in
+    record { entry = entry.it; found = entry.is; place = refl }
+
+notified : Notifies (at (to_notified a_reader_told_by_a_set)) a_reader_told_by_a_set.notified (codes "a") 1 0 0
+notified =
+    let doing = found ((at (to_notified a_reader_told_by_a_set)).events.session.doing (codes "a")) refl in
+    record {
+      call = doing.it.call;
+      access = event_access.Set 0;
+      answer = event_answer.Done;
+      told = None;
+      step = record { kind = kind.Bits; name = codes "s"; runs = doing.is; steps = refl; prints = refl };
+      number_is = refl;
+      makes = inl refl;
+    }
+
+-- an access that takes nothing
+takes_nothing : (s : ScriptState) (party : List ℕ) (a : EventAccess) (b : EventAnswer) (r : Option EventReply) → ((e : Event) → taken e a ≡ []) → TakesId s (set_access party a b r) 1 0 → ⊥
+takes_nothing s party a b r none t =
+    let prints = t.step.prints in
+    let same : t.access ≡ a = cc in
+    false≢true (ap (λ (xs : List ℕ). list_any (λ x. x == 0) xs) (sym (none t.event.event)) ∙ ap (λ (z : EventAccess). list_any (λ x. x == 0) (taken t.event.event z)) (sym same) ∙ t.takes)
+
+begins_only : (s : ScriptState) (party : List ℕ) (q : EventRequest) → TakesId s (asked party q) 1 0 → ⊥
+begins_only s party q t = let e = t.step.steps in cc
+
+untaken : IsUntaken (past (to_notified a_reader_told_by_a_set) a_reader_told_by_a_set.notified) a_reader_told_by_a_set.before_taken 1 0
+untaken = (
+  takes_nothing _ (codes "a") event_access.Post event_answer.Done (Some event_reply.Done) (λ e. refl),
+  (
+    begins_only _ (codes "b") _,
+    (
+      takes_nothing _ (codes "b") event_access.Signal event_answer.Yes None (λ e. refl),
+      (
+        takes_nothing _ (codes "b") event_access.Signal event_answer.No None (λ e. refl),
+        (takes_nothing _ (codes "b") (event_access.Scan 0) (event_answer.Word 1) None (λ e. refl), tt),
+      ),
+    ),
+  ),
+)
+
+-- where the wait stands before it takes the id
+abbrev the_wait : Wait
+the_wait = record { words = 1; many = false; mode = mode.Block; stage = stage.Clear 0 }
+
+taken_then : TakesId (at (to_taken a_reader_told_by_a_set)) a_reader_told_by_a_set.taken 1 0
+unfolding count_trailing_zeros
+taken_then =
+    let doing = found ((at (to_taken a_reader_told_by_a_set)).events.session.doing (codes "b")) refl in
+    let event = found ((at (to_taken a_reader_told_by_a_set)).events.session.stands 1) refl in
+    record {
+      party = codes "b";
+      call = doing.it.call;
+      wait = the_wait;
+      access = event_access.Clear 0;
+      answer = event_answer.Done;
+      told = Some (event_reply.Id 0);
+      event = event.it;
+      step = record { kind = kind.Bits; name = codes "s"; runs = doing.is; steps = refl; prints = refl };
+      waits = refl;
+      stands = event.is;
+      takes = refl;
+    }
+
+got : EndsGet (at (to_got a_reader_told_by_a_set)) a_reader_told_by_a_set.got (codes "b") 1 0 (9 ∷ []) 2
+got = record {
+  ends = boards.ended (codes "b") (access.Read 1 0 2) (reply.Got type.U64 (9 ∷ []) 2);
+  is = refl;
+  got = record { party = codes "b"; call = get_runs; fetch = the_get; access = access.Read 1 0 2; runs = refl; request = refl; board = refl; place = refl; line = refl; answer = refl };
+  own = refl;
+}
+
+pub reader_told : IsNotifiedGet a_reader_told_by_a_set 1 0 1 0 2 2 (9 ∷ []) (9 ∷ [])
+reader_told = record {
+  bell = codes "a";
+  reader = codes "b";
+  number = 0;
+  lawful = lawful;
+  published = published;
+  id_is = place;
+  begun = record { name = codes "n"; holds = refl; is = refl; number_is = refl };
+  notified = notified;
+  untaken = untaken;
+  taken = taken_then;
+  asked = record { handle = codes "h"; value = None; fetch = the_get; found = refl; board = refl; place = refl; is = refl };
+  runs_on = (refl, (refl, refl));
+  got = got;
+}

@@ -1,0 +1,16 @@
+pub mod ScriptGrammar
+pub mod ScriptAnswers
+pub mod ScriptEvents
+pub mod ScriptTurns
+pub mod ScriptSession
+pub mod SoundEvents
+pub mod LawsOfSound
+pub mod Parts
+pub mod LawsOfParts
+pub mod LawsOfEvents
+pub mod LawsOfComposition
+pub mod WorkedScripts
+pub mod WorkedEvents
+pub mod ScriptOutput
+pub mod LawsOfAnswers
+pub mod LawsOfForms

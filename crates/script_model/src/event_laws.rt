@@ -1,0 +1,17 @@
+//! The laws of calls on events in a script. Each function's contract is a theorem over the definitions alone.
+ghost use Rattle.script_model.specs.LawsOfEvents.{OwedAccesses, QuietLooks, WaitReplies};
+
+/// Where a wait makes a waiting look that finds no signal, every pending id was last set by a notify that hasn't finished.
+pub fn quiet_looks_miss_nothing()
+    ensures { QuietLooks }
+{}
+
+/// A finished wait is told what its own steps took, and a wait for one is told a single id.
+pub fn waits_are_told_what_they_took()
+    ensures { WaitReplies }
+{}
+
+/// The access that a running call owes can be made, after fewer than 2^64 - 1 lines.
+pub fn owed_accesses_can_be_made()
+    ensures { OwedAccesses }
+{}

@@ -1,0 +1,4 @@
+pub mod Digits
+pub mod EntryLemmas
+pub mod PartLemmas
+pub mod TokenLemmas

@@ -1,0 +1,166 @@
+//! Names, numbers, types and keys, each from one token.
+ghost use Rattle.std.specs.Prelude.{◌≡◌};
+ghost use Rattle.std.specs.List.{list_all};
+ghost use Rattle.board_model.specs.LineGrammar.{is_name, is_name_byte, is_visible, is_visible_byte};
+ghost use Rattle.script_grammar.specs.LineReading.{is_plain, read_attribute_key, read_attribute_value, read_board_name, read_digits, read_key, read_key_type, read_name, read_number, read_value_type};
+
+use crate::bytes::{bytes_behind, is_word};
+use board_layout::Text;
+use board_model::{Key, KeyType, Name, ValueType};
+
+fn has_name_bytes(text: &[u8]) -> bool
+    ensures { result ≡ list_all is_name_byte text.now }
+{
+    text.iter()
+        .all(|b| (*b >= 97 && *b <= 122) || (*b >= 48 && *b <= 57))
+}
+
+fn has_visible_bytes(text: &[u8]) -> bool
+    ensures { result ≡ list_all is_visible_byte text.now }
+{
+    text.iter().all(|b| *b >= 33 && *b <= 126)
+}
+
+fn is_name(text: &[u8]) -> bool
+    ensures { result ≡ is_name text.now }
+{
+    if text.is_empty() || text.len() > 16 {
+        return false;
+    }
+    has_name_bytes(text)
+}
+
+// Whether these are 1 to so many visible bytes.
+pub(crate) fn is_visible(text: &[u8], most: usize) -> bool
+    ensures { result ≡ is_visible most text.now }
+{
+    if text.is_empty() || text.len() > most {
+        return false;
+    }
+    has_visible_bytes(text)
+}
+
+#[tactic(auto, unfolding(board_model::specs::LineReading::read_name))]
+pub(crate) fn name_of(text: &[u8]) -> Option<Name>
+    ensures { result ≡ read_name text.now }
+{
+    if !is_name(text) {
+        return None;
+    }
+    Some(Text::of(text))
+}
+
+#[tactic(auto, unfolding(board_model::specs::LineReading::read_board_name))]
+pub(crate) fn board_name_of(text: &[u8]) -> Option<Text<255>>
+    ensures { result ≡ read_board_name text.now }
+{
+    if !is_visible(text, 255) {
+        return None;
+    }
+    Some(Text::of(text))
+}
+
+#[tactic(auto, unfolding(board_model::specs::LineReading::read_attribute_key))]
+pub(crate) fn attribute_key_of(text: &[u8]) -> Option<Text<64>>
+    ensures { result ≡ read_attribute_key text.now }
+{
+    if !is_visible(text, 64) {
+        return None;
+    }
+    Some(Text::of(text))
+}
+
+#[tactic(auto, unfolding(board_model::specs::LineReading::read_attribute_value))]
+pub(crate) fn attribute_value_of(text: &[u8]) -> Option<Text<256>>
+    ensures { result ≡ read_attribute_value text.now }
+{
+    if !is_visible(text, 256) {
+        return None;
+    }
+    Some(Text::of(text))
+}
+
+// One digit, or no leading zero.
+fn is_plain(text: &[u8]) -> bool
+    ensures { result ≡ is_plain text.now }
+{
+    match text {
+        [] => false,
+        [_] => true,
+        [first, ..] => *first != 48,
+    }
+}
+
+// The value of digits, where it has at most 64 bits.
+fn digits_value(text: &[u8]) -> Option<u64>
+    ensures { result ≡ read_digits text.now }
+{
+    let mut n: u64 = 0;
+    for b in text {
+        if *b < 48 || *b > 57 {
+            return None;
+        }
+        let digit = (*b - 48) as u64;
+        if n > (u64::MAX - digit) / 10 {
+            return None;
+        }
+        n = 10 * n + digit;
+    }
+    Some(n)
+}
+
+/// A decimal number of at most 64 bits, without leading zeros.
+#[tactic(auto, unfolding(board_model::specs::LineReading::read_number))]
+pub fn number_of(text: &[u8]) -> Option<u64>
+    ensures { result ≡ read_number text.now }
+{
+    if !is_plain(text) {
+        return None;
+    }
+    digits_value(text)
+}
+
+#[tactic(auto, unfolding(board_model::specs::LineReading::read_key_type))]
+pub(crate) fn key_type_of(text: &[u8]) -> Option<KeyType>
+    ensures { result ≡ read_key_type text.now }
+{
+    if is_word(text, b"u64") {
+        return Some(KeyType::U64);
+    }
+    if is_word(text, b"f8") {
+        return Some(KeyType::F8);
+    }
+    None
+}
+
+#[tactic(auto, unfolding(board_model::specs::LineReading::read_value_type))]
+pub(crate) fn value_type_of(text: &[u8]) -> Option<ValueType>
+    ensures { result ≡ read_value_type text.now }
+{
+    if is_word(text, b"bool") {
+        return Some(ValueType::Bool);
+    }
+    if is_word(text, b"u64") {
+        return Some(ValueType::U64);
+    }
+    if is_word(text, b"q4") {
+        return Some(ValueType::Q4);
+    }
+    None
+}
+
+#[tactic(auto, unfolding(board_model::specs::LineReading::read_key, board_model::specs::LineReading::read_key_behind))]
+pub(crate) fn key_of(text: &[u8]) -> Option<Key>
+    ensures { result ≡ read_key text.now }
+{
+    match bytes_behind(text, b"u64:") {
+        Some(digits) => Some(Key::U64(number_of(digits)?)),
+        None => {
+            let letters = bytes_behind(text, b"f8:")?;
+            if !is_visible(letters, 8) {
+                return None;
+            }
+            Some(Key::F8(Text::of(letters)))
+        }
+    }
+}

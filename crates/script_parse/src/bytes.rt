@@ -1,0 +1,34 @@
+//! Looks at bytes.
+ghost use Rattle.std.specs.Prelude.{◌≡◌, ◌==◌, ◌<◌, false, All, IfNone, IfSome, length, slice_index, take};
+ghost use Rattle.std.specs.Option.{option_map};
+ghost use Rattle.std.specs.Str.{bytes_eq};
+ghost use Rattle.script_grammar.specs.LineReading.{behind};
+
+/// Where the byte stands first.
+pub fn place_of(bytes: &[u8], wanted: u8) -> Option<usize>
+    ensures none { IfNone result (All (λ b. (b == wanted) ≡ false) bytes.now) }
+    ensures inside { IfSome result (λ at. at < length bytes.now) }
+    ensures found { IfSome result (λ at. slice_index bytes.now at ≡ wanted) }
+    ensures first { IfSome result (λ at. All (λ b. (b == wanted) ≡ false) (take at bytes.now)) }
+{
+    for (i, b) in bytes.iter().enumerate() {
+        if *b == wanted {
+            return Some(i);
+        }
+    }
+    None
+}
+
+// Whether the text is the word.
+pub(crate) fn is_word(text: &[u8], word: &[u8]) -> bool
+    ensures { result ≡ bytes_eq text.now word.now }
+{
+    text == word
+}
+
+// What follows the prefix.
+pub(crate) fn bytes_behind<'a>(text: &'a [u8], prefix: &[u8]) -> Option<&'a [u8]>
+    ensures { option_map (λ rest. rest.now) result ≡ behind prefix.now text.now }
+{
+    text.strip_prefix(prefix)
+}

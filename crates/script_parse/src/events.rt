@@ -1,0 +1,284 @@
+//! Lines of events, from their tokens.
+ghost use Rattle.std.specs.Prelude.{◌≡◌, IfOk};
+ghost use Rattle.std.specs.List.{list_all};
+ghost use Rattle.script_grammar.specs.LineReading.{first_by};
+ghost use Rattle.script_grammar.specs.EventReading.{read_count, read_event_begin, read_event_line, read_event_name, read_expire, read_kind, read_listen, read_max, read_mode, read_notifier, read_notify, read_request, read_wait};
+ghost use Rattle.script_parse.specs.Tokens.{with_rest};
+ghost use Rattle.script_model.specs.ScriptGrammar.{is_event_byte, is_event_name};
+
+use crate::atoms::{is_visible, number_of};
+use crate::bytes::is_word;
+use crate::calls::one_name;
+use crate::tokens::Tokens;
+use board_event_model::{EventKind, WaitMode};
+use board_layout::Text;
+use board_model::LongName;
+use script_model::{EventRequest, ScriptLine};
+use std::alloc::{AllocError, Global};
+
+// The ids of a set are at most this.
+const MOST_ID: u64 = 65535;
+
+// Whether no slash and no backslash is among these.
+fn has_event_bytes(text: &[u8]) -> bool
+    ensures { result ≡ list_all is_event_byte text.now }
+{
+    text.iter().all(|b| *b != 47 && *b != 92)
+}
+
+fn is_event_name(text: &[u8]) -> bool
+    ensures { result ≡ is_event_name text.now }
+{
+    is_visible(text, 255) && has_event_bytes(text) && !is_word(text, b".") && !is_word(text, b"..")
+}
+
+#[tactic(auto, unfolding(crate::specs::EventReading::read_event_name))]
+fn event_name_of(text: &[u8]) -> Option<Text<255>>
+    ensures { result ≡ read_event_name text.now }
+{
+    if !is_event_name(text) {
+        return None;
+    }
+    Some(Text::of(text))
+}
+
+#[tactic(auto, unfolding(crate::specs::EventReading::read_kind))]
+fn kind_of(text: &[u8]) -> Option<EventKind>
+    ensures { result ≡ read_kind text.now }
+{
+    if is_word(text, b"bits") {
+        return Some(EventKind::Bits);
+    }
+    if is_word(text, b"queue") {
+        return Some(EventKind::Queue);
+    }
+    None
+}
+
+#[tactic(auto, unfolding(crate::specs::EventReading::read_mode))]
+fn mode_of(text: &[u8]) -> Option<WaitMode>
+    ensures { result ≡ read_mode text.now }
+{
+    if is_word(text, b"try") {
+        return Some(WaitMode::Try);
+    }
+    if is_word(text, b"timed") {
+        return Some(WaitMode::Timed);
+    }
+    if is_word(text, b"block") {
+        return Some(WaitMode::Block);
+    }
+    None
+}
+
+// Whether a wait is for all ids.
+#[tactic(auto, unfolding(crate::specs::EventReading::read_count))]
+fn count_of(text: &[u8]) -> Option<bool>
+    ensures { result ≡ read_count text.now }
+{
+    if is_word(text, b"all") {
+        return Some(true);
+    }
+    if is_word(text, b"one") {
+        return Some(false);
+    }
+    None
+}
+
+// The greatest id of a set.
+#[tactic(auto, unfolding(crate::specs::EventReading::read_max))]
+fn max_of(text: &[u8]) -> Option<u64>
+    ensures { result ≡ read_max text.now }
+{
+    let max = number_of(text)?;
+    if max > MOST_ID {
+        return None;
+    }
+    Some(max)
+}
+
+impl<'a> Tokens<'a> {
+    fn event_name(&mut self) -> Option<Text<255>>
+        ensures { with_rest result self.new ≡ first_by read_event_name self.old }
+    {
+        event_name_of(self.next()?)
+    }
+
+    fn kind(&mut self) -> Option<EventKind>
+        ensures { with_rest result self.new ≡ first_by read_kind self.old }
+    {
+        kind_of(self.next()?)
+    }
+
+    fn mode(&mut self) -> Option<WaitMode>
+        ensures { with_rest result self.new ≡ first_by read_mode self.old }
+    {
+        mode_of(self.next()?)
+    }
+
+    fn count(&mut self) -> Option<bool>
+        ensures { with_rest result self.new ≡ first_by read_count self.old }
+    {
+        count_of(self.next()?)
+    }
+
+    fn max(&mut self) -> Option<u64>
+        ensures { with_rest result self.new ≡ first_by read_max self.old }
+    {
+        max_of(self.next()?)
+    }
+}
+
+#[tactic(auto, unfolding(crate::specs::EventReading::read_listen, crate::specs::EventReading::read_listener))]
+fn listen_of(alloc: Global, tokens: &mut Tokens) -> Result<Option<EventRequest>, AllocError>
+    ensures { IfOk result (λ o. o ≡ read_listen tokens.old) }
+{
+    let Some(listener) = tokens.name() else {
+        return Ok(None);
+    };
+    let Some(kind) = tokens.kind() else {
+        return Ok(None);
+    };
+    let Some(event) = tokens.event_name() else {
+        return Ok(None);
+    };
+    match kind {
+        EventKind::Bits => {
+            let Some(max) = tokens.max() else {
+                return Ok(None);
+            };
+            if !tokens.is_end() {
+                return Ok(None);
+            }
+            Ok(Some(EventRequest::ListenBits {
+                listener,
+                event: LongName::new(alloc, event)?,
+                max,
+            }))
+        }
+        EventKind::Queue => {
+            if !tokens.is_end() {
+                return Ok(None);
+            }
+            Ok(Some(EventRequest::ListenQueue {
+                listener,
+                event: LongName::new(alloc, event)?,
+            }))
+        }
+    }
+}
+
+#[tactic(auto, unfolding(crate::specs::EventReading::read_notifier))]
+fn notifier_of(alloc: Global, tokens: &mut Tokens) -> Result<Option<EventRequest>, AllocError>
+    ensures { IfOk result (λ o. o ≡ read_notifier tokens.old) }
+{
+    let Some(notifier) = tokens.name() else {
+        return Ok(None);
+    };
+    let Some(kind) = tokens.kind() else {
+        return Ok(None);
+    };
+    let Some(event) = tokens.event_name() else {
+        return Ok(None);
+    };
+    if !tokens.is_end() {
+        return Ok(None);
+    }
+    Ok(Some(EventRequest::Notifier {
+        notifier,
+        kind,
+        event: LongName::new(alloc, event)?,
+    }))
+}
+
+#[tactic(auto, unfolding(crate::specs::EventReading::read_notify))]
+fn notify_of(tokens: &mut Tokens) -> Option<EventRequest>
+    ensures { result ≡ read_notify tokens.old }
+{
+    let notifier = tokens.name()?;
+    let id = tokens.number()?;
+    if !tokens.is_end() {
+        return None;
+    }
+    Some(EventRequest::Notify { notifier, id })
+}
+
+#[tactic(auto, unfolding(crate::specs::EventReading::read_wait))]
+fn wait_of(tokens: &mut Tokens) -> Option<EventRequest>
+    ensures { result ≡ read_wait tokens.old }
+{
+    let listener = tokens.name()?;
+    let many = tokens.count()?;
+    let mode = tokens.mode()?;
+    if !tokens.is_end() {
+        return None;
+    }
+    Some(EventRequest::Wait {
+        listener,
+        many,
+        mode,
+    })
+}
+
+#[tactic(auto, unfolding(crate::specs::EventReading::read_request))]
+fn request_of(alloc: Global, tokens: &mut Tokens) -> Result<Option<EventRequest>, AllocError>
+    ensures { IfOk result (λ o. o ≡ read_request tokens.old) }
+{
+    let Some(word) = tokens.next() else {
+        return Ok(None);
+    };
+    if is_word(word, b"listen") {
+        return listen_of(alloc, tokens);
+    }
+    if is_word(word, b"notifier") {
+        return notifier_of(alloc, tokens);
+    }
+    if is_word(word, b"notify") {
+        return Ok(notify_of(tokens));
+    }
+    if is_word(word, b"wait") {
+        return Ok(wait_of(tokens));
+    }
+    Ok(None)
+}
+
+#[tactic(auto, unfolding(crate::specs::EventReading::read_event_begin))]
+fn event_begin_of(alloc: Global, tokens: &mut Tokens) -> Result<Option<ScriptLine>, AllocError>
+    ensures { IfOk result (λ o. o ≡ read_event_begin tokens.old) }
+{
+    let Some(party) = tokens.name() else {
+        return Ok(None);
+    };
+    let Some(request) = request_of(alloc, tokens)? else {
+        return Ok(None);
+    };
+    Ok(Some(ScriptLine::Event { party, request }))
+}
+
+#[tactic(auto, unfolding(crate::specs::EventReading::read_expire))]
+fn expire_of(tokens: &mut Tokens) -> Option<ScriptLine>
+    ensures { result ≡ read_expire tokens.old }
+{
+    let party = one_name(tokens)?;
+    Some(ScriptLine::Expire { party })
+}
+
+// The line of events that these tokens make.
+#[tactic(auto, unfolding(crate::specs::EventReading::read_event_line))]
+pub(crate) fn event_line_of(
+    alloc: Global,
+    tokens: &mut Tokens,
+) -> Result<Option<ScriptLine>, AllocError>
+    ensures { IfOk result (λ o. o ≡ read_event_line tokens.old) }
+{
+    let Some(word) = tokens.next() else {
+        return Ok(None);
+    };
+    if is_word(word, b"begin") {
+        return event_begin_of(alloc, tokens);
+    }
+    if is_word(word, b"expire") {
+        return Ok(expire_of(tokens));
+    }
+    Ok(None)
+}

@@ -1,0 +1,99 @@
+//! The optional parts of calls, in their order.
+ghost use Rattle.std.specs.Prelude.{◌≡◌, IfOk, codes};
+ghost use Rattle.script_grammar.specs.LineReading.{first_by, read_attribute_key, read_limit, read_limits, read_needs, read_pair, read_parts};
+ghost use Rattle.script_parse.specs.Tokens.{with_rest};
+
+use crate::tokens::Tokens;
+use board_model::{Attribute, AttributeKeys, Attributes, Limits, Requirements};
+use std::alloc::{AllocError, Global};
+
+// A call has no more attributes, needs or needed keys than these.
+const MOST_PARTS: usize = 8;
+
+impl<'a> Tokens<'a> {
+    // A limit, where its word stands.
+    #[tactic(auto, unfolding(board_model::specs::LineReading::read_limit))]
+    fn limit(&mut self, word: &[u8]) -> Option<Option<u64>>
+        ensures { with_rest result self.new ≡ read_limit word.now self.old }
+    {
+        if !self.take_word(word) {
+            return Some(None);
+        }
+        Some(Some(self.number()?))
+    }
+
+    #[tactic(auto, unfolding(board_model::specs::LineReading::read_limits))]
+    pub(crate) fn limits(&mut self) -> Option<Limits>
+        ensures { with_rest result self.new ≡ read_limits self.old }
+    {
+        let max_readers = self.limit(b"readers")?;
+        let max_nodes = self.limit(b"nodes")?;
+        Some(Limits {
+            max_readers,
+            max_nodes,
+        })
+    }
+
+    #[tactic(auto, unfolding(board_model::specs::LineReading::read_pair))]
+    fn pair(&mut self) -> Option<Attribute>
+        ensures { with_rest result self.new ≡ read_pair self.old }
+    {
+        let key = self.attribute_key()?;
+        let value = self.attribute_value()?;
+        Some(Attribute { key, value })
+    }
+}
+
+// The pairs of attributes, each behind the word. Only their list takes memory.
+pub(crate) fn attributes_of(
+    alloc: Global,
+    word: &[u8],
+    tokens: &mut Tokens,
+) -> Result<Option<Attributes>, AllocError>
+    ensures { IfOk result (λ o. with_rest o tokens.new ≡ read_parts 8 word.now read_pair tokens.old) }
+{
+    let mut attributes = Vec::new(alloc);
+    while attributes.len() < MOST_PARTS {
+        if !tokens.take_word(word) {
+            break;
+        }
+        let Some(attribute) = tokens.pair() else {
+            return Ok(None);
+        };
+        attributes.push(attribute)?;
+    }
+    Ok(Some(Attributes::from_vec(attributes)))
+}
+
+// The keys that an opener needs. Only their list takes memory.
+fn needed_keys_of(alloc: Global, tokens: &mut Tokens) -> Result<Option<AttributeKeys>, AllocError>
+    ensures { IfOk result (λ o. with_rest o tokens.new ≡ read_parts 8 (codes "needkey") (first_by read_attribute_key) tokens.old) }
+{
+    let mut keys = Vec::new(alloc);
+    while keys.len() < MOST_PARTS {
+        if !tokens.take_word(b"needkey") {
+            break;
+        }
+        let Some(key) = tokens.attribute_key() else {
+            return Ok(None);
+        };
+        keys.push(key)?;
+    }
+    Ok(Some(AttributeKeys::from_vec(keys)))
+}
+
+#[tactic(auto, unfolding(board_model::specs::LineReading::read_needs))]
+pub(crate) fn needs_of(
+    alloc: Global,
+    tokens: &mut Tokens,
+) -> Result<Option<Requirements>, AllocError>
+    ensures { IfOk result (λ o. with_rest o tokens.new ≡ read_needs tokens.old) }
+{
+    let Some(pairs) = attributes_of(alloc, b"need", tokens)? else {
+        return Ok(None);
+    };
+    let Some(keys) = needed_keys_of(alloc, tokens)? else {
+        return Ok(None);
+    };
+    Ok(Some(Requirements { pairs, keys }))
+}

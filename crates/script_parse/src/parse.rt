@@ -1,0 +1,111 @@
+//! Lines, from their bytes.
+ghost use Rattle.std.specs.Prelude.{◌≡◌, IfNone, IfOk, IfSome};
+ghost use Rattle.script_grammar.specs.LineReading.{read_begin, read_line, read_plain_line, read_words, split_tokens};
+ghost use Rattle.script_grammar.specs.EventReading.{read_script_line};
+ghost use Rattle.script_model.specs.declared.line.ScriptLine.{ScriptLine};
+ghost use Rattle.script_model.specs.ScriptGrammar.{SpellsLine};
+
+use crate::atoms::name_of;
+use crate::bytes::is_word;
+use crate::calls::{call_of, one_name, two_names};
+use crate::events::event_line_of;
+use crate::tokens::Tokens;
+use board_model::Line;
+use script_model::ScriptLine;
+use std::alloc::{AllocError, Global};
+
+// A line has no more bytes than these.
+const MOST_BYTES: usize = 4096;
+
+#[tactic(auto, unfolding(board_model::specs::LineReading::read_begin))]
+fn begin_of(alloc: Global, tokens: &mut Tokens) -> Result<Option<Line>, AllocError>
+    ensures { IfOk result (λ o. o ≡ read_begin tokens.old) }
+{
+    let Some(party) = tokens.next() else {
+        return Ok(None);
+    };
+    let Some(word) = tokens.next() else {
+        return Ok(None);
+    };
+    let Some(party) = name_of(party) else {
+        return Ok(None);
+    };
+    let Some(call) = call_of(alloc, word, tokens)? else {
+        return Ok(None);
+    };
+    Ok(Some(Line::Begin { party, call }))
+}
+
+#[tactic(auto, unfolding(board_model::specs::LineReading::read_words))]
+fn words_of(tokens: &mut Tokens) -> Option<Line>
+    ensures { result ≡ read_words tokens.old }
+{
+    let board = tokens.number()?;
+    if !tokens.is_end() {
+        return None;
+    }
+    Some(Line::Words { board })
+}
+
+// The line of a word, but for `begin`.
+#[tactic(auto, unfolding(board_model::specs::LineReading::read_plain_line))]
+fn plain_line_of(word: &[u8], tokens: &mut Tokens) -> Option<Line>
+    ensures { result ≡ read_plain_line word.now tokens.old }
+{
+    if is_word(word, b"step") {
+        let party = one_name(tokens)?;
+        return Some(Line::Step { party });
+    }
+    if is_word(word, b"drop") {
+        let (party, thing) = two_names(tokens)?;
+        return Some(Line::Release { party, thing });
+    }
+    if is_word(word, b"abandon") {
+        let party = one_name(tokens)?;
+        return Some(Line::Abandon { party });
+    }
+    if is_word(word, b"words") {
+        return words_of(tokens);
+    }
+    None
+}
+
+// The board line that these tokens make.
+#[tactic(auto, unfolding(board_model::specs::LineReading::read_line))]
+fn line_of(alloc: Global, tokens: &mut Tokens) -> Result<Option<Line>, AllocError>
+    ensures { IfOk result (λ o. o ≡ read_line tokens.old) }
+{
+    let Some(word) = tokens.next() else {
+        return Ok(None);
+    };
+    if is_word(word, b"begin") {
+        return begin_of(alloc, tokens);
+    }
+    Ok(plain_line_of(word, tokens))
+}
+
+// The line of a script that these bytes make, which may be longer than a line.
+#[tactic(auto, unfolding(crate::specs::EventReading::read_script_line, crate::specs::EventReading::board_line_first))]
+fn script_line_of(alloc: Global, bytes: &[u8]) -> Result<Option<ScriptLine>, AllocError>
+    ensures { IfOk result (λ o. o ≡ read_script_line (split_tokens bytes.now)) }
+{
+    if let Some(line) = line_of(alloc, &mut Tokens::between(bytes, 32))? {
+        return Ok(Some(ScriptLine::Board(line)));
+    }
+    event_line_of(alloc, &mut Tokens::between(bytes, 32))
+}
+
+/// The line of the script that these bytes spell, or `None` where no line of the grammar does.
+/// Memory is taken for the names of boards and events, the entries and attributes of a `create` and the needs of an `open` alone.
+///
+/// # Errors
+/// `AllocError` where memory is refused.
+pub fn parse_line(alloc: Global, bytes: &[u8]) -> Result<Option<ScriptLine>, AllocError>
+    ensures found { IfOk result (λ o. IfSome o (λ l. SpellsLine bytes.now l)) }
+    ensures only { IfOk result (λ o. IfNone o ((l : ScriptLine) → SpellsLine bytes.now l → ⊥)) }
+{
+    if bytes.len() > MOST_BYTES {
+        return Ok(None);
+    }
+    script_line_of(alloc, bytes)
+}

@@ -1,0 +1,84 @@
+//! Values and added entries, from their tokens.
+ghost use Rattle.std.specs.Prelude.{◌≡◌, IfOk};
+ghost use Rattle.std.specs.Option.{option_map};
+ghost use Rattle.script_grammar.specs.LineReading.{first_by, read_entries, read_entry, read_four, read_value};
+ghost use Rattle.script_parse.specs.Tokens.{with_rest};
+
+use crate::atoms::{key_of, number_of};
+use crate::bytes::{bytes_behind, is_word};
+use crate::tokens::Tokens;
+use board_model::{AddedEntries, AddedEntry, Key, Value};
+use std::alloc::{AllocError, Global};
+
+#[tactic(auto, unfolding(board_model::specs::LineReading::read_four))]
+fn four_of(parts: &mut Tokens) -> Option<Value>
+    ensures { result ≡ read_four parts.old }
+{
+    let a = parts.number()?;
+    let b = parts.number()?;
+    let c = parts.number()?;
+    let d = parts.number()?;
+    if !parts.is_end() {
+        return None;
+    }
+    Some(Value::Q4(a, b, c, d))
+}
+
+#[tactic(auto, unfolding(board_model::specs::LineReading::read_value, board_model::specs::LineReading::read_words_behind))]
+pub(crate) fn value_of(text: &[u8]) -> Option<Value>
+    ensures { result ≡ read_value text.now }
+{
+    if is_word(text, b"bool:true") {
+        return Some(Value::Bool(true));
+    }
+    if is_word(text, b"bool:false") {
+        return Some(Value::Bool(false));
+    }
+    match bytes_behind(text, b"u64:") {
+        Some(digits) => Some(Value::U64(number_of(digits)?)),
+        None => four_of(&mut Tokens::between(bytes_behind(text, b"q4:")?, 44)),
+    }
+}
+
+impl<'a> Tokens<'a> {
+    pub(crate) fn value(&mut self) -> Option<Value>
+        ensures { with_rest result self.new ≡ first_by read_value self.old }
+    {
+        value_of(self.next()?)
+    }
+}
+
+#[tactic(auto, unfolding(board_model::specs::LineReading::read_entry))]
+fn entry_of(word: &[u8], key: &[u8], value: &[u8]) -> Option<(Key, Value)>
+    ensures { option_map (λ pair. record { key = pair.0; value = pair.1 }) result ≡ read_entry word.now key.now value.now }
+{
+    if !is_word(word, b"add") {
+        return None;
+    }
+    let key = key_of(key)?;
+    let value = value_of(value)?;
+    Some((key, value))
+}
+
+// The entries that are left. Only their list takes memory.
+pub(crate) fn entries_of(
+    alloc: Global,
+    tokens: &mut Tokens,
+) -> Result<Option<AddedEntries>, AllocError>
+    ensures { IfOk result (λ o. o ≡ read_entries tokens.old) }
+{
+    let mut entries = Vec::new(alloc);
+    while let Some(word) = tokens.next() {
+        let Some(key) = tokens.next() else {
+            return Ok(None);
+        };
+        let Some(value) = tokens.next() else {
+            return Ok(None);
+        };
+        let Some((key, value)) = entry_of(word, key, value) else {
+            return Ok(None);
+        };
+        entries.push(AddedEntry { key, value })?;
+    }
+    Ok(Some(AddedEntries::from_vec(entries)))
+}

@@ -1,0 +1,73 @@
+//! What a script gives for a new board, as a domain takes it.
+ghost use Rattle.std.specs.Prelude.{◌≡◌, IfOk, All, map};
+ghost use Rattle.std.specs.List.{AllByRecursion};
+ghost use Rattle.board_concepts.specs.Attributes as concepts;
+ghost use Rattle.board_layout.specs.Layout.{IsShape};
+ghost use Rattle.board_layout.specs.Text.{padded};
+ghost use Rattle.board_model.specs.LineGrammar.{AreAttributes, AreRequirements};
+ghost use Rattle.board_model.specs.Replies as replies;
+ghost use Rattle.board_model.specs.Tables.{shapes_of};
+ghost use Rattle.script_parties.specs.Named.{HasShortKey};
+ghost use Rattle.board_service.specs.Entries.{added_of};
+
+use crate::values::{key_bytes, type_of, value_detail, value_words};
+use board_concepts::{AttributeSet, AttributeVerifier};
+use board_layout::{F8, Text};
+use board_model::{AddedEntry, Attributes, Requirements};
+use board_service::NewEntry;
+use std::alloc::{AllocError, Global};
+
+/// The entries of a new board.
+pub(crate) fn entries_for(
+    alloc: Global,
+    entries: &[AddedEntry],
+) -> Result<Vec<NewEntry>, AllocError>
+    ensures entries { IfOk result (λ v. map added_of v.items ≡ map replies.added_of entries.now) }
+    ensures shapes { IfOk result (λ v. All IsShape (shapes_of (map added_of v.items))) }
+    ensures keys { IfOk result (λ v. AllByRecursion HasShortKey (map added_of v.items)) }
+{
+    let mut new = Vec::with_capacity(alloc, entries.len())?;
+    for entry in entries {
+        new.push(NewEntry {
+            key: key_bytes(&entry.key),
+            value: value_detail(type_of(entry.value)),
+            words: value_words(alloc, entry.value)?,
+        })?;
+    }
+    Ok(new)
+}
+
+/// The attributes of a new board.
+pub(crate) fn attributes_for(
+    alloc: Global,
+    attributes: &Attributes,
+) -> Result<AttributeSet, AllocError>
+    requires { AreAttributes attributes.now }
+    ensures { IfOk result (λ set. set ≡ attributes.now) }
+{
+    let pairs = Vec::from_slice(alloc, attributes.as_slice())?;
+    Ok(AttributeSet::from_vec(pairs))
+}
+
+/// What an opener needs.
+pub(crate) fn needs_for(
+    alloc: Global,
+    needs: &Requirements,
+) -> Result<AttributeVerifier, AllocError>
+    requires { AreRequirements needs.now }
+    ensures { IfOk result (λ verifier. verifier ≡ needs.now) }
+{
+    let pairs = attributes_for(alloc, &needs.pairs)?;
+    let keys = Vec::from_slice(alloc, needs.keys.as_slice())?;
+    Ok(AttributeVerifier::from_lists(pairs, keys))
+}
+
+/// The key of this text, with zeros behind it.
+pub(crate) fn f8_of(text: &Text<8>) -> F8
+    ensures { result.bytes ≡ padded 8 text.now }
+{
+    let mut bytes = [0; 8];
+    let given = text.as_bytes();
+    bytes[..given.len()].copy_from_slice(given);
+    F8 { bytes }
+}

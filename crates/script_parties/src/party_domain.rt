@@ -1,0 +1,478 @@
+//! A domain whose nodes are the parties of a script.
+ghost use Rattle.std.specs.Prelude.{◌≡◌, true, Some, IfOk, OnErr, IfNone, IfSome, IsSome, length, option_map, is_some};
+ghost use Rattle.board_model.specs.LawfulSession.{is_typed_key};
+ghost use Rattle.board_model.specs.LineGrammar.{AreAttributes, AreRequirements, is_board_name};
+ghost use Rattle.board_model.specs.Replies as replies;
+ghost use Rattle.board_model.specs.Tables as tables;
+ghost use Rattle.board_model.specs.Things as held;
+ghost use Rattle.script_parties.specs.Overview.{keys_shown, standing_with};
+ghost use Rattle.script_parties.specs.Parties.{HasWord, IsCreate, IsEntry, IsEntryMut, IsFew, IsLoaded, IsOpen, IsReader, IsReleased, IsStored, IsWriter, Stands, board_words, no_parties};
+
+use crate::adding::{attributes_for, entries_for, needs_for};
+use crate::lists::{keys_of, nodes_at};
+use crate::lookups::{
+    Held, entry_of, held_of_kind, join, name_text, node_for, number_of, place_of_thing, rename,
+    thing_of,
+};
+use crate::replies::{
+    create_refused, entry_mut_refused, entry_refused, open_refused, reader_refused, writer_refused,
+};
+use crate::typed_calls::{create_in, entry_in, entry_mut_in, open_in};
+use crate::values::{key_detail, key_type_of, type_of_key, value_detail};
+use board_cell::Words;
+use board_layout::Text;
+use board_model::{
+    AddedEntries, Attributes, Entry, Info, Key, KeyType, Keys, Kind, Limits, LongName, Name, Names,
+    Reply, Requirements, Thing, ThingKind, ValueType,
+};
+use board_names::ServiceName;
+use board_service::{BoardWords, DomainCore, NodeId, ThingId, port_of, same_type};
+use std::alloc::{AllocError, Global};
+use std::marker::Model;
+
+/// A domain whose nodes are parties. A party is one node from its first create or open on. Things have the names that parties gave them.
+#[derive(Drop)]
+pub struct PartyDomain<C: BoardWords> {
+    core: DomainCore<C>,
+    /// Node number n is the party at place n - 1.
+    nodes: Vec<Name>,
+    things: Vec<Held>,
+    /// The number of each thing, in the order of the things.
+    numbers: Vec<ThingId>,
+    alloc: Global,
+}
+
+impl<C: BoardWords> Model for PartyDomain<C> {
+    ghost use Rattle.std.specs.Prelude.{map};
+    ghost use Rattle.script_parties.specs.Named.{IsNamed};
+    ghost use Rattle.script_parties.specs.Overview.{keys_shown, standing_with};
+    ghost use Rattle.script_parties.specs.Parties.{Parties};
+
+    ghost Value = { Parties };
+
+    ghost view = { λ d. record {
+      tables = record { boards = d.core.tables.boards; things = d.things.items; last_board = d.core.tables.last_board; last_port = d.core.tables.last_port };
+      words = map C.list d.core.cells;
+      drawn = d.core.last_thing;
+    } };
+
+    ghost invariant = { λ d. IsNamed d.nodes.items d.numbers.items d.things.items d.core };
+}
+
+// All words, read one after another.
+fn words_in<C: Words>(alloc: Global, words: &mut C) -> Result<Vec<u64>, AllocError>
+    ensures all { IfOk result (λ ws. ws.items ≡ C.list words.old) }
+    ensures same { C.list words.new ≡ C.list words.old }
+{
+    let count = words.len();
+    let mut all = Vec::with_capacity(alloc, count as usize)?;
+    for i in 0..count {
+        all.push(words.load(i))?;
+    }
+    Ok(all)
+}
+
+impl<C: BoardWords + Drop> PartyDomain<C> {
+    /// No boards, no things and no nodes. Takes no memory.
+    pub fn new(alloc: Global) -> PartyDomain<C>
+        ensures { result ≡ no_parties }
+    {
+        PartyDomain {
+            core: DomainCore::new(alloc),
+            nodes: Vec::new(alloc),
+            things: Vec::new(alloc),
+            numbers: Vec::new(alloc),
+            alloc,
+        }
+    }
+
+    /// The thing that a party holds under a name.
+    pub fn thing_of(&self, party: &Name, name: &Name) -> Option<&Held>
+        ensures { option_map (λ t. t.now) result ≡ held.thing_of self.now.tables.things party.now name.now }
+    {
+        thing_of(party, name, &self.things)
+    }
+
+    /// The same, where it is of this kind.
+    pub fn held_of_kind(&self, kind: ThingKind, party: &Name, name: &Name) -> Option<Held>
+        ensures { result ≡ held.of_kind kind (held.thing_of self.now.tables.things party.now name.now) }
+    {
+        held_of_kind(kind, party, name, &self.things)
+    }
+
+    /// Gives the party's thing another name.
+    pub fn rename(&mut self, party: &Name, old: &Name, new: &Name)
+        ensures { self.new ≡ record self.old { tables = held.with_name self.old.tables party.now old.now new.now } }
+    {
+        rename(party, old, new, &mut self.things);
+    }
+
+    /// Whether the key has the key type of the board.
+    pub fn is_key_of(&self, board: u64, key: &Key) -> bool
+        ensures { result ≡ is_typed_key (tables.board_at self.now.tables board) key.now }
+    {
+        match self.core.config_of(board) {
+            Some(config) => same_type(&config.type_details, &key_detail(type_of_key(key))),
+            None => false,
+        }
+    }
+
+    /// The entry of a board at a place.
+    pub fn entry_at(&self, board: u64, entry: u64) -> Option<&Entry>
+        ensures { option_map (λ e. e.now) result ≡ tables.entry_at self.now.tables board entry }
+    {
+        match self.core.entries_of(board) {
+            Some(entries) => entries.get(entry as usize),
+            None => None,
+        }
+    }
+
+    /// The words of a board, where it stands.
+    pub fn words_of(&self, board: u64) -> Option<&C>
+        ensures { option_map (λ c. C.list c.now) result ≡ board_words self.now board }
+    {
+        self.core.cells(board)
+    }
+
+    /// The words of a board, where it stands, read one after another.
+    ///
+    /// # Errors
+    /// `AllocError` where memory is refused.
+    pub fn copy_words(&mut self, board: u64) -> Result<Option<Vec<u64>>, AllocError>
+        ensures words { IfOk result (λ found. option_map (λ ws. ws.items) found ≡ board_words self.old board) }
+        ensures same { self.new ≡ self.old }
+    {
+        let Some(cells) = self.core.cells_mut(board) else {
+            return Ok(None);
+        };
+        match words_in(self.alloc, cells) {
+            Ok(words) => Ok(Some(words)),
+            Err(error) => Err(error),
+        }
+    }
+
+    /// Reads a word of a board.
+    pub fn load(&mut self, board: u64, word: u64) -> u64
+        requires { HasWord self.old board word }
+        ensures value { IsLoaded self.old board word result }
+        ensures same { self.new ≡ self.old }
+    {
+        match self.core.cells_mut(board) {
+            Some(cells) => cells.load(word),
+            None => unreachable!(),
+        }
+    }
+
+    /// Writes a word of a board.
+    pub fn store(&mut self, board: u64, word: u64, value: u64)
+        requires { HasWord self.old board word }
+        ensures { IsStored self.old self.new board word value }
+    {
+        match self.core.cells_mut(board) {
+            Some(cells) => cells.store(word, value),
+            None => unreachable!(),
+        }
+    }
+
+    /// Makes a board with its words, and a factory of it for the party. What it is told is a number or an error of the call.
+    ///
+    /// # Errors
+    /// `AllocError` where memory is refused. All stays as it was.
+    pub fn create(
+        &mut self,
+        party: Name,
+        factory: Name,
+        name: Text<255>,
+        key_type: KeyType,
+        limits: Limits,
+        attributes: &Attributes,
+        entries: &AddedEntries,
+    ) -> Result<Reply, AllocError>
+        requires few { IsFew self.old }
+        requires name { is_board_name name ≡ true }
+        requires attributes { AreAttributes attributes.now }
+        ensures asked { IfOk result (IsCreate self.old self.new party factory name key_type limits attributes.now entries.now) }
+        ensures err { OnErr result (self.new ≡ self.old) }
+    {
+        let entries = entries_for(self.alloc, entries.as_slice())?;
+        let attributes = attributes_for(self.alloc, attributes)?;
+        self.nodes.reserve(1)?;
+        self.things.reserve(1)?;
+        self.numbers.reserve(1)?;
+        let node = NodeId(node_for(&party, &self.nodes));
+        let name = ServiceName::from_text(name);
+        match create_in(
+            &mut self.core,
+            key_type,
+            node,
+            &name,
+            limits,
+            attributes,
+            entries,
+        ) {
+            Ok(made) => {
+                join(party, &mut self.nodes);
+                self.things.push_reserved(Thing {
+                    holder: party,
+                    name: factory,
+                    board: made.number,
+                    kind: Kind::Factory,
+                });
+                self.numbers.push_reserved(made.thing);
+                Ok(Reply::Number(made.number))
+            }
+            Err(why) => create_refused(why),
+        }
+    }
+
+    /// Makes a factory of a board that stands, for the party. What it is told is a number or an error of the call.
+    ///
+    /// # Errors
+    /// `AllocError` where memory is refused. All stays as it was.
+    pub fn open(
+        &mut self,
+        party: Name,
+        factory: Name,
+        name: Text<255>,
+        key_type: KeyType,
+        limits: Limits,
+        needs: &Requirements,
+    ) -> Result<Reply, AllocError>
+        requires few { IsFew self.old }
+        requires name { is_board_name name ≡ true }
+        requires needs { AreRequirements needs.now }
+        ensures asked { IfOk result (IsOpen self.old self.new party factory name key_type limits needs.now) }
+        ensures err { OnErr result (self.new ≡ self.old) }
+    {
+        let needs = needs_for(self.alloc, needs)?;
+        self.nodes.reserve(1)?;
+        self.things.reserve(1)?;
+        self.numbers.reserve(1)?;
+        let node = NodeId(node_for(&party, &self.nodes));
+        let name = ServiceName::from_text(name);
+        match open_in(&mut self.core, key_type, node, &name, limits, &needs) {
+            Ok(made) => {
+                join(party, &mut self.nodes);
+                self.things.push_reserved(Thing {
+                    holder: party,
+                    name: factory,
+                    board: made.number,
+                    kind: Kind::Factory,
+                });
+                self.numbers.push_reserved(made.thing);
+                Ok(Reply::Number(made.number))
+            }
+            Err(why) => open_refused(why),
+        }
+    }
+
+    /// Makes a reader, at a factory. What it is told is a number or an error of the call.
+    ///
+    /// # Errors
+    /// `AllocError` where memory is refused. All stays as it was.
+    pub fn reader(&mut self, name: Name, factory: &Held) -> Result<Reply, AllocError>
+        requires few { IsFew self.old }
+        requires stands { Stands self.old factory.now }
+        ensures asked { IfOk result (IsReader self.old self.new name factory.now) }
+        ensures err { OnErr result (self.new ≡ self.old) }
+    {
+        self.things.reserve(1)?;
+        self.numbers.reserve(1)?;
+        let number = number_of(factory, &self.things, &self.numbers);
+        match self.core.reader(number) {
+            Ok(made) => {
+                self.things.push_reserved(Thing {
+                    holder: factory.holder,
+                    name,
+                    board: factory.board,
+                    kind: Kind::Reader { port: made.number },
+                });
+                self.numbers.push_reserved(made.thing);
+                Ok(Reply::Number(made.number))
+            }
+            Err(why) => reader_refused(why),
+        }
+    }
+
+    /// Makes a writer, at a factory. What it is told is a number or an error of the call.
+    ///
+    /// # Errors
+    /// `AllocError` where memory is refused. All stays as it was.
+    pub fn writer(&mut self, name: Name, factory: &Held) -> Result<Reply, AllocError>
+        requires few { IsFew self.old }
+        requires stands { Stands self.old factory.now }
+        ensures asked { IfOk result (IsWriter self.old self.new name factory.now) }
+        ensures err { OnErr result (self.new ≡ self.old) }
+    {
+        self.things.reserve(1)?;
+        self.numbers.reserve(1)?;
+        let number = number_of(factory, &self.things, &self.numbers);
+        match self.core.writer(number) {
+            Ok(made) => {
+                self.things.push_reserved(Thing {
+                    holder: factory.holder,
+                    name,
+                    board: factory.board,
+                    kind: Kind::Writer { port: made.number },
+                });
+                self.numbers.push_reserved(made.thing);
+                Ok(Reply::Number(made.number))
+            }
+            Err(why) => writer_refused(why),
+        }
+    }
+
+    /// Makes a read handle, at a reader. What it is told is a number or an error of the call.
+    ///
+    /// # Errors
+    /// `AllocError` where memory is refused. All stays as it was.
+    pub fn entry(
+        &mut self,
+        name: Name,
+        reader: &Held,
+        key: &Key,
+        value_type: ValueType,
+    ) -> Result<Reply, AllocError>
+        requires few { IsFew self.old }
+        requires stands { Stands self.old reader.now }
+        requires kind { tables.kind_of reader.now.kind ≡ ThingKind.Reader }
+        requires key { is_typed_key (tables.board_at self.old.tables reader.now.board) key.now ≡ true }
+        ensures asked { IfOk result (IsEntry self.old self.new name reader.now key.now value_type) }
+        ensures err { OnErr result (self.new ≡ self.old) }
+    {
+        self.things.reserve(1)?;
+        self.numbers.reserve(1)?;
+        let number = number_of(reader, &self.things, &self.numbers);
+        match entry_in(&mut self.core, number, key, &value_detail(value_type)) {
+            Ok(found) => {
+                self.things.push_reserved(Thing {
+                    holder: reader.holder,
+                    name,
+                    board: reader.board,
+                    kind: Kind::ReadHandle { entry: found.entry },
+                });
+                self.numbers.push_reserved(found.thing);
+                Ok(Reply::Number(found.place))
+            }
+            Err(why) => entry_refused(why),
+        }
+    }
+
+    /// Makes a write handle, at a writer. What it is told is a number or an error of the call.
+    ///
+    /// # Errors
+    /// `AllocError` where memory is refused. All stays as it was.
+    pub fn entry_mut(
+        &mut self,
+        name: Name,
+        writer: &Held,
+        key: &Key,
+        value_type: ValueType,
+    ) -> Result<Reply, AllocError>
+        requires few { IsFew self.old }
+        requires stands { Stands self.old writer.now }
+        requires kind { tables.kind_of writer.now.kind ≡ ThingKind.Writer }
+        requires key { is_typed_key (tables.board_at self.old.tables writer.now.board) key.now ≡ true }
+        ensures asked { IfOk result (IsEntryMut self.old self.new name writer.now key.now value_type) }
+        ensures err { OnErr result (self.new ≡ self.old) }
+    {
+        self.things.reserve(1)?;
+        self.numbers.reserve(1)?;
+        let number = number_of(writer, &self.things, &self.numbers);
+        match entry_mut_in(&mut self.core, number, key, &value_detail(value_type)) {
+            Ok(found) => {
+                self.things.push_reserved(Thing {
+                    holder: writer.holder,
+                    name,
+                    board: writer.board,
+                    kind: Kind::WriteHandle {
+                        entry: found.entry,
+                        port: port_of(&writer.kind),
+                    },
+                });
+                self.numbers.push_reserved(found.thing);
+                Ok(Reply::Number(found.place))
+            }
+            Err(why) => entry_mut_refused(why),
+        }
+    }
+
+    /// Takes away the thing that a party holds under a name, and the board with its last thing. Takes no memory.
+    pub fn release(&mut self, party: &Name, name: &Name)
+        ensures { IsReleased self.old self.new party.now name.now }
+    {
+        if let Some(place) = place_of_thing(party, name, &self.things) {
+            let number = self.numbers.remove(place);
+            let _ = self.things.remove(place);
+            let _ = self.core.release(number);
+        }
+    }
+
+    /// The port number of a reader or writer, the entry id of a handle.
+    pub fn id_of(&self, thing: &Held) -> u64
+        ensures { result ≡ replies.id_number (standing_with self.now.tables) thing.now thing.now.kind }
+    {
+        match &thing.kind {
+            Kind::Reader { port } => *port,
+            Kind::Writer { port } => *port,
+            kind => match self.entry_at(thing.board, entry_of(kind)) {
+                Some(entry) => entry.cell.place,
+                None => 0,
+            },
+        }
+    }
+
+    /// The keys of a board, in the order of adding.
+    ///
+    /// # Errors
+    /// `AllocError` where memory is refused.
+    pub fn keys(&self, board: u64) -> Result<Keys, AllocError>
+        ensures { IfOk result (λ keys. keys ≡ keys_shown (tables.board_at self.now.tables board)) }
+    {
+        match (self.core.config_of(board), self.core.entries_of(board)) {
+            (Some(config), Some(entries)) => {
+                keys_of(self.alloc, key_type_of(&config.type_details), entries)
+            }
+            _ => Ok(Keys::from_vec(Vec::new(self.alloc))),
+        }
+    }
+
+    /// The parties with a thing of the board, in the order of their bytes.
+    ///
+    /// # Errors
+    /// `AllocError` where memory is refused.
+    pub fn nodes(&self, board: u64) -> Result<Names, AllocError>
+        ensures { IfOk result (λ names. names ≡ replies.nodes_of board self.now.tables.things) }
+    {
+        nodes_at(self.alloc, board, &self.things)
+    }
+
+    /// The limits of a board that stands, how many entries and attributes it has, and what is taken of it.
+    ///
+    /// # Errors
+    /// `AllocError` where memory is refused.
+    pub fn info(&self, board: u64) -> Result<Info, AllocError>
+        requires { is_some (tables.board_at self.now.tables board) ≡ true }
+        ensures { IfOk result (λ info. info ≡ replies.info_of self.now.tables.things (tables.board_at self.now.tables board)) }
+    {
+        match (
+            self.core.name_of(board),
+            self.core.config_of(board),
+            self.core.attributes_of(board),
+            self.core.use_of(board),
+        ) {
+            (Some(name), Some(config), Some(attributes), Some(taken)) => Ok(Info {
+                name: LongName::new(self.alloc, name_text(name))?,
+                key_type: key_type_of(&config.type_details),
+                max_readers: config.max_readers,
+                max_nodes: config.max_nodes,
+                entries: config.entries,
+                attributes: attributes.len() as u64,
+                readers: taken.readers,
+                writers: taken.writers,
+                nodes: taken.nodes,
+            }),
+            _ => unreachable!(),
+        }
+    }
+}

@@ -1,0 +1,111 @@
+//! The calls of a domain's core whose keys are of one of the key types of a script.
+ghost use Rattle.std.specs.Prelude.{◌≡◌, true, All, OnOk, OnErr, map};
+ghost use Rattle.std.specs.List.{AllByRecursion};
+ghost use Rattle.board_layout.specs.Answer.{Answers};
+ghost use Rattle.board_layout.specs.Layout.{IsShape, places_from};
+ghost use Rattle.board_model.specs.Replies.{is_key};
+ghost use Rattle.board_model.specs.Tables.{shapes_of};
+ghost use Rattle.board_model.specs.TypeTable as types;
+ghost use Rattle.script_parties.specs.Named.{HasShortKey, HasShortKeys};
+ghost use Rattle.board_service.specs.Domain as domain;
+ghost use Rattle.board_service.specs.Entries.{IsOpening, added_of};
+
+use crate::adding::f8_of;
+use board_concepts::{AttributeSet, AttributeVerifier};
+use board_layout::{F8, TypeDetail};
+use board_model::{Key, KeyType, Limits, ThingKind};
+use board_names::{
+    BlackboardCreateError, BlackboardOpenError, EntryHandleError, EntryHandleMutError, ServiceName,
+};
+use board_service::{Cells, DomainCore, Found, Made, NewEntry, NodeId, ThingId};
+
+/// A new board whose keys are of this type.
+pub(crate) fn create_in<C: Cells>(
+    core: &mut DomainCore<C>,
+    key_type: KeyType,
+    node: NodeId,
+    name: &ServiceName,
+    limits: Limits,
+    attributes: AttributeSet,
+    entries: Vec<NewEntry>,
+) -> Result<Made, BlackboardCreateError>
+    requires shapes { All IsShape (shapes_of (map added_of entries.items)) }
+    requires keys { AllByRecursion HasShortKey (map added_of entries.items) }
+    ensures answer { Answers result BlackboardCreateError.OutOfMemory (domain.create_answer core.old (types.same_key key_type) name.now (map added_of entries.items)) }
+    ensures ok { OnOk result ((c : C) × C.opened (places_from 0 (shapes_of (map added_of entries.items))) (map added_of entries.items) c × IsOpening (C.words c) (map added_of entries.items) × (core.new ≡ domain.after_create core.old node name.now (types.key_detail key_type) limits attributes (map added_of entries.items) c)) }
+    ensures err { OnErr result (core.new ≡ core.old) }
+{
+    match key_type {
+        KeyType::U64 => core.create::<u64>(node, name, limits, attributes, entries),
+        KeyType::F8 => core.create::<F8>(node, name, limits, attributes, entries),
+    }
+}
+
+/// A further factory of a board whose keys are to be of this type.
+pub(crate) fn open_in<C: Cells>(
+    core: &mut DomainCore<C>,
+    key_type: KeyType,
+    node: NodeId,
+    name: &ServiceName,
+    limits: Limits,
+    needs: &AttributeVerifier,
+) -> Result<Made, BlackboardOpenError>
+    ensures answer { Answers result BlackboardOpenError.OutOfMemory (domain.open_answer core.old node name.now (types.key_detail key_type) limits needs.now) }
+    ensures ok { OnOk result (core.new ≡ domain.after_open core.old node name.now) }
+    ensures err { OnErr result (core.new ≡ core.old) }
+{
+    match key_type {
+        KeyType::U64 => core.open::<u64>(node, name, limits, needs),
+        KeyType::F8 => core.open::<F8>(node, name, limits, needs),
+    }
+}
+
+/// A read handle of the entry with this key, at a reader of a board whose keys are of its type.
+pub(crate) fn entry_in<C: Cells>(
+    core: &mut DomainCore<C>,
+    reader: ThingId,
+    key: &Key,
+    value: &TypeDetail,
+) -> Result<Found, EntryHandleError>
+    requires held { domain.is_held core.old (types.key_detail (types.type_of_key key.now)) reader ThingKind.Reader ≡ true }
+    requires keys { AllByRecursion HasShortKeys core.old.tables.boards }
+    ensures answer { Answers result EntryHandleError.OutOfMemory (domain.entry_answer core.old (domain.entry_for core.old (domain.held core.old reader) (is_key key.now) value.now)) }
+    ensures ok { OnOk result (core.new ≡ domain.after_entry core.old (domain.held core.old reader) (domain.entry_for core.old (domain.held core.old reader) (is_key key.now) value.now)) }
+    ensures err { OnErr result (core.new ≡ core.old) }
+{
+    match key {
+        Key::U64(n) => {
+            let key = *n;
+            core.entry::<u64>(reader, &key, value)
+        }
+        Key::F8(text) => {
+            let key = f8_of(text);
+            core.entry::<F8>(reader, &key, value)
+        }
+    }
+}
+
+/// A write handle of the entry with this key, at a writer of a board whose keys are of its type.
+pub(crate) fn entry_mut_in<C: Cells>(
+    core: &mut DomainCore<C>,
+    writer: ThingId,
+    key: &Key,
+    value: &TypeDetail,
+) -> Result<Found, EntryHandleMutError>
+    requires held { domain.is_held core.old (types.key_detail (types.type_of_key key.now)) writer ThingKind.Writer ≡ true }
+    requires keys { AllByRecursion HasShortKeys core.old.tables.boards }
+    ensures answer { Answers result EntryHandleMutError.OutOfMemory (domain.entry_mut_answer core.old (domain.held core.old writer) (domain.entry_for core.old (domain.held core.old writer) (is_key key.now) value.now)) }
+    ensures ok { OnOk result (core.new ≡ domain.after_entry_mut core.old (domain.held core.old writer) (domain.entry_for core.old (domain.held core.old writer) (is_key key.now) value.now)) }
+    ensures err { OnErr result (core.new ≡ core.old) }
+{
+    match key {
+        Key::U64(n) => {
+            let key = *n;
+            core.entry_mut::<u64>(writer, &key, value)
+        }
+        Key::F8(text) => {
+            let key = f8_of(text);
+            core.entry_mut::<F8>(writer, &key, value)
+        }
+    }
+}

@@ -1,0 +1,176 @@
+//! Values and keys as words and bytes.
+ghost use Rattle.std.specs.Prelude.{◌≡◌, ◌≤◌, ◌<◌, ◌+◌, ◌*◌, ◌^◌, ◌++◌, ◌∷◌, [], IfOk, map, length, take};
+ghost use Rattle.board_layout.specs.Keys as keys;
+ghost use Rattle.board_layout.specs.Text.{padded};
+ghost use Rattle.board_model.specs.TypeTable as types;
+ghost use Rattle.script_parties.specs.Named.{IsShortKey};
+
+use board_layout::{F8, KeyMemory, Text, TypeDetail, TypeVariant};
+use board_model::{AddedEntry, Key, KeyType, Value, ValueType};
+use board_service::same_type;
+use std::alloc::{AllocError, Global};
+
+/// The details of a value type.
+pub fn value_detail(value_type: ValueType) -> TypeDetail
+    ensures { result ≡ types.value_detail value_type }
+{
+    match value_type {
+        ValueType::Bool => TypeDetail::new::<bool>(TypeVariant::FixedSize),
+        ValueType::U64 => TypeDetail::new::<u64>(TypeVariant::FixedSize),
+        ValueType::Q4 => TypeDetail::new::<[u64; 4]>(TypeVariant::FixedSize),
+    }
+}
+
+/// The value type with these details.
+pub fn value_type_of(detail: &TypeDetail) -> ValueType
+    ensures { result ≡ types.value_type_of detail.now }
+{
+    if same_type(detail, &value_detail(ValueType::Bool)) {
+        ValueType::Bool
+    } else if same_type(detail, &value_detail(ValueType::U64)) {
+        ValueType::U64
+    } else {
+        ValueType::Q4
+    }
+}
+
+/// The type of a value.
+pub fn type_of(value: Value) -> ValueType
+    ensures { result ≡ types.type_of value }
+{
+    match value {
+        Value::Bool(_) => ValueType::Bool,
+        Value::U64(_) => ValueType::U64,
+        Value::Q4(..) => ValueType::Q4,
+    }
+}
+
+/// The words of a value.
+pub fn value_words(alloc: Global, value: Value) -> Result<Vec<u64>, AllocError>
+    ensures { IfOk result (λ v. v.items ≡ types.value_words value) }
+{
+    match value {
+        Value::Bool(is) => Vec::from_slice(alloc, &[u64::from(is)]),
+        Value::U64(n) => Vec::from_slice(alloc, &[n]),
+        Value::Q4(a, b, c, d) => Vec::from_slice(alloc, &[a, b, c, d]),
+    }
+}
+
+/// The details of a key type.
+pub(crate) fn key_detail(key_type: KeyType) -> TypeDetail
+    ensures { result ≡ types.key_detail key_type }
+{
+    match key_type {
+        KeyType::U64 => TypeDetail::new::<u64>(TypeVariant::FixedSize),
+        KeyType::F8 => TypeDetail::new::<F8>(TypeVariant::FixedSize),
+    }
+}
+
+/// The type of a key.
+pub fn type_of_key(key: &Key) -> KeyType
+    ensures { result ≡ types.type_of_key key.now }
+{
+    match key {
+        Key::U64(_) => KeyType::U64,
+        Key::F8(_) => KeyType::F8,
+    }
+}
+
+/// Whether two key types are the same.
+pub fn same_key_type(a: KeyType, b: KeyType) -> bool
+    ensures { result ≡ types.same_key_type a b }
+{
+    match (a, b) {
+        (KeyType::U64, KeyType::U64) => true,
+        (KeyType::F8, KeyType::F8) => true,
+        _ => false,
+    }
+}
+
+// The bytes with zeros behind them.
+fn key_memory(bytes: &[u8]) -> KeyMemory<64>
+    requires { length bytes.now ≤ 64 }
+    ensures { result.bytes ≡ padded 64 bytes.now }
+{
+    let mut memory = [0; 64];
+    let len = bytes.len();
+    memory[..len].copy_from_slice(bytes);
+    KeyMemory { bytes: memory }
+}
+
+// The eight bytes of a word, the low one first.
+fn word_bytes(n: u64) -> [u8; 8]
+    ensures { result ≡ types.word_bytes n }
+{
+    [
+        (n % 256) as u8,
+        (n / 256 % 256) as u8,
+        (n / 65536 % 256) as u8,
+        (n / 16777216 % 256) as u8,
+        (n / 4294967296 % 256) as u8,
+        (n / 1099511627776 % 256) as u8,
+        (n / 281474976710656 % 256) as u8,
+        (n / 72057594037927936 % 256) as u8,
+    ]
+}
+
+/// The bytes of a key as an entry keeps them.
+pub(crate) fn key_bytes(key: &Key) -> KeyMemory<64>
+    ensures bytes { result.bytes ≡ types.key_bytes key.now }
+    ensures short { IsShortKey result.bytes }
+{
+    match key {
+        Key::U64(n) => key_memory(&word_bytes(*n)),
+        Key::F8(text) => {
+            let bytes = text.as_bytes();
+            key_memory(bytes)
+        }
+    }
+}
+
+// The number of these bytes, the low one first.
+fn little(bytes: &[u8]) -> u64
+    requires { length bytes.now ≤ 8 }
+    ensures value { result ≡ keys.little bytes.now }
+    ensures bound { result < 2 ^ (8 * length bytes.now) }
+{
+    match bytes {
+        [] => 0,
+        [b, rest @ ..] => u64::from(*b) + 256 * little(rest),
+    }
+}
+
+// The bytes before the first zero.
+fn up_to_zero(bytes: &[u8]) -> Text<8>
+    requires { length bytes.now ≤ 8 }
+    ensures { result ≡ types.up_to_zero bytes.now }
+{
+    for (i, byte) in bytes.iter().enumerate() {
+        if *byte == 0 {
+            return Text::of(&bytes[..i]);
+        }
+    }
+    Text::of(bytes)
+}
+
+/// The key that an entry keeps in its first eight bytes.
+pub(crate) fn key_of(key_type: KeyType, key: &KeyMemory<64>) -> Key
+    ensures { result ≡ types.key_of key_type (take 8 key.now.bytes) }
+{
+    let bytes = &key.bytes[..8];
+    match key_type {
+        KeyType::U64 => Key::U64(little(bytes)),
+        KeyType::F8 => Key::F8(up_to_zero(bytes)),
+    }
+}
+
+/// The key type with these details.
+pub(crate) fn key_type_of(detail: &TypeDetail) -> KeyType
+    ensures { result ≡ types.key_type_of detail.now }
+{
+    if same_type(detail, &key_detail(KeyType::U64)) {
+        KeyType::U64
+    } else {
+        KeyType::F8
+    }
+}

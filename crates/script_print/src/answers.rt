@@ -1,0 +1,152 @@
+//! The bytes of answers, which are added to a buffer of the caller's.
+ghost use Rattle.std.specs.Prelude.{◌≡◌, ◌++◌, ◌∷◌, [], OnOk, codes, decimal, take};
+ghost use Rattle.std.specs.List.{flat_map};
+ghost use Rattle.board_model.specs.declared.answer.Answer.TheVariants as answer;
+ghost use Rattle.board_model.specs.AnswerGrammar.{access_text, answer_line, answer_text, number_text, place_text, reply_text, told_text};
+
+use crate::names::refusal_line;
+use crate::replies::push_reply;
+use board_cell_model::Access;
+use board_model::{Answer, Reason, Reply};
+use itoa::Buffer;
+use std::alloc::AllocError;
+
+// Adds the digits of the number.
+pub(crate) fn push_digits(n: u64, out: &mut Vec<u8>) -> Result<(), AllocError>
+    ensures { OnOk result (out.new.items ≡ out.old.items ++ decimal n) }
+{
+    if n < 10 {
+        out.push(b'0' + n as u8)?;
+        return Ok(());
+    }
+    let mut buffer = Buffer::new();
+    out.extend_from_slice(buffer.format(n).as_bytes())
+}
+
+// Adds a space and the number.
+pub(crate) fn push_number(n: u64, out: &mut Vec<u8>) -> Result<(), AllocError>
+    ensures { OnOk result (out.new.items ≡ out.old.items ++ number_text n) }
+{
+    out.push(32)?;
+    push_digits(n, out)
+}
+
+fn push_place(board: u64, word: u64, value: u64, out: &mut Vec<u8>) -> Result<(), AllocError>
+    ensures { OnOk result (out.new.items ≡ out.old.items ++ place_text board word value) }
+{
+    push_digits(board, out)?;
+    out.push(58)?;
+    push_digits(word, out)?;
+    push_number(value, out)
+}
+
+fn push_access(access: Access, out: &mut Vec<u8>) -> Result<(), AllocError>
+    ensures { OnOk result (out.new.items ≡ out.old.items ++ access_text access) }
+{
+    match access {
+        Access::Table => out.extend_from_slice(b"table"),
+        Access::Read { board, word, value } => {
+            out.extend_from_slice(b"read ")?;
+            push_place(board, word, value, out)
+        }
+        Access::Write { board, word, value } => {
+            out.extend_from_slice(b"write ")?;
+            push_place(board, word, value, out)
+        }
+    }
+}
+
+// Adds what is told with the last step of a call.
+fn push_told(reply: &Option<Reply>, out: &mut Vec<u8>) -> Result<(), AllocError>
+    ensures { OnOk result (out.new.items ≡ out.old.items ++ told_text reply.now) }
+{
+    match reply {
+        None => Ok(()),
+        Some(reply) => {
+            out.extend_from_slice(b" = ")?;
+            push_reply(reply, out)
+        }
+    }
+}
+
+// Adds each number behind a space.
+pub(crate) fn push_numbers(numbers: &[u64], out: &mut Vec<u8>) -> Result<(), AllocError>
+    ensures { OnOk result (out.new.items ≡ out.old.items ++ flat_map number_text numbers.now) }
+{
+    for number in numbers {
+        push_number(*number, out)?;
+    }
+    Ok(())
+}
+
+/// Adds the line of an accepted begin.
+///
+/// # Errors
+/// `AllocError` where memory is refused; then a front of the line may have been added.
+pub fn push_begun(out: &mut Vec<u8>) -> Result<(), AllocError>
+    ensures { OnOk result (out.new.items ≡ out.old.items ++ answer_line answer.Begun) }
+{
+    out.extend_from_slice(b"ok\n")
+}
+
+/// Adds the line of an accepted abandon.
+///
+/// # Errors
+/// `AllocError` where memory is refused; then a front of the line may have been added.
+pub fn push_gone(out: &mut Vec<u8>) -> Result<(), AllocError>
+    ensures { OnOk result (out.new.items ≡ out.old.items ++ answer_line answer.Gone) }
+{
+    out.extend_from_slice(b"gone\n")
+}
+
+/// Adds the line of a refusal.
+///
+/// # Errors
+/// `AllocError` where memory is refused; then a front of the line may have been added.
+pub fn push_refused(reason: Reason, out: &mut Vec<u8>) -> Result<(), AllocError>
+    ensures { OnOk result (out.new.items ≡ out.old.items ++ answer_line (answer.Refused reason)) }
+{
+    out.extend_from_slice(refusal_line(reason))
+}
+
+/// Adds the line of a step.
+///
+/// # Errors
+/// `AllocError` where memory is refused; then a front of the line may have been added.
+pub fn push_step(access: Access, reply: &Option<Reply>, out: &mut Vec<u8>) -> Result<(), AllocError>
+    ensures { OnOk result (out.new.items ≡ out.old.items ++ answer_line (answer.Step access reply.now)) }
+{
+    push_access(access, out)?;
+    push_told(reply, out)?;
+    out.push(10)?;
+    Ok(())
+}
+
+/// Adds the line that lists these words.
+///
+/// # Errors
+/// `AllocError` where memory is refused; then a front of the line may have been added.
+pub fn push_words(words: &[u64], out: &mut Vec<u8>) -> Result<(), AllocError>
+    ensures { OnOk result (out.new.items ≡ out.old.items ++ answer_line (answer.Words words.now)) }
+{
+    out.extend_from_slice(b"words")?;
+    push_numbers(words, out)?;
+    out.push(10)?;
+    Ok(())
+}
+
+/// Adds the line of any answer.
+///
+/// # Errors
+/// `AllocError` where memory is refused; then a front of the line may have been added.
+pub fn push_answer(answer: &Answer, out: &mut Vec<u8>) -> Result<(), AllocError>
+    ensures ok { OnOk result (out.new.items ≡ out.old.items ++ answer_line answer.now) }
+{
+    match answer {
+        Answer::Begun => push_begun(out),
+        Answer::Refused(reason) => push_refused(*reason, out),
+        Answer::Step { access, reply } => push_step(*access, reply, out),
+        Answer::Gone => push_gone(out),
+        Answer::Words(words) => push_words(words.as_slice(), out),
+    }
+}
