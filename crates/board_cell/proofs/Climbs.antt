@@ -17,10 +17,10 @@ last_push x (y ∷ ys) n = last_push y ys n
 
 -- what a pass over a seat with this view is seen as
 abbrev pub seen : TableId → View → ReaderSeen
-seen cell v = let y = reader_of v in record { cell = cell; notes = y.notes; loads = y.loads; told = y.told }
+seen cell v = let y = reader_of v in record { cell = cell; notes = y.notes; loads = y.loads; reached = y.reached }
 
 -- what a pass gains by a try that is opened and by those after it
-pub got_within : (tries opened g : ℕ) (words : List ℕ) (cell cell' : TableId) (u v w : View) → cell' ≡ cell → v ≡ Reader (with_open (reader_of u) opened) → (reader_of u).told ≤ opened → AfterTriesWithin tries (reader_of v) w opened g words → GetsWithin tries g words (seen cell u) (seen cell' w)
+pub got_within : (tries opened g : ℕ) (words : List ℕ) (cell cell' : TableId) (u v w : View) → cell' ≡ cell → v ≡ Reader (with_open (reader_of u) opened) → (reader_of u).reached ≤ opened → AfterTriesWithin tries (reader_of v) w opened g words → GetsWithin tries g words (seen cell u) (seen cell' w)
 got_within tries opened g words cell cell' u v w same begins low a =
     let x = reader_of u in
     let is : reader_of w ≡ a.after.y = ap reader_of a.after.is in
@@ -28,7 +28,7 @@ got_within tries opened g words cell cell' u v w same begins low a =
       gets = record {
         cell = same;
         notes = ap (λ (r : ReaderView). r.notes) is ∙ a.after.notes ∙ ap (λ (r : ReaderView). r.notes ++ note g words ∷ []) begun;
-        told = ap (λ (r : ReaderView). r.told) is ∙ a.after.told;
+        reached = ap (λ (r : ReaderView). r.reached) is ∙ a.after.reached;
         loads = record {
           first = opened;
           rest = a.after.rest;

@@ -8,5 +8,5 @@ pub mod ReaderSteps
 pub mod WriterSteps
 pub mod SeatSteps
 pub mod Histories
-pub mod Told
+pub mod OnBoard
 pub mod Climbs

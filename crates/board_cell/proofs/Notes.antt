@@ -4,7 +4,7 @@ use Rattle.std.specs.Prelude.{slice_get}
 use Rattle.std.specs.List.{All}
 use Rattle.std.proofs.lemmas.List.Elements.{All-weaker, All-push, All-nil, All-head, All-tail}
 use Rattle.board_cell.specs.Passes.{note, Stands, NotesRise}
-use Rattle.board_cell.specs.Rule.{last_of, IsRising, AreTold}
+use Rattle.board_cell.specs.Rule.{last_of, IsRising, AreReached}
 use Rattle.board_cell.specs.declared.threaded.view.Note.{Note}
 
 pub slice_get_front : {X : Type 0} (xs ys : List X) (k : ℕ) (x : X) → slice_get xs k ≡ Some x → slice_get (xs ++ ys) k ≡ Some x
@@ -37,6 +37,6 @@ pub rising_push : (xs : List ℕ) (n : ℕ) → IsRising xs → All (λ y. y ≤
 rising_push [] n r a = (All-nil (λ y. n ≤ y), tt)
 rising_push (x ∷ xs) n r a = (All-push (λ y. x ≤ y) xs n r.0 (All-head (λ y. y ≤ n) x xs a), rising_push xs n r.1 (All-tail (λ y. y ≤ n) x xs a))
 
-pub notes_rise_push : (xs : List Note) (n : Note) → NotesRise xs → AreTold n.generation xs → NotesRise (xs ++ n ∷ [])
+pub notes_rise_push : (xs : List Note) (n : Note) → NotesRise xs → AreReached n.generation xs → NotesRise (xs ++ n ∷ [])
 notes_rise_push [] n r a = (All-nil (λ (y : Note). n.generation ≤ y.generation), tt)
 notes_rise_push (x ∷ xs) n r a = (All-push (λ (y : Note). x.generation ≤ y.generation) xs n r.0 (All-head (λ (y : Note). y.generation ≤ n.generation) x xs a), notes_rise_push xs n r.1 (All-tail (λ (y : Note). y.generation ≤ n.generation) x xs a))

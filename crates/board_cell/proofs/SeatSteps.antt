@@ -8,7 +8,7 @@ use mathlib.Core.Option.{some, some-injective, some-ne-none}
 use Rattle.atomic_table.specs.Table.{opening, Splits, Joins}
 use Rattle.atomic_table.proofs.Lists.{at_snoc, at_longer, set_again, set_else}
 use Rattle.board_cell_model.specs.Copies.{current_at}
-use Rattle.board_cell.specs.Passes.{cell_shape, Stands}
+use Rattle.board_cell.specs.Passes.{threaded_shape, Stands}
 use Rattle.board_cell.specs.Rule.{ReaderFits, Fits, Kept, opening_words, opening_view}
 use Rattle.board_cell.specs.Views.{writer_of, reader_of, newcomer, writer_with, reader_with, joined}
 use Rattle.board_cell.specs.declared.threaded.view.Note.{Note}
@@ -25,22 +25,22 @@ newcomer_fits published seat by new (Writer x) own begun f = let same = ap lengt
   copied = All-nil (Stands published);
   notes_rise = tt;
   loads_rise = tt;
-  notes_told = All-nil (λ (y : Note). y.generation ≤ length x.published);
-  copies_told = All-nil (λ (y : Note). y.generation ≤ length x.published);
-  loads_told = All-nil (λ y. y ≤ length x.published);
-  told_kept = omega arith;
+  notes_reached = All-nil (λ (y : Note). y.generation ≤ length x.published);
+  copies_reached = All-nil (λ (y : Note). y.generation ≤ length x.published);
+  loads_reached = All-nil (λ y. y ≤ length x.published);
+  reached_kept = omega arith;
   opened_kept = omega arith;
   found_is = λ _. refl;
 }
-newcomer_fits published seat by new (Reader x) own begun f = let t = f.told_kept in record {
+newcomer_fits published seat by new (Reader x) own begun f = let t = f.reached_kept in record {
   noted = All-nil (Stands published);
   copied = f.noted;
   notes_rise = tt;
   loads_rise = tt;
-  notes_told = All-nil (λ (y : Note). y.generation ≤ x.told);
-  copies_told = f.notes_told;
-  loads_told = All-nil (λ y. y ≤ x.told);
-  told_kept = omega arith;
+  notes_reached = All-nil (λ (y : Note). y.generation ≤ x.reached);
+  copies_reached = f.notes_reached;
+  loads_reached = All-nil (λ y. y ≤ x.reached);
+  reached_kept = omega arith;
   opened_kept = omega arith;
   found_is = λ _. refl;
 }
@@ -66,15 +66,15 @@ splitting w id v s r at = subst (λ (vs : List View). Kept w record { words = s.
 )
 
 with_fits : (published : List (List ℕ)) (x y : ReaderView) → ReaderFits published x → ReaderFits published y → ReaderFits published (reader_with x y)
-with_fits published x y f g = let t = f.told_kept in let t' = g.told_kept in let up = lift published x (max x.told y.told) f (omega arith) in let up' = lift published y (max x.told y.told) g (omega arith) in record {
+with_fits published x y f g = let t = f.reached_kept in let t' = g.reached_kept in let up = lift published x (max x.reached y.reached) f (omega arith) in let up' = lift published y (max x.reached y.reached) g (omega arith) in record {
   noted = f.noted;
   copied = All-append (Stands published) x.copies (y.notes ++ y.copies) f.copied (All-append (Stands published) y.notes y.copies g.noted g.copied);
   notes_rise = f.notes_rise;
   loads_rise = f.loads_rise;
-  notes_told = up.0;
-  copies_told = All-append (λ (z : Note). z.generation ≤ max x.told y.told) x.copies (y.notes ++ y.copies) up.2 (All-append (λ (z : Note). z.generation ≤ max x.told y.told) y.notes y.copies up'.0 up'.2);
-  loads_told = up.1;
-  told_kept = omega arith;
+  notes_reached = up.0;
+  copies_reached = All-append (λ (z : Note). z.generation ≤ max x.reached y.reached) x.copies (y.notes ++ y.copies) up.2 (All-append (λ (z : Note). z.generation ≤ max x.reached y.reached) y.notes y.copies up'.0 up'.2);
+  loads_reached = up.1;
+  reached_kept = omega arith;
   opened_kept = f.opened_kept;
   found_is = f.found_is;
 }
@@ -98,7 +98,7 @@ joining_reader w id x other y s r at apart there = let both : View = Reader (rea
 
 pub joining_writer : (w id : ℕ) (x : WriterView) (other : ℕ) (y : ReaderView) → Joins (Kept w) id (Writer x) other (Reader y) (Writer (writer_with x y)) Spent
 joining_writer w id x other y s r at apart there = let both : View = Writer (writer_with x y) in let at' = untouched s.views id other both (Reader y) apart there in let k = mine w s r id x at in
-    let f : Fits x.published id id (Writer x) = k.each_view id (Writer x) at in let g : Fits x.published id other (Reader y) = k.each_view other (Reader y) at' in let t = f.told_kept in let t' = g.told_kept in let up' = lift x.published y (max x.told y.told) g (omega arith) in (
+    let f : Fits x.published id id (Writer x) = k.each_view id (Writer x) at in let g : Fits x.published id other (Reader y) = k.each_view other (Reader y) at' in let t = f.reached_kept in let t' = g.reached_kept in let up' = lift x.published y (max x.reached y.reached) g (omega arith) in (
       id,
       writer_with x y,
       record {
@@ -111,7 +111,7 @@ joining_writer w id x other y s r at apart there = let both : View = Writer (wri
         current = k.current;
         spare = k.spare;
         each_view = fits_set x.published id (set s.views id both) other Spent
-            (fits_set x.published id s.views id both k.each_view record { alone = refl; copied = All-append (Stands x.published) x.copies (y.notes ++ y.copies) f.copied (All-append (Stands x.published) y.notes y.copies g.noted g.copied); told_kept = omega arith; copies_told = All-append (λ (z : Note). z.generation ≤ max x.told y.told) x.copies (y.notes ++ y.copies) (All-weaker (λ (z : Note). z.generation ≤ x.told) (λ (z : Note). z.generation ≤ max x.told y.told) (λ z k. omega arith) x.copies f.copies_told) (All-append (λ (z : Note). z.generation ≤ max x.told y.told) y.notes y.copies up'.0 up'.2) }) tt;
+            (fits_set x.published id s.views id both k.each_view record { alone = refl; copied = All-append (Stands x.published) x.copies (y.notes ++ y.copies) f.copied (All-append (Stands x.published) y.notes y.copies g.noted g.copied); reached_kept = omega arith; copies_reached = All-append (λ (z : Note). z.generation ≤ max x.reached y.reached) x.copies (y.notes ++ y.copies) (All-weaker (λ (z : Note). z.generation ≤ x.reached) (λ (z : Note). z.generation ≤ max x.reached y.reached) (λ z k. omega arith) x.copies f.copies_reached) (All-append (λ (z : Note). z.generation ≤ max x.reached y.reached) y.notes y.copies up'.0 up'.2) }) tt;
       },
     )
 
@@ -127,7 +127,7 @@ begins item = (
     begun = omega arith;
     short = omega arith;
     counter = refl;
-    current = λ i l. let two : suc (suc i) ≡ current_at (cell_shape (length item)) 1 + i = omega arith in subst (λ (m : ℕ). get_or (opening_words item) m 0 ≡ get_or item i 0) two (get_or-append item (replicate (length item) 0) 0 i l);
+    current = λ i l. let two : suc (suc i) ≡ current_at (threaded_shape (length item)) 1 + i = omega arith in subst (λ (m : ℕ). get_or (opening_words item) m 0 ≡ get_or item i 0) two (get_or-append item (replicate (length item) 0) 0 i l);
     spare = λ i l. absurd (omega arith);
     each_view = only;
   },
@@ -138,7 +138,7 @@ begins item = (
     all_alike (suc k) d l = absurd (omega arith)
 
     only : (j : ℕ) (v : View) → get_elem? (opening_view item ∷ []) j ≡ some v → Fits (item ∷ []) 0 j v
-    only zero v e = subst (Fits (item ∷ []) 0 0) (some-injective _ _ e) record { alone = refl; copied = All-nil (Stands (item ∷ [])); told_kept = omega arith; copies_told = All-nil (λ (y : Note). y.generation ≤ 0) }
+    only zero v e = subst (Fits (item ∷ []) 0 0) (some-injective _ _ e) record { alone = refl; copied = All-nil (Stands (item ∷ [])); reached_kept = omega arith; copies_reached = All-nil (λ (y : Note). y.generation ≤ 0) }
     only (suc j) v e = absurd (some-ne-none v (sym e))
 
 pub begins_as : (item ws : List ℕ) → ws ≡ opening_words item → Kept (length item) (opening ws [] (opening_view item))

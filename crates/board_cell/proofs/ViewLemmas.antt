@@ -6,7 +6,7 @@ use lib.ListN.{get_elem?}
 use mathlib.Core.Option.{some, some-injective, some-ne-none}
 use Rattle.atomic_table.specs.Table.{State, Me}
 use Rattle.atomic_table.proofs.Lists.{at_set, set_else}
-use Rattle.board_cell.specs.Rule.{AreTold, ReaderFits, Fits, KeptBy, Kept}
+use Rattle.board_cell.specs.Rule.{AreReached, ReaderFits, Fits, KeptBy, Kept}
 use Rattle.board_cell.specs.Views.{writer_of}
 use Rattle.board_cell.specs.declared.threaded.view.Note.{Note}
 use Rattle.board_cell.specs.declared.threaded.view.WriterView.{WriterView}
@@ -46,12 +46,12 @@ module _ (w : ℕ) where
       let same : r.1 ≡ x = ap writer_of (some-injective _ _ (sym r.2.there ∙ (subst (λ (j : ℕ). get_elem? s.views j ≡ some (Writer x)) here at))) in
       subst (λ (z : ℕ × WriterView). KeptBy w z.0 z.1 s) (λ i. (sym here i, same i)) r.2
 
--- what was told before a later counter is told after it
-pub lift : (published : List (List ℕ)) (x : ReaderView) (n : ℕ) → ReaderFits published x → x.told ≤ n → AreTold n x.notes × (All (λ y. y ≤ n) x.loads) × AreTold n x.copies
+-- what was reached before a later counter is reached after it
+pub lift : (published : List (List ℕ)) (x : ReaderView) (n : ℕ) → ReaderFits published x → x.reached ≤ n → AreReached n x.notes × (All (λ y. y ≤ n) x.loads) × AreReached n x.copies
 lift published x n f h = (
-  All-weaker (λ (y : Note). y.generation ≤ x.told) (λ (y : Note). y.generation ≤ n) (λ y k. omega arith) x.notes f.notes_told,
-  All-weaker (λ y. y ≤ x.told) (λ y. y ≤ n) (λ y k. omega arith) x.loads f.loads_told,
-  All-weaker (λ (y : Note). y.generation ≤ x.told) (λ (y : Note). y.generation ≤ n) (λ y k. omega arith) x.copies f.copies_told,
+  All-weaker (λ (y : Note). y.generation ≤ x.reached) (λ (y : Note). y.generation ≤ n) (λ y k. omega arith) x.notes f.notes_reached,
+  All-weaker (λ y. y ≤ x.reached) (λ y. y ≤ n) (λ y k. omega arith) x.loads f.loads_reached,
+  All-weaker (λ (y : Note). y.generation ≤ x.reached) (λ (y : Note). y.generation ≤ n) (λ y k. omega arith) x.copies f.copies_reached,
 )
 
 pub untouched : (views : List View) (id other : ℕ) (v u : View) → ¬ (other ≡ id) → get_elem? (set views id v) other ≡ some u → get_elem? views other ≡ some u

@@ -10,7 +10,7 @@ use native.Mathlib.Decide.{ℕ_discrete}
 use Rattle.atomic_table.specs.Table.{step, keeps, Allows}
 use Rattle.atomic_table.proofs.Lists.{set_again}
 use Rattle.board_cell_model.specs.Copies.{copy_at}
-use Rattle.board_cell.specs.Passes.{cell_shape, Stands}
+use Rattle.board_cell.specs.Passes.{threaded_shape, Stands}
 use Rattle.board_cell.specs.Rule.{Fits, KeptBy, Kept}
 use Rattle.board_cell.specs.Views.{writer_of, with_word, with_publish, puts, publishes, looks}
 use Rattle.board_cell.specs.declared.threaded.view.WriterView.{WriterView}
@@ -27,16 +27,16 @@ at_push (x ∷ xs) b = at_push xs b
 -- what a view knows stays true of a longer published
 grown : (published : List (List ℕ)) (item : List ℕ) (seat by : ℕ) (v : View) → Fits published seat by v → Fits (published ++ item ∷ []) seat by v
 grown published item seat by Spent f = tt
-grown published item seat by (Writer x) f = let t = f.told_kept in record { alone = f.alone; copied = all_stand_longer published item x.copies f.copied; copies_told = f.copies_told; told_kept = omega (arith, length-append published (item ∷ [])) }
-grown published item seat by (Reader x) f = let t = f.told_kept in let o = f.opened_kept in record {
+grown published item seat by (Writer x) f = let t = f.reached_kept in record { alone = f.alone; copied = all_stand_longer published item x.copies f.copied; copies_reached = f.copies_reached; reached_kept = omega (arith, length-append published (item ∷ [])) }
+grown published item seat by (Reader x) f = let t = f.reached_kept in let o = f.opened_kept in record {
   noted = all_stand_longer published item x.notes f.noted;
   copied = all_stand_longer published item x.copies f.copied;
   notes_rise = f.notes_rise;
   loads_rise = f.loads_rise;
-  notes_told = f.notes_told;
-  copies_told = f.copies_told;
-  loads_told = f.loads_told;
-  told_kept = omega (arith, length-append published (item ∷ []));
+  notes_reached = f.notes_reached;
+  copies_reached = f.copies_reached;
+  loads_reached = f.loads_reached;
+  reached_kept = omega (arith, length-append published (item ∷ []));
   opened_kept = omega (arith, length-append published (item ∷ []));
   found_is = λ e. absurd (omega (arith, length-append published (item ∷ [])));
 }
@@ -53,7 +53,7 @@ module _ (w : ℕ) (slots id : ℕ) (me : M) where
     same_writer y e = ap writer_of (sym is ∙ e)
 
     -- it stores a word of the spare copy
-    pub putting : (i b : ℕ) → i ≡ copy_at (cell_shape w) (length x.published) + length x.pending → length x.pending < w → Allows (Kept w) slots id me i (λ _. b) (λ _. puts (step slots i b 0 none) me b)
+    pub putting : (i b : ℕ) → i ≡ copy_at (threaded_shape w) (length x.published) + length x.pending → length x.pending < w → Allows (Kept w) slots id me i (λ _. b) (λ _. puts (step slots i b 0 none) me b)
     putting i b place within s r _ at _ = let k = here s r at in let wide = k.wide in let n : ℕ = length x.published in let p : ℕ = length x.pending in let bounds = copy_within w n p within in
         let len : length (x.pending ++ b ∷ []) ≡ suc p = omega (arith, length-append x.pending (b ∷ [])) in
         let fits : Fits x.published id id (Writer x) = k.each_view id (Writer x) (at_writer s at) in (
@@ -70,11 +70,11 @@ module _ (w : ℕ) (slots id : ℕ) (me : M) where
               begun = k.begun;
               short = omega arith;
               counter = get_or-set_other s.words i 0 b 0 (λ e. omega arith) ∙ k.counter;
-              current = λ j l. get_or-set_other s.words i (copy_at (cell_shape w) (n + 1) + j) b 0 (λ e. copies_apart w n j p l within (e ∙ place)) ∙ k.current j l;
+              current = λ j l. get_or-set_other s.words i (copy_at (threaded_shape w) (n + 1) + j) b 0 (λ e. copies_apart w n j p l within (e ∙ place)) ∙ k.current j l;
               spare = λ j l. dite (ℕ_discrete j p)
-                  (λ e. ap (λ (m : ℕ). get_or (set s.words i b) m 0) (ap (λ (m : ℕ). copy_at (cell_shape w) n + m) e ∙ sym place) ∙ (get_or-set_same s.words i b 0 (omega arith) ∙ (sym (at_push x.pending b) ∙ ap (λ (m : ℕ). get_or (x.pending ++ b ∷ []) m 0) (sym e))))
-                  (λ other. get_or-set_other s.words i (copy_at (cell_shape w) n + j) b 0 (λ e. other (omega arith)) ∙ (k.spare j (omega arith) ∙ sym (get_or-append x.pending (b ∷ []) 0 j (omega arith))));
-              each_view = fits_set x.published id s.views id (Writer (with_word x b)) k.each_view (record { alone = fits.alone; copied = fits.copied; copies_told = fits.copies_told; told_kept = fits.told_kept });
+                  (λ e. ap (λ (m : ℕ). get_or (set s.words i b) m 0) (ap (λ (m : ℕ). copy_at (threaded_shape w) n + m) e ∙ sym place) ∙ (get_or-set_same s.words i b 0 (omega arith) ∙ (sym (at_push x.pending b) ∙ ap (λ (m : ℕ). get_or (x.pending ++ b ∷ []) m 0) (sym e))))
+                  (λ other. get_or-set_other s.words i (copy_at (threaded_shape w) n + j) b 0 (λ e. other (omega arith)) ∙ (k.spare j (omega arith) ∙ sym (get_or-append x.pending (b ∷ []) 0 j (omega arith))));
+              each_view = fits_set x.published id s.views id (Writer (with_word x b)) k.each_view (record { alone = fits.alone; copied = fits.copied; copies_reached = fits.copies_reached; reached_kept = fits.reached_kept });
             },
           ),
           λ y e i'. (Writer (with_word (same_writer y e i') b), me.1),
@@ -98,9 +98,9 @@ module _ (w : ℕ) (slots id : ℕ) (me : M) where
               begun = omega arith;
               short = omega arith;
               counter = get_or-set_same s.words 0 v 0 (omega arith) ∙ (next ∙ sym len);
-              current = λ j l. let bounds = copy_within w n j l in ap (λ (m : ℕ). get_or (set s.words 0 v) (m + j) 0) (ap (λ (m : ℕ). copy_at (cell_shape w) (m + 1)) len ∙ two_on w n) ∙ (get_or-set_other s.words 0 (copy_at (cell_shape w) n + j) v 0 (λ e. omega arith) ∙ (k.spare j (omega arith) ∙ ap (λ (item : List ℕ). get_or item j 0) (sym (last_of-push x.published x.pending))));
+              current = λ j l. let bounds = copy_within w n j l in ap (λ (m : ℕ). get_or (set s.words 0 v) (m + j) 0) (ap (λ (m : ℕ). copy_at (threaded_shape w) (m + 1)) len ∙ two_on w n) ∙ (get_or-set_other s.words 0 (copy_at (threaded_shape w) n + j) v 0 (λ e. omega arith) ∙ (k.spare j (omega arith) ∙ ap (λ (item : List ℕ). get_or item j 0) (sym (last_of-push x.published x.pending))));
               spare = λ j l. absurd (omega arith);
-              each_view = fits_set published id s.views id (Writer (with_publish x)) (λ j u e. grown x.published x.pending id j u (k.each_view j u e)) (grown x.published x.pending id id (Writer (with_publish x)) (record { alone = fits.alone; copied = fits.copied; copies_told = fits.copies_told; told_kept = fits.told_kept }));
+              each_view = fits_set published id s.views id (Writer (with_publish x)) (λ j u e. grown x.published x.pending id j u (k.each_view j u e)) (grown x.published x.pending id id (Writer (with_publish x)) (record { alone = fits.alone; copied = fits.copied; copies_reached = fits.copies_reached; reached_kept = fits.reached_kept }));
             },
           ),
           λ y e i'. (Writer (with_publish (same_writer y e i')), me.1),
@@ -113,7 +113,7 @@ module _ (w : ℕ) (slots id : ℕ) (me : M) where
       keeps,
       tt,
       subst (λ (z : List ℕ × List View). Kept w record { words = z.0; homes = s.homes; views = z.1 }) (λ i. (sym (set-get_or s.words 0 0) i, sym (set_again s.views id me.0 at) i)) r,
-      (refl, λ y e. subst (λ (z : WriterView). All (Stands z.published) z.copies × (z.told ≤ length z.published) × (get_or s.words 0 0 ≡ length z.published)) (same_writer y e) (fits.copied, fits.told_kept, k.counter)),
+      (refl, λ y e. subst (λ (z : WriterView). All (Stands z.published) z.copies × (z.reached ≤ length z.published) × (get_or s.words 0 0 ≡ length z.published)) (same_writer y e) (fits.copied, fits.reached_kept, k.counter)),
     )
 
 pub publishing_at : (w slots id : ℕ) (me : M) (x : WriterView) → me.0 ≡ Writer x → (i v : ℕ) → i ≡ 0 → v ≡ length x.published + 1 → length x.pending ≡ w → Allows (Kept w) slots id me i (λ _. v) (λ _. publishes (step slots i v 0 none) me v)

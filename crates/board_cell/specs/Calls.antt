@@ -8,9 +8,9 @@ use Rattle.board_cell.specs.declared.access.Progress.{Progress}
 use Rattle.board_cell.specs.declared.access.Progress.TheVariants.{More, Done}
 
 -- an access of a call, as one of the board with this number
-abbrev pub told : ℕ → Access → Owed
-told board (access.Read word) = to_read board word
-told board (access.Write word value) = to_write board word value
+abbrev pub on_board : ℕ → Access → Owed
+on_board board (access.Read word) = to_read board word
+on_board board (access.Write word value) = to_write board word value
 
 abbrev pub progress_of : Bool → Progress
 progress_of false = More

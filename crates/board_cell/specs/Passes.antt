@@ -15,12 +15,12 @@ pub record WriterSeen : Type 0 where
   pub cell : TableId
   pub published : List (List ℕ)
 
--- a reader's pass: the values that it read, the counters that it loaded, and the generation that it was told
+-- a reader's pass: the values that it read, the counters that it loaded, and the generation that it knows to be reached
 pub record ReaderSeen : Type 0 where
   pub cell : TableId
   pub notes : List Note
   pub loads : List ℕ
-  pub told : ℕ
+  pub reached : ℕ
 
 -- a receipt names a publication
 pub record ReceiptSeen : Type 0 where
@@ -28,8 +28,8 @@ pub record ReceiptSeen : Type 0 where
   pub generation : ℕ
 
 -- how the cell of this many words lies in its table
-abbrev pub cell_shape : ℕ → CellShape
-cell_shape w = record { first = 0; head = 2; words = w }
+abbrev pub threaded_shape : ℕ → CellShape
+threaded_shape w = record { first = 0; head = 2; words = w }
 
 abbrev pub note : ℕ → List ℕ → Note
 note generation words = record { generation = generation; words = words }
@@ -42,7 +42,7 @@ abbrev pub new_writer : TableId → List ℕ → WriterSeen
 new_writer cell words = record { cell = cell; published = words ∷ [] }
 
 abbrev pub new_reader : TableId → ℕ → ReaderSeen
-new_reader cell told = record { cell = cell; notes = []; loads = []; told = told }
+new_reader cell reached = record { cell = cell; notes = []; loads = []; reached = reached }
 
 -- the note's words are the published ones of its generation
 pub record Stands (published : List (List ℕ)) (n : Note) : Type 0 where
@@ -63,21 +63,21 @@ abbrev pub last_from : ℕ → List ℕ → ℕ
 last_from x [] = x
 last_from x (y ∷ ys) = last_from y ys
 
--- the counters of tries of which the last was accepted at g: a climbing list that begins no lower than what was told and ends with g, and g once more
-pub record LoadsUntil (told g : ℕ) (before after : List ℕ) : Type 0 where
+-- the counters of tries of which the last was accepted at g: a climbing list that begins no lower than what was known to be reached and ends with g, and g once more
+pub record LoadsUntil (reached g : ℕ) (before after : List ℕ) : Type 0 where
   pub first : ℕ
   pub rest : List ℕ
-  pub begins : told ≤ first
+  pub begins : reached ≤ first
   pub climbs : ClimbsFrom first rest
   pub ends : last_from first rest ≡ g
   pub gained : after ≡ before ++ first ∷ (rest ++ g ∷ [])
 
--- an accepted get: the pass gains its note and is told its generation
+-- an accepted get: the pass gains its note and knows its generation to be reached
 pub record Gets (g : ℕ) (words : List ℕ) (old new : ReaderSeen) : Type 0 where
   pub cell : new.cell ≡ old.cell
   pub notes : new.notes ≡ old.notes ++ note g words ∷ []
-  pub told : new.told ≡ g
-  pub loads : LoadsUntil old.told g old.loads new.loads
+  pub reached : new.reached ≡ g
+  pub loads : LoadsUntil old.reached g old.loads new.loads
 
 -- the same in at most this many tries
 pub record GetsWithin (tries g : ℕ) (words : List ℕ) (old new : ReaderSeen) : Type 0 where
@@ -88,10 +88,10 @@ pub record GetsWithin (tries g : ℕ) (words : List ℕ) (old new : ReaderSeen) 
 pub record GivesUp (tries before after : ℕ) (old new : ReaderSeen) : Type 0 where
   pub cell : new.cell ≡ old.cell
   pub notes : new.notes ≡ old.notes
-  pub told : new.told ≡ after
+  pub reached : new.reached ≡ after
   pub first : ℕ
   pub rest : List ℕ
-  pub begins : old.told ≤ first
+  pub begins : old.reached ≤ first
   pub climbs : ClimbsFrom first (rest ++ after ∷ [])
   pub ends : last_from first rest ≡ before
   pub all : length rest + 1 ≡ tries
@@ -99,5 +99,5 @@ pub record GivesUp (tries before after : ℕ) (old new : ReaderSeen) : Type 0 wh
 
 -- one load of the counter
 pub record Looks (counter : ℕ) (old new : ReaderSeen) : Type 0 where
-  pub begins : old.told ≤ counter
-  pub pass : new ≡ record old { loads = old.loads ++ counter ∷ []; told = counter }
+  pub begins : old.reached ≤ counter
+  pub pass : new ≡ record old { loads = old.loads ++ counter ∷ []; reached = counter }

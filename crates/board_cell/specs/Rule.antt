@@ -5,7 +5,7 @@ use mathlib.Core.Option.{some}
 use lib.ListN.{get_elem?}
 use Rattle.atomic_table.specs.Table.{State}
 use Rattle.board_cell_model.specs.Copies.{spare_at, current_at}
-use Rattle.board_cell.specs.Passes.{cell_shape, Stands, NotesRise}
+use Rattle.board_cell.specs.Passes.{threaded_shape, Stands, NotesRise}
 use Rattle.board_cell.specs.declared.threaded.view.Note.{Note}
 use Rattle.board_cell.specs.declared.threaded.view.WriterView.{WriterView}
 use Rattle.board_cell.specs.declared.threaded.view.ReaderView.{ReaderView}
@@ -22,8 +22,8 @@ abbrev pub IsRising : List ℕ → Type 0
 IsRising [] = Unit {0}
 IsRising (x ∷ xs) = All (λ y. x ≤ y) xs × IsRising xs
 
-abbrev pub AreTold : ℕ → List Note → Type 0
-AreTold told notes = All (λ (n : Note). n.generation ≤ told) notes
+abbrev pub AreReached : ℕ → List Note → Type 0
+AreReached reached notes = All (λ (n : Note). n.generation ≤ reached) notes
 
 pub record ReaderFits (published : List (List ℕ)) (x : ReaderView) : Type 0 where
   -- each note, own or copied, is a published value
@@ -32,11 +32,11 @@ pub record ReaderFits (published : List (List ℕ)) (x : ReaderView) : Type 0 wh
   -- neither notes nor loads fall
   pub notes_rise : NotesRise x.notes
   pub loads_rise : IsRising x.loads
-  -- none is above what was told, and that isn't above the counter
-  pub notes_told : AreTold x.told x.notes
-  pub copies_told : AreTold x.told x.copies
-  pub loads_told : All (λ n. n ≤ x.told) x.loads
-  pub told_kept : x.told ≤ length published
+  -- none is above what is known to be reached, and that isn't above the counter
+  pub notes_reached : AreReached x.reached x.notes
+  pub copies_reached : AreReached x.reached x.copies
+  pub loads_reached : All (λ n. n ≤ x.reached) x.loads
+  pub reached_kept : x.reached ≤ length published
   -- an open try isn't above the counter, and while it is at the counter, its words are the first ones of the last value
   pub opened_kept : x.opened ≤ length published
   pub found_is : x.opened ≡ length published → x.found ≡ take (length x.found) (last_of published)
@@ -45,8 +45,8 @@ pub record ReaderFits (published : List (List ℕ)) (x : ReaderView) : Type 0 wh
 pub record WriterFits (published : List (List ℕ)) (seat by : ℕ) (x : WriterView) : Type 0 where
   pub alone : by ≡ seat
   pub copied : All (Stands published) x.copies
-  pub copies_told : AreTold x.told x.copies
-  pub told_kept : x.told ≤ length published
+  pub copies_reached : AreReached x.reached x.copies
+  pub reached_kept : x.reached ≤ length published
 
 -- what the rule says of the view of the seat `by`, where the writer has the other one
 abbrev pub Fits : List (List ℕ) → ℕ → ℕ → View → Type 0
@@ -64,9 +64,9 @@ pub record KeptBy (w seat : ℕ) (writer : WriterView) (s : State (Unit {0}) Vie
   -- the counter is the number of published values
   pub counter : slice_index s.words 0 ≡ length writer.published
   -- the current copy is the last of them
-  pub current : (i : ℕ) → i < w → slice_index s.words (current_at (cell_shape w) (length writer.published) + i) ≡ slice_index (last_of writer.published) i
+  pub current : (i : ℕ) → i < w → slice_index s.words (current_at (threaded_shape w) (length writer.published) + i) ≡ slice_index (last_of writer.published) i
   -- the spare copy begins with the pending words
-  pub spare : (i : ℕ) → i < length writer.pending → slice_index s.words (spare_at (cell_shape w) (length writer.published) + i) ≡ slice_index writer.pending i
+  pub spare : (i : ℕ) → i < length writer.pending → slice_index s.words (spare_at (threaded_shape w) (length writer.published) + i) ≡ slice_index writer.pending i
   pub each_view : (by : ℕ) (v : View) → get_elem? s.views by ≡ some v → Fits writer.published seat by v
 
 -- one seat is the writer's
@@ -79,4 +79,4 @@ opening_words words = 1 ∷ 0 ∷ (words ++ replicate (length words) 0)
 
 -- the writer's view of a new cell
 abbrev pub opening_view : List ℕ → View
-opening_view words = Writer record { published = words ∷ []; pending = []; copies = []; told = 0 }
+opening_view words = Writer record { published = words ∷ []; pending = []; copies = []; reached = 0 }

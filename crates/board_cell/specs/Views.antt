@@ -4,7 +4,7 @@ use Rattle.std.specs.List.{All}
 use Rattle.atomic_table.specs.Table.{Me, Step}
 use Rattle.board_cell_model.specs.OwedAccesses.{trying}
 use Rattle.board_cell.specs.Calls.{Getting, Updating}
-use Rattle.board_cell.specs.Passes.{cell_shape, note, Stands, NotesRise, ClimbsFrom, last_from}
+use Rattle.board_cell.specs.Passes.{threaded_shape, note, Stands, NotesRise, ClimbsFrom, last_from}
 use Rattle.board_cell.specs.declared.threaded.view.Note.{Note}
 use Rattle.board_cell.specs.declared.threaded.view.WriterView.{WriterView}
 use Rattle.board_cell.specs.declared.threaded.view.ReaderView.{ReaderView}
@@ -12,10 +12,10 @@ use Rattle.board_cell.specs.declared.threaded.view.View.{View}
 use Rattle.board_cell.specs.declared.threaded.view.View.TheVariants.{Spent, Writer, Reader}
 
 abbrev pub no_writer : WriterView
-no_writer = record { published = []; pending = []; copies = []; told = 0 }
+no_writer = record { published = []; pending = []; copies = []; reached = 0 }
 
 abbrev pub no_reader : ReaderView
-no_reader = record { notes = []; copies = []; loads = []; told = 0; opened = 0; found = [] }
+no_reader = record { notes = []; copies = []; loads = []; reached = 0; opened = 0; found = [] }
 
 abbrev pub writer_of : View → WriterView
 writer_of (Writer x) = x
@@ -39,7 +39,7 @@ with_item x item = record x { published = x.published ++ item ∷ []; pending = 
 
 -- the reader opens a try at the counter that it loads
 abbrev pub with_open : ReaderView → ℕ → ReaderView
-with_open x n = record x { loads = x.loads ++ n ∷ []; told = n; opened = n; found = [] }
+with_open x n = record x { loads = x.loads ++ n ∷ []; reached = n; opened = n; found = [] }
 
 -- the reader loads a word of the try
 abbrev pub with_found : ReaderView → ℕ → ReaderView
@@ -54,27 +54,27 @@ noted_if false notes n = notes
 
 -- the reader closes the try: an equal counter adds its note, another one opens the next try
 abbrev pub with_close : ReaderView → ℕ → ReaderView
-with_close x n = record x { notes = noted_if (eqb n x.opened) x.notes (note n x.found); loads = x.loads ++ n ∷ []; told = n; opened = n; found = [] }
+with_close x n = record x { notes = noted_if (eqb n x.opened) x.notes (note n x.found); loads = x.loads ++ n ∷ []; reached = n; opened = n; found = [] }
 
 -- the reader's try of these words was accepted
 abbrev pub with_note : ReaderView → ℕ → List ℕ → ReaderView
-with_note x n words = record x { notes = x.notes ++ note n words ∷ []; loads = x.loads ++ n ∷ []; told = n; opened = n; found = [] }
+with_note x n words = record x { notes = x.notes ++ note n words ∷ []; loads = x.loads ++ n ∷ []; reached = n; opened = n; found = [] }
 
 -- the reader loads the counter
 abbrev pub with_load : ReaderView → ℕ → ReaderView
-with_load x n = record x { loads = x.loads ++ n ∷ []; told = n }
+with_load x n = record x { loads = x.loads ++ n ∷ []; reached = n }
 
 -- the view of a seat that is split off
 abbrev pub newcomer : View → View
 newcomer Spent = Spent
-newcomer (Writer x) = Reader record { notes = []; copies = []; loads = []; told = length x.published; opened = 0; found = [] }
-newcomer (Reader x) = Reader record { notes = []; copies = x.notes; loads = []; told = x.told; opened = 0; found = [] }
+newcomer (Writer x) = Reader record { notes = []; copies = []; loads = []; reached = length x.published; opened = 0; found = [] }
+newcomer (Reader x) = Reader record { notes = []; copies = x.notes; loads = []; reached = x.reached; opened = 0; found = [] }
 
 abbrev pub writer_with : WriterView → ReaderView → WriterView
-writer_with x y = record x { copies = x.copies ++ (y.notes ++ y.copies); told = max x.told y.told }
+writer_with x y = record x { copies = x.copies ++ (y.notes ++ y.copies); reached = max x.reached y.reached }
 
 abbrev pub reader_with : ReaderView → ReaderView → ReaderView
-reader_with x y = record x { copies = x.copies ++ (y.notes ++ y.copies); told = max x.told y.told }
+reader_with x y = record x { copies = x.copies ++ (y.notes ++ y.copies); reached = max x.reached y.reached }
 
 -- the view of a seat that another was joined into
 abbrev pub joined : View → View → View
@@ -84,19 +84,19 @@ joined v _ = v
 
 -- the call is in the reader's open try
 abbrev pub IsTrying : ℕ → Getting → ReaderView → Type 0
-IsTrying w call x = call ≡ record { shape = cell_shape w; reading = trying x.opened x.found }
+IsTrying w call x = call ≡ record { shape = threaded_shape w; reading = trying x.opened x.found }
 
 -- the call has written the writer's pending words
 pub record IsWriting (w : ℕ) (call : Updating) (x : WriterView) : Type 0 where
   pub width : length call.words ≡ w
-  pub owes : call ≡ record { shape = cell_shape w; generation = length x.published; words = call.words; written = length x.pending }
+  pub owes : call ≡ record { shape = threaded_shape w; generation = length x.published; words = call.words; written = length x.pending }
 
 -- x is the reader whose try is open at `opened`, and y after tries of which the last was accepted at g
 pub record AfterTries (x : ReaderView) (v : View) (opened g : ℕ) (words : List ℕ) : Type 0 where
   pub y : ReaderView
   pub is : v ≡ Reader y
   pub notes : y.notes ≡ x.notes ++ note g words ∷ []
-  pub told : y.told ≡ g
+  pub reached : y.reached ≡ g
   pub rest : List ℕ
   pub climbs : ClimbsFrom opened rest
   pub ends : last_from opened rest ≡ g
@@ -112,7 +112,7 @@ pub record AfterFailures (tries : ℕ) (x : ReaderView) (v : View) (opened befor
   pub y : ReaderView
   pub is : v ≡ Reader y
   pub notes : y.notes ≡ x.notes
-  pub told : y.told ≡ after
+  pub reached : y.reached ≡ after
   pub rest : List ℕ
   pub climbs : ClimbsFrom opened (rest ++ after ∷ [])
   pub ends : last_from opened rest ≡ before
@@ -133,17 +133,17 @@ abbrev pub publishes : Told
 publishes st m n m' = (x : WriterView) → m.0 ≡ Writer x → m' ≡ (Writer (with_publish x), m.1)
 
 abbrev pub opens : Told
-opens st m n m' = (x : ReaderView) → m.0 ≡ Reader x → (m' ≡ (Reader (with_open x n), m.1)) × (x.told ≤ n)
+opens st m n m' = (x : ReaderView) → m.0 ≡ Reader x → (m' ≡ (Reader (with_open x n), m.1)) × (x.reached ≤ n)
 
 abbrev pub reads : Told
 reads st m n m' = (x : ReaderView) → m.0 ≡ Reader x → m' ≡ (Reader (with_found x n), m.1)
 
 abbrev pub closes : Told
-closes st m n m' = (x : ReaderView) → m.0 ≡ Reader x → (m' ≡ (Reader (with_close x n), m.1)) × (x.told ≤ n) × (x.opened ≤ n) × NotesRise (with_close x n).notes
+closes st m n m' = (x : ReaderView) → m.0 ≡ Reader x → (m' ≡ (Reader (with_close x n), m.1)) × (x.reached ≤ n) × (x.opened ≤ n) × NotesRise (with_close x n).notes
 
 abbrev pub glances : Told
-glances st m n m' = (x : ReaderView) → m.0 ≡ Reader x → (m' ≡ (Reader (with_load x n), m.1)) × (x.told ≤ n)
+glances st m n m' = (x : ReaderView) → m.0 ≡ Reader x → (m' ≡ (Reader (with_load x n), m.1)) × (x.reached ≤ n)
 
 -- the writer compares the copied notes with what it published
 abbrev pub looks : Told
-looks st m n m' = (m' ≡ m) × ((x : WriterView) → m.0 ≡ Writer x → All (Stands x.published) x.copies × (x.told ≤ length x.published) × (n ≡ length x.published))
+looks st m n m' = (m' ≡ m) × ((x : WriterView) → m.0 ≡ Writer x → All (Stands x.published) x.copies × (x.reached ≤ length x.published) × (n ≡ length x.published))

@@ -1,6 +1,6 @@
 ghost use Rattle.std.specs.Prelude.{ℕ, ◌≡◌, ◌==◌, None, Some, IsSome, IfSome};
 ghost use Rattle.board_cell_model.specs.OwedAccesses.{to_read};
-ghost use Rattle.board_cell.specs.Calls.{told};
+ghost use Rattle.board_cell.specs.Calls.{on_board};
 ghost use Rattle.board_cell.specs.declared.access.Progress.TheVariants.{Done};
 
 use crate::access::{Access, Progress};
@@ -40,7 +40,7 @@ impl FreshCall {
     #[inline(always)]
     pub fn next(&self) -> Access
         requires { self.now.counter ≡ None }
-        ensures { (board : ℕ) → told board result ≡ to_read board self.now.shape.first }
+        ensures { (board : ℕ) → on_board board result ≡ to_read board self.now.shape.first }
     {
         Access::Read {
             word: self.shape.first,

@@ -1,7 +1,7 @@
 ghost use Rattle.std.specs.Prelude.{ℕ, ◌≡◌, ◌+◌, ◌^◌, ◌<◌, nat_lt, true, false, if◌then◌else◌, ◌++◌, [], ◌∷◌, List, length};
-ghost use Rattle.board_cell_model.specs.Copies.{cell_end};
+ghost use Rattle.board_layout.specs.Layout.{cell_end};
 ghost use Rattle.board_cell_model.specs.OwedAccesses.{Reading, opening, trying, hear, reading_from, is_finished, owed_read};
-ghost use Rattle.board_cell.specs.Calls.{told, progress_of, counter_of, words_of};
+ghost use Rattle.board_cell.specs.Calls.{on_board, progress_of, counter_of, words_of};
 
 use crate::access::{Access, Progress};
 use crate::copies::current_word;
@@ -28,7 +28,7 @@ pub struct GetCall {
 
 impl Model for GetCall {
     ghost use Rattle.std.specs.Prelude.{◌≡◌, ◌^◌, ◌<◌, ◌≤◌, length, take};
-    ghost use Rattle.board_cell_model.specs.Copies.{cell_end};
+    ghost use Rattle.board_layout.specs.Layout.{cell_end};
     ghost use Rattle.board_cell.specs.declared.get_call.Stage.TheVariants.{Opening, Finished};
     ghost use Rattle.board_cell.specs.Calls.{Getting};
     ghost use Rattle.board_cell.specs.Stages.{reading_of};
@@ -61,7 +61,7 @@ impl GetCall {
     #[inline(always)]
     pub fn next(&self) -> Access
         requires { is_finished self.now.reading ≡ false }
-        ensures { (board : ℕ) → told board result ≡ owed_read board self.now.shape self.now.reading }
+        ensures { (board : ℕ) → on_board board result ≡ owed_read board self.now.shape self.now.reading }
     {
         if self.stage == Stage::Trying && self.at < self.buffer.len() as u64 {
             Access::Read {

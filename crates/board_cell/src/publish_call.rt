@@ -1,6 +1,6 @@
 ghost use Rattle.std.specs.Prelude.{ℕ, ◌≡◌, ◌+◌, ◌^◌, ◌<◌, true, false};
 ghost use Rattle.board_cell_model.specs.OwedAccesses.{to_write};
-ghost use Rattle.board_cell.specs.Calls.{told};
+ghost use Rattle.board_cell.specs.Calls.{on_board};
 ghost use Rattle.board_cell.specs.declared.access.Progress.TheVariants.{Done};
 
 use crate::access::{Access, Progress};
@@ -44,7 +44,7 @@ impl PublishCall {
     #[inline(always)]
     pub fn next(&self) -> Access
         requires { self.now.done ≡ false }
-        ensures { (board : ℕ) → told board result ≡ to_write board self.now.shape.first (self.now.generation + 1) }
+        ensures { (board : ℕ) → on_board board result ≡ to_write board self.now.shape.first (self.now.generation + 1) }
     {
         Access::Write {
             word: self.shape.first,

@@ -1,7 +1,8 @@
 ghost use Rattle.std.specs.Prelude.{ℕ, ◌≡◌, ◌+◌, ◌^◌, ◌<◌, true, false};
-ghost use Rattle.board_cell_model.specs.Copies.{spare_at, cell_end};
+ghost use Rattle.board_cell_model.specs.Copies.{spare_at};
+ghost use Rattle.board_layout.specs.Layout.{cell_end};
 ghost use Rattle.board_cell_model.specs.OwedAccesses.{to_write};
-ghost use Rattle.board_cell.specs.Calls.{told};
+ghost use Rattle.board_cell.specs.Calls.{on_board};
 ghost use Rattle.board_cell.specs.declared.access.Progress.TheVariants.{Done};
 
 use crate::access::{Access, Progress};
@@ -21,7 +22,7 @@ pub struct PutCall {
 
 impl Model for PutCall {
     ghost use Rattle.std.specs.Prelude.{◌^◌, ◌<◌};
-    ghost use Rattle.board_cell_model.specs.Copies.{cell_end};
+    ghost use Rattle.board_layout.specs.Layout.{cell_end};
     ghost use Rattle.board_cell.specs.Calls.{Putting};
 
     ghost Value = { Putting };
@@ -52,7 +53,7 @@ impl PutCall {
     #[inline(always)]
     pub fn next(&self) -> Access
         requires { self.now.done ≡ false }
-        ensures { (board : ℕ) → told board result ≡ to_write board (spare_at self.now.shape self.now.generation + self.now.index) self.now.word }
+        ensures { (board : ℕ) → on_board board result ≡ to_write board (spare_at self.now.shape self.now.generation + self.now.index) self.now.word }
     {
         Access::Write {
             word: spare_word(self.shape, self.generation, self.index),

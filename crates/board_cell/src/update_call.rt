@@ -1,7 +1,7 @@
 ghost use Rattle.std.specs.Prelude.{ℕ, ◌≡◌, ◌+◌, ◌^◌, ◌<◌, ◌≤◌, ◌==◌, nat_lt, List, length, slice_index};
-ghost use Rattle.board_cell_model.specs.Copies.{cell_end};
+ghost use Rattle.board_layout.specs.Layout.{cell_end};
 ghost use Rattle.board_cell_model.specs.OwedAccesses.{owed_write};
-ghost use Rattle.board_cell.specs.Calls.{told, progress_of};
+ghost use Rattle.board_cell.specs.Calls.{on_board, progress_of};
 
 use crate::access::{Access, Progress};
 use crate::copies::spare_word;
@@ -47,7 +47,7 @@ pub struct UpdateCall<W: ValueWords = Vec<u64>> {
 
 impl<W: ValueWords> Model for UpdateCall<W> {
     ghost use Rattle.std.specs.Prelude.{◌≡◌, ◌+◌, ◌^◌, ◌<◌, ◌≤◌, length};
-    ghost use Rattle.board_cell_model.specs.Copies.{cell_end};
+    ghost use Rattle.board_layout.specs.Layout.{cell_end};
     ghost use Rattle.board_cell.specs.Calls.{Updating};
 
     ghost Value = { Updating };
@@ -106,7 +106,7 @@ impl<W: ValueWords> UpdateCall<W> {
     #[inline(always)]
     pub fn next(&self) -> Access
         requires { self.now.written ≤ length self.now.words }
-        ensures { (board : ℕ) → told board result ≡ owed_write board self.now.shape self.now.generation self.now.words self.now.written }
+        ensures { (board : ℕ) → on_board board result ≡ owed_write board self.now.shape self.now.generation self.now.words self.now.written }
     {
         if self.written < self.shape.words {
             Access::Write {

@@ -13,7 +13,3 @@ spare_at c g = copy_at c g
 -- the first word of the copy that is current at counter g
 abbrev pub current_at : CellShape → ℕ → ℕ
 current_at c g = copy_at c (g + 1)
-
--- the word after the cell
-abbrev pub cell_end : CellShape → ℕ
-cell_end c = c.first + c.head + 2 * c.words

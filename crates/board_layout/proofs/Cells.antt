@@ -8,7 +8,7 @@ use Rattle.std.proofs.lemmas.Nat.{pow-add}
 use Rattle.std.proofs.lemmas.Bool.{cases_lt}
 use Rattle.std.proofs.lemmas.List.Elements.{All-nil, All-cons, All-head, All-tail, All-weaker}
 use Rattle.board_layout.specs.declared.shape.Shape.{Shape}
-use Rattle.board_layout.specs.Layout.{IsAlignment, IsShape, IsCellFor, LiesBefore, LiesWithin, align, cell_alignment, cell_bytes, cell_end, end_from, head_bytes, payload, place_at, places_from, start_of}
+use Rattle.board_layout.specs.Layout.{cell_shape, IsAlignment, IsShape, IsCellFor, LiesBefore, LiesWithin, align, cell_alignment, cell_bytes, cell_end, end_from, head_bytes, payload, place_at, places_from, start_of}
 use Rattle.board_layout.proofs.Places.{align_le}
 
 -- a number of whole words, in bytes
@@ -73,7 +73,7 @@ pub align_ge : (a n : ℕ) → 0 < a → n ≤ align a n
 align_ge a n h = let lt : n + (a - 1) < (n + (a - 1)) / a * a + a = lt-div-mul-add h in omega (arith, lt)
 
 -- the last byte of a planned cell, by its words
-pub cell_end-place_at : (at : ℕ) (s : Shape) → IsShape s → 8 * cell_end (place_at at s) ≡ start_of at s + cell_bytes s
+pub cell_end-place_at : (at : ℕ) (s : Shape) → IsShape s → 8 * cell_end (cell_shape (place_at at s)) ≡ start_of at s + cell_bytes s
 cell_end-place_at at s h = let c = IsCellFor-place_at at s h in omega (arith, c.first, c.head)
 
 -- each planned cell suits its shape
@@ -119,7 +119,7 @@ cells_from at from (s ∷ ss) le h =
 pub cells_within : (at end : ℕ) (shapes : List Shape) → end_from at shapes ≤ 8 * end → All IsShape shapes → All (LiesWithin end) (places_from at shapes)
 cells_within at end [] le h = All-nil (LiesWithin end)
 cells_within at end (s ∷ ss) le h =
-    let e : 8 * cell_end (place_at at s) ≡ start_of at s + cell_bytes s = cell_end-place_at at s (All-head IsShape s ss h) in
+    let e : 8 * cell_end (cell_shape (place_at at s)) ≡ start_of at s + cell_bytes s = cell_end-place_at at s (All-head IsShape s ss h) in
     All-cons (LiesWithin end) (place_at at s) (places_from (start_of at s + cell_bytes s) ss)
     (omega (arith, e, end_ge (start_of at s + cell_bytes s) ss))
     (cells_within (start_of at s + cell_bytes s) end ss le (All-tail IsShape s ss h))
@@ -135,7 +135,7 @@ pub cells_disjoint : (at : ℕ) (shapes : List Shape) → All IsShape shapes →
 cells_disjoint at [] h = λ i j d lt in_list. absurd (omega arith)
 cells_disjoint at (s ∷ ss) h =
     let next : ℕ = start_of at s + cell_bytes s in
-    let e : 8 * cell_end (place_at at s) ≡ next = cell_end-place_at at s (All-head IsShape s ss h) in
+    let e : 8 * cell_end (cell_shape (place_at at s)) ≡ next = cell_end-place_at at s (All-head IsShape s ss h) in
     AllPairs-cons LiesBefore (place_at at s) (places_from next ss)
     (All-weaker (λ c. next ≤ 8 * c.first) (LiesBefore (place_at at s)) (λ c le. omega (arith, e, le)) (places_from next ss)
     (cells_from next next ss (omega arith) (All-tail IsShape s ss h)))

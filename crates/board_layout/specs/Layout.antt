@@ -2,6 +2,7 @@
 use Rattle.std.specs.Prelude.{◌≡◌, ℕ, ◌+◌, ◌-◌, ◌*◌, ◌/◌, ◌%◌, ◌^◌, ◌<◌, ◌≤◌, max, List, [], ◌∷◌, ◌++◌, replicate}
 use Rattle.board_layout.specs.declared.shape.Shape.{Shape}
 use Rattle.board_layout.specs.declared.shape.CellPlace.{CellPlace}
+use Rattle.board_layout.specs.declared.shape.CellShape.{CellShape}
 
 -- the least multiple of a that is at least n
 abbrev pub align : ℕ → ℕ → ℕ
@@ -51,8 +52,12 @@ pub record IsShape (s : Shape) : Type 0 where
   pub words : 0 < s.words
   pub alignment : IsAlignment s.alignment
 
+-- how a planned cell lies among the words of its board
+abbrev pub cell_shape : CellPlace → CellShape
+cell_shape c = record { first = c.first; head = c.head; words = c.words }
+
 -- the word after a cell
-abbrev pub cell_end : CellPlace → ℕ
+abbrev pub cell_end : CellShape → ℕ
 cell_end c = c.first + c.head + 2 * c.words
 
 -- a cell that suits a shape
@@ -64,11 +69,11 @@ pub record IsCellFor (s : Shape) (c : CellPlace) : Type 0 where
 
 -- the words of one cell lie before those of the other
 abbrev pub LiesBefore : CellPlace → CellPlace → Type 0
-LiesBefore a b = cell_end a ≤ b.first
+LiesBefore a b = cell_end (cell_shape a) ≤ b.first
 
 -- the words of a cell are among the first `end` words
 abbrev pub LiesWithin : ℕ → CellPlace → Type 0
-LiesWithin end c = cell_end c ≤ end
+LiesWithin end c = cell_end (cell_shape c) ≤ end
 
 -- the cell's words at first: the counter 1, zeros up to the head, the value, and zeros for the second copy
 abbrev pub opening_cell : CellPlace → List ℕ → List ℕ

@@ -19,8 +19,9 @@ use Rattle.board_model.specs.declared.value.ValueType.TheVariants as type
 use Rattle.board_cell_model.specs.Copies.{spare_at}
 use Rattle.board_model.specs.TypeTable.{same_type, type_of, value_detail, value_words, word_count}
 use Rattle.board_model.specs.Tables.{entry_at, entry_of, is_write_handle, kind_of, same_kind, writes_entry}
-use Rattle.board_model.specs.Things.{Held, Standing, cell_shape, held_of_kind, of_kind, thing_of}
-use Rattle.board_model.specs.Requests.{Lending, Request, and_then, create, describe, entry, entry_mut, fill, fresh, get, give_back, handle_of, handled, identified, identify, join, lend, lending, list_keys, list_nodes, loan_of, new_name, publish, put, reader, request_of, table, tell, update, writer}
+use Rattle.board_model.specs.Things.{Held, Standing, held_of_kind, of_kind, thing_of}
+use Rattle.board_layout.specs.Layout.{cell_shape}
+use Rattle.board_model.specs.Requests.{Lending, Request, and_then, create, info, entry, entry_mut, fill, fresh, get, discard, handle_of, handled, identified, id, open_, loan, lending, keys, nodes, loan_of, new_name, publish, put, reader, request_of, table, gen, update, writer}
 use Rattle.board_model.specs.Replies.{word_put}
 use Rattle.board_model.specs.Parties.{Party, begun, free}
 use Rattle.board_model.specs.LawfulSession.{State, all_put, call_reason, is_filled, is_indexed, is_taken, is_typed}
@@ -288,7 +289,7 @@ module _ (s : State) (sound : Sound s) (party : List ℕ) (fr : s.parties party 
 
   pub begun_party : (c : Call) → call_reason s.standing party c (request_of s.standing s.published party c) ≡ None → IsParty s party (begun (request_of s.standing s.published party c))
   begun_party (call.Create f name k limits attributes entries) r = (refl, unheld s.standing party f (asked (call.Create f name k limits attributes entries) (table (create f name k limits attributes entries)) r).free)
-  begun_party (call.Open f name k limits needs) r = (refl, unheld s.standing party f (asked (call.Open f name k limits needs) (table (join f name k limits needs)) r).free)
+  begun_party (call.Open f name k limits needs) r = (refl, unheld s.standing party f (asked (call.Open f name k limits needs) (table (open_ f name k limits needs)) r).free)
   begun_party (call.Reader n f) r = begun_held s party (call.Reader n f) thing_kind.Factory f (λ t. Some (table (reader n t))) r (λ x h g. (refl, (unheld s.standing party n (asked (call.Reader n f) (table (reader n x)) g).free, held_thing s.standing party f thing_kind.Factory x h)))
   begun_party (call.Writer n f) r = begun_held s party (call.Writer n f) thing_kind.Factory f (λ t. Some (table (writer n t))) r (λ x h g. (refl, (unheld s.standing party n (asked (call.Writer n f) (table (writer n x)) g).free, held_thing s.standing party f thing_kind.Factory x h)))
   begun_party (call.Entry n f k ty) r = begun_held s party (call.Entry n f k ty) thing_kind.Reader f (λ t. Some (table (entry n t k ty))) r (λ x h g. (refl, (unheld s.standing party n (asked (call.Entry n f k ty) (table (entry n x k ty)) g).free, held_thing s.standing party f thing_kind.Reader x h, (asked (call.Entry n f k ty) (table (entry n x k ty)) g).typed)))
@@ -296,13 +297,13 @@ module _ (s : State) (sound : Sound s) (party : List ℕ) (fr : s.parties party 
   begun_party (call.Get h v) r = begun_held s party (call.Get h v) thing_kind.ReadHandle h _ r (λ x f g. begun_entry (call.Get h v) x _ g (λ e a b. begun_get s party h v x e f a))
   begun_party (call.Fresh h v) r = begun_held s party (call.Fresh h v) thing_kind.ReadHandle h _ r (λ x f g. begun_entry (call.Fresh h v) x _ g (λ e a b. begun_then s party (call.Fresh h v) (s.standing.values party v) _ b (λ k c d. begun_fresh s party h k.type k.generation x e f a)))
   begun_party (call.Update m v) r = begun_handle (call.Update m v) m _ r (λ x f g. begun_entry (call.Update m v) x _ g (λ e a b. begun_value s sound party m x e v false f.held f.unlent a (asked (call.Update m v) (update (record { board = x.board; entry = entry_of x.kind; shape = cell_shape e.cell; type = e.value; handle = m; generation = length (s.published x.board (entry_of x.kind)); value = v })) b).typed))
-  begun_party (call.Loan l m) r = begun_handle (call.Loan l m) m _ r (λ x f g. begun_entry (call.Loan l m) x _ g (λ e a b. (refl, (unheld s.standing party l (asked (call.Loan l m) (table (lend (a_lending s l m x [] e))) b).free, writing s party m x e false f.held f.unlent a))))
-  begun_party (call.Discard l m) r = begun_loan (call.Discard l m) l m (λ y. table (give_back y)) r (λ x ws e h k a b. (refl, (unheld s.standing party m b.free, writing s party l x e true h (is_lent (s.standing.loans party l) ws k) a)))
+  begun_party (call.Loan l m) r = begun_handle (call.Loan l m) m _ r (λ x f g. begun_entry (call.Loan l m) x _ g (λ e a b. (refl, (unheld s.standing party l (asked (call.Loan l m) (table (loan (a_lending s l m x [] e))) b).free, writing s party m x e false f.held f.unlent a))))
+  begun_party (call.Discard l m) r = begun_loan (call.Discard l m) l m (λ y. table (discard y)) r (λ x ws e h k a b. (refl, (unheld s.standing party m b.free, writing s party l x e true h (is_lent (s.standing.loans party l) ws k) a)))
   begun_party (call.Put l i w) r = begun_loan (call.Put l i w) l l (λ y. put y i w) r (λ x ws e h k a b. (refl, record { writes = writing s party l x e true h (is_lent (s.standing.loans party l) ws k) a; below = ltb-true i e.cell.words b.indexed; words = k; lent = loan_words s sound party l x ws e fr h k a }))
   begun_party (call.Publish l m) r = begun_loan (call.Publish l m) l m (λ y. publish y) r (λ x ws e h k a b. begun_publish s sound party l m x ws e fr h k a (unheld s.standing party m b.free) b.filled)
   begun_party (call.Fill l m v) r = begun_loan (call.Fill l m v) l m (λ y. fill y v) r (λ x ws e h k a b. (unheld s.standing party m b.free, begun_value s sound party l x e v true h (is_lent (s.standing.loans party l) ws k) a b.typed))
-  begun_party (call.Keys f) r = begun_held s party (call.Keys f) thing_kind.Factory f (λ t. Some (table (list_keys t))) r (λ x h g. (refl, held_thing s.standing party f thing_kind.Factory x h))
-  begun_party (call.Nodes f) r = begun_held s party (call.Nodes f) thing_kind.Factory f (λ t. Some (table (list_nodes t))) r (λ x h g. (refl, held_thing s.standing party f thing_kind.Factory x h))
-  begun_party (call.Info f) r = begun_held s party (call.Info f) thing_kind.Factory f (λ t. Some (table (describe t))) r (λ x h g. (refl, held_thing s.standing party f thing_kind.Factory x h))
-  begun_party (call.Id n) r = begun_then s party (call.Id n) (identified s.standing party n) (λ t. Some (table (identify t))) r (λ x f g. (refl, found_any n x f))
-  begun_party (call.Gen m) r = begun_handle (call.Gen m) m (λ t. Some (table (tell t))) r (λ x f g. (refl, held_thing s.standing party m thing_kind.WriteHandle x f.held))
+  begun_party (call.Keys f) r = begun_held s party (call.Keys f) thing_kind.Factory f (λ t. Some (table (keys t))) r (λ x h g. (refl, held_thing s.standing party f thing_kind.Factory x h))
+  begun_party (call.Nodes f) r = begun_held s party (call.Nodes f) thing_kind.Factory f (λ t. Some (table (nodes t))) r (λ x h g. (refl, held_thing s.standing party f thing_kind.Factory x h))
+  begun_party (call.Info f) r = begun_held s party (call.Info f) thing_kind.Factory f (λ t. Some (table (info t))) r (λ x h g. (refl, held_thing s.standing party f thing_kind.Factory x h))
+  begun_party (call.Id n) r = begun_then s party (call.Id n) (identified s.standing party n) (λ t. Some (table (id t))) r (λ x f g. (refl, found_any n x f))
+  begun_party (call.Gen m) r = begun_handle (call.Gen m) m (λ t. Some (table (gen t))) r (λ x f g. (refl, held_thing s.standing party m thing_kind.WriteHandle x f.held))

@@ -11,7 +11,7 @@ use Rattle.board_model.specs.TypeTable.{key_detail, same_key, value_detail}
 use Rattle.board_model.specs.Tables.{board_at, board_named, entry_found, is_numbered, is_of_board, new_board, without}
 use Rattle.board_model.specs.TableCalls.{asked, boards_left, create_refusals, created, entry_mut_refusals, entry_refusals, first_of, id_of, joined, number_of, open_refusals, reader_refusals, with_read_handle, with_reader, with_write_handle, with_writer, writer_refusals}
 use Rattle.board_model.specs.Things.{Held, Standing, is_held_as, thing_of}
-use Rattle.board_model.specs.Requests.{Fetch, Published, Request, TableCall, create, describe, entry, entry_mut, fill, fresh, get, give_back, identify, join, lend, list_keys, list_nodes, publish, put, reader, table, tell, update, writer}
+use Rattle.board_model.specs.Requests.{Fetch, Published, Request, TableCall, create, info, entry, entry_mut, fill, fresh, get, discard, id, open_, loan, keys, nodes, publish, put, reader, table, gen, update, writer}
 use Rattle.board_model.specs.Replies.{added_of, ask, ask_tables, is_key, latest, released_thing, with_value}
 use Rattle.board_model.specs.LawfulSession.{IsLawfulFrom, IsRight, Session, State, after, state_after}
 use Rattle.board_model.specs.Sound.{BoardTables, Sound}
@@ -85,7 +85,7 @@ kept_table s lists party (create f name k limits attributes entries) =
     kept_asked s.tables (first_of (create_refusals (same_key k) s.tables.boards name (map added_of entries))) (s.tables.last_board + 1)
     (created s.tables party f name (key_detail k) limits attributes (map added_of entries))
     (pushed_boards s.tables (created s.tables party f name (key_detail k) limits attributes (map added_of entries)) (new_board (s.tables.last_board + 1) name (key_detail k) limits attributes (map added_of entries)) refl refl)
-kept_table s lists party (join f name k limits needs) =
+kept_table s lists party (open_ f name k limits needs) =
     kept_asked s.tables (first_of (open_refusals bytes_eq s.tables.things party (board_named s.tables name) (key_detail k) limits needs)) (number_of (board_named s.tables name))
     (joined s.tables party f (board_named s.tables name))
     (same_boards s.tables (joined s.tables party f (board_named s.tables name)) refl)
@@ -103,13 +103,13 @@ kept_table s lists party (entry_mut name x k type) =
     kept_asked s.tables (first_of (entry_mut_refusals s.tables.things x.board (entry_found (board_at s.tables x.board) (is_key k) (value_detail type)))) (id_of (entry_found (board_at s.tables x.board) (is_key k) (value_detail type)))
     (with_write_handle s.tables x name (entry_found (board_at s.tables x.board) (is_key k) (value_detail type)))
     (same_boards s.tables (with_write_handle s.tables x name (entry_found (board_at s.tables x.board) (is_key k) (value_detail type))) refl)
-kept_table s lists party (lend l) = same_boards s.tables (ask_tables s lists party (lend l)).standing.tables refl
-kept_table s lists party (give_back l) = same_boards s.tables (ask_tables s lists party (give_back l)).standing.tables refl
-kept_table s lists party (list_keys x) = same_boards s.tables s.tables refl
-kept_table s lists party (list_nodes x) = same_boards s.tables s.tables refl
-kept_table s lists party (describe x) = same_boards s.tables s.tables refl
-kept_table s lists party (identify x) = same_boards s.tables s.tables refl
-kept_table s lists party (tell x) = same_boards s.tables s.tables refl
+kept_table s lists party (loan l) = same_boards s.tables (ask_tables s lists party (loan l)).standing.tables refl
+kept_table s lists party (discard l) = same_boards s.tables (ask_tables s lists party (discard l)).standing.tables refl
+kept_table s lists party (keys x) = same_boards s.tables s.tables refl
+kept_table s lists party (nodes x) = same_boards s.tables s.tables refl
+kept_table s lists party (info x) = same_boards s.tables s.tables refl
+kept_table s lists party (id x) = same_boards s.tables s.tables refl
+kept_table s lists party (gen x) = same_boards s.tables s.tables refl
 
 kept_value : (s : Standing) (party : List ℕ) (f : Fetch) (ws : List ℕ) (g : ℕ) (name : Option (List ℕ)) → KeepsBoards s.tables (with_value s party f ws g name).tables
 kept_value s party f ws g None = same_boards s.tables s.tables refl

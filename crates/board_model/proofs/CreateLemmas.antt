@@ -3,7 +3,7 @@ use Rattle.std.proofs.Common.{◌≡◌, ℕ, ◌+◌, ◌*◌, ◌<◌, ◌≤�
 use Rattle.std.specs.Prelude.{is_some, slice_get, ◌⊎◌, ◌==◌}
 use Rattle.std.specs.List.{AllByRecursion, count_by}
 use Rattle.std.proofs.lemmas.Bool.{cases_eq, eq-eqb, eqb-true, ne_eqb}
-use Rattle.board_layout.specs.Layout.{payload}
+use Rattle.board_layout.specs.Layout.{payload, cell_end, cell_shape}
 use Rattle.board_model.specs.declared.attributes.Attribute.{Attribute}
 use Rattle.board_model.specs.declared.tables.Board.{Board}
 use Rattle.board_model.specs.declared.tables.Entry.{Entry}
@@ -12,10 +12,9 @@ use Rattle.board_model.specs.declared.tables.Limits.{Limits}
 use Rattle.board_model.specs.declared.value.AddedEntry.{AddedEntry}
 use Rattle.board_model.specs.declared.value.KeyType.{KeyType}
 use Rattle.board_model.specs.TypeTable.{key_detail}
-use Rattle.board_cell_model.specs.Copies.{cell_end}
 use Rattle.board_model.specs.Tables.{board_at, entry_at, entry_in, is_numbered, is_write_handle, new_board, shapes_of}
 use Rattle.board_model.specs.TableCalls.{created}
-use Rattle.board_model.specs.Things.{Held, cell_shape, is_held_as, thing_of}
+use Rattle.board_model.specs.Things.{Held, is_held_as, thing_of}
 use Rattle.board_model.specs.Requests.{Published}
 use Rattle.board_model.specs.Replies.{added_of, first_list, opened}
 use Rattle.board_model.specs.Memory.{opening_of, with_board}

@@ -13,7 +13,7 @@ use Rattle.std.specs.Str.{bytes_eq}
 use Rattle.board_model.specs.Tables.{board_at, board_named, entry_found}
 use Rattle.board_model.specs.TableCalls.{asked, create_refusals, created, entry_mut_refusals, entry_refusals, first_of, id_of, joined, number_of, open_refusals, reader_refusals, with_read_handle, with_reader, with_write_handle, with_writer, writer_refusals}
 use Rattle.board_model.specs.Things.{Held, Standing, thing_of}
-use Rattle.board_model.specs.Requests.{Fetch, Published, Request, TableCall, request_of, create, describe, entry, entry_mut, fill, fresh, get, give_back, identify, join, lend, list_keys, list_nodes, publish, put, reader, table, tell, update, writer}
+use Rattle.board_model.specs.Requests.{Fetch, Published, Request, TableCall, request_of, create, info, entry, entry_mut, fill, fresh, get, discard, id, open_, loan, keys, nodes, publish, put, reader, table, gen, update, writer}
 use Rattle.board_model.specs.Replies.{added_of, ask, ask_tables, dropped, first_list, is_key, latest, lists_after, opened, published_at, released_thing, with_value, word_put}
 use Rattle.board_model.specs.Parties.{begun, gone, with_party}
 use Rattle.board_model.specs.LawfulSession.{IsLawfulFrom, Session, State, after, start, state_after, stepped}
@@ -47,7 +47,7 @@ drawn_table s lists party (create f name k limits attributes entries) =
     drawn_asked s.tables (first_of (create_refusals (same_key k) s.tables.boards name (map added_of entries))) (s.tables.last_board + 1)
     (created s.tables party f name (key_detail k) limits attributes (map added_of entries))
     (drawn_board s.tables (created s.tables party f name (key_detail k) limits attributes (map added_of entries)) refl refl)
-drawn_table s lists party (join f name k limits needs) =
+drawn_table s lists party (open_ f name k limits needs) =
     drawn_asked s.tables (first_of (open_refusals bytes_eq s.tables.things party (board_named s.tables name) (key_detail k) limits needs)) (number_of (board_named s.tables name))
     (joined s.tables party f (board_named s.tables name))
     (drawn_none s.tables (joined s.tables party f (board_named s.tables name)) refl refl)
@@ -65,13 +65,13 @@ drawn_table s lists party (entry_mut name x k type) =
     drawn_asked s.tables (first_of (entry_mut_refusals s.tables.things x.board (entry_found (board_at s.tables x.board) (is_key k) (value_detail type)))) (id_of (entry_found (board_at s.tables x.board) (is_key k) (value_detail type)))
     (with_write_handle s.tables x name (entry_found (board_at s.tables x.board) (is_key k) (value_detail type)))
     (drawn_none s.tables (with_write_handle s.tables x name (entry_found (board_at s.tables x.board) (is_key k) (value_detail type))) refl refl)
-drawn_table s lists party (lend l) = drawn_none s.tables (ask_tables s lists party (lend l)).standing.tables refl refl
-drawn_table s lists party (give_back l) = drawn_none s.tables (ask_tables s lists party (give_back l)).standing.tables refl refl
-drawn_table s lists party (list_keys x) = drawn_none s.tables s.tables refl refl
-drawn_table s lists party (list_nodes x) = drawn_none s.tables s.tables refl refl
-drawn_table s lists party (describe x) = drawn_none s.tables s.tables refl refl
-drawn_table s lists party (identify x) = drawn_none s.tables s.tables refl refl
-drawn_table s lists party (tell x) = drawn_none s.tables s.tables refl refl
+drawn_table s lists party (loan l) = drawn_none s.tables (ask_tables s lists party (loan l)).standing.tables refl refl
+drawn_table s lists party (discard l) = drawn_none s.tables (ask_tables s lists party (discard l)).standing.tables refl refl
+drawn_table s lists party (keys x) = drawn_none s.tables s.tables refl refl
+drawn_table s lists party (nodes x) = drawn_none s.tables s.tables refl refl
+drawn_table s lists party (info x) = drawn_none s.tables s.tables refl refl
+drawn_table s lists party (id x) = drawn_none s.tables s.tables refl refl
+drawn_table s lists party (gen x) = drawn_none s.tables s.tables refl refl
 
 drawn_value : (s : Standing) (party : List ℕ) (f : Fetch) (ws : List ℕ) (g : ℕ) (name : Option (List ℕ)) → IsDrawn s.tables (with_value s party f ws g name).tables
 drawn_value s party f ws g None = drawn_none s.tables s.tables refl refl
@@ -139,18 +139,18 @@ created_short lists n f name k limits attributes entries (reply.EntryMutError x)
 
 lists_short : (lists : Published) (n : ℕ) (q : Request) (t : Reply) → AreShort lists n → AreShort (lists_after lists q t) (n + 1)
 lists_short lists n (table (create f name k limits attributes entries)) t h = created_short lists n f name k limits attributes entries t h
-lists_short lists n (table (join f name k limits needs)) t h = more_short lists n h
+lists_short lists n (table (open_ f name k limits needs)) t h = more_short lists n h
 lists_short lists n (table (reader name x)) t h = more_short lists n h
 lists_short lists n (table (writer name x)) t h = more_short lists n h
 lists_short lists n (table (entry name x k type)) t h = more_short lists n h
 lists_short lists n (table (entry_mut name x k type)) t h = more_short lists n h
-lists_short lists n (table (lend l)) t h = more_short lists n h
-lists_short lists n (table (give_back l)) t h = more_short lists n h
-lists_short lists n (table (list_keys x)) t h = more_short lists n h
-lists_short lists n (table (list_nodes x)) t h = more_short lists n h
-lists_short lists n (table (describe x)) t h = more_short lists n h
-lists_short lists n (table (identify x)) t h = more_short lists n h
-lists_short lists n (table (tell x)) t h = more_short lists n h
+lists_short lists n (table (loan l)) t h = more_short lists n h
+lists_short lists n (table (discard l)) t h = more_short lists n h
+lists_short lists n (table (keys x)) t h = more_short lists n h
+lists_short lists n (table (nodes x)) t h = more_short lists n h
+lists_short lists n (table (info x)) t h = more_short lists n h
+lists_short lists n (table (id x)) t h = more_short lists n h
+lists_short lists n (table (gen x)) t h = more_short lists n h
 lists_short lists n (get f) t h = more_short lists n h
 lists_short lists n (fresh l) t h = more_short lists n h
 lists_short lists n (update u) t h = published_short lists n u.board u.entry (value_words u.value) h

@@ -23,7 +23,7 @@ use Rattle.board_model.specs.TypeTable.{key_detail, key_type_of, same_key, same_
 use Rattle.board_model.specs.Tables.{board_at, board_named, entries_of, entry_found, has_equal_keys, has_name, limit_of, new_board, port_of, shape_of, shapes_of}
 use Rattle.board_model.specs.TableCalls.{asked, create_refusals, created, entry_mut_refusals, entry_refusals, first_of, id_of, is_corrupted, joined, place_of, number_of, open_refusals, reader_refusals, with_read_handle, with_reader, with_write_handle, with_writer, writer_refusals}
 use Rattle.board_model.specs.Things.{Held, is_held_as, named_anew, thing_of, with_name}
-use Rattle.board_model.specs.Requests.{TableCall, create, describe, entry, entry_mut, give_back, identify, join, lend, list_keys, list_nodes, reader, tell, writer}
+use Rattle.board_model.specs.Requests.{TableCall, create, info, entry, entry_mut, discard, id, open_, loan, keys, nodes, reader, gen, writer}
 use Rattle.board_model.specs.Replies.{added_of, ask_tables, is_key}
 use Rattle.board_model.specs.LawfulSession.{State, has_key_type}
 use Rattle.board_model.specs.Sound.{BoardTables, IsTableCall}
@@ -134,7 +134,7 @@ formed_table s party n (create f name k limits attributes entries) h p q r =
     let c : is_corrupted (same_key k) (map added_of entries) ≡ false = third_false (list_any (has_name name) s.standing.tables.boards) (length (map added_of entries) == 0) (is_corrupted (same_key k) (map added_of entries)) create_error.AlreadyExists create_error.NoEntriesProvided create_error.ServiceInCorruptedState e in
     let d : payload (shapes_of (map added_of entries)) ≤ 4294967295 = short_payload (has_equal_keys (same_key k) (map added_of entries)) (payload (shapes_of (map added_of entries))) c in
     formed_thing s.standing.tables new thing n h (all_push IsFormedBoard s.standing.tables.boards b h.boards (formed_board (s.standing.tables.last_board + 1) name k limits attributes entries q d)) (omega arith) refl (record { holder = p; port = omega arith }))
-formed_table s party n (join f name k limits needs) h p q r =
+formed_table s party n (open_ f name k limits needs) h p q r =
     let new : BoardTables = joined s.standing.tables party f (board_named s.standing.tables name) in
     formed_asked s.standing.tables (first_of (open_refusals bytes_eq s.standing.tables.things party (board_named s.standing.tables name) (key_detail k) limits needs)) (number_of (board_named s.standing.tables name)) new n h
     (λ _. formed_thing s.standing.tables new (record { holder = party; name = f; board = number_of (board_named s.standing.tables name); kind = kind.Factory }) n h h.boards (omega arith) refl (record { holder = p; port = omega arith }))
@@ -159,10 +159,10 @@ formed_table s party n (entry_mut name x key type) h p q r =
     let k = held_formed s.standing.tables party x n h r.1.found in
     formed_asked s.standing.tables (first_of (entry_mut_refusals s.standing.tables.things x.board (entry_found (board_at s.standing.tables x.board) (is_key key) (value_detail type)))) (id_of (entry_found (board_at s.standing.tables x.board) (is_key key) (value_detail type))) new n h
     (λ _. formed_thing s.standing.tables new (record { holder = x.holder; name = name; board = x.board; kind = kind.WriteHandle (place_of (entry_found (board_at s.standing.tables x.board) (is_key key) (value_detail type))) (port_of x.kind) }) n h h.boards (omega arith) refl (record { holder = k.holder; port = k.port }))
-formed_table s party n (lend l) h p q r = formed_named s.standing.tables party l.handle l.loan n h
-formed_table s party n (give_back l) h p q r = formed_named s.standing.tables party l.loan l.handle n h
-formed_table s party n (list_keys x) h p q r = formed_same s.standing.tables n h
-formed_table s party n (list_nodes x) h p q r = formed_same s.standing.tables n h
-formed_table s party n (describe x) h p q r = formed_same s.standing.tables n h
-formed_table s party n (identify x) h p q r = formed_same s.standing.tables n h
-formed_table s party n (tell x) h p q r = formed_same s.standing.tables n h
+formed_table s party n (loan l) h p q r = formed_named s.standing.tables party l.handle l.loan n h
+formed_table s party n (discard l) h p q r = formed_named s.standing.tables party l.loan l.handle n h
+formed_table s party n (keys x) h p q r = formed_same s.standing.tables n h
+formed_table s party n (nodes x) h p q r = formed_same s.standing.tables n h
+formed_table s party n (info x) h p q r = formed_same s.standing.tables n h
+formed_table s party n (id x) h p q r = formed_same s.standing.tables n h
+formed_table s party n (gen x) h p q r = formed_same s.standing.tables n h

@@ -17,7 +17,7 @@ use Rattle.board_model.specs.declared.value.AddedEntry.{AddedEntry}
 use Rattle.board_model.specs.declared.value.KeyType.{KeyType}
 use Rattle.board_model.specs.TypeTable.{key_detail, same_key, value_words}
 use Rattle.board_model.specs.TableCalls.{asked, create_refusals, created, first_of}
-use Rattle.board_model.specs.Requests.{Published, Request, create, describe, entry, entry_mut, fill, fresh, get, give_back, identify, join, lend, list_keys, list_nodes, publish, put, reader, table, tell, update, writer}
+use Rattle.board_model.specs.Requests.{Published, Request, create, info, entry, entry_mut, fill, fresh, get, discard, id, open_, loan, keys, nodes, publish, put, reader, table, gen, update, writer}
 use Rattle.board_model.specs.Replies.{added_of, ask, lists_after, number_or, word_put}
 use Rattle.board_model.specs.Parties.{Party, free, gone, running}
 use Rattle.board_model.specs.LawfulSession.{IsLawfulFrom, IsRight, Session, State, after, after_step, state_after, stepped}
@@ -79,18 +79,18 @@ told_growth s party q so_far passed a t b i le e = at q e (drawn_ask s.standing 
         (ap (λ (x : Reply). lists_after s.published (table (create f name k limits attributes entries)) x b i) e
         ∙ opened_elsewhere s.published s.standing.tables (created s.standing.tables party f name (key_detail k) limits attributes (map added_of entries)) f name k limits attributes entries b i le
         (first_of (create_refusals (same_key k) s.standing.tables.boards name (map added_of entries))))
-    at (table (join f name k limits needs)) e d = growth_none s (stepped s party (record { request = table (join f name k limits needs); so_far = so_far; passed = passed }) a (Some t)) b i d refl
+    at (table (open_ f name k limits needs)) e d = growth_none s (stepped s party (record { request = table (open_ f name k limits needs); so_far = so_far; passed = passed }) a (Some t)) b i d refl
     at (table (reader name x)) e d = growth_none s (stepped s party (record { request = table (reader name x); so_far = so_far; passed = passed }) a (Some t)) b i d refl
     at (table (writer name x)) e d = growth_none s (stepped s party (record { request = table (writer name x); so_far = so_far; passed = passed }) a (Some t)) b i d refl
     at (table (entry name x k type)) e d = growth_none s (stepped s party (record { request = table (entry name x k type); so_far = so_far; passed = passed }) a (Some t)) b i d refl
     at (table (entry_mut name x k type)) e d = growth_none s (stepped s party (record { request = table (entry_mut name x k type); so_far = so_far; passed = passed }) a (Some t)) b i d refl
-    at (table (lend l)) e d = growth_none s (stepped s party (record { request = table (lend l); so_far = so_far; passed = passed }) a (Some t)) b i d refl
-    at (table (give_back l)) e d = growth_none s (stepped s party (record { request = table (give_back l); so_far = so_far; passed = passed }) a (Some t)) b i d refl
-    at (table (list_keys x)) e d = growth_none s (stepped s party (record { request = table (list_keys x); so_far = so_far; passed = passed }) a (Some t)) b i d refl
-    at (table (list_nodes x)) e d = growth_none s (stepped s party (record { request = table (list_nodes x); so_far = so_far; passed = passed }) a (Some t)) b i d refl
-    at (table (describe x)) e d = growth_none s (stepped s party (record { request = table (describe x); so_far = so_far; passed = passed }) a (Some t)) b i d refl
-    at (table (identify x)) e d = growth_none s (stepped s party (record { request = table (identify x); so_far = so_far; passed = passed }) a (Some t)) b i d refl
-    at (table (tell x)) e d = growth_none s (stepped s party (record { request = table (tell x); so_far = so_far; passed = passed }) a (Some t)) b i d refl
+    at (table (loan l)) e d = growth_none s (stepped s party (record { request = table (loan l); so_far = so_far; passed = passed }) a (Some t)) b i d refl
+    at (table (discard l)) e d = growth_none s (stepped s party (record { request = table (discard l); so_far = so_far; passed = passed }) a (Some t)) b i d refl
+    at (table (keys x)) e d = growth_none s (stepped s party (record { request = table (keys x); so_far = so_far; passed = passed }) a (Some t)) b i d refl
+    at (table (nodes x)) e d = growth_none s (stepped s party (record { request = table (nodes x); so_far = so_far; passed = passed }) a (Some t)) b i d refl
+    at (table (info x)) e d = growth_none s (stepped s party (record { request = table (info x); so_far = so_far; passed = passed }) a (Some t)) b i d refl
+    at (table (id x)) e d = growth_none s (stepped s party (record { request = table (id x); so_far = so_far; passed = passed }) a (Some t)) b i d refl
+    at (table (gen x)) e d = growth_none s (stepped s party (record { request = table (gen x); so_far = so_far; passed = passed }) a (Some t)) b i d refl
     at (get f) e d = growth_none s (stepped s party (record { request = get f; so_far = so_far; passed = passed }) a (Some t)) b i d refl
     at (fresh l) e d = growth_none s (stepped s party (record { request = fresh l; so_far = so_far; passed = passed }) a (Some t)) b i d refl
     at (put l j w) e d = growth_none s (stepped s party (record { request = put l j w; so_far = so_far; passed = passed }) a (Some t)) b i d refl

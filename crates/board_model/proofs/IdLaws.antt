@@ -11,12 +11,12 @@ use Rattle.board_model.specs.declared.tables.Board.{Board}
 use Rattle.board_model.specs.declared.tables.Entry.{Entry}
 use Rattle.board_model.specs.declared.value.Key.{Key}
 use Rattle.board_model.specs.declared.value.ValueType.{ValueType}
-use Rattle.board_cell_model.specs.Copies.{cell_end}
+use Rattle.board_layout.specs.Layout.{cell_end, cell_shape}
 use Rattle.board_model.specs.TypeTable.{same_type, value_detail}
 use Rattle.board_model.specs.Tables.{board_at, entry_at, entry_found, entry_from, entry_in, is_write_handle, of_type}
 use Rattle.board_model.specs.TableCalls.{asked, entry_asked, entry_mut_asked, first_of, place_of, with_write_handle}
-use Rattle.board_model.specs.Things.{Held, Standing, cell_shape}
-use Rattle.board_model.specs.Requests.{Request, create, describe, entry, entry_mut, fill, fresh, get, give_back, identify, join, lend, list_keys, list_nodes, publish, put, reader, table, tell, update, writer}
+use Rattle.board_model.specs.Things.{Held, Standing}
+use Rattle.board_model.specs.Requests.{Request, create, info, entry, entry_mut, fill, fresh, get, discard, id, open_, loan, keys, nodes, publish, put, reader, table, gen, update, writer}
 use Rattle.board_model.specs.Replies.{ask, is_key, number_or}
 use Rattle.board_model.specs.LawfulSession.{IsRight, State, state_after}
 use Rattle.board_model.specs.Sound.{BoardTables}
@@ -77,12 +77,12 @@ found_from is (x ∷ es) i j e h = at (is x.key.bytes) (found_from is es (i + 1)
         record { at = suc r.at; from = omega (arith, r.from); item = r.item }
 
 -- what a call that was answered by a number has found
-pub record IsFoundIn (t : BoardTables) (n : ℕ) (k : Key) (place id : ℕ) : Type 0 where
+pub record IsFoundIn (t : BoardTables) (n : ℕ) (k : Key) (place number : ℕ) : Type 0 where
   pub board : Board
   pub stands : board_at t n ≡ Some board
   pub item : Entry
   pub first : entry_from 0 (is_key k) board.entries ≡ Some (place, item)
-  pub told : id ≡ item.cell.place
+  pub told : number ≡ item.cell.place
 
 is_first : (value : TypeDetail) (x : Option (ℕ × Entry)) (y : ℕ × Entry) → of_type value x ≡ Some y → x ≡ Some y
 is_first value None y e = absurd cc
@@ -92,9 +92,9 @@ is_first value (Some x) y e = at (same_type x.1.value value) e
     at true k = k
     at false k = absurd cc
 
-pub found_in : (t : BoardTables) (n : ℕ) (k : Key) (u : ValueType) (place id : ℕ) (x : ℕ × Entry) → (o : Option Board) → board_at t n ≡ o → entry_found o (is_key k) (value_detail u) ≡ Some x → place ≡ x.0 → id ≡ x.1.cell.place → IsFoundIn t n k place id
-found_in t n k u place id x None e h p q = absurd cc
-found_in t n k u place id x (Some b) e h p q = record {
+pub found_in : (t : BoardTables) (n : ℕ) (k : Key) (u : ValueType) (place number : ℕ) (x : ℕ × Entry) → (o : Option Board) → board_at t n ≡ o → entry_found o (is_key k) (value_detail u) ≡ Some x → place ≡ x.0 → number ≡ x.1.cell.place → IsFoundIn t n k place number
+found_in t n k u place number x None e h p q = absurd cc
+found_in t n k u place number x (Some b) e h p q = record {
   board = b;
   stands = e;
   item = x.1;
@@ -103,52 +103,52 @@ found_in t n k u place id x (Some b) e h p q = record {
 }
 
 -- a read handle
-read_found : (s : Standing) (of : Held) (name : List ℕ) (found : Option (ℕ × Entry)) (id : ℕ) → reply.Number id ≡ number_or reply.EntryError (entry_asked s.tables of name found).0 → (x : ℕ × Entry) × (found ≡ Some x) × (id ≡ x.1.cell.place)
-read_found s of name None id e = absurd cc
-read_found s of name (Some x) id e = (x, refl, cc)
+read_found : (s : Standing) (of : Held) (name : List ℕ) (found : Option (ℕ × Entry)) (number : ℕ) → reply.Number number ≡ number_or reply.EntryError (entry_asked s.tables of name found).0 → (x : ℕ × Entry) × (found ≡ Some x) × (number ≡ x.1.cell.place)
+read_found s of name None number e = absurd cc
+read_found s of name (Some x) number e = (x, refl, cc)
 
 -- a write handle
-write_found : (s : Standing) (of : Held) (name : List ℕ) (found : Option (ℕ × Entry)) (id : ℕ) → reply.Number id ≡ number_or reply.EntryMutError (entry_mut_asked s.tables of name found).0 → (x : ℕ × Entry) × (found ≡ Some x) × (id ≡ x.1.cell.place)
-write_found s of name None id e = absurd cc
-write_found s of name (Some x) id e = at (list_any (is_write_handle of.board x.0) s.tables.things) e
+write_found : (s : Standing) (of : Held) (name : List ℕ) (found : Option (ℕ × Entry)) (number : ℕ) → reply.Number number ≡ number_or reply.EntryMutError (entry_mut_asked s.tables of name found).0 → (x : ℕ × Entry) × (found ≡ Some x) × (number ≡ x.1.cell.place)
+write_found s of name None number e = absurd cc
+write_found s of name (Some x) number e = at (list_any (is_write_handle of.board x.0) s.tables.things) e
   where
-    at : (z : Bool) → reply.Number id ≡ number_or reply.EntryMutError (asked (first_of ((false, entry_mut_error.EntryDoesNotExist) ∷ (z, entry_mut_error.HandleAlreadyExists) ∷ [])) x.1.cell.place (with_write_handle s.tables of name (Some x)) s.tables).0 → (y : ℕ × Entry) × (Some x ≡ Some y) × (id ≡ y.1.cell.place)
+    at : (z : Bool) → reply.Number number ≡ number_or reply.EntryMutError (asked (first_of ((false, entry_mut_error.EntryDoesNotExist) ∷ (z, entry_mut_error.HandleAlreadyExists) ∷ [])) x.1.cell.place (with_write_handle s.tables of name (Some x)) s.tables).0 → (y : ℕ × Entry) × (Some x ≡ Some y) × (number ≡ y.1.cell.place)
     at true k = absurd cc
     at false k = (x, refl, cc)
 
-asked_found : (s : State) (party : List ℕ) (q : Request) (n place id : ℕ) (k : Key) (u : ValueType) → AsksForHandle q n k u → reply.Number id ≡ (ask s.standing s.published party q).reply → place_of (entry_found (board_at s.standing.tables n) (is_key k) (value_detail u)) ≡ place
-    → IsFoundIn s.standing.tables n k place id
-asked_found s party (table (entry name of l w)) n place id k u h e p =
+asked_found : (s : State) (party : List ℕ) (q : Request) (n place number : ℕ) (k : Key) (u : ValueType) → AsksForHandle q n k u → reply.Number number ≡ (ask s.standing s.published party q).reply → place_of (entry_found (board_at s.standing.tables n) (is_key k) (value_detail u)) ≡ place
+    → IsFoundIn s.standing.tables n k place number
+asked_found s party (table (entry name of l w)) n place number k u h e p =
     let o : Option (ℕ × Entry) = entry_found (board_at s.standing.tables of.board) (is_key l) (value_detail w) in
-    let x = read_found s.standing of name (entry_found (board_at s.standing.tables of.board) (is_key l) (value_detail w)) id e in
+    let x = read_found s.standing of name (entry_found (board_at s.standing.tables of.board) (is_key l) (value_detail w)) number e in
     let f : entry_found (board_at s.standing.tables n) (is_key k) (value_detail u) ≡ Some x.0 = rw (← h.0, ← h.1, ← h.2) x.1 in
-    found_in s.standing.tables n k u place id x.0 (board_at s.standing.tables n) refl f (sym p ∙ ap place_of f) x.2
-asked_found s party (table (entry_mut name of l w)) n place id k u h e p =
-    let x = write_found s.standing of name (entry_found (board_at s.standing.tables of.board) (is_key l) (value_detail w)) id e in
+    found_in s.standing.tables n k u place number x.0 (board_at s.standing.tables n) refl f (sym p ∙ ap place_of f) x.2
+asked_found s party (table (entry_mut name of l w)) n place number k u h e p =
+    let x = write_found s.standing of name (entry_found (board_at s.standing.tables of.board) (is_key l) (value_detail w)) number e in
     let f : entry_found (board_at s.standing.tables n) (is_key k) (value_detail u) ≡ Some x.0 = rw (← h.0, ← h.1, ← h.2) x.1 in
-    found_in s.standing.tables n k u place id x.0 (board_at s.standing.tables n) refl f (sym p ∙ ap place_of f) x.2
-asked_found s party (table (create f name l limits attributes entries)) n place id k u h e p = absurd h
-asked_found s party (table (join f name l limits needs)) n place id k u h e p = absurd h
-asked_found s party (table (reader name x)) n place id k u h e p = absurd h
-asked_found s party (table (writer name x)) n place id k u h e p = absurd h
-asked_found s party (table (lend l)) n place id k u h e p = absurd h
-asked_found s party (table (give_back l)) n place id k u h e p = absurd h
-asked_found s party (table (list_keys x)) n place id k u h e p = absurd h
-asked_found s party (table (list_nodes x)) n place id k u h e p = absurd h
-asked_found s party (table (describe x)) n place id k u h e p = absurd h
-asked_found s party (table (identify x)) n place id k u h e p = absurd h
-asked_found s party (table (tell x)) n place id k u h e p = absurd h
-asked_found s party (get f) n place id k u h e p = absurd h
-asked_found s party (fresh l) n place id k u h e p = absurd h
-asked_found s party (update x) n place id k u h e p = absurd h
-asked_found s party (put l i w) n place id k u h e p = absurd h
-asked_found s party (publish l) n place id k u h e p = absurd h
-asked_found s party (fill l v) n place id k u h e p = absurd h
+    found_in s.standing.tables n k u place number x.0 (board_at s.standing.tables n) refl f (sym p ∙ ap place_of f) x.2
+asked_found s party (table (create f name l limits attributes entries)) n place number k u h e p = absurd h
+asked_found s party (table (open_ f name l limits needs)) n place number k u h e p = absurd h
+asked_found s party (table (reader name x)) n place number k u h e p = absurd h
+asked_found s party (table (writer name x)) n place number k u h e p = absurd h
+asked_found s party (table (loan l)) n place number k u h e p = absurd h
+asked_found s party (table (discard l)) n place number k u h e p = absurd h
+asked_found s party (table (keys x)) n place number k u h e p = absurd h
+asked_found s party (table (nodes x)) n place number k u h e p = absurd h
+asked_found s party (table (info x)) n place number k u h e p = absurd h
+asked_found s party (table (id x)) n place number k u h e p = absurd h
+asked_found s party (table (gen x)) n place number k u h e p = absurd h
+asked_found s party (get f) n place number k u h e p = absurd h
+asked_found s party (fresh l) n place number k u h e p = absurd h
+asked_found s party (update x) n place number k u h e p = absurd h
+asked_found s party (put l i w) n place number k u h e p = absurd h
+asked_found s party (publish l) n place number k u h e p = absurd h
+asked_found s party (fill l v) n place number k u h e p = absurd h
 
-made : (s : State) (x : Line × Answer) (n place id : ℕ) (k : Key) (u : ValueType) → IsRight s x.0 x.1 → IsMade s x n place k u id → IsFoundIn s.standing.tables n k place id
-made s x n place id k u h m =
-    let st = pair_step s x m.party m.call m.access (Some (reply.Number id)) m.runs m.line m.answer h in
-    asked_found s m.party m.call.request n place id k u m.request st.reply.reply m.found
+made : (s : State) (x : Line × Answer) (n place number : ℕ) (k : Key) (u : ValueType) → IsRight s x.0 x.1 → IsMade s x n place k u number → IsFoundIn s.standing.tables n k place number
+made s x n place number k u h m =
+    let st = pair_step s x m.party m.call m.access (Some (reply.Number number)) m.runs m.line m.answer h in
+    asked_found s m.party m.call.request n place number k u m.request st.reply.reply m.found
 
 -- ---- at two moments of a session
 
@@ -192,8 +192,8 @@ placed_at t n i b is e h f =
     ap (λ (o : Option Board). entry_in o i) h ∙ q
 
 pub other_ids : OtherEntriesOtherIds
-other_ids p n i j id k l t u x y =
-    let f = both_found p n i j id id k l t u x y in
+other_ids p n i j number k l t u x y =
+    let f = both_found p n i j number number k l t u x y in
     let a = apart p in
     other_places (at_one p) n i j f.item f.other a.sound (placed_at (at_one p).standing.tables n i f.board (is_key k) f.item f.stands f.first) (placed_at (at_one p).standing.tables n j f.board (is_key l) f.other f.stands f.second)
     (sym f.told ∙ f.later)

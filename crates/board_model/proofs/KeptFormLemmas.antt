@@ -19,7 +19,7 @@ use Rattle.board_model.specs.LineGrammar.{IsCall, is_name}
 use Rattle.board_model.specs.Tables.{is_numbered, is_of_board, kind_of, port_of, same_kind, without}
 use Rattle.board_model.specs.TableCalls.{boards_left}
 use Rattle.board_model.specs.Things.{Held, Standing, held_of_kind, is_held_as, of_kind, thing_of}
-use Rattle.board_model.specs.Requests.{Fetch, Request, TableCall, and_then, create, describe, give_back, identify, join, lend, list_keys, list_nodes, tell, entry, entry_mut, fill, fresh, get, handle_of, handled, identified, loan_of, publish, put, reader, request_of, table, update, writer}
+use Rattle.board_model.specs.Requests.{Fetch, Request, TableCall, and_then, create, info, discard, id, open_, loan, keys, nodes, gen, entry, entry_mut, fill, fresh, get, handle_of, handled, identified, loan_of, publish, put, reader, request_of, table, update, writer}
 use Rattle.board_model.specs.Replies.{ask, latest, released_thing, with_value}
 use Rattle.board_model.specs.Parties.{Party, Running, begun, free, gone, notice, running, with_party}
 use Rattle.board_model.specs.LawfulSession.{IsLawfulFrom, IsRight, Session, State, after, call_reason, free_reason, has_key_type, is_taken, reason_of, start, state_after}
@@ -169,18 +169,18 @@ formed_begun n s p (call.Gen d) w z m h e = and_formed n p (handle_of s.standing
 -- a call's port stays below a larger number
 weaker_table : (n : ℕ) (c : TableCall) → IsFormedInTable n c → IsFormedInTable (n + 1) c
 weaker_table n (create f name k limits attributes entries) h = h
-weaker_table n (join f name k limits needs) h = h
+weaker_table n (open_ f name k limits needs) h = h
 weaker_table n (reader name x) h = tt
 weaker_table n (writer name x) h = tt
 weaker_table n (entry name x k type) h = tt
 weaker_table n (entry_mut name x k type) h = tt
-weaker_table n (lend l) h = tt
-weaker_table n (give_back l) h = tt
-weaker_table n (list_keys x) h = tt
-weaker_table n (list_nodes x) h = tt
-weaker_table n (describe x) h = tt
-weaker_table n (identify x) h = omega (arith, h)
-weaker_table n (tell x) h = tt
+weaker_table n (loan l) h = tt
+weaker_table n (discard l) h = tt
+weaker_table n (keys x) h = tt
+weaker_table n (nodes x) h = tt
+weaker_table n (info x) h = tt
+weaker_table n (id x) h = omega (arith, h)
+weaker_table n (gen x) h = tt
 
 weaker_request : (n : ℕ) (q : Request) → IsFormedRequest n q → IsFormedRequest (n + 1) q
 weaker_request n (table c) h = weaker_table n c h

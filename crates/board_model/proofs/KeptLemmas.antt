@@ -13,8 +13,9 @@ use Rattle.board_model.specs.declared.value.Key.{Key}
 use Rattle.board_cell_model.specs.Copies.{spare_at}
 use Rattle.board_model.specs.TypeTable.{value_words}
 use Rattle.board_model.specs.Tables.{Tables, board_at, entry_at, entry_in, entry_of, is_write_handle}
-use Rattle.board_model.specs.Things.{Held, Standing, cell_shape, thing_of}
-use Rattle.board_model.specs.Requests.{Fetch, Request, TableCall, create, describe, entry, entry_mut, fill, fresh, get, give_back, identify, join, lend, list_keys, list_nodes, publish, put, reader, table, tell, update, writer}
+use Rattle.board_model.specs.Things.{Held, Standing, thing_of}
+use Rattle.board_layout.specs.Layout.{cell_shape}
+use Rattle.board_model.specs.Requests.{Fetch, Request, TableCall, create, info, entry, entry_mut, fill, fresh, get, discard, id, open_, loan, keys, nodes, publish, put, reader, table, gen, update, writer}
 use Rattle.board_model.specs.Replies.{word_put}
 use Rattle.board_model.specs.Parties.{Party, Running, count_write, free, gone, notice, reading, running, with_party}
 use Rattle.board_model.specs.LawfulSession.{State, is_typed_key}
@@ -105,18 +106,18 @@ module _ (s new : State) (a : Access) (q : List ℕ) (k : Spares s new a q) wher
 
   spared_tables : (c : TableCall) → IsTableCall s q c → IsTableCall new q c
   spared_tables (create f name t limits attributes entries) h = kept_free s.standing new.standing q k.things f h
-  spared_tables (join f name t limits needs) h = kept_free s.standing new.standing q k.things f h
+  spared_tables (open_ f name t limits needs) h = kept_free s.standing new.standing q k.things f h
   spared_tables (reader name x) h = (kept_free s.standing new.standing q k.things name h.0, kept_held_thing s.standing new.standing q k.things _ x h.1)
   spared_tables (writer name x) h = (kept_free s.standing new.standing q k.things name h.0, kept_held_thing s.standing new.standing q k.things _ x h.1)
   spared_tables (entry name x t type) h = (kept_free s.standing new.standing q k.things name h.0, kept_held_thing s.standing new.standing q k.things _ x h.1, kept_typed s.standing new.standing q k.things x t h.1.found h.2)
   spared_tables (entry_mut name x t type) h = (kept_free s.standing new.standing q k.things name h.0, kept_held_thing s.standing new.standing q k.things _ x h.1, kept_typed s.standing new.standing q k.things x t h.1.found h.2)
-  spared_tables (lend l) h = (kept_free s.standing new.standing q k.things l.loan h.0, spared_writing l.handle l.board l.entry l.shape l.generation false h.1)
-  spared_tables (give_back l) h = (kept_free s.standing new.standing q k.things l.handle h.0, spared_writing l.loan l.board l.entry l.shape l.generation true h.1)
-  spared_tables (list_keys x) h = kept_held_thing s.standing new.standing q k.things _ x h
-  spared_tables (list_nodes x) h = kept_held_thing s.standing new.standing q k.things _ x h
-  spared_tables (describe x) h = kept_held_thing s.standing new.standing q k.things _ x h
-  spared_tables (identify x) h = kept_of_board s.standing new.standing q k.things x.name x.board h
-  spared_tables (tell x) h = kept_held_thing s.standing new.standing q k.things _ x h
+  spared_tables (loan l) h = (kept_free s.standing new.standing q k.things l.loan h.0, spared_writing l.handle l.board l.entry l.shape l.generation false h.1)
+  spared_tables (discard l) h = (kept_free s.standing new.standing q k.things l.handle h.0, spared_writing l.loan l.board l.entry l.shape l.generation true h.1)
+  spared_tables (keys x) h = kept_held_thing s.standing new.standing q k.things _ x h
+  spared_tables (nodes x) h = kept_held_thing s.standing new.standing q k.things _ x h
+  spared_tables (info x) h = kept_held_thing s.standing new.standing q k.things _ x h
+  spared_tables (id x) h = kept_of_board s.standing new.standing q k.things x.name x.board h
+  spared_tables (gen x) h = kept_held_thing s.standing new.standing q k.things _ x h
 
   spared_calling : (r : Running) (x : Request) → r.request ≡ x → IsCalling s q r x → IsCalling new q (record r { passed = passed_after a r }) x
   spared_calling r (table c) e h = (h.0, spared_tables c h.1)
@@ -253,16 +254,16 @@ pub record IsQuietLine (s new : State) (party : List ℕ) (x : Party) : Type 0 w
 pub quiet_sound : (s new : State) (party : List ℕ) (x : Party) → Sound s → IsQuietLine s new party x → Sound new
 quiet_sound s new party x sound h = record {
   boards = h.boards;
-  things = record { handles = h.handles; standing = h.standing; entries = h.entries; loans = λ q name ws e. loan q name ws e (bytes_eq q party) (same_bytes q party) (other_bytes q party) };
+  things = record { handles = h.handles; standing = h.standing; entries = h.entries; loans = λ q name ws e. kept_loan q name ws e (bytes_eq q party) (same_bytes q party) (other_bytes q party) };
   parties = λ q. subst (λ (y : Party). IsParty new q y) (sym (h.parties q))
       (with_parties new party x s.parties h.own (λ p ne. spared_party s new access.Table p (quiet_spares s new access.Table p (λ r. refl) h.quiet (h.others p ne)) (s.parties p) (sound.parties p)) q);
 }
   where
-    loan : (q name : List ℕ) (ws : List (Option ℕ)) → new.standing.loans q name ≡ Some ws → (b : Bool) → (b ≡ true → q ≡ party) → (b ≡ false → q ≡ party → ⊥) → IsLoan new.standing.tables new.memory new.published new.parties q name ws
-    loan q name ws e true t f =
+    kept_loan : (q name : List ℕ) (ws : List (Option ℕ)) → new.standing.loans q name ≡ Some ws → (b : Bool) → (b ≡ true → q ≡ party) → (b ≡ false → q ≡ party → ⊥) → IsLoan new.standing.tables new.memory new.published new.parties q name ws
+    kept_loan q name ws e true t f =
         let e' = subst (λ (p : List ℕ). new.standing.loans p name ≡ Some ws) (t refl) e in
         subst (λ (p : List ℕ). IsLoan new.standing.tables new.memory new.published new.parties p name ws) (sym (t refl)) (h.mine name ws e')
-    loan q name ws e false t f =
+    kept_loan q name ws e false t f =
         let k = h.others q (f refl) in
         let same : new.parties q ≡ s.parties q = h.parties q ∙ party_there s.parties party x q (f refl) in
         quiet_loan s new sound h.quiet q name ws (sound.things.loans q name ws (sym (k.loans name) ∙ e)) (k.things name) (λ y g. k.boards name y g) (λ n i a. ap (λ (y : Party). is_suspended y n i) (sym same) ∙ a)

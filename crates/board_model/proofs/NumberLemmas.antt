@@ -23,7 +23,7 @@ use Rattle.board_cell_model.specs.OwedAccesses.{owed_of, owed_write, to_write}
 use Rattle.board_model.specs.LineGrammar.{IsAddedEntry, IsCall, IsNumber, IsValue}
 use Rattle.board_model.specs.TypeTable.{value_words}
 use Rattle.board_model.specs.Tables.{shapes_of}
-use Rattle.board_model.specs.Requests.{Published, Request, and_then, create, describe, entry, entry_mut, fill, fresh, get, give_back, handle_of, handled, identified, identify, loan_of, join, lend, list_keys, list_nodes, publish, put, reader, request_of, table, tell, update, writer}
+use Rattle.board_model.specs.Requests.{Published, Request, and_then, create, info, entry, entry_mut, fill, fresh, get, discard, handle_of, handled, identified, id, loan_of, open_, loan, keys, nodes, publish, put, reader, request_of, table, gen, update, writer}
 use Rattle.board_model.specs.Replies.{added_of}
 use Rattle.board_model.specs.declared.tables.ThingKind.TheVariants as thing_kind
 use Rattle.board_model.specs.Things.{Standing, held_of_kind}
@@ -204,18 +204,18 @@ created_below memory f name k limits attributes entries (reply.EntryMutError x) 
 
 memory_below : (memory : ℕ → List ℕ) (q : Request) (t : Reply) → AreBelow memory → HasNumbers q → AreBelow (memory_after memory q t)
 memory_below memory (table (create f name k limits attributes entries)) t h e = created_below memory f name k limits attributes entries t h e
-memory_below memory (table (join f name k limits needs)) t h e = h
+memory_below memory (table (open_ f name k limits needs)) t h e = h
 memory_below memory (table (reader name x)) t h e = h
 memory_below memory (table (writer name x)) t h e = h
 memory_below memory (table (entry name x k type)) t h e = h
 memory_below memory (table (entry_mut name x k type)) t h e = h
-memory_below memory (table (lend l)) t h e = h
-memory_below memory (table (give_back l)) t h e = h
-memory_below memory (table (list_keys x)) t h e = h
-memory_below memory (table (list_nodes x)) t h e = h
-memory_below memory (table (describe x)) t h e = h
-memory_below memory (table (identify x)) t h e = h
-memory_below memory (table (tell x)) t h e = h
+memory_below memory (table (loan l)) t h e = h
+memory_below memory (table (discard l)) t h e = h
+memory_below memory (table (keys x)) t h e = h
+memory_below memory (table (nodes x)) t h e = h
+memory_below memory (table (info x)) t h e = h
+memory_below memory (table (id x)) t h e = h
+memory_below memory (table (gen x)) t h e = h
 memory_below memory (get f) t h e = h
 memory_below memory (fresh l) t h e = h
 memory_below memory (update u) t h e = h

@@ -7,17 +7,16 @@ use Rattle.std.proofs.lemmas.Nat.{div-add-mod', mod_below}
 use Rattle.std.proofs.Math.Nat.{div-mul-le_self}
 use Rattle.board_layout.specs.declared.shape.CellPlace.{CellPlace}
 use Rattle.board_layout.specs.declared.shape.Shape.{Shape}
-use Rattle.board_layout.specs.Layout.{align, head_bytes, cell_bytes, cell_alignment, payload, start_of, place_at, places_from, opening_cell, opening_words}
+use Rattle.board_layout.specs.Layout.{align, head_bytes, cell_bytes, cell_alignment, payload, start_of, place_at, places_from, opening_cell, opening_words, cell_end, cell_shape}
 use Rattle.board_model.specs.declared.tables.Entry.{Entry}
 use Rattle.board_model.specs.declared.value.AddedEntry.{AddedEntry}
 use Rattle.board_model.specs.declared.value.Value.{Value}
 use Rattle.board_model.specs.declared.value.Value.TheVariants as value
 use Rattle.board_model.specs.declared.value.ValueType.{ValueType}
 use Rattle.board_model.specs.declared.value.ValueType.TheVariants as type
-use Rattle.board_cell_model.specs.Copies.{cell_end, current_at}
+use Rattle.board_cell_model.specs.Copies.{current_at}
 use Rattle.board_model.specs.TypeTable.{type_of, value_detail, value_words, word_count}
 use Rattle.board_model.specs.Tables.{Added, entries_of, shape_of, shapes_of}
-use Rattle.board_model.specs.Things.{cell_shape}
 use Rattle.board_model.specs.Replies.{added_of, first_list}
 use Rattle.board_model.specs.Memory.{opening_of}
 use Rattle.board_model.specs.Sound.{IsCell, IsTyped}

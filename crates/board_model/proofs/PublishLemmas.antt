@@ -10,7 +10,8 @@ use Rattle.board_cell_model.specs.declared.access.Access.TheVariants as access
 use Rattle.board_cell_model.specs.Copies.{spare_at}
 use Rattle.board_cell_model.specs.OwedAccesses.{Reading, finished, opening, trying}
 use Rattle.board_model.specs.Tables.{entry_at, entry_of}
-use Rattle.board_model.specs.Things.{Standing, cell_shape, thing_of, with_at, with_name}
+use Rattle.board_model.specs.Things.{Standing, thing_of, with_at, with_name}
+use Rattle.board_layout.specs.Layout.{cell_shape}
 use Rattle.board_model.specs.Requests.{Fetch, Lending, Published, Request, get}
 use Rattle.board_model.specs.Replies.{given_back, published_at, with_word}
 use Rattle.board_model.specs.Memory.{store}

@@ -21,7 +21,7 @@ use Rattle.board_model.specs.TypeTable.{key_bytes, key_detail, key_of, key_type_
 use Rattle.board_model.specs.Tables.{board_at, board_named, entry_at, entry_found, entry_of, has_name, is_last_of_port, is_node, is_numbered, is_of_board, is_reader_of, nodes_taken, port_of, writer_slots}
 use Rattle.board_model.specs.TableCalls.{asked, create_refusals, created, entry_mut_refusals, entry_refusals, first_of, id_of, joined, number_of, open_refusals, reader_refusals, with_read_handle, with_reader, with_write_handle, with_writer, writer_refusals}
 use Rattle.board_model.specs.Things.{Held, is_held_as}
-use Rattle.board_model.specs.Requests.{Request, TableCall, create, describe, entry, entry_mut, fill, fresh, get, give_back, handled, identify, join, lend, list_keys, list_nodes, publish, put, reader, table, tell, update, writer}
+use Rattle.board_model.specs.Requests.{Request, TableCall, create, info, entry, entry_mut, fill, fresh, get, discard, handled, id, open_, loan, keys, nodes, publish, put, reader, table, gen, update, writer}
 use Rattle.board_model.specs.Replies.{added_of, ask, ask_tables, id_number, info_of, is_before, is_key, keys_in, keys_of, latest, nodes_of, number_or, place_in, placed_once}
 use Rattle.board_model.specs.Parties.{Running}
 use Rattle.board_model.specs.LawfulSession.{State}
@@ -155,7 +155,7 @@ module _ (s : State) (sound : Sound s) (n : ℕ) (w : IsWithin s n) (lt : n < 2 
   table_told party (create f name k limits attributes entries) h r =
       told_number reply.CreateError (first_of (create_refusals (same_key k) s.standing.tables.boards name (map added_of entries))) (s.standing.tables.last_board + 1) (created s.standing.tables party f name (key_detail k) limits attributes (map added_of entries)) s.standing.tables
       (omega (arith, w.boards)) (λ e q. one_told is_create_reply (create_refusals (same_key k) s.standing.tables.boards name (map added_of entries)) (refl, (refl, (refl, tt))) e q)
-  table_told party (join f name k limits needs) h r =
+  table_told party (open_ f name k limits needs) h r =
       told_number reply.OpenError (first_of (open_refusals bytes_eq s.standing.tables.things party (board_named s.standing.tables name) (key_detail k) limits needs)) (number_of (board_named s.standing.tables name)) (joined s.standing.tables party f (board_named s.standing.tables name)) s.standing.tables
       (named_number name (board_named s.standing.tables name) refl)
       (λ e q. one_told is_open_reply (open_refusals bytes_eq s.standing.tables.things party (board_named s.standing.tables name) (key_detail k) limits needs) (refl, (refl, (refl, (refl, (refl, (refl, tt)))))) e q)
@@ -175,13 +175,13 @@ module _ (s : State) (sound : Sound s) (n : ℕ) (w : IsWithin s n) (lt : n < 2 
       (with_write_handle s.standing.tables x name (entry_found (board_at s.standing.tables x.board) (is_key k) (value_detail type))) s.standing.tables
       (found_number x.board k type (entry_found (board_at s.standing.tables x.board) (is_key k) (value_detail type)) refl)
       (λ e q. one_told is_entry_mut_reply (entry_mut_refusals s.standing.tables.things x.board (entry_found (board_at s.standing.tables x.board) (is_key k) (value_detail type))) (refl, (refl, tt)) e q)
-  table_told party (lend l) h r = tt
-  table_told party (give_back l) h r = tt
-  table_told party (list_keys x) h r = keys_known x.board (board_at s.standing.tables x.board) refl
-  table_told party (list_nodes x) h r = names_told x.board s.standing.tables.last_port s.standing.tables.things forms.tables.things
-  table_told party (describe x) h r = info_told x.board (board_at s.standing.tables x.board) refl (all_found (HasBoard s.standing.tables) (is_held_as party x.name) s.standing.tables.things x sound.things.standing r.found)
-  table_told party (identify x) h r = id_told x x.kind h
-  table_told party (tell x) h r = omega (arith, w.lists x.board (entry_of x.kind))
+  table_told party (loan l) h r = tt
+  table_told party (discard l) h r = tt
+  table_told party (keys x) h r = keys_known x.board (board_at s.standing.tables x.board) refl
+  table_told party (nodes x) h r = names_told x.board s.standing.tables.last_port s.standing.tables.things forms.tables.things
+  table_told party (info x) h r = info_told x.board (board_at s.standing.tables x.board) refl (all_found (HasBoard s.standing.tables) (is_held_as party x.name) s.standing.tables.things x sound.things.standing r.found)
+  table_told party (id x) h r = id_told x x.kind h
+  table_told party (gen x) h r = omega (arith, w.lists x.board (entry_of x.kind))
 
   -- the last value stands in the memory
   all_numbers : (xs : List ℕ) → ((k : ℕ) → k < length xs → IsNumber (slice_index xs k)) → AllByRecursion IsNumber xs

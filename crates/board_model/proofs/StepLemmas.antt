@@ -35,7 +35,7 @@ use Rattle.board_cell_model.specs.OwedAccesses.{Reading, finished, hear, is_fini
 use Rattle.board_model.specs.Tables.{board_at, board_named, entry_at, entry_found, entry_from, entry_in, has_equal_keys, has_name, is_numbered, is_write_handle, of_type, port_of, shapes_of}
 use Rattle.board_model.specs.TableCalls.{asked, entry_mut_refusals, entry_refusals, id_of, create_refusals, created, first_of, is_corrupted, joined, number_of, open_refusals, place_of, with_thing}
 use Rattle.board_model.specs.Things.{Held, Standing, thing_of}
-use Rattle.board_model.specs.Requests.{Fetch, Lending, Publication, Request, TableCall, create, describe, entry, entry_mut, fill, fresh, get, give_back, identify, join, lend, list_keys, list_nodes, publish, put, reader, table, tell, update, writer}
+use Rattle.board_model.specs.Requests.{Fetch, Lending, Publication, Request, TableCall, create, info, entry, entry_mut, fill, fresh, get, discard, id, open_, loan, keys, nodes, publish, put, reader, table, gen, update, writer}
 use Rattle.board_model.specs.Replies.{Asked, added_of, ask, given_back, is_key, lists_after, told_by, with_value, word_put}
 use Rattle.board_model.specs.Memory.{IsStanding, memory_after}
 use Rattle.board_model.specs.Parties.{Party, Running, free, is_done, owed, reading, running, with_party}
@@ -201,7 +201,7 @@ module _ (s : State) (sound : Sound s) (party f name : List ℕ) (k : KeyType) (
       stands None e n = absurd cc
       stands (Some b) e n = named_board s.standing.tables.boards (has_name name) b e
 
-  open_step : Sound (standing_state s party (ask s.standing s.published party (table (join f name k limits needs))).standing)
+  open_step : Sound (standing_state s party (ask s.standing s.published party (table (open_ f name k limits needs))).standing)
   open_step = open_told (board_named s.standing.tables name) refl (first_of (open_refusals bytes_eq s.standing.tables.things party (board_named s.standing.tables name) (key_detail k) limits needs))
       (λ q. first_head (open_refusals bytes_eq s.standing.tables.things party (board_named s.standing.tables name) (key_detail k) limits needs) q)
 
@@ -309,18 +309,18 @@ module _ (s : State) (sound : Sound s) (party name : List ℕ) (x : Held) (k : K
 
 table_step : (s : State) → Sound s → (party : List ℕ) (c : TableCall) (so_far : List Access) (passed : ℕ) (t : Reply) → IsCalm s party → IsTableCall s party c → t ≡ (ask s.standing s.published party (table c)).reply → Sound (stepped s party (calling (table c) so_far passed) access.Table (Some t))
 table_step s sound party (create f name k limits attributes entries) so_far passed t calm h e = create_step s sound party f name k limits attributes entries calm h t so_far passed e
-table_step s sound party (join f name k limits needs) so_far passed t calm h e = open_step s sound party f name k limits needs calm h
+table_step s sound party (open_ f name k limits needs) so_far passed t calm h e = open_step s sound party f name k limits needs calm h
 table_step s sound party (reader name x) so_far passed t calm h e = reader_step s sound party name x calm h.0 h.1.found
 table_step s sound party (writer name x) so_far passed t calm h e = writer_step s sound party name x calm h.0 h.1.found
 table_step s sound party (entry name x k type) so_far passed t calm h e = entry_step s sound party name x k type calm h.0 h.1.found
 table_step s sound party (entry_mut name x k type) so_far passed t calm h e = entry_mut_step s sound party name x k type calm h.0 h.1.found
-table_step s sound party (lend l) so_far passed t calm h e = lend_sound s party l sound calm h.0 h.1
-table_step s sound party (give_back l) so_far passed t calm h e = give_back_sound s party l sound calm h.0 h.1
-table_step s sound party (list_keys x) so_far passed t calm h e = same_sound s party sound calm
-table_step s sound party (list_nodes x) so_far passed t calm h e = same_sound s party sound calm
-table_step s sound party (describe x) so_far passed t calm h e = same_sound s party sound calm
-table_step s sound party (identify x) so_far passed t calm h e = same_sound s party sound calm
-table_step s sound party (tell x) so_far passed t calm h e = same_sound s party sound calm
+table_step s sound party (loan l) so_far passed t calm h e = lend_sound s party l sound calm h.0 h.1
+table_step s sound party (discard l) so_far passed t calm h e = give_back_sound s party l sound calm h.0 h.1
+table_step s sound party (keys x) so_far passed t calm h e = same_sound s party sound calm
+table_step s sound party (nodes x) so_far passed t calm h e = same_sound s party sound calm
+table_step s sound party (info x) so_far passed t calm h e = same_sound s party sound calm
+table_step s sound party (id x) so_far passed t calm h e = same_sound s party sound calm
+table_step s sound party (gen x) so_far passed t calm h e = same_sound s party sound calm
 
 -- ---- a get
 

@@ -10,9 +10,10 @@ use Rattle.board_layout.specs.declared.shape.CellShape.{CellShape}
 use Rattle.board_cell_model.specs.declared.access.Access.TheVariants as access
 use Rattle.board_model.specs.declared.tables.Board.{Board}
 use Rattle.board_model.specs.declared.tables.Entry.{Entry}
-use Rattle.board_cell_model.specs.Copies.{cell_end, spare_at}
+use Rattle.board_cell_model.specs.Copies.{spare_at}
+use Rattle.board_layout.specs.Layout.{cell_end, cell_shape}
 use Rattle.board_model.specs.Tables.{board_at, entry_at, entry_in, entry_of, is_write_handle}
-use Rattle.board_model.specs.Things.{Held, Standing, cell_shape, is_held_as, thing_of}
+use Rattle.board_model.specs.Things.{Held, Standing, is_held_as, thing_of}
 use Rattle.board_model.specs.Requests.{Fetch, Published, get}
 use Rattle.board_model.specs.Memory.{store}
 use Rattle.board_model.specs.Parties.{Party, Running, count_write, notice, reading, with_party}

@@ -11,7 +11,8 @@ use Rattle.board_layout.specs.declared.shape.CellShape.{CellShape}
 use Rattle.board_model.specs.declared.tables.Entry.{Entry}
 use Rattle.board_model.specs.Tables.{entry_at, entry_of, is_write_handle}
 use Rattle.board_model.specs.TableCalls.{with_thing}
-use Rattle.board_model.specs.Things.{Held, Kept, Standing, cell_shape, is_held_as, thing_of, with_at, with_name}
+use Rattle.board_model.specs.Things.{Held, Kept, Standing, is_held_as, thing_of, with_at, with_name}
+use Rattle.board_layout.specs.Layout.{cell_shape}
 use Rattle.board_model.specs.Requests.{Lending, Published}
 use Rattle.board_model.specs.Replies.{given_back, lent, none_put}
 use Rattle.board_model.specs.Parties.{Party, free, with_party}

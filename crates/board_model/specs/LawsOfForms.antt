@@ -16,7 +16,7 @@ use Rattle.board_model.specs.AnswerGrammar.{IsAnswer}
 use Rattle.board_model.specs.TypeTable.{key_bytes, key_type_of, type_of_key}
 use Rattle.board_model.specs.Tables.{port_of}
 use Rattle.board_model.specs.Things.{Held}
-use Rattle.board_model.specs.Requests.{Request, TableCall, create, identify, join, table}
+use Rattle.board_model.specs.Requests.{Request, TableCall, create, id, open_, table}
 use Rattle.board_model.specs.Parties.{Party, free, gone, running}
 use Rattle.board_model.specs.LawfulSession.{IsLawful, IsOwed, IsReasoned, IsReplied, IsRight, IsWord, Session, State, has_key_type, reason_of, start, state_after}
 use Rattle.board_model.specs.Sound.{BoardTables}
@@ -67,8 +67,8 @@ pub record IsFormedOpen (name : List ℕ) (needs : Requirements) : Type 0 where
 -- a board that a call makes or opens is of the grammar, and a thing that it asks for has a port that was drawn
 abbrev pub IsFormedInTable : ℕ → TableCall → Type 0
 IsFormedInTable n (create f name k limits attributes entries) = IsFormedCreate name k limits attributes entries
-IsFormedInTable n (join f name k limits needs) = IsFormedOpen name needs
-IsFormedInTable n (identify x) = port_of x.kind ≤ n
+IsFormedInTable n (open_ f name k limits needs) = IsFormedOpen name needs
+IsFormedInTable n (id x) = port_of x.kind ≤ n
 IsFormedInTable n c = Unit {0}
 
 -- the request of a call is of the grammar

@@ -18,7 +18,7 @@ use Rattle.board_model.specs.TypeTable.{key_bytes, key_detail, key_of, key_type_
 use Rattle.board_model.specs.Tables.{Added, Tables, board_at, entry_found, entry_of, is_of_board, nodes_taken, reader_slots, writer_slots}
 use Rattle.board_model.specs.TableCalls.{create_asked, entry_asked, entry_mut_asked, open_asked, reader_asked, released, writer_asked}
 use Rattle.board_model.specs.Things.{Held, Standing, is_held_as, thing_of, with_at, with_name}
-use Rattle.board_model.specs.Requests.{Fetch, Lending, Published, Request, TableCall, create, describe, entry, entry_mut, fill, fresh, get, give_back, handled, identify, join, lend, list_keys, list_nodes, publish, put, reader, table, tell, update, writer}
+use Rattle.board_model.specs.Requests.{Fetch, Lending, Published, Request, TableCall, create, info, entry, entry_mut, fill, fresh, get, discard, handled, id, open_, loan, keys, nodes, publish, put, reader, table, gen, update, writer}
 
 -- what a call is told, and what stands after it
 pub record Asked : Type 0 where
@@ -153,18 +153,18 @@ with_word s party l i w = record s { loans = with_at s.loans party l.loan (Some 
 -- the reply to a call on the tables, and what stands after it
 abbrev pub ask_tables : Standing → Published → List ℕ → TableCall → Asked
 ask_tables s lists party (create f name k limits attributes entries) = told_by s reply.CreateError (create_asked (same_key k) s.tables party f name (key_detail k) limits attributes (map added_of entries))
-ask_tables s lists party (join f name k limits needs) = told_by s reply.OpenError (open_asked bytes_eq s.tables party f name (key_detail k) limits needs)
+ask_tables s lists party (open_ f name k limits needs) = told_by s reply.OpenError (open_asked bytes_eq s.tables party f name (key_detail k) limits needs)
 ask_tables s lists party (reader name of) = told_by s reply.ReaderError (reader_asked s.tables of name)
 ask_tables s lists party (writer name of) = told_by s reply.WriterError (writer_asked s.tables of name)
 ask_tables s lists party (entry name of k type) = told_by s reply.EntryError (entry_asked s.tables of name (entry_found (board_at s.tables of.board) (is_key k) (value_detail type)))
 ask_tables s lists party (entry_mut name of k type) = told_by s reply.EntryMutError (entry_mut_asked s.tables of name (entry_found (board_at s.tables of.board) (is_key k) (value_detail type)))
-ask_tables s lists party (lend l) = record { reply = reply.Done; standing = lent s party l }
-ask_tables s lists party (give_back l) = record { reply = reply.Done; standing = given_back s party l }
-ask_tables s lists party (list_keys of) = only_told s (reply.Keys (keys_in (board_at s.tables of.board)))
-ask_tables s lists party (list_nodes of) = only_told s (reply.Nodes (nodes_of of.board s.tables.things))
-ask_tables s lists party (describe of) = only_told s (reply.Info (info_of s.tables.things (board_at s.tables of.board)))
-ask_tables s lists party (identify of) = only_told s (reply.Id (id_number s of of.kind))
-ask_tables s lists party (tell of) = only_told s (reply.Generation (length (lists of.board (entry_of of.kind))))
+ask_tables s lists party (loan l) = record { reply = reply.Done; standing = lent s party l }
+ask_tables s lists party (discard l) = record { reply = reply.Done; standing = given_back s party l }
+ask_tables s lists party (keys of) = only_told s (reply.Keys (keys_in (board_at s.tables of.board)))
+ask_tables s lists party (nodes of) = only_told s (reply.Nodes (nodes_of of.board s.tables.things))
+ask_tables s lists party (info of) = only_told s (reply.Info (info_of s.tables.things (board_at s.tables of.board)))
+ask_tables s lists party (id of) = only_told s (reply.Id (id_number s of of.kind))
+ask_tables s lists party (gen of) = only_told s (reply.Generation (length (lists of.board (entry_of of.kind))))
 
 -- the reply to a call, and what stands after it
 abbrev pub ask : Standing → Published → List ℕ → Request → Asked

@@ -15,7 +15,8 @@ use Rattle.board_model.specs.declared.value.ValueType.{ValueType}
 use Rattle.board_model.specs.declared.line.Call.{Call}
 use Rattle.board_model.specs.declared.line.Call.TheVariants as call
 use Rattle.board_model.specs.Tables.{entry_at, entry_of}
-use Rattle.board_model.specs.Things.{Held, Standing, cell_shape, held_of_kind}
+use Rattle.board_model.specs.Things.{Held, Standing, held_of_kind}
+use Rattle.board_layout.specs.Layout.{cell_shape}
 
 -- the word lists that were published under a board number and the place of an entry, the first value first
 abbrev pub Published : Type 0
@@ -64,18 +65,18 @@ pub record Lending : Type 0 where
 -- a call on the tables, which is one step
 pub data TableCall : Type 0 where
   create : (factory name : List ℕ) (key : KeyType) (limits : Limits) (attributes : List Attribute) (entries : List AddedEntry) → TableCall
-  join : (factory name : List ℕ) (key : KeyType) (limits : Limits) (needs : Requirements) → TableCall
+  open_ : (factory name : List ℕ) (key : KeyType) (limits : Limits) (needs : Requirements) → TableCall
   reader : (name : List ℕ) (factory : Held) → TableCall
   writer : (name : List ℕ) (factory : Held) → TableCall
   entry : (name : List ℕ) (reader : Held) (key : Key) (type : ValueType) → TableCall
   entry_mut : (name : List ℕ) (writer : Held) (key : Key) (type : ValueType) → TableCall
-  lend : Lending → TableCall
-  give_back : Lending → TableCall
-  list_keys : (factory : Held) → TableCall
-  list_nodes : (factory : Held) → TableCall
-  describe : (factory : Held) → TableCall
-  identify : (thing : Held) → TableCall
-  tell : (handle : Held) → TableCall
+  loan : Lending → TableCall
+  discard : Lending → TableCall
+  keys : (factory : Held) → TableCall
+  nodes : (factory : Held) → TableCall
+  info : (factory : Held) → TableCall
+  id : (thing : Held) → TableCall
+  gen : (handle : Held) → TableCall
 
 -- a call that can run: one step on the tables, or accesses to an entry
 pub data Request : Type 0 where
@@ -130,7 +131,7 @@ lending s lists l m t words make = and_then (handled s t) (λ e. Some (make (rec
 -- the call with its things found; none where one of them isn't held, or is of another kind
 abbrev pub request_of : Standing → Published → List ℕ → Call → Option Request
 request_of s lists party (call.Create f name k limits attributes entries) = Some (table (create f name k limits attributes entries))
-request_of s lists party (call.Open f name k limits needs) = Some (table (join f name k limits needs))
+request_of s lists party (call.Open f name k limits needs) = Some (table (open_ f name k limits needs))
 request_of s lists party (call.Reader r f) = and_then (held_of_kind s thing_kind.Factory party f) (λ t. Some (table (reader r t)))
 request_of s lists party (call.Writer w f) = and_then (held_of_kind s thing_kind.Factory party f) (λ t. Some (table (writer w t)))
 request_of s lists party (call.Entry h r k type) = and_then (held_of_kind s thing_kind.Reader party r) (λ t. Some (table (entry h t k type)))
@@ -144,16 +145,16 @@ request_of s lists party (call.Fresh h v) =
 request_of s lists party (call.Update m v) =
     and_then (handle_of s party m) (λ t. and_then (handled s t) (λ e.
     Some (update (record { board = t.board; entry = entry_of t.kind; shape = cell_shape e.cell; type = e.value; handle = m; generation = length (lists t.board (entry_of t.kind)); value = v }))))
-request_of s lists party (call.Loan l m) = and_then (handle_of s party m) (λ t. lending s lists l m t [] (λ x. table (lend x)))
-request_of s lists party (call.Discard l m) = and_then (loan_of s party l) (λ x. lending s lists l m x.0 x.1 (λ y. table (give_back y)))
+request_of s lists party (call.Loan l m) = and_then (handle_of s party m) (λ t. lending s lists l m t [] (λ x. table (loan x)))
+request_of s lists party (call.Discard l m) = and_then (loan_of s party l) (λ x. lending s lists l m x.0 x.1 (λ y. table (discard y)))
 request_of s lists party (call.Put l i w) = and_then (loan_of s party l) (λ x. lending s lists l l x.0 x.1 (λ y. put y i w))
 request_of s lists party (call.Publish l m) = and_then (loan_of s party l) (λ x. lending s lists l m x.0 x.1 (λ y. publish y))
 request_of s lists party (call.Fill l m v) = and_then (loan_of s party l) (λ x. lending s lists l m x.0 x.1 (λ y. fill y v))
-request_of s lists party (call.Keys f) = and_then (held_of_kind s thing_kind.Factory party f) (λ t. Some (table (list_keys t)))
-request_of s lists party (call.Nodes f) = and_then (held_of_kind s thing_kind.Factory party f) (λ t. Some (table (list_nodes t)))
-request_of s lists party (call.Info f) = and_then (held_of_kind s thing_kind.Factory party f) (λ t. Some (table (describe t)))
-request_of s lists party (call.Id n) = and_then (identified s party n) (λ t. Some (table (identify t)))
-request_of s lists party (call.Gen m) = and_then (handle_of s party m) (λ t. Some (table (tell t)))
+request_of s lists party (call.Keys f) = and_then (held_of_kind s thing_kind.Factory party f) (λ t. Some (table (keys t)))
+request_of s lists party (call.Nodes f) = and_then (held_of_kind s thing_kind.Factory party f) (λ t. Some (table (nodes t)))
+request_of s lists party (call.Info f) = and_then (held_of_kind s thing_kind.Factory party f) (λ t. Some (table (info t)))
+request_of s lists party (call.Id n) = and_then (identified s party n) (λ t. Some (table (id t)))
+request_of s lists party (call.Gen m) = and_then (handle_of s party m) (λ t. Some (table (gen t)))
 
 -- the name of the thing that a call makes
 abbrev pub new_name : Call → Option (List ℕ)

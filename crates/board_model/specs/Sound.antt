@@ -12,12 +12,13 @@ use Rattle.board_model.specs.declared.tables.ThingKind.TheVariants as thing_kind
 use Rattle.board_model.specs.declared.value.Key.{Key}
 use Rattle.board_model.specs.declared.value.KeyType.{KeyType}
 use Rattle.board_model.specs.declared.value.ValueType.{ValueType}
-use Rattle.board_cell_model.specs.Copies.{cell_end, current_at, spare_at}
+use Rattle.board_cell_model.specs.Copies.{current_at, spare_at}
+use Rattle.board_layout.specs.Layout.{cell_end, cell_shape}
 use Rattle.board_cell_model.specs.OwedAccesses.{Reading, finished, opening, trying}
 use Rattle.board_model.specs.TypeTable.{key_detail, value_detail, value_words, word_count}
 use Rattle.board_model.specs.Tables.{Tables, board_at, entry_at, entry_of, is_numbered, is_write_handle, kind_of}
-use Rattle.board_model.specs.Things.{Held, Standing, cell_shape, thing_of}
-use Rattle.board_model.specs.Requests.{Fetch, Lending, Look, Published, Request, TableCall, create, describe, entry, entry_mut, fill, fresh, get, give_back, identify, join, lend, list_keys, list_nodes, publish, put, reader, table, tell, update, writer}
+use Rattle.board_model.specs.Things.{Held, Standing, thing_of}
+use Rattle.board_model.specs.Requests.{Fetch, Lending, Look, Published, Request, TableCall, create, info, entry, entry_mut, fill, fresh, get, discard, id, open_, loan, keys, nodes, publish, put, reader, table, gen, update, writer}
 use Rattle.board_model.specs.Replies.{latest, word_put}
 use Rattle.board_model.specs.Parties.{Party, Running, free, gone, reading, running}
 use Rattle.board_model.specs.LawfulSession.{State, is_typed_key}
@@ -206,18 +207,18 @@ IsTypedKey s x k = is_typed_key (board_at s.tables x.board) k ≡ true
 -- what a call on the tables uses is still held, the name for what it makes is free, and its key is typed
 abbrev pub IsTableCall : State → List ℕ → TableCall → Type 0
 IsTableCall s party (create f name k limits attributes entries) = IsFree s.standing party f
-IsTableCall s party (join f name k limits needs) = IsFree s.standing party f
+IsTableCall s party (open_ f name k limits needs) = IsFree s.standing party f
 IsTableCall s party (reader name x) = IsFree s.standing party name × IsHeldThing s.standing party thing_kind.Factory x
 IsTableCall s party (writer name x) = IsFree s.standing party name × IsHeldThing s.standing party thing_kind.Factory x
 IsTableCall s party (entry name x k type) = IsFree s.standing party name × IsHeldThing s.standing party thing_kind.Reader x × IsTypedKey s.standing x k
 IsTableCall s party (entry_mut name x k type) = IsFree s.standing party name × IsHeldThing s.standing party thing_kind.Writer x × IsTypedKey s.standing x k
-IsTableCall s party (lend l) = IsFree s.standing party l.loan × IsLending s party l l.handle false
-IsTableCall s party (give_back l) = IsFree s.standing party l.handle × IsLending s party l l.loan true
-IsTableCall s party (list_keys x) = IsHeldThing s.standing party thing_kind.Factory x
-IsTableCall s party (list_nodes x) = IsHeldThing s.standing party thing_kind.Factory x
-IsTableCall s party (describe x) = IsHeldThing s.standing party thing_kind.Factory x
-IsTableCall s party (identify x) = IsOfBoard s.standing.tables party x.name x.board
-IsTableCall s party (tell x) = IsHeldThing s.standing party thing_kind.WriteHandle x
+IsTableCall s party (loan l) = IsFree s.standing party l.loan × IsLending s party l l.handle false
+IsTableCall s party (discard l) = IsFree s.standing party l.handle × IsLending s party l l.loan true
+IsTableCall s party (keys x) = IsHeldThing s.standing party thing_kind.Factory x
+IsTableCall s party (nodes x) = IsHeldThing s.standing party thing_kind.Factory x
+IsTableCall s party (info x) = IsHeldThing s.standing party thing_kind.Factory x
+IsTableCall s party (id x) = IsOfBoard s.standing.tables party x.name x.board
+IsTableCall s party (gen x) = IsHeldThing s.standing party thing_kind.WriteHandle x
 
 -- what holds of a running call
 abbrev pub IsCalling : State → List ℕ → Running → Request → Type 0

@@ -1,8 +1,6 @@
 -- What the parties of a script hold: things of boards, words of loans, and values.
 use Rattle.std.specs.Prelude.{ℕ, Bool, ◌&&◌, if◌then◌else◌, List, map, find, Option, Some, None, is_some, ◌||◌}
 use Rattle.std.specs.Str.{bytes_eq}
-use Rattle.board_layout.specs.declared.shape.CellPlace.{CellPlace}
-use Rattle.board_layout.specs.declared.shape.CellShape.{CellShape}
 use Rattle.board_model.specs.declared.tables.Thing.{Thing}
 use Rattle.board_model.specs.declared.tables.ThingKind.{ThingKind}
 use Rattle.board_model.specs.declared.value.ValueType.{ValueType}
@@ -60,7 +58,3 @@ named_anew party old new t = if is_held_as party old t then record t { name = ne
 -- the party's thing has another name
 abbrev pub with_name : Tables (List ℕ) (List ℕ) → List ℕ → List ℕ → List ℕ → Tables (List ℕ) (List ℕ)
 with_name t party old new = record t { things = map (named_anew party old new) t.things }
-
--- where the words of a planned cell lie
-abbrev pub cell_shape : CellPlace → CellShape
-cell_shape c = record { first = c.first; head = c.head; words = c.words }

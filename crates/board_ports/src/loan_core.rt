@@ -1,5 +1,5 @@
 ghost use Rattle.std.specs.Prelude.{◌≡◌, ◌+◌, ◌^◌, ◌<◌, ◌≤◌, ◌↔◌, true, List, Option, ℕ, None, IfSome, length};
-ghost use Rattle.board_cell_model.specs.Copies.{cell_end};
+ghost use Rattle.board_layout.specs.Layout.{cell_end};
 ghost use Rattle.board_model.specs.LawfulSession.{all_put};
 ghost use Rattle.board_model.specs.Replies.{none_put};
 ghost use Rattle.board_ports.specs.EntryCalls.{put_of, publish_of, update_of};

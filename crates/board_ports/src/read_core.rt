@@ -1,5 +1,5 @@
 ghost use Rattle.std.specs.Prelude.{◌≡◌, ◌^◌, ◌<◌, length};
-ghost use Rattle.board_cell_model.specs.Copies.{cell_end};
+ghost use Rattle.board_layout.specs.Layout.{cell_end};
 ghost use Rattle.board_ports.specs.EntryCalls.{get_of, fresh_of};
 
 use board_cell::{CellShape, FreshCall, GetCall};

@@ -1,6 +1,6 @@
 //! The calls that handles give, on an entry of four words whose cell begins with word 0: its copies begin with words 2 and 6.
 ghost use Rattle.std.specs.Prelude.{◌≡◌, ◌+◌, ◌^◌, ◌<◌};
-ghost use Rattle.board_cell_model.specs.Copies.{cell_end};
+ghost use Rattle.board_layout.specs.Layout.{cell_end};
 
 use crate::{CellShape, LoanCore, ReadCore, WriteCore};
 use board_cell::{Access, run_update};

@@ -15,13 +15,13 @@ use Rattle.board_model.specs.declared.tables.ThingKind.TheVariants as thing_kind
 use Rattle.board_model.specs.declared.value.Value.{Value}
 use Rattle.board_model.specs.declared.value.ValueType.{ValueType}
 use Rattle.board_model.specs.declared.value.ValueType.TheVariants as type
-use Rattle.board_cell_model.specs.Copies.{cell_end}
+use Rattle.board_layout.specs.Layout.{cell_end, cell_shape}
 use Rattle.board_model.specs.LineGrammar.{IsLine}
 use Rattle.board_model.specs.Requests.{Fetch, Look, Publication, Request, fresh, get, handle_of, request_of, update}
 use Rattle.board_model.specs.declared.tables.Kind.{Kind}
 use Rattle.board_model.specs.declared.tables.Kind.TheVariants as kind
 use Rattle.board_model.specs.Tables.{entry_at, entry_of, kind_of, same_kind}
-use Rattle.board_model.specs.Things.{Held, Kept, cell_shape, of_kind, thing_of}
+use Rattle.board_model.specs.Things.{Held, Kept, of_kind, thing_of}
 use Rattle.board_model.specs.TypeTable.{same_type, type_of, value_detail, value_type_of, value_words, word_count}
 use Rattle.board_cell_model.specs.OwedAccesses.{opening}
 use Rattle.board_model.specs.Parties.{Running, begun, free, gone, running, with_party}

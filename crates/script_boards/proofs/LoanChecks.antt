@@ -8,10 +8,11 @@ use Rattle.board_model.specs.declared.tables.Entry.{Entry}
 use Rattle.board_model.specs.declared.tables.ThingKind.{ThingKind}
 use Rattle.board_model.specs.declared.tables.ThingKind.TheVariants as thing_kind
 use Rattle.board_model.specs.declared.value.Value.{Value}
-use Rattle.board_model.specs.Requests.{Lending, and_then, fill, give_back, handled, loan_of, publish, put, request_of, table}
+use Rattle.board_model.specs.Requests.{Lending, and_then, fill, discard, handled, loan_of, publish, put, request_of, table}
 use Rattle.board_model.specs.Parties.{Party, free}
 use Rattle.board_model.specs.Tables.{entry_at, entry_of, kind_of, same_kind}
-use Rattle.board_model.specs.Things.{Held, cell_shape, of_kind, thing_of}
+use Rattle.board_model.specs.Things.{Held, of_kind, thing_of}
+use Rattle.board_layout.specs.Layout.{cell_shape}
 use Rattle.board_model.specs.TypeTable.{same_type, type_of, value_detail, value_words}
 use Rattle.board_model.specs.LawfulSession.{State, all_put, call_reason}
 use Rattle.board_model.specs.Sound.{IsLent, Sound, is_suspended}
@@ -37,9 +38,9 @@ abbrev a_loan : Held → List (Option ℕ) → Option (Held × List (Option ℕ)
 a_loan x words = Some (x, words)
 
 -- the thing of a loan is a write handle
-pub loan_handle : {C : Type 0} (m : BoardMachine C) (party loan : List ℕ) (x : Held) (words : List (Option ℕ)) → loan_held m party loan ≡ Some (x, words) → IsHandle m x
-loan_handle m party loan x words e =
-    write_handle m party loan x (thing (of_kind thing_kind.WriteHandle (thing_of m.domain.tables.things party loan)) (lent_words m.loans.items party loan) e)
+pub loan_handle : {C : Type 0} (m : BoardMachine C) (party lent : List ℕ) (x : Held) (words : List (Option ℕ)) → loan_held m party lent ≡ Some (x, words) → IsHandle m x
+loan_handle m party lent x words e =
+    write_handle m party lent x (thing (of_kind thing_kind.WriteHandle (thing_of m.domain.tables.things party lent)) (lent_words m.loans.items party lent) e)
   where
     thing : (o : Option Held) (w : Option (List (Option ℕ))) → and_then o (λ t. and_then w (λ ws. a_loan t ws)) ≡ a_loan x words → o ≡ Some x
     thing None w e = absurd cc
@@ -51,11 +52,11 @@ loan_handle m party loan x words e =
 abbrev a_thing : Held → Option Held
 a_thing x = Some x
 
-loan_thing : {C : Type 0} (m : BoardMachine C) (party loan : List ℕ) (x : Held) (o : Option (Held × List (Option ℕ))) → loan_held m party loan ≡ o → option_map (λ l. l.0) o ≡ a_thing x → IsHandle m x
-loan_thing m party loan x None f e = absurd cc
-loan_thing m party loan x (Some l) f e =
+loan_thing : {C : Type 0} (m : BoardMachine C) (party lent : List ℕ) (x : Held) (o : Option (Held × List (Option ℕ))) → loan_held m party lent ≡ o → option_map (λ l. l.0) o ≡ a_thing x → IsHandle m x
+loan_thing m party lent x None f e = absurd cc
+loan_thing m party lent x (Some l) f e =
     let q : l.0 ≡ x = cc in
-    subst (IsHandle m) q (loan_handle m party loan l.0 l.1 f)
+    subst (IsHandle m) q (loan_handle m party lent l.0 l.1 f)
 
 -- what a call writes is a handle
 pub written_handle : {C : Type 0} (m : BoardMachine C) (party : List ℕ) (c : Call) (x : Held) → written_by m party c ≡ Some x → IsHandle m x
@@ -75,32 +76,32 @@ thing_found k (Some t) x e = at (same_kind (kind_of t.kind) k) e
     at false e = absurd cc
 
 -- a loan has a thing, and words
-loan_parts : {C : Type 0} (m : BoardMachine C) (party loan : List ℕ) (x : Held) (words : List (Option ℕ)) → loan_held m party loan ≡ Some (x, words)
-    → (thing_of m.domain.tables.things party loan ≡ Some x) × (lent_words m.loans.items party loan ≡ Some words)
-loan_parts m party loan x words e = parts (of_kind thing_kind.WriteHandle (thing_of m.domain.tables.things party loan)) refl (lent_words m.loans.items party loan) e
+loan_parts : {C : Type 0} (m : BoardMachine C) (party lent : List ℕ) (x : Held) (words : List (Option ℕ)) → loan_held m party lent ≡ Some (x, words)
+    → (thing_of m.domain.tables.things party lent ≡ Some x) × (lent_words m.loans.items party lent ≡ Some words)
+loan_parts m party lent x words e = parts (of_kind thing_kind.WriteHandle (thing_of m.domain.tables.things party lent)) refl (lent_words m.loans.items party lent) e
   where
-    parts : (o : Option Held) → of_kind thing_kind.WriteHandle (thing_of m.domain.tables.things party loan) ≡ o → (w : Option (List (Option ℕ))) → and_then o (λ t. and_then w (λ ws. a_loan t ws)) ≡ a_loan x words
-        → (thing_of m.domain.tables.things party loan ≡ Some x) × (w ≡ Some words)
+    parts : (o : Option Held) → of_kind thing_kind.WriteHandle (thing_of m.domain.tables.things party lent) ≡ o → (w : Option (List (Option ℕ))) → and_then o (λ t. and_then w (λ ws. a_loan t ws)) ≡ a_loan x words
+        → (thing_of m.domain.tables.things party lent ≡ Some x) × (w ≡ Some words)
     parts None f w e = absurd cc
     parts (Some t) f None e = absurd cc
     parts (Some t) f (Some ws) e =
         let p : (t, ws) ≡ (x, words) = cc in
-        (thing_found thing_kind.WriteHandle (thing_of m.domain.tables.things party loan) x (f ∙ ap (λ (q : Held × List (Option ℕ)). Some q.0) p), ap (λ (q : Held × List (Option ℕ)). Some q.1) p)
+        (thing_found thing_kind.WriteHandle (thing_of m.domain.tables.things party lent) x (f ∙ ap (λ (q : Held × List (Option ℕ)). Some q.0) p), ap (λ (q : Held × List (Option ℕ)). Some q.1) p)
 
 module _ {C : Type 0} (m : BoardMachine C) (s : State) (rep : Represents m s) (party : List ℕ) where
   -- a loan is the same in the state
-  pub loan_is : (loan : List ℕ) → loan_of s.standing party loan ≡ loan_held m party loan
-  loan_is loan =
-      ap (λ (o : Option (List (Option ℕ))). and_then (of_kind thing_kind.WriteHandle (thing_of s.standing.tables.things party loan)) (λ t. and_then o (λ ws. a_loan t ws))) (rep.loans party loan)
-      ∙ ap (λ t. and_then (of_kind thing_kind.WriteHandle (thing_of t.things party loan)) (λ x. and_then (lent_words m.loans.items party loan) (λ ws. a_loan x ws))) rep.tables
+  pub loan_is : (lent : List ℕ) → loan_of s.standing party lent ≡ loan_held m party lent
+  loan_is lent =
+      ap (λ (o : Option (List (Option ℕ))). and_then (of_kind thing_kind.WriteHandle (thing_of s.standing.tables.things party lent)) (λ t. and_then o (λ ws. a_loan t ws))) (rep.loans party lent)
+      ∙ ap (λ t. and_then (of_kind thing_kind.WriteHandle (thing_of t.things party lent)) (λ x. and_then (lent_words m.loans.items party lent) (λ ws. a_loan x ws))) rep.tables
 
   -- a loan of a free party has a place for each word of its entry
   pub loan_width : Sound s → s.parties party ≡ free → (x : Held) (e : Entry) → entry_at (tables_of m) x.board (entry_of x.kind) ≡ Some e
-      → (loan : List ℕ) (words : List (Option ℕ)) → loan_held m party loan ≡ Some (x, words) → length words ≡ e.cell.words
-  loan_width sound is_free x e found loan words held =
-      let parts = loan_parts m party loan x words held in
-      let it = sound.things.loans party loan words (rep.loans party loan ∙ parts.1) in
-      let found_in : thing_of s.standing.tables.things party loan ≡ Some x = ap (λ t. thing_of t.things party loan) rep.tables ∙ parts.0 in
+      → (lent : List ℕ) (words : List (Option ℕ)) → loan_held m party lent ≡ Some (x, words) → length words ≡ e.cell.words
+  loan_width sound is_free x e found lent words held =
+      let parts = loan_parts m party lent x words held in
+      let it = sound.things.loans party lent words (rep.loans party lent ∙ parts.1) in
+      let found_in : thing_of s.standing.tables.things party lent ≡ Some x = ap (λ t. thing_of t.things party lent) rep.tables ∙ parts.0 in
       let same : it.thing ≡ x = one_thing it.thing x (sym it.found ∙ found_in) in
       let put =
       subst (λ (y : Held). (e : Entry) → entry_at s.standing.tables y.board (entry_of y.kind) ≡ Some e → is_suspended (s.parties party) y.board (entry_of y.kind) ≡ false
@@ -115,38 +116,38 @@ module _ {C : Type 0} (m : BoardMachine C) (s : State) (rep : Represents m s) (p
     entry_is = ap (λ t. entry_at t x.board (entry_of x.kind)) rep.tables ∙ found
 
     abbrev lending_of : List ℕ → List ℕ → List (Option ℕ) → Lending
-    lending_of loan handle words =
-        record { board = x.board; entry = entry_of x.kind; shape = cell_shape e.cell; type = e.value; generation = length (s.published x.board (entry_of x.kind)); loan = loan; handle = handle; words = words }
+    lending_of lent handle words =
+        record { board = x.board; entry = entry_of x.kind; shape = cell_shape e.cell; type = e.value; generation = length (s.published x.board (entry_of x.kind)); loan = lent; handle = handle; words = words }
 
     generation_is : (g : ℕ) → IsCounter m x.board (entry_of x.kind) g → g ≡ length (s.published x.board (entry_of x.kind))
     generation_is g c = (counter_at m s rep sound x.board (entry_of x.kind) e entry_is).is_length g c
 
-    module _ (loan : List ℕ) (words : List (Option ℕ)) (held : loan_held m party loan ≡ Some (x, words)) where
-      held_is : loan_of s.standing party loan ≡ Some (x, words)
-      held_is = loan_is loan ∙ held
+    module _ (lent : List ℕ) (words : List (Option ℕ)) (held : loan_held m party lent ≡ Some (x, words)) where
+      held_is : loan_of s.standing party lent ≡ Some (x, words)
+      held_is = loan_is lent ∙ held
 
       module _ (handle : List ℕ) where
-        discard_asked : request_of s.standing s.published party (call.Discard loan handle) ≡ Some (table (give_back (lending_of loan handle words)))
+        discard_asked : request_of s.standing s.published party (call.Discard lent handle) ≡ Some (table (discard (lending_of lent handle words)))
         discard_asked = rw (held_is, entry_is) refl
 
-        pub discard_taken : holds m party handle ≡ true → IsLookedAt s party (call.Discard loan handle) (checked.Refused reason.Taken)
+        pub discard_taken : holds m party handle ≡ true → IsLookedAt s party (call.Discard lent handle) (checked.Refused reason.Taken)
         discard_taken taken = rw discard_asked (rw (taken_is m s rep party (Some handle) ∙ taken) refl)
 
-        pub discard_begins : holds m party handle ≡ false → IsLookedAt s party (call.Discard loan handle) (checked.Accepted (task.Table (table_task.Discard loan handle)))
+        pub discard_begins : holds m party handle ≡ false → IsLookedAt s party (call.Discard lent handle) (checked.Accepted (task.Table (table_task.Discard lent handle)))
         discard_begins untaken =
-            rw discard_asked (rw (taken_is m s rep party (Some handle) ∙ untaken) refl, record { lending = lending_of loan handle words; request = refl; loan_is = refl; handle_is = refl })
+            rw discard_asked (rw (taken_is m s rep party (Some handle) ∙ untaken) refl, record { lending = lending_of lent handle words; request = refl; loan_is = refl; handle_is = refl })
 
-        publish_asked : request_of s.standing s.published party (call.Publish loan handle) ≡ Some (publish (lending_of loan handle words))
+        publish_asked : request_of s.standing s.published party (call.Publish lent handle) ≡ Some (publish (lending_of lent handle words))
         publish_asked = rw (held_is, entry_is) refl
 
         pub publish_begins : holds m party handle ≡ false → all_put words ≡ true → (g : ℕ) → IsCounter m x.board (entry_of x.kind) g
             → (begun : Publishing) → begun ≡ record { shape = cell_shape e.cell; generation = g; done = false }
-            → IsLookedAt s party (call.Publish loan handle) (checked.Accepted (task.Publish x.board begun loan handle))
+            → IsLookedAt s party (call.Publish lent handle) (checked.Accepted (task.Publish x.board begun lent handle))
         publish_begins untaken all g counter begun is =
             rw publish_asked (
               rw (taken_is m s rep party (Some handle) ∙ untaken) (rw all refl),
               record {
-                lending = lending_of loan handle words;
+                lending = lending_of lent handle words;
                 request = refl;
                 board_is = refl;
                 call_is = is ∙ ap (λ (k : ℕ). record { shape = cell_shape e.cell; generation = k; done = false }) (generation_is g counter);
@@ -156,20 +157,20 @@ module _ {C : Type 0} (m : BoardMachine C) (s : State) (rep : Represents m s) (p
             )
 
         module _ (v : Value) where
-          fill_asked : request_of s.standing s.published party (call.Fill loan handle v) ≡ Some (fill (lending_of loan handle words) v)
+          fill_asked : request_of s.standing s.published party (call.Fill lent handle v) ≡ Some (fill (lending_of lent handle words) v)
           fill_asked = rw (held_is, entry_is) refl
 
-          pub fill_mistyped : holds m party handle ≡ false → same_type (value_detail (type_of v)) e.value ≡ false → IsLookedAt s party (call.Fill loan handle v) (checked.Refused reason.Type)
+          pub fill_mistyped : holds m party handle ≡ false → same_type (value_detail (type_of v)) e.value ≡ false → IsLookedAt s party (call.Fill lent handle v) (checked.Refused reason.Type)
           fill_mistyped untaken typed = rw fill_asked (rw (taken_is m s rep party (Some handle) ∙ untaken) (rw typed refl))
 
           pub fill_begins : holds m party handle ≡ false → same_type (value_detail (type_of v)) e.value ≡ true → (g : ℕ) → IsCounter m x.board (entry_of x.kind) g
               → (begun : Updating) → begun ≡ record { shape = cell_shape e.cell; generation = g; words = value_words v; written = 0 }
-              → IsLookedAt s party (call.Fill loan handle v) (checked.Accepted (task.Fill x.board begun loan handle))
+              → IsLookedAt s party (call.Fill lent handle v) (checked.Accepted (task.Fill x.board begun lent handle))
           fill_begins untaken typed g counter begun is =
               rw fill_asked (
                 rw (taken_is m s rep party (Some handle) ∙ untaken) (rw typed refl),
                 record {
-                  lending = lending_of loan handle words;
+                  lending = lending_of lent handle words;
                   value = v;
                   request = refl;
                   board_is = refl;
@@ -180,17 +181,17 @@ module _ {C : Type 0} (m : BoardMachine C) (s : State) (rep : Represents m s) (p
               )
 
       module _ (index word : ℕ) where
-        put_asked : request_of s.standing s.published party (call.Put loan index word) ≡ Some (put (lending_of loan loan words) index word)
+        put_asked : request_of s.standing s.published party (call.Put lent index word) ≡ Some (put (lending_of lent lent words) index word)
         put_asked = rw (held_is, entry_is) refl
 
         pub put_begins : index < e.cell.words → (g : ℕ) → IsCounter m x.board (entry_of x.kind) g
             → (begun : Putting) → begun ≡ record { shape = cell_shape e.cell; generation = g; index = index; word = word; done = false }
-            → IsLookedAt s party (call.Put loan index word) (checked.Accepted (task.Put x.board begun loan index word))
+            → IsLookedAt s party (call.Put lent index word) (checked.Accepted (task.Put x.board begun lent index word))
         put_begins below g counter begun is =
             rw put_asked (
               rw (lt-ltb index e.cell.words below) refl,
               record {
-                lending = lending_of loan loan words;
+                lending = lending_of lent lent words;
                 request = refl;
                 board_is = refl;
                 call_is = is ∙ ap (λ (k : ℕ). record { shape = cell_shape e.cell; generation = k; index = index; word = word; done = false }) (generation_is g counter);
@@ -199,5 +200,5 @@ module _ {C : Type 0} (m : BoardMachine C) (s : State) (rep : Represents m s) (p
             )
 
   -- the entry of a loan stands
-  pub loan_entry : Sound s → (x : Held) (loan : List ℕ) (words : List (Option ℕ)) → loan_held m party loan ≡ Some (x, words) → (e : Entry) × (entry_at (tables_of m) x.board (entry_of x.kind) ≡ Some e)
-  loan_entry sound x loan words held = some_entry (entry_at (tables_of m) x.board (entry_of x.kind)) (entry_stands m s rep sound x (loan_handle m party loan x words held))
+  pub loan_entry : Sound s → (x : Held) (lent : List ℕ) (words : List (Option ℕ)) → loan_held m party lent ≡ Some (x, words) → (e : Entry) × (entry_at (tables_of m) x.board (entry_of x.kind) ≡ Some e)
+  loan_entry sound x lent words held = some_entry (entry_at (tables_of m) x.board (entry_of x.kind)) (entry_stands m s rep sound x (loan_handle m party lent x words held))

@@ -24,7 +24,7 @@ use Rattle.board_model.specs.declared.value.KeyType.{KeyType}
 use Rattle.board_model.specs.AnswerGrammar.{IsReply}
 use Rattle.board_model.specs.LineGrammar.{IsLine}
 use Rattle.board_model.specs.Memory.{memory_after, opening_of, with_board}
-use Rattle.board_model.specs.Requests.{Request, TableCall, create, describe, entry, entry_mut, give_back, identify, join, lend, list_keys, list_nodes, reader, table, tell, writer}
+use Rattle.board_model.specs.Requests.{Request, TableCall, create, info, entry, entry_mut, discard, id, open_, loan, keys, nodes, reader, table, gen, writer}
 use Rattle.board_model.specs.Replies.{Asked, added_of, ask_tables, id_number, info_of, is_key, keys_in, nodes_of, number_or, only_told, told_by}
 use Rattle.board_model.specs.Tables.{Tables, board_at, entry_at, entry_found, entry_in, entry_of, is_numbered, kind_of, new_board}
 use Rattle.board_model.specs.TableCalls.{asked, create_asked, create_refusals, created, entry_asked, entry_mut_asked, first_of, open_asked, reader_asked, writer_asked}
@@ -207,9 +207,9 @@ module _ {C : Type 0} (m : BoardMachine C) (s : State) (rep : Represents m s) (r
     same_id t x (kind.WriteHandle i p) = refl
 
     -- the board of a factory stands
-    info_stands : (x : Held) → at.r.request ≡ table (describe x) → is_some (board_at mid.domain.tables x.board) ≡ true
+    info_stands : (x : Held) → at.r.request ≡ table (info x) → is_some (board_at mid.domain.tables x.board) ≡ true
     info_stands x e =
-        let held = (calling (describe x) e).1 in
+        let held = (calling (info x) e).1 in
         ap (λ t. is_some (board_at t x.board)) (sym tables_are) ∙ all_found (HasBoard s.standing.tables) _ s.standing.tables.things x reached.sound.things.standing held.found
 
     -- the entry of a write handle stands
@@ -220,14 +220,14 @@ module _ {C : Type 0} (m : BoardMachine C) (s : State) (rep : Represents m s) (r
     handle_entry x (kind.ReadHandle i) e h = absurd cc
     handle_entry x (kind.WriteHandle i p) e h = h
 
-    handle_counter : (x : Held) → at.r.request ≡ table (tell x) → CounterAt m s rep reached.sound x.board (entry_of x.kind)
+    handle_counter : (x : Held) → at.r.request ≡ table (gen x) → CounterAt m s rep reached.sound x.board (entry_of x.kind)
     handle_counter x e =
-        let held = (calling (tell x) e).1 in
+        let held = (calling (gen x) e).1 in
         let has = all_found (HasEntry s.standing.tables) _ s.standing.tables.things x reached.sound.things.entries held.found in
         let entry = some_entry (entry_at s.standing.tables x.board (entry_of x.kind)) (handle_entry x x.kind held.kind has) in
         counter_at m s rep reached.sound x.board (entry_of x.kind) entry.0 entry.1
 
-    pub gen_has : (x : Held) → at.r.request ≡ table (tell x) → HasCounter mid x.board (entry_of x.kind)
+    pub gen_has : (x : Held) → at.r.request ≡ table (gen x) → HasCounter mid x.board (entry_of x.kind)
     gen_has x e =
         let h = (handle_counter x e).has in
         record {
@@ -244,7 +244,7 @@ module _ {C : Type 0} (m : BoardMachine C) (s : State) (rep : Represents m s) (r
         c k e d (p ∙ ap (λ t. position_from (is_numbered x.board) 0 t.boards) (sym same)) (ap (λ t. entry_at t x.board (entry_of x.kind)) same ∙ f)
         ∙ ap (λ (ws : List (List ℕ)). slice_index (get_or ws k d) e.cell.first) same_list
 
-    pub gen_served : (x : Held) (told : Reply) → at.r.request ≡ table (tell x) → IsGen mid new x told → IsServed new (tell x) told
+    pub gen_served : (x : Held) (told : Reply) → at.r.request ≡ table (gen x) → IsGen mid new x told → IsServed new (gen x) told
     gen_served x told e h = record {
       told_is = h.told_is ∙ ap (λ (n : ℕ). reply.Generation n) ((handle_counter x e).is_length h.counter (gen_count x h.counter h.is_counter));
       tables = tables_are ∙ ap tables_of (sym h.same);
@@ -323,10 +323,10 @@ module _ {C : Type 0} (m : BoardMachine C) (s : State) (rep : Represents m s) (r
             let l = reached.sound.things.loans party name ws e in
             absurd (let x : some_thing l.thing ≡ None = sym l.found ∙ f in cc)
 
-    loan_served : (handle loan : List ℕ) (words : ℕ) (told : Reply) (e : IsLoanTask handle loan words at.r.request) → told ≡ reply.Done → IsLoaned mid new party handle loan words → IsServed new (lend e.lending) told
-    loan_served handle loan words told e t h =
+    loan_served : (handle lent : List ℕ) (words : ℕ) (told : Reply) (e : IsLoanTask handle lent words at.r.request) → told ≡ reply.Done → IsLoaned mid new party handle lent words → IsServed new (loan e.lending) told
+    loan_served handle lent words told e t h =
         let l = e.lending in
-        let of_handle = subst (λ (x : List ℕ). IsLoaned mid new party x loan words) e.handle_is h in
+        let of_handle = subst (λ (x : List ℕ). IsLoaned mid new party x lent words) e.handle_is h in
         let of_loan = subst (λ (x : List ℕ). IsLoaned mid new party l.handle x words) e.loan_is of_handle in
         let is = subst (λ (k : ℕ). IsLoaned mid new party l.handle l.loan k) e.words_is of_loan in
         record {
@@ -338,8 +338,8 @@ module _ {C : Type 0} (m : BoardMachine C) (s : State) (rep : Represents m s) (r
           parties = h.parties ∙ rows;
         }
 
-    discard_served : (loan handle : List ℕ) (told : Reply) (e : IsDiscardTask loan handle at.r.request) → told ≡ reply.Done → IsGivenBack mid new party loan handle → IsServed new (give_back e.lending) told
-    discard_served loan handle told e t h =
+    discard_served : (lent handle : List ℕ) (told : Reply) (e : IsDiscardTask lent handle at.r.request) → told ≡ reply.Done → IsGivenBack mid new party lent handle → IsServed new (discard e.lending) told
+    discard_served lent handle told e t h =
         let l = e.lending in
         let of_loan = subst (λ (x : List ℕ). IsGivenBack mid new party x handle) e.loan_is h in
         let is = subst (λ (x : List ℕ). IsGivenBack mid new party l.loan x) e.handle_is of_loan in
@@ -359,21 +359,21 @@ module _ {C : Type 0} (m : BoardMachine C) (s : State) (rep : Represents m s) (r
     served : (t : TableTask) (told : Reply) → IsTableTask t at.r.request → IsTold mid new party t told → IsServing told
     served (table_task.Create f n k limits attributes entries) told e h = (create f n k limits attributes entries, e, create_served f n k limits attributes entries told h)
     served (table_task.Open f n k limits needs) told e h =
-        (join f n k limits needs, e, asked_served (join f n k limits needs) reply.OpenError (λ t. open_asked bytes_eq t party f n (key_detail k) limits needs) told refl (kept_boards _ _ _ _ refl) refl h)
+        (open_ f n k limits needs, e, asked_served (open_ f n k limits needs) reply.OpenError (λ t. open_asked bytes_eq t party f n (key_detail k) limits needs) told refl (kept_boards _ _ _ _ refl) refl h)
     served (table_task.Reader n x) told e h = (reader n x, e, asked_served (reader n x) reply.ReaderError (λ t. reader_asked t x n) told refl (kept_boards _ _ _ _ refl) refl h)
     served (table_task.Writer n x) told e h = (writer n x, e, asked_served (writer n x) reply.WriterError (λ t. writer_asked t x n) told refl (kept_boards _ _ _ _ refl) refl h)
     served (table_task.Entry n x k type) told e h =
         (entry n x k type, e, asked_served (entry n x k type) reply.EntryError (λ t. entry_asked t x n (entry_found (board_at t x.board) (is_key k) (value_detail type))) told refl (kept_boards _ _ _ _ refl) refl h)
     served (table_task.EntryMut n x k type) told e h =
         (entry_mut n x k type, e, asked_served (entry_mut n x k type) reply.EntryMutError (λ t. entry_mut_asked t x n (entry_found (board_at t x.board) (is_key k) (value_detail type))) told refl (kept_boards _ _ _ _ refl) refl h)
-    served (table_task.Loan handle loan words) told e h = (lend e.lending, e.request, loan_served handle loan words told e h.0 h.1)
-    served (table_task.Discard loan handle) told e h = (give_back e.lending, e.request, discard_served loan handle told e h.0 h.1)
-    served (table_task.Keys x) told e h = (list_keys x, e, shown_served (list_keys x) _ told (ap (λ (ks : List Key). only_told s.standing (reply.Keys ks)) (keys_same x)) refl h)
-    served (table_task.Nodes x) told e h = (list_nodes x, e, shown_served (list_nodes x) _ told (ap (λ t. only_told s.standing (reply.Nodes (nodes_of x.board t.things))) tables_are) refl h)
-    served (table_task.Info x) told e h = (describe x, e, shown_served (describe x) _ told (ap (λ t. only_told s.standing (reply.Info (info_of t.things (board_at t x.board)))) tables_are) refl h)
+    served (table_task.Loan handle lent words) told e h = (loan e.lending, e.request, loan_served handle lent words told e h.0 h.1)
+    served (table_task.Discard lent handle) told e h = (discard e.lending, e.request, discard_served lent handle told e h.0 h.1)
+    served (table_task.Keys x) told e h = (keys x, e, shown_served (keys x) _ told (ap (λ (ks : List Key). only_told s.standing (reply.Keys ks)) (keys_same x)) refl h)
+    served (table_task.Nodes x) told e h = (nodes x, e, shown_served (nodes x) _ told (ap (λ t. only_told s.standing (reply.Nodes (nodes_of x.board t.things))) tables_are) refl h)
+    served (table_task.Info x) told e h = (info x, e, shown_served (info x) _ told (ap (λ t. only_told s.standing (reply.Info (info_of t.things (board_at t x.board)))) tables_are) refl h)
     served (table_task.Id x) told e h =
-        (identify x, e, shown_served (identify x) _ told (ap (λ (n : ℕ). only_told s.standing (reply.Id n)) (same_id s.standing.tables x x.kind ∙ ap (λ t. id_number (standing_with t) x x.kind) tables_are)) refl h)
-    served (table_task.Gen x) told e h = (tell x, e, gen_served x told e h)
+        (id x, e, shown_served (id x) _ told (ap (λ (n : ℕ). only_told s.standing (reply.Id n)) (same_id s.standing.tables x x.kind ∙ ap (λ t. id_number (standing_with t) x x.kind) tables_are)) refl h)
+    served (table_task.Gen x) told e h = (gen x, e, gen_served x told e h)
 
     -- the step of the task is right
     pub task_right : (t : TableTask) (told : Reply) → IsTableTask t at.r.request → IsTold mid new party t told → IsLine (line.Step party)
@@ -411,7 +411,7 @@ module _ {C : Type 0} (m : BoardMachine C) (s : State) (rep : Represents m s) (r
         let h = formed (create f n k limits attributes entries) e in
         (few b d, h.text, h.pairs)
     task_can_run (table_task.Open f n k limits needs) b d e =
-        let h = formed (join f n k limits needs) e in
+        let h = formed (open_ f n k limits needs) e in
         (few b d, h.text, h.needed)
     task_can_run (table_task.Reader n x) b d e = (few b d, stands thing_kind.Factory x (calling (reader n x) e).1.1)
     task_can_run (table_task.Writer n x) b d e = (few b d, stands thing_kind.Factory x (calling (writer n x) e).1.1)
@@ -421,8 +421,8 @@ module _ {C : Type 0} (m : BoardMachine C) (s : State) (rep : Represents m s) (r
     task_can_run (table_task.EntryMut n x k type) b d e =
         let c = (calling (entry_mut n x k type) e).1 in
         (few b d, stands thing_kind.Writer x c.1, c.1.kind, typed x k c.2)
-    task_can_run (table_task.Loan handle loan words) b d e = subst (λ (n : List ℕ). lent_words mid.loans.items party n ≡ None) (sym e.loan_is) (unlent e.lending.loan (calling (lend e.lending) e.request).1.0)
-    task_can_run (table_task.Discard loan handle) b d e = tt
+    task_can_run (table_task.Loan handle lent words) b d e = subst (λ (n : List ℕ). lent_words mid.loans.items party n ≡ None) (sym e.loan_is) (unlent e.lending.loan (calling (loan e.lending) e.request).1.0)
+    task_can_run (table_task.Discard lent handle) b d e = tt
     task_can_run (table_task.Keys x) b d e = tt
     task_can_run (table_task.Nodes x) b d e = tt
     task_can_run (table_task.Info x) b d e = info_stands x e

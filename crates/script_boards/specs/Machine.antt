@@ -9,7 +9,7 @@ use Rattle.board_model.specs.declared.value.ValueType.{ValueType}
 use Rattle.board_model.specs.TypeTable.{value_type_of, value_words}
 use Rattle.board_model.specs.Tables.{Tables}
 use Rattle.board_model.specs.Things.{Kept}
-use Rattle.board_model.specs.Requests.{Fetch, Look, Publication, Request, create, describe, entry, entry_mut, fresh, get, identify, join, list_keys, list_nodes, reader, table, tell, update, writer}
+use Rattle.board_model.specs.Requests.{Fetch, Look, Publication, Request, create, info, entry, entry_mut, fresh, get, id, open_, keys, nodes, reader, table, gen, update, writer}
 use Rattle.board_model.specs.Parties.{Party, Running, free, gone, reading, running}
 use Rattle.board_model.specs.LineGrammar.{IsLine}
 use Rattle.board_model.specs.LawsOfBounds.{AreNumbers, IsWithin}
@@ -36,18 +36,18 @@ is_row_of party row = bytes_eq party row.name
 -- the call of a task on the tables is this request
 abbrev pub IsTableTask : TableTask → Request → Type 0
 IsTableTask (table_task.Create f n k l attributes entries) q = q ≡ table (create f n k l attributes entries)
-IsTableTask (table_task.Open f n k l needs) q = q ≡ table (join f n k l needs)
+IsTableTask (table_task.Open f n k l needs) q = q ≡ table (open_ f n k l needs)
 IsTableTask (table_task.Reader n x) q = q ≡ table (reader n x)
 IsTableTask (table_task.Writer n x) q = q ≡ table (writer n x)
 IsTableTask (table_task.Entry n x k type) q = q ≡ table (entry n x k type)
 IsTableTask (table_task.EntryMut n x k type) q = q ≡ table (entry_mut n x k type)
-IsTableTask (table_task.Loan handle loan words) q = IsLoanTask handle loan words q
-IsTableTask (table_task.Discard loan handle) q = IsDiscardTask loan handle q
-IsTableTask (table_task.Keys x) q = q ≡ table (list_keys x)
-IsTableTask (table_task.Nodes x) q = q ≡ table (list_nodes x)
-IsTableTask (table_task.Info x) q = q ≡ table (describe x)
-IsTableTask (table_task.Id x) q = q ≡ table (identify x)
-IsTableTask (table_task.Gen x) q = q ≡ table (tell x)
+IsTableTask (table_task.Loan handle lent words) q = IsLoanTask handle lent words q
+IsTableTask (table_task.Discard lent handle) q = IsDiscardTask lent handle q
+IsTableTask (table_task.Keys x) q = q ≡ table (keys x)
+IsTableTask (table_task.Nodes x) q = q ≡ table (nodes x)
+IsTableTask (table_task.Info x) q = q ≡ table (info x)
+IsTableTask (table_task.Id x) q = q ≡ table (id x)
+IsTableTask (table_task.Gen x) q = q ≡ table (gen x)
 
 -- a get after these accesses
 abbrev pub getting : Fetch → List Access → Getting
@@ -90,9 +90,9 @@ IsTaskOf (task.Table t) q so_far = IsTableTask t q
 IsTaskOf (task.Get board call type name) q so_far = IsGet board call type name q so_far
 IsTaskOf (task.Fresh board call) q so_far = IsFresh board call q
 IsTaskOf (task.Update board call) q so_far = IsUpdate board call q (length so_far)
-IsTaskOf (task.Put board call loan index word) q so_far = IsPutTask board call loan index word q
-IsTaskOf (task.Publish board call loan handle) q so_far = IsPublishTask board call loan handle q
-IsTaskOf (task.Fill board call loan handle) q so_far = IsFillTask board call loan handle q (length so_far)
+IsTaskOf (task.Put board call lent index word) q so_far = IsPutTask board call lent index word q
+IsTaskOf (task.Publish board call lent handle) q so_far = IsPublishTask board call lent handle q
+IsTaskOf (task.Fill board call lent handle) q so_far = IsFillTask board call lent handle q (length so_far)
 IsTaskOf task.Gone q so_far = ⊥
 
 -- the one row of a party whose call runs

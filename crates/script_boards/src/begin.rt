@@ -1,9 +1,9 @@
 //! Lines `begin P CALL`.
 ghost use Rattle.std.specs.Prelude.{◌≡◌, ◌+◌, ◌<◌, ◌≤◌, ◌^◌, ◌||◌, true, Some, IfOk, OnOk, find, is_some};
 ghost use Rattle.std.specs.List.{list_all};
+ghost use Rattle.board_layout.specs.Layout.{cell_shape};
 ghost use Rattle.board_model.specs.LawfulSession.{has_key_type};
 ghost use Rattle.board_model.specs.Tables as tables;
-ghost use Rattle.board_model.specs.Things as held;
 ghost use Rattle.board_model.specs.declared.line.Call.TheVariants as call;
 ghost use Rattle.board_model.specs.declared.line.Line.TheVariants as line;
 ghost use Rattle.script_boards.specs.Machine.{IsLed, Serves, kept, tables_of};
@@ -39,34 +39,23 @@ fn have_key_type(key_type: KeyType, entries: &[AddedEntry]) -> bool
         .all(|e| same_key_type(type_of_key(&e.key), key_type))
 }
 
-// Where the words of an entry lie.
-fn shape_of(entry: &Entry) -> CellShape
-    ensures { result ≡ held.cell_shape entry.now.cell }
-{
-    CellShape {
-        first: entry.cell.first,
-        head: entry.cell.head,
-        words: entry.cell.words,
-    }
-}
-
 // What a read handle of an entry knows.
 fn read_core(entry: &Entry) -> ReadCore
-    ensures { result.shape ≡ held.cell_shape entry.now.cell }
+    ensures { result.shape ≡ cell_shape entry.now.cell }
 {
     ReadCore {
-        shape: shape_of(entry),
+        shape: entry.cell.shape(),
         entry_id: entry.cell.place,
     }
 }
 
 /// What a write handle of an entry knows at this generation.
 pub(crate) fn write_core(entry: &Entry, generation: u64) -> WriteCore
-    ensures shape { result.shape ≡ held.cell_shape entry.now.cell }
+    ensures shape { result.shape ≡ cell_shape entry.now.cell }
     ensures generation { result.generation ≡ generation }
 {
     WriteCore {
-        shape: shape_of(entry),
+        shape: entry.cell.shape(),
         entry_id: entry.cell.place,
         generation,
     }

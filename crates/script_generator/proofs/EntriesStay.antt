@@ -13,7 +13,7 @@ use Rattle.board_model.specs.declared.tables.Entry.{Entry}
 use Rattle.board_model.specs.LawfulSession.{State, after, after_step}
 use Rattle.board_model.specs.Parties.{Party, free, gone, running}
 use Rattle.board_model.specs.Replies.{ask, ask_tables, added_of}
-use Rattle.board_model.specs.Requests.{Published, Request, TableCall, create, describe, entry, entry_mut, fill, fresh, get, give_back, identify, join, lend, list_keys, list_nodes, publish, put, reader, table, tell, update, writer}
+use Rattle.board_model.specs.Requests.{Published, Request, TableCall, create, info, entry, entry_mut, fill, fresh, get, discard, id, open_, loan, keys, nodes, publish, put, reader, table, gen, update, writer}
 use Rattle.board_model.specs.Tables.{Tables, board_at, entry_at, entry_in, is_numbered}
 use Rattle.board_model.specs.TableCalls.{asked, create_refusals, first_of}
 use Rattle.board_model.specs.Things.{Standing}
@@ -39,18 +39,18 @@ asked_grows (Some e) n old new h = grows_same old old refl
 table_grows : (s : Standing) (lists : Published) (party : List ℕ) (c : TableCall) → Grows s.tables (ask_tables s lists party c).standing.tables
 table_grows s lists party (create f name k limits attributes entries) =
     asked_grows (first_of (create_refusals (same_key k) s.tables.boards name (map added_of entries))) _ s.tables _ (record { more = _; boards = refl })
-table_grows s lists party (join f name k limits needs) = asked_grows _ _ s.tables _ (grows_same s.tables _ refl)
+table_grows s lists party (open_ f name k limits needs) = asked_grows _ _ s.tables _ (grows_same s.tables _ refl)
 table_grows s lists party (reader name of) = asked_grows _ _ s.tables _ (grows_same s.tables _ refl)
 table_grows s lists party (writer name of) = asked_grows _ _ s.tables _ (grows_same s.tables _ refl)
 table_grows s lists party (entry name of k type) = asked_grows _ _ s.tables _ (grows_same s.tables _ refl)
 table_grows s lists party (entry_mut name of k type) = asked_grows _ _ s.tables _ (grows_same s.tables _ refl)
-table_grows s lists party (lend l) = grows_same s.tables _ refl
-table_grows s lists party (give_back l) = grows_same s.tables _ refl
-table_grows s lists party (list_keys of) = grows_same s.tables _ refl
-table_grows s lists party (list_nodes of) = grows_same s.tables _ refl
-table_grows s lists party (describe of) = grows_same s.tables _ refl
-table_grows s lists party (identify of) = grows_same s.tables _ refl
-table_grows s lists party (tell of) = grows_same s.tables _ refl
+table_grows s lists party (loan l) = grows_same s.tables _ refl
+table_grows s lists party (discard l) = grows_same s.tables _ refl
+table_grows s lists party (keys of) = grows_same s.tables _ refl
+table_grows s lists party (nodes of) = grows_same s.tables _ refl
+table_grows s lists party (info of) = grows_same s.tables _ refl
+table_grows s lists party (id of) = grows_same s.tables _ refl
+table_grows s lists party (gen of) = grows_same s.tables _ refl
 
 value_grows : (s : Standing) (lists : Published) (party : List ℕ) (q : Request) → Grows s.tables (ask s lists party q).standing.tables
 value_grows s lists party (table c) = table_grows s lists party c

@@ -21,8 +21,9 @@ use Rattle.board_model.specs.LawfulSession.{IsOwedStep, IsReasoned, IsRight, Sta
 use Rattle.board_cell_model.specs.Copies.{spare_at}
 use Rattle.board_cell_model.specs.OwedAccesses.{Reading, finished, opening, owed_of, owed_read, owed_write, to_read, to_table, to_write, trying}
 use Rattle.board_model.specs.Parties.{Party, Running, begun, free, gone, notice, owed, reading, running, with_party}
-use Rattle.board_model.specs.Requests.{Published, Request, and_then, describe, entry, entry_mut, fill, fresh, get, handle_of, handled, identified, identify, list_keys, list_nodes, publish, put, reader, request_of, table, tell, update, writer}
-use Rattle.board_model.specs.Things.{Held, Standing, cell_shape, held_of_kind}
+use Rattle.board_model.specs.Requests.{Published, Request, and_then, info, entry, entry_mut, fill, fresh, get, handle_of, handled, identified, id, keys, nodes, publish, put, reader, request_of, table, gen, update, writer}
+use Rattle.board_model.specs.Things.{Held, Standing, held_of_kind}
+use Rattle.board_layout.specs.Layout.{cell_shape}
 use Rattle.board_model.specs.TypeTable.{value_words}
 use Rattle.script_model.specs.declared.line.ScriptLine.TheVariants as script_line
 use Rattle.script_model.specs.ScriptAnswers.{of_boards}
@@ -59,11 +60,11 @@ plain_asked s lists party (call.Discard l m) h = absurd cc
 plain_asked s lists party (call.Put l i w) h = absurd cc
 plain_asked s lists party (call.Publish l m) h = absurd cc
 plain_asked s lists party (call.Fill l m v) h = absurd cc
-plain_asked s lists party (call.Keys f) h = plain_then (held_of_kind s thing_kind.Factory party f) (λ t. Some (table (list_keys t))) (λ t. refl)
-plain_asked s lists party (call.Nodes f) h = plain_then (held_of_kind s thing_kind.Factory party f) (λ t. Some (table (list_nodes t))) (λ t. refl)
-plain_asked s lists party (call.Info f) h = plain_then (held_of_kind s thing_kind.Factory party f) (λ t. Some (table (describe t))) (λ t. refl)
-plain_asked s lists party (call.Id n) h = plain_then (identified s party n) (λ t. Some (table (identify t))) (λ t. refl)
-plain_asked s lists party (call.Gen m) h = plain_then (handle_of s party m) (λ t. Some (table (tell t))) (λ t. refl)
+plain_asked s lists party (call.Keys f) h = plain_then (held_of_kind s thing_kind.Factory party f) (λ t. Some (table (keys t))) (λ t. refl)
+plain_asked s lists party (call.Nodes f) h = plain_then (held_of_kind s thing_kind.Factory party f) (λ t. Some (table (nodes t))) (λ t. refl)
+plain_asked s lists party (call.Info f) h = plain_then (held_of_kind s thing_kind.Factory party f) (λ t. Some (table (info t))) (λ t. refl)
+plain_asked s lists party (call.Id n) h = plain_then (identified s party n) (λ t. Some (table (id t))) (λ t. refl)
+plain_asked s lists party (call.Gen m) h = plain_then (handle_of s party m) (λ t. Some (table (gen t))) (λ t. refl)
 
 -- ---- parties
 

@@ -56,7 +56,7 @@ fn a_reader_follows_the_updates(rt: HostRuntime) -> Result<(), Fail> {
 }
 
 #[test]
-fn a_receipt_and_another_pass_are_told_of(rt: HostRuntime) -> Result<(), Fail> {
+fn a_receipt_and_another_pass_let_a_reader_know(rt: HostRuntime) -> Result<(), Fail> {
     let alloc = rt.alloc();
     let seven = vec![in alloc; 7]?;
     let mut out = vec![in alloc; 0]?;

@@ -1,5 +1,5 @@
 ghost use Rattle.std.specs.Prelude.{◌≡◌, ◌+◌, ◌*◌, ◌^◌, ◌<◌, length, IfOk};
-ghost use Rattle.board_cell.specs.Passes.{cell_shape, new_writer, new_reader};
+ghost use Rattle.board_cell.specs.Passes.{threaded_shape, new_writer, new_reader};
 ghost use Rattle.board_cell.specs.Rule.{opening_words};
 
 use crate::cell_error::CellError;
@@ -81,7 +81,7 @@ impl ThreadedCell {
 
     #[inline(always)]
     pub(crate) fn shape(&self) -> CellShape
-        ensures shape { result ≡ cell_shape self.now.width }
+        ensures shape { result ≡ threaded_shape self.now.width }
         ensures size { (self.now.cell.words ≡ 2 + 2 * self.now.width) × (2 + 2 * self.now.width < 2 ^ 64) }
     {
         CellShape {

@@ -21,7 +21,7 @@ impl ThreadedCell {
         ensures kept { (writer.new ≡ writer.old) × (reader.new ≡ reader.old) }
         ensures notes { All (Stands writer.old.published) reader.old.notes }
         ensures rises { NotesRise reader.old.notes }
-        ensures told { reader.old.told ≤ length writer.old.published }
+        ensures reached { reader.old.reached ≤ length writer.old.published }
     {
         let table = &self.table;
         let shown = table.shared.split_seat::<Parts>(&mut reader.seat);

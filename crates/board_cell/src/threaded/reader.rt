@@ -1,7 +1,7 @@
 ghost use Rattle.std.specs.Prelude.{ℕ, ◌≡◌, ◌==◌, ◌<◌, [], max, length, IfOk, IfErr};
 ghost use Rattle.board_cell_model.specs.OwedAccesses.{finished};
 ghost use Rattle.board_cell.specs.Calls.{words_of};
-ghost use Rattle.board_cell.specs.Passes.{cell_shape, new_reader, NotesRise, Gets, GetsWithin, GivesUp, Looks};
+ghost use Rattle.board_cell.specs.Passes.{threaded_shape, new_reader, NotesRise, Gets, GetsWithin, GivesUp, Looks};
 ghost use Rattle.board_cell.specs.Views.{reader_of, IsTrying, AfterTries, AfterTriesWithin, AfterFailures};
 ghost use Rattle.board_cell.specs.declared.threaded.view.View.TheVariants.{Reader};
 
@@ -15,7 +15,7 @@ use std::marker::Model;
 use std::mem;
 use std::sync::Wait;
 
-/// What one reader of a cell knows: the values that it read, the counters that it loaded, and the generation that it was told.
+/// What one reader of a cell knows: the values that it read, the counters that it loaded, and the generation that it knows to be reached.
 #[derive(Drop)]
 pub struct ReaderPass {
     pub(crate) seat: Seat<(), View>,
@@ -29,7 +29,7 @@ impl Model for ReaderPass {
 
     ghost Value = { ReaderSeen };
 
-    ghost view = { λ s. record { cell = s.seat.table_id; notes = (reader_of s.seat.me.0).notes; loads = (reader_of s.seat.me.0).loads; told = (reader_of s.seat.me.0).told } };
+    ghost view = { λ s. record { cell = s.seat.table_id; notes = (reader_of s.seat.me.0).notes; loads = (reader_of s.seat.me.0).loads; reached = (reader_of s.seat.me.0).reached } };
 
     ghost invariant = { λ s. (s.seat.me.0 ≡ Reader (reader_of s.seat.me.0)) × (s.seat.me.1 ≡ []) × NotesRise (reader_of s.seat.me.0).notes };
 }
@@ -183,11 +183,11 @@ impl ThreadedCell {
         call.answer()
     }
 
-    /// A pass for another reader, which is told as much as this one.
+    /// A pass for another reader, which knows the same generation to be reached.
     pub fn split(&self, pass: &mut ReaderPass) -> ReaderPass
         requires { pass.old.cell ≡ self.now.cell }
         ensures kept { pass.new ≡ pass.old }
-        ensures given { result ≡ new_reader pass.old.cell pass.old.told }
+        ensures given { result ≡ new_reader pass.old.cell pass.old.reached }
     {
         let table = &self.table;
         ReaderPass {
@@ -195,10 +195,10 @@ impl ThreadedCell {
         }
     }
 
-    /// Tells the pass what the other one was told, and gives the other up.
+    /// Lets the pass know what the other one knows to be reached, and gives the other up.
     pub fn join(&self, pass: &mut ReaderPass, other: ReaderPass)
         requires cell { (pass.old.cell ≡ self.now.cell) × (other.cell ≡ self.now.cell) }
-        ensures { pass.new ≡ record pass.old { told = max pass.old.told other.told } }
+        ensures { pass.new ≡ record pass.old { reached = max pass.old.reached other.reached } }
     {
         let table = &self.table;
         let ReaderPass { seat } = other;

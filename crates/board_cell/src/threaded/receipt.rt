@@ -7,7 +7,7 @@ use crate::threaded::view::View;
 use atomic_table::Seat;
 use std::marker::Model;
 
-/// Names a publication, so that a reader can be told of it.
+/// Names a publication, so that a reader can learn of it.
 #[derive(Drop)]
 pub struct Receipt {
     pub(crate) seat: Seat<(), View>,
@@ -24,7 +24,7 @@ impl Model for Receipt {
 
     ghost view = { λ s. record { cell = s.seat.table_id; generation = s.generation } };
 
-    ghost invariant = { λ s. (s.seat.me.0 ≡ Reader (reader_of s.seat.me.0)) × (s.seat.me.1 ≡ []) × ((reader_of s.seat.me.0).told ≡ s.generation) };
+    ghost invariant = { λ s. (s.seat.me.0 ≡ Reader (reader_of s.seat.me.0)) × (s.seat.me.1 ≡ []) × ((reader_of s.seat.me.0).reached ≡ s.generation) };
 }
 
 impl Receipt {
@@ -41,7 +41,7 @@ impl ThreadedCell {
     /// Tells a reader of the publication: its next gets give that value or a later one.
     pub fn learn(&self, pass: &mut ReaderPass, receipt: Receipt)
         requires cell { (pass.old.cell ≡ self.now.cell) × (receipt.cell ≡ self.now.cell) }
-        ensures { pass.new ≡ record pass.old { told = max pass.old.told receipt.generation } }
+        ensures { pass.new ≡ record pass.old { reached = max pass.old.reached receipt.generation } }
     {
         let table = &self.table;
         let Receipt {

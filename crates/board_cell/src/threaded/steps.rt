@@ -1,7 +1,7 @@
 //! The atomic steps of a call: one step of its core, and one of the cell's table.
 ghost use Rattle.std.specs.Prelude.{◌≡◌, ◌≢◌, ◌+◌, ◌<◌, ◌≤◌, [], ◌∷◌, ◌++◌, None, Some, length, slice_index};
 ghost use Rattle.board_cell_model.specs.OwedAccesses.{opening, trying, finished};
-ghost use Rattle.board_cell.specs.Passes.{cell_shape, NotesRise};
+ghost use Rattle.board_cell.specs.Passes.{threaded_shape, NotesRise};
 ghost use Rattle.board_cell.specs.Calls.{words_of};
 ghost use Rattle.board_cell.specs.Views.{writer_of, reader_of, with_word, with_publish, with_item, with_open, with_found, with_words, with_close, with_note, with_load, IsTrying, IsWriting};
 ghost use Rattle.board_cell.specs.declared.threaded.view.View.TheVariants.{Writer, Reader};
@@ -73,10 +73,10 @@ impl ThreadedCell {
     pub(crate) fn open_try(&self, seat: &mut Seat<(), View>, call: &mut GetCall) -> u64
         requires cell { seat.old.table_id ≡ self.now.cell }
         requires seat { seat.old.me.0 ≡ Reader (reader_of seat.old.me.0) }
-        requires call { call.old ≡ record { shape = cell_shape self.now.width; reading = opening } }
+        requires call { call.old ≡ record { shape = threaded_shape self.now.width; reading = opening } }
         ensures cell { seat.new.table_id ≡ seat.old.table_id }
         ensures seat { seat.new.me ≡ (Reader (with_open (reader_of seat.old.me.0) result), seat.old.me.1) }
-        ensures told { (reader_of seat.old.me.0).told ≤ result }
+        ensures reached { (reader_of seat.old.me.0).reached ≤ result }
         ensures call { call.new ≡ record call.old { reading = trying result [] } }
     {
         let Access::Read { word } = call.next() else {
@@ -117,7 +117,7 @@ impl ThreadedCell {
         requires last { length (reader_of seat.old.me.0).found ≡ self.now.width }
         ensures cell { seat.new.table_id ≡ seat.old.table_id }
         ensures seat { seat.new.me ≡ (Reader (with_close (reader_of seat.old.me.0) result), seat.old.me.1) }
-        ensures told { ((reader_of seat.old.me.0).told ≤ result) × ((reader_of seat.old.me.0).opened ≤ result) }
+        ensures reached { ((reader_of seat.old.me.0).reached ≤ result) × ((reader_of seat.old.me.0).opened ≤ result) }
         ensures rises { NotesRise (reader_of seat.new.me.0).notes }
         ensures accepted { result ≡ (reader_of seat.old.me.0).opened → call.new ≡ record call.old { reading = finished result (reader_of seat.old.me.0).found } }
         ensures again { result ≢ (reader_of seat.old.me.0).opened → call.new ≡ record call.old { reading = trying result [] } }
@@ -154,7 +154,7 @@ impl ThreadedCell {
         requires seat { (seat.old.me.0 ≡ Reader (reader_of seat.old.me.0)) × ((reader_of seat.old.me.0).found ≡ []) }
         requires call { IsTrying self.now.width call.old (reader_of seat.old.me.0) }
         ensures cell { seat.new.table_id ≡ seat.old.table_id }
-        ensures told { ((reader_of seat.old.me.0).told ≤ result) × ((reader_of seat.old.me.0).opened ≤ result) }
+        ensures reached { ((reader_of seat.old.me.0).reached ≤ result) × ((reader_of seat.old.me.0).opened ≤ result) }
         ensures rises { NotesRise (reader_of seat.new.me.0).notes }
         ensures accepted { result ≡ (reader_of seat.old.me.0).opened → (seat.new.me ≡ (Reader (with_note (reader_of seat.old.me.0) result (words_of call.new.reading)), seat.old.me.1)) × (call.new ≡ record call.old { reading = finished result (words_of call.new.reading) }) }
         ensures again { result ≢ (reader_of seat.old.me.0).opened → (seat.new.me ≡ (Reader (with_open (reader_of seat.old.me.0) result), seat.old.me.1)) × (call.new ≡ record call.old { reading = trying result [] }) }
@@ -168,10 +168,10 @@ impl ThreadedCell {
     pub(crate) fn glance(&self, seat: &mut Seat<(), View>, call: &mut FreshCall) -> u64
         requires cell { seat.old.table_id ≡ self.now.cell }
         requires seat { seat.old.me.0 ≡ Reader (reader_of seat.old.me.0) }
-        requires call { (call.old.shape ≡ cell_shape self.now.width) × (call.old.counter ≡ None) }
+        requires call { (call.old.shape ≡ threaded_shape self.now.width) × (call.old.counter ≡ None) }
         ensures cell { seat.new.table_id ≡ seat.old.table_id }
         ensures seat { seat.new.me ≡ (Reader (with_load (reader_of seat.old.me.0) result), seat.old.me.1) }
-        ensures told { (reader_of seat.old.me.0).told ≤ result }
+        ensures reached { (reader_of seat.old.me.0).reached ≤ result }
         ensures call { call.new ≡ record call.old { counter = Some result } }
     {
         let Access::Read { word } = call.next() else {

@@ -15,7 +15,7 @@ pub struct WriterView {
     pub pending: LinkedList<u64>,
     /// Notes of readers that it has met.
     pub copies: LinkedList<Note>,
-    pub told: u64,
+    pub reached: u64,
 }
 
 /// What the seat of a reader or of a receipt knows.
@@ -25,7 +25,7 @@ pub struct ReaderView {
     pub copies: LinkedList<Note>,
     /// The counters that it loaded.
     pub loads: LinkedList<u64>,
-    pub told: u64,
+    pub reached: u64,
     /// The counter of the open try.
     pub opened: u64,
     /// The words of the open try.

@@ -2,7 +2,7 @@
 ghost use Rattle.std.specs.Prelude.{true, ◌≡◌, OnOk, OnErr};
 ghost use Rattle.board_layout.specs.Answer.{Answers, Refuses};
 ghost use Rattle.board_layout.specs.Keys.{details, is_key};
-ghost use Rattle.board_model.specs.Things.{cell_shape};
+ghost use Rattle.board_layout.specs.Layout.{cell_shape};
 ghost use Rattle.board_service.specs.Domain as domain;
 
 use super::DomainCore;
@@ -12,20 +12,9 @@ use crate::ids::ThingId;
 use crate::lookups::{find_entry, thing_of};
 use crate::made::Found;
 use crate::refusals::LAST;
-use board_layout::{BoardKey, CellPlace, CellShape, TypeDetail};
+use board_layout::{BoardKey, TypeDetail};
 use board_model::{Kind, Thing, ThingKind};
 use board_names::{EntryHandleError, EntryHandleMutError};
-
-// Where the words of a planned cell lie.
-fn shape_of(cell: &CellPlace) -> CellShape
-    ensures { result ≡ cell_shape cell.now }
-{
-    CellShape {
-        first: cell.first,
-        head: cell.head,
-        words: cell.words,
-    }
-}
 
 impl<C: Cells> DomainCore<C> {
     /// Makes a read handle of the entry with this key and these details of its values, from a reader of a board whose keys are `K`'s.
@@ -67,7 +56,7 @@ impl<C: Cells> DomainCore<C> {
             thing,
             entry,
             place: cell.place,
-            shape: shape_of(&cell),
+            shape: cell.shape(),
         })
     }
 
@@ -116,7 +105,7 @@ impl<C: Cells> DomainCore<C> {
             thing,
             entry,
             place: cell.place,
-            shape: shape_of(&cell),
+            shape: cell.shape(),
         })
     }
 }

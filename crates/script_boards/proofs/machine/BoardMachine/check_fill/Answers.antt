@@ -1,10 +1,10 @@
 use Rattle.std.specs.Prelude.{option_map}
 use Rattle.std.proofs.Common.{◌≡◌, ℕ, ◌+◌, ◌<◌, ◌^◌, List, length, rules, sym, ap, subst, ◌∙◌, Option, Some, true, false}
 use Rattle.board_layout.specs.declared.shape.CellShape.{CellShape}
-use Rattle.board_cell_model.specs.Copies.{cell_end}
+use Rattle.board_layout.specs.Layout.{cell_end, cell_shape}
 use Rattle.board_cell.specs.Calls.{Updating}
 use Rattle.board_model.specs.Tables.{entry_of}
-use Rattle.board_model.specs.Things.{Held, cell_shape}
+use Rattle.board_model.specs.Things.{Held}
 use Rattle.board_model.specs.TypeTable.{same_type, type_of, value_detail, value_words}
 use Rattle.script_boards.specs.Begins.{IsGenerationOf, holds, loan_held}
 use Rattle.script_boards.proofs.Bounds.{bounded}

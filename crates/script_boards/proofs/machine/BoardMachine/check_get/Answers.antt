@@ -1,6 +1,6 @@
 use Rattle.std.proofs.Common.{◌≡◌, ◌<◌, ◌^◌, rules, refl, sym, ap, subst, ◌∙◌, Option, Some, true, false}
 use Rattle.board_layout.specs.declared.shape.CellShape.{CellShape}
-use Rattle.board_cell_model.specs.Copies.{cell_end}
+use Rattle.board_layout.specs.Layout.{cell_end}
 use Rattle.board_cell_model.specs.OwedAccesses.{opening}
 use Rattle.board_cell.specs.Calls.{Getting}
 use Rattle.board_model.specs.declared.tables.ThingKind.TheVariants as thing_kind

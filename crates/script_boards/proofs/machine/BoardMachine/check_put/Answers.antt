@@ -1,7 +1,7 @@
 use Rattle.std.specs.Prelude.{option_map}
 use Rattle.std.proofs.Common.{◌≡◌, ℕ, zero, suc, ◌<◌, ◌≤◌, ◌^◌, List, rules, arith, sym, ap, subst, ◌∙◌, Option, Some, None, false}
 use Rattle.board_layout.specs.declared.shape.CellShape.{CellShape}
-use Rattle.board_cell_model.specs.Copies.{cell_end}
+use Rattle.board_layout.specs.Layout.{cell_end}
 use Rattle.board_cell.specs.Calls.{Putting}
 use Rattle.board_model.specs.Tables.{entry_of}
 use Rattle.board_model.specs.Things.{Held}

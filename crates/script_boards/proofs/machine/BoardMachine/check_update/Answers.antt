@@ -1,6 +1,6 @@
 use Rattle.std.proofs.Common.{◌≡◌, ℕ, ◌+◌, ◌<◌, ◌^◌, List, length, rules, refl, sym, ap, subst, ◌∙◌, Option, Some, true}
 use Rattle.board_layout.specs.declared.shape.CellShape.{CellShape}
-use Rattle.board_cell_model.specs.Copies.{cell_end}
+use Rattle.board_layout.specs.Layout.{cell_end}
 use Rattle.board_cell.specs.Calls.{Updating}
 use Rattle.board_model.specs.Tables.{entry_of}
 use Rattle.board_model.specs.Things.{Held}

@@ -1,7 +1,7 @@
 use Rattle.std.proofs.Common.{rules, ◌≡◌, length, sym, ap, ◌∙◌, arith}
 use Rattle.board_cell.specs.Views.{reader_of}
 use Rattle.board_cell.proofs.ReaderSteps.{closing_at}
-use Rattle.board_cell.proofs.Told.{counter_is, word_of_access}
+use Rattle.board_cell.proofs.OnBoard.{counter_is, word_of_access}
 use Rattle.board_cell.proofs.threaded.cell.ThreadedCell.close_try.Goals as goal
 
 pub unreachable-requires : goal.unreachable-requires

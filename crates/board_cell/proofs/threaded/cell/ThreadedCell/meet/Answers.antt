@@ -28,13 +28,13 @@ returns-clause-notes c =
     let s = c.split_seat-shown.ensures in let shown : c.split_seat-shown.result.me.0 ≡ newcomer (Reader (reader_of c.reader.inside.seat.me.0)) = ap (λ m. m.0) s.4 ∙ ap newcomer c.reader.invariant.0 in
     let j = c.join_seat.ensures in let now : c.join_seat.new.seat.me.0 ≡ joined (Writer (writer_of c.writer.inside.seat.me.0)) (newcomer (Reader (reader_of c.reader.inside.seat.me.0))) = ap (λ m. m.0) j.2 ∙ (λ i. joined (c.writer.invariant.0 i) (shown i)) in
     let x = writer_of c.writer.inside.seat.me.0 in let y = reader_of c.reader.inside.seat.me.0 in
-    let told = c.load.ensures.2.1 _ now in
-    subst (λ (z : List (List ℕ) × List Note). All (Stands z.0) z.1) (λ i. (ap (λ p. p.published) c.writer.view_is i, ap (λ p. p.notes) c.reader.view_is i)) (all_behind (Stands x.published) x.copies y.notes told.0)
+    let reached = c.load.ensures.2.1 _ now in
+    subst (λ (z : List (List ℕ) × List Note). All (Stands z.0) z.1) (λ i. (ap (λ p. p.published) c.writer.view_is i, ap (λ p. p.notes) c.reader.view_is i)) (all_behind (Stands x.published) x.copies y.notes reached.0)
 
-pub returns-clause-told : goal.returns-clause-told
-returns-clause-told c =
+pub returns-clause-reached : goal.returns-clause-reached
+returns-clause-reached c =
     let s = c.split_seat-shown.ensures in let shown : c.split_seat-shown.result.me.0 ≡ newcomer (Reader (reader_of c.reader.inside.seat.me.0)) = ap (λ m. m.0) s.4 ∙ ap newcomer c.reader.invariant.0 in
     let j = c.join_seat.ensures in let now : c.join_seat.new.seat.me.0 ≡ joined (Writer (writer_of c.writer.inside.seat.me.0)) (newcomer (Reader (reader_of c.reader.inside.seat.me.0))) = ap (λ m. m.0) j.2 ∙ (λ i. joined (c.writer.invariant.0 i) (shown i)) in
-    let told = (c.load.ensures.2.1 _ now).1 in
-    let a = ap (λ p. length p.published) c.writer.view_is in let b = ap (λ p. p.told) c.reader.view_is in
+    let reached = (c.load.ensures.2.1 _ now).1 in
+    let a = ap (λ p. length p.published) c.writer.view_is in let b = ap (λ p. p.reached) c.reader.view_is in
     omega arith

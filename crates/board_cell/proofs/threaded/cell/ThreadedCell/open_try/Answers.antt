@@ -1,6 +1,6 @@
 use Rattle.std.proofs.Common.{rules, ◌≡◌, sym, ap, ◌∙◌, arith}
 use Rattle.board_cell.proofs.ReaderSteps.{opening_at}
-use Rattle.board_cell.proofs.Told.{opening_is, word_of_access}
+use Rattle.board_cell.proofs.OnBoard.{opening_is, word_of_access}
 use Rattle.board_cell.proofs.threaded.cell.ThreadedCell.open_try.Goals as goal
 
 pub unreachable-requires : goal.unreachable-requires
@@ -12,5 +12,5 @@ load-found-requires c =
     let wide = c.self.invariant.0 in
     (search rules, omega arith, opening_at _ _ _ _ _ c.requires.seat _ place)
 
-pub returns-clause-told : goal.returns-clause-told
-returns-clause-told c = (c.load-found.ensures.2 _ c.requires.seat).1
+pub returns-clause-reached : goal.returns-clause-reached
+returns-clause-reached c = (c.load-found.ensures.2 _ c.requires.seat).1

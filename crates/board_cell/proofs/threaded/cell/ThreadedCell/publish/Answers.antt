@@ -1,7 +1,7 @@
 use Rattle.std.proofs.Common.{rules, ◌≡◌, length, sym, ap, ◌∙◌, arith}
 use Rattle.board_cell.specs.Views.{writer_of}
 use Rattle.board_cell.proofs.WriterSteps.{publishing_at}
-use Rattle.board_cell.proofs.Told.{raise_is, word_of_access, value_of_access}
+use Rattle.board_cell.proofs.OnBoard.{raise_is, word_of_access, value_of_access}
 use Rattle.board_cell.proofs.threaded.cell.ThreadedCell.publish.Goals as goal
 
 pub unreachable-requires : goal.unreachable-requires

@@ -1,11 +1,11 @@
 use Rattle.std.proofs.Common.{rules, ◌≡◌, ℕ, ◌+◌, ◌<◌, length, slice_index, sym, ap, ◌∙◌, arith}
 use Rattle.board_cell_model.specs.Copies.{spare_at}
-use Rattle.board_cell.specs.Passes.{cell_shape}
+use Rattle.board_cell.specs.Passes.{threaded_shape}
 use Rattle.board_cell.specs.Views.{writer_of, with_word}
 use Rattle.board_cell.specs.declared.threaded.view.View.TheVariants.{Writer}
 use Rattle.board_cell.proofs.CopyPlaces.{copy_within}
 use Rattle.board_cell.proofs.WriterSteps.{putting}
-use Rattle.board_cell.proofs.Told.{put_is, word_of_access, value_of_access}
+use Rattle.board_cell.proofs.OnBoard.{put_is, word_of_access, value_of_access}
 use Rattle.board_cell.proofs.threaded.cell.ThreadedCell.put.Goals as goal
 
 pub unreachable-requires : goal.unreachable-requires
@@ -15,7 +15,7 @@ pub store-requires : goal.store-requires
 store-requires c =
     let x = writer_of c.args.seat.now.me.0 in
     let same : length c.self.inside.table.shared.key.items ≡ c.args.self.now.width = c.self.invariant.1 ∙ ap (λ v. v.width) c.self.view_is in
-    let place = ap word_of_access (sym c.in-Write.is ∙ put_is _ c.args.call.now x c.next.result c.requires.call c.requires.more c.next.ensures) ∙ ap (λ m. spare_at (cell_shape m) (length x.published) + length x.pending) (sym same) in
+    let place = ap word_of_access (sym c.in-Write.is ∙ put_is _ c.args.call.now x c.next.result c.requires.call c.requires.more c.next.ensures) ∙ ap (λ m. spare_at (threaded_shape m) (length x.published) + length x.pending) (sym same) in
     let more = c.requires.more in
     let at : c.args.call.now.written ≡ length x.pending = ap (λ k. k.written) c.requires.call.owes in
     let within : length x.pending < length c.self.inside.table.shared.key.items = omega arith in

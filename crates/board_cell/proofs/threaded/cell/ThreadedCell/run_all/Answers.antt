@@ -2,7 +2,7 @@ use Rattle.std.proofs.Common.{◌≡◌, ℕ, List, [], ◌∷◌, ◌++◌, sym
 use Rattle.board_cell.specs.Views.{reader_of, with_open}
 use Rattle.board_cell.specs.declared.threaded.view.View.TheVariants.{Reader}
 use Rattle.board_cell.proofs.Climbs.{climbs_push, last_push}
-use Rattle.board_cell.proofs.Told.{trying_again}
+use Rattle.board_cell.proofs.OnBoard.{trying_again}
 use Rattle.board_cell.proofs.threaded.cell.ThreadedCell.run_all.Goals as goal
 
 pub tries-preserved : goal.tries-preserved
@@ -11,7 +11,7 @@ tries-preserved g c =
     let y = reader_of c.tries.seat.me.0 in
     let r : ℕ = c.try_once-after.result in
     let a = c.try_once-after.ensures.again (λ e. c.if-after-before.false (e ∙ i.4)) in
-    let up = c.try_once-after.ensures.told.1 in
+    let up = c.try_once-after.ensures.reached.1 in
     let opened = i.4 in
     let not = c.if-after-before.false in
     let now : c.try_once-after.new.seat.me.0 ≡ Reader (with_open y r) = ap (λ m. m.0) a.0 in

@@ -4,7 +4,7 @@ use Rattle.board_cell.specs.Passes.{note}
 use Rattle.board_cell.specs.Views.{reader_of, with_open, with_note}
 use Rattle.board_cell.specs.declared.threaded.view.View.TheVariants.{Reader}
 use Rattle.board_cell.proofs.Climbs.{climbs_push, last_push}
-use Rattle.board_cell.proofs.Told.{trying_again}
+use Rattle.board_cell.proofs.OnBoard.{trying_again}
 use Rattle.board_cell.proofs.threaded.cell.ThreadedCell.run_tries.Goals as goal
 
 pub returns-then-after-before-clause-ok : goal.returns-then-after-before-clause-ok
@@ -21,7 +21,7 @@ returns-then-after-before-clause-ok c =
           y = with_note y r words;
           is = ap (λ m. m.0) a.0;
           notes = ap (λ ns. ns ++ note r words ∷ []) i.4;
-          told = refl;
+          reached = refl;
           rest = i.9;
           climbs = i.10;
           ends = i.11 ∙ sym c.if-after-before.true;
@@ -38,7 +38,7 @@ returns-then-left-eq0-clause-again c =
     let y = reader_of c.tries.seat.me.0 in
     let r : ℕ = c.try_once-after.result in
     let a = c.try_once-after.ensures.again (λ e. c.if-after-before.false (e ∙ i.5)) in
-    let up = c.try_once-after.ensures.told.1 in
+    let up = c.try_once-after.ensures.reached.1 in
     let opened = i.5 in
     let not = c.if-after-before.false in
     let count = i.12 in
@@ -47,7 +47,7 @@ returns-then-left-eq0-clause-again c =
       y = with_open y r;
       is = ap (λ m. m.0) a.0;
       notes = i.4;
-      told = refl;
+      reached = refl;
       rest = i.9;
       climbs = climbs_push _ i.9 r i.10 (let last = i.11 in omega arith);
       ends = i.11;
@@ -61,7 +61,7 @@ tries-preserved c =
     let y = reader_of c.tries.seat.me.0 in
     let r : ℕ = c.try_once-after.result in
     let a = c.try_once-after.ensures.again (λ e. c.if-after-before.false (e ∙ i.5)) in
-    let up = c.try_once-after.ensures.told.1 in
+    let up = c.try_once-after.ensures.reached.1 in
     let opened = i.5 in
     let not = c.if-after-before.false in
     let count = i.12 in
