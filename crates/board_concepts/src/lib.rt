@@ -1,4 +1,7 @@
 //! The concepts that a service is made of: how a value is shared, hashes, attributes, and descriptions with their spelling.
+//!
+//! `specs/Spelling` says how numbers, texts and lists are spelled in bytes, `specs/DescriptionSpelling` how a board's
+//! description is, and `specs/Attributes` what a set of attributes has and when it meets requirements.
 #![tactic(auto)]
 
 mod arc_sync_policy;

@@ -1,5 +1,8 @@
 //! The names that things carry, how they are spelled, the traits that all named things share, and the errors of every layer.
 //!
+//! Errors stand here, below the definitions, since the definitions answer with these very enums (`errors/`, a file a
+//! subject). A file name is spelled from a name by a `Configuration`, and a name is read back from it:
+//!
 //! ```text
 //! let config = Configuration::with_suffix(&FileName::new(b".event")?);
 //! let path = config.path_for(&FileName::new(b"door")?);           // /tmp/iceoryx2/iox2_door.event

@@ -1,4 +1,15 @@
 //! Scripts, run from their source to their sink, and the program's top call.
+//!
+//! This is the front that users call; the crates named `script_..` stand behind it, and it passes on what callers need. A
+//! script in memory:
+//!
+//! ```text
+//! let script = Vec::from_slice(alloc, b"begin a create f b u64 add u64:1 u64:5\nstep a\n")?;
+//! let mut source = MemorySource::new(script, 0, Vec::new(alloc));      // pieces of any length, and no call fails
+//! let mut sink = MemorySink::new(alloc, 4096, 0, Vec::new(alloc))?;    // room for 4096 bytes
+//! run_script(alloc, &mut source, &mut sink)?;
+//! assert_eq!(sink.held(), b"ok\ntable = ok 1\n");
+//! ```
 #![tactic(auto)]
 
 mod script;

@@ -1,4 +1,7 @@
 //! The lines of a script, from their bytes.
+//!
+//! A cursor takes one token after another from the front, so only what a line keeps takes memory. Each reading function
+//! stands beside a definition of the same shape in `script_grammar`.
 #![tactic(auto)]
 
 mod atoms;

@@ -1,4 +1,6 @@
 //! The answers to the lines of a script, as bytes.
+//!
+//! Each call pushes one answer with its newline behind what a buffer holds; the machine of scripts calls them.
 #![tactic(auto)]
 
 mod answers;
