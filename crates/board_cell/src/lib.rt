@@ -1,14 +1,14 @@
 //! The words of a cell, the calls on it as step machines, and the cell between threads.
 //!
-//! A call core (`GetCall`, `UpdateCall`, `FreshCall`, `PutCall`, `PublishCall`) makes no access itself: `next` tells the
-//! access that it owes, and `took` is told that this was made. The script's machine drives it by one access a line.
+//! A call core (`GetCall`, `UpdateCall`, `FreshCall`, `PutCall`, `PublishCall`) makes no access itself: `next` tells
+//! the access that it owes, and `took` is told that this was made. The script's machine drives it by one access a line.
 //!
-//! `ThreadedCell` is one table of atomic words with no lock, and drives the same cores. Each thread has a pass, which is
-//! the view of its own seat: the writer's knows what was published and what is being written, a reader's its notes
-//! (generation and words), the counters that it loaded, and the generation that it knows to be reached. `specs/Rule` has the
-//! one record of facts that holds of the words and all views at every moment, `specs/Views` what a step does to the view
-//! that takes it, `specs/Passes` what callers see of a pass, and `specs/History` the legal history of all publications and
-//! notes, which `gather` gives. `threaded/steps` has the atomic steps.
+//! `ThreadedCell` is one table of atomic words with no lock, and drives the same cores. Each thread has a pass, which
+//! is the view of its own seat: the writer's knows what was published and what is being written, a reader's its notes
+//! (generation and words), the counters that it loaded, and the generation that it knows to be reached. `specs/Rule`
+//! has the one record of facts that holds of the words and all views at every moment, `specs/Views` what a step does to
+//! the view that takes it, `specs/Passes` what callers see of a pass, and `specs/History` the legal history of all
+//! publications and notes, which `gather` gives. `threaded/steps` has the atomic steps.
 #![tactic(auto)]
 
 mod access;

@@ -1,9 +1,9 @@
 //! Events: ids that a notifier hands to a listener, by bit set and by queue, one access at a time.
 //!
-//! `BitSet` and `Semaphore` hold ids and signals. `NotifyCall` and `WaitCall` are the calls as step machines, whose model
-//! is the definitions' own record; `notify_step` and `wait_step` drive them by one access. `Events` is the table: events by
-//! number, and for each kind the held names with the number of the event that holds each. `specs/EventTable` says what each
-//! call on the table answers and leaves, and in `IsEventTable` what holds of every table.
+//! `BitSet` and `Semaphore` hold ids and signals. `NotifyCall` and `WaitCall` are the calls as step machines, whose
+//! model is the definitions' own record; `notify_step` and `wait_step` drive them by one access. `Events` is the table:
+//! events by number, and for each kind the held names with the number of the event that holds each. `specs/EventTable`
+//! says what each call on the table answers and leaves, and in `IsEventTable` what holds of every table.
 #![tactic(auto)]
 
 mod bit_set;

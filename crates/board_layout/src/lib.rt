@@ -1,9 +1,9 @@
 //! Types as words, keys, and where the cells of a board lie.
 //!
 //! A value of a type lies in words (`ZeroCopySend`), a key in bytes (`KeyMemory`), and `plan` gives each shape a cell.
-//! `specs/Layout` has the places, `Words` and `Values` how values lie in words, `Types` how types are named, and `Keys` when
-//! two keys are equal. `Answer` has two words with which all crates above say what a call that wants memory answers:
-//! `Answers` and `Refuses`.
+//! `specs/Layout` has the places, `Words` and `Values` how values lie in words, `Types` how types are named, and `Keys`
+//! when two keys are equal. `Answer` has two words with which all crates above say what a call that wants memory
+//! answers: `Answers` and `Refuses`.
 #![tactic(auto)]
 
 mod f8;

@@ -1,10 +1,10 @@
 //! The definitions by which boards and their scripts are judged, and the plain data that these speak of.
 //!
-//! Begin with `specs/LawfulSession`: what a right answer to a line is, the state after it, and the lawful sessions. A state
-//! is made of functions (of each board number its words, of each party what it does), so that facts about a state are
-//! pointwise. `specs/Replies` is the board asked one call at a time, `specs/Sound` what each right line keeps. The laws are
-//! the public functions without a body in the modules whose names end in `_laws`, and `sound_law`; `worked_sessions` and
-//! `worked_updates` were worked out by hand.
+//! Begin with `specs/LawfulSession`: what a right answer to a line is, the state after it, and the lawful sessions. A
+//! state is made of functions (of each board number its words, of each party what it does), so that facts about a state
+//! are pointwise. `specs/Replies` is the board asked one call at a time, `specs/Sound` what each right line keeps. The
+//! laws are the public functions without a body in the modules whose names end in `_laws`, and `sound_law`;
+//! `worked_sessions` and `worked_updates` were worked out by hand.
 #![tactic(auto)]
 
 mod answer;

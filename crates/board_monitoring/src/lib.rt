@@ -2,8 +2,8 @@
 //!
 //! `Monitors` is the table: a name is alive, dead, or owned by a cleaner (`specs/Monitors`).
 //!
-//! A typed call takes the lock of its registry and does what its lent form does, whose name ends in `_in`. The lent form
-//! has the same answers over the value behind the lock, and its contract says them.
+//! A typed call takes the lock of its registry and does what its lent form does, whose name ends in `_in`. The lent
+//! form has the same answers over the value behind the lock, and its contract says them.
 #![tactic(auto)]
 
 mod cleaner;

@@ -1,7 +1,7 @@
 //! Scripts, run from their source to their sink, and the program's top call.
 //!
-//! This is the front that users call; the crates named `script_..` stand behind it, and it passes on what callers need. A
-//! script in memory:
+//! This is the front that users call; the crates named `script_..` stand behind it, and it passes on what callers need.
+//! A script in memory:
 //!
 //! ```text
 //! let script = Vec::from_slice(alloc, b"begin a create f b u64 add u64:1 u64:5\nstep a\n")?;

@@ -1,11 +1,11 @@
 //! The boards of a domain, and the things of them.
 //!
-//! `DomainCore<C>` is the definitions' tables as plain lists, generic in what holds the words of a board. A call is early
-//! returns by tests over slices (`refusals`, `counts`, `lookups`), then all memory that is wanted, then pushes that can't
-//! fail. `specs/Domain` says what each call answers and leaves, in the words of the definitions. A board stands in a
-//! `BoardRow`, which has its name and attributes as the types that callers are shown. The descriptions of boards stand in a
-//! static storage, under full names made from board numbers; `specs/Descriptions` has the invariant that they are those of
-//! the boards that stand.
+//! `DomainCore<C>` is the definitions' tables as plain lists, generic in what holds the words of a board. A call is
+//! early returns by tests over slices (`refusals`, `counts`, `lookups`), then all memory that is wanted, then pushes
+//! that can't fail. `specs/Domain` says what each call answers and leaves, in the words of the definitions. A board
+//! stands in a `BoardRow`, which has its name and attributes as the types that callers are shown. The descriptions of
+//! boards stand in a static storage, under full names made from board numbers; `specs/Descriptions` has the invariant
+//! that they are those of the boards that stand.
 #![tactic(auto)]
 
 mod board_row;

@@ -1,7 +1,7 @@
 //! Tables of values by full names, and static storage: bytes that are written once under a name.
 //!
-//! `Table` maps full names to values, and `Statics` is the table of storages, each locked or with its bytes; both are seen
-//! as functions of names (`specs/Table`, `specs/Statics`).
+//! `Table` maps full names to values, and `Statics` is the table of storages, each locked or with its bytes; both are
+//! seen as functions of names (`specs/Table`, `specs/Statics`).
 //!
 //! A typed call takes its registry's lock and calls its lent form, whose name ends in `_in`. The lent form has the same
 //! answers over the storages themselves, and its contract says them.

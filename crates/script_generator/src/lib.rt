@@ -1,8 +1,9 @@
 //! The script that is made from a number, and what is counted over its run.
 //!
-//! `run_generated` hands the bytes of one line after another to the machine's one call, and counts each line by the first
-//! bytes of its answer and by whether the answer replies (`summary`). `specs/Generator` has the lines, `specs/Summary` what
-//! is counted over a session and the six lines of the summary, `specs/Counting` what the loop keeps from line to line.
+//! `run_generated` hands the bytes of one line after another to the machine's one call, and counts each line by the
+//! first bytes of its answer and by whether the answer replies (`summary`). `specs/Generator` has the lines,
+//! `specs/Summary` what is counted over a session and the six lines of the summary, `specs/Counting` what the loop
+//! keeps from line to line.
 #![tactic(auto)]
 
 mod generator;
