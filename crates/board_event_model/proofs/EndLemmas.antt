@@ -18,7 +18,7 @@ use Rattle.board_event_model.specs.NotifyCalls.{Notify, is_yes, notify_owed, not
 use Rattle.board_event_model.specs.WaitCalls.{Wait, nothing, popped, swapped, wait_owed, wait_queue, wait_turn, word_in}
 use Rattle.board_event_model.specs.EventCalls.{EventCall, a_notify, a_wait, is_last, owed, reported, turn}
 use Rattle.board_event_model.specs.EventRuns.{EventMove, IsAllowed, IsCallOf, IsReached, IsRun, MetAccess, Moment, PartyName, RunningCall, Takes, abandon, begin, call_of, elsewhere, expire, listened, moved, new_call, notifiers, put, release_listener, run_to, step, stepped, went_on}
-use Rattle.board_event_model.specs.LawsOfCalls.{IsNotifyOk, IsStepOf, NoneLaw, NotifyLaw, QueueLaw, SeesEmptyWord, taken_by}
+use Rattle.board_event_model.specs.LawsOfCalls.{IsNotifyOk, IsOneOf, NoneLaw, NotifyLaw, QueueLaw, SeesEmptyWord, taken_by}
 use Rattle.board_event_model.proofs.SetLemmas.{or_left, or_right, either}
 use Rattle.board_event_model.proofs.QuietLemmas.{eqb_true, eqb_self, StageFits}
 use Rattle.board_event_model.proofs.SoundLemmas.{put_each, some_same, none_some, sound_reached, run_kind, CallFits}
@@ -217,7 +217,7 @@ bits_turn now p r w a b reached bits takes call =
     let t = wait_of r.told r.waited r.steps (call_of r) w call (tracked_reached now reached p r takes.runs) in
     (f.1, subst (λ (x : EventAccess). Saw (record { met = now.event; access = x } ∷ r.steps) w (wait_turn w w.stage b)) (sym own) (bits_saw now.event r.steps w w.stage b right (on_bits w w.stage f.2) t.seen))
 
-seen_word : (steps : List MetAccess) (k : ℕ) → Sees steps k → (s : MetAccess) × IsStepOf steps s × SeesEmptyWord s k
+seen_word : (steps : List MetAccess) (k : ℕ) → Sees steps k → (s : MetAccess) × IsOneOf steps s × SeesEmptyWord s k
 seen_word steps k o = (o.look, o.own, o.empty)
 
 nothing_reported : (g : EventProgress) → g ≡ progress.Nothing → reported g ≡ []

@@ -20,7 +20,7 @@ use Rattle.board_event_model.specs.NotifyCalls.{Notify, is_yes, notify_owed, not
 use Rattle.board_event_model.specs.WaitCalls.{Wait, first_word, is_try, nothing, scanned, swapped, wait_owed, wait_turn, word_in}
 use Rattle.board_event_model.specs.EventCalls.{is_last}
 use Rattle.board_event_model.specs.EventRuns.{TakenAccess}
-use Rattle.board_event_model.specs.LawsOfQuiet.{IsOpen, IsQuiet, is_finished, is_set, last_setter, words_seen}
+use Rattle.board_event_model.specs.LawsOfQuiet.{IsOpen, IsQuiet, has_ended, sets, last_setter, words_seen}
 use Rattle.board_event_model.proofs.SetLemmas.{or_split, and_split, not_true, is_false, either, has_inserted, has_retained}
 
 pub eqb_true : (a b : ℕ) → eqb a b ≡ true → a ≡ b
@@ -60,7 +60,7 @@ StageFits w wait.Look = Unit {0}
 StageFits w (wait.Pop n) = ⊥
 StageFits w wait.Finished = ⊥
 
-pub open_after : (id : ℕ) (t : TakenAccess) (h : List TakenAccess) → IsOpen id h → is_set t.access id ≡ false → (last_setter id h ≡ Some t.call → t.last ≡ false) → IsOpen id (t ∷ h)
+pub open_after : (id : ℕ) (t : TakenAccess) (h : List TakenAccess) → IsOpen id h → sets t.access id ≡ false → (last_setter id h ≡ Some t.call → t.last ≡ false) → IsOpen id (t ∷ h)
 open_after id t h o other goes_on = record {
   setter = o.setter;
   last = rw other o.last;
@@ -72,7 +72,7 @@ open_after id t h o other goes_on = record {
 }
 
 -- the notify that set an id, and hasn't finished
-pub open_set : (id m : ℕ) (h : List TakenAccess) → is_finished m h ≡ false → IsOpen id (record { call = m; access = access.Set id; last = false } ∷ h)
+pub open_set : (id m : ℕ) (h : List TakenAccess) → has_ended m h ≡ false → IsOpen id (record { call = m; access = access.Set id; last = false } ∷ h)
 open_set id m h f = record {
   setter = m;
   last = rw (eqb_self id) refl;
@@ -84,7 +84,7 @@ open_set id m h f = record {
 
 pub notify_keeps :
     (e : Event) (h : List TakenAccess) (c m : ℕ) (n : Notify) (stage : NotifyStage) (a : EventAnswer) → NotifyFits e.max n stage
-    → ((i : ℕ) → last_setter i h ≡ Some m → is_posting stage ≡ true) → is_finished m h ≡ false → IsQuiet e h c
+    → ((i : ℕ) → last_setter i h ≡ Some m → is_posting stage ≡ true) → has_ended m h ≡ false → IsQuiet e h c
     → IsQuiet (after e (notify_owed n.id stage)) (record { call = m; access = notify_owed n.id stage; last = is_last (notify_turn n stage a).0 } ∷ h) c
 notify_keeps e h c m n notify.Look a fits unset running q = λ z i p b. open_after i _ h (q z i p b) refl (λ s. absurd (false≢true (unset i s)))
 notify_keeps e h c m n notify.Set a fits unset running q = λ z i p b.
@@ -114,7 +114,7 @@ word_empty ids k id w h same =
     both_ways (bit_at 0 (id % 64)) (bit_at-zero (id % 64)) (bit_one ids k 0 id w h same)
 
 -- what its steps keep: it sets nothing, and goes on
-pub wait_open : (id m : ℕ) (a : EventAccess) (h : List TakenAccess) → is_set a id ≡ false → IsOpen id h → IsOpen id (record { call = m; access = a; last = false } ∷ h)
+pub wait_open : (id m : ℕ) (a : EventAccess) (h : List TakenAccess) → sets a id ≡ false → IsOpen id h → IsOpen id (record { call = m; access = a; last = false } ∷ h)
 wait_open id m a h other o = open_after id _ h o other (λ _. refl)
 
 -- a turn that goes on, and keeps the words before it quiet

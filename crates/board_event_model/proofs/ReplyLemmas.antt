@@ -18,7 +18,7 @@ use Rattle.board_event_model.specs.NotifyCalls.{Notify, is_yes, notify_bits, not
 use Rattle.board_event_model.specs.WaitCalls.{Wait, first_word, is_try, nothing, popped, scanned, swapped, wait_bits, wait_owed, wait_queue, wait_turn, word_in}
 use Rattle.board_event_model.specs.EventCalls.{EventCall, a_notify, a_wait, is_last, is_timed, is_waiting, owed, reported, turn}
 use Rattle.board_event_model.specs.EventRuns.{EventMove, IsAllowed, IsCallOf, IsReached, IsRun, MetAccess, Moment, PartyName, RunningCall, abandon, begin, call_of, elsewhere, expire, listened, moved, new_call, notifiers, put, release_listener, run_to, step, stepped, went_on}
-use Rattle.board_event_model.specs.LawsOfCalls.{ExpireLaw, IsNotifyOk, IsStepOf, ReplyLaw, SeesEmptyWord, taken_by}
+use Rattle.board_event_model.specs.LawsOfCalls.{ExpireLaw, IsNotifyOk, IsOneOf, ReplyLaw, SeesEmptyWord, taken_by}
 use Rattle.board_event_model.proofs.SetLemmas.{or_left, is_false, either, has_itself}
 use Rattle.board_event_model.proofs.QuietLemmas.{eqb_true, eqb_self, word_empty}
 use Rattle.board_event_model.proofs.SoundLemmas.{put_each, some_same, none_some}
@@ -141,7 +141,7 @@ wait_waits e told w wait.Finished a right h = λ f. absurd (false≢true f)
 
 pub record Sees (steps : List MetAccess) (k : ℕ) : Type 0 where
   pub look : MetAccess
-  pub own : IsStepOf steps look
+  pub own : IsOneOf steps look
   pub empty : SeesEmptyWord look k
 
 abbrev pub SeenTo : List MetAccess → ℕ → Type 0

@@ -21,7 +21,7 @@ use Rattle.board_event_model.specs.NotifyCalls.{Notify, is_yes, notify_bits, not
 use Rattle.board_event_model.specs.WaitCalls.{Wait, first_word, is_try, nothing, scanned, swapped, wait_bits, wait_owed, wait_turn, word_in}
 use Rattle.board_event_model.specs.EventCalls.{EventCall, a_notify, a_wait, is_last, owed, turn}
 use Rattle.board_event_model.specs.EventRuns.{EventMove, IsAllowed, IsCallOf, IsReached, IsRun, Moment, PartyName, RunningCall, TakenAccess, abandon, begin, call_of, elsewhere, expire, listened, moved, new_call, notifiers, put, release_listener, run_to, step, stepped, went_on}
-use Rattle.board_event_model.specs.LawsOfQuiet.{IsQuiet, QuietLaw, SeenLaw, is_finished, is_set, last_setter, words_seen}
+use Rattle.board_event_model.specs.LawsOfQuiet.{IsQuiet, QuietLaw, SeenLaw, has_ended, sets, last_setter, words_seen}
 use Rattle.board_event_model.proofs.SetLemmas.{or_split, and_split, is_false, either, has_inserted, has_removed, has_retained, has_empty}
 use Rattle.board_event_model.proofs.QuietLemmas.{is_posting, NotifyFits, StageFits, notify_keeps, wait_goes, eqb_true, eqb_self, ltb_false}
 
@@ -40,7 +40,7 @@ QuietCall e h (a_wait w) = IsQuiet e h (words_seen w.words w.stage)
 -- what is known of a running call
 pub record Sane (e : Event) (l : PartyName) (begun : ℕ) (h : List TakenAccess) (p : PartyName) (number : ℕ) (call : EventCall) : Type 0 where
   pub old : number < begun
-  pub unfinished : is_finished number h ≡ false
+  pub unfinished : has_ended number h ≡ false
   pub setting : (i : ℕ) → last_setter i h ≡ Some number → posting call ≡ true
   pub fits : CallFits e l p call
   pub quiet : QuietCall e h call
@@ -49,7 +49,7 @@ pub record Sound (now : Moment) : Type 0 where
   pub bits : is_bits now.event.kind ≡ true
   pub bounded : (id : ℕ) → has now.event.pending id ≡ true → id ≤ now.event.max
   pub setters : (i n : ℕ) → last_setter i now.history ≡ Some n → n < now.begun
-  pub finished : (n : ℕ) → is_finished n now.history ≡ true → n < now.begun
+  pub finished : (n : ℕ) → has_ended n now.history ≡ true → n < now.begun
   pub each : (p : PartyName) (r : RunningCall) → now.running p ≡ Some r → Sane now.event now.listener now.begun now.history p r.number (call_of r)
   pub apart : (p q : PartyName) (r s : RunningCall) → now.running p ≡ Some r → now.running q ≡ Some s → r.number ≡ s.number → p ≡ q
 
@@ -185,14 +185,14 @@ wait_fits w wait.Finished a low h = absurd h
 
 -- ---- an access of one call, seen by the others
 
-set_by : (i m n : ℕ) (a : EventAccess) (l : Bool) (h : List TakenAccess) → last_setter i (record { call = m; access = a; last = l } ∷ h) ≡ Some n → ((m ≡ n) × (is_set a i ≡ true)) ⊎ (last_setter i h ≡ Some n)
+set_by : (i m n : ℕ) (a : EventAccess) (l : Bool) (h : List TakenAccess) → last_setter i (record { call = m; access = a; last = l } ∷ h) ≡ Some n → ((m ≡ n) × (sets a i ≡ true)) ⊎ (last_setter i h ≡ Some n)
 set_by i m n a l h =
-    elim (either (is_set a i)) [
+    elim (either (sets a i)) [
       | inl y ↦ rw y (λ e. inl (some_same m n e, refl))
       | inr f ↦ rw f (λ e. inr e)
     ]
 
-finished_by : (m n : ℕ) (a : EventAccess) (l : Bool) (h : List TakenAccess) → is_finished n (record { call = m; access = a; last = l } ∷ h) ≡ true → ((m ≡ n) × (l ≡ true)) ⊎ (is_finished n h ≡ true)
+finished_by : (m n : ℕ) (a : EventAccess) (l : Bool) (h : List TakenAccess) → has_ended n (record { call = m; access = a; last = l } ∷ h) ≡ true → ((m ≡ n) × (l ≡ true)) ⊎ (has_ended n h ≡ true)
 finished_by m n a l h e = elim (or_split _ _ e) [
   | inl b ↦ (let w = and_split _ _ b in inl (eqb_true m n w.0, w.1))
   | inr o ↦ inr o
@@ -231,14 +231,14 @@ own_quiet :
 own_quiet e l p h m (a_notify n) a right fits quiet goes = tt
 own_quiet e l p h m (a_wait w) a right fits quiet goes = wait_goes e h m w w.stage a right fits.2 quiet goes
 
-set_posts : (n : Notify) (stage : NotifyStage) (i : ℕ) (a : EventAnswer) → is_set (notify_owed n.id stage) i ≡ true → is_posting (notify_turn n stage a).1 ≡ true
+set_posts : (n : Notify) (stage : NotifyStage) (i : ℕ) (a : EventAnswer) → sets (notify_owed n.id stage) i ≡ true → is_posting (notify_turn n stage a).1 ≡ true
 set_posts n notify.Look i a s = absurd (false≢true s)
 set_posts n notify.Set i a s = refl
 set_posts n notify.Post i a s = absurd (false≢true s)
 set_posts n notify.Push i a s = absurd (false≢true s)
 set_posts n notify.Finished i a s = absurd (false≢true s)
 
-wait_sets_none : (stage : WaitStage) (i : ℕ) → is_set (wait_owed stage) i ≡ true → ⊥
+wait_sets_none : (stage : WaitStage) (i : ℕ) → sets (wait_owed stage) i ≡ true → ⊥
 wait_sets_none wait.Drain i s = false≢true s
 wait_sets_none (wait.Scan k) i s = false≢true s
 wait_sets_none (wait.Clear id) i s = false≢true s
@@ -247,7 +247,7 @@ wait_sets_none wait.Look i s = false≢true s
 wait_sets_none (wait.Pop n) i s = false≢true s
 wait_sets_none wait.Finished i s = false≢true s
 
-own_sets : (c : EventCall) (i : ℕ) (a : EventAnswer) → is_set (owed c) i ≡ true → posting (turn c a).1 ≡ true
+own_sets : (c : EventCall) (i : ℕ) (a : EventAnswer) → sets (owed c) i ≡ true → posting (turn c a).1 ≡ true
 own_sets (a_notify n) i a s = set_posts n n.stage i a s
 own_sets (a_wait w) i a s = absurd (wait_sets_none w.stage i s)
 

@@ -109,16 +109,16 @@ taken e access.Pop = oldest e.queue
 -- ---- when an access can be made
 
 -- the kind of event that an access belongs to
-abbrev pub kind_of : EventAccess → EventKind
-kind_of access.Listener = kind.Bits
-kind_of (access.Set id) = kind.Bits
-kind_of access.Post = kind.Bits
-kind_of (access.Push id) = kind.Queue
-kind_of access.Signal = kind.Bits
-kind_of (access.Scan k) = kind.Bits
-kind_of (access.Clear id) = kind.Bits
-kind_of (access.Swap k) = kind.Bits
-kind_of access.Pop = kind.Queue
+abbrev pub kind_of_access : EventAccess → EventKind
+kind_of_access access.Listener = kind.Bits
+kind_of_access (access.Set id) = kind.Bits
+kind_of_access access.Post = kind.Bits
+kind_of_access (access.Push id) = kind.Queue
+kind_of_access access.Signal = kind.Bits
+kind_of_access (access.Scan k) = kind.Bits
+kind_of_access (access.Clear id) = kind.Bits
+kind_of_access (access.Swap k) = kind.Bits
+kind_of_access access.Pop = kind.Queue
 
 -- a set id is at most the greatest, a cleared one is pending, a scanned or swapped word is one of the set's, and a posted count is below 2^64 - 1
 abbrev pub IsInside : Event → EventAccess → Type 0
@@ -134,5 +134,5 @@ IsInside e access.Pop = ⊤
 
 -- an access that the event can take
 pub record CanPerform (e : Event) (a : EventAccess) : Type 0 where
-  pub kind : e.kind ≡ kind_of a
+  pub kind : e.kind ≡ kind_of_access a
   pub inside : IsInside e a

@@ -20,9 +20,9 @@ taken_by [] = []
 taken_by (s ∷ ss) = taken_by ss ++ taken s.met s.access
 
 -- one of these accesses
-abbrev pub IsStepOf : List MetAccess → MetAccess → Type 0
-IsStepOf [] s = ⊥
-IsStepOf (t ∷ ts) s = (s ≡ t) ⊎ IsStepOf ts s
+abbrev pub IsOneOf : List MetAccess → MetAccess → Type 0
+IsOneOf [] s = ⊥
+IsOneOf (t ∷ ts) s = (s ≡ t) ⊎ IsOneOf ts s
 
 -- an access that reads or takes word k, which has no pending id
 pub record SeesEmptyWord (s : MetAccess) (k : ℕ) : Type 0 where
@@ -42,26 +42,26 @@ first_step (s ∷ t ∷ ts) = first_step (t ∷ ts)
 -- a notify that ends with ok made its id pending, or found it so and left it so, at one of its own steps
 pub record IsNotifyOk (id : ℕ) (steps : List MetAccess) : Type 0 where
   pub made : MetAccess
-  pub own : IsStepOf steps made
+  pub own : IsOneOf steps made
   pub pending : is_pending (after made.met made.access) id ≡ true
 
 -- what a call has come to with this answer
-abbrev pub progress_of : RunningCall → EventAnswer → EventProgress
-progress_of r answer = (turn (call_of r) answer).0
+abbrev pub progress_with : RunningCall → EventAnswer → EventProgress
+progress_with r answer = (turn (call_of r) answer).0
 
 -- a notify that ends with ok made its id pending, or left it so
 abbrev pub NotifyLaw : Type 0
 NotifyLaw =
     (now : Moment) → IsReached now →
     (p : PartyName) (r : RunningCall) (n : Notify) (a : EventAccess) (answer : EventAnswer) → Takes now p r a answer → call_of r ≡ a_notify n →
-    progress_of r answer ≡ progress.Notified → IsNotifyOk n.id (with_step now r a)
+    progress_with r answer ≡ progress.Notified → IsNotifyOk n.id (with_step now r a)
 
 -- what a finished wait reports is what its own steps took, in order
 abbrev pub ReplyLaw : Type 0
 ReplyLaw =
     (now : Moment) → IsReached now →
     (p : PartyName) (r : RunningCall) (w : Wait) (a : EventAccess) (answer : EventAnswer) → Takes now p r a answer → call_of r ≡ a_wait w →
-    is_last (progress_of r answer) ≡ true → r.told ++ reported (progress_of r answer) ≡ taken_by (with_step now r a)
+    is_last (progress_with r answer) ≡ true → r.told ++ reported (progress_with r answer) ≡ taken_by (with_step now r a)
 
 -- an expired wait has taken nothing
 abbrev pub ExpireLaw : Type 0
@@ -73,7 +73,7 @@ pub record IsNoneOfTry (now : Moment) (r : RunningCall) (w : Wait) (a : EventAcc
   pub mode : w.mode ≡ mode.Try
   pub none : taken_by (with_step now r a) ≡ []
   -- on bits it saw each word empty at a step of its own
-  pub words : is_bits now.event.kind ≡ true → (k : ℕ) → k < now.event.max / 64 + 1 → (s : MetAccess) × IsStepOf (with_step now r a) s × SeesEmptyWord s k
+  pub words : is_bits now.event.kind ≡ true → (k : ℕ) → k < now.event.max / 64 + 1 → (s : MetAccess) × IsOneOf (with_step now r a) s × SeesEmptyWord s k
   -- on the queue it saw the list empty at this step, its last
   pub list : is_bits now.event.kind ≡ false → (a ≡ access.Pop) × (now.event.queue ≡ [])
 
@@ -82,26 +82,26 @@ abbrev pub NoneLaw : Type 0
 NoneLaw =
     (now : Moment) → IsReached now →
     (p : PartyName) (r : RunningCall) (w : Wait) (a : EventAccess) (answer : EventAnswer) → Takes now p r a answer → call_of r ≡ a_wait w →
-    progress_of r answer ≡ progress.Nothing → IsNoneOfTry now r w a
+    progress_with r answer ≡ progress.Nothing → IsNoneOfTry now r w a
 
 -- a finished wait that took nothing ends with no id
 abbrev pub NothingLaw : Type 0
 NothingLaw =
     (now : Moment) → IsReached now →
     (p : PartyName) (r : RunningCall) (w : Wait) (a : EventAccess) (answer : EventAnswer) → Takes now p r a answer → call_of r ≡ a_wait w →
-    is_last (progress_of r answer) ≡ true → taken_by (with_step now r a) ≡ [] → progress_of r answer ≡ progress.Nothing
+    is_last (progress_with r answer) ≡ true → taken_by (with_step now r a) ≡ [] → progress_with r answer ≡ progress.Nothing
 
 -- a finished wait for all on bits reports every id that was pending at its first step
 abbrev pub AllLaw : Type 0
 AllLaw =
     (now : Moment) → IsReached now → is_bits now.event.kind ≡ true →
     (p : PartyName) (r : RunningCall) (w : Wait) (a : EventAccess) (answer : EventAnswer) → Takes now p r a answer → call_of r ≡ a_wait w → w.many ≡ true →
-    is_last (progress_of r answer) ≡ true → (s : MetAccess) → first_step (with_step now r a) ≡ Some s →
-    (id : ℕ) → has s.met.pending id ≡ true → list_any (λ x. x == id) (r.told ++ reported (progress_of r answer)) ≡ true
+    is_last (progress_with r answer) ≡ true → (s : MetAccess) → first_step (with_step now r a) ≡ Some s →
+    (id : ℕ) → has s.met.pending id ≡ true → list_any (λ x. x == id) (r.told ++ reported (progress_with r answer)) ≡ true
 
 -- a finished wait for all on the queue saw the list empty at its last step, or took 513 ids
 abbrev pub QueueLaw : Type 0
 QueueLaw =
     (now : Moment) → IsReached now → is_bits now.event.kind ≡ false →
     (p : PartyName) (r : RunningCall) (w : Wait) (a : EventAccess) (answer : EventAnswer) → Takes now p r a answer → call_of r ≡ a_wait w → w.many ≡ true →
-    is_last (progress_of r answer) ≡ true → (now.event.queue ≡ []) ⊎ (length (r.told ++ reported (progress_of r answer)) ≡ 513)
+    is_last (progress_with r answer) ≡ true → (now.event.queue ≡ []) ⊎ (length (r.told ++ reported (progress_with r answer)) ≡ 513)

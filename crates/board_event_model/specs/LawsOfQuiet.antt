@@ -12,25 +12,25 @@ use Rattle.board_event_model.specs.EventCalls.{a_wait}
 use Rattle.board_event_model.specs.EventRuns.{PartyName, RunningCall, TakenAccess, Moment, IsReached, Takes, call_of}
 
 -- whether an access sets this id
-abbrev pub is_set : EventAccess → ℕ → Bool
-is_set (access.Set i) id = i == id
-is_set _ id = false
+abbrev pub sets : EventAccess → ℕ → Bool
+sets (access.Set i) id = i == id
+sets _ id = false
 
 -- the number of the call that set an id last
 abbrev pub last_setter : ℕ → List TakenAccess → Option ℕ
 last_setter id [] = None
-last_setter id (t ∷ ts) = if is_set t.access id then Some t.call else last_setter id ts
+last_setter id (t ∷ ts) = if sets t.access id then Some t.call else last_setter id ts
 
 -- whether a call has taken its last access
-abbrev pub is_finished : ℕ → List TakenAccess → Bool
-is_finished n [] = false
-is_finished n (t ∷ ts) = t.call == n && t.last || is_finished n ts
+abbrev pub has_ended : ℕ → List TakenAccess → Bool
+has_ended n [] = false
+has_ended n (t ∷ ts) = t.call == n && t.last || has_ended n ts
 
 -- the id was last set by a notify that hasn't finished
 pub record IsOpen (id : ℕ) (history : List TakenAccess) : Type 0 where
   pub setter : ℕ
   pub last : last_setter id history ≡ Some setter
-  pub unfinished : is_finished setter history ≡ false
+  pub unfinished : has_ended setter history ≡ false
 
 -- where a wait on bits makes a waiting look that finds no signal, every pending id was last set by a notify that hasn't finished
 abbrev pub QuietLaw : Type 0

@@ -4,8 +4,8 @@ ghost use Rattle.board_layout.specs.Layout.{IsShape};
 
 use crate::{
     BoardKey, CellPlace, F8, KeyMemory, KeyMemoryError, MAX_BLACKBOARD_KEY_ALIGNMENT,
-    MAX_BLACKBOARD_KEY_SIZE, MAX_TYPE_NAME_LENGTH, PlanError, Shape, Text, TypeDetail, TypeName,
-    TypeVariant, ZeroCopySend, is_key, key_of, plan, same_keys,
+    MAX_BLACKBOARD_KEY_SIZE, MAX_TYPE_NAME_LENGTH, PlanError, Shape, Text, TypeDetail, TypeVariant,
+    ZeroCopySend, is_key, key_of, plan, same_keys,
 };
 use std::alloc::{AllocError, Global};
 use std::fmt::Display;
@@ -94,15 +94,6 @@ fn values_are_words(rt: HostRuntime) {
 }
 
 #[test]
-fn words_are_values(rt: HostRuntime) {
-    assert_eq!(rt; bool::from_words(&[2]), true);
-    assert_eq!(rt; u8::from_words(&[0x0102]), 2);
-    assert_eq!(rt; u16::from_words(&[0x010203]), 0x0203);
-    assert_eq!(rt; u32::from_words(&[0x0100000002]), 2);
-    assert_eq!(rt; i32::from_words(&[0x0180000000]), i32::MIN);
-}
-
-#[test]
 fn types_are_told(rt: HostRuntime) {
     let fixed = TypeVariant::FixedSize;
     let rows = [
@@ -128,31 +119,6 @@ fn types_are_told(rt: HostRuntime) {
         assert_eq!(rt; (told.size, told.alignment), (size, alignment));
     }
     assert!(rt; TypeDetail::new::<i64>(fixed) != TypeDetail::new::<i64>(TypeVariant::Dynamic));
-}
-
-#[test]
-fn names_of_types(rt: HostRuntime) {
-    assert!(rt; TypeName::new(b"").is_none());
-    assert!(rt; TypeName::new(&[0x1F]).is_none());
-    assert!(rt; TypeName::new(&[0x7F]).is_none());
-    assert!(rt; TypeName::new(&[b'a'; 256]).is_some());
-    assert!(rt; TypeName::new(&[b'a'; 257]).is_none());
-}
-
-#[test]
-fn keys_fit_or_are_refused(rt: HostRuntime) {
-    let large = KeyMemory::<64>::try_from_bytes(&[0; 65], 1);
-    assert_eq!(rt; large.err(), Some(KeyMemoryError::ValueTooLarge));
-    let aligned = KeyMemory::<64>::try_from_bytes(&[0; 8], 16);
-    assert_eq!(rt; aligned.err(), Some(KeyMemoryError::ValueAlignmentTooLarge));
-    let both = KeyMemory::<64>::try_from_bytes(&[0; 65], 16);
-    assert_eq!(rt; both.err(), Some(KeyMemoryError::ValueTooLarge));
-    let small = KeyMemory::<4>::try_from(&0x0102u64);
-    assert_eq!(rt; small.err(), Some(KeyMemoryError::ValueTooLarge));
-    let key = KeyMemory::<4>::try_from(&0x0102u16);
-    assert_eq!(rt; key.map(|key| key.bytes), Ok([2, 1, 0, 0]));
-    let bytes = KeyMemory::<4>::try_from_bytes(b"ab", 8);
-    assert_eq!(rt; bytes.map(|key| key.bytes), Ok([b'a', b'b', 0, 0]));
 }
 
 #[test]

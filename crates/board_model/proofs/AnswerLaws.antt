@@ -13,7 +13,7 @@ use Rattle.board_cell_model.specs.OwedAccesses.{owed_of}
 use Rattle.board_model.specs.Memory.{IsStanding}
 use Rattle.board_model.specs.Parties.{Party, free, gone, running}
 use Rattle.board_model.specs.LawfulSession.{IsLawfulFrom, IsOwed, IsOwedStep, IsReasoned, IsRight, IsTold, IsToldStep, IsWord, Session, State, after, reason_of, start}
-use Rattle.board_model.specs.LawsOfAnswers.{OneLawfulSession, OneRightAnswer, lines_of}
+use Rattle.board_model.specs.LawsOfAnswers.{OneLawfulSession, OneRightAnswer, lines_asked}
 
 -- ---- one step
 
@@ -101,13 +101,13 @@ one_answer s l a b h k = at (reason_of s l) refl
 same_pair : (x y : Line × Answer) → x.0 ≡ y.0 → x.1 ≡ y.1 → x ≡ y
 same_pair (l, a) (m, b) e f = cc (e, f)
 
-same_from : (xs ys : Session) (s : State) → IsLawfulFrom s xs → IsLawfulFrom s ys → lines_of xs ≡ lines_of ys → xs ≡ ys
+same_from : (xs ys : Session) (s : State) → IsLawfulFrom s xs → IsLawfulFrom s ys → lines_asked xs ≡ lines_asked ys → xs ≡ ys
 same_from [] [] s h k e = refl
 same_from [] (y ∷ ys) s h k e = absurd cc
 same_from (x ∷ xs) [] s h k e = absurd cc
 same_from (x ∷ xs) (y ∷ ys) s h k e =
     let l : x.0 ≡ y.0 = cc (e) in
-    let m : lines_of xs ≡ lines_of ys = cc (e) in
+    let m : lines_asked xs ≡ lines_asked ys = cc (e) in
     let a : x.1 ≡ y.1 = one_answer s x.0 x.1 y.1 h.0 (subst (λ (z : Line). IsRight s z y.1) (sym l) k.0) in
     let p : x ≡ y = same_pair x y l a in
     let r : IsLawfulFrom (after s x.0 x.1) ys = subst (λ (z : Line × Answer). IsLawfulFrom (after s z.0 z.1) ys) (sym p) k.1 in

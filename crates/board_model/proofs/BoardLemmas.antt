@@ -12,7 +12,7 @@ use Rattle.board_model.specs.Tables.{board_at, board_named, entry_found, is_numb
 use Rattle.board_model.specs.TableCalls.{asked, boards_left, create_refusals, created, entry_mut_refusals, entry_refusals, first_of, id_of, joined, number_of, open_refusals, reader_refusals, with_read_handle, with_reader, with_write_handle, with_writer, writer_refusals}
 use Rattle.board_model.specs.Things.{Held, Standing, is_held_as, thing_of}
 use Rattle.board_model.specs.Requests.{Fetch, Published, Request, TableCall, create, info, entry, entry_mut, fill, fresh, get, discard, id, open_, loan, keys, nodes, publish, put, reader, table, gen, update, writer}
-use Rattle.board_model.specs.Replies.{added_of, ask, ask_tables, is_key, latest, released_thing, with_value}
+use Rattle.board_model.specs.Replies.{added_of, ask, ask_tables, is_key, latest, released_thing, with_fetched}
 use Rattle.board_model.specs.LawfulSession.{IsLawfulFrom, IsRight, Session, State, after, state_after}
 use Rattle.board_model.specs.Sound.{BoardTables, Sound}
 use Rattle.board_model.proofs.ListLemmas.{count_without, find_back, find_none, find_push_cases, find_true}
@@ -111,7 +111,7 @@ kept_table s lists party (info x) = same_boards s.tables s.tables refl
 kept_table s lists party (id x) = same_boards s.tables s.tables refl
 kept_table s lists party (gen x) = same_boards s.tables s.tables refl
 
-kept_value : (s : Standing) (party : List ℕ) (f : Fetch) (ws : List ℕ) (g : ℕ) (name : Option (List ℕ)) → KeepsBoards s.tables (with_value s party f ws g name).tables
+kept_value : (s : Standing) (party : List ℕ) (f : Fetch) (ws : List ℕ) (g : ℕ) (name : Option (List ℕ)) → KeepsBoards s.tables (with_fetched s party f ws g name).tables
 kept_value s party f ws g None = same_boards s.tables s.tables refl
 kept_value s party f ws g (Some n) = same_boards s.tables s.tables refl
 

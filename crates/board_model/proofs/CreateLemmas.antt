@@ -16,7 +16,7 @@ use Rattle.board_model.specs.Tables.{board_at, entry_at, entry_in, is_numbered, 
 use Rattle.board_model.specs.TableCalls.{created}
 use Rattle.board_model.specs.Things.{Held, is_held_as, thing_of}
 use Rattle.board_model.specs.Requests.{Published}
-use Rattle.board_model.specs.Replies.{added_of, first_list, opened}
+use Rattle.board_model.specs.Replies.{added_of, first_list, with_first_values}
 use Rattle.board_model.specs.Memory.{opening_of, with_board}
 use Rattle.board_model.specs.Parties.{free, with_party}
 use Rattle.board_model.specs.LawfulSession.{State}
@@ -35,10 +35,10 @@ with_old m n b ws ne = ap (λ (z : Bool). cond z ws (m n)) (ne_eqb n b ne)
 with_here : (m : ℕ → List ℕ) (n b : ℕ) (ws : List ℕ) → n ≡ b → with_board m b ws n ≡ ws
 with_here m n b ws e = ap (λ (z : Bool). cond z ws (m n)) (eq-eqb n b e)
 
-opened_old : (l : Published) (n b i : ℕ) (entries : List AddedEntry) → (n ≡ b → ⊥) → opened l b entries n i ≡ l n i
+opened_old : (l : Published) (n b i : ℕ) (entries : List AddedEntry) → (n ≡ b → ⊥) → with_first_values l b entries n i ≡ l n i
 opened_old l n b i entries ne = ap (λ (z : Bool). cond z (first_list (slice_get entries i)) (l n i)) (ne_eqb n b ne)
 
-opened_here : (l : Published) (n b i : ℕ) (entries : List AddedEntry) → n ≡ b → opened l b entries n i ≡ first_list (slice_get entries i)
+opened_here : (l : Published) (n b i : ℕ) (entries : List AddedEntry) → n ≡ b → with_first_values l b entries n i ≡ first_list (slice_get entries i)
 opened_here l n b i entries e = ap (λ (z : Bool). cond z (first_list (slice_get entries i)) (l n i)) (eq-eqb n b e)
 
 module _ (s : State) (party f name : List ℕ) (k : KeyType) (limits : Limits) (attributes : List Attribute) (entries : List AddedEntry) where
@@ -57,7 +57,7 @@ module _ (s : State) (party f name : List ℕ) (k : KeyType) (limits : Limits) (
   abbrev pub created_state : State
   created_state = record {
     memory = with_board s.memory number (opening_of entries);
-    published = opened s.published number entries;
+    published = with_first_values s.published number entries;
     parties = with_party s.parties party free;
     standing = record s.standing { tables = new_tables };
   }
@@ -120,19 +120,19 @@ module _ (s : State) (party f name : List ℕ) (k : KeyType) (limits : Limits) (
     old_words : (n : ℕ) → n ≤ s.standing.tables.last_board → with_board s.memory number (opening_of entries) n ≡ s.memory n
     old_words n le = with_old s.memory n number (opening_of entries) (fresh_number n le)
 
-    old_list : (n i : ℕ) → n ≤ s.standing.tables.last_board → opened s.published number entries n i ≡ s.published n i
+    old_list : (n i : ℕ) → n ≤ s.standing.tables.last_board → with_first_values s.published number entries n i ≡ s.published n i
     old_list n i le = opened_old s.published n number i entries (fresh_number n le)
 
     typed : (n i : ℕ) (e : Entry) → IsOldOrNewEntry n i e → IsTyped e
     typed n i e (inl h) = sound.boards.typed n i e h.1
     typed n i e (inr h) = (opened_entry entries i e h.1).typed
 
-    cells : (n i : ℕ) (e : Entry) → IsOldOrNewEntry n i e → IsCell (with_board s.memory number (opening_of entries) n) (cell_shape e.cell) (opened s.published number entries n i)
+    cells : (n i : ℕ) (e : Entry) → IsOldOrNewEntry n i e → IsCell (with_board s.memory number (opening_of entries) n) (cell_shape e.cell) (with_first_values s.published number entries n i)
     cells n i e (inl h) =
-        subst (λ (ws : List ℕ). IsCell ws (cell_shape e.cell) (opened s.published number entries n i)) (sym (old_words n h.0))
+        subst (λ (ws : List ℕ). IsCell ws (cell_shape e.cell) (with_first_values s.published number entries n i)) (sym (old_words n h.0))
         (subst (λ (l : List (List ℕ)). IsCell (s.memory n) (cell_shape e.cell) l) (sym (old_list n i h.0)) (sound.boards.cells n i e h.1))
     cells n i e (inr h) =
-        subst (λ (ws : List ℕ). IsCell ws (cell_shape e.cell) (opened s.published number entries n i)) (sym (with_here s.memory n number (opening_of entries) h.0))
+        subst (λ (ws : List ℕ). IsCell ws (cell_shape e.cell) (with_first_values s.published number entries n i)) (sym (with_here s.memory n number (opening_of entries) h.0))
         (subst (λ (l : List (List ℕ)). IsCell (opening_of entries) (cell_shape e.cell) l) (sym (opened_here s.published n number i entries h.0)) (opened_entry entries i e h.1).cell)
 
     apart : (n i j : ℕ) (e g : Entry) → IsOldOrNewEntry n i e → IsOldOrNewEntry n j g → i < j → cell_end (cell_shape e.cell) ≤ g.cell.first
@@ -149,7 +149,7 @@ module _ (s : State) (party f name : List ℕ) (k : KeyType) (limits : Limits) (
     short small n i e (inl h) = rw (old_words n h.0) (sound.boards.short n i e h.1)
     short small n i e (inr h) = rw (with_here s.memory n number (opening_of entries) h.0) (omega (arith, opened_length entries, small))
 
-    boards : payload (shapes_of (map added_of entries)) ≤ 4294967295 → AreBoards new_tables (with_board s.memory number (opening_of entries)) (opened s.published number entries)
+    boards : payload (shapes_of (map added_of entries)) ≤ 4294967295 → AreBoards new_tables (with_board s.memory number (opening_of entries)) (with_first_values s.published number entries)
     boards small = record {
       numbered = λ n b e. numbered n b (old_or_new n b e);
       single = singles;

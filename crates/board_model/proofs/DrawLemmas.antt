@@ -14,7 +14,7 @@ use Rattle.board_model.specs.Tables.{board_at, board_named, entry_found}
 use Rattle.board_model.specs.TableCalls.{asked, create_refusals, created, entry_mut_refusals, entry_refusals, first_of, id_of, joined, number_of, open_refusals, reader_refusals, with_read_handle, with_reader, with_write_handle, with_writer, writer_refusals}
 use Rattle.board_model.specs.Things.{Held, Standing, thing_of}
 use Rattle.board_model.specs.Requests.{Fetch, Published, Request, TableCall, request_of, create, info, entry, entry_mut, fill, fresh, get, discard, id, open_, loan, keys, nodes, publish, put, reader, table, gen, update, writer}
-use Rattle.board_model.specs.Replies.{added_of, ask, ask_tables, dropped, first_list, is_key, latest, lists_after, opened, published_at, released_thing, with_value, word_put}
+use Rattle.board_model.specs.Replies.{added_of, ask, ask_tables, dropped, first_list, is_key, latest, lists_after, with_first_values, published_at, released_thing, with_fetched, word_put}
 use Rattle.board_model.specs.Parties.{begun, gone, with_party}
 use Rattle.board_model.specs.LawfulSession.{IsLawfulFrom, Session, State, after, start, state_after, stepped}
 use Rattle.board_model.specs.Sound.{BoardTables}
@@ -73,7 +73,7 @@ drawn_table s lists party (info x) = drawn_none s.tables s.tables refl refl
 drawn_table s lists party (id x) = drawn_none s.tables s.tables refl refl
 drawn_table s lists party (gen x) = drawn_none s.tables s.tables refl refl
 
-drawn_value : (s : Standing) (party : List ℕ) (f : Fetch) (ws : List ℕ) (g : ℕ) (name : Option (List ℕ)) → IsDrawn s.tables (with_value s party f ws g name).tables
+drawn_value : (s : Standing) (party : List ℕ) (f : Fetch) (ws : List ℕ) (g : ℕ) (name : Option (List ℕ)) → IsDrawn s.tables (with_fetched s party f ws g name).tables
 drawn_value s party f ws g None = drawn_none s.tables s.tables refl refl
 drawn_value s party f ws g (Some n) = drawn_none s.tables s.tables refl refl
 
@@ -105,7 +105,7 @@ AreShort lists n = (b i : ℕ) → length (lists b i) ≤ n
 more_short : (lists : Published) (n : ℕ) → AreShort lists n → AreShort lists (n + 1)
 more_short lists n h b i = omega (arith, h b i)
 
-opened_short : (lists : Published) (n board : ℕ) (entries : List AddedEntry) → AreShort lists n → AreShort (opened lists board entries) (n + 1)
+opened_short : (lists : Published) (n board : ℕ) (entries : List AddedEntry) → AreShort lists n → AreShort (with_first_values lists board entries) (n + 1)
 opened_short lists n board entries h b i = at (b == board)
   where
     at : (z : Bool) → length (cond z (first_list (slice_get entries i)) (lists b i)) ≤ n + 1

@@ -23,7 +23,7 @@ use Rattle.board_model.specs.LawfulSession.{IsLawful, IsLawfulFrom, after, IsOwe
 use Rattle.board_model.specs.Sound.{Sound}
 use Rattle.board_model.specs.LawsOfBounds.{AreNumbers, IsWithin}
 use Rattle.board_model.specs.LawsOfForms.{AreFormed, EachLineHasAnAnswer, EachScriptHasASession, IsFormedParty, IsRightButForm, RightAnswersAreOfTheGrammar}
-use Rattle.board_model.specs.LawsOfAnswers.{lines_of}
+use Rattle.board_model.specs.LawsOfAnswers.{lines_asked}
 use Rattle.board_model.proofs.BoundLaws.{read_in_board, write_in_board}
 use Rattle.board_model.proofs.DrawLemmas.{session_within}
 use Rattle.board_model.proofs.NumberLemmas.{owed_numbers, session_numbers}
@@ -195,7 +195,7 @@ lawful_join [] ys s h k = k
 lawful_join (x ∷ xs) ys s h k = (h.0, lawful_join xs ys (after s x.0 x.1) h.1 k)
 
 abbrev GoesOn : Session → List Line → Type 0
-GoesOn pairs lines = (more : Session) × IsLawful (pairs ++ more) × (lines_of more ≡ lines)
+GoesOn pairs lines = (more : Session) × IsLawful (pairs ++ more) × (lines_asked more ≡ lines)
 
 goes_on : (lines : List Line) (pairs : Session) → IsLawful pairs → length pairs + length lines < 2 ^ 63 → AllByRecursion IsLine lines → GoesOn pairs lines
 goes_on [] pairs h lt a = ([], subst IsLawful (sym (append-nil pairs)) h, refl)

@@ -22,7 +22,7 @@ use Rattle.board_model.specs.Replies.{added_of, ask, lists_after, number_or, wor
 use Rattle.board_model.specs.Parties.{Party, free, gone, running}
 use Rattle.board_model.specs.LawfulSession.{IsLawfulFrom, IsRight, Session, State, after, after_step, state_after, stepped}
 use Rattle.board_model.specs.Sound.{BoardTables}
-use Rattle.board_model.specs.LawsOfSessions.{is_publication, publishes, publishes_by, publishes_in}
+use Rattle.board_model.specs.LawsOfSessions.{is_publication, publishes_entry, publishes_by, publications_in}
 use Rattle.board_model.proofs.DrawLemmas.{drawn_ask, drawn_drop}
 use Rattle.board_model.proofs.LineCases.{step_of}
 
@@ -107,7 +107,7 @@ step_growth s party gone a told b i e le h = growth_none s s b i (omega arith) r
 step_growth s party (running r) a None b i e le h = growth_none s (stepped s party r a None) b i (omega arith) refl
 step_growth s party (running r) a (Some t) b i e le h = told_growth s party r.request r.so_far r.passed a t b i le (step_of s party r a (Some t) e h).reply.reply
 
-pub line_growth : (s : State) (l : Line) (a : Answer) (b i : ℕ) → b ≤ s.standing.tables.last_board → IsRight s l a → IsGrowth s (after s l a) b i (if publishes s l a b i then 1 else 0)
+pub line_growth : (s : State) (l : Line) (a : Answer) (b i : ℕ) → b ≤ s.standing.tables.last_board → IsRight s l a → IsGrowth s (after s l a) b i (if publishes_entry s l a b i then 1 else 0)
 line_growth s (line.Begin party c) answer.Begun b i le r = growth_none s (after s (line.Begin party c) answer.Begun) b i (omega arith) refl
 line_growth s (line.Begin party c) (answer.Refused why) b i le r = growth_none s s b i (omega arith) refl
 line_growth s (line.Begin party c) (answer.Step a told) b i le r = growth_none s s b i (omega arith) refl
@@ -134,7 +134,7 @@ line_growth s (line.Words n) (answer.Step a told) b i le r = growth_none s s b i
 line_growth s (line.Words n) answer.Gone b i le r = growth_none s s b i (omega arith) refl
 line_growth s (line.Words n) (answer.Words ws) b i le r = growth_none s s b i (omega arith) refl
 
-pub session_growth : (pairs : Session) (s : State) (b i : ℕ) → b ≤ s.standing.tables.last_board → IsLawfulFrom s pairs → IsGrowth s (state_after s pairs) b i (publishes_in s pairs b i)
+pub session_growth : (pairs : Session) (s : State) (b i : ℕ) → b ≤ s.standing.tables.last_board → IsLawfulFrom s pairs → IsGrowth s (state_after s pairs) b i (publications_in s pairs b i)
 session_growth [] s b i le h = growth_none s s b i (omega arith) refl
 session_growth (x ∷ xs) s b i le h =
     let one = line_growth s x.0 x.1 b i le h.0 in
@@ -143,5 +143,5 @@ session_growth (x ∷ xs) s b i le h =
       drawn = omega (arith, one.drawn, rest.drawn);
       more = one.more ++ rest.more;
       list = rest.list ∙ ap (λ (l : List (List ℕ)). l ++ rest.more) one.list ∙ append_assoc (s.published b i) one.more rest.more;
-      count = length-append one.more rest.more ∙ ap (λ (n : ℕ). n + length rest.more) one.count ∙ ap (λ (n : ℕ). (if publishes s x.0 x.1 b i then 1 else 0) + n) rest.count;
+      count = length-append one.more rest.more ∙ ap (λ (n : ℕ). n + length rest.more) one.count ∙ ap (λ (n : ℕ). (if publishes_entry s x.0 x.1 b i then 1 else 0) + n) rest.count;
     }

@@ -20,7 +20,7 @@ use Rattle.board_model.specs.Tables.{is_numbered, is_of_board, kind_of, port_of,
 use Rattle.board_model.specs.TableCalls.{boards_left}
 use Rattle.board_model.specs.Things.{Held, Standing, held_of_kind, is_held_as, of_kind, thing_of}
 use Rattle.board_model.specs.Requests.{Fetch, Request, TableCall, and_then, create, info, discard, id, open_, loan, keys, nodes, gen, entry, entry_mut, fill, fresh, get, handle_of, handled, identified, loan_of, publish, put, reader, request_of, table, update, writer}
-use Rattle.board_model.specs.Replies.{ask, latest, released_thing, with_value}
+use Rattle.board_model.specs.Replies.{ask, latest, released_thing, with_fetched}
 use Rattle.board_model.specs.Parties.{Party, Running, begun, free, gone, notice, running, with_party}
 use Rattle.board_model.specs.LawfulSession.{IsLawfulFrom, IsRight, Session, State, after, call_reason, free_reason, has_key_type, is_taken, reason_of, start, state_after}
 use Rattle.board_model.specs.Sound.{BoardTables, IsCalling, Sound}
@@ -36,7 +36,7 @@ use Rattle.board_model.proofs.FormLemmas.{formed_named, formed_same, formed_tabl
 
 -- ---- tables
 
-formed_value : (s : Standing) (party : List ℕ) (f : Fetch) (ws : List ℕ) (g n : ℕ) (name : Option (List ℕ)) → AreFormedTables s.tables n → AreFormedTables (with_value s party f ws g name).tables (n + 1)
+formed_value : (s : Standing) (party : List ℕ) (f : Fetch) (ws : List ℕ) (g n : ℕ) (name : Option (List ℕ)) → AreFormedTables s.tables n → AreFormedTables (with_fetched s party f ws g name).tables (n + 1)
 formed_value s party f ws g n None h = formed_same s.tables n h
 formed_value s party f ws g n (Some v) h = formed_same s.tables n h
 

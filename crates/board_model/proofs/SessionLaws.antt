@@ -17,7 +17,7 @@ use Rattle.board_model.specs.Replies.{ask, latest, lists_after, published_at, wo
 use Rattle.board_model.specs.Parties.{Party, Running, running}
 use Rattle.board_model.specs.LawfulSession.{IsLawfulFrom, IsRight, Session, State, after, after_step, start, state_after, stepped}
 use Rattle.board_model.specs.Sound.{IsCalling, IsWriting, Sound}
-use Rattle.board_model.specs.LawsOfSessions.{FreshMeansUnpublished, GenerationsNeverFall, IsGot, IsLooked, IsPublicationOf, IsPublished, ListsOnlyGrow, NoGetIsStale, OneGenerationOneValue, OneWriteHandle, Pairs, at_one, at_two, is_publication, publishes, publishes_by, publishes_in}
+use Rattle.board_model.specs.LawsOfSessions.{FreshMeansUnpublished, GenerationsNeverFall, IsGot, IsLooked, IsPublicationOf, IsPublished, ListsOnlyGrow, NoGetIsStale, OneGenerationOneValue, OneWriteHandle, Pairs, at_one, at_two, is_publication, publishes_entry, publishes_by, publications_in}
 use Rattle.board_model.proofs.CopyLemmas.{latest_push}
 use Rattle.board_model.proofs.RunningLemmas.{drawn_in, runs}
 use Rattle.board_model.proofs.SoundLemmas.{sound_after, sound_from, sound_session, sound_start}
@@ -101,10 +101,10 @@ looked s x b i g is h k =
 -- ---- the laws
 
 -- from one pair to the other
-between_growth : (p : Pairs) (b i : ℕ) → b ≤ (at_one p).standing.tables.last_board → IsGrowth (at_one p) (at_two p) b i ((if publishes (at_one p) p.one.0 p.one.1 b i then 1 else 0) + publishes_in (after (at_one p) p.one.0 p.one.1) p.between b i)
+between_growth : (p : Pairs) (b i : ℕ) → b ≤ (at_one p).standing.tables.last_board → IsGrowth (at_one p) (at_two p) b i ((if publishes_entry (at_one p) p.one.0 p.one.1 b i then 1 else 0) + publications_in (after (at_one p) p.one.0 p.one.1) p.between b i)
 between_growth p b i le =
     let a = apart p in
-    subst (λ (s : State). IsGrowth (at_one p) s b i ((if publishes (at_one p) p.one.0 p.one.1 b i then 1 else 0) + publishes_in (after (at_one p) p.one.0 p.one.1) p.between b i)) (sym a.state)
+    subst (λ (s : State). IsGrowth (at_one p) s b i ((if publishes_entry (at_one p) p.one.0 p.one.1 b i then 1 else 0) + publications_in (after (at_one p) p.one.0 p.one.1) p.between b i)) (sym a.state)
     (session_growth (p.one ∷ p.between) (at_one p) b i le (a.one, a.between))
 
 pub same_values : OneGenerationOneValue
@@ -175,8 +175,8 @@ later p b i g h ws vs x y =
     )
 
 -- a pair that ends a get publishes nothing
-got_alone : (s : State) (x : Line × Answer) (b i g c j : ℕ) (ws : List ℕ) → IsGot s x b i ws g → publishes s x.0 x.1 c j ≡ false
-got_alone s x b i g c j ws k = ap (λ (y : Line). publishes s y x.1 c j) k.line ∙ ap (λ (y : Answer). publishes s (line.Step k.party) y c j) k.answer ∙ ap (λ (y : Party). publishes_by y (Some (reply.Got (value_type_of k.fetch.type) ws g)) c j) k.runs ∙ ap (λ (q : Request). is_publication q c j) k.request
+got_alone : (s : State) (x : Line × Answer) (b i g c j : ℕ) (ws : List ℕ) → IsGot s x b i ws g → publishes_entry s x.0 x.1 c j ≡ false
+got_alone s x b i g c j ws k = ap (λ (y : Line). publishes_entry s y x.1 c j) k.line ∙ ap (λ (y : Answer). publishes_entry s (line.Step k.party) y c j) k.answer ∙ ap (λ (y : Party). publishes_by y (Some (reply.Got (value_type_of k.fetch.type) ws g)) c j) k.runs ∙ ap (λ (q : Request). is_publication q c j) k.request
 
 same_plus : (g n : ℕ) → (g == g + n) ≡ (n == 0)
 same_plus g n = at (n == 0) (eqb-true n 0) (eqb-false n 0)
@@ -191,8 +191,8 @@ still p b i g ws is x y =
     let k = given (at_one p) p.one b i g ws a.sound a.one x in
     let l = looked (at_two p) p.two b i g is a.two y in
     let m = between_growth p b i k.drawn in
-    let n : ℕ = publishes_in (after (at_one p) p.one.0 p.one.1) p.between b i in
-    let z : ◌≡◌ {A = ℕ} (if publishes (at_one p) p.one.0 p.one.1 b i then 1 else 0) 0 = ap (λ (q : Bool). if q then 1 else 0) (got_alone (at_one p) p.one b i g b i ws x) in
+    let n : ℕ = publications_in (after (at_one p) p.one.0 p.one.1) p.between b i in
+    let z : ◌≡◌ {A = ℕ} (if publishes_entry (at_one p) p.one.0 p.one.1 b i then 1 else 0) 0 = ap (λ (q : Bool). if q then 1 else 0) (got_alone (at_one p) p.one b i g b i ws x) in
     let c : length ((at_two p).published b i) ≡ g + n = ap length m.list ∙ length-append ((at_one p).published b i) m.more ∙ omega (arith, k.number, m.count, z) in
     l ∙ ap (λ (q : ℕ). g == q) c ∙ same_plus g n
 

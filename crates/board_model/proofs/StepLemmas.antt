@@ -36,7 +36,7 @@ use Rattle.board_model.specs.Tables.{board_at, board_named, entry_at, entry_foun
 use Rattle.board_model.specs.TableCalls.{asked, entry_mut_refusals, entry_refusals, id_of, create_refusals, created, first_of, is_corrupted, joined, number_of, open_refusals, place_of, with_thing}
 use Rattle.board_model.specs.Things.{Held, Standing, thing_of}
 use Rattle.board_model.specs.Requests.{Fetch, Lending, Publication, Request, TableCall, create, info, entry, entry_mut, fill, fresh, get, discard, id, open_, loan, keys, nodes, publish, put, reader, table, gen, update, writer}
-use Rattle.board_model.specs.Replies.{Asked, added_of, ask, given_back, is_key, lists_after, told_by, with_value, word_put}
+use Rattle.board_model.specs.Replies.{Asked, added_of, ask, given_back, is_key, lists_after, told_by, with_fetched, word_put}
 use Rattle.board_model.specs.Memory.{IsStanding, memory_after}
 use Rattle.board_model.specs.Parties.{Party, Running, free, is_done, owed, reading, running, with_party}
 use Rattle.board_model.specs.LawfulSession.{State, stepped}
@@ -355,7 +355,7 @@ module _ (s : State) (sound : Sound s) (party : List ℕ) (f : Fetch) (so_far : 
             (subst (λ (r : Reading). IsReading (s.published f.board f.entry) f.shape.words (length so_far + 1) passed r) (sym push) more);
       }
 
-  kept_value : (words : List ℕ) (g : ℕ) (o : Option (List ℕ)) → Sound (standing_state s party (with_value s.standing party f words g o))
+  kept_value : (words : List ℕ) (g : ℕ) (o : Option (List ℕ)) → Sound (standing_state s party (with_fetched s.standing party f words g o))
   kept_value words g None = same_sound s party sound calm
   kept_value words g (Some name) = valued_sound s party free _ sound (λ n i _. calm n i) tt
 

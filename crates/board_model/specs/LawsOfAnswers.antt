@@ -9,9 +9,9 @@ abbrev pub OneRightAnswer : Type 0
 OneRightAnswer = (s : State) (l : Line) (a b : Answer) → IsRight s l a → IsRight s l b → a ≡ b
 
 -- what was asked in a session, without the answers
-abbrev pub lines_of : Session → List Line
-lines_of pairs = map (λ (pair : Line × Answer). pair.0) pairs
+abbrev pub lines_asked : Session → List Line
+lines_asked pairs = map (λ (pair : Line × Answer). pair.0) pairs
 
 -- the lines of a lawful session settle all of its answers
 abbrev pub OneLawfulSession : Type 0
-OneLawfulSession = (xs ys : Session) → IsLawful xs → IsLawful ys → lines_of xs ≡ lines_of ys → xs ≡ ys
+OneLawfulSession = (xs ys : Session) → IsLawful xs → IsLawful ys → lines_asked xs ≡ lines_asked ys → xs ≡ ys

@@ -20,7 +20,7 @@ use Rattle.board_model.specs.Requests.{Request, TableCall, create, id, open_, ta
 use Rattle.board_model.specs.Parties.{Party, free, gone, running}
 use Rattle.board_model.specs.LawfulSession.{IsLawful, IsOwed, IsReasoned, IsReplied, IsRight, IsWord, Session, State, has_key_type, reason_of, start, state_after}
 use Rattle.board_model.specs.Sound.{BoardTables}
-use Rattle.board_model.specs.LawsOfAnswers.{lines_of}
+use Rattle.board_model.specs.LawsOfAnswers.{lines_asked}
 
 -- ---- what is told of boards and things is of the grammar
 
@@ -111,4 +111,4 @@ EachLineHasAnAnswer = (pairs : Session) (l : Line) → IsLawful pairs → length
 
 -- and each list of such lines has a lawful session
 abbrev pub EachScriptHasASession : Type 0
-EachScriptHasASession = (lines : List Line) → AllByRecursion IsLine lines → length lines < 2 ^ 63 → (pairs : Session) × IsLawful pairs × (lines_of pairs ≡ lines)
+EachScriptHasASession = (lines : List Line) → AllByRecursion IsLine lines → length lines < 2 ^ 63 → (pairs : Session) × IsLawful pairs × (lines_asked pairs ≡ lines)

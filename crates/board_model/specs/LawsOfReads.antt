@@ -34,17 +34,17 @@ ReadsAreReplies = (s : State) (party : List ℕ) (r : Running) (a : Access) (t :
 -- ---- the reply that is told
 
 -- the calls whose reply comes from the words that they read
-abbrev pub reads : Request → Bool
-reads (get f) = true
-reads (fresh l) = true
-reads request = false
+abbrev pub reads_words : Request → Bool
+reads_words (get f) = true
+reads_words (fresh l) = true
+reads_words request = false
 
 -- the words read give a reply exactly where they are all of the call's
 abbrev pub RepliesComeWithTheLastWord : Type 0
-RepliesComeWithTheLastWord = (request : Request) (so_far : List Access) → reads request ≡ true → is_some (reply_read request so_far) ≡ is_done request so_far
+RepliesComeWithTheLastWord = (request : Request) (so_far : List Access) → reads_words request ≡ true → is_some (reply_read request so_far) ≡ is_done request so_far
 
 -- what a get or a look is told is what it has read
 abbrev pub RepliesAreRead : Type 0
 RepliesAreRead = (s : State) (party : List ℕ) (r : Running) (a : Access) (told : Option Reply)
-    → Sound s → s.parties party ≡ running r → reads r.request ≡ true → IsRight s (line.Step party) (answer.Step a told)
+    → Sound s → s.parties party ≡ running r → reads_words r.request ≡ true → IsRight s (line.Step party) (answer.Step a told)
     → told ≡ reply_read r.request (r.so_far ++ a ∷ [])

@@ -77,14 +77,14 @@ publishes_by (running r) (Some t) b i = is_publication r.request b i
 publishes_by party told b i = false
 
 -- the line and its answer end a publication of the entry
-abbrev pub publishes : State → Line → Answer → ℕ → ℕ → Bool
-publishes s (line.Step party) (answer.Step a told) b i = publishes_by (s.parties party) told b i
-publishes s l a b i = false
+abbrev pub publishes_entry : State → Line → Answer → ℕ → ℕ → Bool
+publishes_entry s (line.Step party) (answer.Step a told) b i = publishes_by (s.parties party) told b i
+publishes_entry s l a b i = false
 
 -- how many values of the entry a session publishes from this state on
-abbrev pub publishes_in : State → Session → ℕ → ℕ → ℕ
-publishes_in s [] b i = 0
-publishes_in s (pair ∷ pairs) b i = (if publishes s pair.0 pair.1 b i then 1 else 0) + publishes_in (after s pair.0 pair.1) pairs b i
+abbrev pub publications_in : State → Session → ℕ → ℕ → ℕ
+publications_in s [] b i = 0
+publications_in s (pair ∷ pairs) b i = (if publishes_entry s pair.0 pair.1 b i then 1 else 0) + publications_in (after s pair.0 pair.1) pairs b i
 
 -- ---- two pairs of a lawful session, one after the other
 
@@ -122,12 +122,12 @@ NoGetIsStale = (p : Pairs) (b i g h : ℕ) (words later : List ℕ) → IsPublis
 -- a value is still the last one exactly where nothing was published since
 abbrev pub FreshMeansUnpublished : Type 0
 FreshMeansUnpublished = (p : Pairs) (b i g : ℕ) (words : List ℕ) (still : Bool) → IsGot (at_one p) p.one b i words g → IsLooked (at_two p) p.two b i g still
-    → still ≡ (publishes_in (after (at_one p) p.one.0 p.one.1) p.between b i == 0)
+    → still ≡ (publications_in (after (at_one p) p.one.0 p.one.1) p.between b i == 0)
 
 -- what was published before a pair stays, and each publication since is one value more
 abbrev pub ListsOnlyGrow : Type 0
 ListsOnlyGrow = (p : Pairs) (b i : ℕ) → b ≤ (at_one p).standing.tables.last_board
-    → (more : List (List ℕ)) × ((at_two p).published b i ≡ (at_one p).published b i ++ more) × (length more ≡ publishes_in (at_one p) (p.one ∷ p.between) b i)
+    → (more : List (List ℕ)) × ((at_two p).published b i ≡ (at_one p).published b i ++ more) × (length more ≡ publications_in (at_one p) (p.one ∷ p.between) b i)
 
 -- at most one write handle or loan of an entry is a thing at any moment
 abbrev pub OneWriteHandle : Type 0

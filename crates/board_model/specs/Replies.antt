@@ -119,8 +119,8 @@ first_list None = []
 first_list (Some e) = value_words e.value ∷ []
 
 -- the entries of a new board have their first values
-abbrev pub opened : Published → ℕ → List AddedEntry → Published
-opened lists n entries m i = if m == n then first_list (slice_get entries i) else lists m i
+abbrev pub with_first_values : Published → ℕ → List AddedEntry → Published
+with_first_values lists n entries m i = if m == n then first_list (slice_get entries i) else lists m i
 
 -- one more value of an entry
 abbrev pub published_at : Published → ℕ → ℕ → List ℕ → Published
@@ -134,9 +134,9 @@ word_put (Some w) = w
 -- ---- asking
 
 -- the value read, under its name if one is given
-abbrev pub with_value : Standing → List ℕ → Fetch → List ℕ → ℕ → Option (List ℕ) → Standing
-with_value s party f words generation None = s
-with_value s party f words generation (Some name) = record s { values = with_at s.values party name (Some (record { type = value_type_of f.type; words = words; generation = generation })) }
+abbrev pub with_fetched : Standing → List ℕ → Fetch → List ℕ → ℕ → Option (List ℕ) → Standing
+with_fetched s party f words generation None = s
+with_fetched s party f words generation (Some name) = record s { values = with_at s.values party name (Some (record { type = value_type_of f.type; words = words; generation = generation })) }
 
 -- the write handle becomes a loan of which no word was put
 abbrev pub lent : Standing → List ℕ → Lending → Standing
@@ -171,7 +171,7 @@ abbrev pub ask : Standing → Published → List ℕ → Request → Asked
 ask s lists party (table c) = ask_tables s lists party c
 ask s lists party (get f) = record {
   reply = reply.Got (value_type_of f.type) (latest (lists f.board f.entry)) (length (lists f.board f.entry));
-  standing = with_value s party f (latest (lists f.board f.entry)) (length (lists f.board f.entry)) f.name;
+  standing = with_fetched s party f (latest (lists f.board f.entry)) (length (lists f.board f.entry)) f.name;
 }
 ask s lists party (fresh l) = only_told s (reply.Fresh (l.generation == length (lists l.board l.entry)))
 ask s lists party (update u) = only_told s reply.Done
@@ -181,7 +181,7 @@ ask s lists party (fill l v) = record { reply = reply.Done; standing = given_bac
 
 -- the published lists after a call that was told so
 abbrev pub lists_after : Published → Request → Reply → Published
-lists_after lists (table (create f name k limits attributes entries)) (reply.Number n) = opened lists n entries
+lists_after lists (table (create f name k limits attributes entries)) (reply.Number n) = with_first_values lists n entries
 lists_after lists (update u) told = published_at lists u.board u.entry (value_words u.value)
 lists_after lists (publish l) told = published_at lists l.board l.entry (map word_put l.words)
 lists_after lists (fill l v) told = published_at lists l.board l.entry (value_words v)

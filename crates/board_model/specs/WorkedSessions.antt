@@ -28,16 +28,16 @@ use Rattle.board_model.specs.LawfulSession.{Session}
 -- ---- lines and their answers
 
 -- a call that is accepted
-abbrev pub begun : List ℕ → Call → Line × Answer
-begun party c = (line.Begin party c, answer.Begun)
+abbrev pub accepted : List ℕ → Call → Line × Answer
+accepted party c = (line.Begin party c, answer.Begun)
 
 -- a step that is not the last of its call
-abbrev pub stepped : List ℕ → Access → Line × Answer
-stepped party a = (line.Step party, answer.Step a None)
+abbrev pub one_step : List ℕ → Access → Line × Answer
+one_step party a = (line.Step party, answer.Step a None)
 
 -- the last step of a call
-abbrev pub ended : List ℕ → Access → Reply → Line × Answer
-ended party a told = (line.Step party, answer.Step a (Some told))
+abbrev pub last_step : List ℕ → Access → Reply → Line × Answer
+last_step party a told = (line.Step party, answer.Step a (Some told))
 
 -- a party that is abandoned
 abbrev pub left : List ℕ → Line × Answer
@@ -68,18 +68,18 @@ added k v = record { key = k; value = v }
 -- one party makes a board of two numbers, and updates one
 abbrev pub the_first_run : Session
 the_first_run =
-    begun (codes "a") (call.Create (codes "f") (codes "b") key_type.U64 no_limits [] (added (key.U64 1) (value.U64 5) ∷ added (key.U64 2) (value.U64 7) ∷ []))
-    ∷ ended (codes "a") access.Table (reply.Number 1)
-    ∷ begun (codes "a") (call.Writer (codes "w") (codes "f"))
-    ∷ ended (codes "a") access.Table (reply.Number 1)
-    ∷ begun (codes "a") (call.EntryMut (codes "m") (codes "w") (key.U64 2) type.U64)
-    ∷ ended (codes "a") access.Table (reply.Number 32)
-    ∷ begun (codes "a") (call.Update (codes "m") (value.U64 9))
-    ∷ stepped (codes "a") (access.Write 1 7 9)
+    accepted (codes "a") (call.Create (codes "f") (codes "b") key_type.U64 no_limits [] (added (key.U64 1) (value.U64 5) ∷ added (key.U64 2) (value.U64 7) ∷ []))
+    ∷ last_step (codes "a") access.Table (reply.Number 1)
+    ∷ accepted (codes "a") (call.Writer (codes "w") (codes "f"))
+    ∷ last_step (codes "a") access.Table (reply.Number 1)
+    ∷ accepted (codes "a") (call.EntryMut (codes "m") (codes "w") (key.U64 2) type.U64)
+    ∷ last_step (codes "a") access.Table (reply.Number 32)
+    ∷ accepted (codes "a") (call.Update (codes "m") (value.U64 9))
+    ∷ one_step (codes "a") (access.Write 1 7 9)
     ∷ listed 1 (1 ∷ 0 ∷ 5 ∷ 0 ∷ 1 ∷ 0 ∷ 7 ∷ 9 ∷ [])
-    ∷ ended (codes "a") (access.Write 1 4 2) reply.Done
-    ∷ begun (codes "a") (call.Gen (codes "m"))
-    ∷ ended (codes "a") access.Table (reply.Generation 2)
+    ∷ last_step (codes "a") (access.Write 1 4 2) reply.Done
+    ∷ accepted (codes "a") (call.Gen (codes "m"))
+    ∷ last_step (codes "a") access.Table (reply.Generation 2)
     ∷ refused (line.Step (codes "a")) reason.Idle
     ∷ refused (line.Words 2) reason.NoBoard
     ∷ []
@@ -87,84 +87,84 @@ the_first_run =
 -- one party makes a board with one entry and takes its write handle; the other opens it and takes a read handle
 abbrev pub set_up : ValueType → Value → Session
 set_up t v =
-    begun (codes "a") (call.Create (codes "f") (codes "b") key_type.U64 no_limits [] (added (key.U64 1) v ∷ []))
-    ∷ ended (codes "a") access.Table (reply.Number 1)
-    ∷ begun (codes "a") (call.Writer (codes "w") (codes "f"))
-    ∷ ended (codes "a") access.Table (reply.Number 1)
-    ∷ begun (codes "a") (call.EntryMut (codes "m") (codes "w") (key.U64 1) t)
-    ∷ ended (codes "a") access.Table (reply.Number 0)
-    ∷ begun (codes "b") (call.Open (codes "f") (codes "b") key_type.U64 no_limits no_needs)
-    ∷ ended (codes "b") access.Table (reply.Number 1)
-    ∷ begun (codes "b") (call.Reader (codes "r") (codes "f"))
-    ∷ ended (codes "b") access.Table (reply.Number 2)
-    ∷ begun (codes "b") (call.Entry (codes "h") (codes "r") (key.U64 1) t)
-    ∷ ended (codes "b") access.Table (reply.Number 0)
+    accepted (codes "a") (call.Create (codes "f") (codes "b") key_type.U64 no_limits [] (added (key.U64 1) v ∷ []))
+    ∷ last_step (codes "a") access.Table (reply.Number 1)
+    ∷ accepted (codes "a") (call.Writer (codes "w") (codes "f"))
+    ∷ last_step (codes "a") access.Table (reply.Number 1)
+    ∷ accepted (codes "a") (call.EntryMut (codes "m") (codes "w") (key.U64 1) t)
+    ∷ last_step (codes "a") access.Table (reply.Number 0)
+    ∷ accepted (codes "b") (call.Open (codes "f") (codes "b") key_type.U64 no_limits no_needs)
+    ∷ last_step (codes "b") access.Table (reply.Number 1)
+    ∷ accepted (codes "b") (call.Reader (codes "r") (codes "f"))
+    ∷ last_step (codes "b") access.Table (reply.Number 2)
+    ∷ accepted (codes "b") (call.Entry (codes "h") (codes "r") (key.U64 1) t)
+    ∷ last_step (codes "b") access.Table (reply.Number 0)
     ∷ []
 
 -- a get that meets one update: it reads both copies, and gives the later value
 abbrev pub a_get_that_meets_one_update : Session
 a_get_that_meets_one_update =
     set_up type.U64 (value.U64 7) ++ (
-    begun (codes "b") (call.Get (codes "h") (Some (codes "v")))
-    ∷ stepped (codes "b") (access.Read 1 0 1)
-    ∷ begun (codes "a") (call.Update (codes "m") (value.U64 9))
-    ∷ stepped (codes "a") (access.Write 1 3 9)
-    ∷ ended (codes "a") (access.Write 1 0 2) reply.Done
-    ∷ stepped (codes "b") (access.Read 1 2 7)
-    ∷ stepped (codes "b") (access.Read 1 0 2)
-    ∷ stepped (codes "b") (access.Read 1 3 9)
-    ∷ ended (codes "b") (access.Read 1 0 2) (reply.Got type.U64 (9 ∷ []) 2)
-    ∷ begun (codes "b") (call.Fresh (codes "h") (codes "v"))
-    ∷ ended (codes "b") (access.Read 1 0 2) (reply.Fresh true)
+    accepted (codes "b") (call.Get (codes "h") (Some (codes "v")))
+    ∷ one_step (codes "b") (access.Read 1 0 1)
+    ∷ accepted (codes "a") (call.Update (codes "m") (value.U64 9))
+    ∷ one_step (codes "a") (access.Write 1 3 9)
+    ∷ last_step (codes "a") (access.Write 1 0 2) reply.Done
+    ∷ one_step (codes "b") (access.Read 1 2 7)
+    ∷ one_step (codes "b") (access.Read 1 0 2)
+    ∷ one_step (codes "b") (access.Read 1 3 9)
+    ∷ last_step (codes "b") (access.Read 1 0 2) (reply.Got type.U64 (9 ∷ []) 2)
+    ∷ accepted (codes "b") (call.Fresh (codes "h") (codes "v"))
+    ∷ last_step (codes "b") (access.Read 1 0 2) (reply.Fresh true)
     ∷ [])
 
 -- two updates of four words in the middle of a try
 abbrev pub a_get_that_meets_two_updates : Session
 a_get_that_meets_two_updates =
     set_up type.Q4 (value.Q4 1 2 3 4) ++ (
-    begun (codes "b") (call.Get (codes "h") None)
-    ∷ stepped (codes "b") (access.Read 1 0 1)
-    ∷ stepped (codes "b") (access.Read 1 2 1)
-    ∷ stepped (codes "b") (access.Read 1 3 2)
-    ∷ begun (codes "a") (call.Update (codes "m") (value.Q4 5 6 7 8))
-    ∷ stepped (codes "a") (access.Write 1 6 5)
-    ∷ stepped (codes "a") (access.Write 1 7 6)
-    ∷ stepped (codes "a") (access.Write 1 8 7)
-    ∷ stepped (codes "a") (access.Write 1 9 8)
-    ∷ ended (codes "a") (access.Write 1 0 2) reply.Done
-    ∷ begun (codes "a") (call.Update (codes "m") (value.Q4 9 9 9 9))
-    ∷ stepped (codes "a") (access.Write 1 2 9)
-    ∷ stepped (codes "a") (access.Write 1 3 9)
-    ∷ stepped (codes "a") (access.Write 1 4 9)
-    ∷ stepped (codes "a") (access.Write 1 5 9)
-    ∷ ended (codes "a") (access.Write 1 0 3) reply.Done
-    ∷ stepped (codes "b") (access.Read 1 4 9)
-    ∷ stepped (codes "b") (access.Read 1 5 9)
-    ∷ stepped (codes "b") (access.Read 1 0 3)
-    ∷ stepped (codes "b") (access.Read 1 2 9)
-    ∷ stepped (codes "b") (access.Read 1 3 9)
-    ∷ stepped (codes "b") (access.Read 1 4 9)
-    ∷ stepped (codes "b") (access.Read 1 5 9)
-    ∷ ended (codes "b") (access.Read 1 0 3) (reply.Got type.Q4 (9 ∷ 9 ∷ 9 ∷ 9 ∷ []) 3)
+    accepted (codes "b") (call.Get (codes "h") None)
+    ∷ one_step (codes "b") (access.Read 1 0 1)
+    ∷ one_step (codes "b") (access.Read 1 2 1)
+    ∷ one_step (codes "b") (access.Read 1 3 2)
+    ∷ accepted (codes "a") (call.Update (codes "m") (value.Q4 5 6 7 8))
+    ∷ one_step (codes "a") (access.Write 1 6 5)
+    ∷ one_step (codes "a") (access.Write 1 7 6)
+    ∷ one_step (codes "a") (access.Write 1 8 7)
+    ∷ one_step (codes "a") (access.Write 1 9 8)
+    ∷ last_step (codes "a") (access.Write 1 0 2) reply.Done
+    ∷ accepted (codes "a") (call.Update (codes "m") (value.Q4 9 9 9 9))
+    ∷ one_step (codes "a") (access.Write 1 2 9)
+    ∷ one_step (codes "a") (access.Write 1 3 9)
+    ∷ one_step (codes "a") (access.Write 1 4 9)
+    ∷ one_step (codes "a") (access.Write 1 5 9)
+    ∷ last_step (codes "a") (access.Write 1 0 3) reply.Done
+    ∷ one_step (codes "b") (access.Read 1 4 9)
+    ∷ one_step (codes "b") (access.Read 1 5 9)
+    ∷ one_step (codes "b") (access.Read 1 0 3)
+    ∷ one_step (codes "b") (access.Read 1 2 9)
+    ∷ one_step (codes "b") (access.Read 1 3 9)
+    ∷ one_step (codes "b") (access.Read 1 4 9)
+    ∷ one_step (codes "b") (access.Read 1 5 9)
+    ∷ last_step (codes "b") (access.Read 1 0 3) (reply.Got type.Q4 (9 ∷ 9 ∷ 9 ∷ 9 ∷ []) 3)
     ∷ [])
 
 -- an update that is given up in the middle: the value before it stands, and so does the writer
 abbrev pub a_writer_abandoned_in_an_update : Session
 a_writer_abandoned_in_an_update =
     set_up type.Q4 (value.Q4 1 2 3 4) ++ (
-    begun (codes "a") (call.Update (codes "m") (value.Q4 5 6 7 8))
-    ∷ stepped (codes "a") (access.Write 1 6 5)
-    ∷ stepped (codes "a") (access.Write 1 7 6)
+    accepted (codes "a") (call.Update (codes "m") (value.Q4 5 6 7 8))
+    ∷ one_step (codes "a") (access.Write 1 6 5)
+    ∷ one_step (codes "a") (access.Write 1 7 6)
     ∷ left (codes "a")
-    ∷ begun (codes "b") (call.Get (codes "h") None)
-    ∷ stepped (codes "b") (access.Read 1 0 1)
-    ∷ stepped (codes "b") (access.Read 1 2 1)
-    ∷ stepped (codes "b") (access.Read 1 3 2)
-    ∷ stepped (codes "b") (access.Read 1 4 3)
-    ∷ stepped (codes "b") (access.Read 1 5 4)
-    ∷ ended (codes "b") (access.Read 1 0 1) (reply.Got type.Q4 (1 ∷ 2 ∷ 3 ∷ 4 ∷ []) 1)
-    ∷ begun (codes "b") (call.Writer (codes "w") (codes "f"))
-    ∷ ended (codes "b") access.Table (reply.WriterError writer_error.ExceedsMaxSupportedWriters)
+    ∷ accepted (codes "b") (call.Get (codes "h") None)
+    ∷ one_step (codes "b") (access.Read 1 0 1)
+    ∷ one_step (codes "b") (access.Read 1 2 1)
+    ∷ one_step (codes "b") (access.Read 1 3 2)
+    ∷ one_step (codes "b") (access.Read 1 4 3)
+    ∷ one_step (codes "b") (access.Read 1 5 4)
+    ∷ last_step (codes "b") (access.Read 1 0 1) (reply.Got type.Q4 (1 ∷ 2 ∷ 3 ∷ 4 ∷ []) 1)
+    ∷ accepted (codes "b") (call.Writer (codes "w") (codes "f"))
+    ∷ last_step (codes "b") access.Table (reply.WriterError writer_error.ExceedsMaxSupportedWriters)
     ∷ refused (line.Step (codes "a")) reason.Abandoned
     ∷ refused (line.Abandon (codes "a")) reason.Abandoned
     ∷ [])
@@ -173,29 +173,29 @@ a_writer_abandoned_in_an_update =
 abbrev pub a_loan_forgets_its_words : Session
 a_loan_forgets_its_words =
     set_up type.Q4 (value.Q4 1 2 3 4) ++ (
-    begun (codes "a") (call.Loan (codes "l") (codes "m"))
-    ∷ ended (codes "a") access.Table reply.Done
-    ∷ begun (codes "a") (call.Put (codes "l") 0 5)
-    ∷ ended (codes "a") (access.Write 1 6 5) reply.Done
-    ∷ begun (codes "a") (call.Put (codes "l") 1 6)
-    ∷ ended (codes "a") (access.Write 1 7 6) reply.Done
-    ∷ begun (codes "a") (call.Put (codes "l") 2 7)
-    ∷ ended (codes "a") (access.Write 1 8 7) reply.Done
+    accepted (codes "a") (call.Loan (codes "l") (codes "m"))
+    ∷ last_step (codes "a") access.Table reply.Done
+    ∷ accepted (codes "a") (call.Put (codes "l") 0 5)
+    ∷ last_step (codes "a") (access.Write 1 6 5) reply.Done
+    ∷ accepted (codes "a") (call.Put (codes "l") 1 6)
+    ∷ last_step (codes "a") (access.Write 1 7 6) reply.Done
+    ∷ accepted (codes "a") (call.Put (codes "l") 2 7)
+    ∷ last_step (codes "a") (access.Write 1 8 7) reply.Done
     ∷ refused (line.Begin (codes "a") (call.Publish (codes "l") (codes "m"))) reason.Unfilled
-    ∷ begun (codes "a") (call.Discard (codes "l") (codes "m"))
-    ∷ ended (codes "a") access.Table reply.Done
-    ∷ begun (codes "a") (call.Loan (codes "l") (codes "m"))
-    ∷ ended (codes "a") access.Table reply.Done
-    ∷ begun (codes "a") (call.Put (codes "l") 3 8)
-    ∷ ended (codes "a") (access.Write 1 9 8) reply.Done
+    ∷ accepted (codes "a") (call.Discard (codes "l") (codes "m"))
+    ∷ last_step (codes "a") access.Table reply.Done
+    ∷ accepted (codes "a") (call.Loan (codes "l") (codes "m"))
+    ∷ last_step (codes "a") access.Table reply.Done
+    ∷ accepted (codes "a") (call.Put (codes "l") 3 8)
+    ∷ last_step (codes "a") (access.Write 1 9 8) reply.Done
     ∷ refused (line.Begin (codes "a") (call.Publish (codes "l") (codes "m"))) reason.Unfilled
     ∷ refused (line.Begin (codes "a") (call.Put (codes "l") 4 0)) reason.Index
-    ∷ begun (codes "a") (call.Fill (codes "l") (codes "m") (value.Q4 5 6 7 8))
-    ∷ stepped (codes "a") (access.Write 1 6 5)
-    ∷ stepped (codes "a") (access.Write 1 7 6)
-    ∷ stepped (codes "a") (access.Write 1 8 7)
-    ∷ stepped (codes "a") (access.Write 1 9 8)
-    ∷ ended (codes "a") (access.Write 1 0 2) reply.Done
+    ∷ accepted (codes "a") (call.Fill (codes "l") (codes "m") (value.Q4 5 6 7 8))
+    ∷ one_step (codes "a") (access.Write 1 6 5)
+    ∷ one_step (codes "a") (access.Write 1 7 6)
+    ∷ one_step (codes "a") (access.Write 1 8 7)
+    ∷ one_step (codes "a") (access.Write 1 9 8)
+    ∷ last_step (codes "a") (access.Write 1 0 2) reply.Done
     ∷ [])
 
 -- ---- sessions that are not
@@ -204,28 +204,28 @@ a_loan_forgets_its_words =
 abbrev pub a_stale_value : Session
 a_stale_value =
     set_up type.U64 (value.U64 7) ++ (
-    begun (codes "a") (call.Update (codes "m") (value.U64 9))
-    ∷ stepped (codes "a") (access.Write 1 3 9)
-    ∷ ended (codes "a") (access.Write 1 0 2) reply.Done
-    ∷ begun (codes "b") (call.Get (codes "h") None)
-    ∷ stepped (codes "b") (access.Read 1 0 2)
-    ∷ stepped (codes "b") (access.Read 1 3 9)
-    ∷ ended (codes "b") (access.Read 1 0 2) (reply.Got type.U64 (7 ∷ []) 1)
+    accepted (codes "a") (call.Update (codes "m") (value.U64 9))
+    ∷ one_step (codes "a") (access.Write 1 3 9)
+    ∷ last_step (codes "a") (access.Write 1 0 2) reply.Done
+    ∷ accepted (codes "b") (call.Get (codes "h") None)
+    ∷ one_step (codes "b") (access.Read 1 0 2)
+    ∷ one_step (codes "b") (access.Read 1 3 9)
+    ∷ last_step (codes "b") (access.Read 1 0 2) (reply.Got type.U64 (7 ∷ []) 1)
     ∷ [])
 
 -- a get that doesn't read the counter again
 abbrev pub no_second_look : Session
 no_second_look =
     set_up type.U64 (value.U64 7) ++ (
-    begun (codes "b") (call.Get (codes "h") None)
-    ∷ stepped (codes "b") (access.Read 1 0 1)
-    ∷ ended (codes "b") (access.Read 1 2 7) (reply.Got type.U64 (7 ∷ []) 1)
+    accepted (codes "b") (call.Get (codes "h") None)
+    ∷ one_step (codes "b") (access.Read 1 0 1)
+    ∷ last_step (codes "b") (access.Read 1 2 7) (reply.Got type.U64 (7 ∷ []) 1)
     ∷ [])
 
 -- an update that writes into the current copy
 abbrev pub an_update_in_place : Session
 an_update_in_place =
     set_up type.U64 (value.U64 7) ++ (
-    begun (codes "a") (call.Update (codes "m") (value.U64 9))
-    ∷ stepped (codes "a") (access.Write 1 2 9)
+    accepted (codes "a") (call.Update (codes "m") (value.U64 9))
+    ∷ one_step (codes "a") (access.Write 1 2 9)
     ∷ [])

@@ -6,7 +6,7 @@ use Rattle.board_model.specs.declared.line.Call.TheVariants as call
 use Rattle.board_model.specs.declared.value.Value.TheVariants as value
 use Rattle.board_model.specs.declared.value.ValueType.TheVariants as type
 use Rattle.board_model.specs.LawfulSession.{Session}
-use Rattle.board_model.specs.WorkedSessions.{begun, ended, listed, set_up, stepped}
+use Rattle.board_model.specs.WorkedSessions.{accepted, last_step, listed, set_up, one_step}
 
 -- the counter, a word that is not used, and the two copies of the value
 abbrev pub cell : ℕ → List ℕ → List ℕ → List ℕ
@@ -28,13 +28,13 @@ after_all_words = cell 1 old_value (5 ∷ 6 ∷ 7 ∷ 8 ∷ [])
 abbrev pub updated : List ℕ → Session
 updated words =
     set_up type.Q4 (value.Q4 1 2 3 4) ++ (
-    begun (codes "a") (call.Update (codes "m") (value.Q4 5 6 7 8))
-    ∷ stepped (codes "a") (access.Write 1 6 5)
+    accepted (codes "a") (call.Update (codes "m") (value.Q4 5 6 7 8))
+    ∷ one_step (codes "a") (access.Write 1 6 5)
     ∷ listed 1 words
-    ∷ stepped (codes "a") (access.Write 1 7 6)
-    ∷ stepped (codes "a") (access.Write 1 8 7)
-    ∷ stepped (codes "a") (access.Write 1 9 8)
+    ∷ one_step (codes "a") (access.Write 1 7 6)
+    ∷ one_step (codes "a") (access.Write 1 8 7)
+    ∷ one_step (codes "a") (access.Write 1 9 8)
     ∷ listed 1 (cell 1 old_value (5 ∷ 6 ∷ 7 ∷ 8 ∷ []))
-    ∷ ended (codes "a") (access.Write 1 0 2) reply.Done
+    ∷ last_step (codes "a") (access.Write 1 0 2) reply.Done
     ∷ listed 1 (cell 2 old_value (5 ∷ 6 ∷ 7 ∷ 8 ∷ []))
     ∷ [])

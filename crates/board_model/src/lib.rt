@@ -26,8 +26,10 @@ pub mod worked_sessions;
 pub mod worked_updates;
 
 pub use answer::{Answer, Info, Reason, Reply};
-pub use attributes::{Attribute, AttributeKeys, Attributes, Requirements};
+pub use attributes::{Attribute, Requirements};
 pub use line::{BoardName, Call, Line, Name};
-pub use lists::{AddedEntries, Entries, Keys, LongName, Names, Words};
+pub use lists::{
+    AddedEntries, AttributeKeys, Attributes, Entries, Items, Keys, LongName, Names, Words,
+};
 pub use tables::{Board, Entry, Kind, Limits, Thing, ThingKind};
 pub use value::{AddedEntry, Key, KeyType, Value, ValueType};

@@ -1,6 +1,6 @@
 //! The lines of a script.
-use crate::attributes::{Attributes, Requirements};
-use crate::lists::{AddedEntries, LongName};
+use crate::attributes::Requirements;
+use crate::lists::{AddedEntries, Attributes, LongName};
 use crate::tables::Limits;
 use crate::value::{Key, KeyType, Value, ValueType};
 use board_layout::Text;

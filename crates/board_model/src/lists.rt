@@ -1,6 +1,7 @@
 //! Lists that contracts see as lists.
 ghost use Rattle.std.specs.Prelude.{◌≡◌, IfOk};
 
+use crate::attributes::Attribute;
 use crate::tables::Entry;
 use crate::value::{AddedEntry, Key};
 use board_layout::Text;
@@ -43,162 +44,64 @@ impl LongName {
     }
 }
 
-/// Words, seen as their list.
+/// A list, seen as the list of its items.
 #[derive(Drop, Debug)]
-pub struct Words {
-    words: Vec<u64>,
+pub struct Items<T> {
+    items: Vec<T>,
 }
 
-impl Model for Words {
-    ghost use Rattle.std.specs.Prelude.{List, ℕ};
+impl<T> Model for Items<T> {
+    ghost use Rattle.std.specs.Prelude.{List};
+    ghost use Rattle.std.specs.Coded.{coded_list};
 
-    ghost Value = { List ℕ };
+    ghost Value = { List T };
 
-    ghost view = { λ t. t.words.items };
+    ghost coded = { coded_list T.code };
+
+    ghost view = { λ t. t.items.items };
 }
 
-impl Words {
-    /// The list of these words.
-    pub fn from_vec(words: Vec<u64>) -> Words
-        ensures { result ≡ words.items }
+impl<T> Items<T> {
+    /// The list of these items.
+    pub fn from_vec(items: Vec<T>) -> Items<T>
+        ensures { result ≡ items.items }
     {
-        Words { words }
+        Items { items }
     }
 
-    /// The words, in order.
-    pub fn as_slice(&self) -> &[u64]
+    /// The items, in order.
+    pub fn as_slice(&self) -> &[T]
         ensures { result.now ≡ self.now }
     {
-        self.words.as_slice()
+        self.items.as_slice()
     }
 
-    /// The words, in order.
-    pub fn into_vec(self) -> Vec<u64>
+    /// The items, in order.
+    pub fn into_vec(self) -> Vec<T>
         ensures { result.items ≡ self }
     {
-        self.words
+        let Items { items } = self;
+        items
     }
 }
 
-/// The entries that a new board is to have, seen as their list.
-#[derive(Drop, Debug)]
-pub struct AddedEntries {
-    entries: Vec<AddedEntry>,
-}
+/// Words of 64 bits.
+pub type Words = Items<u64>;
 
-impl Model for AddedEntries {
-    ghost use Rattle.std.specs.Prelude.{List};
-    ghost use Rattle.board_model.specs.declared.value.AddedEntry.{AddedEntry};
+/// The entries that a new board is to have, in the order of adding.
+pub type AddedEntries = Items<AddedEntry>;
 
-    ghost Value = { List AddedEntry };
+/// The entries of a board, in the order of adding.
+pub type Entries = Items<Entry>;
 
-    ghost view = { λ t. t.entries.items };
-}
+/// Keys.
+pub type Keys = Items<Key>;
 
-impl AddedEntries {
-    /// The list of these entries.
-    pub fn from_vec(entries: Vec<AddedEntry>) -> AddedEntries
-        ensures { result ≡ entries.items }
-    {
-        AddedEntries { entries }
-    }
+/// Names of parties.
+pub type Names = Items<Text<16>>;
 
-    /// The entries, in the order of adding.
-    pub fn as_slice(&self) -> &[AddedEntry]
-        ensures { result.now ≡ self.now }
-    {
-        self.entries.as_slice()
-    }
-}
+/// The attributes of a board.
+pub type Attributes = Items<Attribute>;
 
-/// The entries of a board, seen as their list.
-#[derive(Drop, Debug)]
-pub struct Entries {
-    entries: Vec<Entry>,
-}
-
-impl Model for Entries {
-    ghost use Rattle.std.specs.Prelude.{List};
-    ghost use Rattle.board_model.specs.declared.tables.Entry.{Entry};
-
-    ghost Value = { List Entry };
-
-    ghost view = { λ t. t.entries.items };
-}
-
-impl Entries {
-    /// The list of these entries.
-    pub fn from_vec(entries: Vec<Entry>) -> Entries
-        ensures { result ≡ entries.items }
-    {
-        Entries { entries }
-    }
-
-    /// The entries, in the order of adding.
-    pub fn as_slice(&self) -> &[Entry]
-        ensures { result.now ≡ self.now }
-    {
-        self.entries.as_slice()
-    }
-}
-
-/// Keys, seen as their list.
-#[derive(Drop, Debug)]
-pub struct Keys {
-    keys: Vec<Key>,
-}
-
-impl Model for Keys {
-    ghost use Rattle.std.specs.Prelude.{List};
-    ghost use Rattle.board_model.specs.declared.value.Key.{Key};
-
-    ghost Value = { List Key };
-
-    ghost view = { λ t. t.keys.items };
-}
-
-impl Keys {
-    /// The list of these keys.
-    pub fn from_vec(keys: Vec<Key>) -> Keys
-        ensures { result ≡ keys.items }
-    {
-        Keys { keys }
-    }
-
-    /// The keys, in order.
-    pub fn as_slice(&self) -> &[Key]
-        ensures { result.now ≡ self.now }
-    {
-        self.keys.as_slice()
-    }
-}
-
-/// Names of parties, seen as their list.
-#[derive(Drop, Debug)]
-pub struct Names {
-    names: Vec<Text<16>>,
-}
-
-impl Model for Names {
-    ghost use Rattle.std.specs.Prelude.{List, ℕ};
-
-    ghost Value = { List (List ℕ) };
-
-    ghost view = { λ t. t.names.items };
-}
-
-impl Names {
-    /// The list of these names.
-    pub fn from_vec(names: Vec<Text<16>>) -> Names
-        ensures { result ≡ names.items }
-    {
-        Names { names }
-    }
-
-    /// The names, in order.
-    pub fn as_slice(&self) -> &[Text<16>]
-        ensures { result.now ≡ self.now }
-    {
-        self.names.as_slice()
-    }
-}
+/// Keys of attributes.
+pub type AttributeKeys = Items<Text<64>>;

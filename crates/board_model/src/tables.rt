@@ -1,6 +1,5 @@
 //! What the tables of boards and things hold.
-use crate::attributes::Attributes;
-use crate::lists::Entries;
+use crate::lists::{Attributes, Entries};
 use board_layout::{CellPlace, KeyMemory, Text, TypeDetail};
 
 /// An entry of a board: its key's bytes, the type of its values, and where its cell lies.

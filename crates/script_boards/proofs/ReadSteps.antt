@@ -18,7 +18,7 @@ use Rattle.board_model.specs.LineGrammar.{IsNumber, IsLine}
 use Rattle.board_cell_model.specs.OwedAccesses.{Reading, finished, hear, heard, is_finished, opening, owed_read, to_read, trying}
 use Rattle.board_model.specs.Memory.{memory_after}
 use Rattle.board_model.specs.Requests.{Fetch, Request, fresh, get}
-use Rattle.board_model.specs.Replies.{ask, latest, with_value}
+use Rattle.board_model.specs.Replies.{ask, latest, with_fetched}
 use Rattle.board_model.specs.Tables.{board_at}
 use Rattle.board_model.specs.Things.{Kept}
 use Rattle.board_model.specs.TypeTable.{value_type_of}
@@ -259,7 +259,7 @@ module _ {C : Type 0} (m : BoardMachine C) (s : State) (rep : Represents m s) (s
       pub values : (p n : List ℕ) → (ask s.standing s.published party q).standing.values p n ≡ kept vs p n
 
     kept_values : (f : Fetch) (list : List (List ℕ)) (name : Option (List ℕ)) (type : ValueType) (call : Getting) (vs : List KeptValue) → type ≡ value_type_of f.type → words_of call.reading ≡ latest list → counter_of call.reading ≡ length list
-        → vs ≡ m.values.items ++ kept_anew party name type call → (p n : List ℕ) → (with_value s.standing party f (latest list) (length list) name).values p n ≡ kept vs p n
+        → vs ≡ m.values.items ++ kept_anew party name type call → (p n : List ℕ) → (with_fetched s.standing party f (latest list) (length list) name).values p n ≡ kept vs p n
     kept_values f list None type call vs t w c e p n = rep.values p n ∙ ap (λ (xs : List KeptValue). kept xs p n) (sym (e ∙ append-nil m.values.items))
     kept_values f list (Some name) type call vs t w c e p n =
         let here : Bool = bytes_eq p party && bytes_eq n name in
@@ -272,7 +272,7 @@ module _ {C : Type 0} (m : BoardMachine C) (s : State) (rep : Represents m s) (s
         ∙ sym (kept-push None p n m.values.items (record { party = party; name = name; value_type = type; words = words_of call.reading; generation = counter_of call.reading }))
         ∙ ap (λ (xs : List KeptValue). kept xs p n) (sym e)
 
-    no_name : (f : Fetch) (ws : List ℕ) (g : ℕ) (name : Option (List ℕ)) → ((with_value s.standing party f ws g name).tables ≡ s.standing.tables) × ((p n : List ℕ) → (with_value s.standing party f ws g name).loans p n ≡ s.standing.loans p n)
+    no_name : (f : Fetch) (ws : List ℕ) (g : ℕ) (name : Option (List ℕ)) → ((with_fetched s.standing party f ws g name).tables ≡ s.standing.tables) × ((p n : List ℕ) → (with_fetched s.standing party f ws g name).loans p n ≡ s.standing.loans p n)
     no_name f ws g None = (refl, λ p n. refl)
     no_name f ws g (Some name) = (refl, λ p n. refl)
 

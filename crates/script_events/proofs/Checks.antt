@@ -13,7 +13,7 @@ use Rattle.board_event_model.specs.declared.call.WaitMode.{WaitMode}
 use Rattle.board_model.specs.Requests.{and_then}
 use Rattle.script_model.specs.declared.line.EventRequest.{EventRequest}
 use Rattle.script_model.specs.declared.line.EventRequest.TheVariants as request
-use Rattle.script_model.specs.ScriptEvents.{EventAsk, EventTask, EventThing, ScriptEvents, act, ask, holds_event, listened, listener, name_made, notified, notifier, on_event, task_of, with_ask}
+use Rattle.script_model.specs.ScriptEvents.{EventAsk, EventTask, EventThing, ScriptEvents, act, ask, holds_event, listened_event, listener, name_made, notified, notifier, on_event, task_of, with_ask}
 use Rattle.script_model.specs.ScriptTurns.{EventTurn, begins, refused, task_begun, task_turn}
 use Rattle.script_model.specs.SoundEvents.{AreSoundEvents}
 use Rattle.script_events.specs.declared.party_events.PartyEvents.{PartyEvents}
@@ -41,7 +41,7 @@ named_turn boards x party q u name taken result e f same r =
 
 -- ---- things
 
-listened_by : (r : Role) (n : ℕ) → listened (Some (thing_as r n)) ≡ (if is_listening r then Some n else None)
+listened_by : (r : Role) (n : ℕ) → listened_event (Some (thing_as r n)) ≡ (if is_listening r then Some n else None)
 listened_by role.Listener n = refl
 listened_by role.Notifier n = refl
 
@@ -50,7 +50,7 @@ notified_by role.Listener n = refl
 notified_by role.Notifier n = refl
 
 -- the rows tell what is listened on and notified
-pub listened_is : (o : Option EventRow) (y : Option EventThing) → option_map thing_of o ≡ y → listened_in o ≡ listened y
+pub listened_is : (o : Option EventRow) (y : Option EventThing) → option_map thing_of o ≡ y → listened_in o ≡ listened_event y
 listened_is None y e = rw (sym e) refl
 listened_is (Some row) y e = rw (sym e) (sym (listened_by row.role row.event))
 
@@ -58,7 +58,7 @@ pub notified_is : (o : Option EventRow) (y : Option EventThing) → option_map t
 notified_is None y e = rw (sym e) refl
 notified_is (Some row) y e = rw (sym e) (sym (notified_by row.role row.event))
 
-a_listener : (y : Option EventThing) (n : ℕ) → listened y ≡ Some n → y ≡ Some (listener n)
+a_listener : (y : Option EventThing) (n : ℕ) → listened_event y ≡ Some n → y ≡ Some (listener n)
 a_listener None n e = absurd cc
 a_listener (Some (listener m)) n e = (let same : m ≡ n = cc in ap (λ (k : ℕ). Some (listener k)) same)
 a_listener (Some (notifier m)) n e = absurd cc
@@ -69,7 +69,7 @@ a_notifier (Some (listener m)) n e = absurd cc
 a_notifier (Some (notifier m)) n e = (let same : m ≡ n = cc in ap (λ (k : ℕ). Some (notifier k)) same)
 
 module _ (t : EventTable) (rows : List EventRow) (x : ScriptEvents) (count : ℕ) (sound : AreSoundEvents x count) (holds : Holds t rows x) (party name : List ℕ) where
-  pub says_listened : listened_in (find (is_thing_of party name) rows) ≡ listened (x.things party name)
+  pub says_listened : listened_in (find (is_thing_of party name) rows) ≡ listened_event (x.things party name)
   says_listened = listened_is (find (is_thing_of party name) rows) (x.things party name) (found_one thing_of (is_thing_of party name) (x.things party name) rows (holds.things party name))
 
   pub says_notified : notified_in (find (is_thing_of party name) rows) ≡ notified (x.things party name)
@@ -87,7 +87,7 @@ module _ (t : EventTable) (rows : List EventRow) (x : ScriptEvents) (count : ℕ
   pub on_notified : (n : ℕ) → Some n ≡ notified_in (find (is_thing_of party name) rows) → (make : Event → EventCall) → and_then (notified (x.things party name)) (on_event x make) ≡ on_event x make n
   on_notified n e make = rw (sym (e ∙ says_notified)) refl
 
-  pub on_listened : (n : ℕ) → Some n ≡ listened_in (find (is_thing_of party name) rows) → (make : Event → EventCall) → and_then (listened (x.things party name)) (on_event x make) ≡ on_event x make n
+  pub on_listened : (n : ℕ) → Some n ≡ listened_in (find (is_thing_of party name) rows) → (make : Event → EventCall) → and_then (listened_event (x.things party name)) (on_event x make) ≡ on_event x make n
   on_listened n e make = rw (sym (e ∙ says_listened)) refl
 
   -- where there is none

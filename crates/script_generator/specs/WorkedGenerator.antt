@@ -11,7 +11,7 @@ use Rattle.board_model.specs.declared.line.Line.TheVariants as line
 use Rattle.board_model.specs.declared.value.Key.TheVariants as key
 use Rattle.board_model.specs.declared.value.ValueType.TheVariants as type
 use Rattle.board_model.specs.LawfulSession as boards
-use Rattle.board_model.specs.WorkedSessions.{begun, ended, refused}
+use Rattle.board_model.specs.WorkedSessions.{accepted, last_step, refused}
 use Rattle.script_model.specs.declared.line.ScriptLine.TheVariants as script_line
 use Rattle.script_model.specs.ScriptAnswers.{of_boards}
 use Rattle.script_model.specs.ScriptSession.{Session}
@@ -27,7 +27,7 @@ on_boards pairs = map (λ (pair : Line × Answer). (script_line.Board pair.0, of
 
 -- a call on the tables that is told a number
 abbrev pub asked : List ℕ → Call → ℕ → boards.Session
-asked party c n = begun party c ∷ ended party access.Table (reply.Number n) ∷ []
+asked party c n = accepted party c ∷ last_step party access.Table (reply.Number n) ∷ []
 
 -- the board is made, and each entry gets a write handle
 abbrev pub opened_by_writer : boards.Session

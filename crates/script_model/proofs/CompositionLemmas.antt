@@ -15,7 +15,7 @@ use Rattle.script_model.specs.ScriptTurns.{EventTurn, ScriptState, turn_of}
 use Rattle.script_model.specs.ScriptSession.{IsLawful, IsLawfulFrom, Session, after, start, state_after}
 use Rattle.script_model.specs.SoundEvents.{IsSoundScript}
 use Rattle.script_model.specs.Parts.{board_part, part_of}
-use Rattle.script_model.specs.LawsOfComposition.{EndsGet, EndsPublication, NotifiedGetsAreFresh, Pair, at, of_pair, to_asked, to_begun, to_got, to_notified, to_published, to_taken}
+use Rattle.script_model.specs.LawsOfComposition.{EndsGet, EndsPublication, NotifiedGetsAreFresh, Pair, state_met, of_pair, to_asked, to_begun, to_got, to_notified, to_published, to_taken}
 use Rattle.script_model.proofs.PartLemmas.{board_part_leads, boards_law_holds}
 use Rattle.script_model.proofs.ScriptSoundLemmas.{script_start, script_from}
 
@@ -34,7 +34,7 @@ part_append (x ∷ xs) ys s =
     ∙ sym (append_assoc (part_of (turn_of s x.0) x.0 x.1) (board_part (after s x.0 x.1) xs) (board_part (state_after (after s x.0 x.1) xs) ys))
 
 -- every lawful session leads to a sound state
-pub sound_at : (pairs : Session) → IsLawful pairs → IsSoundScript (at pairs) (0 + length pairs)
+pub sound_at : (pairs : Session) → IsLawful pairs → IsSoundScript (state_met pairs) (0 + length pairs)
 sound_at pairs ok = script_from start 0 pairs script_start ok
 
 -- a step of a party whose call on boards runs is the boards' alone
@@ -65,7 +65,7 @@ past_more xs x zs ys h = record { rest = h.rest ++ ys; is = ap (λ (w : Session)
 
 -- ---- no get of a script is stale
 
-pub script_later : (xs ys : Session) (one two : Pair) (b i g h : ℕ) (words more : List ℕ) (reader : List ℕ) → IsLawful ((xs ++ one ∷ ys) ++ two ∷ []) → EndsPublication (at xs) one b i words g → EndsGet (at (xs ++ one ∷ ys)) two reader b i more h → (g ≤ h) × (g ≡ h → words ≡ more)
+pub script_later : (xs ys : Session) (one two : Pair) (b i g h : ℕ) (words more : List ℕ) (reader : List ℕ) → IsLawful ((xs ++ one ∷ ys) ++ two ∷ []) → EndsPublication (state_met xs) one b i words g → EndsGet (state_met (xs ++ one ∷ ys)) two reader b i more h → (g ≤ h) × (g ≡ h → words ≡ more)
 script_later xs ys one two b i g h words more reader ok pub_ends get_ends =
     let whole = lawful_split (xs ++ one ∷ ys) (two ∷ []) start ok in
     let first = lawful_split xs (one ∷ ys) start whole.0 in
@@ -73,10 +73,10 @@ script_later xs ys one two b i g h words more reader ok pub_ends get_ends =
     let p2 = get_ends.got in
     let lead1 = board_part_leads start xs first.0 in
     let lead2 = board_part_leads start (xs ++ one ∷ ys) whole.0 in
-    let part1 : board_part (at xs) (one ∷ ys) ≡ pub_ends.ends ∷ board_part (after (at xs) one.0 one.1) ys = step_part (at xs) _ one pub_ends.ends p1.party p1.call ys (sound_at xs first.0) pub_ends.is p1.line p1.runs in
-    let part2 : board_part (at (xs ++ one ∷ ys)) (two ∷ []) ≡ get_ends.ends ∷ [] = step_part (at (xs ++ one ∷ ys)) _ two get_ends.ends p2.party p2.call [] (sound_at (xs ++ one ∷ ys) whole.0) get_ends.is p2.line p2.runs in
+    let part1 : board_part (state_met xs) (one ∷ ys) ≡ pub_ends.ends ∷ board_part (after (state_met xs) one.0 one.1) ys = step_part (state_met xs) _ one pub_ends.ends p1.party p1.call ys (sound_at xs first.0) pub_ends.is p1.line p1.runs in
+    let part2 : board_part (state_met (xs ++ one ∷ ys)) (two ∷ []) ≡ get_ends.ends ∷ [] = step_part (state_met (xs ++ one ∷ ys)) _ two get_ends.ends p2.party p2.call [] (sound_at (xs ++ one ∷ ys) whole.0) get_ends.is p2.line p2.runs in
     let before : boards.Session = board_part start xs in
-    let between : boards.Session = board_part (after (at xs) one.0 one.1) ys in
+    let between : boards.Session = board_part (after (state_met xs) one.0 one.1) ys in
     let upto : board_part start (xs ++ one ∷ ys) ≡ before ++ pub_ends.ends ∷ between = part_append xs (one ∷ ys) start ∙ ap (λ (zs : boards.Session). before ++ zs) part1 in
     let all : board_part start ((xs ++ one ∷ ys) ++ two ∷ []) ≡ before ++ (pub_ends.ends ∷ (between ++ get_ends.ends ∷ [])) =
     part_append (xs ++ one ∷ ys) (two ∷ []) start
@@ -90,7 +90,7 @@ script_later xs ys one two b i g h words more reader ok pub_ends get_ends =
       two = get_ends.ends;
       lawful = subst boards.IsLawful all (boards_law_holds ((xs ++ one ∷ ys) ++ two ∷ []) ok).lawful;
     } in
-    let state2 : at_two pairs ≡ (at (xs ++ one ∷ ys)).boards = ap (boards.state_after boards.start) (sym upto) ∙ lead2.state in
+    let state2 : at_two pairs ≡ (state_met (xs ++ one ∷ ys)).boards = ap (boards.state_after boards.start) (sym upto) ∙ lead2.state in
     later pairs b i g h words more
     (subst (λ (s : boards.State). IsPublished s pub_ends.ends b i words g) (sym lead1.state) p1)
     (subst (λ (s : boards.State). IsGot s get_ends.ends b i more h) (sym state2) p2)
@@ -108,4 +108,4 @@ notified_gets_fresh c b i n id g h words more k =
     script_later (to_published c) to_got_is.rest c.published c.got b i g h words more k.reader
     (subst (λ (zs : Session). IsLawful (zs ++ c.got ∷ [])) to_got_is.is k.lawful)
     k.published
-    (subst (λ (zs : Session). EndsGet (at zs) c.got k.reader b i more h) to_got_is.is k.got)
+    (subst (λ (zs : Session). EndsGet (state_met zs) c.got k.reader b i more h) to_got_is.is k.got)

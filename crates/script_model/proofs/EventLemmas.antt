@@ -13,7 +13,7 @@ use Rattle.board_event_model.specs.WaitCalls.{Wait, wait_turn}
 use Rattle.board_event_model.specs.EventCalls.{EventCall, a_notify, a_wait, is_last, owed, reported, turn}
 use Rattle.board_event_model.specs.EventRuns.{IsReached, Moment, RunningCall, Takes, call_of}
 use Rattle.board_event_model.specs.EventSessions.{SessionAccess, history_on, PartyCall, StandingEvent, running_on, view}
-use Rattle.board_event_model.specs.LawsOfCalls.{progress_of, taken_by}
+use Rattle.board_event_model.specs.LawsOfCalls.{progress_with, taken_by}
 use Rattle.board_event_model.proofs.AccessLemmas.{perform_law_holds}
 use Rattle.board_event_model.proofs.EndLemmas.{none_law_holds}
 use Rattle.board_event_model.proofs.QuietLemmas.{eqb_self}
@@ -123,9 +123,9 @@ told_nothing told wait.Finished one h on = absurd (on refl)
 finished_goes_on : (w : Wait) (stage : WaitStage) (a : EventAnswer) → stage ≡ wait.Finished → is_last (wait_turn w stage a).0 ≡ true → ⊥
 finished_goes_on w stage a e last = false≢true (ap (λ (z : WaitStage). is_last (wait_turn w z a).0) (sym e) ∙ last)
 
-few_taken : (now : Moment) (p : List ℕ) (r : RunningCall) (w : Wait) (b : EventAnswer) → IsReached now → now.running p ≡ Some r → call_of r ≡ a_wait w → is_last (progress_of r b) ≡ true → w.many ≡ false → length (r.told ++ reported (progress_of r b)) ≤ 1
+few_taken : (now : Moment) (p : List ℕ) (r : RunningCall) (w : Wait) (b : EventAnswer) → IsReached now → now.running p ≡ Some r → call_of r ≡ a_wait w → is_last (progress_with r b) ≡ true → w.many ≡ false → length (r.told ++ reported (progress_with r b)) ≤ 1
 few_taken now p r w b reached runs is last one =
-    let turned : progress_of r b ≡ (wait_turn w w.stage b).0 = ap (λ (c : EventCall). (turn c b).0) is in
+    let turned : progress_with r b ≡ (wait_turn w w.stage b).0 = ap (λ (c : EventCall). (turn c b).0) is in
     let stage : OneStage w.stage = subst (λ (c : EventCall). CallOne c) is (one_reached now reached p r runs) one in
     let t = wait_of r.told r.waited r.steps (call_of r) w is (tracked_reached now reached p r runs) in
     let nothing : r.told ≡ [] = told_nothing r.told w.stage stage t.stage (λ e. finished_goes_on w w.stage b e (ap is_last (sym turned) ∙ last)) in
@@ -136,15 +136,15 @@ pub wait_replies : WaitReplies
 wait_replies l n st stands party call w a b told t is =
     let now : Moment = view (at_last l).events.session n st in
     let k = taken_is l n st party call a b (Some told) stands t in
-    let last = last_told call (progress_of call b) told k.tells in
+    let last = last_told call (progress_with call b) told k.tells in
     let ids : List ℕ = taken_by (record { met = st.event; access = a } ∷ call.steps) in
-    let same : call.told ++ reported (progress_of call b) ≡ ids = reply_law_holds now k.reached party call w a b k.takes is last.0 in
-    let turned : progress_of call b ≡ (wait_turn w w.stage b).0 = ap (λ (c : EventCall). (turn c b).0) is in
-    let waits : IsWaitProgress (progress_of call b) = subst IsWaitProgress (sym turned) (turn_waits w w.stage b) in
+    let same : call.told ++ reported (progress_with call b) ≡ ids = reply_law_holds now k.reached party call w a b k.takes is last.0 in
+    let turned : progress_with call b ≡ (wait_turn w w.stage b).0 = ap (λ (c : EventCall). (turn c b).0) is in
+    let waits : IsWaitProgress (progress_with call b) = subst IsWaitProgress (sym turned) (turn_waits w w.stage b) in
     let few : w.many ≡ false → length ids ≤ 1 = λ one. subst (λ (xs : List ℕ). length xs ≤ 1) same (few_taken now party call w b k.reached k.takes.runs is last.0 one) in
     let many_is : is_for_all (call_of call) ≡ w.many = ap is_for_all is in
-    subst (λ (x : EventReply). TellsIds w.many x ids) (sym (last.1 ∙ ap (λ (m : Bool). end_told m call.told (progress_of call b)) many_is))
-    (end_tells w.many call.told ids (progress_of call b) waits (λ e. (none_law_holds now k.reached party call w a b k.takes is e).none) same few)
+    subst (λ (x : EventReply). TellsIds w.many x ids) (sym (last.1 ∙ ap (λ (m : Bool). end_told m call.told (progress_with call b)) many_is))
+    (end_tells w.many call.told ids (progress_with call b) waits (λ e. (none_law_holds now k.reached party call w a b k.takes is e).none) same few)
 
 -- ---- accesses that can be made
 

@@ -11,7 +11,7 @@ use Rattle.board_event_model.proofs.QuietLemmas.{eqb_self, eqb_true}
 use Rattle.board_event_model.proofs.SetLemmas.{and_split, either, is_false, or_right}
 use Rattle.board_event_model.proofs.SoundLemmas.{none_some, some_same}
 use Rattle.board_model.specs.Things.{with_at}
-use Rattle.script_model.specs.ScriptEvents.{EventThing, ScriptEvents, listener, names_left, notifier, same_kind, with_listener, with_name, with_notifier, without_name}
+use Rattle.script_model.specs.ScriptEvents.{EventThing, ScriptEvents, listener, names_left, notifier, same_event_kind, with_listener, with_name, with_notifier, without_name}
 use Rattle.script_model.specs.ScriptGrammar.{is_event_name}
 use Rattle.script_model.specs.SoundEvents.{AreSoundEvents, IsEventThing, IsFormedEvent, IsListening, IsNamed, name_asked}
 use Rattle.script_model.proofs.EachLemmas.{changed_holds, each, each_and, each_event, each_some, each_was, event_in, one_changed, same_event, same_formed}
@@ -34,13 +34,13 @@ not_next s low m (Some st) e h = is_false _ (λ y. let a = eqb_true m (s.count +
 
 -- ---- a new event
 
-kind_is : (j k : EventKind) → same_kind j k ≡ true → j ≡ k
+kind_is : (j k : EventKind) → same_event_kind j k ≡ true → j ≡ k
 kind_is kind.Bits kind.Bits h = refl
 kind_is kind.Bits kind.Queue h = absurd (false≢true h)
 kind_is kind.Queue kind.Bits h = absurd (false≢true h)
 kind_is kind.Queue kind.Queue h = refl
 
-kind_itself : (k : EventKind) → same_kind k k ≡ true
+kind_itself : (k : EventKind) → same_event_kind k k ≡ true
 kind_itself kind.Bits = refl
 kind_itself kind.Queue = refl
 
@@ -103,7 +103,7 @@ listener_made x n party name k event max text low free idle h =
         ]
       ];
       calls = λ p d e. held_call x (with_listener x party name k event max) p d d refl refl (λ m t f. at_other x.things party name _ p m (another x.session.doing p party d e idle) ∙ f) (h.calls p d e);
-      names = λ j name2 m e. elim (if_cases (same_kind j k && bytes_eq name2 event) (Some next) (x.names j name2) (Some m) e) [
+      names = λ j name2 m e. elim (if_cases (same_event_kind j k && bytes_eq name2 event) (Some next) (x.names j name2) (Some m) e) [
         | inl is ↦ (
             let both = and_split _ _ is.0 in
             let at : next ≡ m = some_same _ _ is.1 in
@@ -210,7 +210,7 @@ left_was names n e j text m h =
     without_was names n e None j text m h = h
     without_was names n e (Some k) j text m h =
         elim (if_cases2 (k == n) (with_name names e.kind e.name None) names j text (Some m) h) [
-          | inl is ↦ elim (if_cases (same_kind j e.kind && bytes_eq text e.name) None (names j text) (Some m) is.1) [
+          | inl is ↦ elim (if_cases (same_event_kind j e.kind && bytes_eq text e.name) None (names j text) (Some m) is.1) [
             | inl none ↦ absurd (none_some m none.1)
             | inr kept ↦ kept.1
           ]

@@ -22,7 +22,7 @@ use Rattle.script_model.specs.declared.line.EventRequest.TheVariants as request
 use Rattle.script_model.specs.declared.line.ScriptLine.{ScriptLine}
 use Rattle.script_model.specs.declared.line.ScriptLine.TheVariants as line
 use Rattle.script_model.specs.ScriptGrammar.{IsEventRequest, IsScriptLine}
-use Rattle.script_model.specs.ScriptEvents.{EventAsk, EventTask, EventThing, ScriptEvents, act, ask, holds_event, listened, listener, name_made, notified, notifier, notify_call, on_event, runs_on_events, task_of, to_listen, to_notify, wait_call}
+use Rattle.script_model.specs.ScriptEvents.{EventAsk, EventTask, EventThing, ScriptEvents, act, ask, holds_event, listened_event, listener, name_made, notified, notifier, notify_call, on_event, runs_on_events, task_of, to_listen, to_notify, wait_call}
 use Rattle.script_model.specs.ScriptTurns.{EventTurn, ScriptState, begin_turn, begins, board_turn, drop_turn, drops, expire_of_call, expire_turn, expires, free_turn, is_name_taken, may_expire, refused, request_turn, steps, takes_event_name, task_turn, turn_of}
 use Rattle.script_model.specs.SoundEvents.{AreSoundEvents, IsFormedAsk, IsHeldCall, IsListening, name_asked}
 use Rattle.script_model.proofs.EachLemmas.{event_in}
@@ -86,7 +86,7 @@ notify_task x c party name id (Some (listener n)) t h idle holds e = absurd (non
 notify_task x c party name id (Some (notifier n)) t h idle holds e =
     on_standing x party name (notifier n) n (λ e. notify_call e id) (x.session.stands n) t idle holds refl e (λ st stands. (record { name = name; thing = notifier n; found = holds; uses = refl }, notify_is st.event st.listener party id))
 
-wait_task : (x : ScriptEvents) (c : ℕ) (party name : List ℕ) (many : Bool) (m : WaitMode) (o : Option EventThing) (t : EventTask) → AreSoundEvents x c → x.session.doing party ≡ None → x.things party name ≡ o → and_then (listened o) (on_event x (λ e. wait_call e many m)) ≡ Some t → IsTask x party t
+wait_task : (x : ScriptEvents) (c : ℕ) (party name : List ℕ) (many : Bool) (m : WaitMode) (o : Option EventThing) (t : EventTask) → AreSoundEvents x c → x.session.doing party ≡ None → x.things party name ≡ o → and_then (listened_event o) (on_event x (λ e. wait_call e many m)) ≡ Some t → IsTask x party t
 wait_task x c party name many m None t h idle holds e = absurd (none_some t e)
 wait_task x c party name many m (Some (notifier n)) t h idle holds e = absurd (none_some t e)
 wait_task x c party name many m (Some (listener n)) t h idle holds e =

@@ -20,7 +20,7 @@ use Rattle.board_model.specs.Tables.{entry_at}
 use Rattle.board_model.specs.WorkedSessions as boards
 use Rattle.script_model.specs.declared.reply.EventReply.TheVariants as event_reply
 use Rattle.script_model.specs.ScriptSession.{IsLawful}
-use Rattle.script_model.specs.LawsOfComposition.{EndsGet, EndsPublication, IsIdOf, IsNotifiedGet, Notifies, TakesId, at, is_running, to_begun, to_got, to_notified, to_published, to_taken}
+use Rattle.script_model.specs.LawsOfComposition.{EndsGet, EndsPublication, IsIdOf, IsNotifiedGet, Notifies, TakesId, state_met, is_running, to_begun, to_got, to_notified, to_published, to_taken}
 use Rattle.script_model.specs.WorkedScripts.{a_reader_that_was_told}
 
 -- ---- what stands, as a value of its own
@@ -61,16 +61,16 @@ wait_runs = new_call 1 (a_wait (wait_queue false mode.Try))
 
 -- ---- what each of the six pairs is
 
-published : EndsPublication (at (to_published a_reader_that_was_told)) a_reader_that_was_told.published 1 0 (9 ∷ []) 2
+published : EndsPublication (state_met (to_published a_reader_that_was_told)) a_reader_that_was_told.published 1 0 (9 ∷ []) 2
 published =
-    let update_runs = runs ((at (to_published a_reader_that_was_told)).boards.parties (codes "a")) refl in
+    let update_runs = runs ((state_met (to_published a_reader_that_was_told)).boards.parties (codes "a")) refl in
     record {
-      ends = boards.ended (codes "a") (access.Write 1 0 2) reply.Done;
+      ends = boards.last_step (codes "a") (access.Write 1 0 2) reply.Done;
       is = refl;
       publication = record { party = codes "a"; call = update_runs.call; access = access.Write 1 0 2; told = reply.Done; runs = update_runs.is; request = (refl, refl, refl, refl); line = refl; answer = refl };
     }
 
-notified : Notifies (at (to_notified a_reader_that_was_told)) a_reader_that_was_told.notified (codes "a") 1 0 0
+notified : Notifies (state_met (to_notified a_reader_that_was_told)) a_reader_that_was_told.notified (codes "a") 1 0 0
 notified = record {
   call = notify_runs;
   access = event_access.Push 0;
@@ -81,9 +81,9 @@ notified = record {
   makes = inr (refl, refl);
 }
 
-taken : TakesId (at (to_taken a_reader_that_was_told)) a_reader_that_was_told.taken 1 0
+taken : TakesId (state_met (to_taken a_reader_that_was_told)) a_reader_that_was_told.taken 1 0
 taken =
-    let event = found ((at (to_taken a_reader_that_was_told)).events.session.stands 1) refl in
+    let event = found ((state_met (to_taken a_reader_that_was_told)).events.session.stands 1) refl in
     record {
       party = codes "b";
       call = wait_runs;
@@ -98,17 +98,17 @@ taken =
       takes = refl;
     }
 
-got : EndsGet (at (to_got a_reader_that_was_told)) a_reader_that_was_told.got (codes "b") 1 0 (9 ∷ []) 2
+got : EndsGet (state_met (to_got a_reader_that_was_told)) a_reader_that_was_told.got (codes "b") 1 0 (9 ∷ []) 2
 got = record {
-  ends = boards.ended (codes "b") (access.Read 1 0 2) (reply.Got type.U64 (9 ∷ []) 2);
+  ends = boards.last_step (codes "b") (access.Read 1 0 2) (reply.Got type.U64 (9 ∷ []) 2);
   is = refl;
   got = record { party = codes "b"; call = get_runs; fetch = the_get; access = access.Read 1 0 2; runs = refl; request = refl; board = refl; place = refl; line = refl; answer = refl };
   own = refl;
 }
 
-place : IsIdOf (at (to_begun a_reader_that_was_told)) 1 0 0
+place : IsIdOf (state_met (to_begun a_reader_that_was_told)) 1 0 0
 place =
-    let entry = found (entry_at (at (to_begun a_reader_that_was_told)).boards.standing.tables 1 0) refl in
+    let entry = found (entry_at (state_met (to_begun a_reader_that_was_told)).boards.standing.tables 1 0) refl in
     record { entry = entry.it; found = entry.is; place = refl }
 
 pub reader_told : IsNotifiedGet a_reader_that_was_told 1 0 1 0 2 2 (9 ∷ []) (9 ∷ [])

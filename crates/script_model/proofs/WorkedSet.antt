@@ -36,8 +36,8 @@ use Rattle.script_model.specs.declared.reply.EventReply.{EventReply}
 use Rattle.script_model.specs.declared.reply.EventReply.TheVariants as event_reply
 use Rattle.script_model.specs.ScriptSession.{IsLawful, IsLawfulFrom, IsRight, Session, after, start, state_after}
 use Rattle.script_model.specs.ScriptTurns.{ScriptState}
-use Rattle.script_model.specs.LawsOfComposition.{EndsGet, EndsPublication, IsIdOf, IsNotifiedGet, IsUntaken, Notifies, Pair, TakesId, at, of_pair, past, to_asked, to_begun, to_got, to_notified, to_published, to_taken}
-use Rattle.script_model.specs.WorkedScripts.{a_reader_told_by_a_set, asked, set_access}
+use Rattle.script_model.specs.LawsOfComposition.{EndsGet, EndsPublication, IsIdOf, IsNotifiedGet, IsUntaken, Notifies, Pair, TakesId, state_met, of_pair, past, to_asked, to_begun, to_got, to_notified, to_published, to_taken}
+use Rattle.script_model.specs.WorkedScripts.{a_reader_told_by_a_set, asks, set_access}
 use Rattle.script_model.proofs.WorkedScript.{found, get_runs, runs, the_get}
 
 -- ---- the word of the set in which 0 is pending
@@ -64,7 +64,7 @@ lawful_join (x ∷ xs) ys s h k = (h.0, lawful_join xs ys (after s x.0 x.1) h.1 
 
 -- an access that is right
 abbrev Right : Session → Pair → Type 0
-Right before pair = IsRight (at before) pair.0 pair.1
+Right before pair = IsRight (state_met before) pair.0 pair.1
 
 -- what comes before each access
 abbrev to_look : Session
@@ -80,7 +80,7 @@ abbrev the_post : Pair
 the_post = set_access (codes "a") event_access.Post event_answer.Done (Some event_reply.Done)
 
 abbrev the_wait_begins : Pair
-the_wait_begins = asked (codes "b") (request.Wait (codes "e") false mode.Block)
+the_wait_begins = asks (codes "b") (request.Wait (codes "e") false mode.Block)
 
 abbrev a_signal : EventAnswer → Pair
 a_signal b = set_access (codes "b") event_access.Signal b None
@@ -160,23 +160,23 @@ lawful =
 
 -- ---- what each of the six pairs is
 
-published : EndsPublication (at (to_published a_reader_told_by_a_set)) a_reader_told_by_a_set.published 1 0 (9 ∷ []) 2
+published : EndsPublication (state_met (to_published a_reader_told_by_a_set)) a_reader_told_by_a_set.published 1 0 (9 ∷ []) 2
 published =
-    let update_runs = runs ((at (to_published a_reader_told_by_a_set)).boards.parties (codes "a")) refl in
+    let update_runs = runs ((state_met (to_published a_reader_told_by_a_set)).boards.parties (codes "a")) refl in
     record {
-      ends = boards.ended (codes "a") (access.Write 1 0 2) reply.Done;
+      ends = boards.last_step (codes "a") (access.Write 1 0 2) reply.Done;
       is = refl;
       publication = record { party = codes "a"; call = update_runs.call; access = access.Write 1 0 2; told = reply.Done; runs = update_runs.is; request = (refl, refl, refl, refl); line = refl; answer = refl };
     }
 
-place : IsIdOf (at (to_begun a_reader_told_by_a_set)) 1 0 0
+place : IsIdOf (state_met (to_begun a_reader_told_by_a_set)) 1 0 0
 place =
-    let entry = found (entry_at (at (to_begun a_reader_told_by_a_set)).boards.standing.tables 1 0) refl in
+    let entry = found (entry_at (state_met (to_begun a_reader_told_by_a_set)).boards.standing.tables 1 0) refl in
     record { entry = entry.it; found = entry.is; place = refl }
 
-notified : Notifies (at (to_notified a_reader_told_by_a_set)) a_reader_told_by_a_set.notified (codes "a") 1 0 0
+notified : Notifies (state_met (to_notified a_reader_told_by_a_set)) a_reader_told_by_a_set.notified (codes "a") 1 0 0
 notified =
-    let doing = found ((at (to_notified a_reader_told_by_a_set)).events.session.doing (codes "a")) refl in
+    let doing = found ((state_met (to_notified a_reader_told_by_a_set)).events.session.doing (codes "a")) refl in
     record {
       call = doing.it.call;
       access = event_access.Set 0;
@@ -194,7 +194,7 @@ takes_nothing s party a b r none t =
     let same : t.access ≡ a = cc in
     false≢true (ap (λ (xs : List ℕ). list_any (λ x. x == 0) xs) (sym (none t.event.event)) ∙ ap (λ (z : EventAccess). list_any (λ x. x == 0) (taken t.event.event z)) (sym same) ∙ t.takes)
 
-begins_only : (s : ScriptState) (party : List ℕ) (q : EventRequest) → TakesId s (asked party q) 1 0 → ⊥
+begins_only : (s : ScriptState) (party : List ℕ) (q : EventRequest) → TakesId s (asks party q) 1 0 → ⊥
 begins_only s party q t = let e = t.step.steps in cc
 
 untaken : IsUntaken (past (to_notified a_reader_told_by_a_set) a_reader_told_by_a_set.notified) a_reader_told_by_a_set.before_taken 1 0
@@ -216,11 +216,11 @@ untaken = (
 abbrev the_wait : Wait
 the_wait = record { words = 1; many = false; mode = mode.Block; stage = stage.Clear 0 }
 
-taken_then : TakesId (at (to_taken a_reader_told_by_a_set)) a_reader_told_by_a_set.taken 1 0
+taken_then : TakesId (state_met (to_taken a_reader_told_by_a_set)) a_reader_told_by_a_set.taken 1 0
 unfolding count_trailing_zeros
 taken_then =
-    let doing = found ((at (to_taken a_reader_told_by_a_set)).events.session.doing (codes "b")) refl in
-    let event = found ((at (to_taken a_reader_told_by_a_set)).events.session.stands 1) refl in
+    let doing = found ((state_met (to_taken a_reader_told_by_a_set)).events.session.doing (codes "b")) refl in
+    let event = found ((state_met (to_taken a_reader_told_by_a_set)).events.session.stands 1) refl in
     record {
       party = codes "b";
       call = doing.it.call;
@@ -235,9 +235,9 @@ taken_then =
       takes = refl;
     }
 
-got : EndsGet (at (to_got a_reader_told_by_a_set)) a_reader_told_by_a_set.got (codes "b") 1 0 (9 ∷ []) 2
+got : EndsGet (state_met (to_got a_reader_told_by_a_set)) a_reader_told_by_a_set.got (codes "b") 1 0 (9 ∷ []) 2
 got = record {
-  ends = boards.ended (codes "b") (access.Read 1 0 2) (reply.Got type.U64 (9 ∷ []) 2);
+  ends = boards.last_step (codes "b") (access.Read 1 0 2) (reply.Got type.U64 (9 ∷ []) 2);
   is = refl;
   got = record { party = codes "b"; call = get_runs; fetch = the_get; access = access.Read 1 0 2; runs = refl; request = refl; board = refl; place = refl; line = refl; answer = refl };
   own = refl;

@@ -162,12 +162,12 @@ abbrev pub to_got : Cuts → Session
 to_got c = to_asked c ++ c.asked ∷ c.before_got
 
 -- the state that a pair after these met
-abbrev pub at : Session → ScriptState
-at pairs = state_after start pairs
+abbrev pub state_met : Session → ScriptState
+state_met pairs = state_after start pairs
 
 -- and the state after one pair more
 abbrev pub past : Session → Pair → ScriptState
-past pairs pair = after (at pairs) pair.0 pair.1
+past pairs pair = after (state_met pairs) pair.0 pair.1
 
 -- in one lawful session words were published in an entry; then a party began to notify event n of the entry's id, and made it pending;
 -- then a wait took it, the first one since; then a get of the entry began, which ended with the later words
@@ -176,15 +176,15 @@ pub record IsNotifiedGet (c : Cuts) (b i n id g h : ℕ) (words later : List ℕ
   pub reader : List ℕ
   pub number : ℕ
   pub lawful : IsLawful (to_got c ++ c.got ∷ [])
-  pub published : EndsPublication (at (to_published c)) c.published b i words g
-  pub id_is : IsIdOf (at (to_begun c)) b i id
-  pub begun : BeginsNotify (at (to_begun c)) c.begun bell n id number
-  pub notified : Notifies (at (to_notified c)) c.notified bell n id number
+  pub published : EndsPublication (state_met (to_published c)) c.published b i words g
+  pub id_is : IsIdOf (state_met (to_begun c)) b i id
+  pub begun : BeginsNotify (state_met (to_begun c)) c.begun bell n id number
+  pub notified : Notifies (state_met (to_notified c)) c.notified bell n id number
   pub untaken : IsUntaken (past (to_notified c) c.notified) c.before_taken n id
-  pub taken : TakesId (at (to_taken c)) c.taken n id
-  pub asked : BeginsGet (at (to_asked c)) c.asked reader b i
+  pub taken : TakesId (state_met (to_taken c)) c.taken n id
+  pub asked : BeginsGet (state_met (to_asked c)) c.asked reader b i
   pub runs_on : RunsOn (past (to_asked c) c.asked) c.before_got reader
-  pub got : EndsGet (at (to_got c)) c.got reader b i later h
+  pub got : EndsGet (state_met (to_got c)) c.got reader b i later h
 
 -- ---- the law
 

@@ -53,10 +53,10 @@ abbrev pub holds_event : ScriptEvents → List ℕ → List ℕ → Bool
 holds_event x party name = is_some (x.things party name)
 
 -- the event that a thing listens on
-abbrev pub listened : Option EventThing → Option ℕ
-listened None = None
-listened (Some (listener n)) = Some n
-listened (Some (notifier n)) = None
+abbrev pub listened_event : Option EventThing → Option ℕ
+listened_event None = None
+listened_event (Some (listener n)) = Some n
+listened_event (Some (notifier n)) = None
 
 -- the event that a thing notifies
 abbrev pub notified : Option EventThing → Option ℕ
@@ -89,7 +89,7 @@ task_of x party (request.ListenBits name event max) = Some (ask (to_listen name 
 task_of x party (request.ListenQueue name event) = Some (ask (to_listen name kind.Queue event 0))
 task_of x party (request.Notifier name k event) = Some (ask (to_notify name k event))
 task_of x party (request.Notify name id) = and_then (notified (x.things party name)) (on_event x (λ e. notify_call e id))
-task_of x party (request.Wait name many m) = and_then (listened (x.things party name)) (on_event x (λ e. wait_call e many m))
+task_of x party (request.Wait name many m) = and_then (listened_event (x.things party name)) (on_event x (λ e. wait_call e many m))
 
 -- the name of the thing that a call makes
 abbrev pub name_made : EventRequest → Option (List ℕ)
@@ -102,12 +102,12 @@ name_made (request.Wait name many m) = None
 -- ---- names
 
 -- the kinds are one
-abbrev pub same_kind : EventKind → EventKind → Bool
-same_kind j k = if is_bits j then is_bits k else not (is_bits k)
+abbrev pub same_event_kind : EventKind → EventKind → Bool
+same_event_kind j k = if is_bits j then is_bits k else not (is_bits k)
 
 -- the names, where a name of a kind is held so
 abbrev pub with_name : (EventKind → List ℕ → Option ℕ) → EventKind → List ℕ → Option ℕ → EventKind → List ℕ → Option ℕ
-with_name names k name x j text = if same_kind j k && bytes_eq text name then x else names j text
+with_name names k name x j text = if same_event_kind j k && bytes_eq text name then x else names j text
 
 -- the name of an event goes, where that event holds it
 abbrev pub without_name : (EventKind → List ℕ → Option ℕ) → ℕ → Event → Option ℕ → EventKind → List ℕ → Option ℕ

@@ -23,11 +23,11 @@ use Rattle.script_model.specs.declared.reply.EventReply.TheVariants as event_rep
 use Rattle.script_model.specs.ScriptAnswers.{expired, of_boards, of_event}
 use Rattle.script_model.specs.ScriptSession.{Session}
 use Rattle.script_model.specs.LawsOfComposition.{Pair, of_pair}
-use Rattle.script_model.specs.WorkedScripts.{a_queue, a_set, asked, queued, told}
+use Rattle.script_model.specs.WorkedScripts.{a_queue, a_set, asks, queued, told}
 
 -- a listener or notifier that is dropped
-abbrev pub dropped : List ℕ → List ℕ → Pair
-dropped party name = of_pair (board_line.Release party name, answer.Step access.Table (Some reply.Done))
+abbrev pub drops : List ℕ → List ℕ → Pair
+drops party name = of_pair (board_line.Release party name, answer.Step access.Table (Some reply.Done))
 
 -- a line that changes nothing, with the reason
 abbrev pub refused : ScriptLine → Reason → Pair
@@ -37,14 +37,14 @@ refused l why = (l, of_boards (answer.Refused why))
 abbrev pub a_queue_name_is_free_again : Session
 a_queue_name_is_free_again =
     a_queue ++ (
-    asked (codes "a") (request.ListenQueue (codes "e") (codes "q"))
+    asks (codes "a") (request.ListenQueue (codes "e") (codes "q"))
     ∷ told (codes "a") event_reply.AlreadyExists
-    ∷ dropped (codes "b") (codes "e")
-    ∷ asked (codes "a") (request.Notifier (codes "k") kind.Queue (codes "q"))
+    ∷ drops (codes "b") (codes "e")
+    ∷ asks (codes "a") (request.Notifier (codes "k") kind.Queue (codes "q"))
     ∷ told (codes "a") event_reply.DoesNotExist
-    ∷ asked (codes "b") (request.ListenQueue (codes "e") (codes "q"))
+    ∷ asks (codes "b") (request.ListenQueue (codes "e") (codes "q"))
     ∷ told (codes "b") event_reply.Done
-    ∷ asked (codes "a") (request.Notify (codes "n") 3)
+    ∷ asks (codes "a") (request.Notify (codes "n") 3)
     ∷ queued (codes "a") (event_access.Push 3) event_answer.Gone (event_reply.NotNotified notify_error.Disconnected)
     ∷ [])
 
@@ -52,15 +52,15 @@ a_queue_name_is_free_again =
 abbrev pub a_set_name_is_held_longer : Session
 a_set_name_is_held_longer =
     a_set ++ (
-    dropped (codes "b") (codes "e")
-    ∷ asked (codes "b") (request.ListenBits (codes "e") (codes "s") 63)
+    drops (codes "b") (codes "e")
+    ∷ asks (codes "b") (request.ListenBits (codes "e") (codes "s") 63)
     ∷ told (codes "b") event_reply.AlreadyExists
-    ∷ asked (codes "b") (request.Notifier (codes "k") kind.Bits (codes "s"))
+    ∷ asks (codes "b") (request.Notifier (codes "k") kind.Bits (codes "s"))
     ∷ told (codes "b") event_reply.DoesNotExist
-    ∷ asked (codes "b") (request.ListenQueue (codes "k") (codes "s"))
+    ∷ asks (codes "b") (request.ListenQueue (codes "k") (codes "s"))
     ∷ told (codes "b") event_reply.Done
-    ∷ dropped (codes "a") (codes "n")
-    ∷ asked (codes "b") (request.ListenBits (codes "e") (codes "s") 127)
+    ∷ drops (codes "a") (codes "n")
+    ∷ asks (codes "b") (request.ListenBits (codes "e") (codes "s") 127)
     ∷ told (codes "b") event_reply.Done
     ∷ [])
 
@@ -72,14 +72,14 @@ a_board name = line.Board (board_line.Begin (codes "b") (call.Create name (codes
 abbrev pub lines_are_refused : Session
 lines_are_refused =
     refused (line.Expire (codes "b")) reason.Idle
-    ∷ asked (codes "b") (request.ListenQueue (codes "e") (codes "q"))
+    ∷ asks (codes "b") (request.ListenQueue (codes "e") (codes "q"))
     ∷ refused (line.Board (board_line.Release (codes "b") (codes "e"))) reason.Busy
     ∷ refused (line.Expire (codes "b")) reason.NotWaiting
     ∷ told (codes "b") event_reply.Done
     ∷ refused (line.Event (codes "b") (request.ListenQueue (codes "e") (codes "r"))) reason.Taken
     ∷ refused (line.Event (codes "b") (request.Notify (codes "e") 1)) reason.Unknown
     ∷ refused (a_board (codes "e")) reason.Taken
-    ∷ asked (codes "b") (request.Wait (codes "e") false mode.Timed)
+    ∷ asks (codes "b") (request.Wait (codes "e") false mode.Timed)
     ∷ refused (a_board (codes "f")) reason.Busy
     ∷ refused (line.Expire (codes "b")) reason.NotWaiting
     ∷ (line.Board (board_line.Step (codes "b")), of_event kind.Queue (codes "q") event_access.Pop event_answer.Empty None)
@@ -98,9 +98,9 @@ abbrev pub a_listener_is_abandoned : Session
 a_listener_is_abandoned =
     a_queue ++ (
     of_pair (boards.left (codes "b"))
-    ∷ asked (codes "a") (request.Notify (codes "n") 3)
+    ∷ asks (codes "a") (request.Notify (codes "n") 3)
     ∷ queued (codes "a") (event_access.Push 3) event_answer.Gone (event_reply.NotNotified notify_error.Disconnected)
-    ∷ asked (codes "a") (request.ListenQueue (codes "e") (codes "q"))
+    ∷ asks (codes "a") (request.ListenQueue (codes "e") (codes "q"))
     ∷ told (codes "a") event_reply.AlreadyExists
     ∷ [])
 
@@ -110,7 +110,7 @@ a_listener_is_abandoned =
 abbrev pub an_early_expire : Session
 an_early_expire =
     a_queue ++ (
-    asked (codes "b") (request.Wait (codes "e") false mode.Timed)
+    asks (codes "b") (request.Wait (codes "e") false mode.Timed)
     ∷ (line.Expire (codes "b"), expired)
     ∷ [])
 
@@ -118,7 +118,7 @@ an_early_expire =
 abbrev pub a_name_given_twice : Session
 a_name_given_twice =
     a_queue ++ (
-    asked (codes "a") (request.ListenQueue (codes "e") (codes "q"))
+    asks (codes "a") (request.ListenQueue (codes "e") (codes "q"))
     ∷ told (codes "a") event_reply.Done
     ∷ [])
 
@@ -126,10 +126,10 @@ a_name_given_twice =
 abbrev pub the_newest_id_first : Session
 the_newest_id_first =
     a_queue ++ (
-    asked (codes "a") (request.Notify (codes "n") 3)
+    asks (codes "a") (request.Notify (codes "n") 3)
     ∷ queued (codes "a") (event_access.Push 3) event_answer.Done event_reply.Done
-    ∷ asked (codes "a") (request.Notify (codes "n") 4)
+    ∷ asks (codes "a") (request.Notify (codes "n") 4)
     ∷ queued (codes "a") (event_access.Push 4) event_answer.Done event_reply.Done
-    ∷ asked (codes "b") (request.Wait (codes "e") false mode.Try)
+    ∷ asks (codes "b") (request.Wait (codes "e") false mode.Try)
     ∷ queued (codes "b") event_access.Pop (event_answer.Id 4) (event_reply.Id 4)
     ∷ [])

@@ -24,8 +24,8 @@ use Rattle.script_model.specs.ScriptSession.{Session}
 use Rattle.script_model.specs.LawsOfComposition.{Cuts, Pair, of_pair}
 
 -- a call on events that is accepted
-abbrev pub asked : List ℕ → EventRequest → Pair
-asked party q = (line.Event party q, of_boards answer.Begun)
+abbrev pub asks : List ℕ → EventRequest → Pair
+asks party q = (line.Event party q, of_boards answer.Begun)
 
 -- the step of a listener or notifier that was asked for
 abbrev pub told : List ℕ → EventReply → Pair
@@ -42,18 +42,18 @@ set_access party a b r = (line.Board (board_line.Step party), of_event kind.Bits
 -- b listens on a queue, and a has a notifier of it
 abbrev pub a_queue : Session
 a_queue =
-    asked (codes "b") (request.ListenQueue (codes "e") (codes "q"))
+    asks (codes "b") (request.ListenQueue (codes "e") (codes "q"))
     ∷ told (codes "b") event_reply.Done
-    ∷ asked (codes "a") (request.Notifier (codes "n") kind.Queue (codes "q"))
+    ∷ asks (codes "a") (request.Notifier (codes "n") kind.Queue (codes "q"))
     ∷ told (codes "a") event_reply.Done
     ∷ []
 
 -- b listens on a set, and a has a notifier of it
 abbrev pub a_set : Session
 a_set =
-    asked (codes "b") (request.ListenBits (codes "e") (codes "s") 63)
+    asks (codes "b") (request.ListenBits (codes "e") (codes "s") 63)
     ∷ told (codes "b") event_reply.Done
-    ∷ asked (codes "a") (request.Notifier (codes "n") kind.Bits (codes "s"))
+    ∷ asks (codes "a") (request.Notifier (codes "n") kind.Bits (codes "s"))
     ∷ told (codes "a") event_reply.Done
     ∷ []
 
@@ -61,52 +61,52 @@ a_set =
 abbrev pub an_update : Session → Session
 an_update events =
     map of_pair (boards.set_up type.U64 (value.U64 7)) ++ (events ++ map of_pair (
-    boards.begun (codes "a") (call.Update (codes "m") (value.U64 9))
-    ∷ boards.stepped (codes "a") (access.Write 1 3 9)
+    boards.accepted (codes "a") (call.Update (codes "m") (value.U64 9))
+    ∷ boards.one_step (codes "a") (access.Write 1 3 9)
     ∷ []))
 
 -- a updates the entry and notifies b of its id, which is 0; b waits, takes the id, and gets the entry
 abbrev pub a_reader_that_was_told : Cuts
 a_reader_that_was_told = record {
   before_published = an_update a_queue;
-  published = of_pair (boards.ended (codes "a") (access.Write 1 0 2) reply.Done);
+  published = of_pair (boards.last_step (codes "a") (access.Write 1 0 2) reply.Done);
   before_begun = [];
-  begun = asked (codes "a") (request.Notify (codes "n") 0);
+  begun = asks (codes "a") (request.Notify (codes "n") 0);
   before_notified = [];
   notified = queued (codes "a") (event_access.Push 0) event_answer.Done event_reply.Done;
-  before_taken = asked (codes "b") (request.Wait (codes "e") false mode.Try) ∷ [];
+  before_taken = asks (codes "b") (request.Wait (codes "e") false mode.Try) ∷ [];
   taken = queued (codes "b") event_access.Pop (event_answer.Id 0) (event_reply.Id 0);
   before_asked = [];
-  asked = of_pair (boards.begun (codes "b") (call.Get (codes "h") None));
+  asked = of_pair (boards.accepted (codes "b") (call.Get (codes "h") None));
   before_got = map of_pair (
-      boards.stepped (codes "b") (access.Read 1 0 2)
-      ∷ boards.stepped (codes "b") (access.Read 1 3 9)
+      boards.one_step (codes "b") (access.Read 1 0 2)
+      ∷ boards.one_step (codes "b") (access.Read 1 3 9)
       ∷ []);
-  got = of_pair (boards.ended (codes "b") (access.Read 1 0 2) (reply.Got type.U64 (9 ∷ []) 2));
+  got = of_pair (boards.last_step (codes "b") (access.Read 1 0 2) (reply.Got type.U64 (9 ∷ []) 2));
 }
 
 -- the same with a set of ids, which the notify posts and the wait reads before it takes the id
 abbrev pub a_reader_told_by_a_set : Cuts
 a_reader_told_by_a_set = record {
   before_published = an_update a_set;
-  published = of_pair (boards.ended (codes "a") (access.Write 1 0 2) reply.Done);
+  published = of_pair (boards.last_step (codes "a") (access.Write 1 0 2) reply.Done);
   before_begun = [];
-  begun = asked (codes "a") (request.Notify (codes "n") 0);
+  begun = asks (codes "a") (request.Notify (codes "n") 0);
   before_notified = set_access (codes "a") event_access.Listener event_answer.Yes None ∷ [];
   notified = set_access (codes "a") (event_access.Set 0) event_answer.Done None;
   before_taken =
       set_access (codes "a") event_access.Post event_answer.Done (Some event_reply.Done)
-      ∷ asked (codes "b") (request.Wait (codes "e") false mode.Block)
+      ∷ asks (codes "b") (request.Wait (codes "e") false mode.Block)
       ∷ set_access (codes "b") event_access.Signal event_answer.Yes None
       ∷ set_access (codes "b") event_access.Signal event_answer.No None
       ∷ set_access (codes "b") (event_access.Scan 0) (event_answer.Word 1) None
       ∷ [];
   taken = set_access (codes "b") (event_access.Clear 0) event_answer.Done (Some (event_reply.Id 0));
   before_asked = [];
-  asked = of_pair (boards.begun (codes "b") (call.Get (codes "h") None));
+  asked = of_pair (boards.accepted (codes "b") (call.Get (codes "h") None));
   before_got = map of_pair (
-      boards.stepped (codes "b") (access.Read 1 0 2)
-      ∷ boards.stepped (codes "b") (access.Read 1 3 9)
+      boards.one_step (codes "b") (access.Read 1 0 2)
+      ∷ boards.one_step (codes "b") (access.Read 1 3 9)
       ∷ []);
-  got = of_pair (boards.ended (codes "b") (access.Read 1 0 2) (reply.Got type.U64 (9 ∷ []) 2));
+  got = of_pair (boards.last_step (codes "b") (access.Read 1 0 2) (reply.Got type.U64 (9 ∷ []) 2));
 }
