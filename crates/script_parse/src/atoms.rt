@@ -40,7 +40,7 @@ pub(crate) fn is_visible(text: &[u8], most: usize) -> bool
     has_visible_bytes(text)
 }
 
-#[tactic(auto, unfolding(board_model::specs::LineReading::read_name))]
+#[tactic(auto, unfolding(script_grammar::specs::LineReading::read_name))]
 pub(crate) fn name_of(text: &[u8]) -> Option<Name>
     ensures { result ≡ read_name text.now }
 {
@@ -50,7 +50,7 @@ pub(crate) fn name_of(text: &[u8]) -> Option<Name>
     Some(Text::of(text))
 }
 
-#[tactic(auto, unfolding(board_model::specs::LineReading::read_board_name))]
+#[tactic(auto, unfolding(script_grammar::specs::LineReading::read_board_name))]
 pub(crate) fn board_name_of(text: &[u8]) -> Option<Text<255>>
     ensures { result ≡ read_board_name text.now }
 {
@@ -60,7 +60,7 @@ pub(crate) fn board_name_of(text: &[u8]) -> Option<Text<255>>
     Some(Text::of(text))
 }
 
-#[tactic(auto, unfolding(board_model::specs::LineReading::read_attribute_key))]
+#[tactic(auto, unfolding(script_grammar::specs::LineReading::read_attribute_key))]
 pub(crate) fn attribute_key_of(text: &[u8]) -> Option<Text<64>>
     ensures { result ≡ read_attribute_key text.now }
 {
@@ -70,7 +70,7 @@ pub(crate) fn attribute_key_of(text: &[u8]) -> Option<Text<64>>
     Some(Text::of(text))
 }
 
-#[tactic(auto, unfolding(board_model::specs::LineReading::read_attribute_value))]
+#[tactic(auto, unfolding(script_grammar::specs::LineReading::read_attribute_value))]
 pub(crate) fn attribute_value_of(text: &[u8]) -> Option<Text<256>>
     ensures { result ≡ read_attribute_value text.now }
 {
@@ -110,7 +110,7 @@ fn digits_value(text: &[u8]) -> Option<u64>
 }
 
 /// A decimal number of at most 64 bits, without leading zeros.
-#[tactic(auto, unfolding(board_model::specs::LineReading::read_number))]
+#[tactic(auto, unfolding(script_grammar::specs::LineReading::read_number))]
 pub fn number_of(text: &[u8]) -> Option<u64>
     ensures { result ≡ read_number text.now }
 {
@@ -120,7 +120,7 @@ pub fn number_of(text: &[u8]) -> Option<u64>
     digits_value(text)
 }
 
-#[tactic(auto, unfolding(board_model::specs::LineReading::read_key_type))]
+#[tactic(auto, unfolding(script_grammar::specs::LineReading::read_key_type))]
 pub(crate) fn key_type_of(text: &[u8]) -> Option<KeyType>
     ensures { result ≡ read_key_type text.now }
 {
@@ -133,7 +133,7 @@ pub(crate) fn key_type_of(text: &[u8]) -> Option<KeyType>
     None
 }
 
-#[tactic(auto, unfolding(board_model::specs::LineReading::read_value_type))]
+#[tactic(auto, unfolding(script_grammar::specs::LineReading::read_value_type))]
 pub(crate) fn value_type_of(text: &[u8]) -> Option<ValueType>
     ensures { result ≡ read_value_type text.now }
 {
@@ -149,7 +149,7 @@ pub(crate) fn value_type_of(text: &[u8]) -> Option<ValueType>
     None
 }
 
-#[tactic(auto, unfolding(board_model::specs::LineReading::read_key, board_model::specs::LineReading::read_key_behind))]
+#[tactic(auto, unfolding(script_grammar::specs::LineReading::read_key, script_grammar::specs::LineReading::read_key_behind))]
 pub(crate) fn key_of(text: &[u8]) -> Option<Key>
     ensures { result ≡ read_key text.now }
 {

@@ -10,7 +10,7 @@ use crate::values::entries_of;
 use board_model::{Call, LongName, Name};
 use std::alloc::{AllocError, Global};
 
-#[tactic(auto, unfolding(board_model::specs::LineReading::read_one_name))]
+#[tactic(auto, unfolding(script_grammar::specs::LineReading::read_one_name))]
 pub(crate) fn one_name(tokens: &mut Tokens) -> Option<Name>
     ensures { result ≡ read_one_name tokens.old }
 {
@@ -21,7 +21,7 @@ pub(crate) fn one_name(tokens: &mut Tokens) -> Option<Name>
     Some(name)
 }
 
-#[tactic(auto, unfolding(board_model::specs::LineReading::read_two_names))]
+#[tactic(auto, unfolding(script_grammar::specs::LineReading::read_two_names))]
 pub(crate) fn two_names(tokens: &mut Tokens) -> Option<(Name, Name)>
     ensures { result ≡ read_two_names tokens.old }
 {
@@ -33,7 +33,7 @@ pub(crate) fn two_names(tokens: &mut Tokens) -> Option<(Name, Name)>
     Some((first, second))
 }
 
-#[tactic(auto, unfolding(board_model::specs::LineReading::read_entry_mut))]
+#[tactic(auto, unfolding(script_grammar::specs::LineReading::read_entry_mut))]
 fn entry_mut_of(tokens: &mut Tokens) -> Option<Call>
     ensures { result ≡ read_entry_mut tokens.old }
 {
@@ -52,7 +52,7 @@ fn entry_mut_of(tokens: &mut Tokens) -> Option<Call>
     })
 }
 
-#[tactic(auto, unfolding(board_model::specs::LineReading::read_update))]
+#[tactic(auto, unfolding(script_grammar::specs::LineReading::read_update))]
 fn update_of(tokens: &mut Tokens) -> Option<Call>
     ensures { result ≡ read_update tokens.old }
 {
@@ -65,7 +65,7 @@ fn update_of(tokens: &mut Tokens) -> Option<Call>
 }
 
 // The name that may stand at the end.
-#[tactic(auto, unfolding(board_model::specs::LineReading::read_name_if_any))]
+#[tactic(auto, unfolding(script_grammar::specs::LineReading::read_name_if_any))]
 fn name_if_any(tokens: &mut Tokens) -> Option<Option<Name>>
     ensures { result ≡ read_name_if_any tokens.old }
 {
@@ -79,7 +79,7 @@ fn name_if_any(tokens: &mut Tokens) -> Option<Option<Name>>
     Some(Some(name))
 }
 
-#[tactic(auto, unfolding(board_model::specs::LineReading::read_entry_call))]
+#[tactic(auto, unfolding(script_grammar::specs::LineReading::read_entry_call))]
 fn entry_call_of(tokens: &mut Tokens) -> Option<Call>
     ensures { result ≡ read_entry_call tokens.old }
 {
@@ -98,7 +98,7 @@ fn entry_call_of(tokens: &mut Tokens) -> Option<Call>
     })
 }
 
-#[tactic(auto, unfolding(board_model::specs::LineReading::read_get))]
+#[tactic(auto, unfolding(script_grammar::specs::LineReading::read_get))]
 fn get_of(tokens: &mut Tokens) -> Option<Call>
     ensures { result ≡ read_get tokens.old }
 {
@@ -107,7 +107,7 @@ fn get_of(tokens: &mut Tokens) -> Option<Call>
     Some(Call::Get { handle, value })
 }
 
-#[tactic(auto, unfolding(board_model::specs::LineReading::read_put))]
+#[tactic(auto, unfolding(script_grammar::specs::LineReading::read_put))]
 fn put_of(tokens: &mut Tokens) -> Option<Call>
     ensures { result ≡ read_put tokens.old }
 {
@@ -120,7 +120,7 @@ fn put_of(tokens: &mut Tokens) -> Option<Call>
     Some(Call::Put { loan, index, word })
 }
 
-#[tactic(auto, unfolding(board_model::specs::LineReading::read_fill))]
+#[tactic(auto, unfolding(script_grammar::specs::LineReading::read_fill))]
 fn fill_of(tokens: &mut Tokens) -> Option<Call>
     ensures { result ≡ read_fill tokens.old }
 {
@@ -148,7 +148,7 @@ fn is_single(word: &[u8]) -> bool
 }
 
 // The call of a word with one name behind it.
-#[tactic(auto, unfolding(board_model::specs::LineReading::single_call))]
+#[tactic(auto, unfolding(script_grammar::specs::LineReading::single_call))]
 fn single_call(word: &[u8], name: Name) -> Option<Call>
     ensures { result ≡ single_call word.now name }
 {
@@ -171,7 +171,7 @@ fn single_call(word: &[u8], name: Name) -> Option<Call>
 }
 
 // The call of a word with two names behind it.
-#[tactic(auto, unfolding(board_model::specs::LineReading::pair_call))]
+#[tactic(auto, unfolding(script_grammar::specs::LineReading::pair_call))]
 fn pair_call(word: &[u8], first: Name, second: Name) -> Option<Call>
     ensures { result ≡ pair_call word.now (first, second) }
 {
@@ -215,7 +215,7 @@ fn pair_call(word: &[u8], first: Name, second: Name) -> Option<Call>
 }
 
 // A call of names alone.
-#[tactic(auto, unfolding(board_model::specs::LineReading::read_named_call))]
+#[tactic(auto, unfolding(script_grammar::specs::LineReading::read_named_call))]
 fn named_call_of(word: &[u8], tokens: &mut Tokens) -> Option<Call>
     ensures { result ≡ read_named_call word.now tokens.old }
 {
@@ -228,7 +228,7 @@ fn named_call_of(word: &[u8], tokens: &mut Tokens) -> Option<Call>
 }
 
 // The call of a word, but for the two that have optional parts.
-#[tactic(auto, unfolding(board_model::specs::LineReading::read_plain_call))]
+#[tactic(auto, unfolding(script_grammar::specs::LineReading::read_plain_call))]
 fn plain_call_of(word: &[u8], tokens: &mut Tokens) -> Option<Call>
     ensures { result ≡ read_plain_call word.now tokens.old }
 {
@@ -253,7 +253,7 @@ fn plain_call_of(word: &[u8], tokens: &mut Tokens) -> Option<Call>
     named_call_of(word, tokens)
 }
 
-#[tactic(auto, unfolding(board_model::specs::LineReading::read_create))]
+#[tactic(auto, unfolding(script_grammar::specs::LineReading::read_create))]
 fn create_of(alloc: Global, tokens: &mut Tokens) -> Result<Option<Call>, AllocError>
     ensures { IfOk result (λ o. o ≡ read_create tokens.old) }
 {
@@ -285,7 +285,7 @@ fn create_of(alloc: Global, tokens: &mut Tokens) -> Result<Option<Call>, AllocEr
     }))
 }
 
-#[tactic(auto, unfolding(board_model::specs::LineReading::read_open))]
+#[tactic(auto, unfolding(script_grammar::specs::LineReading::read_open))]
 fn open_of(alloc: Global, tokens: &mut Tokens) -> Result<Option<Call>, AllocError>
     ensures { IfOk result (λ o. o ≡ read_open tokens.old) }
 {
@@ -316,7 +316,7 @@ fn open_of(alloc: Global, tokens: &mut Tokens) -> Result<Option<Call>, AllocErro
     }))
 }
 
-#[tactic(auto, unfolding(board_model::specs::LineReading::read_call))]
+#[tactic(auto, unfolding(script_grammar::specs::LineReading::read_call))]
 pub(crate) fn call_of(
     alloc: Global,
     word: &[u8],

@@ -32,7 +32,7 @@ fn is_event_name(text: &[u8]) -> bool
     is_visible(text, 255) && has_event_bytes(text) && !is_word(text, b".") && !is_word(text, b"..")
 }
 
-#[tactic(auto, unfolding(crate::specs::EventReading::read_event_name))]
+#[tactic(auto, unfolding(script_grammar::specs::EventReading::read_event_name))]
 fn event_name_of(text: &[u8]) -> Option<Text<255>>
     ensures { result ≡ read_event_name text.now }
 {
@@ -42,7 +42,7 @@ fn event_name_of(text: &[u8]) -> Option<Text<255>>
     Some(Text::of(text))
 }
 
-#[tactic(auto, unfolding(crate::specs::EventReading::read_kind))]
+#[tactic(auto, unfolding(script_grammar::specs::EventReading::read_kind))]
 fn kind_of(text: &[u8]) -> Option<EventKind>
     ensures { result ≡ read_kind text.now }
 {
@@ -55,7 +55,7 @@ fn kind_of(text: &[u8]) -> Option<EventKind>
     None
 }
 
-#[tactic(auto, unfolding(crate::specs::EventReading::read_mode))]
+#[tactic(auto, unfolding(script_grammar::specs::EventReading::read_mode))]
 fn mode_of(text: &[u8]) -> Option<WaitMode>
     ensures { result ≡ read_mode text.now }
 {
@@ -72,7 +72,7 @@ fn mode_of(text: &[u8]) -> Option<WaitMode>
 }
 
 // Whether a wait is for all ids.
-#[tactic(auto, unfolding(crate::specs::EventReading::read_count))]
+#[tactic(auto, unfolding(script_grammar::specs::EventReading::read_count))]
 fn count_of(text: &[u8]) -> Option<bool>
     ensures { result ≡ read_count text.now }
 {
@@ -86,7 +86,7 @@ fn count_of(text: &[u8]) -> Option<bool>
 }
 
 // The greatest id of a set.
-#[tactic(auto, unfolding(crate::specs::EventReading::read_max))]
+#[tactic(auto, unfolding(script_grammar::specs::EventReading::read_max))]
 fn max_of(text: &[u8]) -> Option<u64>
     ensures { result ≡ read_max text.now }
 {
@@ -129,7 +129,7 @@ impl<'a> Tokens<'a> {
     }
 }
 
-#[tactic(auto, unfolding(crate::specs::EventReading::read_listen, crate::specs::EventReading::read_listener))]
+#[tactic(auto, unfolding(script_grammar::specs::EventReading::read_listen, script_grammar::specs::EventReading::read_listener))]
 fn listen_of(alloc: Global, tokens: &mut Tokens) -> Result<Option<EventRequest>, AllocError>
     ensures { IfOk result (λ o. o ≡ read_listen tokens.old) }
 {
@@ -168,7 +168,7 @@ fn listen_of(alloc: Global, tokens: &mut Tokens) -> Result<Option<EventRequest>,
     }
 }
 
-#[tactic(auto, unfolding(crate::specs::EventReading::read_notifier))]
+#[tactic(auto, unfolding(script_grammar::specs::EventReading::read_notifier))]
 fn notifier_of(alloc: Global, tokens: &mut Tokens) -> Result<Option<EventRequest>, AllocError>
     ensures { IfOk result (λ o. o ≡ read_notifier tokens.old) }
 {
@@ -191,7 +191,7 @@ fn notifier_of(alloc: Global, tokens: &mut Tokens) -> Result<Option<EventRequest
     }))
 }
 
-#[tactic(auto, unfolding(crate::specs::EventReading::read_notify))]
+#[tactic(auto, unfolding(script_grammar::specs::EventReading::read_notify))]
 fn notify_of(tokens: &mut Tokens) -> Option<EventRequest>
     ensures { result ≡ read_notify tokens.old }
 {
@@ -203,7 +203,7 @@ fn notify_of(tokens: &mut Tokens) -> Option<EventRequest>
     Some(EventRequest::Notify { notifier, id })
 }
 
-#[tactic(auto, unfolding(crate::specs::EventReading::read_wait))]
+#[tactic(auto, unfolding(script_grammar::specs::EventReading::read_wait))]
 fn wait_of(tokens: &mut Tokens) -> Option<EventRequest>
     ensures { result ≡ read_wait tokens.old }
 {
@@ -220,7 +220,7 @@ fn wait_of(tokens: &mut Tokens) -> Option<EventRequest>
     })
 }
 
-#[tactic(auto, unfolding(crate::specs::EventReading::read_request))]
+#[tactic(auto, unfolding(script_grammar::specs::EventReading::read_request))]
 fn request_of(alloc: Global, tokens: &mut Tokens) -> Result<Option<EventRequest>, AllocError>
     ensures { IfOk result (λ o. o ≡ read_request tokens.old) }
 {
@@ -242,7 +242,7 @@ fn request_of(alloc: Global, tokens: &mut Tokens) -> Result<Option<EventRequest>
     Ok(None)
 }
 
-#[tactic(auto, unfolding(crate::specs::EventReading::read_event_begin))]
+#[tactic(auto, unfolding(script_grammar::specs::EventReading::read_event_begin))]
 fn event_begin_of(alloc: Global, tokens: &mut Tokens) -> Result<Option<ScriptLine>, AllocError>
     ensures { IfOk result (λ o. o ≡ read_event_begin tokens.old) }
 {
@@ -255,7 +255,7 @@ fn event_begin_of(alloc: Global, tokens: &mut Tokens) -> Result<Option<ScriptLin
     Ok(Some(ScriptLine::Event { party, request }))
 }
 
-#[tactic(auto, unfolding(crate::specs::EventReading::read_expire))]
+#[tactic(auto, unfolding(script_grammar::specs::EventReading::read_expire))]
 fn expire_of(tokens: &mut Tokens) -> Option<ScriptLine>
     ensures { result ≡ read_expire tokens.old }
 {
@@ -264,7 +264,7 @@ fn expire_of(tokens: &mut Tokens) -> Option<ScriptLine>
 }
 
 // The line of events that these tokens make.
-#[tactic(auto, unfolding(crate::specs::EventReading::read_event_line))]
+#[tactic(auto, unfolding(script_grammar::specs::EventReading::read_event_line))]
 pub(crate) fn event_line_of(
     alloc: Global,
     tokens: &mut Tokens,

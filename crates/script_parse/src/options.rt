@@ -12,7 +12,7 @@ const MOST_PARTS: usize = 8;
 
 impl<'a> Tokens<'a> {
     // A limit, where its word stands.
-    #[tactic(auto, unfolding(board_model::specs::LineReading::read_limit))]
+    #[tactic(auto, unfolding(script_grammar::specs::LineReading::read_limit))]
     fn limit(&mut self, word: &[u8]) -> Option<Option<u64>>
         ensures { with_rest result self.new ≡ read_limit word.now self.old }
     {
@@ -22,7 +22,7 @@ impl<'a> Tokens<'a> {
         Some(Some(self.number()?))
     }
 
-    #[tactic(auto, unfolding(board_model::specs::LineReading::read_limits))]
+    #[tactic(auto, unfolding(script_grammar::specs::LineReading::read_limits))]
     pub(crate) fn limits(&mut self) -> Option<Limits>
         ensures { with_rest result self.new ≡ read_limits self.old }
     {
@@ -34,7 +34,7 @@ impl<'a> Tokens<'a> {
         })
     }
 
-    #[tactic(auto, unfolding(board_model::specs::LineReading::read_pair))]
+    #[tactic(auto, unfolding(script_grammar::specs::LineReading::read_pair))]
     fn pair(&mut self) -> Option<Attribute>
         ensures { with_rest result self.new ≡ read_pair self.old }
     {
@@ -82,7 +82,7 @@ fn needed_keys_of(alloc: Global, tokens: &mut Tokens) -> Result<Option<Attribute
     Ok(Some(AttributeKeys::from_vec(keys)))
 }
 
-#[tactic(auto, unfolding(board_model::specs::LineReading::read_needs))]
+#[tactic(auto, unfolding(script_grammar::specs::LineReading::read_needs))]
 pub(crate) fn needs_of(
     alloc: Global,
     tokens: &mut Tokens,

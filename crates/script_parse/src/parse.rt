@@ -17,7 +17,7 @@ use std::alloc::{AllocError, Global};
 // A line has no more bytes than these.
 const MOST_BYTES: usize = 4096;
 
-#[tactic(auto, unfolding(board_model::specs::LineReading::read_begin))]
+#[tactic(auto, unfolding(script_grammar::specs::LineReading::read_begin))]
 fn begin_of(alloc: Global, tokens: &mut Tokens) -> Result<Option<Line>, AllocError>
     ensures { IfOk result (λ o. o ≡ read_begin tokens.old) }
 {
@@ -36,7 +36,7 @@ fn begin_of(alloc: Global, tokens: &mut Tokens) -> Result<Option<Line>, AllocErr
     Ok(Some(Line::Begin { party, call }))
 }
 
-#[tactic(auto, unfolding(board_model::specs::LineReading::read_words))]
+#[tactic(auto, unfolding(script_grammar::specs::LineReading::read_words))]
 fn words_of(tokens: &mut Tokens) -> Option<Line>
     ensures { result ≡ read_words tokens.old }
 {
@@ -48,7 +48,7 @@ fn words_of(tokens: &mut Tokens) -> Option<Line>
 }
 
 // The line of a word, but for `begin`.
-#[tactic(auto, unfolding(board_model::specs::LineReading::read_plain_line))]
+#[tactic(auto, unfolding(script_grammar::specs::LineReading::read_plain_line))]
 fn plain_line_of(word: &[u8], tokens: &mut Tokens) -> Option<Line>
     ensures { result ≡ read_plain_line word.now tokens.old }
 {
@@ -71,7 +71,7 @@ fn plain_line_of(word: &[u8], tokens: &mut Tokens) -> Option<Line>
 }
 
 // The board line that these tokens make.
-#[tactic(auto, unfolding(board_model::specs::LineReading::read_line))]
+#[tactic(auto, unfolding(script_grammar::specs::LineReading::read_line))]
 fn line_of(alloc: Global, tokens: &mut Tokens) -> Result<Option<Line>, AllocError>
     ensures { IfOk result (λ o. o ≡ read_line tokens.old) }
 {
@@ -85,7 +85,7 @@ fn line_of(alloc: Global, tokens: &mut Tokens) -> Result<Option<Line>, AllocErro
 }
 
 // The line of a script that these bytes make, which may be longer than a line.
-#[tactic(auto, unfolding(crate::specs::EventReading::read_script_line, crate::specs::EventReading::board_line_first))]
+#[tactic(auto, unfolding(script_grammar::specs::EventReading::read_script_line, script_grammar::specs::EventReading::board_line_first))]
 fn script_line_of(alloc: Global, bytes: &[u8]) -> Result<Option<ScriptLine>, AllocError>
     ensures { IfOk result (λ o. o ≡ read_script_line (split_tokens bytes.now)) }
 {

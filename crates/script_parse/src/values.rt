@@ -10,7 +10,7 @@ use crate::tokens::Tokens;
 use board_model::{AddedEntries, AddedEntry, Key, Value};
 use std::alloc::{AllocError, Global};
 
-#[tactic(auto, unfolding(board_model::specs::LineReading::read_four))]
+#[tactic(auto, unfolding(script_grammar::specs::LineReading::read_four))]
 fn four_of(parts: &mut Tokens) -> Option<Value>
     ensures { result ≡ read_four parts.old }
 {
@@ -24,7 +24,7 @@ fn four_of(parts: &mut Tokens) -> Option<Value>
     Some(Value::Q4(a, b, c, d))
 }
 
-#[tactic(auto, unfolding(board_model::specs::LineReading::read_value, board_model::specs::LineReading::read_words_behind))]
+#[tactic(auto, unfolding(script_grammar::specs::LineReading::read_value, script_grammar::specs::LineReading::read_words_behind))]
 pub(crate) fn value_of(text: &[u8]) -> Option<Value>
     ensures { result ≡ read_value text.now }
 {
@@ -48,7 +48,7 @@ impl<'a> Tokens<'a> {
     }
 }
 
-#[tactic(auto, unfolding(board_model::specs::LineReading::read_entry))]
+#[tactic(auto, unfolding(script_grammar::specs::LineReading::read_entry))]
 fn entry_of(word: &[u8], key: &[u8], value: &[u8]) -> Option<(Key, Value)>
     ensures { option_map (λ pair. record { key = pair.0; value = pair.1 }) result ≡ read_entry word.now key.now value.now }
 {
