@@ -15,6 +15,3 @@ pub use script_loop::{
 };
 pub use script_machine::Machine;
 pub use top::run_words;
-
-#[cfg(test)]
-mod tests;
