@@ -69,25 +69,28 @@ fn long_create(alloc: Global, name: &str) -> Result<String, AllocError> {
 
 #[test]
 fn a_line_has_at_most_4096_bytes(rt: HostRuntime) -> Result<(), Fail> {
-    let alloc = rt.alloc();
-    let longest = long_create(alloc, "nnnnnnnnnnnnnnnnn")?;
-    assert_eq!(rt; longest.len(), 4096);
-    Script {
-        name: "a line of 4096 bytes",
-        lines: &[(&longest, "ok")],
-        status: 0,
-        note: "",
+    let cases = [
+        ("nnnnnnnnnnnnnnnnn", 4096, "ok", 0, ""),
+        (
+            "nnnnnnnnnnnnnnnnnn",
+            4097,
+            "",
+            5,
+            "line 1: not in the grammar",
+        ),
+    ];
+    for (name, len, answer, status, note) in cases {
+        let line = long_create(rt.alloc(), name)?;
+        assert_eq!(rt; line.len(), len);
+        Script {
+            name: "a long line",
+            lines: &[(&line, answer)],
+            status,
+            note,
+        }
+        .holds(&rt, rt.alloc())?;
     }
-    .holds(&rt, alloc)?;
-    let longer = long_create(alloc, "nnnnnnnnnnnnnnnnnn")?;
-    assert_eq!(rt; longer.len(), 4097);
-    Script {
-        name: "a line of 4097 bytes",
-        lines: &[(&longer, "")],
-        status: 5,
-        note: "line 1: not in the grammar",
-    }
-    .holds(&rt, alloc)
+    Ok(())
 }
 
 // A script, how many lines of it are allowed, and how it ends.

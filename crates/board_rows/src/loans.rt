@@ -1,21 +1,13 @@
 //! Loans.
-use crate::openings::FOUR_WORDS;
+use crate::openings::{A_LOAN, FOUR_WORDS, FOURTH_WORD_PUT, THREE_WORDS_PUT};
 use crate::row::{PLAIN, Row, all_hold};
 use std::test::Fail;
 
 const ROWS: [Row; 3] = [
     Row {
         name: "a loan forgets its words",
-        opening: &[FOUR_WORDS],
+        opening: &[FOUR_WORDS, A_LOAN, THREE_WORDS_PUT],
         lines: &[
-            ("begin a loan l m", "ok"),
-            ("step a", "table = ok"),
-            ("begin a put l 0 5", "ok"),
-            ("step a", "write 1:6 5 = ok"),
-            ("begin a put l 1 6", "ok"),
-            ("step a", "write 1:7 6 = ok"),
-            ("begin a put l 2 7", "ok"),
-            ("step a", "write 1:8 7 = ok"),
             ("begin a publish l m", "refused unfilled"),
             ("begin a discard l m", "ok"),
             ("step a", "table = ok"),
@@ -68,18 +60,8 @@ const ROWS: [Row; 3] = [
     // A loan whose words were all put is dropped: the next one has none of them.
     Row {
         name: "a dropped loan forgets its words",
-        opening: &[FOUR_WORDS],
+        opening: &[FOUR_WORDS, A_LOAN, THREE_WORDS_PUT, FOURTH_WORD_PUT],
         lines: &[
-            ("begin a loan l m", "ok"),
-            ("step a", "table = ok"),
-            ("begin a put l 0 5", "ok"),
-            ("step a", "write 1:6 5 = ok"),
-            ("begin a put l 1 6", "ok"),
-            ("step a", "write 1:7 6 = ok"),
-            ("begin a put l 2 7", "ok"),
-            ("step a", "write 1:8 7 = ok"),
-            ("begin a put l 3 8", "ok"),
-            ("step a", "write 1:9 8 = ok"),
             ("drop a l", "table = ok"),
             ("begin a publish l m", "refused unknown"),
             ("begin a entrymut m w u64:1 q4", "ok"),

@@ -53,6 +53,25 @@ pub(crate) const ONE_PARTY_READS_AND_WRITES: Part = &[
     ("step b", "table = ok 0"),
 ];
 
+/// `a` takes a loan.
+pub(crate) const A_LOAN: Part = &[("begin a loan l m", "ok"), ("step a", "table = ok")];
+
+/// `a` puts three words of the loan.
+pub(crate) const THREE_WORDS_PUT: Part = &[
+    ("begin a put l 0 5", "ok"),
+    ("step a", "write 1:6 5 = ok"),
+    ("begin a put l 1 6", "ok"),
+    ("step a", "write 1:7 6 = ok"),
+    ("begin a put l 2 7", "ok"),
+    ("step a", "write 1:8 7 = ok"),
+];
+
+/// `a` puts the fourth word too.
+pub(crate) const FOURTH_WORD_PUT: Part = &[
+    ("begin a put l 3 8", "ok"),
+    ("step a", "write 1:9 8 = ok"),
+];
+
 /// `e` listens on a set of 64 ids, and `n` notifies it.
 pub(crate) const A_SET_OF_64: Part = &[
     ("begin e listen e bits ev 63", "ok"),

@@ -84,6 +84,33 @@ const STILL_A_SET: Part = &[
     ("step m", "table = ListenerCreateError::AlreadyExists"),
 ];
 
+// `e` finds nothing.
+const NOTHING_IS_FOUND: Part = &[
+    ("begin e wait e all try", "ok"),
+    ("step e", "signal bits:ev no"),
+    ("step e", "swap bits:ev 0 0"),
+    ("step e", "swap bits:ev 1 0 = none"),
+    ("step e", "refused idle"),
+];
+
+// `e` finds the id without a signal.
+const AN_ID_IS_FOUND: Part = &[
+    ("begin e wait e all try", "ok"),
+    ("step e", "signal bits:ev no"),
+    ("step e", "swap bits:ev 0 0"),
+    ("step e", "swap bits:ev 1 2 = ids 65"),
+    ("step e", "refused idle"),
+];
+
+// `e` finds the id and its signal.
+const A_SIGNALLED_ID_IS_FOUND: Part = &[
+    ("begin e wait e all try", "ok"),
+    ("step e", "signal bits:ev yes"),
+    ("step e", "signal bits:ev no"),
+    ("step e", "swap bits:ev 0 0"),
+    ("step e", "swap bits:ev 1 2 = ids 65"),
+];
+
 // `e` is notified by `m`. The name goes with the listener, although there are notifiers.
 const STILL_A_QUEUE: Part = &[
     ("begin m notify x 8", "ok"),
@@ -108,50 +135,10 @@ const CASES: [Abandoned; 13] = [
             ("step n", "post bits:ev = ok"),
         ],
         after: &[
-            &[
-                N_LEFT,
-                &[
-                    ("begin e wait e all try", "ok"),
-                    ("step e", "signal bits:ev no"),
-                    ("step e", "swap bits:ev 0 0"),
-                    ("step e", "swap bits:ev 1 0 = none"),
-                    ("step e", "refused idle"),
-                ],
-                STILL_A_SET,
-            ],
-            &[
-                N_LEFT,
-                &[
-                    ("begin e wait e all try", "ok"),
-                    ("step e", "signal bits:ev no"),
-                    ("step e", "swap bits:ev 0 0"),
-                    ("step e", "swap bits:ev 1 0 = none"),
-                    ("step e", "refused idle"),
-                ],
-                STILL_A_SET,
-            ],
-            &[
-                N_LEFT,
-                &[
-                    ("begin e wait e all try", "ok"),
-                    ("step e", "signal bits:ev no"),
-                    ("step e", "swap bits:ev 0 0"),
-                    ("step e", "swap bits:ev 1 2 = ids 65"),
-                    ("step e", "refused idle"),
-                ],
-                STILL_A_SET,
-            ],
-            &[
-                N_LEFT,
-                &[
-                    ("begin e wait e all try", "ok"),
-                    ("step e", "signal bits:ev yes"),
-                    ("step e", "signal bits:ev no"),
-                    ("step e", "swap bits:ev 0 0"),
-                    ("step e", "swap bits:ev 1 2 = ids 65"),
-                ],
-                STILL_A_SET,
-            ],
+            &[N_LEFT, NOTHING_IS_FOUND, STILL_A_SET],
+            &[N_LEFT, NOTHING_IS_FOUND, STILL_A_SET],
+            &[N_LEFT, AN_ID_IS_FOUND, STILL_A_SET],
+            &[N_LEFT, A_SIGNALLED_ID_IS_FOUND, STILL_A_SET],
         ],
     },
     Abandoned {

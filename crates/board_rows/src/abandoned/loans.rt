@@ -1,23 +1,8 @@
 //! Calls on loans.
 use super::{Abandoned, all_hold};
-use crate::openings::FOUR_WORDS;
+use crate::openings::{A_LOAN, FOUR_WORDS, FOURTH_WORD_PUT, THREE_WORDS_PUT};
 use crate::row::Part;
 use std::test::Fail;
-
-// `a` has a loan.
-const LENT: Part = &[("begin a loan l m", "ok"), ("step a", "table = ok")];
-
-// Each word of it was put.
-const PUT: Part = &[
-    ("begin a put l 0 5", "ok"),
-    ("step a", "write 1:6 5 = ok"),
-    ("begin a put l 1 6", "ok"),
-    ("step a", "write 1:7 6 = ok"),
-    ("begin a put l 2 7", "ok"),
-    ("step a", "write 1:8 7 = ok"),
-    ("begin a put l 3 8", "ok"),
-    ("step a", "write 1:9 8 = ok"),
-];
 
 // `a` is abandoned, and `b` still gets the first value.
 const FIRST_VALUE: Part = &[
@@ -76,12 +61,12 @@ const CASES: [Abandoned; 5] = [
         after: &[&[FIRST_VALUE, NO_WORD, STILL_HELD]],
     },
     Abandoned {
-        opening: &[FOUR_WORDS, LENT, PUT],
+        opening: &[FOUR_WORDS, A_LOAN, THREE_WORDS_PUT, FOURTH_WORD_PUT],
         call: &[("begin a discard l m", "ok"), ("step a", "table = ok")],
         after: &[&[FIRST_VALUE, ALL_WORDS, STILL_HELD]],
     },
     Abandoned {
-        opening: &[FOUR_WORDS, LENT],
+        opening: &[FOUR_WORDS, A_LOAN],
         call: &[("begin a put l 2 7", "ok"), ("step a", "write 1:8 7 = ok")],
         after: &[
             &[FIRST_VALUE, NO_WORD, STILL_HELD],
@@ -89,7 +74,7 @@ const CASES: [Abandoned; 5] = [
         ],
     },
     Abandoned {
-        opening: &[FOUR_WORDS, LENT, PUT],
+        opening: &[FOUR_WORDS, A_LOAN, THREE_WORDS_PUT, FOURTH_WORD_PUT],
         call: &[
             ("begin a publish l m", "ok"),
             ("step a", "write 1:0 2 = ok"),
@@ -100,7 +85,7 @@ const CASES: [Abandoned; 5] = [
         ],
     },
     Abandoned {
-        opening: &[FOUR_WORDS, LENT],
+        opening: &[FOUR_WORDS, A_LOAN],
         call: &[
             ("begin a fill l m q4:5,6,7,8", "ok"),
             ("step a", "write 1:6 5"),
