@@ -26,6 +26,3 @@ pub use script_loop::{
 };
 pub use script_machine::Machine;
 pub use top::run_words;
-
-#[cfg(test)]
-mod tests;

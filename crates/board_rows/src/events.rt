@@ -1,0 +1,236 @@
+//! Events.
+use crate::openings::{A_QUEUE, A_SET_OF_64, A_SET_OF_128};
+use crate::row::{PLAIN, Row, Script, all_hold};
+use std::alloc::{AllocError, Global};
+use std::test::Fail;
+
+const ROWS: [Row; 6] = [
+    Row {
+        name: "a blocking wait on bits",
+        opening: &[A_SET_OF_64],
+        lines: &[
+            ("begin e wait e one block", "ok"),
+            ("step e", "signal bits:ev no"),
+            ("step e", "scan bits:ev 0 0"),
+            ("step e", "signal bits:ev no"),
+            ("begin n notify n 32", "ok"),
+            ("step n", "listener bits:ev yes"),
+            ("step n", "set bits:ev 32"),
+            ("step e", "signal bits:ev no"),
+            ("step n", "post bits:ev = ok"),
+            ("step e", "signal bits:ev yes"),
+            ("step e", "signal bits:ev no"),
+            ("step e", "scan bits:ev 0 4294967296"),
+            ("step e", "clear bits:ev 32 = id 32"),
+        ],
+        ..PLAIN
+    },
+    Row {
+        name: "expiry and a dropped listener",
+        opening: &[A_SET_OF_64],
+        lines: &[
+            ("begin e wait e one timed", "ok"),
+            ("step e", "signal bits:ev no"),
+            ("step e", "scan bits:ev 0 0"),
+            ("step e", "signal bits:ev no"),
+            ("expire e", "= none"),
+            ("begin n notify n 5", "ok"),
+            ("step n", "listener bits:ev yes"),
+            ("step n", "set bits:ev 5"),
+            ("step n", "post bits:ev = ok"),
+            ("begin e wait e one try", "ok"),
+            ("step e", "signal bits:ev yes"),
+            ("step e", "signal bits:ev no"),
+            ("step e", "scan bits:ev 0 32"),
+            ("step e", "clear bits:ev 5 = id 5"),
+            ("begin e wait e one timed", "ok"),
+            ("step e", "signal bits:ev no"),
+            ("expire e", "refused notwaiting"),
+            ("step e", "scan bits:ev 0 0"),
+            ("step e", "signal bits:ev no"),
+            ("expire e", "= none"),
+            ("begin n notify n 64", "ok"),
+            (
+                "step n",
+                "listener bits:ev yes = NotifierNotifyError::TriggerIdOutOfBounds",
+            ),
+            ("drop e e", "table = ok"),
+            ("begin n notify n 5", "ok"),
+            (
+                "step n",
+                "listener bits:ev no = NotifierNotifyError::Disconnected",
+            ),
+            ("begin e listen e bits ev 63", "ok"),
+            ("step e", "table = ListenerCreateError::AlreadyExists"),
+            ("begin m notifier x bits ev", "ok"),
+            ("step m", "table = NotifierCreateError::DoesNotExist"),
+        ],
+        ..PLAIN
+    },
+    Row {
+        name: "ids taken by an abandoned wait",
+        opening: &[A_SET_OF_128],
+        lines: &[
+            ("begin n notify n 1", "ok"),
+            ("step n", "listener bits:ev yes"),
+            ("step n", "set bits:ev 1"),
+            ("step n", "post bits:ev = ok"),
+            ("begin e wait e all try", "ok"),
+            ("step e", "signal bits:ev yes"),
+            ("step e", "signal bits:ev no"),
+            ("step e", "swap bits:ev 0 2"),
+            ("abandon e", "gone"),
+            ("begin n notify n 1", "ok"),
+            ("step n", "listener bits:ev yes"),
+            ("step n", "set bits:ev 1"),
+            ("step n", "post bits:ev = ok"),
+        ],
+        ..PLAIN
+    },
+    Row {
+        name: "an abandoned queue listener",
+        opening: &[A_QUEUE],
+        lines: &[
+            ("abandon e", "gone"),
+            ("begin n notify n 1", "ok"),
+            ("step n", "push queue:q = NotifierNotifyError::Disconnected"),
+            ("begin m listen x queue q", "ok"),
+            ("step m", "table = ListenerCreateError::AlreadyExists"),
+        ],
+        ..PLAIN
+    },
+    Row {
+        name: "a vehicle board",
+        lines: &[
+            (
+                "begin car create f vehicle/state f8 readers 4 attr unit si add f8:speed u64:0 add f8:brake bool:false add f8:pose q4:0,0,0,0",
+                "ok",
+            ),
+            ("step car", "table = ok 1"),
+            ("begin car writer w f", "ok"),
+            ("step car", "table = ok 1"),
+            ("begin car entrymut m w f8:Pose q4", "ok"),
+            ("step car", "table = ok 64"),
+            ("begin ui open f vehicle/state f8 need unit si", "ok"),
+            ("step ui", "table = ok 1"),
+            ("begin ui reader r f", "ok"),
+            ("step ui", "table = ok 2"),
+            ("begin ui entry h r f8:pose q4", "ok"),
+            ("step ui", "table = ok 64"),
+            ("begin ui listen e bits chg 1023", "ok"),
+            ("step ui", "table = ok"),
+            ("begin car notifier n bits chg", "ok"),
+            ("step car", "table = ok"),
+            ("begin car update m q4:1,2,3,4", "ok"),
+            ("step car", "write 1:14 1"),
+            ("step car", "write 1:15 2"),
+            ("step car", "write 1:16 3"),
+            ("step car", "write 1:17 4"),
+            ("step car", "write 1:8 2 = ok"),
+            ("begin car notify n 64", "ok"),
+            ("step car", "listener bits:chg yes"),
+            ("step car", "set bits:chg 64"),
+            ("step car", "post bits:chg = ok"),
+            ("begin ui wait e one try", "ok"),
+            ("step ui", "signal bits:chg yes"),
+            ("step ui", "signal bits:chg no"),
+            ("step ui", "scan bits:chg 0 0"),
+            ("step ui", "scan bits:chg 1 1"),
+            ("step ui", "clear bits:chg 64 = id 64"),
+            ("begin ui get h", "ok"),
+            ("step ui", "read 1:8 2"),
+            ("step ui", "read 1:14 1"),
+            ("step ui", "read 1:15 2"),
+            ("step ui", "read 1:16 3"),
+            ("step ui", "read 1:17 4"),
+            ("step ui", "read 1:8 2 = q4:1,2,3,4 gen 2"),
+        ],
+        ..PLAIN
+    },
+    // What a party holds of boards and of events has one set of names, and of its calls one runs.
+    Row {
+        name: "names and calls of boards and events",
+        lines: &[
+            ("begin a create f b u64 add u64:1 u64:7", "ok"),
+            ("step a", "table = ok 1"),
+            ("begin a listen f bits ev 1", "refused taken"),
+            ("begin a listen e bits ev 1", "ok"),
+            ("begin a writer w f", "refused busy"),
+            ("drop a f", "refused busy"),
+            ("begin a listen w queue q", "refused busy"),
+            ("expire a", "refused notwaiting"),
+            ("step a", "table = ok"),
+            ("begin a writer e f", "refused taken"),
+            ("begin a writer e z", "refused unknown"),
+            ("begin a notifier e bits ev", "refused taken"),
+            ("begin a notifier w bits ev", "ok"),
+            ("step a", "table = ok"),
+            ("begin a reader w f", "refused taken"),
+            ("begin a notify e 1", "refused unknown"),
+            ("begin a wait w one try", "refused unknown"),
+            ("expire a", "refused idle"),
+            ("begin a reader r f", "ok"),
+            ("begin a notify w 1", "refused busy"),
+            ("expire a", "refused notwaiting"),
+            ("step a", "table = ok 1"),
+            ("drop a e", "table = ok"),
+            ("begin a reader e f", "ok"),
+            ("step a", "table = ok 2"),
+            ("abandon a", "gone"),
+            ("begin a notify w 1", "refused abandoned"),
+            ("expire a", "refused abandoned"),
+        ],
+        ..PLAIN
+    },
+];
+
+#[test]
+fn events_of_parties(rt: HostRuntime) -> Result<(), Fail> {
+    all_hold(&rt, rt.alloc(), &ROWS)
+}
+
+// The text with each number from 1 on.
+fn numbered(alloc: Global, text: &str, count: u64) -> Result<Vec<String>, AllocError> {
+    let mut texts = Vec::new(alloc);
+    for number in 1..=count {
+        texts.push(format!(in alloc; "{text}{number}")?)?;
+    }
+    Ok(texts)
+}
+
+// 513 ids are notified, one more than the queue takes, and then all are waited for. After the first was taken there is room for the last.
+#[test]
+fn a_full_queue(rt: HostRuntime) -> Result<(), Fail> {
+    let alloc = rt.alloc();
+    let notified = numbered(alloc, "begin n notify n ", 512)?;
+    let popped = numbered(alloc, "pop queue:q ", 512)?;
+    let ids = numbered(alloc, " ", 513)?.concat(alloc)?;
+    let last = format!(in alloc; "pop queue:q 513 = ids{ids}")?;
+    let mut lines = A_QUEUE.to_vec(alloc)?;
+    for line in &notified {
+        lines.push((line, "ok"))?;
+        lines.push(("step n", "push queue:q = ok"))?;
+    }
+    lines.extend_from_slice(&[
+        ("begin n notify n 513", "ok"),
+        (
+            "step n",
+            "push queue:q = NotifierNotifyError::FailedToDeliverSignal",
+        ),
+        ("begin e wait e all try", "ok"),
+        ("step e", "pop queue:q 1"),
+        ("begin n notify n 513", "ok"),
+        ("step n", "push queue:q = ok"),
+    ])?;
+    for answer in popped.iter().skip(1) {
+        lines.push(("step e", answer))?;
+    }
+    lines.push(("step e", &last))?;
+    Script {
+        name: "a full queue",
+        lines: &lines,
+        status: 0,
+        note: "",
+    }
+    .holds(&rt, alloc)
+}

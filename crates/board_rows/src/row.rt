@@ -1,0 +1,162 @@
+//! A worked script, and the ways in which it is run.
+ghost use Rattle.script_machine.specs.ScriptMachine.{StandsAfter};
+ghost use Rattle.script_model.specs.ScriptSession.{start};
+
+use board_cell::{PlainWords, SeatWords};
+use board_script::{LineError, Machine, MemorySink, MemorySource, run_words};
+use board_service::BoardWords;
+use std::alloc::{AllocError, Global};
+use std::process::Abort;
+use std::test::Fail;
+
+/// Lines, each with its answer. It is empty at a line outside the grammar and at those behind it, which have none.
+pub(crate) type Part = &'static [(&'static str, &'static str)];
+
+/// A worked script, with the status and the note that a run of it ends with.
+#[derive(Clone, Copy)]
+pub(crate) struct Row {
+    pub(crate) name: &'static str,
+    /// The lines with which other rows begin too.
+    pub(crate) opening: &'static [Part],
+    pub(crate) lines: Part,
+    pub(crate) status: u8,
+    pub(crate) note: &'static str,
+}
+
+/// What a row leaves out.
+pub(crate) const PLAIN: Row = Row {
+    name: "",
+    opening: &[],
+    lines: &[],
+    status: 0,
+    note: "",
+};
+
+impl Row {
+    /// All its lines with their answers.
+    pub(crate) fn all_lines(
+        &self,
+        alloc: Global,
+    ) -> Result<Vec<(&'static str, &'static str)>, AllocError> {
+        let mut lines = Vec::new(alloc);
+        for part in self.opening {
+            lines.extend_from_slice(part)?;
+        }
+        lines.extend_from_slice(self.lines)?;
+        Ok(lines)
+    }
+
+    /// Runs the row in each way.
+    pub(crate) fn holds(&self, rt: &impl Abort, alloc: Global) -> Result<(), Fail> {
+        let lines = self.all_lines(alloc)?;
+        let script = Script {
+            name: self.name,
+            lines: &lines,
+            status: self.status,
+            note: self.note,
+        };
+        script.holds(rt, alloc)
+    }
+}
+
+/// Runs each row in each way.
+pub(crate) fn all_hold(rt: &impl Abort, alloc: Global, rows: &[Row]) -> Result<(), Fail> {
+    for row in rows {
+        row.holds(rt, alloc)?;
+    }
+    Ok(())
+}
+
+/// The same, of lines that are put together by code.
+#[derive(Clone, Copy)]
+pub(crate) struct Script<'a> {
+    pub(crate) name: &'a str,
+    pub(crate) lines: &'a [(&'a str, &'a str)],
+    pub(crate) status: u8,
+    pub(crate) note: &'a str,
+}
+
+impl Script<'_> {
+    /// Runs it line by line, over plain words and over words that threads may share, and then as the program does, in one piece and byte by byte.
+    pub(crate) fn holds(&self, rt: &impl Abort, alloc: Global) -> Result<(), Fail> {
+        answers_each_line(rt, alloc, Machine::<PlainWords>::new(alloc), self)?;
+        answers_each_line(rt, alloc, Machine::<SeatWords>::new(alloc), self)?;
+        self.runs_in_pieces(rt, alloc, 0)?;
+        self.runs_in_pieces(rt, alloc, 1)
+    }
+
+    // Runs it as the program does. Source and sink give and take so many bytes a call, or any number where that is 0.
+    fn runs_in_pieces(&self, rt: &impl Abort, alloc: Global, piece: usize) -> Result<(), Fail> {
+        let (script, output) = bytes_of(alloc, self.lines)?;
+        let mut note = Vec::new(alloc);
+        push_told(self.note, &mut note)?;
+        let mut source = MemorySource::new(script, piece, Vec::new(alloc));
+        let mut sink = MemorySink::new(alloc, output.len() + 1, piece, Vec::new(alloc))?;
+        let mut notes = MemorySink::new(alloc, 100, 0, Vec::new(alloc))?;
+        let status = run_words(alloc, &Vec::new(alloc), &mut source, &mut sink, &mut notes);
+        assert_eq!(rt; sink.held(), output.as_slice(), "output of {}", self.name);
+        assert_eq!(rt; status, self.status, "status of {}", self.name);
+        assert_eq!(rt; notes.held(), note.as_slice(), "note of {}", self.name);
+        Ok(())
+    }
+}
+
+// Adds a text with its newline.
+fn push_line(text: &str, out: &mut Vec<u8>) -> Result<(), AllocError> {
+    out.extend_from_slice(text.as_bytes())?;
+    out.extend_from_slice(b"\n")
+}
+
+// Adds what is told with its newline, or nothing where nothing is told.
+fn push_told(text: &str, out: &mut Vec<u8>) -> Result<(), AllocError> {
+    if text.is_empty() {
+        return Ok(());
+    }
+    push_line(text, out)
+}
+
+/// The bytes of a script, and those of its output.
+pub(crate) fn bytes_of(
+    alloc: Global,
+    lines: &[(&str, &str)],
+) -> Result<(Vec<u8>, Vec<u8>), AllocError> {
+    let mut script = Vec::new(alloc);
+    let mut output = Vec::new(alloc);
+    for (line, answer) in lines {
+        push_line(line, &mut script)?;
+        push_told(answer, &mut output)?;
+    }
+    Ok((script, output))
+}
+
+// Runs the lines one after another up to the first outside the grammar, and compares each answer.
+fn answers_each_line<C: BoardWords + Drop>(
+    rt: &impl Abort,
+    alloc: Global,
+    mut machine: Machine<C>,
+    script: &Script,
+) -> Result<(), Fail>
+    requires { StandsAfter machine 0 start }
+{
+    let mut answer = Vec::new(alloc);
+    for (n, (line, wanted)) in script.lines.iter().enumerate() {
+        match machine.line(line.as_bytes(), &mut answer) {
+            Ok(()) => {
+                let told = String::from_utf8_lossy(alloc, &answer)?;
+                assert_eq!(rt;
+                    told.strip_suffix('\n'),
+                    Some(*wanted),
+                    "{}, line {}",
+                    script.name,
+                    n + 1
+                );
+            }
+            Err(LineError::Bad) => {
+                assert_eq!(rt; *wanted, "", "{}, line {}", script.name, n + 1);
+                return Ok(());
+            }
+            Err(LineError::OutOfMemory) => return Err(AllocError)?,
+        }
+    }
+    Ok(())
+}

@@ -1,0 +1,179 @@
+//! The tables of boards: who may make, open and hold what, and how long it stands.
+//!
+//! The two worked scripts of several writers aren't here, since a board has one writer so far. Once it may have more, the answer to `info` tells their number too.
+use crate::openings::ONE_NUMBER;
+use crate::row::{PLAIN, Part, Row, all_hold};
+use std::test::Fail;
+
+// A board with two keys that differ only in case isn't made.
+const KEYS_UP_TO_CASE: Part = &[
+    (
+        "begin a create f b f8 add f8:Temp u64:1 add f8:temp u64:2",
+        "ok",
+    ),
+    (
+        "step a",
+        "table = BlackboardCreateError::ServiceInCorruptedState",
+    ),
+    ("begin a create f b f8 add f8:Temp u64:1", "ok"),
+    ("step a", "table = ok 1"),
+];
+
+// The place of the only writer is free once its last handle was dropped.
+const A_FREED_WRITER: Part = &[
+    ("drop a w", "table = ok"),
+    ("begin a writer x f", "ok"),
+    (
+        "step a",
+        "table = WriterCreateError::ExceedsMaxSupportedWriters",
+    ),
+    ("drop a m", "table = ok"),
+    ("begin a writer x f", "ok"),
+    ("step a", "table = ok 3"),
+    ("begin a entrymut m x u64:1 u64", "ok"),
+    ("step a", "table = ok 0"),
+];
+
+const ROWS: [Row; 9] = [
+    Row {
+        name: "a name that stands",
+        opening: &[ONE_NUMBER],
+        lines: &[
+            ("begin c create g b f8", "ok"),
+            ("step c", "table = BlackboardCreateError::AlreadyExists"),
+        ],
+        ..PLAIN
+    },
+    Row {
+        name: "keys equal up to case without keys",
+        opening: &[KEYS_UP_TO_CASE],
+        ..PLAIN
+    },
+    Row {
+        name: "keys equal up to case",
+        opening: &[KEYS_UP_TO_CASE],
+        lines: &[("begin a keys f", "ok"), ("step a", "table = keys f8:Temp")],
+        ..PLAIN
+    },
+    Row {
+        name: "refusals of open",
+        lines: &[
+            (
+                "begin a create f b u64 readers 2 nodes 2 attr k v add u64:1 u64:7",
+                "ok",
+            ),
+            ("step a", "table = ok 1"),
+            ("begin b open g x u64", "ok"),
+            ("step b", "table = BlackboardOpenError::DoesNotExist"),
+            ("begin b open g b f8", "ok"),
+            ("step b", "table = BlackboardOpenError::IncompatibleKeys"),
+            ("begin b open g b u64 readers 3 needkey z", "ok"),
+            (
+                "step b",
+                "table = BlackboardOpenError::IncompatibleAttributes",
+            ),
+            ("begin b open g b u64 readers 3", "ok"),
+            (
+                "step b",
+                "table = BlackboardOpenError::DoesNotSupportRequestedAmountOfReaders",
+            ),
+            ("begin b open g b u64 nodes 3", "ok"),
+            (
+                "step b",
+                "table = BlackboardOpenError::DoesNotSupportRequestedAmountOfNodes",
+            ),
+            ("begin b open g b u64 need k v", "ok"),
+            ("step b", "table = ok 1"),
+            ("begin b open j b u64", "ok"),
+            ("step b", "table = ok 1"),
+            ("begin c open g b u64", "ok"),
+            (
+                "step c",
+                "table = BlackboardOpenError::ExceedsMaxNumberOfNodes",
+            ),
+        ],
+        ..PLAIN
+    },
+    Row {
+        name: "a board goes with its last thing",
+        lines: &[
+            ("begin a create f b u64 add u64:1 u64:7", "ok"),
+            ("step a", "table = ok 1"),
+            ("drop a f", "table = ok"),
+            ("words 1", "refused noboard"),
+            ("begin a create f b u64 add u64:1 u64:7", "ok"),
+            ("step a", "table = ok 2"),
+        ],
+        ..PLAIN
+    },
+    Row {
+        name: "a reader slot is freed by its reader",
+        lines: &[
+            ("begin a create f b u64 readers 0 add u64:1 u64:7", "ok"),
+            ("step a", "table = ok 1"),
+            ("begin a reader r f", "ok"),
+            ("step a", "table = ok 1"),
+            ("begin a reader s f", "ok"),
+            (
+                "step a",
+                "table = ReaderCreateError::ExceedsMaxSupportedReaders",
+            ),
+            ("begin a entry h r u64:1 u64", "ok"),
+            ("step a", "table = ok 0"),
+            ("drop a r", "table = ok"),
+            ("begin a reader s f", "ok"),
+            ("step a", "table = ok 2"),
+            ("begin a get h", "ok"),
+            ("step a", "read 1:0 1"),
+            ("step a", "read 1:2 7"),
+            ("step a", "read 1:0 1 = u64:7 gen 1"),
+        ],
+        ..PLAIN
+    },
+    Row {
+        name: "the writer slot without loans",
+        opening: &[ONE_NUMBER, A_FREED_WRITER],
+        ..PLAIN
+    },
+    Row {
+        name: "the writer slot",
+        opening: &[ONE_NUMBER, A_FREED_WRITER],
+        lines: &[
+            ("begin a loan l m", "ok"),
+            ("step a", "table = ok"),
+            ("begin a entrymut n x u64:1 u64", "ok"),
+            ("step a", "table = EntryHandleMutError::HandleAlreadyExists"),
+            ("begin a entrymut n x u64:1 bool", "ok"),
+            ("step a", "table = EntryHandleMutError::EntryDoesNotExist"),
+            ("begin b entry k r u64:2 u64", "ok"),
+            ("step b", "table = EntryHandleError::EntryDoesNotExist"),
+        ],
+        ..PLAIN
+    },
+    Row {
+        name: "the tables told with one writer",
+        opening: &[ONE_NUMBER],
+        lines: &[
+            ("begin b info f", "ok"),
+            (
+                "step b",
+                "table = info b u64 readers 8 nodes 20 entries 1 attrs 0 taken 1 1 2",
+            ),
+            ("begin b nodes f", "ok"),
+            ("step b", "table = nodes a b"),
+            ("begin b id h", "ok"),
+            ("step b", "table = id 0"),
+            ("begin b id r", "ok"),
+            ("step b", "table = id 2"),
+            ("begin b get z", "refused unknown"),
+            ("begin b reader r f", "refused taken"),
+            ("begin b entry k r f8:x u64", "refused type"),
+        ],
+        ..PLAIN
+    },
+];
+
+#[test]
+fn tables_of_boards(rt: HostRuntime) -> Result<(), Fail> {
+    all_hold(&rt, rt.alloc(), &ROWS)
+}
