@@ -2,7 +2,7 @@ ghost use Rattle.std.specs.Prelude.{ℕ, ◌≡◌, ◌+◌, ◌^◌, ◌<◌, �
 ghost use denote.Param.Send.{IsSync};
 ghost use Rattle.board_cell.specs.Passes.{ReaderSeen, notes_of};
 ghost use Rattle.board_cell.specs.History.{IsLegal, history};
-ghost use Rattle.board_bench.specs.Watchers.{IsOf, HasSeen, gets_of};
+ghost use Rattle.board_bench.specs.Watchers.{AreWide, CanUpdate, HasSeen, HasUpdated, IsOf, gets_of};
 
 use board_cell::{CellError, ReaderPass, ThreadedCell, WriterPass};
 use std::alloc::Global;
@@ -49,11 +49,8 @@ pub fn write(
     mut words: Vec<u64>,
     last: u64,
 ) -> WriterPass
-    requires cell { writer.cell ≡ cell.now.cell }
-    requires width { length words.items ≡ cell.now.width }
-    requires room { length writer.published + last < 2 ^ 64 }
-    ensures cell { result.cell ≡ cell.now.cell }
-    ensures published { length result.published ≡ length writer.published + last }
+    requires { CanUpdate cell.now writer words.items last }
+    ensures { HasUpdated cell.now writer result last }
 {
     for i in 0..last {
         words.as_mut_slice().fill(i + 1);
@@ -75,6 +72,7 @@ pub fn watch<R: Wait>(rt: &R, cell: &ThreadedCell, watcher: &mut Watcher, last: 
         cell.get(rt, &mut watcher.pass, &mut watcher.out);
         watcher.gets = watcher.gets.saturating_add(1);
     }
+    // `forever` has no end.
     unreachable!()
 }
 
@@ -142,10 +140,9 @@ pub fn race<R: Threads + Wait + Sync>(
     watchers: Vec<Watcher>,
     last: u64,
 ) -> (WriterPass, Vec<Watcher>)
-    requires writer { (writer.cell ≡ cell.now.cell) × (length words.items ≡ cell.now.width) × (length writer.published + last < 2 ^ 64) }
+    requires writer { CanUpdate cell.now writer words.items last }
     requires watchers { All (IsOf cell.now) watchers.items }
-    ensures writer { result.0.cell ≡ cell.now.cell }
-    ensures published { length result.0.published ≡ length writer.published + last }
+    ensures writer { HasUpdated cell.now writer result.0 last }
     ensures count { length result.1.items ≡ length watchers.items }
     ensures kept { All (IsOf cell.now) result.1.items }
     ensures seen { All (HasSeen last) result.1.items }
@@ -153,8 +150,8 @@ pub fn race<R: Threads + Wait + Sync>(
     thread::join(
         rt,
         move || -> WriterPass
-            requires { (writer.cell ≡ cell.now.cell) × (length words.items ≡ cell.now.width) × (length writer.published + last < 2 ^ 64) }
-            ensures { (result.cell ≡ cell.entry.now.cell) × (length result.published ≡ length writer.published + last) }
+            requires { CanUpdate cell.now writer words.items last }
+            ensures { HasUpdated cell.entry.now writer result last }
         { write(cell, writer, words, last) },
         move || -> Vec<Watcher>
             requires { IsSync R.row × All (IsOf cell.now) watchers.items }
@@ -205,6 +202,7 @@ pub fn run_shared<R: Threads + Wait + Sync>(
 ) -> Result<Outcome, CellError>
     requires { updates < 2 ^ 40 }
     ensures updates { IfOk result (λ r. length r.writer.published ≡ updates + 1) }
+    ensures wide { IfOk result (λ r. AreWide width r.writer.published) }
     ensures readers { IfOk result (λ r. length r.readers.items ≡ readers) }
     ensures gets { IfOk result (λ r. r.gets ≡ gets_of r.readers.items) }
     ensures legal { IfOk result (λ r. IsLegal (history r.writer.published (map notes_of r.readers.items))) }

@@ -1,4 +1,5 @@
 ghost use Rattle.std.specs.Prelude.{◌≡◌, ◌+◌, ◌^◌, ◌<◌, length, IfOk};
+ghost use Rattle.board_bench.specs.Watchers.{AreCopiedWide, AreWide};
 
 use board_cell::{CellError, ReaderPass, ThreadedCell, WriterPass};
 use std::alloc::Global;
@@ -14,7 +15,8 @@ pub fn gets<R: Wait>(
 )
     requires cell { reader.old.cell ≡ cell.now.cell }
     requires width { length out.old.items ≡ cell.now.width }
-    ensures { length reader.new.notes ≡ length reader.old.notes + count }
+    ensures count { length reader.new.notes ≡ length reader.old.notes + count }
+    ensures wide { AreCopiedWide cell.now.width reader.old.notes → AreCopiedWide cell.now.width reader.new.notes }
 {
     for _ in 0..count {
         cell.get(rt, reader, out);
@@ -32,7 +34,8 @@ pub fn updates(
     requires cell { writer.old.cell ≡ cell.now.cell }
     requires width { (length one.now.items ≡ cell.now.width) × (length two.now.items ≡ cell.now.width) }
     requires room { length writer.old.published + count < 2 ^ 64 }
-    ensures { length writer.new.published ≡ length writer.old.published + count }
+    ensures count { length writer.new.published ≡ length writer.old.published + count }
+    ensures wide { AreWide cell.now.width writer.old.published → AreWide cell.now.width writer.new.published }
 {
     for i in 0..count {
         cell.update(writer, if i % 2 == 0 { one } else { two });
@@ -49,7 +52,8 @@ pub fn run_gets<R: Wait>(
     width: u64,
     count: u64,
 ) -> Result<ReaderPass, CellError>
-    ensures { IfOk result (λ reader. length reader.notes ≡ count) }
+    ensures count { IfOk result (λ reader. length reader.notes ≡ count) }
+    ensures wide { IfOk result (λ reader. AreCopiedWide width reader.notes) }
 {
     let words = vec![in alloc; 7; width as usize]?;
     let mut out = vec![in alloc; 0; width as usize]?;
@@ -64,7 +68,8 @@ pub fn run_gets<R: Wait>(
 /// `OutOfMemory` where memory is refused.
 pub fn run_updates(alloc: Global, width: u64, count: u64) -> Result<WriterPass, CellError>
     requires { count < 2 ^ 40 }
-    ensures { IfOk result (λ writer. length writer.published ≡ count + 1) }
+    ensures count { IfOk result (λ writer. length writer.published ≡ count + 1) }
+    ensures wide { IfOk result (λ writer. AreWide width writer.published) }
 {
     let one = vec![in alloc; 1; width as usize]?;
     let two = vec![in alloc; 2; width as usize]?;

@@ -9,8 +9,8 @@ use Rattle.atomic_table.specs.Table.{opening, Splits, Joins}
 use Rattle.atomic_table.proofs.Lists.{at_snoc, at_longer, set_again, set_else}
 use Rattle.board_cell_model.specs.Copies.{current_at}
 use Rattle.board_cell.specs.Passes.{threaded_shape, Stands}
-use Rattle.board_cell.specs.Rule.{ReaderFits, Fits, Kept, opening_words, opening_view}
-use Rattle.board_cell.specs.Views.{writer_of, reader_of, newcomer, writer_with, reader_with, joined}
+use Rattle.board_cell.specs.Rule.{ReaderFits, Fits, Kept, new_cell_words, opening_view}
+use Rattle.board_cell.specs.Views.{writer_of, reader_of, newcomer, writer_with, reader_with, joined_view}
 use Rattle.board_cell.specs.declared.threaded.view.Note.{Note}
 use Rattle.board_cell.specs.declared.threaded.view.WriterView.{WriterView}
 use Rattle.board_cell.specs.declared.threaded.view.ReaderView.{ReaderView}
@@ -116,7 +116,7 @@ joining_writer w id x other y s r at apart there = let both : View = Writer (wri
     )
 
 -- the table at the start
-pub begins : (item : List ℕ) → Kept (length item) (opening (opening_words item) [] (opening_view item))
+pub begins : (item : List ℕ) → Kept (length item) (opening (new_cell_words item) [] (opening_view item))
 begins item = (
   0,
   writer_of (opening_view item),
@@ -127,7 +127,7 @@ begins item = (
     begun = omega arith;
     short = omega arith;
     counter = refl;
-    current = λ i l. let two : suc (suc i) ≡ current_at (threaded_shape (length item)) 1 + i = omega arith in subst (λ (m : ℕ). get_or (opening_words item) m 0 ≡ get_or item i 0) two (get_or-append item (replicate (length item) 0) 0 i l);
+    current = λ i l. let two : suc (suc i) ≡ current_at (threaded_shape (length item)) 1 + i = omega arith in subst (λ (m : ℕ). get_or (new_cell_words item) m 0 ≡ get_or item i 0) two (get_or-append item (replicate (length item) 0) 0 i l);
     spare = λ i l. absurd (omega arith);
     each_view = only;
   },
@@ -141,18 +141,18 @@ begins item = (
     only zero v e = subst (Fits (item ∷ []) 0 0) (some-injective _ _ e) record { alone = refl; copied = All-nil (Stands (item ∷ [])); reached_kept = omega arith; copies_reached = All-nil (λ (y : Note). y.generation ≤ 0) }
     only (suc j) v e = absurd (some-ne-none v (sym e))
 
-pub begins_as : (item ws : List ℕ) → ws ≡ opening_words item → Kept (length item) (opening ws [] (opening_view item))
+pub begins_as : (item ws : List ℕ) → ws ≡ new_cell_words item → Kept (length item) (opening ws [] (opening_view item))
 begins_as item ws is = subst (λ (l : List ℕ). Kept (length item) (opening l [] (opening_view item))) (sym is) (begins item)
 
 -- the same for views that are known by an equation
 pub reader_named : (v : View) (y : ReaderView) → v ≡ Reader y → v ≡ Reader (reader_of v)
 reader_named v y e = e ∙ ap Reader (sym (ap reader_of e))
 
-pub joining_reader_as : (w id : ℕ) (v : View) (other : ℕ) (u : View) → v ≡ Reader (reader_of v) → u ≡ Reader (reader_of u) → Joins (Kept w) id v other u (joined v u) Spent
-joining_reader_as w id v other u e f = subst (λ (z : View × View). Joins (Kept w) id z.0 other z.1 (joined z.0 z.1) Spent) (λ i. (sym e i, sym f i)) (joining_reader w id (reader_of v) other (reader_of u))
+pub joining_reader_as : (w id : ℕ) (v : View) (other : ℕ) (u : View) → v ≡ Reader (reader_of v) → u ≡ Reader (reader_of u) → Joins (Kept w) id v other u (joined_view v u) Spent
+joining_reader_as w id v other u e f = subst (λ (z : View × View). Joins (Kept w) id z.0 other z.1 (joined_view z.0 z.1) Spent) (λ i. (sym e i, sym f i)) (joining_reader w id (reader_of v) other (reader_of u))
 
-pub joining_writer_as : (w id : ℕ) (v : View) (other : ℕ) (u : View) → v ≡ Writer (writer_of v) → u ≡ Reader (reader_of u) → Joins (Kept w) id v other u (joined v u) Spent
-joining_writer_as w id v other u e f = subst (λ (z : View × View). Joins (Kept w) id z.0 other z.1 (joined z.0 z.1) Spent) (λ i. (sym e i, sym f i)) (joining_writer w id (writer_of v) other (reader_of u))
+pub joining_writer_as : (w id : ℕ) (v : View) (other : ℕ) (u : View) → v ≡ Writer (writer_of v) → u ≡ Reader (reader_of u) → Joins (Kept w) id v other u (joined_view v u) Spent
+joining_writer_as w id v other u e f = subst (λ (z : View × View). Joins (Kept w) id z.0 other z.1 (joined_view z.0 z.1) Spent) (λ i. (sym e i, sym f i)) (joining_writer w id (writer_of v) other (reader_of u))
 
 pub all_behind : {X : Type 0} (P : X → Type 0) (xs ys : List X) → All P (xs ++ ys) → All P ys
 all_behind P [] ys h = h

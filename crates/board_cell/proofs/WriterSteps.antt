@@ -12,7 +12,7 @@ use Rattle.atomic_table.proofs.Lists.{set_again}
 use Rattle.board_cell_model.specs.Copies.{copy_at}
 use Rattle.board_cell.specs.Passes.{threaded_shape, Stands}
 use Rattle.board_cell.specs.Rule.{Fits, KeptBy, Kept}
-use Rattle.board_cell.specs.Views.{writer_of, with_word, with_publish, puts, publishes, looks}
+use Rattle.board_cell.specs.Views.{writer_of, with_pending, with_publish, puts, publishes, looks}
 use Rattle.board_cell.specs.declared.threaded.view.WriterView.{WriterView}
 use Rattle.board_cell.specs.declared.threaded.view.View.{View}
 use Rattle.board_cell.specs.declared.threaded.view.View.TheVariants.{Spent, Writer, Reader}
@@ -57,14 +57,14 @@ module _ (w : ℕ) (slots id : ℕ) (me : M) where
     putting i b place within s r _ at _ = let k = here s r at in let wide = k.wide in let n : ℕ = length x.published in let p : ℕ = length x.pending in let bounds = copy_within w n p within in
         let len : length (x.pending ++ b ∷ []) ≡ suc p = omega (arith, length-append x.pending (b ∷ [])) in
         let fits : Fits x.published id id (Writer x) = k.each_view id (Writer x) (at_writer s at) in (
-          Writer (with_word x b),
+          Writer (with_pending x b),
           keeps,
           tt,
           (
             id,
-            with_word x b,
+            with_pending x b,
             record {
-              there = set_there s.views id (Writer (with_word x b)) me.0 at;
+              there = set_there s.views id (Writer (with_pending x b)) me.0 at;
               wide = length-set s.words i b ∙ wide;
               even = k.even;
               begun = k.begun;
@@ -74,10 +74,10 @@ module _ (w : ℕ) (slots id : ℕ) (me : M) where
               spare = λ j l. dite (ℕ_discrete j p)
                   (λ e. ap (λ (m : ℕ). get_or (set s.words i b) m 0) (ap (λ (m : ℕ). copy_at (threaded_shape w) n + m) e ∙ sym place) ∙ (get_or-set_same s.words i b 0 (omega arith) ∙ (sym (at_push x.pending b) ∙ ap (λ (m : ℕ). get_or (x.pending ++ b ∷ []) m 0) (sym e))))
                   (λ other. get_or-set_other s.words i (copy_at (threaded_shape w) n + j) b 0 (λ e. other (omega arith)) ∙ (k.spare j (omega arith) ∙ sym (get_or-append x.pending (b ∷ []) 0 j (omega arith))));
-              each_view = fits_set x.published id s.views id (Writer (with_word x b)) k.each_view (record { alone = fits.alone; copied = fits.copied; copies_reached = fits.copies_reached; reached_kept = fits.reached_kept });
+              each_view = fits_set x.published id s.views id (Writer (with_pending x b)) k.each_view (record { alone = fits.alone; copied = fits.copied; copies_reached = fits.copies_reached; reached_kept = fits.reached_kept });
             },
           ),
-          λ y e i'. (Writer (with_word (same_writer y e i') b), me.1),
+          λ y e i'. (Writer (with_pending (same_writer y e i') b), me.1),
         )
 
     -- it raises the counter

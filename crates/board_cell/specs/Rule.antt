@@ -74,8 +74,8 @@ abbrev pub Kept : ℕ → State (Unit {0}) View → Type 0
 Kept w s = (seat : ℕ) × (writer : WriterView) × KeptBy w seat writer s
 
 -- the words of a new cell
-abbrev pub opening_words : List ℕ → List ℕ
-opening_words words = 1 ∷ 0 ∷ (words ++ replicate (length words) 0)
+abbrev pub new_cell_words : List ℕ → List ℕ
+new_cell_words words = 1 ∷ 0 ∷ (words ++ replicate (length words) 0)
 
 -- the writer's view of a new cell
 abbrev pub opening_view : List ℕ → View

@@ -1,7 +1,9 @@
 -- The accesses of whole runs, one after another.
-use Rattle.std.specs.Prelude.{ℕ, zero, suc, ◌+◌, ◌-◌, List, [], ◌∷◌, length}
+use Rattle.std.specs.Prelude.{◌≡◌, ℕ, zero, suc, ◌+◌, ◌-◌, List, [], ◌∷◌, ◌++◌, length, map}
 use Rattle.board_layout.specs.declared.shape.CellShape.{CellShape}
 use Rattle.board_cell_model.specs.OwedAccesses.{Owed, to_read, Reading, finished, hear, owed_read, owed_write}
+use Rattle.board_cell.specs.Calls.{on_board}
+use Rattle.board_cell.specs.declared.access.Access.{Access}
 
 -- what a get owes before each of these words, until it is finished
 abbrev pub owed_reads : ℕ → CellShape → Reading → List ℕ → List Owed
@@ -22,3 +24,7 @@ owed_writes board c g words k = owed_writes_from board c g words k (length words
 abbrev pub owed_looks : ℕ → CellShape → List ℕ → List Owed
 owed_looks board c [] = []
 owed_looks board c (v ∷ vs) = to_read board c.first ∷ []
+
+-- the accesses that are owed were noted behind the old ones, whichever board they are made on
+abbrev pub AreNoted : List Access → List Access → (ℕ → List Owed) → Type 0
+AreNoted old new owed = (board : ℕ) → map (on_board board) new ≡ map (on_board board) old ++ owed board

@@ -26,8 +26,8 @@ reader_of (Reader x) = x
 reader_of _ = no_reader
 
 -- the writer stores a word of the spare copy
-abbrev pub with_word : WriterView → ℕ → WriterView
-with_word x n = record x { pending = x.pending ++ n ∷ [] }
+abbrev pub with_pending : WriterView → ℕ → WriterView
+with_pending x n = record x { pending = x.pending ++ n ∷ [] }
 
 -- the writer raises the counter
 abbrev pub with_publish : WriterView → WriterView
@@ -77,10 +77,10 @@ abbrev pub reader_with : ReaderView → ReaderView → ReaderView
 reader_with x y = record x { copies = x.copies ++ (y.notes ++ y.copies); reached = max x.reached y.reached }
 
 -- the view of a seat that another was joined into
-abbrev pub joined : View → View → View
-joined (Writer x) (Reader y) = Writer (writer_with x y)
-joined (Reader x) (Reader y) = Reader (reader_with x y)
-joined v _ = v
+abbrev pub joined_view : View → View → View
+joined_view (Writer x) (Reader y) = Writer (writer_with x y)
+joined_view (Reader x) (Reader y) = Reader (reader_with x y)
+joined_view v _ = v
 
 -- the call is in the reader's open try
 abbrev pub IsTrying : ℕ → Getting → ReaderView → Type 0
@@ -127,7 +127,7 @@ abbrev Told : Type 1
 Told = Step (Unit {0}) → Seen → ℕ → Seen → Type 0
 
 abbrev pub puts : Told
-puts st m n m' = (x : WriterView) → m.0 ≡ Writer x → m' ≡ (Writer (with_word x st.first), m.1)
+puts st m n m' = (x : WriterView) → m.0 ≡ Writer x → m' ≡ (Writer (with_pending x st.first), m.1)
 
 abbrev pub publishes : Told
 publishes st m n m' = (x : WriterView) → m.0 ≡ Writer x → m' ≡ (Writer (with_publish x), m.1)

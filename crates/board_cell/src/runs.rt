@@ -3,13 +3,11 @@ ghost use Rattle.std.specs.Prelude.{ℕ, ◌≡◌, ◌≤◌, ◌+◌, ◌==◌
 ghost use Rattle.board_cell_model.specs.Copies.{spare_at};
 ghost use Rattle.board_cell_model.specs.OwedAccesses.{to_write, opening, is_finished, reading_from};
 ghost use Rattle.board_cell.specs.Calls.{on_board};
-ghost use Rattle.board_cell.specs.Runs.{owed_reads, owed_looks, owed_writes};
+ghost use Rattle.board_cell.specs.Runs.{AreNoted, owed_reads, owed_looks, owed_writes};
 
 use crate::access::{Access, Progress};
-use crate::fresh_call::FreshCall;
 use crate::get_call::GetCall;
-use crate::publish_call::PublishCall;
-use crate::put_call::PutCall;
+use crate::one_access::{FreshCall, PublishCall, PutCall};
 use crate::update_call::UpdateCall;
 use std::alloc::AllocError;
 
@@ -25,7 +23,7 @@ pub fn run_get(
 ) -> Result<(), AllocError>
     requires { is_finished call.old.reading ≡ false }
     ensures call { OnOk result (call.new ≡ record call.old { reading = reading_from call.old.shape.words call.old.reading words.now }) }
-    ensures accesses { OnOk result ((board : ℕ) → map (on_board board) accesses.new.items ≡ map (on_board board) accesses.old.items ++ owed_reads board call.old.shape call.old.reading words.now) }
+    ensures accesses { OnOk result (AreNoted accesses.old.items accesses.new.items (λ board. owed_reads board call.old.shape call.old.reading words.now)) }
 {
     for word in words {
         accesses.push(call.next())?;
@@ -44,7 +42,7 @@ pub fn run_get(
 pub fn run_update(call: &mut UpdateCall, accesses: &mut Vec<Access>) -> Result<(), AllocError>
     requires { call.old.written ≤ length call.old.words }
     ensures call { OnOk result (call.new ≡ record call.old { written = length call.old.words + 1 }) }
-    ensures accesses { OnOk result ((board : ℕ) → map (on_board board) accesses.new.items ≡ map (on_board board) accesses.old.items ++ owed_writes board call.old.shape call.old.generation call.old.words call.old.written) }
+    ensures accesses { OnOk result (AreNoted accesses.old.items accesses.new.items (λ board. owed_writes board call.old.shape call.old.generation call.old.words call.old.written)) }
 {
     loop {
         accesses.push(call.next())?;
@@ -66,7 +64,7 @@ pub fn run_fresh(
 ) -> Result<Option<bool>, AllocError>
     requires { call.old.counter ≡ None }
     ensures call { OnOk result (call.new ≡ record call.old { counter = slice_get words.now 0 }) }
-    ensures accesses { OnOk result ((board : ℕ) → map (on_board board) accesses.new.items ≡ map (on_board board) accesses.old.items ++ owed_looks board call.old.shape words.now) }
+    ensures accesses { OnOk result (AreNoted accesses.old.items accesses.new.items (λ board. owed_looks board call.old.shape words.now)) }
     ensures answer { IfOk result (λ answer. answer ≡ option_map (λ counter. counter == call.old.generation) (slice_get words.now 0)) }
 {
     let Some(word) = words.first() else {
@@ -84,7 +82,7 @@ pub fn run_fresh(
 pub fn run_put(call: &mut PutCall, accesses: &mut Vec<Access>) -> Result<(), AllocError>
     requires { call.old.done ≡ false }
     ensures call { OnOk result (call.new ≡ record call.old { done = true }) }
-    ensures accesses { OnOk result ((board : ℕ) → map (on_board board) accesses.new.items ≡ map (on_board board) accesses.old.items ++ to_write board (spare_at call.old.shape call.old.generation + call.old.index) call.old.word ∷ []) }
+    ensures accesses { OnOk result (AreNoted accesses.old.items accesses.new.items (λ board. to_write board (spare_at call.old.shape call.old.generation + call.old.index) call.old.word ∷ [])) }
 {
     accesses.push(call.next())?;
     call.took(0);
@@ -98,7 +96,7 @@ pub fn run_put(call: &mut PutCall, accesses: &mut Vec<Access>) -> Result<(), All
 pub fn run_publish(call: &mut PublishCall, accesses: &mut Vec<Access>) -> Result<(), AllocError>
     requires { call.old.done ≡ false }
     ensures call { OnOk result (call.new ≡ record call.old { done = true }) }
-    ensures accesses { OnOk result ((board : ℕ) → map (on_board board) accesses.new.items ≡ map (on_board board) accesses.old.items ++ to_write board call.old.shape.first (call.old.generation + 1) ∷ []) }
+    ensures accesses { OnOk result (AreNoted accesses.old.items accesses.new.items (λ board. to_write board call.old.shape.first (call.old.generation + 1) ∷ [])) }
 {
     accesses.push(call.next())?;
     call.took(0);

@@ -8,13 +8,13 @@ pub record LoanSeen : Type 0 where
   pub words : List (Option ℕ)
 
 -- the word at this index was put
-abbrev pub with_word : LoanSeen → ℕ → ℕ → LoanSeen
-with_word l index word = record l { words = slice_set l.words index (Some word) }
+abbrev pub with_put : LoanSeen → ℕ → ℕ → LoanSeen
+with_put l index word = record l { words = slice_set l.words index (Some word) }
 
 -- the handle after one more publication
 abbrev pub raised : WriteCore → WriteCore
 raised h = record h { generation = h.generation + 1 }
 
 -- the handle after its loan, which was published or not
-abbrev pub given_back : Bool → WriteCore → WriteCore
-given_back published h = if published then raised h else h
+abbrev pub handle_back : Bool → WriteCore → WriteCore
+handle_back published h = if published then raised h else h

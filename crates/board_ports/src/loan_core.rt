@@ -3,7 +3,7 @@ ghost use Rattle.board_layout.specs.Layout.{cell_end};
 ghost use Rattle.board_model.specs.LawfulSession.{all_put};
 ghost use Rattle.board_model.specs.Replies.{none_put};
 ghost use Rattle.board_ports.specs.EntryCalls.{put_of, publish_of, update_of};
-ghost use Rattle.board_ports.specs.Loans.{with_word, given_back};
+ghost use Rattle.board_ports.specs.Loans.{with_put, handle_back};
 
 use crate::write_core::WriteCore;
 use board_cell::{PublishCall, PutCall, UpdateCall};
@@ -68,7 +68,7 @@ impl LoanCore<Vec<Option<u64>>> {
     #[inline]
     pub fn wrote(&mut self, index: u64, word: u64)
         requires index { index < self.old.handle.shape.words }
-        ensures { self.new ≡ with_word self.old index word }
+        ensures { self.new ≡ with_put self.old index word }
     {
         self.words[index as usize] = Some(word);
     }
@@ -77,7 +77,7 @@ impl LoanCore<Vec<Option<u64>>> {
     #[inline]
     pub fn into_write(self, published: bool) -> WriteCore
         requires room { published ≡ true → self.handle.generation + 1 < 2 ^ 64 }
-        ensures { result ≡ given_back published self.handle }
+        ensures { result ≡ handle_back published self.handle }
     {
         let (handle, _places) = self.into_parts(published);
         handle
@@ -87,7 +87,7 @@ impl LoanCore<Vec<Option<u64>>> {
     #[inline]
     pub fn into_parts(self, published: bool) -> (WriteCore, Vec<Option<u64>>)
         requires room { published ≡ true → self.handle.generation + 1 < 2 ^ 64 }
-        ensures handle { result.0 ≡ given_back published self.handle }
+        ensures handle { result.0 ≡ handle_back published self.handle }
         ensures empty { result.1.items ≡ none_put self.handle.shape.words }
     {
         let LoanCore {

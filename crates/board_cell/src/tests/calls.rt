@@ -1,7 +1,7 @@
 //! The calls, each through its accesses, in a cell of two words that begins with word 4: its copies begin with words 6 and 8.
 use crate::{
-    Access, CellShape, FreshCall, GetCall, Progress, PublishCall, PutCall, UpdateCall, Words,
-    run_fresh, run_get, run_publish, run_put, run_update,
+    Access, CellShape, FreshCall, GetCall, PublishCall, PutCall, UpdateCall, run_fresh, run_get,
+    run_publish, run_put, run_update,
 };
 use std::test::*;
 
@@ -41,26 +41,6 @@ fn a_get_that_meets_one_update_tries_again(rt: HostRuntime) -> Result<(), Fail> 
     assert_eq!(rt; call.generation(), 2);
     assert_eq!(rt; call.words().as_slice(), [7, 9].as_slice());
     Ok(())
-}
-
-#[test]
-fn a_fresh_asks_the_counter_alone(rt: HostRuntime) {
-    for (counter, fresh) in [(2, false), (3, true), (4, false)] {
-        let mut call = FreshCall::new(SHAPE, 3);
-        assert_eq!(rt; call.next(), Access::Read { word: 4 });
-        assert_eq!(rt; call.took(counter), Progress::Done);
-        assert_eq!(rt; call.answer(), fresh, "at {counter}");
-    }
-}
-
-#[test]
-fn a_loan_puts_its_words_and_publishes(rt: HostRuntime) {
-    let mut put = PutCall::new(SHAPE, 2, 1, 9);
-    assert_eq!(rt; put.next(), Access::Write { word: 7, value: 9 });
-    assert_eq!(rt; put.took(0), Progress::Done);
-    let mut publish = PublishCall::new(SHAPE, 2);
-    assert_eq!(rt; publish.next(), Access::Write { word: 4, value: 3 });
-    assert_eq!(rt; publish.took(0), Progress::Done);
 }
 
 #[test]

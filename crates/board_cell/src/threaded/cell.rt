@@ -1,6 +1,6 @@
 ghost use Rattle.std.specs.Prelude.{◌≡◌, ◌+◌, ◌*◌, ◌^◌, ◌<◌, length, IfOk};
 ghost use Rattle.board_cell.specs.Passes.{threaded_shape, new_writer, new_reader};
-ghost use Rattle.board_cell.specs.Rule.{opening_words};
+ghost use Rattle.board_cell.specs.Rule.{new_cell_words};
 
 use crate::cell_error::CellError;
 use crate::threaded::reader::ReaderPass;
@@ -32,7 +32,7 @@ impl Model for ThreadedCell {
 
 // The counter, the reserved word, the value, and zeros for the second copy.
 fn opening(alloc: Global, words: &Vec<u64>) -> Result<Vec<u64>, AllocError>
-    ensures { IfOk result (λ v. v.items ≡ opening_words words.now.items) }
+    ensures { IfOk result (λ v. v.items ≡ new_cell_words words.now.items) }
 {
     let mut all = Vec::new(alloc);
     all.push(1)?;

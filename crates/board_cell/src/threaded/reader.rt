@@ -5,8 +5,8 @@ ghost use Rattle.board_cell.specs.Passes.{threaded_shape, new_reader, NotesRise,
 ghost use Rattle.board_cell.specs.Views.{reader_of, IsTrying, AfterTries, AfterTriesWithin, AfterFailures};
 ghost use Rattle.board_cell.specs.declared.threaded.view.View.TheVariants.{Reader};
 
-use crate::fresh_call::FreshCall;
 use crate::get_call::GetCall;
+use crate::one_access::FreshCall;
 use crate::threaded::cell::ThreadedCell;
 use crate::threaded::rule::Parts;
 use crate::threaded::view::View;
@@ -126,6 +126,7 @@ impl ThreadedCell {
             }
             before = after;
         }
+        // `forever` has no end.
         unreachable!()
     }
 

@@ -1,7 +1,7 @@
 //! The rule of a cell's table, and what each kind of step tells.
 ghost use Rattle.std.specs.Prelude.{length};
 ghost use Rattle.board_cell.specs.Rule.{Kept, opening_view};
-ghost use Rattle.board_cell.specs.Views.{newcomer, joined, puts, publishes, opens, reads, closes, glances, looks};
+ghost use Rattle.board_cell.specs.Views.{newcomer, joined_view, puts, publishes, opens, reads, closes, glances, looks};
 ghost use Rattle.board_cell.specs.declared.threaded.view.View.TheVariants.{Spent};
 
 use crate::threaded::view::View;
@@ -75,7 +75,7 @@ impl Split<View> for Parts {
 }
 
 impl Join<View> for Parts {
-    ghost both = { joined };
+    ghost both = { joined_view };
 
     ghost spent = { Spent };
 }

@@ -3,12 +3,12 @@ ghost use Rattle.std.specs.Prelude.{◌≡◌, ◌≢◌, ◌+◌, ◌<◌, ◌�
 ghost use Rattle.board_cell_model.specs.OwedAccesses.{opening, trying, finished};
 ghost use Rattle.board_cell.specs.Passes.{threaded_shape, NotesRise};
 ghost use Rattle.board_cell.specs.Calls.{words_of};
-ghost use Rattle.board_cell.specs.Views.{writer_of, reader_of, with_word, with_publish, with_item, with_open, with_found, with_words, with_close, with_note, with_load, IsTrying, IsWriting};
+ghost use Rattle.board_cell.specs.Views.{writer_of, reader_of, with_pending, with_publish, with_item, with_open, with_found, with_words, with_close, with_note, with_load, IsTrying, IsWriting};
 ghost use Rattle.board_cell.specs.declared.threaded.view.View.TheVariants.{Writer, Reader};
 
 use crate::access::Access;
-use crate::fresh_call::FreshCall;
 use crate::get_call::GetCall;
+use crate::one_access::FreshCall;
 use crate::threaded::cell::ThreadedCell;
 use crate::threaded::rule::{Close, Glance, Open, Publish, Put, Read};
 use crate::threaded::view::View;
@@ -24,10 +24,11 @@ impl ThreadedCell {
         requires call { IsWriting self.now.width call.old (writer_of seat.old.me.0) }
         requires more { call.old.written < self.now.width }
         ensures cell { seat.new.table_id ≡ seat.old.table_id }
-        ensures seat { seat.new.me ≡ (Writer (with_word (writer_of seat.old.me.0) (slice_index call.old.words call.old.written)), seat.old.me.1) }
+        ensures seat { seat.new.me ≡ (Writer (with_pending (writer_of seat.old.me.0) (slice_index call.old.words call.old.written)), seat.old.me.1) }
         ensures call { call.new ≡ record call.old { written = call.old.written + 1 } }
     {
         let Access::Write { word, value } = call.next() else {
+            // `next` owes a write.
             unreachable!()
         };
         let table = &self.table;
@@ -46,6 +47,7 @@ impl ThreadedCell {
         ensures seat { seat.new.me ≡ (Writer (with_publish (writer_of seat.old.me.0)), seat.old.me.1) }
     {
         let Access::Write { word, value } = call.next() else {
+            // `next` owes a write.
             unreachable!()
         };
         let table = &self.table;
@@ -80,6 +82,7 @@ impl ThreadedCell {
         ensures call { call.new ≡ record call.old { reading = trying result [] } }
     {
         let Access::Read { word } = call.next() else {
+            // `next` owes a read.
             unreachable!()
         };
         let table = &self.table;
@@ -100,6 +103,7 @@ impl ThreadedCell {
         ensures call { IsTrying self.now.width call.new (with_found (reader_of seat.old.me.0) result) }
     {
         let Access::Read { word } = call.next() else {
+            // `next` owes a read.
             unreachable!()
         };
         let table = &self.table;
@@ -123,6 +127,7 @@ impl ThreadedCell {
         ensures again { result ≢ (reader_of seat.old.me.0).opened → call.new ≡ record call.old { reading = trying result [] } }
     {
         let Access::Read { word } = call.next() else {
+            // `next` owes a read.
             unreachable!()
         };
         let table = &self.table;
@@ -175,6 +180,7 @@ impl ThreadedCell {
         ensures call { call.new ≡ record call.old { counter = Some result } }
     {
         let Access::Read { word } = call.next() else {
+            // `next` owes a read.
             unreachable!()
         };
         let table = &self.table;

@@ -1,5 +1,6 @@
 use Rattle.std.proofs.Common.{◌≡◌, ◌+◌, length}
+use Rattle.board_bench.specs.Watchers.{AreCopiedWide}
 use Rattle.board_bench.proofs.solo.gets.Given as goal
 
 abbrev pub invariant-loop : goal.invariant-loop
-invariant-loop g l = (l.reader.cell ≡ l.initial.reader.cell) × (length l.out.items ≡ length l.initial.out.items) × (length l.reader.notes ≡ length l.initial.reader.notes + l.counter)
+invariant-loop g l = (l.reader.cell ≡ l.initial.reader.cell) × (length l.out.items ≡ length l.initial.out.items) × (length l.reader.notes ≡ length l.initial.reader.notes + l.counter) × (AreCopiedWide l.fn.cell.width l.initial.reader.notes → AreCopiedWide l.fn.cell.width l.reader.notes)

@@ -1,7 +1,7 @@
 use Rattle.std.proofs.Common.{rules, ◌≡◌, ℕ, ◌+◌, ◌<◌, length, slice_index, sym, ap, ◌∙◌, arith}
 use Rattle.board_cell_model.specs.Copies.{spare_at}
 use Rattle.board_cell.specs.Passes.{threaded_shape}
-use Rattle.board_cell.specs.Views.{writer_of, with_word}
+use Rattle.board_cell.specs.Views.{writer_of, with_pending}
 use Rattle.board_cell.specs.declared.threaded.view.View.TheVariants.{Writer}
 use Rattle.board_cell.proofs.CopyPlaces.{copy_within}
 use Rattle.board_cell.proofs.WriterSteps.{putting}
@@ -28,4 +28,4 @@ pub returns-clause-seat : goal.returns-clause-seat
 returns-clause-seat c =
     let at : c.args.call.now.written ≡ length (writer_of c.args.seat.now.me.0).pending = ap (λ k. k.written) c.requires.call.owes in
     let value = ap value_of_access (sym c.in-Write.is ∙ put_is _ c.args.call.now (writer_of c.args.seat.now.me.0) c.next.result c.requires.call c.requires.more c.next.ensures) in
-    c.store.ensures.2 _ c.requires.seat ∙ ap (λ (n : ℕ). (Writer (with_word (writer_of c.args.seat.now.me.0) n), c.args.seat.now.me.1)) (value ∙ ap (slice_index c.args.call.now.words) (sym at))
+    c.store.ensures.2 _ c.requires.seat ∙ ap (λ (n : ℕ). (Writer (with_pending (writer_of c.args.seat.now.me.0) n), c.args.seat.now.me.1)) (value ∙ ap (slice_index c.args.call.now.words) (sym at))
