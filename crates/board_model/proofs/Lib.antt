@@ -27,6 +27,7 @@ pub mod BoardLemmas
 pub mod IdLaws
 pub mod WorkedLemmas
 pub mod KeptKeyLemmas
+pub mod ShortKeyLemmas
 pub mod FormLemmas
 pub mod KeptFormLemmas
 pub mod ReplyFormLemmas

@@ -1,5 +1,6 @@
 -- what scripts, boards and sessions are, and the laws that hold of them
 pub mod TypeTable
+pub mod ShortKeys
 pub mod LineGrammar
 pub mod AnswerGrammar
 pub mod Tables

@@ -21,6 +21,7 @@ pub mod read_laws;
 pub mod session_laws;
 pub mod sound_law;
 mod tables;
+mod type_table;
 mod value;
 pub mod worked_sessions;
 pub mod worked_updates;
@@ -32,4 +33,8 @@ pub use lists::{
     AddedEntries, AttributeKeys, Attributes, Entries, Items, Keys, LongName, Names, Words,
 };
 pub use tables::{Board, Entry, Kind, Limits, Thing, ThingKind};
+pub use type_table::{
+    key_bytes, key_detail, key_of, key_type_of, same_key_type, same_type, type_of, type_of_key,
+    value_detail, value_type_of, value_words,
+};
 pub use value::{AddedEntry, Key, KeyType, Value, ValueType};

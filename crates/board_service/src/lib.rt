@@ -22,12 +22,12 @@ mod planned;
 mod refusals;
 mod told;
 
-pub use board_model::{Limits, ThingKind};
+pub use board_model::{Limits, ThingKind, same_type};
 pub use cells::{BoardWords, Cells};
 pub use counts::port_of;
 pub use domain_core::DomainCore;
 pub use ids::{NodeId, ThingId};
-pub use lookups::{is_kind, same_type};
+pub use lookups::is_kind;
 pub use made::{Found, Made};
 pub use new_entry::NewEntry;
 pub use told::{DynamicConfig, StaticConfig};

@@ -9,8 +9,8 @@ ghost use Rattle.board_service.specs.Domain as domain;
 use crate::board_row::BoardRow;
 use crate::counts::{Held, reader_slots};
 use crate::ids::ThingId;
-use board_layout::{BoardKey, TypeDetail, TypeVariant, is_key};
-use board_model::{Entry, Kind, ThingKind};
+use board_layout::{BoardKey, TypeDetail, is_key};
+use board_model::{Entry, Kind, ThingKind, same_type};
 use board_names::ServiceName;
 
 /// The board with the number.
@@ -129,26 +129,6 @@ pub fn is_kind(kind: ThingKind, of: &Kind) -> bool
         (Kind::WriteHandle { entry: _, port: _ }, ThingKind::WriteHandle) => true,
         _ => false,
     }
-}
-
-fn same_variant(a: TypeVariant, b: TypeVariant) -> bool
-    ensures { result ≡ types.same_variant a b }
-{
-    match (a, b) {
-        (TypeVariant::FixedSize, TypeVariant::FixedSize) => true,
-        (TypeVariant::Dynamic, TypeVariant::Dynamic) => true,
-        _ => false,
-    }
-}
-
-/// Whether these are the details of one type.
-pub fn same_type(a: &TypeDetail, b: &TypeDetail) -> bool
-    ensures { result ≡ types.same_type a.now b.now }
-{
-    same_variant(a.variant, b.variant)
-        && a.type_name == b.type_name
-        && a.size == b.size
-        && a.alignment == b.alignment
 }
 
 /// Whether the board has keys of this type.

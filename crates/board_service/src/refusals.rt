@@ -11,12 +11,12 @@ ghost use Rattle.board_service.specs.Entries.{added_of};
 use crate::board_row::BoardRow;
 use crate::counts::{Held, is_node, nodes_taken};
 use crate::ids::NodeId;
-use crate::lookups::{board_named, same_type};
+use crate::lookups::board_named;
 use crate::new_entry::NewEntry;
 use crate::planned::is_too_large;
 use board_concepts::AttributeVerifier;
 use board_layout::{BoardKey, KeyMemory, TypeDetail, same_keys};
-use board_model::Limits;
+use board_model::{Limits, same_type};
 use board_names::{BlackboardCreateError, BlackboardOpenError, ServiceName};
 
 /// The last number from which no other is drawn: 2^64 - 2.

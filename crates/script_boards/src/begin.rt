@@ -15,13 +15,12 @@ use crate::lookups::value_of;
 use crate::machine::{BoardMachine, PartyRow, TableTask, Task};
 use board_model::{
     AddedEntries, AddedEntry, Answer, Attributes, BoardName, Call, Entry, Key, KeyType, Kind,
-    Limits, Name, Reason, Requirements, ThingKind, Value, ValueType,
+    Limits, Name, Reason, Requirements, ThingKind, Value, ValueType, same_key_type, same_type,
+    type_of, type_of_key, value_detail, value_type_of, value_words,
 };
 use board_ports::{CellShape, ReadCore, WriteCore};
-use board_service::{BoardWords, same_type};
-use script_parties::{
-    Held, entry_of, same_key_type, type_of, type_of_key, value_detail, value_type_of, value_words,
-};
+use board_service::BoardWords;
+use script_parties::{Held, entry_of};
 use std::alloc::AllocError;
 
 /// Whether a call may begin: what it has to do, or why not.

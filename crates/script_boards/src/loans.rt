@@ -10,10 +10,12 @@ ghost use Rattle.script_boards.specs.Machine.{IsLed};
 
 use crate::begin::{Checked, write_core};
 use crate::machine::{BoardMachine, Lent, TableTask, Task};
-use board_model::{Name, Reason, Reply, ThingKind, Value};
+use board_model::{
+    Name, Reason, Reply, ThingKind, Value, same_type, type_of, value_detail, value_words,
+};
 use board_ports::LoanCore;
-use board_service::{BoardWords, same_type};
-use script_parties::{Held, type_of, value_detail, value_words};
+use board_service::BoardWords;
+use script_parties::Held;
 use std::alloc::AllocError;
 
 /// The words of the loan that a party holds under a name.

@@ -1,6 +1,6 @@
 -- What a call is told, from what the core answers.
 use Rattle.std.proofs.Common.{arith, ◌≡◌, ◌≢◌, ℕ, ◌+◌, ◌≤◌, Bool, false, cond, List, [], ◌∷◌, ◌++◌, refl, sym, ap, ◌∙◌, subst, Option, Some, None, inl, inr}
-use Rattle.std.specs.Prelude.{IfOk, Result, Ok, Err}
+use Rattle.std.specs.Prelude.{Result, Ok, Err}
 use Rattle.board_layout.specs.Answer.{Answers}
 use Rattle.board_model.specs.declared.answer.Reply.{Reply}
 use Rattle.board_model.specs.declared.answer.Reply.TheVariants as reply
@@ -64,11 +64,6 @@ pub told_refused : {E : Type 0} (old : Parties) (error : E → Reply) (o : Optio
     → IsAsked old old error (asked o n after old.tables) (error why)
 told_refused {E} old error o n after why e =
     subst (λ (p : Option E). IsAsked old old error (asked p n after old.tables) (error why)) (sym e) (record { told_is = refl; tables = refl; words = refl; drawn = omega arith })
-
--- a refusal is told where there was no want of memory
-pub told_if : {E : Type 0} (result : Result Reply E) (P : Reply → Type 0) (Q : Type 0) (r : Reply) → IfOk result (λ t. t ≡ r) → IfOk result (λ t. Q) → (Q → P r) → IfOk result P
-told_if (Ok t) P Q r told q f = subst P (sym told) (f q)
-told_if (Err e) P Q r told q f = tt
 
 -- what holds of a value and a list holds of those that are equal to them
 pub carried : {A B : Type 0} (P : A → B → Type 0) (x y : A) (xs ys : B) → x ≡ y → ys ≡ xs → P x xs → P y ys

@@ -18,7 +18,8 @@ use Rattle.board_model.specs.Tables.{Added, Tables, board_at, entry_found, entry
 use Rattle.board_model.proofs.ThingLemmas.{all_found}
 use Rattle.board_service.specs.Domain.{Domain, create_answer, entry_for}
 use Rattle.script_parties.proofs.KeyTests.{first_text, first_word, is_number, is_text, lowered}
-use Rattle.script_parties.specs.Named.{HasShortKey, HasShortKeys, IsShortKey}
+use Rattle.script_parties.specs.Named.{HasShortKey, HasShortKeys}
+use Rattle.board_model.specs.ShortKeys.{IsShortKey}
 
 -- the tests agree on short keys
 abbrev pub AgreeOnPairs : (List ℕ → List ℕ → Bool) → (List ℕ → List ℕ → Bool) → Type 0

@@ -13,7 +13,8 @@ use Rattle.board_model.specs.Tables.{shape_of, shapes_of}
 use Rattle.board_model.specs.TypeTable.{type_of, value_detail, value_words}
 use Rattle.board_service.specs.declared.new_entry.NewEntry.{NewEntry}
 use Rattle.board_service.specs.Entries.{added_of}
-use Rattle.script_parties.specs.Named.{HasShortKey, IsShortKey}
+use Rattle.script_parties.specs.Named.{HasShortKey}
+use Rattle.board_model.specs.ShortKeys.{IsShortKey}
 
 -- a value fits its cell
 has_shape : (v : Value) → IsShape (record { words = length (value_words v); alignment = (value_detail (type_of v)).alignment })

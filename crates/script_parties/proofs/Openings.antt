@@ -29,7 +29,8 @@ use Rattle.board_model.specs.Tables.{Added, Tables, board_named, entries_of, is_
 use Rattle.board_model.specs.TableCalls.{asked, asks_above, create_refusals, created, first_of, has_all_nodes, joined, number_of, open_asked, open_refusals}
 use Rattle.board_model.specs.Things.{Held}
 use Rattle.board_model.specs.TypeTable.{key_detail, same_key, same_type, value_words}
-use Rattle.script_parties.specs.Named.{AreParties, HasShortKey, HasShortKeys, IsNamed, IsOfNode, IsShortKey, node_number, nodes_with, party_at}
+use Rattle.script_parties.specs.Named.{AreParties, HasShortKey, HasShortKeys, IsNamed, IsOfNode, node_number, nodes_with, party_at}
+use Rattle.board_model.specs.ShortKeys.{IsShortKey}
 use Rattle.script_parties.specs.Parties.{IsAsked, IsCreate, words_with}
 use Rattle.script_parties.proofs.Asked.{answered_made, answered_refused, err_of, ok_of, told_made, told_refused}
 use Rattle.script_parties.proofs.Counts.{AreSame, node-same, nodes-same}

@@ -1,21 +1,16 @@
 -- How the things that parties named stand for those of a domain's core. Of what follows public clauses speak of short keys alone.
-use Rattle.std.specs.Prelude.{◌≡◌, ◌≢◌, false, ℕ, ◌+◌, ◌-◌, ◌<◌, ◌≤◌, List, [], ◌∷◌, ◌++◌, length, map, replicate, take, Option, Some, None, slice_get, slice_index_or, Result, Ok, Err}
+use Rattle.std.specs.Prelude.{◌≡◌, ◌≢◌, false, ℕ, ◌+◌, ◌-◌, ◌<◌, ◌≤◌, List, [], ◌∷◌, ◌++◌, length, map, Option, Some, None, slice_get, slice_index_or, Result, Ok, Err}
 use Rattle.std.specs.List.{AllByRecursion, position_from}
 use Rattle.std.specs.Str.{bytes_eq}
 use Rattle.board_model.specs.declared.tables.Board.{Board}
 use Rattle.board_model.specs.declared.tables.Entry.{Entry}
 use Rattle.board_model.specs.declared.tables.Thing.{Thing}
+use Rattle.board_model.specs.ShortKeys.{IsShortKey}
 use Rattle.board_model.specs.Tables.{Added, rename}
 use Rattle.board_model.specs.Things.{Held, is_held_as}
 use Rattle.board_service.specs.Domain.{Domain}
 
 -- ---- keys
-
--- eight bytes, and zeros behind them
-pub record IsShortKey (bytes : List ℕ) : Type 0 where
-  pub size : length (take 8 bytes) ≡ 8
-  pub small : AllByRecursion (λ b. b < 256) (take 8 bytes)
-  pub rest : bytes ≡ take 8 bytes ++ replicate 56 0
 
 -- the key of an entry that is to be added is short
 abbrev pub HasShortKey : Added → Type 0

@@ -10,10 +10,11 @@ ghost use Rattle.board_model.specs.Tables.{shapes_of};
 ghost use Rattle.script_parties.specs.Named.{HasShortKey};
 ghost use Rattle.board_service.specs.Entries.{added_of};
 
-use crate::values::{key_bytes, type_of, value_detail, value_words};
 use board_concepts::{AttributeSet, AttributeVerifier};
 use board_layout::{F8, Text};
-use board_model::{AddedEntry, Attributes, Requirements};
+use board_model::{
+    AddedEntry, Attributes, Requirements, key_bytes, type_of, value_detail, value_words,
+};
 use board_service::NewEntry;
 use std::alloc::{AllocError, Global};
 

@@ -4,8 +4,7 @@ ghost use Rattle.board_model.specs.Replies as replies;
 ghost use Rattle.script_parties.specs.Overview.{key_shown};
 
 use crate::lookups::Held;
-use crate::values::key_of;
-use board_model::{Entry, KeyType, Keys, Name, Names};
+use board_model::{Entry, KeyType, Keys, Name, Names, key_of};
 use std::alloc::{AllocError, Global};
 
 /// The keys of entries, in the order of adding.

@@ -121,6 +121,7 @@ pub(crate) fn number_of(thing: &Held, things: &[Held], numbers: &[ThingId]) -> T
 {
     match place_of_thing(&thing.holder, &thing.name, things) {
         Some(place) => numbers[place],
+        // The thing stands.
         None => unreachable!(),
     }
 }

@@ -14,19 +14,19 @@ use crate::lookups::{
     Held, entry_of, held_of_kind, join, name_text, node_for, number_of, place_of_thing, rename,
     thing_of,
 };
-use crate::replies::{
-    create_refused, entry_mut_refused, entry_refused, open_refused, reader_refused, writer_refused,
-};
 use crate::typed_calls::{create_in, entry_in, entry_mut_in, open_in};
-use crate::values::{key_detail, key_type_of, type_of_key, value_detail};
 use board_cell::Words;
 use board_layout::Text;
 use board_model::{
     AddedEntries, Attributes, Entry, Info, Key, KeyType, Keys, Kind, Limits, LongName, Name, Names,
-    Reply, Requirements, Thing, ThingKind, ValueType,
+    Reply, Requirements, Thing, ThingKind, ValueType, key_detail, key_type_of, same_type,
+    type_of_key, value_detail,
 };
-use board_names::ServiceName;
-use board_service::{BoardWords, DomainCore, NodeId, ThingId, port_of, same_type};
+use board_names::{
+    BlackboardCreateError, BlackboardOpenError, EntryHandleError, EntryHandleMutError,
+    ReaderCreateError, ServiceName, WriterCreateError,
+};
+use board_service::{BoardWords, DomainCore, NodeId, ThingId, port_of};
 use std::alloc::{AllocError, Global};
 use std::marker::Model;
 
@@ -159,6 +159,7 @@ impl<C: BoardWords + Drop> PartyDomain<C> {
     {
         match self.core.cells_mut(board) {
             Some(cells) => cells.load(word),
+            // `HasWord`: the board stands.
             None => unreachable!(),
         }
     }
@@ -170,6 +171,7 @@ impl<C: BoardWords + Drop> PartyDomain<C> {
     {
         match self.core.cells_mut(board) {
             Some(cells) => cells.store(word, value),
+            // `HasWord`: the board stands.
             None => unreachable!(),
         }
     }
@@ -221,7 +223,8 @@ impl<C: BoardWords + Drop> PartyDomain<C> {
                 self.numbers.push_reserved(made.thing);
                 Ok(Reply::Number(made.number))
             }
-            Err(why) => create_refused(why),
+            Err(BlackboardCreateError::OutOfMemory) => Err(AllocError),
+            Err(why) => Ok(Reply::CreateError(why)),
         }
     }
 
@@ -262,7 +265,8 @@ impl<C: BoardWords + Drop> PartyDomain<C> {
                 self.numbers.push_reserved(made.thing);
                 Ok(Reply::Number(made.number))
             }
-            Err(why) => open_refused(why),
+            Err(BlackboardOpenError::OutOfMemory) => Err(AllocError),
+            Err(why) => Ok(Reply::OpenError(why)),
         }
     }
 
@@ -290,7 +294,8 @@ impl<C: BoardWords + Drop> PartyDomain<C> {
                 self.numbers.push_reserved(made.thing);
                 Ok(Reply::Number(made.number))
             }
-            Err(why) => reader_refused(why),
+            Err(ReaderCreateError::OutOfMemory) => Err(AllocError),
+            Err(why) => Ok(Reply::ReaderError(why)),
         }
     }
 
@@ -318,7 +323,8 @@ impl<C: BoardWords + Drop> PartyDomain<C> {
                 self.numbers.push_reserved(made.thing);
                 Ok(Reply::Number(made.number))
             }
-            Err(why) => writer_refused(why),
+            Err(WriterCreateError::OutOfMemory) => Err(AllocError),
+            Err(why) => Ok(Reply::WriterError(why)),
         }
     }
 
@@ -354,7 +360,8 @@ impl<C: BoardWords + Drop> PartyDomain<C> {
                 self.numbers.push_reserved(found.thing);
                 Ok(Reply::Number(found.place))
             }
-            Err(why) => entry_refused(why),
+            Err(EntryHandleError::OutOfMemory) => Err(AllocError),
+            Err(why) => Ok(Reply::EntryError(why)),
         }
     }
 
@@ -393,7 +400,8 @@ impl<C: BoardWords + Drop> PartyDomain<C> {
                 self.numbers.push_reserved(found.thing);
                 Ok(Reply::Number(found.place))
             }
-            Err(why) => entry_mut_refused(why),
+            Err(EntryHandleMutError::OutOfMemory) => Err(AllocError),
+            Err(why) => Ok(Reply::EntryMutError(why)),
         }
     }
 
@@ -472,6 +480,7 @@ impl<C: BoardWords + Drop> PartyDomain<C> {
                 writers: taken.writers,
                 nodes: taken.nodes,
             }),
+            // The board stands.
             _ => unreachable!(),
         }
     }

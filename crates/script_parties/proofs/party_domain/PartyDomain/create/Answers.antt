@@ -1,11 +1,11 @@
-use Rattle.std.proofs.Common.{◌≢◌, List, [], ◌∷◌, ◌++◌, map, sym, ap, ◌∙◌, subst}
+use Rattle.std.proofs.Common.{rules, ◌≢◌, List, [], ◌∷◌, ◌++◌, map, sym, ap, ◌∙◌, subst}
 use Rattle.board_model.specs.declared.answer.Reply.TheVariants as reply
 use Rattle.board_names.specs.declared.errors.boards.BlackboardCreateError.TheVariants as create_error
 use Rattle.board_model.specs.Replies as replies
 use Rattle.board_model.specs.Things.{Held}
 use Rattle.script_parties.specs.Named.{IsNamed, node_number, nodes_with}
 use Rattle.script_parties.specs.Parties.{IsCreate, IsFew}
-use Rattle.script_parties.proofs.Asked.{carried, told_if}
+use Rattle.script_parties.proofs.Asked.{carried}
 use Rattle.script_parties.proofs.BoardNames.{service_name}
 use Rattle.script_parties.proofs.Openings.{IsCreated, create_made, create_not_made, factory_of}
 use Rattle.script_parties.proofs.Ports.{shown}
@@ -63,9 +63,8 @@ returns-in-Err-clause-asked g c =
       added_is = c.in_ok-entries.ensures.entries ∙ ap (λ es. map replies.added_of es) c.as_slice.ensures;
     } in
     let few = subst (λ p. IsFew p) (sym c.self.view_is) c.requires.few in
-    told_if c.create_refused.result (λ r. IsCreate c.args.self.now (shown g.C.Words.list c.create_in.new.core c.reserve-2.new.self.items) c.args.party c.args.factory c.args.name c.args.key_type c.args.limits c.args.attributes.now c.args.entries.now r)
-    (c.in-Err.why ≢ create_error.OutOfMemory) (reply.CreateError c.in-Err.why) c.create_refused.ensures.told c.create_refused.ensures.memory
-    (λ memory. carried (λ now xs. IsCreate now (shown g.C.Words.list c.create_in.new.core xs) c.args.party c.args.factory c.args.name c.args.key_type c.args.limits c.args.attributes.now c.args.entries.now (reply.CreateError c.in-Err.why))
+    let memory : c.in-Err.why ≢ create_error.OutOfMemory = search rules in
+    carried (λ now xs. IsCreate now (shown g.C.Words.list c.create_in.new.core xs) c.args.party c.args.factory c.args.name c.args.key_type c.args.limits c.args.attributes.now c.args.entries.now (reply.CreateError c.in-Err.why))
     (shown g.C.Words.list s.core s.things.items) c.args.self.now s.things.items c.reserve-2.new.self.items c.self.view_is c.reserve-2.ensures.items
     (create_not_made g.C.Words.list s.nodes.items s.numbers.items s.things.items s.core c.create_in.new.core c.args.party c.args.factory c.args.name c.args.key_type c.args.limits c.args.attributes.now c.args.entries.now
-    c.node_for.result c.from_text-name.result c.in_ok-attributes.attributes (map added_of c.in_ok-entries.entries.items) c.in-Err.why c.self.invariant o few.boards few.things memory c.in-Err.ensures.answer c.in-Err.ensures.err))
+    c.node_for.result c.from_text-name.result c.in_ok-attributes.attributes (map added_of c.in_ok-entries.entries.items) c.in-Err.why c.self.invariant o few.boards few.things memory c.in-Err.ensures.answer c.in-Err.ensures.err)

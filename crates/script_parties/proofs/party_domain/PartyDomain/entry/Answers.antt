@@ -1,4 +1,4 @@
-use Rattle.std.proofs.Common.{◌≡◌, ◌≢◌, true, List, [], ◌∷◌, ◌++◌, refl, sym, ap, ◌∙◌, subst}
+use Rattle.std.proofs.Common.{rules, ◌≡◌, ◌≢◌, true, List, [], ◌∷◌, ◌++◌, refl, sym, ap, ◌∙◌, subst}
 use Rattle.board_layout.specs.Answer.{Answers}
 use Rattle.board_model.specs.declared.answer.Reply.TheVariants as reply
 use Rattle.board_names.specs.declared.errors.boards.EntryHandleError.TheVariants as entry_error
@@ -11,7 +11,7 @@ use Rattle.board_model.specs.Things.{Held}
 use Rattle.board_model.specs.TypeTable.{value_detail}
 use Rattle.script_parties.specs.Named.{IsNamed}
 use Rattle.script_parties.specs.Parties.{IsFew, IsEntry}
-use Rattle.script_parties.proofs.Asked.{carried, err_of, ok_of, told_if}
+use Rattle.script_parties.proofs.Asked.{carried, err_of, ok_of}
 use Rattle.script_parties.proofs.Handles.{entry_made, entry_not_made, held_as}
 use Rattle.script_parties.proofs.Places.{stands_in, thing_of_call}
 use Rattle.script_parties.proofs.Ports.{from, shown}
@@ -67,7 +67,7 @@ returns-in-Err-clause-asked g c =
     (c.deref.ensures.value ∙ c.reserve.ensures.items) (c.deref-2.ensures.value ∙ c.reserve-2.ensures.items) c.number_of-number.ensures in
     let few = subst (λ p. IsFew p) (sym c.self.view_is) c.requires.few in
     let answer = subst (λ v. Answers (err_of c.in-Err.why) entry_error.OutOfMemory (entry_answer s.core (entry_for s.core (held s.core c.number_of-number.result) (is_key c.args.key.now) v))) c.value_detail.ensures c.in-Err.ensures.answer in
-    told_if c.entry_refused.result (λ r. IsEntry c.args.self.now (shown g.C.Words.list c.entry_in.new.core c.reserve.new.self.items) c.args.name x c.args.key.now c.args.value_type r) (c.in-Err.why ≢ entry_error.OutOfMemory) (reply.EntryError c.in-Err.why) c.entry_refused.ensures.told c.entry_refused.ensures.memory
-    (λ memory. carried (λ now xs. IsEntry now (shown g.C.Words.list c.entry_in.new.core xs) c.args.name x c.args.key.now c.args.value_type (reply.EntryError c.in-Err.why)) (shown g.C.Words.list s.core s.things.items) c.args.self.now s.things.items c.reserve.new.self.items
+    let memory : c.in-Err.why ≢ entry_error.OutOfMemory = search rules in
+    carried (λ now xs. IsEntry now (shown g.C.Words.list c.entry_in.new.core xs) c.args.name x c.args.key.now c.args.value_type (reply.EntryError c.in-Err.why)) (shown g.C.Words.list s.core s.things.items) c.args.self.now s.things.items c.reserve.new.self.items
     c.self.view_is c.reserve.ensures.items
-    (entry_not_made g.C.Words.list s.nodes.items s.numbers.items s.things.items s.core c.entry_in.new.core x c.number_of-number.result c.args.name (is_key c.args.key.now) (value_detail c.args.value_type) c.in-Err.why c.self.invariant i few.things memory answer c.in-Err.ensures.err))
+    (entry_not_made g.C.Words.list s.nodes.items s.numbers.items s.things.items s.core c.entry_in.new.core x c.number_of-number.result c.args.name (is_key c.args.key.now) (value_detail c.args.value_type) c.in-Err.why c.self.invariant i few.things memory answer c.in-Err.ensures.err)

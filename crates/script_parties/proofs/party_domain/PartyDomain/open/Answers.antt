@@ -1,11 +1,11 @@
-use Rattle.std.proofs.Common.{◌≢◌, List, [], ◌∷◌, ◌++◌, sym, ap, ◌∙◌, subst}
+use Rattle.std.proofs.Common.{rules, ◌≢◌, List, [], ◌∷◌, ◌++◌, sym, ap, ◌∙◌, subst}
 use Rattle.board_model.specs.declared.answer.Reply.TheVariants as reply
 use Rattle.board_names.specs.declared.errors.boards.BlackboardOpenError.TheVariants as open_error
 use Rattle.board_model.specs.Things.{Held}
 use Rattle.board_model.specs.TypeTable.{key_detail}
 use Rattle.script_parties.specs.Named.{IsNamed, node_number, nodes_with}
 use Rattle.script_parties.specs.Parties.{IsFew, IsOpen}
-use Rattle.script_parties.proofs.Asked.{carried, told_if}
+use Rattle.script_parties.proofs.Asked.{carried}
 use Rattle.script_parties.proofs.BoardNames.{service_name}
 use Rattle.script_parties.proofs.Openings.{IsOpened, factory_of, open_made, open_not_made}
 use Rattle.script_parties.proofs.Ports.{shown}
@@ -45,9 +45,8 @@ returns-clause-asked g c =
     let o : IsOpened c.args.party c.args.name c.args.needs.now s.nodes.items c.node_for.result c.from_text-name.result c.in_ok-needs.needs =
     record { node_is = c.node_for.ensures ∙ ap (λ ns. node_number c.args.party ns) (c.deref.ensures.value ∙ c.reserve.ensures.items); title_is = c.from_text-name.ensures; wanted_is = c.in_ok-needs.ensures } in
     let few = subst (λ p. IsFew p) (sym c.self.view_is) c.requires.few in
-    told_if c.open_refused.result (λ r. IsOpen c.args.self.now (shown g.C.Words.list c.open_in.new.core c.reserve-2.new.self.items) c.args.party c.args.factory c.args.name c.args.key_type c.args.limits c.args.needs.now r)
-    (c.in-Err.why ≢ open_error.OutOfMemory) (reply.OpenError c.in-Err.why) c.open_refused.ensures.told c.open_refused.ensures.memory
-    (λ memory. carried (λ now xs. IsOpen now (shown g.C.Words.list c.open_in.new.core xs) c.args.party c.args.factory c.args.name c.args.key_type c.args.limits c.args.needs.now (reply.OpenError c.in-Err.why))
+    let memory : c.in-Err.why ≢ open_error.OutOfMemory = search rules in
+    carried (λ now xs. IsOpen now (shown g.C.Words.list c.open_in.new.core xs) c.args.party c.args.factory c.args.name c.args.key_type c.args.limits c.args.needs.now (reply.OpenError c.in-Err.why))
     (shown g.C.Words.list s.core s.things.items) c.args.self.now s.things.items c.reserve-2.new.self.items c.self.view_is c.reserve-2.ensures.items
     (open_not_made g.C.Words.list s.nodes.items s.numbers.items s.things.items s.core c.open_in.new.core c.args.party c.args.factory c.args.name (key_detail c.args.key_type) c.args.limits c.args.needs.now
-    c.node_for.result c.from_text-name.result c.in_ok-needs.needs c.in-Err.why c.self.invariant o few.things memory c.in-Err.ensures.answer c.in-Err.ensures.err))
+    c.node_for.result c.from_text-name.result c.in_ok-needs.needs c.in-Err.why c.self.invariant o few.things memory c.in-Err.ensures.answer c.in-Err.ensures.err)

@@ -1,11 +1,11 @@
-use Rattle.std.proofs.Common.{◌≢◌, List, [], ◌∷◌, ◌++◌, sym, ap, ◌∙◌, subst}
+use Rattle.std.proofs.Common.{rules, ◌≢◌, List, [], ◌∷◌, ◌++◌, sym, ap, ◌∙◌, subst}
 use Rattle.board_model.specs.declared.answer.Reply.TheVariants as reply
 use Rattle.board_names.specs.declared.errors.boards.ReaderCreateError.TheVariants as reader_error
 use Rattle.board_model.specs.declared.tables.Kind.TheVariants as kind
 use Rattle.board_model.specs.Things.{Held}
 use Rattle.script_parties.specs.Named.{IsNamed}
 use Rattle.script_parties.specs.Parties.{IsFew, IsReader}
-use Rattle.script_parties.proofs.Asked.{carried, told_if}
+use Rattle.script_parties.proofs.Asked.{carried}
 use Rattle.script_parties.proofs.Places.{stands_in, thing_of_call}
 use Rattle.script_parties.proofs.Ports.{from, reader_made, reader_not_made, shown}
 use Rattle.script_parties.proofs.party_domain.PartyDomain.reader.Goals as goal
@@ -48,7 +48,7 @@ returns-in-Err-clause-asked g c =
     let i = thing_of_call s.nodes.items s.numbers.items c.deref-2.result.now s.things.items c.deref.result.now s.core x c.number_of-number.result c.self.invariant (stands_in (shown g.C.Words.list s.core s.things.items) _ x c.self.view_is c.requires.stands)
     (c.deref.ensures.value ∙ c.reserve.ensures.items) (c.deref-2.ensures.value ∙ c.reserve-2.ensures.items) c.number_of-number.ensures in
     let few = subst (λ p. IsFew p) (sym c.self.view_is) c.requires.few in
-    told_if c.reader_refused.result (λ r. IsReader c.args.self.now (shown g.C.Words.list c.reader.new.self c.reserve.new.self.items) c.args.name x r) (c.in-Err.why ≢ reader_error.OutOfMemory) (reply.ReaderError c.in-Err.why) c.reader_refused.ensures.told c.reader_refused.ensures.memory
-    (λ memory. carried (λ now xs. IsReader now (shown g.C.Words.list c.reader.new.self xs) c.args.name x (reply.ReaderError c.in-Err.why)) (shown g.C.Words.list s.core s.things.items) c.args.self.now s.things.items c.reserve.new.self.items
+    let memory : c.in-Err.why ≢ reader_error.OutOfMemory = search rules in
+    carried (λ now xs. IsReader now (shown g.C.Words.list c.reader.new.self xs) c.args.name x (reply.ReaderError c.in-Err.why)) (shown g.C.Words.list s.core s.things.items) c.args.self.now s.things.items c.reserve.new.self.items
     c.self.view_is c.reserve.ensures.items
-    (reader_not_made g.C.Words.list s.nodes.items s.numbers.items s.things.items s.core c.reader.new.self x c.number_of-number.result c.args.name c.in-Err.why c.self.invariant i few.ports few.things memory c.in-Err.ensures.answer c.in-Err.ensures.err))
+    (reader_not_made g.C.Words.list s.nodes.items s.numbers.items s.things.items s.core c.reader.new.self x c.number_of-number.result c.args.name c.in-Err.why c.self.invariant i few.ports few.things memory c.in-Err.ensures.answer c.in-Err.ensures.err)

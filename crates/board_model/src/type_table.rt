@@ -1,14 +1,32 @@
-//! Values and keys as words and bytes.
-ghost use Rattle.std.specs.Prelude.{◌≡◌, ◌≤◌, ◌<◌, ◌+◌, ◌*◌, ◌^◌, ◌++◌, ◌∷◌, [], IfOk, map, length, take};
-ghost use Rattle.board_layout.specs.Keys as keys;
+//! The key types and value types of a script: their details, the words of a value, and the bytes of a key.
+ghost use Rattle.std.specs.Prelude.{◌≡◌, ◌≤◌, ◌++◌, ◌∷◌, [], IfOk, length, take};
 ghost use Rattle.board_layout.specs.Text.{padded};
+ghost use Rattle.board_model.specs.ShortKeys.{IsShortKey};
 ghost use Rattle.board_model.specs.TypeTable as types;
-ghost use Rattle.script_parties.specs.Named.{IsShortKey};
 
+use crate::value::{Key, KeyType, Value, ValueType};
 use board_layout::{F8, KeyMemory, Text, TypeDetail, TypeVariant};
-use board_model::{AddedEntry, Key, KeyType, Value, ValueType};
-use board_service::same_type;
 use std::alloc::{AllocError, Global};
+
+fn same_variant(a: TypeVariant, b: TypeVariant) -> bool
+    ensures { result ≡ types.same_variant a b }
+{
+    match (a, b) {
+        (TypeVariant::FixedSize, TypeVariant::FixedSize) => true,
+        (TypeVariant::Dynamic, TypeVariant::Dynamic) => true,
+        _ => false,
+    }
+}
+
+/// Whether these are the details of one type.
+pub fn same_type(a: &TypeDetail, b: &TypeDetail) -> bool
+    ensures { result ≡ types.same_type a.now b.now }
+{
+    same_variant(a.variant, b.variant)
+        && a.type_name == b.type_name
+        && a.size == b.size
+        && a.alignment == b.alignment
+}
 
 /// The details of a value type.
 pub fn value_detail(value_type: ValueType) -> TypeDetail
@@ -57,7 +75,7 @@ pub fn value_words(alloc: Global, value: Value) -> Result<Vec<u64>, AllocError>
 }
 
 /// The details of a key type.
-pub(crate) fn key_detail(key_type: KeyType) -> TypeDetail
+pub fn key_detail(key_type: KeyType) -> TypeDetail
     ensures { result ≡ types.key_detail key_type }
 {
     match key_type {
@@ -115,7 +133,7 @@ fn word_bytes(n: u64) -> [u8; 8]
 }
 
 /// The bytes of a key as an entry keeps them.
-pub(crate) fn key_bytes(key: &Key) -> KeyMemory<64>
+pub fn key_bytes(key: &Key) -> KeyMemory<64>
     ensures bytes { result.bytes ≡ types.key_bytes key.now }
     ensures short { IsShortKey result.bytes }
 {
@@ -125,18 +143,6 @@ pub(crate) fn key_bytes(key: &Key) -> KeyMemory<64>
             let bytes = text.as_bytes();
             key_memory(bytes)
         }
-    }
-}
-
-// The number of these bytes, the low one first.
-fn little(bytes: &[u8]) -> u64
-    requires { length bytes.now ≤ 8 }
-    ensures value { result ≡ keys.little bytes.now }
-    ensures bound { result < 2 ^ (8 * length bytes.now) }
-{
-    match bytes {
-        [] => 0,
-        [b, rest @ ..] => u64::from(*b) + 256 * little(rest),
     }
 }
 
@@ -154,18 +160,17 @@ fn up_to_zero(bytes: &[u8]) -> Text<8>
 }
 
 /// The key that an entry keeps in its first eight bytes.
-pub(crate) fn key_of(key_type: KeyType, key: &KeyMemory<64>) -> Key
+pub fn key_of(key_type: KeyType, key: &KeyMemory<64>) -> Key
     ensures { result ≡ types.key_of key_type (take 8 key.now.bytes) }
 {
-    let bytes = &key.bytes[..8];
     match key_type {
-        KeyType::U64 => Key::U64(little(bytes)),
-        KeyType::F8 => Key::F8(up_to_zero(bytes)),
+        KeyType::U64 => Key::U64(board_layout::key_of::<u64>(key)),
+        KeyType::F8 => Key::F8(up_to_zero(&key.bytes[..8])),
     }
 }
 
 /// The key type with these details.
-pub(crate) fn key_type_of(detail: &TypeDetail) -> KeyType
+pub fn key_type_of(detail: &TypeDetail) -> KeyType
     ensures { result ≡ types.key_type_of detail.now }
 {
     if same_type(detail, &key_detail(KeyType::U64)) {

@@ -1,7 +1,7 @@
 use Rattle.std.proofs.Common.{◌≡◌, ℕ, ◌-◌, List, ◌++◌, length, drop, ap, ◌∙◌}
 use Rattle.std.specs.Prelude.{replicate}
 use Rattle.std.proofs.lemmas.List.{drop-replicate}
-use Rattle.script_parties.proofs.values.key_memory.Goals as goal
+use Rattle.board_model.proofs.type_table.key_memory.Goals as goal
 
 -- zeros behind a text are those that the array had
 with_zeros : (text front : List ℕ) → front ≡ text → front ++ drop (length text) (replicate 64 0) ≡ text ++ replicate (64 - length text) 0
