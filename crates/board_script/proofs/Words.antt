@@ -4,7 +4,7 @@ use Rattle.std.specs.Prelude.{codes, decimal, ◌⊎◌, not, IfNone, OnOk, IfEr
 use Rattle.std.specs.Str.{bytes_eq}
 use Rattle.std.proofs.lemmas.Slice.Eq.{bytes_eq-Decides}
 use Rattle.board_model.specs.Lines.{Rose}
-use Rattle.script_grammar.specs.LineReading.{read_number}
+use Rattle.script_grammar.specs.TokenReading.{read_number}
 use Rattle.script_grammar.proofs.NumeralLemmas.{number_again, number_takes}
 use Rattle.script_loop.specs.declared.error.ScriptError.{ScriptError}
 use Rattle.script_loop.specs.declared.error.ScriptError.TheVariants as error

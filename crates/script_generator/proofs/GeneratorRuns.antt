@@ -11,7 +11,7 @@ use Rattle.script_model.specs.declared.line.ScriptLine.TheVariants as script_lin
 use Rattle.script_model.specs.ScriptAnswers.{ScriptAnswer, of_boards, script_answer_line}
 use Rattle.script_model.specs.ScriptSession.{IsLawfulFrom, IsRight, Session, after, start, state_after}
 use Rattle.script_model.specs.ScriptTurns.{ScriptState}
-use Rattle.script_grammar.proofs.LineLemmas.{one_line}
+use Rattle.script_grammar.proofs.ScriptLineLemmas.{one_line}
 use Rattle.script_loop.specs.Runs.{HasAnswered, StandsFor}
 use Rattle.script_machine.specs.Counters.{HasEntry}
 use Rattle.script_machine.specs.ScriptMachine.{StandsAfter}

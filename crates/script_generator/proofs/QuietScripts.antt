@@ -9,7 +9,7 @@ use Rattle.board_model.specs.LawfulSession as boards
 use Rattle.board_model.specs.LawfulSession.{State}
 use Rattle.board_model.specs.Parties.{Party, free, gone, running}
 use Rattle.board_model.specs.Requests.{new_name, request_of}
-use Rattle.script_grammar.proofs.NumeralLemmas.{both}
+use Rattle.script_grammar.proofs.ReaderLemmas.{both}
 use Rattle.script_model.specs.declared.line.ScriptLine.TheVariants as script_line
 use Rattle.script_model.specs.ScriptAnswers.{ScriptAnswer, of_boards}
 use Rattle.script_model.specs.ScriptEvents.{ScriptEvents, no_events}

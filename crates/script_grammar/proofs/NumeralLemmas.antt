@@ -1,46 +1,24 @@
 -- Numbers are read back from their digits.
-use Rattle.std.proofs.Common.{◌≡◌, ℕ, zero, suc, ◌^◌, ◌<◌, Bool, true, false, List, [], ◌∷◌, length, get_or, arith, rules, Option, Some, None, refl, sym, ap, ◌∙◌, eqb, lit<}
+use Rattle.std.proofs.Common.{◌≡◌, ℕ, zero, suc, ◌^◌, ◌<◌, true, List, [], ◌∷◌, length, get_or, arith, rules, Some, refl, sym, ap, ◌∙◌, eqb, lit<}
 use Rattle.std.specs.Prelude.{nat_lt, not, ◌&&◌, decimal}
 use Rattle.std.specs.Str.{all_ascii_digits}
 use Rattle.std.proofs.lemmas.Bool.{ltb-true, lt-ltb}
 use Rattle.std.proofs.lemmas.Str.Parse.{IsNumeralModel, numerals_by_fold}
 use Rattle.std.proofs.lemmas.Fmt.{digits_decimal, digits_value-decimal, decimal-digits_value, decimal_nonempty, first_decimal, decimal_digit}
-use Rattle.script_grammar.specs.LineReading.{◌>>=◌, guard, read_on, is_plain, read_digits, read_number}
-
--- ---- readers
-
-abbrev there : {A : Type 0} → A → Option A
-there x = Some x
-
-pub some_is : {A : Type 0} (x y : A) → there x ≡ there y → x ≡ y
-some_is x y e = cc
-
--- what a reader gave, and what went on from it
-pub bind_some : {A B : Type 0} (o : Option A) (f : A → Option B) (y : B) → (o >>= f) ≡ Some y → (x : A) × (o ≡ Some x) × (f x ≡ Some y)
-bind_some (Some x) f y e = (x, refl, e)
-bind_some None f y e = absurd cc
-
-pub guard_some : {A : Type 0} (b : Bool) (o : Option A) (y : A) → guard b o ≡ Some y → (b ≡ true) × (o ≡ Some y)
-guard_some true o y e = (refl, e)
-guard_some false o y e = absurd cc
-
-pub both : (a b : Bool) → (a && b) ≡ true → (a ≡ true) × (b ≡ true)
-both true b e = (refl, e)
-both false b e = absurd cc
-
--- ---- numbers
+use Rattle.script_grammar.specs.TokenReading.{read_on, is_plain_numeral, read_digits, read_number}
+use Rattle.script_grammar.proofs.ReaderLemmas.{some_is, guard_some, both}
 
 pub own : IsNumeralModel (λ ds. all_ascii_digits ds ≡ true) (read_on 0)
 own = numerals_by_fold _ (search rules) read_on (search rules)
 
-plain_front : (ds : List ℕ) → 0 < length ds → 48 < get_or ds 0 0 → is_plain ds ≡ true
+plain_front : (ds : List ℕ) → 0 < length ds → 48 < get_or ds 0 0 → is_plain_numeral ds ≡ true
 plain_front [] some first = absurd (omega arith)
 plain_front (c ∷ []) some first = refl
 plain_front (c ∷ d ∷ ds) some first = grind arith
 
-is_plain-decimal : (n : ℕ) → n < 2 ^ 64 → is_plain (decimal n) ≡ true
-is_plain-decimal zero lt = rw (decimal_digit 0 (lit< tt)) refl
-is_plain-decimal (suc n) lt = plain_front (decimal (suc n)) (decimal_nonempty (suc n) lt) (first_decimal (suc n) (omega arith) lt)
+is_plain_numeral-decimal : (n : ℕ) → n < 2 ^ 64 → is_plain_numeral (decimal n) ≡ true
+is_plain_numeral-decimal zero lt = rw (decimal_digit 0 (lit< tt)) refl
+is_plain_numeral-decimal (suc n) lt = plain_front (decimal (suc n)) (decimal_nonempty (suc n) lt) (first_decimal (suc n) (omega arith) lt)
 
 pub number_again : (n : ℕ) → n < 2 ^ 64 → read_number (decimal n) ≡ Some n
 unfolding read_number
@@ -48,9 +26,9 @@ number_again n lt =
     let d : all_ascii_digits (decimal n) ≡ true = digits_decimal own n lt in
     let v : read_on 0 (decimal n) ≡ n = digits_value-decimal own n lt in
     let p : nat_lt n 18446744073709551616 ≡ true = lt-ltb _ _ lt in
-    rw (is_plain-decimal n lt, d, v, p) refl
+    rw (is_plain_numeral-decimal n lt, d, v, p) refl
 
-plain_is : (ds : List ℕ) → is_plain ds ≡ true → (0 < length ds) × (get_or ds 0 0 ≡ 48 → length ds ≡ 1)
+plain_is : (ds : List ℕ) → is_plain_numeral ds ≡ true → (0 < length ds) × (get_or ds 0 0 ≡ 48 → length ds ≡ 1)
 plain_is [] e = absurd cc
 plain_is (c ∷ []) e = (omega arith, λ _. refl)
 plain_is (c ∷ d ∷ ds) e = (omega arith, λ h. absurd (let k : not (eqb 48 48) ≡ true = rw h at e in cc))
@@ -58,7 +36,7 @@ plain_is (c ∷ d ∷ ds) e = (omega arith, λ h. absurd (let k : not (eqb 48 48
 pub number_takes : (text : List ℕ) (n : ℕ) → read_number text ≡ Some n → (text ≡ decimal n) × (n < 2 ^ 64)
 unfolding read_number
 number_takes text n e =
-    let g = guard_some (is_plain text) (read_digits text) n e in
+    let g = guard_some (is_plain_numeral text) (read_digits text) n e in
     let h = guard_some (all_ascii_digits text && nat_lt (read_on 0 text) 18446744073709551616) (Some (read_on 0 text)) n g.1 in
     let b = both (all_ascii_digits text) (nat_lt (read_on 0 text) 18446744073709551616) h.0 in
     let v : read_on 0 text ≡ n = some_is (read_on 0 text) n h.1 in

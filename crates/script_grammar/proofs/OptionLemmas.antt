@@ -8,14 +8,16 @@ use Rattle.std.proofs.lemmas.List.Concat.{flat_map-cons}
 use Rattle.board_model.specs.declared.attributes.Attribute.{Attribute}
 use Rattle.board_model.specs.declared.attributes.Requirements.{Requirements}
 use Rattle.board_model.specs.declared.tables.Limits.{Limits}
-use Rattle.board_model.specs.LineGrammar.{is_attribute_key, is_attribute_value, limit_tokens, limits_tokens, pair_tokens, needed_key_tokens, IsNumberIfAny, IsAttribute, AreLimits, AreAttributes, AreRequirements}
-use Rattle.script_grammar.specs.LineReading.{first_by, read_number, read_attribute_key, read_attribute_value, begins, read_limit, read_limits, read_parts, read_pair, read_needs}
-use Rattle.script_grammar.proofs.NumeralLemmas.{some_is, bind_some, guard_some, number_again, number_takes}
-use Rattle.script_grammar.proofs.TokenLemmas.{word_is, chosen, first_takes, IsTakenName}
+use Rattle.board_model.specs.LineGrammar.{is_attribute_key, limit_tokens, limits_tokens, pair_tokens, needed_key_tokens, IsNumberIfAny, IsAttribute, AreLimits, AreAttributes, AreRequirements}
+use Rattle.script_grammar.specs.TokenReading.{first_by, read_number, read_attribute_key, read_attribute_value}
+use Rattle.script_grammar.specs.LineReading.{begins_with, read_limit, read_limits, read_parts, read_pair, read_needs}
+use Rattle.script_grammar.proofs.ReaderLemmas.{some_is, bind_some, chosen, word_is, first_takes, token_before}
+use Rattle.script_grammar.proofs.NumeralLemmas.{number_again, number_takes}
+use Rattle.script_grammar.proofs.TokenLemmas.{attribute_key_again, attribute_key_takes, attribute_value_again, attribute_value_takes}
 
 -- ---- the word that comes next
 
-begun : (word : List ℕ) (ts : List (List ℕ)) → begins word ts ≡ true → ts ≡ word ∷ drop 1 ts
+begun : (word : List ℕ) (ts : List (List ℕ)) → begins_with word ts ≡ true → ts ≡ word ∷ drop 1 ts
 begun word [] e = absurd cc
 begun word (t ∷ ts) e = ap (λ (x : List ℕ). x ∷ ts) (word_is t word e)
 
@@ -23,16 +25,16 @@ grouped : {A : Type 0} (g : A → List (List ℕ)) (x : A) (xs : List A) (rest :
 grouped g x xs rest = ap (λ (z : List (List ℕ)). z ++ rest) (flat_map-cons g x xs) ∙ append_assoc (g x) (flat_map g xs) rest
 
 -- the word does not come where no part begins with it
-pub begins_not : {A : Type 0} (word : List ℕ) (g : A → List (List ℕ)) → ((x : A) (rest : List (List ℕ)) → begins word (g x ++ rest) ≡ false) → (xs : List A) (rest : List (List ℕ)) → begins word rest ≡ false → begins word (flat_map g xs ++ rest) ≡ false
+pub begins_not : {A : Type 0} (word : List ℕ) (g : A → List (List ℕ)) → ((x : A) (rest : List (List ℕ)) → begins_with word (g x ++ rest) ≡ false) → (xs : List A) (rest : List (List ℕ)) → begins_with word rest ≡ false → begins_with word (flat_map g xs ++ rest) ≡ false
 begins_not word g other [] rest h = h
-begins_not word g other (x ∷ xs) rest h = ap (begins word) (grouped g x xs rest) ∙ other x (flat_map g xs ++ rest)
+begins_not word g other (x ∷ xs) rest h = ap (begins_with word) (grouped g x xs rest) ∙ other x (flat_map g xs ++ rest)
 
-pub begins_no_part : {A : Type 0} (word : List ℕ) (g : A → List (List ℕ)) → ((x : A) (rest : List (List ℕ)) → begins word (g x ++ rest) ≡ false) → (xs : List A) → begins word (flat_map g xs) ≡ false
-begins_no_part word g other xs = ap (begins word) (sym (append-nil (flat_map g xs))) ∙ begins_not word g other xs [] refl
+pub begins_no_part : {A : Type 0} (word : List ℕ) (g : A → List (List ℕ)) → ((x : A) (rest : List (List ℕ)) → begins_with word (g x ++ rest) ≡ false) → (xs : List A) → begins_with word (flat_map g xs) ≡ false
+begins_no_part word g other xs = ap (begins_with word) (sym (append-nil (flat_map g xs))) ∙ begins_not word g other xs [] refl
 
 -- ---- limits
 
-limit_again : (word : List ℕ) → bytes_eq word word ≡ true → (n : Option ℕ) → IsNumberIfAny n → (rest : List (List ℕ)) → begins word rest ≡ false → read_limit word (limit_tokens word n ++ rest) ≡ Some (n, rest)
+limit_again : (word : List ℕ) → bytes_eq word word ≡ true → (n : Option ℕ) → IsNumberIfAny n → (rest : List (List ℕ)) → begins_with word rest ≡ false → read_limit word (limit_tokens word n ++ rest) ≡ Some (n, rest)
 unfolding read_limit
 limit_again word same None h rest other = rw other refl
 limit_again word same (Some n) h rest other = rw (same, number_again n h) refl
@@ -44,7 +46,7 @@ record IsTakenLimit (word : List ℕ) (ts : List (List ℕ)) (p : Option ℕ × 
 limit_takes : (word : List ℕ) (ts : List (List ℕ)) (p : Option ℕ × List (List ℕ)) → read_limit word ts ≡ Some p → IsTakenLimit word ts p
 unfolding read_limit
 limit_takes word ts p e =
-    elim (chosen (begins word ts) _ _ _ e) [
+    elim (chosen (begins_with word ts) _ _ _ e) [
       | inl h ↦
           let n = bind_some (first_by read_number (drop 1 ts)) _ p h.1 in
           let t = first_takes read_number (drop 1 ts) n.0 n.1 in
@@ -54,11 +56,11 @@ limit_takes word ts p e =
       | inr h ↦ subst (IsTakenLimit word ts) (some_is (None, ts) p h.1) (record { tokens = refl; is = tt })
     ]
 
-no_readers : (n : Option ℕ) (rest : List (List ℕ)) → begins (codes "readers") rest ≡ false → begins (codes "readers") (limit_tokens (codes "nodes") n ++ rest) ≡ false
+no_readers : (n : Option ℕ) (rest : List (List ℕ)) → begins_with (codes "readers") rest ≡ false → begins_with (codes "readers") (limit_tokens (codes "nodes") n ++ rest) ≡ false
 no_readers None rest h = h
 no_readers (Some n) rest h = refl
 
-pub limits_again : (l : Limits) → AreLimits l → (rest : List (List ℕ)) → begins (codes "readers") rest ≡ false → begins (codes "nodes") rest ≡ false → read_limits (limits_tokens l ++ rest) ≡ Some (l, rest)
+pub limits_again : (l : Limits) → AreLimits l → (rest : List (List ℕ)) → begins_with (codes "readers") rest ≡ false → begins_with (codes "nodes") rest ≡ false → read_limits (limits_tokens l ++ rest) ≡ Some (l, rest)
 unfolding read_limits
 limits_again l h rest other last =
     ap read_limits (append_assoc (limit_tokens (codes "readers") l.max_readers) (limit_tokens (codes "nodes") l.max_nodes) rest)
@@ -92,7 +94,7 @@ limits_take ts p e =
 abbrev ReadsBack : {A : Type 0} → (List (List ℕ) → Option (A × List (List ℕ))) → (A → List (List ℕ)) → (A → Type 0) → Type 0
 ReadsBack {A = A} read text Is = (x : A) → Is x → (rest : List (List ℕ)) → read (text x ++ rest) ≡ Some (x, rest)
 
-pub parts_again : {A : Type 0} (word : List ℕ) → bytes_eq word word ≡ true → (read : List (List ℕ) → Option (A × List (List ℕ))) (text : A → List (List ℕ)) (Is : A → Type 0) → ReadsBack read text Is → (most : ℕ) (xs : List A) → length xs ≤ most → AllByRecursion Is xs → (rest : List (List ℕ)) → begins word rest ≡ false → read_parts most word read (flat_map (λ x. word ∷ text x) xs ++ rest) ≡ Some (xs, rest)
+pub parts_again : {A : Type 0} (word : List ℕ) → bytes_eq word word ≡ true → (read : List (List ℕ) → Option (A × List (List ℕ))) (text : A → List (List ℕ)) (Is : A → Type 0) → ReadsBack read text Is → (most : ℕ) (xs : List A) → length xs ≤ most → AllByRecursion Is xs → (rest : List (List ℕ)) → begins_with word rest ≡ false → read_parts most word read (flat_map (λ x. word ∷ text x) xs ++ rest) ≡ Some (xs, rest)
 unfolding read_parts
 parts_again word same read text Is back zero [] le h rest other = refl
 parts_again word same read text Is back zero (x ∷ xs) le h rest other = absurd (omega arith)
@@ -118,7 +120,7 @@ pub parts_take : {A : Type 0} (word : List ℕ) (read : List (List ℕ) → Opti
 unfolding read_parts
 parts_take word read text Is take zero ts p e = subst (AreTakenParts word text Is zero ts) (some_is ([], ts) p e) (record { tokens = refl; few = omega arith; each = tt })
 parts_take word read text Is take (suc most) ts p e =
-    elim (chosen (begins word ts) _ _ _ e) [
+    elim (chosen (begins_with word ts) _ _ _ e) [
       | inl h ↦
           let x = bind_some (read (drop 1 ts)) _ p h.1 in
           let xs = bind_some (read_parts most word read x.0.1) _ p x.2 in
@@ -135,28 +137,6 @@ parts_take word read text Is take (suc most) ts p e =
     ]
 
 -- ---- attributes
-
-attribute_key_again : (k : List ℕ) → is_attribute_key k ≡ true → read_attribute_key k ≡ Some k
-unfolding read_attribute_key
-attribute_key_again k h = rw h refl
-
-attribute_key_takes : (t k : List ℕ) → read_attribute_key t ≡ Some k → IsTakenName is_attribute_key t k
-unfolding read_attribute_key
-attribute_key_takes t k e =
-    let g = guard_some (is_attribute_key t) (Some t) k e in
-    let s : t ≡ k = some_is t k g.1 in
-    record { token = s; named = subst (λ (x : List ℕ). is_attribute_key x ≡ true) s g.0 }
-
-attribute_value_again : (v : List ℕ) → is_attribute_value v ≡ true → read_attribute_value v ≡ Some v
-unfolding read_attribute_value
-attribute_value_again v h = rw h refl
-
-attribute_value_takes : (t v : List ℕ) → read_attribute_value t ≡ Some v → IsTakenName is_attribute_value t v
-unfolding read_attribute_value
-attribute_value_takes t v e =
-    let g = guard_some (is_attribute_value t) (Some t) v e in
-    let s : t ≡ v = some_is t v g.1 in
-    record { token = s; named = subst (λ (x : List ℕ). is_attribute_value x ≡ true) s g.0 }
 
 abbrev pair_text : Attribute → List (List ℕ)
 pair_text a = a.key ∷ a.value ∷ []
@@ -176,12 +156,9 @@ pair_takes ts p e =
     let nv = attribute_value_takes tv.token v.0.0 tv.is in
     let made : Attribute = record { key = k.0.0; value = v.0.0 } in
     subst (IsTakenPart pair_text IsAttribute ts) (some_is (made, v.0.1) p v.2)
-    (record { tokens = chain ts k.0.1 v.0.1 tk.token tv.token k.0.0 v.0.0 tk.all tv.all nk.token nv.token; is = record { key = nk.named; value = nv.named } })
-  where
-    chain : (t0 t1 t2 : List (List ℕ)) (a b x y : List ℕ) → t0 ≡ a ∷ t1 → t1 ≡ b ∷ t2 → a ≡ x → b ≡ y → t0 ≡ x ∷ y ∷ t2
-    chain t0 t1 t2 a b x y e0 e1 ea eb = cc
+    (record { tokens = token_before tk.all nk.token (token_before tv.all nv.token refl); is = record { key = nk.named; value = nv.named } })
 
-pub pairs_again : (word : List ℕ) → bytes_eq word word ≡ true → (attributes : List Attribute) → AreAttributes attributes → (rest : List (List ℕ)) → begins word rest ≡ false → read_parts 8 word read_pair (flat_map (pair_tokens word) attributes ++ rest) ≡ Some (attributes, rest)
+pub pairs_again : (word : List ℕ) → bytes_eq word word ≡ true → (attributes : List Attribute) → AreAttributes attributes → (rest : List (List ℕ)) → begins_with word rest ≡ false → read_parts 8 word read_pair (flat_map (pair_tokens word) attributes ++ rest) ≡ Some (attributes, rest)
 pairs_again word same attributes h rest other = parts_again word same read_pair pair_text IsAttribute pair_again 8 attributes h.few h.each rest other
 
 pub record AreTakenPairs (word : List ℕ) (ts : List (List ℕ)) (p : List Attribute × List (List ℕ)) : Type 0 where

@@ -1,9 +1,12 @@
--- The tokens of a line hold no space, so the line's bytes are cut where they were joined.
-use Rattle.std.proofs.Common.{◌≡◌, ℕ, ◌<◌, ◌≤◌, arith, true, false, List, [], ◌∷◌, ◌++◌, length, Option, Some, None, refl, sym, ap, subst, ◌∙◌, eqb}
-use Rattle.std.specs.Prelude.{◌&&◌, not, nat_le, codes, decimal, IfSome, IfNone}
-use Rattle.std.specs.List.{join_with_byte, flat_map, list_all, AllByRecursion}
-use Rattle.std.proofs.lemmas.List.Splits.{join_with_byte-slice_split}
+-- No token holds a space, so the bytes of a line are cut into its tokens.
+use Rattle.std.proofs.Common.{◌≡◌, ℕ, ◌<◌, arith, Bool, true, false, List, [], ◌∷◌, ◌++◌, length, Option, Some, None, refl, sym, subst}
+use Rattle.std.specs.Prelude.{codes, decimal}
+use Rattle.std.specs.List.{flat_map, AllByRecursion}
 use Rattle.std.proofs.lemmas.List.Concat.{flat_map-cons}
+use Rattle.board_event_model.specs.declared.kind.EventKind.{EventKind}
+use Rattle.board_event_model.specs.declared.kind.EventKind.TheVariants as kind
+use Rattle.board_event_model.specs.declared.call.WaitMode.{WaitMode}
+use Rattle.board_event_model.specs.declared.call.WaitMode.TheVariants as mode
 use Rattle.board_model.specs.declared.attributes.Attribute.{Attribute}
 use Rattle.board_model.specs.declared.tables.Limits.{Limits}
 use Rattle.board_model.specs.declared.value.AddedEntry.{AddedEntry}
@@ -19,30 +22,16 @@ use Rattle.board_model.specs.declared.line.Call.{Call}
 use Rattle.board_model.specs.declared.line.Call.TheVariants as call
 use Rattle.board_model.specs.declared.line.Line.{Line}
 use Rattle.board_model.specs.declared.line.Line.TheVariants as line
-use Rattle.board_model.specs.LineGrammar.{is_name, is_name_byte, is_visible, is_visible_byte, is_attribute_key, key_text, key_type_text, value_text, value_type_text, limit_tokens, limits_tokens, pair_tokens, needed_key_tokens, entry_tokens, name_tokens, call_tokens, tokens, spell, IsNumber, IsNumberIfAny, IsNameIfAny, IsAddedEntry, IsAttribute, AreLimits, IsCall, IsKey, IsValue, IsLine, Spells}
-use Rattle.script_grammar.specs.LineReading.{split_tokens, read_line}
-use Rattle.script_grammar.proofs.NumeralLemmas.{both}
-use Rattle.script_grammar.proofs.SplitLemmas.{IsFree, lacks, split_free, free_from, free_number}
-use Rattle.script_grammar.proofs.BoardLineLemmas.{line_takes, line_again}
+use Rattle.script_model.specs.declared.line.EventRequest.{EventRequest}
+use Rattle.script_model.specs.declared.line.EventRequest.TheVariants as request
+use Rattle.script_model.specs.declared.line.ScriptLine.{ScriptLine}
+use Rattle.script_model.specs.declared.line.ScriptLine.TheVariants as script_line
+use Rattle.script_model.specs.ScriptGrammar.{IsEventRequest, IsScriptLine, count_text, is_event_name, kind_text, mode_text, request_tokens, script_spell, script_tokens}
+use Rattle.board_model.specs.LineGrammar.{is_name, is_attribute_key, key_text, key_type_text, value_text, value_type_text, limit_tokens, limits_tokens, pair_tokens, needed_key_tokens, entry_tokens, name_tokens, call_tokens, tokens, spell, IsNumber, IsNumberIfAny, IsNameIfAny, IsAddedEntry, IsAttribute, AreLimits, IsCall, IsKey, IsValue, IsLine}
+use Rattle.script_grammar.specs.TokenReading.{split_tokens}
+use Rattle.script_grammar.proofs.SplitLemmas.{IsFree, split_free, free_number, free_visible, free_name, free_event_name, free_joined}
 
--- ---- texts without a byte
-
-pub free_append : (c : ℕ) (a b : List ℕ) → IsFree c a → IsFree c b → IsFree c (a ++ b)
-free_append c [] b ha hb = hb
-free_append c (x ∷ a) b ha hb = let s = both (not (eqb x c)) (lacks c a) ha in rw (s.0, free_append c a b s.1 hb) refl
-
-pub free_joined : (c s : ℕ) → eqb s c ≡ false → (ts : List (List ℕ)) → AllByRecursion (IsFree c) ts → IsFree c (join_with_byte s ts)
-free_joined c s apart [] h = refl
-free_joined c s apart (t ∷ []) h = h.0
-free_joined c s apart (t ∷ u ∷ us) h = free_append c t (s ∷ join_with_byte s (u ∷ us)) h.0 (rw (apart, free_joined c s apart (u ∷ us) h.1) refl)
-
-pub free_visible : (c most : ℕ) → is_visible_byte c ≡ false → (text : List ℕ) → is_visible most text ≡ true → IsFree c text
-free_visible c most bar text h = free_from c is_visible_byte bar text (both (not (eqb (length text) 0) && nat_le (length text) most) (list_all is_visible_byte text) h).1
-
-pub free_name : (c : ℕ) → is_name_byte c ≡ false → (text : List ℕ) → is_name text ≡ true → IsFree c text
-free_name c bar text h = free_from c is_name_byte bar text (both (not (eqb (length text) 0) && nat_le (length text) 16) (list_all is_name_byte text) h).1
-
--- ---- the tokens of a line
+-- ---- board lines
 
 abbrev IsPlain : List ℕ → Type 0
 IsPlain text = IsFree 32 text
@@ -174,48 +163,37 @@ some_tokens (line.Release p t) = omega arith
 some_tokens (line.Abandon p) = omega arith
 some_tokens (line.Words b) = omega arith
 
--- the tokens of a line's bytes are the line's tokens
+-- the tokens of a board line's bytes are the line's tokens
 pub split_spell : (l : Line) → IsLine l → split_tokens (spell l) ≡ tokens l
 split_spell l h = split_free 32 refl (tokens l) (some_tokens l) (plain_line l h)
 
--- ---- bytes of lines
+-- ---- lines of events
 
--- what is read is the line of these bytes
-pub read_is : (bytes : List ℕ) (l : Line) → length bytes ≤ 4096 → read_line (split_tokens bytes) ≡ Some l → Spells bytes l
-read_is bytes l le e =
-    let t = line_takes (split_tokens bytes) l e in
-    record { line = t.1; bytes = sym (join_with_byte-slice_split 32 bytes) ∙ ap (join_with_byte 32) t.0; short = le }
+plain_event : (n : List ℕ) → is_event_name n ≡ true → IsPlain n
+plain_event n h = free_event_name 32 refl n h
 
--- each line's bytes are read as that line
-pub is_read : (bytes : List ℕ) (l : Line) → Spells bytes l → read_line (split_tokens bytes) ≡ Some l
-is_read bytes l h = ap (λ (b : List ℕ). read_line (split_tokens b)) h.bytes ∙ ap read_line (split_spell l h.line) ∙ line_again l h.line
+plain_kind : (k : EventKind) → IsPlain (kind_text k)
+plain_kind kind.Bits = refl
+plain_kind kind.Queue = refl
 
--- and so is a line whose bytes are more than a script allows
-formed_is_read : (l : Line) → IsLine l → read_line (split_tokens (spell l)) ≡ Some l
-formed_is_read l h = ap read_line (split_spell l h) ∙ line_again l h
+plain_count : (many : Bool) → IsPlain (count_text many)
+plain_count true = refl
+plain_count false = refl
 
-abbrev a_line : Line → Option Line
-a_line l = Some l
+plain_mode : (m : WaitMode) → IsPlain (mode_text m)
+plain_mode mode.Try = refl
+plain_mode mode.Timed = refl
+plain_mode mode.Block = refl
 
-one_line : (k l : Line) → a_line k ≡ a_line l → k ≡ l
-one_line k l e = cc
+plain_request : (q : EventRequest) → IsEventRequest q → ArePlain (request_tokens q)
+plain_request (request.ListenBits e event max) h = (refl, (plain_name e h.0, (refl, (plain_event event h.1, (plain_number max (omega (arith, h.2)), tt)))))
+plain_request (request.ListenQueue e event) h = (refl, (plain_name e h.0, (refl, (plain_event event h.1, tt))))
+plain_request (request.Notifier n k event) h = (refl, (plain_name n h.0, (plain_kind k, (plain_event event h.1, tt))))
+plain_request (request.Notify n id) h = (refl, (plain_name n h.0, (plain_number id h.1, tt)))
+plain_request (request.Wait e many m) h = (refl, (plain_name e h, (plain_count many, (plain_mode m, tt))))
 
--- the same bytes spell one line
-pub spells_one : (bytes : List ℕ) (k l : Line) → Spells bytes k → Spells bytes l → k ≡ l
-spells_one bytes k l hk hl = one_line k l (sym (is_read bytes k hk) ∙ is_read bytes l hl)
-
--- lines of any form are told apart by their bytes
-pub forms_apart : (k l : Line) → IsLine k → IsLine l → spell k ≡ spell l → k ≡ l
-forms_apart k l hk hl e = one_line k l (sym (formed_is_read k hk) ∙ ap (λ (b : List ℕ). read_line (split_tokens b)) e ∙ formed_is_read l hl)
-
--- bytes that spell no line
-pub none_spells : (bytes : List ℕ) → read_line (split_tokens bytes) ≡ None → (l : Line) → Spells bytes l → ⊥
-none_spells bytes e l h = let s : a_line l ≡ None = sym (is_read bytes l h) ∙ e in cc
-
-pub is_found : (bytes : List ℕ) (o : Option Line) → length bytes ≤ 4096 → o ≡ read_line (split_tokens bytes) → IfSome o (λ l. Spells bytes l)
-is_found bytes None le e = tt
-is_found bytes (Some l) le e = read_is bytes l le (sym e)
-
-pub is_only : (bytes : List ℕ) (o : Option Line) → o ≡ read_line (split_tokens bytes) → IfNone o ((l : Line) → Spells bytes l → ⊥)
-is_only bytes None e = none_spells bytes (sym e)
-is_only bytes (Some l) e = tt
+-- the tokens of the bytes of any line of a script
+pub split_script : (l : ScriptLine) → IsScriptLine l → split_tokens (script_spell l) ≡ script_tokens l
+split_script (script_line.Board l) h = split_spell l h
+split_script (script_line.Event p q) h = split_free 32 refl (codes "begin" ∷ p ∷ request_tokens q) (omega arith) (refl, (plain_name p h.0, plain_request q h.1))
+split_script (script_line.Expire p) h = split_free 32 refl (codes "expire" ∷ p ∷ []) (omega arith) (refl, (plain_name p h, tt))

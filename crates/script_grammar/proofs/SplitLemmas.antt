@@ -1,6 +1,6 @@
--- Tokens hold no separator, so what they are joined to is cut where they were joined.
-use Rattle.std.proofs.Common.{◌≡◌, ℕ, ◌^◌, ◌<◌, Bool, true, false, List, [], ◌∷◌, length, arith, refl, ap, ◌∙◌, eqb, All}
-use Rattle.std.specs.Prelude.{not, decimal}
+-- Texts without a byte: what they are joined to by it is cut where they were joined.
+use Rattle.std.proofs.Common.{◌≡◌, ℕ, ◌^◌, ◌<◌, Bool, true, false, List, [], ◌∷◌, ◌++◌, length, arith, refl, ap, ◌∙◌, eqb, All}
+use Rattle.std.specs.Prelude.{◌&&◌, not, nat_le, decimal}
 use Rattle.std.specs.Str.{all_ascii_digits}
 use Rattle.std.specs.Char.{is_ascii_digit}
 use Rattle.std.specs.List.{join_with_byte, slice_split, AllByRecursion, list_all}
@@ -8,8 +8,10 @@ use Rattle.std.proofs.lemmas.Bool.{eqb-true}
 use Rattle.std.proofs.lemmas.Fmt.{digits_decimal}
 use Rattle.std.proofs.lemmas.List.Splits.{slice_split_at, slice_split_none}
 use Rattle.std.proofs.lemmas.List.Elements.{All-from_recursion}
-use Rattle.board_model.specs.LineGrammar.{IsNumber}
-use Rattle.script_grammar.proofs.NumeralLemmas.{own, both}
+use Rattle.board_model.specs.LineGrammar.{IsNumber, is_name, is_name_byte, is_visible, is_visible_byte}
+use Rattle.script_model.specs.ScriptGrammar.{is_event_name}
+use Rattle.script_grammar.proofs.ReaderLemmas.{both}
+use Rattle.script_grammar.proofs.NumeralLemmas.{own}
 
 -- a text without the byte
 abbrev pub Lacks : ℕ → List ℕ → Type 0
@@ -70,6 +72,26 @@ free_digits c bar text h = free_from c is_ascii_digit bar text (digits_pass text
 
 pub free_number : (c : ℕ) → is_ascii_digit c ≡ false → (n : ℕ) → n < 2 ^ 64 → IsFree c (decimal n)
 free_number c bar n lt = free_digits c bar (decimal n) (digits_decimal own n lt)
+
+pub free_visible : (c most : ℕ) → is_visible_byte c ≡ false → (text : List ℕ) → is_visible most text ≡ true → IsFree c text
+free_visible c most bar text h = free_from c is_visible_byte bar text (both (not (eqb (length text) 0) && nat_le (length text) most) (list_all is_visible_byte text) h).1
+
+pub free_name : (c : ℕ) → is_name_byte c ≡ false → (text : List ℕ) → is_name text ≡ true → IsFree c text
+free_name c bar text h = free_from c is_name_byte bar text (both (not (eqb (length text) 0) && nat_le (length text) 16) (list_all is_name_byte text) h).1
+
+pub free_event_name : (c : ℕ) → is_visible_byte c ≡ false → (text : List ℕ) → is_event_name text ≡ true → IsFree c text
+free_event_name c bar text h = free_visible c 255 bar text (both (is_visible 255 text) _ h).0
+
+-- ---- texts put together
+
+pub free_append : (c : ℕ) (a b : List ℕ) → IsFree c a → IsFree c b → IsFree c (a ++ b)
+free_append c [] b ha hb = hb
+free_append c (x ∷ a) b ha hb = let s = both (not (eqb x c)) (lacks c a) ha in rw (s.0, free_append c a b s.1 hb) refl
+
+pub free_joined : (c s : ℕ) → eqb s c ≡ false → (ts : List (List ℕ)) → AllByRecursion (IsFree c) ts → IsFree c (join_with_byte s ts)
+free_joined c s apart [] h = refl
+free_joined c s apart (t ∷ []) h = h.0
+free_joined c s apart (t ∷ u ∷ us) h = free_append c t (s ∷ join_with_byte s (u ∷ us)) h.0 (rw (apart, free_joined c s apart (u ∷ us) h.1) refl)
 
 -- four numbers that commas part
 pub split_four : (a b c d : ℕ) → IsNumber a → IsNumber b → IsNumber c → IsNumber d → slice_split (λ x. eqb x 44) (join_with_byte 44 (decimal a ∷ decimal b ∷ decimal c ∷ decimal d ∷ [])) ≡ decimal a ∷ decimal b ∷ decimal c ∷ decimal d ∷ []

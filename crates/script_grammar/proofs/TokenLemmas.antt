@@ -1,10 +1,8 @@
 -- Keys, values, types and names are read back from their tokens.
-use Rattle.std.proofs.Common.{◌≡◌, ℕ, Bool, true, false, List, [], ◌∷◌, ◌++◌, Option, Some, None, refl, sym, ap, subst, ◌∙◌, eqb, ◌⊎◌, inl, inr, cond}
+use Rattle.std.proofs.Common.{◌≡◌, ℕ, Bool, true, false, List, [], ◌∷◌, ◌++◌, Option, Some, None, refl, sym, ap, subst, ◌∙◌, eqb}
 use Rattle.std.specs.Prelude.{codes, decimal}
-use Rattle.std.specs.Str.{bytes_eq}
 use Rattle.std.specs.List.{slice_split, join_with_byte}
 use Rattle.std.proofs.lemmas.Bool.{eqb-true}
-use Rattle.std.proofs.lemmas.Slice.Eq.{bytes_eq-Decides}
 use Rattle.std.proofs.lemmas.List.Splits.{join_with_byte-slice_split}
 use Rattle.board_model.specs.declared.value.KeyType.{KeyType}
 use Rattle.board_model.specs.declared.value.KeyType.TheVariants as key_type
@@ -14,34 +12,11 @@ use Rattle.board_model.specs.declared.value.Key.{Key}
 use Rattle.board_model.specs.declared.value.Key.TheVariants as key
 use Rattle.board_model.specs.declared.value.Value.{Value}
 use Rattle.board_model.specs.declared.value.Value.TheVariants as value
-use Rattle.board_model.specs.LineGrammar.{is_name, is_visible, is_board_name, key_type_text, value_type_text, key_text, value_text, IsKey, IsValue, IsNumber}
-use Rattle.script_grammar.specs.LineReading.{first_by, is_end, behind, read_number, read_name, read_board_name, read_key_type, read_value_type, read_key_behind, read_key, read_four, read_words_behind, read_value}
-use Rattle.script_grammar.proofs.NumeralLemmas.{some_is, bind_some, guard_some, number_again, number_takes}
+use Rattle.board_model.specs.LineGrammar.{is_name, is_visible, is_board_name, is_attribute_key, is_attribute_value, key_type_text, value_type_text, key_text, value_text, IsKey, IsValue, IsNumber}
+use Rattle.script_grammar.specs.TokenReading.{first_by, guard, read_attribute_key, read_attribute_value, is_end, behind, read_number, read_name, read_board_name, read_key_type, key_type_words, read_value_type, value_type_words, read_key_behind, read_key, read_four, read_words_behind, read_value}
+use Rattle.script_grammar.proofs.ReaderLemmas.{some_is, bind_some, guard_some, by_word, beside_takes, first_takes, end_takes, token_before}
+use Rattle.script_grammar.proofs.NumeralLemmas.{number_again, number_takes}
 use Rattle.script_grammar.proofs.SplitLemmas.{split_four}
-
-pub word_is : (w : List ℕ) (v : List ℕ) → bytes_eq w v ≡ true → w ≡ v
-word_is w v e = (bytes_eq-Decides w v).0 e
-
--- which way a test went
-pub chosen : {A : Type 0} (b : Bool) (x y z : A) → cond b x y ≡ z → ((b ≡ true) × (x ≡ z)) ⊎ ((b ≡ false) × (y ≡ z))
-chosen true x y z e = inl (refl, e)
-chosen false x y z e = inr (refl, e)
-
--- what `first_by` gave
-pub record Took {A : Type 0} (read : List ℕ → Option A) (ts : List (List ℕ)) (x : A) (rest : List (List ℕ)) : Type 0 where
-  pub token : List ℕ
-  pub all : ts ≡ token ∷ rest
-  pub is : read token ≡ Some x
-
-pub first_takes : {A : Type 0} (read : List ℕ → Option A) (ts : List (List ℕ)) (p : A × List (List ℕ)) → first_by read ts ≡ Some p → Took read ts p.0 p.1
-first_takes read [] p e = absurd cc
-first_takes {A = A} read (t ∷ ts) p e =
-    let a = bind_some (read t) (λ x. Some (x, ts)) p e in
-    subst (λ (q : A × List (List ℕ)). Took read (t ∷ ts) q.0 q.1) (some_is (a.0, ts) p a.2) (record { token = t; all = refl; is = a.1 })
-
-pub end_takes : (ts : List (List ℕ)) → is_end ts ≡ true → ts ≡ []
-end_takes [] e = refl
-end_takes (t ∷ ts) e = absurd cc
 
 -- ---- what follows a prefix
 
@@ -54,20 +29,24 @@ behind_is (p ∷ prefix) (b ∷ text) rest e =
 
 -- ---- names
 
-pub name_again : (n : List ℕ) → is_name n ≡ true → read_name n ≡ Some n
-unfolding read_name
-name_again n h = rw h refl
-
+-- a text that passed its test
 pub record IsTakenName (is : List ℕ → Bool) (t n : List ℕ) : Type 0 where
   pub token : t ≡ n
   pub named : is n ≡ true
 
+pub named_takes : (is : List ℕ → Bool) (t n : List ℕ) → guard (is t) (Some t) ≡ Some n → IsTakenName is t n
+named_takes is t n e =
+    let g = guard_some (is t) (Some t) n e in
+    let s : t ≡ n = some_is t n g.1 in
+    record { token = s; named = subst (λ (x : List ℕ). is x ≡ true) s g.0 }
+
+pub name_again : (n : List ℕ) → is_name n ≡ true → read_name n ≡ Some n
+unfolding read_name
+name_again n h = rw h refl
+
 pub name_takes : (t n : List ℕ) → read_name t ≡ Some n → IsTakenName is_name t n
 unfolding read_name
-name_takes t n e =
-    let g = guard_some (is_name t) (Some t) n e in
-    let s : t ≡ n = some_is t n g.1 in
-    record { token = s; named = subst (λ (x : List ℕ). is_name x ≡ true) s g.0 }
+name_takes t n e = named_takes is_name t n e
 
 pub board_name_again : (n : List ℕ) → is_board_name n ≡ true → read_board_name n ≡ Some n
 unfolding read_board_name
@@ -75,10 +54,23 @@ board_name_again n h = rw h refl
 
 pub board_name_takes : (t n : List ℕ) → read_board_name t ≡ Some n → IsTakenName is_board_name t n
 unfolding read_board_name
-board_name_takes t n e =
-    let g = guard_some (is_board_name t) (Some t) n e in
-    let s : t ≡ n = some_is t n g.1 in
-    record { token = s; named = subst (λ (x : List ℕ). is_board_name x ≡ true) s g.0 }
+board_name_takes t n e = named_takes is_board_name t n e
+
+pub attribute_key_again : (n : List ℕ) → is_attribute_key n ≡ true → read_attribute_key n ≡ Some n
+unfolding read_attribute_key
+attribute_key_again n h = rw h refl
+
+pub attribute_key_takes : (t n : List ℕ) → read_attribute_key t ≡ Some n → IsTakenName is_attribute_key t n
+unfolding read_attribute_key
+attribute_key_takes t n e = named_takes is_attribute_key t n e
+
+pub attribute_value_again : (n : List ℕ) → is_attribute_value n ≡ true → read_attribute_value n ≡ Some n
+unfolding read_attribute_value
+attribute_value_again n h = rw h refl
+
+pub attribute_value_takes : (t n : List ℕ) → read_attribute_value t ≡ Some n → IsTakenName is_attribute_value t n
+unfolding read_attribute_value
+attribute_value_takes t n e = named_takes is_attribute_value t n e
 
 -- ---- types
 
@@ -89,14 +81,7 @@ key_type_again key_type.F8 = refl
 
 pub key_type_takes : (t : List ℕ) (k : KeyType) → read_key_type t ≡ Some k → t ≡ key_type_text k
 unfolding read_key_type
-key_type_takes t k e =
-    elim (chosen (bytes_eq t (codes "u64")) _ _ _ e) [
-      | inl h ↦ word_is t (codes "u64") h.0 ∙ ap key_type_text (some_is key_type.U64 k h.1)
-      | inr h ↦ elim (chosen (bytes_eq t (codes "f8")) _ _ _ h.1) [
-        | inl i ↦ word_is t (codes "f8") i.0 ∙ ap key_type_text (some_is key_type.F8 k i.1)
-        | inr i ↦ absurd (let bad = i.1 in cc)
-      ]
-    ]
+key_type_takes t k e = beside_takes key_type_text key_type_words t k e (refl, (refl, tt))
 
 pub value_type_again : (v : ValueType) → read_value_type (value_type_text v) ≡ Some v
 unfolding read_value_type
@@ -106,17 +91,7 @@ value_type_again type.Q4 = refl
 
 pub value_type_takes : (t : List ℕ) (v : ValueType) → read_value_type t ≡ Some v → t ≡ value_type_text v
 unfolding read_value_type
-value_type_takes t v e =
-    elim (chosen (bytes_eq t (codes "bool")) _ _ _ e) [
-      | inl h ↦ word_is t (codes "bool") h.0 ∙ ap value_type_text (some_is type.Bool v h.1)
-      | inr h ↦ elim (chosen (bytes_eq t (codes "u64")) _ _ _ h.1) [
-        | inl i ↦ word_is t (codes "u64") i.0 ∙ ap value_type_text (some_is type.U64 v i.1)
-        | inr i ↦ elim (chosen (bytes_eq t (codes "q4")) _ _ _ i.1) [
-          | inl j ↦ word_is t (codes "q4") j.0 ∙ ap value_type_text (some_is type.Q4 v j.1)
-          | inr j ↦ absurd (let bad = j.1 in cc)
-        ]
-      ]
-    ]
+value_type_takes t v e = beside_takes value_type_text value_type_words t v e (refl, (refl, (refl, tt)))
 
 -- ---- keys
 
@@ -160,9 +135,6 @@ pub record IsTakenValue (t : List ℕ) (v : Value) : Type 0 where
 abbrev FourParts : List (List ℕ) → Value → Type 0
 FourParts parts v = (a : ℕ) × (b : ℕ) × (c : ℕ) × (d : ℕ) × (value.Q4 a b c d ≡ v) × (parts ≡ decimal a ∷ decimal b ∷ decimal c ∷ decimal d ∷ []) × IsNumber a × IsNumber b × IsNumber c × IsNumber d
 
-four_parts : (p0 p1 p2 p3 p4 : List (List ℕ)) (ta tb tc td a b c d : List ℕ) → p0 ≡ ta ∷ p1 → p1 ≡ tb ∷ p2 → p2 ≡ tc ∷ p3 → p3 ≡ td ∷ p4 → p4 ≡ [] → ta ≡ a → tb ≡ b → tc ≡ c → td ≡ d → p0 ≡ a ∷ b ∷ c ∷ d ∷ []
-four_parts p0 p1 p2 p3 p4 ta tb tc td a b c d e0 e1 e2 e3 e4 ea eb ec ed = cc
-
 four_takes : (parts : List (List ℕ)) (v : Value) → read_four parts ≡ Some v → FourParts parts v
 unfolding read_four
 four_takes parts v e =
@@ -184,7 +156,7 @@ four_takes parts v e =
       c.0.0,
       d.0.0,
       some_is (value.Q4 a.0.0 b.0.0 c.0.0 d.0.0) v g.1,
-      four_parts parts a.0.1 b.0.1 c.0.1 d.0.1 ta.token tb.token tc.token td.token (decimal a.0.0) (decimal b.0.0) (decimal c.0.0) (decimal d.0.0) ta.all tb.all tc.all td.all (end_takes d.0.1 g.0) na.0 nb.0 nc.0 nd.0,
+      token_before ta.all na.0 (token_before tb.all nb.0 (token_before tc.all nc.0 (token_before td.all nd.0 (end_takes d.0.1 g.0)))),
       na.1,
       nb.1,
       nc.1,
@@ -206,10 +178,8 @@ words_behind_takes t None None v ea eb e = absurd cc
 pub value_takes : (t : List ℕ) (v : Value) → read_value t ≡ Some v → IsTakenValue t v
 unfolding read_value
 value_takes t v e =
-    elim (chosen (bytes_eq t (codes "bool:true")) _ _ _ e) [
-      | inl h ↦ subst (IsTakenValue t) (some_is (value.Bool true) v h.1) (record { token = word_is t (codes "bool:true") h.0; is = tt })
-      | inr h ↦ elim (chosen (bytes_eq t (codes "bool:false")) _ _ _ h.1) [
-        | inl i ↦ subst (IsTakenValue t) (some_is (value.Bool false) v i.1) (record { token = word_is t (codes "bool:false") i.0; is = tt })
-        | inr i ↦ words_behind_takes t _ _ v refl refl i.1
-      ]
-    ]
+    by_word (λ t. IsTakenValue t v) t (codes "bool:true") _ _ v e
+    (λ h. subst (IsTakenValue (codes "bool:true")) (some_is (value.Bool true) v h) (record { token = refl; is = tt }))
+    (λ i. by_word (λ t. IsTakenValue t v) t (codes "bool:false") _ _ v i
+    (λ h. subst (IsTakenValue (codes "bool:false")) (some_is (value.Bool false) v h) (record { token = refl; is = tt }))
+    (λ h. words_behind_takes t _ _ v refl refl h))

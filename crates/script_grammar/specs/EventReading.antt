@@ -1,4 +1,4 @@
--- A reader of script lines. It goes through the tokens of a line from the front: those of a board line, and else those of a line of events.
+-- A reader of the lines of a script: those of a board line, and else those of a line of events.
 use Rattle.std.specs.Prelude.{ℕ, Bool, true, false, nat_le, if◌then◌else◌, List, [], ◌∷◌, codes, Option, Some, None}
 use Rattle.std.specs.Str.{bytes_eq}
 use Rattle.board_event_model.specs.declared.kind.EventKind.{EventKind}
@@ -6,7 +6,8 @@ use Rattle.board_event_model.specs.declared.kind.EventKind.TheVariants as kind
 use Rattle.board_event_model.specs.declared.call.WaitMode.{WaitMode}
 use Rattle.board_event_model.specs.declared.call.WaitMode.TheVariants as mode
 use Rattle.board_model.specs.declared.line.Line.{Line}
-use Rattle.script_grammar.specs.LineReading.{◌>>=◌, first_by, guard, is_end, read_line, read_name, read_number, read_one_name}
+use Rattle.script_grammar.specs.TokenReading.{◌>>=◌, beside, first_by, guard, is_end, read_name, read_number}
+use Rattle.script_grammar.specs.LineReading.{read_line, read_one_name}
 use Rattle.script_model.specs.declared.line.EventRequest.{EventRequest}
 use Rattle.script_model.specs.declared.line.EventRequest.TheVariants as request
 use Rattle.script_model.specs.declared.line.ScriptLine.{ScriptLine}
@@ -15,17 +16,29 @@ use Rattle.script_model.specs.ScriptGrammar.{is_event_name}
 
 -- ---- tokens
 
--- the word for a kind of events
+-- the words for the kinds of events
+abbrev pub kind_words : List (List ℕ × EventKind)
+kind_words = (codes "bits", kind.Bits) ∷ (codes "queue", kind.Queue) ∷ []
+
+-- a kind of events
 unfoldable pub read_kind : List ℕ → Option EventKind
-read_kind text = if bytes_eq text (codes "bits") then Some kind.Bits else if bytes_eq text (codes "queue") then Some kind.Queue else None
+read_kind text = beside text kind_words
 
--- the word for how long a wait goes on
+-- the words for how long a wait goes on
+abbrev pub mode_words : List (List ℕ × WaitMode)
+mode_words = (codes "try", mode.Try) ∷ (codes "timed", mode.Timed) ∷ (codes "block", mode.Block) ∷ []
+
+-- how long a wait goes on
 unfoldable pub read_mode : List ℕ → Option WaitMode
-read_mode text = if bytes_eq text (codes "try") then Some mode.Try else if bytes_eq text (codes "timed") then Some mode.Timed else if bytes_eq text (codes "block") then Some mode.Block else None
+read_mode text = beside text mode_words
 
--- whether a wait is for all ids, by its word
+-- the words for a wait for all ids, and for one
+abbrev pub count_words : List (List ℕ × Bool)
+count_words = (codes "all", true) ∷ (codes "one", false) ∷ []
+
+-- whether a wait is for all ids
 unfoldable pub read_count : List ℕ → Option Bool
-read_count text = if bytes_eq text (codes "all") then Some true else if bytes_eq text (codes "one") then Some false else None
+read_count text = beside text count_words
 
 -- the name of an event
 unfoldable pub read_event_name : List ℕ → Option (List ℕ)
@@ -37,22 +50,24 @@ read_max text = read_number text >>= λ n. guard (nat_le n 65535) (Some n)
 
 -- ---- calls
 
+-- what asks for a port: its name, and the kind and name of the event
+unfoldable pub read_port : List (List ℕ) → Option ((List ℕ × EventKind × List ℕ) × List (List ℕ))
+read_port ts =
+    first_by read_name ts >>= λ n. first_by read_kind n.1 >>= λ k. first_by read_event_name k.1 >>= λ event.
+    Some ((n.0, k.0, event.0), event.1)
+
 -- behind the name of a new event stands the greatest id of a set, and nothing for a queue
 unfoldable pub read_listener : List ℕ → EventKind → List ℕ → List (List ℕ) → Option EventRequest
 read_listener e kind.Bits event ts = first_by read_max ts >>= λ max. guard (is_end max.1) (Some (request.ListenBits e event max.0))
 read_listener e kind.Queue event ts = guard (is_end ts) (Some (request.ListenQueue e event))
 
--- asking for a listener: its name, and the kind and name of the event
+-- asking for a listener
 unfoldable pub read_listen : List (List ℕ) → Option EventRequest
-read_listen ts =
-    first_by read_name ts >>= λ e. first_by read_kind e.1 >>= λ k. first_by read_event_name k.1 >>= λ event.
-    read_listener e.0 k.0 event.0 event.1
+read_listen ts = read_port ts >>= λ e. read_listener e.0.0 e.0.1 e.0.2 e.1
 
--- asking for a notifier: its name, and the kind and name of the event
+-- asking for a notifier
 unfoldable pub read_notifier : List (List ℕ) → Option EventRequest
-read_notifier ts =
-    first_by read_name ts >>= λ n. first_by read_kind n.1 >>= λ k. first_by read_event_name k.1 >>= λ event.
-    guard (is_end event.1) (Some (request.Notifier n.0 k.0 event.0))
+read_notifier ts = read_port ts >>= λ n. guard (is_end n.1) (Some (request.Notifier n.0.0 n.0.1 n.0.2))
 
 -- an id for the listener, by a notifier
 unfoldable pub read_notify : List (List ℕ) → Option EventRequest

@@ -1,6 +1,11 @@
--- Laws of outputs: an input of lines of the grammar has exactly one output.
+-- Laws of sessions and outputs: an input of lines of the grammar has exactly one of each.
 use Rattle.std.specs.Prelude.{◌≡◌, ℕ, ◌-◌, ◌^◌, List}
-use Rattle.script_model.specs.ScriptOutput.{IsOutputOf, IsScript}
+use Rattle.script_model.specs.ScriptOutput.{IsOutputOf, IsScript, SpellsAll}
+use Rattle.script_model.specs.ScriptSession.{IsLawful, Session}
+
+-- the bytes of the lines settle the lines and all of their answers
+abbrev pub InputsHaveOneSession : Type 0
+InputsHaveOneSession = (lines : List (List ℕ)) (xs ys : Session) → IsLawful xs → IsLawful ys → SpellsAll lines xs → SpellsAll lines ys → xs ≡ ys
 
 -- an input has no two outputs
 abbrev pub InputsHaveOneOutput : Type 0

@@ -1,7 +1,7 @@
--- readers of lines, and the laws of the grammars
+-- A reader of lines, from their tokens on, and the laws of lines, answers and outputs.
+pub mod TokenReading
 pub mod LineReading
 pub mod EventReading
-pub mod GrammarLaws
-pub mod LawsOfLines
-pub mod LawsOfScripts
+pub mod LawsOfBoardLines
+pub mod LawsOfScriptLines
 pub mod LawsOfOutputs

@@ -5,7 +5,6 @@
 //! here.
 #![tactic(auto)]
 
-pub mod grammar_laws;
-pub mod line_laws;
+pub mod board_line_laws;
 pub mod output_laws;
-pub mod script_laws;
+pub mod script_line_laws;

@@ -1,5 +1,10 @@
-//! Laws of outputs. Each function's contract is a theorem over the definitions alone.
-ghost use Rattle.script_grammar.specs.LawsOfOutputs.{InputsHaveOneOutput, ScriptsHaveAnOutput};
+//! Laws of the sessions and the outputs of an input. The check proves the contracts.
+ghost use Rattle.script_grammar.specs.LawsOfOutputs.{InputsHaveOneOutput, InputsHaveOneSession, ScriptsHaveAnOutput};
+
+/// The lines of an input have at most one lawful session, so that its output is fixed.
+pub fn inputs_have_one_session()
+    ensures { InputsHaveOneSession }
+{}
 
 /// An input has at most one output.
 pub fn inputs_have_one_output()

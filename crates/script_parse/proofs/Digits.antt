@@ -3,7 +3,7 @@ use Rattle.std.proofs.Common.{◌≡◌, ℕ, suc, ◌+◌, ◌-◌, ◌*◌, �
 use Rattle.std.specs.Prelude.{nat_lt, ◌&&◌}
 use Rattle.std.proofs.lemmas.Bool.{le-ltb}
 use Rattle.std.specs.Str.{all_ascii_digits}
-use Rattle.script_grammar.specs.LineReading.{read_on, read_digits, guard}
+use Rattle.script_grammar.specs.TokenReading.{read_on, read_digits, guard}
 
 -- digits that follow make it no less
 pub read_on_up : (n : ℕ) (cs : List ℕ) → n ≤ read_on n cs

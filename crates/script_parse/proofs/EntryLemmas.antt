@@ -2,7 +2,8 @@
 use Rattle.std.proofs.Common.{◌≡◌, ℕ, List, [], ◌∷◌, ◌++◌, Option, Some, None, refl, sym, ap, ◌∙◌, append_assoc}
 use Rattle.std.proofs.lemmas.List.{append-nil}
 use Rattle.board_model.specs.declared.value.AddedEntry.{AddedEntry}
-use Rattle.script_grammar.specs.LineReading.{◌>>=◌, read_entry, read_entries}
+use Rattle.script_grammar.specs.LineReading.{read_entry, read_entries}
+use Rattle.script_grammar.specs.TokenReading.{◌>>=◌}
 
 -- the entries that were read, and then those that are still read
 abbrev pub with_front : List AddedEntry → Option (List AddedEntry) → Option (List AddedEntry)

@@ -1,7 +1,8 @@
 -- Optional parts are read one after another.
 use Rattle.std.proofs.Common.{◌≡◌, ℕ, zero, suc, ◌-◌, ◌<◌, ◌≤◌, arith, true, false, List, [], ◌∷◌, ◌++◌, length, drop, Option, Some, None, refl, sym, ap, ◌∙◌, append_assoc}
 use Rattle.std.proofs.lemmas.List.{append-nil, length-append}
-use Rattle.script_grammar.specs.LineReading.{◌>>=◌, begins, read_parts}
+use Rattle.script_grammar.specs.LineReading.{begins_with, read_parts}
+use Rattle.script_grammar.specs.TokenReading.{◌>>=◌}
 
 -- the parts that were read, and then those that are still read
 abbrev pub ahead : {A : Type 0} → List A → Option (List A × List (List ℕ)) → Option (List A × List (List ℕ))
@@ -23,7 +24,7 @@ no_front (Some xs) = refl
 pub starts : {A : Type 0} (word : List ℕ) (read : List (List ℕ) → Option (A × List (List ℕ))) (all : List (List ℕ)) → IsReadParts word read [] all all
 starts word read all = record { few = omega arith; so_far = no_front (read_parts 8 word read all) }
 
-pub goes_on : {A : Type 0} (word : List ℕ) (read : List (List ℕ) → Option (A × List (List ℕ))) (front : List A) (x : A) (left behind rest all : List (List ℕ)) → length front < 8 → true ≡ begins word left → behind ≡ drop 1 left → Some (x, rest) ≡ read behind → IsReadParts word read front left all → IsReadParts word read (front ++ x ∷ []) rest all
+pub goes_on : {A : Type 0} (word : List ℕ) (read : List (List ℕ) → Option (A × List (List ℕ))) (front : List A) (x : A) (left behind rest all : List (List ℕ)) → length front < 8 → true ≡ begins_with word left → behind ≡ drop 1 left → Some (x, rest) ≡ read behind → IsReadParts word read front left all → IsReadParts word read (front ++ x ∷ []) rest all
 unfolding read_parts
 goes_on word read front x left behind rest all lt h d e r =
     let n = 8 - length (front ++ x ∷ []) in
@@ -34,7 +35,7 @@ goes_on word read front x left behind rest all lt h d e r =
       so_far = sym (regroup front x (read_parts n word read rest)) ∙ sym (ap (ahead front) m) ∙ sym (ap (λ k. ahead front (read_parts k word read left)) one) ∙ r.so_far;
     }
 
-pub stops : {A : Type 0} (word : List ℕ) (read : List (List ℕ) → Option (A × List (List ℕ))) (front : List A) (left behind all : List (List ℕ)) → length front < 8 → true ≡ begins word left → behind ≡ drop 1 left → None ≡ read behind → IsReadParts word read front left all → None ≡ read_parts 8 word read all
+pub stops : {A : Type 0} (word : List ℕ) (read : List (List ℕ) → Option (A × List (List ℕ))) (front : List A) (left behind all : List (List ℕ)) → length front < 8 → true ≡ begins_with word left → behind ≡ drop 1 left → None ≡ read behind → IsReadParts word read front left all → None ≡ read_parts 8 word read all
 unfolding read_parts
 stops word read front left behind all lt h d e r =
     let one : 8 - length front ≡ suc (7 - length front) = omega arith in
@@ -50,7 +51,7 @@ unfolding read_parts
 is_full word read front left all le r = ends word read front left all (let none : 8 - length front ≡ 0 = omega arith in rw none refl) r
 
 -- another word comes
-pub is_last : {A : Type 0} (word : List ℕ) (read : List (List ℕ) → Option (A × List (List ℕ))) (front : List A) (left all : List (List ℕ)) → false ≡ begins word left → IsReadParts word read front left all → Some (front, left) ≡ read_parts 8 word read all
+pub is_last : {A : Type 0} (word : List ℕ) (read : List (List ℕ) → Option (A × List (List ℕ))) (front : List A) (left all : List (List ℕ)) → false ≡ begins_with word left → IsReadParts word read front left all → Some (front, left) ≡ read_parts 8 word read all
 unfolding read_parts
 is_last word read front left all h r = ends word read front left all (none (8 - length front)) r
   where

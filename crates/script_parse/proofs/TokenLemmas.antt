@@ -7,7 +7,7 @@ use Rattle.std.specs.Borrow.{Bor}
 use Rattle.std.proofs.lemmas.List.{take-append-drop, get_or-take, get_or_default, length-take}
 use Rattle.std.proofs.lemmas.List.Splits.{slice_split_at, slice_split_none, length-slice_split}
 use Rattle.std.proofs.lemmas.Bool.{eqb-true}
-use Rattle.script_grammar.specs.LineReading.{guard, is_end, behind}
+use Rattle.script_grammar.specs.TokenReading.{guard, is_end, behind}
 use Rattle.script_parse.specs.Tokens.{parts_left}
 
 -- a front without the byte

@@ -1,10 +1,10 @@
 //! Names, numbers, types and keys, each from one token.
-ghost use Rattle.std.specs.Prelude.{◌≡◌};
+ghost use Rattle.std.specs.Prelude.{◌≡◌, Some};
 ghost use Rattle.std.specs.List.{list_all};
 ghost use Rattle.board_model.specs.LineGrammar.{is_name, is_name_byte, is_visible, is_visible_byte};
-ghost use Rattle.script_grammar.specs.LineReading.{is_plain, read_attribute_key, read_attribute_value, read_board_name, read_digits, read_key, read_key_type, read_name, read_number, read_value_type};
+ghost use Rattle.script_grammar.specs.TokenReading.{guard, is_plain_numeral, read_digits, read_key, read_key_type, read_name, read_number, read_value_type};
 
-use crate::bytes::{bytes_behind, is_word};
+use crate::bytes::{beside, bytes_behind};
 use board_layout::Text;
 use board_model::{Key, KeyType, Name, ValueType};
 
@@ -40,7 +40,7 @@ pub(crate) fn is_visible(text: &[u8], most: usize) -> bool
     has_visible_bytes(text)
 }
 
-#[tactic(auto, unfolding(script_grammar::specs::LineReading::read_name))]
+#[tactic(auto, unfolding(script_grammar::specs::TokenReading::read_name))]
 pub(crate) fn name_of(text: &[u8]) -> Option<Name>
     ensures { result ≡ read_name text.now }
 {
@@ -50,31 +50,11 @@ pub(crate) fn name_of(text: &[u8]) -> Option<Name>
     Some(Text::of(text))
 }
 
-#[tactic(auto, unfolding(script_grammar::specs::LineReading::read_board_name))]
-pub(crate) fn board_name_of(text: &[u8]) -> Option<Text<255>>
-    ensures { result ≡ read_board_name text.now }
+// The text, where it is 1 to so many visible bytes.
+pub(crate) fn visible_of<const N: usize>(text: &[u8]) -> Option<Text<N>>
+    ensures { result ≡ guard (is_visible N text.now) (Some text.now) }
 {
-    if !is_visible(text, 255) {
-        return None;
-    }
-    Some(Text::of(text))
-}
-
-#[tactic(auto, unfolding(script_grammar::specs::LineReading::read_attribute_key))]
-pub(crate) fn attribute_key_of(text: &[u8]) -> Option<Text<64>>
-    ensures { result ≡ read_attribute_key text.now }
-{
-    if !is_visible(text, 64) {
-        return None;
-    }
-    Some(Text::of(text))
-}
-
-#[tactic(auto, unfolding(script_grammar::specs::LineReading::read_attribute_value))]
-pub(crate) fn attribute_value_of(text: &[u8]) -> Option<Text<256>>
-    ensures { result ≡ read_attribute_value text.now }
-{
-    if !is_visible(text, 256) {
+    if !is_visible(text, N) {
         return None;
     }
     Some(Text::of(text))
@@ -82,7 +62,7 @@ pub(crate) fn attribute_value_of(text: &[u8]) -> Option<Text<256>>
 
 // One digit, or no leading zero.
 fn is_plain(text: &[u8]) -> bool
-    ensures { result ≡ is_plain text.now }
+    ensures { result ≡ is_plain_numeral text.now }
 {
     match text {
         [] => false,
@@ -110,7 +90,7 @@ fn digits_value(text: &[u8]) -> Option<u64>
 }
 
 /// A decimal number of at most 64 bits, without leading zeros.
-#[tactic(auto, unfolding(script_grammar::specs::LineReading::read_number))]
+#[tactic(auto, unfolding(script_grammar::specs::TokenReading::read_number))]
 pub fn number_of(text: &[u8]) -> Option<u64>
     ensures { result ≡ read_number text.now }
 {
@@ -120,47 +100,33 @@ pub fn number_of(text: &[u8]) -> Option<u64>
     digits_value(text)
 }
 
-#[tactic(auto, unfolding(script_grammar::specs::LineReading::read_key_type))]
+#[tactic(auto, unfolding(script_grammar::specs::TokenReading::read_key_type))]
 pub(crate) fn key_type_of(text: &[u8]) -> Option<KeyType>
     ensures { result ≡ read_key_type text.now }
 {
-    if is_word(text, b"u64") {
-        return Some(KeyType::U64);
-    }
-    if is_word(text, b"f8") {
-        return Some(KeyType::F8);
-    }
-    None
+    beside(text, &[(b"u64", KeyType::U64), (b"f8", KeyType::F8)])
 }
 
-#[tactic(auto, unfolding(script_grammar::specs::LineReading::read_value_type))]
+#[tactic(auto, unfolding(script_grammar::specs::TokenReading::read_value_type))]
 pub(crate) fn value_type_of(text: &[u8]) -> Option<ValueType>
     ensures { result ≡ read_value_type text.now }
 {
-    if is_word(text, b"bool") {
-        return Some(ValueType::Bool);
-    }
-    if is_word(text, b"u64") {
-        return Some(ValueType::U64);
-    }
-    if is_word(text, b"q4") {
-        return Some(ValueType::Q4);
-    }
-    None
+    beside(
+        text,
+        &[
+            (b"bool", ValueType::Bool),
+            (b"u64", ValueType::U64),
+            (b"q4", ValueType::Q4),
+        ],
+    )
 }
 
-#[tactic(auto, unfolding(script_grammar::specs::LineReading::read_key, script_grammar::specs::LineReading::read_key_behind))]
+#[tactic(auto, unfolding(script_grammar::specs::TokenReading::read_key, script_grammar::specs::TokenReading::read_key_behind))]
 pub(crate) fn key_of(text: &[u8]) -> Option<Key>
     ensures { result ≡ read_key text.now }
 {
     match bytes_behind(text, b"u64:") {
         Some(digits) => Some(Key::U64(number_of(digits)?)),
-        None => {
-            let letters = bytes_behind(text, b"f8:")?;
-            if !is_visible(letters, 8) {
-                return None;
-            }
-            Some(Key::F8(Text::of(letters)))
-        }
+        None => Some(Key::F8(visible_of(bytes_behind(text, b"f8:")?)?)),
     }
 }

@@ -1,67 +1,34 @@
-//! Calls, from the tokens behind their word.
+//! Calls, from their tokens.
 ghost use Rattle.std.specs.Prelude.{◌≡◌, IfOk};
-ghost use Rattle.script_grammar.specs.LineReading.{is_single, pair_call, read_call, read_create, read_entry_call, read_entry_mut, read_fill, read_get, read_name_if_any, read_named_call, read_one_name, read_open, read_plain_call, read_put, read_two_names, read_update, single_call};
+ghost use Rattle.script_grammar.specs.LineReading.{read_call, read_create, read_entry_parts, read_fill, read_get, read_name_if_any, read_named_call, read_one_name, read_open, read_plain_call, read_put, read_two_names, read_update};
 
 use crate::atoms::name_of;
 use crate::bytes::is_word;
 use crate::options::{attributes_of, needs_of};
 use crate::tokens::Tokens;
 use crate::values::entries_of;
-use board_model::{Call, LongName, Name};
+use board_model::{Call, Key, LongName, Name, ValueType};
 use std::alloc::{AllocError, Global};
 
+// A single name and no more.
 #[tactic(auto, unfolding(script_grammar::specs::LineReading::read_one_name))]
 pub(crate) fn one_name(tokens: &mut Tokens) -> Option<Name>
     ensures { result ≡ read_one_name tokens.old }
 {
     let name = tokens.name()?;
-    if !tokens.is_end() {
-        return None;
-    }
+    tokens.end()?;
     Some(name)
 }
 
+// Two names and no more.
 #[tactic(auto, unfolding(script_grammar::specs::LineReading::read_two_names))]
 pub(crate) fn two_names(tokens: &mut Tokens) -> Option<(Name, Name)>
     ensures { result ≡ read_two_names tokens.old }
 {
     let first = tokens.name()?;
     let second = tokens.name()?;
-    if !tokens.is_end() {
-        return None;
-    }
+    tokens.end()?;
     Some((first, second))
-}
-
-#[tactic(auto, unfolding(script_grammar::specs::LineReading::read_entry_mut))]
-fn entry_mut_of(tokens: &mut Tokens) -> Option<Call>
-    ensures { result ≡ read_entry_mut tokens.old }
-{
-    let handle = tokens.name()?;
-    let writer = tokens.name()?;
-    let key = tokens.key()?;
-    let value_type = tokens.value_type()?;
-    if !tokens.is_end() {
-        return None;
-    }
-    Some(Call::EntryMut {
-        handle,
-        writer,
-        key,
-        value_type,
-    })
-}
-
-#[tactic(auto, unfolding(script_grammar::specs::LineReading::read_update))]
-fn update_of(tokens: &mut Tokens) -> Option<Call>
-    ensures { result ≡ read_update tokens.old }
-{
-    let handle = tokens.name()?;
-    let value = tokens.value()?;
-    if !tokens.is_end() {
-        return None;
-    }
-    Some(Call::Update { handle, value })
 }
 
 // The name that may stand at the end.
@@ -73,29 +40,21 @@ fn name_if_any(tokens: &mut Tokens) -> Option<Option<Name>>
         return Some(None);
     };
     let name = name_of(name)?;
-    if !tokens.is_end() {
-        return None;
-    }
+    tokens.end()?;
     Some(Some(name))
 }
 
-#[tactic(auto, unfolding(script_grammar::specs::LineReading::read_entry_call))]
-fn entry_call_of(tokens: &mut Tokens) -> Option<Call>
-    ensures { result ≡ read_entry_call tokens.old }
+// What asks for a handle of an entry: its name, the port's, a key and a type of values, and no more.
+#[tactic(auto, unfolding(script_grammar::specs::LineReading::read_entry_parts))]
+fn entry_parts(tokens: &mut Tokens) -> Option<(Name, Name, Key, ValueType)>
+    ensures { result ≡ read_entry_parts tokens.old }
 {
     let handle = tokens.name()?;
-    let reader = tokens.name()?;
+    let port = tokens.name()?;
     let key = tokens.key()?;
     let value_type = tokens.value_type()?;
-    if !tokens.is_end() {
-        return None;
-    }
-    Some(Call::Entry {
-        handle,
-        reader,
-        key,
-        value_type,
-    })
+    tokens.end()?;
+    Some((handle, port, key, value_type))
 }
 
 #[tactic(auto, unfolding(script_grammar::specs::LineReading::read_get))]
@@ -107,6 +66,16 @@ fn get_of(tokens: &mut Tokens) -> Option<Call>
     Some(Call::Get { handle, value })
 }
 
+#[tactic(auto, unfolding(script_grammar::specs::LineReading::read_update))]
+fn update_of(tokens: &mut Tokens) -> Option<Call>
+    ensures { result ≡ read_update tokens.old }
+{
+    let handle = tokens.name()?;
+    let value = tokens.value()?;
+    tokens.end()?;
+    Some(Call::Update { handle, value })
+}
+
 #[tactic(auto, unfolding(script_grammar::specs::LineReading::read_put))]
 fn put_of(tokens: &mut Tokens) -> Option<Call>
     ensures { result ≡ read_put tokens.old }
@@ -114,9 +83,7 @@ fn put_of(tokens: &mut Tokens) -> Option<Call>
     let loan = tokens.name()?;
     let index = tokens.number()?;
     let word = tokens.number()?;
-    if !tokens.is_end() {
-        return None;
-    }
+    tokens.end()?;
     Some(Call::Put { loan, index, word })
 }
 
@@ -127,9 +94,7 @@ fn fill_of(tokens: &mut Tokens) -> Option<Call>
     let loan = tokens.name()?;
     let handle = tokens.name()?;
     let value = tokens.value()?;
-    if !tokens.is_end() {
-        return None;
-    }
+    tokens.end()?;
     Some(Call::Fill {
         loan,
         handle,
@@ -137,94 +102,56 @@ fn fill_of(tokens: &mut Tokens) -> Option<Call>
     })
 }
 
-fn is_single(word: &[u8]) -> bool
-    ensures { result ≡ is_single word.now }
-{
-    is_word(word, b"gen")
-        || is_word(word, b"keys")
-        || is_word(word, b"nodes")
-        || is_word(word, b"info")
-        || is_word(word, b"id")
-}
-
-// The call of a word with one name behind it.
-#[tactic(auto, unfolding(script_grammar::specs::LineReading::single_call))]
-fn single_call(word: &[u8], name: Name) -> Option<Call>
-    ensures { result ≡ single_call word.now name }
-{
-    if is_word(word, b"gen") {
-        return Some(Call::Gen { handle: name });
-    }
-    if is_word(word, b"keys") {
-        return Some(Call::Keys { factory: name });
-    }
-    if is_word(word, b"nodes") {
-        return Some(Call::Nodes { factory: name });
-    }
-    if is_word(word, b"info") {
-        return Some(Call::Info { factory: name });
-    }
-    if is_word(word, b"id") {
-        return Some(Call::Id { thing: name });
-    }
-    None
-}
-
-// The call of a word with two names behind it.
-#[tactic(auto, unfolding(script_grammar::specs::LineReading::pair_call))]
-fn pair_call(word: &[u8], first: Name, second: Name) -> Option<Call>
-    ensures { result ≡ pair_call word.now (first, second) }
-{
-    if is_word(word, b"reader") {
-        return Some(Call::Reader {
-            reader: first,
-            factory: second,
-        });
-    }
-    if is_word(word, b"writer") {
-        return Some(Call::Writer {
-            writer: first,
-            factory: second,
-        });
-    }
-    if is_word(word, b"fresh") {
-        return Some(Call::Fresh {
-            handle: first,
-            value: second,
-        });
-    }
-    if is_word(word, b"loan") {
-        return Some(Call::Loan {
-            loan: first,
-            handle: second,
-        });
-    }
-    if is_word(word, b"discard") {
-        return Some(Call::Discard {
-            loan: first,
-            handle: second,
-        });
-    }
-    if is_word(word, b"publish") {
-        return Some(Call::Publish {
-            loan: first,
-            handle: second,
-        });
-    }
-    None
-}
-
-// A call of names alone.
+// The call of a word with two names or one behind it.
 #[tactic(auto, unfolding(script_grammar::specs::LineReading::read_named_call))]
 fn named_call_of(word: &[u8], tokens: &mut Tokens) -> Option<Call>
     ensures { result ≡ read_named_call word.now tokens.old }
 {
-    if is_single(word) {
-        let name = one_name(tokens)?;
-        return single_call(word, name);
+    if is_word(word, b"reader") {
+        let (reader, factory) = two_names(tokens)?;
+        return Some(Call::Reader { reader, factory });
     }
-    let (first, second) = two_names(tokens)?;
-    pair_call(word, first, second)
+    if is_word(word, b"writer") {
+        let (writer, factory) = two_names(tokens)?;
+        return Some(Call::Writer { writer, factory });
+    }
+    if is_word(word, b"fresh") {
+        let (handle, value) = two_names(tokens)?;
+        return Some(Call::Fresh { handle, value });
+    }
+    if is_word(word, b"loan") {
+        let (loan, handle) = two_names(tokens)?;
+        return Some(Call::Loan { loan, handle });
+    }
+    if is_word(word, b"discard") {
+        let (loan, handle) = two_names(tokens)?;
+        return Some(Call::Discard { loan, handle });
+    }
+    if is_word(word, b"publish") {
+        let (loan, handle) = two_names(tokens)?;
+        return Some(Call::Publish { loan, handle });
+    }
+    if is_word(word, b"gen") {
+        let handle = one_name(tokens)?;
+        return Some(Call::Gen { handle });
+    }
+    if is_word(word, b"keys") {
+        let factory = one_name(tokens)?;
+        return Some(Call::Keys { factory });
+    }
+    if is_word(word, b"nodes") {
+        let factory = one_name(tokens)?;
+        return Some(Call::Nodes { factory });
+    }
+    if is_word(word, b"info") {
+        let factory = one_name(tokens)?;
+        return Some(Call::Info { factory });
+    }
+    if is_word(word, b"id") {
+        let thing = one_name(tokens)?;
+        return Some(Call::Id { thing });
+    }
+    None
 }
 
 // The call of a word, but for the two that have optional parts.
@@ -233,10 +160,22 @@ fn plain_call_of(word: &[u8], tokens: &mut Tokens) -> Option<Call>
     ensures { result ≡ read_plain_call word.now tokens.old }
 {
     if is_word(word, b"entry") {
-        return entry_call_of(tokens);
+        let (handle, reader, key, value_type) = entry_parts(tokens)?;
+        return Some(Call::Entry {
+            handle,
+            reader,
+            key,
+            value_type,
+        });
     }
     if is_word(word, b"entrymut") {
-        return entry_mut_of(tokens);
+        let (handle, writer, key, value_type) = entry_parts(tokens)?;
+        return Some(Call::EntryMut {
+            handle,
+            writer,
+            key,
+            value_type,
+        });
     }
     if is_word(word, b"get") {
         return get_of(tokens);
@@ -257,16 +196,7 @@ fn plain_call_of(word: &[u8], tokens: &mut Tokens) -> Option<Call>
 fn create_of(alloc: Global, tokens: &mut Tokens) -> Result<Option<Call>, AllocError>
     ensures { IfOk result (λ o. o ≡ read_create tokens.old) }
 {
-    let Some(factory) = tokens.name() else {
-        return Ok(None);
-    };
-    let Some(name) = tokens.board_name() else {
-        return Ok(None);
-    };
-    let Some(key_type) = tokens.key_type() else {
-        return Ok(None);
-    };
-    let Some(limits) = tokens.limits() else {
+    let Some((factory, name, key_type, limits)) = tokens.board() else {
         return Ok(None);
     };
     let Some(attributes) = attributes_of(alloc, b"attr", tokens)? else {
@@ -289,16 +219,7 @@ fn create_of(alloc: Global, tokens: &mut Tokens) -> Result<Option<Call>, AllocEr
 fn open_of(alloc: Global, tokens: &mut Tokens) -> Result<Option<Call>, AllocError>
     ensures { IfOk result (λ o. o ≡ read_open tokens.old) }
 {
-    let Some(factory) = tokens.name() else {
-        return Ok(None);
-    };
-    let Some(name) = tokens.board_name() else {
-        return Ok(None);
-    };
-    let Some(key_type) = tokens.key_type() else {
-        return Ok(None);
-    };
-    let Some(limits) = tokens.limits() else {
+    let Some((factory, name, key_type, limits)) = tokens.board() else {
         return Ok(None);
     };
     let Some(needs) = needs_of(alloc, tokens)? else {
@@ -316,14 +237,14 @@ fn open_of(alloc: Global, tokens: &mut Tokens) -> Result<Option<Call>, AllocErro
     }))
 }
 
+// A call, by its word.
 #[tactic(auto, unfolding(script_grammar::specs::LineReading::read_call))]
-pub(crate) fn call_of(
-    alloc: Global,
-    word: &[u8],
-    tokens: &mut Tokens,
-) -> Result<Option<Call>, AllocError>
-    ensures { IfOk result (λ o. o ≡ read_call word.now tokens.old) }
+pub(crate) fn call_of(alloc: Global, tokens: &mut Tokens) -> Result<Option<Call>, AllocError>
+    ensures { IfOk result (λ o. o ≡ read_call tokens.old) }
 {
+    let Some(word) = tokens.next() else {
+        return Ok(None);
+    };
     if is_word(word, b"create") {
         return create_of(alloc, tokens);
     }

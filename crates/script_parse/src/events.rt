@@ -1,18 +1,18 @@
 //! Lines of events, from their tokens.
 ghost use Rattle.std.specs.Prelude.{◌≡◌, IfOk};
 ghost use Rattle.std.specs.List.{list_all};
-ghost use Rattle.script_grammar.specs.LineReading.{first_by};
-ghost use Rattle.script_grammar.specs.EventReading.{read_count, read_event_begin, read_event_line, read_event_name, read_expire, read_kind, read_listen, read_max, read_mode, read_notifier, read_notify, read_request, read_wait};
+ghost use Rattle.script_grammar.specs.TokenReading.{first_by};
+ghost use Rattle.script_grammar.specs.EventReading.{read_count, read_event_begin, read_event_line, read_event_name, read_expire, read_kind, read_listen, read_max, read_mode, read_notifier, read_notify, read_port, read_request, read_wait};
 ghost use Rattle.script_parse.specs.Tokens.{with_rest};
 ghost use Rattle.script_model.specs.ScriptGrammar.{is_event_byte, is_event_name};
 
 use crate::atoms::{is_visible, number_of};
-use crate::bytes::is_word;
+use crate::bytes::{beside, is_word};
 use crate::calls::one_name;
 use crate::tokens::Tokens;
 use board_event_model::{EventKind, WaitMode};
 use board_layout::Text;
-use board_model::LongName;
+use board_model::{LongName, Name};
 use script_model::{EventRequest, ScriptLine};
 use std::alloc::{AllocError, Global};
 
@@ -46,29 +46,24 @@ fn event_name_of(text: &[u8]) -> Option<Text<255>>
 fn kind_of(text: &[u8]) -> Option<EventKind>
     ensures { result ≡ read_kind text.now }
 {
-    if is_word(text, b"bits") {
-        return Some(EventKind::Bits);
-    }
-    if is_word(text, b"queue") {
-        return Some(EventKind::Queue);
-    }
-    None
+    beside(
+        text,
+        &[(b"bits", EventKind::Bits), (b"queue", EventKind::Queue)],
+    )
 }
 
 #[tactic(auto, unfolding(script_grammar::specs::EventReading::read_mode))]
 fn mode_of(text: &[u8]) -> Option<WaitMode>
     ensures { result ≡ read_mode text.now }
 {
-    if is_word(text, b"try") {
-        return Some(WaitMode::Try);
-    }
-    if is_word(text, b"timed") {
-        return Some(WaitMode::Timed);
-    }
-    if is_word(text, b"block") {
-        return Some(WaitMode::Block);
-    }
-    None
+    beside(
+        text,
+        &[
+            (b"try", WaitMode::Try),
+            (b"timed", WaitMode::Timed),
+            (b"block", WaitMode::Block),
+        ],
+    )
 }
 
 // Whether a wait is for all ids.
@@ -76,13 +71,7 @@ fn mode_of(text: &[u8]) -> Option<WaitMode>
 fn count_of(text: &[u8]) -> Option<bool>
     ensures { result ≡ read_count text.now }
 {
-    if is_word(text, b"all") {
-        return Some(true);
-    }
-    if is_word(text, b"one") {
-        return Some(false);
-    }
-    None
+    beside(text, &[(b"all", true), (b"one", false)])
 }
 
 // The greatest id of a set.
@@ -127,19 +116,24 @@ impl<'a> Tokens<'a> {
     {
         max_of(self.next()?)
     }
+
+    // What asks for a port: its name, and the kind and name of the event.
+    #[tactic(auto, unfolding(script_grammar::specs::EventReading::read_port))]
+    fn port(&mut self) -> Option<(Name, EventKind, Text<255>)>
+        ensures { with_rest result self.new ≡ read_port self.old }
+    {
+        let port = self.name()?;
+        let kind = self.kind()?;
+        let event = self.event_name()?;
+        Some((port, kind, event))
+    }
 }
 
 #[tactic(auto, unfolding(script_grammar::specs::EventReading::read_listen, script_grammar::specs::EventReading::read_listener))]
 fn listen_of(alloc: Global, tokens: &mut Tokens) -> Result<Option<EventRequest>, AllocError>
     ensures { IfOk result (λ o. o ≡ read_listen tokens.old) }
 {
-    let Some(listener) = tokens.name() else {
-        return Ok(None);
-    };
-    let Some(kind) = tokens.kind() else {
-        return Ok(None);
-    };
-    let Some(event) = tokens.event_name() else {
+    let Some((listener, kind, event)) = tokens.port() else {
         return Ok(None);
     };
     match kind {
@@ -172,13 +166,7 @@ fn listen_of(alloc: Global, tokens: &mut Tokens) -> Result<Option<EventRequest>,
 fn notifier_of(alloc: Global, tokens: &mut Tokens) -> Result<Option<EventRequest>, AllocError>
     ensures { IfOk result (λ o. o ≡ read_notifier tokens.old) }
 {
-    let Some(notifier) = tokens.name() else {
-        return Ok(None);
-    };
-    let Some(kind) = tokens.kind() else {
-        return Ok(None);
-    };
-    let Some(event) = tokens.event_name() else {
+    let Some((notifier, kind, event)) = tokens.port() else {
         return Ok(None);
     };
     if !tokens.is_end() {
@@ -197,9 +185,7 @@ fn notify_of(tokens: &mut Tokens) -> Option<EventRequest>
 {
     let notifier = tokens.name()?;
     let id = tokens.number()?;
-    if !tokens.is_end() {
-        return None;
-    }
+    tokens.end()?;
     Some(EventRequest::Notify { notifier, id })
 }
 
@@ -210,9 +196,7 @@ fn wait_of(tokens: &mut Tokens) -> Option<EventRequest>
     let listener = tokens.name()?;
     let many = tokens.count()?;
     let mode = tokens.mode()?;
-    if !tokens.is_end() {
-        return None;
-    }
+    tokens.end()?;
     Some(EventRequest::Wait {
         listener,
         many,

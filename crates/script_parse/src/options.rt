@@ -1,10 +1,12 @@
 //! The optional parts of calls, in their order.
 ghost use Rattle.std.specs.Prelude.{◌≡◌, IfOk, codes};
-ghost use Rattle.script_grammar.specs.LineReading.{first_by, read_attribute_key, read_limit, read_limits, read_needs, read_pair, read_parts};
+ghost use Rattle.script_grammar.specs.LineReading.{read_board, read_limit, read_limits, read_needs, read_pair, read_parts};
+ghost use Rattle.script_grammar.specs.TokenReading.{first_by, read_attribute_key};
 ghost use Rattle.script_parse.specs.Tokens.{with_rest};
 
 use crate::tokens::Tokens;
-use board_model::{Attribute, AttributeKeys, Attributes, Limits, Requirements};
+use board_layout::Text;
+use board_model::{Attribute, AttributeKeys, Attributes, KeyType, Limits, Name, Requirements};
 use std::alloc::{AllocError, Global};
 
 // A call has no more attributes, needs or needed keys than these.
@@ -23,7 +25,7 @@ impl<'a> Tokens<'a> {
     }
 
     #[tactic(auto, unfolding(script_grammar::specs::LineReading::read_limits))]
-    pub(crate) fn limits(&mut self) -> Option<Limits>
+    fn limits(&mut self) -> Option<Limits>
         ensures { with_rest result self.new ≡ read_limits self.old }
     {
         let max_readers = self.limit(b"readers")?;
@@ -32,6 +34,18 @@ impl<'a> Tokens<'a> {
             max_readers,
             max_nodes,
         })
+    }
+
+    // What `create` and `open` begin with: the factory's name, the board's, the type of the keys and the limits.
+    #[tactic(auto, unfolding(script_grammar::specs::LineReading::read_board))]
+    pub(crate) fn board(&mut self) -> Option<(Name, Text<255>, KeyType, Limits)>
+        ensures { with_rest result self.new ≡ read_board self.old }
+    {
+        let factory = self.name()?;
+        let name = self.board_name()?;
+        let key_type = self.key_type()?;
+        let limits = self.limits()?;
+        Some((factory, name, key_type, limits))
     }
 
     #[tactic(auto, unfolding(script_grammar::specs::LineReading::read_pair))]

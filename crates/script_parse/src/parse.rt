@@ -1,11 +1,11 @@
 //! Lines, from their bytes.
 ghost use Rattle.std.specs.Prelude.{◌≡◌, IfNone, IfOk, IfSome};
-ghost use Rattle.script_grammar.specs.LineReading.{read_begin, read_line, read_plain_line, read_words, split_tokens};
+ghost use Rattle.script_grammar.specs.LineReading.{read_begin, read_line, read_plain_line, read_words};
+ghost use Rattle.script_grammar.specs.TokenReading.{split_tokens};
 ghost use Rattle.script_grammar.specs.EventReading.{read_script_line};
 ghost use Rattle.script_model.specs.declared.line.ScriptLine.{ScriptLine};
 ghost use Rattle.script_model.specs.ScriptGrammar.{SpellsLine};
 
-use crate::atoms::name_of;
 use crate::bytes::is_word;
 use crate::calls::{call_of, one_name, two_names};
 use crate::events::event_line_of;
@@ -21,16 +21,10 @@ const MOST_BYTES: usize = 4096;
 fn begin_of(alloc: Global, tokens: &mut Tokens) -> Result<Option<Line>, AllocError>
     ensures { IfOk result (λ o. o ≡ read_begin tokens.old) }
 {
-    let Some(party) = tokens.next() else {
+    let Some(party) = tokens.name() else {
         return Ok(None);
     };
-    let Some(word) = tokens.next() else {
-        return Ok(None);
-    };
-    let Some(party) = name_of(party) else {
-        return Ok(None);
-    };
-    let Some(call) = call_of(alloc, word, tokens)? else {
+    let Some(call) = call_of(alloc, tokens)? else {
         return Ok(None);
     };
     Ok(Some(Line::Begin { party, call }))
@@ -41,9 +35,7 @@ fn words_of(tokens: &mut Tokens) -> Option<Line>
     ensures { result ≡ read_words tokens.old }
 {
     let board = tokens.number()?;
-    if !tokens.is_end() {
-        return None;
-    }
+    tokens.end()?;
     Some(Line::Words { board })
 }
 

@@ -1,13 +1,12 @@
 //! The parts of a text, taken from the front.
 ghost use Rattle.std.specs.Prelude.{◌≡◌, ◌==◌, ◌∷◌, [], MatchOption, drop, if◌then◌else◌};
 ghost use Rattle.std.specs.List.{slice_split};
-ghost use Rattle.script_grammar.specs.LineReading.{begins, first_by, is_end, read_attribute_key, read_attribute_value, read_board_name, read_key, read_key_type, read_name, read_number, read_value_type};
+ghost use Rattle.std.specs.Option.{is_some};
+ghost use Rattle.script_grammar.specs.LineReading.{begins_with};
+ghost use Rattle.script_grammar.specs.TokenReading.{first_by, is_end, read_attribute_key, read_attribute_value, read_board_name, read_key, read_key_type, read_name, read_number, read_value_type};
 ghost use Rattle.script_parse.specs.Tokens.{parts_left, with_rest};
 
-use crate::atoms::{
-    attribute_key_of, attribute_value_of, board_name_of, key_of, key_type_of, name_of, number_of,
-    value_type_of,
-};
+use crate::atoms::{key_of, key_type_of, name_of, number_of, value_type_of, visible_of};
 use crate::bytes::{is_word, place_of};
 use board_layout::Text;
 use board_model::{Key, KeyType, Name, ValueType};
@@ -66,9 +65,19 @@ impl<'a> Tokens<'a> {
         self.rest.is_none()
     }
 
+    // Goes on where no part is left.
+    pub(crate) fn end(&self) -> Option<()>
+        ensures { is_some result ≡ is_end self.now }
+    {
+        if self.is_end() {
+            return Some(());
+        }
+        None
+    }
+
     // Takes the first part where it is the word.
     pub(crate) fn take_word(&mut self, word: &[u8]) -> bool
-        ensures begins { result ≡ begins word.now self.old }
+        ensures begins { result ≡ begins_with word.now self.old }
         ensures rest { self.new ≡ (if result then drop 1 self.old else self.old) }
     {
         let Some(rest) = self.rest else {
@@ -94,22 +103,25 @@ impl<'a> Tokens<'a> {
         name_of(self.next()?)
     }
 
+    #[tactic(auto, unfolding(script_grammar::specs::TokenReading::read_board_name))]
     pub(crate) fn board_name(&mut self) -> Option<Text<255>>
         ensures { with_rest result self.new ≡ first_by read_board_name self.old }
     {
-        board_name_of(self.next()?)
+        visible_of(self.next()?)
     }
 
+    #[tactic(auto, unfolding(script_grammar::specs::TokenReading::read_attribute_key))]
     pub(crate) fn attribute_key(&mut self) -> Option<Text<64>>
         ensures { with_rest result self.new ≡ first_by read_attribute_key self.old }
     {
-        attribute_key_of(self.next()?)
+        visible_of(self.next()?)
     }
 
+    #[tactic(auto, unfolding(script_grammar::specs::TokenReading::read_attribute_value))]
     pub(crate) fn attribute_value(&mut self) -> Option<Text<256>>
         ensures { with_rest result self.new ≡ first_by read_attribute_value self.old }
     {
-        attribute_value_of(self.next()?)
+        visible_of(self.next()?)
     }
 
     pub(crate) fn key_type(&mut self) -> Option<KeyType>

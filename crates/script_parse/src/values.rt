@@ -1,7 +1,8 @@
 //! Values and added entries, from their tokens.
 ghost use Rattle.std.specs.Prelude.{◌≡◌, IfOk};
 ghost use Rattle.std.specs.Option.{option_map};
-ghost use Rattle.script_grammar.specs.LineReading.{first_by, read_entries, read_entry, read_four, read_value};
+ghost use Rattle.script_grammar.specs.LineReading.{read_entries, read_entry};
+ghost use Rattle.script_grammar.specs.TokenReading.{first_by, read_four, read_value};
 ghost use Rattle.script_parse.specs.Tokens.{with_rest};
 
 use crate::atoms::{key_of, number_of};
@@ -10,7 +11,7 @@ use crate::tokens::Tokens;
 use board_model::{AddedEntries, AddedEntry, Key, Value};
 use std::alloc::{AllocError, Global};
 
-#[tactic(auto, unfolding(script_grammar::specs::LineReading::read_four))]
+#[tactic(auto, unfolding(script_grammar::specs::TokenReading::read_four))]
 fn four_of(parts: &mut Tokens) -> Option<Value>
     ensures { result ≡ read_four parts.old }
 {
@@ -18,13 +19,11 @@ fn four_of(parts: &mut Tokens) -> Option<Value>
     let b = parts.number()?;
     let c = parts.number()?;
     let d = parts.number()?;
-    if !parts.is_end() {
-        return None;
-    }
+    parts.end()?;
     Some(Value::Q4(a, b, c, d))
 }
 
-#[tactic(auto, unfolding(script_grammar::specs::LineReading::read_value, script_grammar::specs::LineReading::read_words_behind))]
+#[tactic(auto, unfolding(script_grammar::specs::TokenReading::read_value, script_grammar::specs::TokenReading::read_words_behind))]
 pub(crate) fn value_of(text: &[u8]) -> Option<Value>
     ensures { result ≡ read_value text.now }
 {

@@ -1,6 +1,6 @@
 use Rattle.std.proofs.Common.{ℕ, List, ap, sym, subst, ◌∙◌, map}
 use Rattle.std.specs.String.{string_bytes}
-use Rattle.script_grammar.specs.LineReading.{read_number}
+use Rattle.script_grammar.specs.TokenReading.{read_number}
 use Rattle.board_script.specs.Top.{IsGen}
 use Rattle.board_script.proofs.Words.{is_gen, no_other, same_text, two, unread_none}
 use Rattle.board_script.proofs.top.generated_by.Goals as goal

@@ -1,4 +1,4 @@
-use Rattle.script_grammar.proofs.OutputLaws.{one_output}
+use Rattle.script_grammar.proofs.SessionLemmas.{one_output}
 use Rattle.script_grammar.proofs.output_laws.inputs_have_one_output.Goals as goal
 
 pub returns : goal.returns

@@ -1,5 +1,5 @@
 use Rattle.std.proofs.Common.{codes, arith}
-use Rattle.script_grammar.specs.LineReading.{first_by, read_attribute_key}
+use Rattle.script_grammar.specs.TokenReading.{first_by, read_attribute_key}
 use Rattle.script_parse.proofs.PartLemmas.{stops, goes_on, is_full, is_last}
 use Rattle.script_parse.proofs.options.needed_keys_of.Goals.{else-loop-tokens-test, then-loop-tokens-test+then-not-take_word}
 use Rattle.script_parse.proofs.options.needed_keys_of.Goals as goal

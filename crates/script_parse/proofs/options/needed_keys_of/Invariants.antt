@@ -1,5 +1,5 @@
 use Rattle.std.proofs.Common.{◌-◌, codes, length}
-use Rattle.script_grammar.specs.LineReading.{first_by, read_attribute_key}
+use Rattle.script_grammar.specs.TokenReading.{first_by, read_attribute_key}
 use Rattle.script_parse.proofs.PartLemmas.{IsReadParts}
 use Rattle.script_parse.proofs.options.needed_keys_of.Given as goal
 

@@ -1,10 +1,10 @@
 use Rattle.std.proofs.Common.{◌≡◌, ℕ, ◌≤◌, List, length, Option}
 use Rattle.std.specs.Prelude.{Result, Ok, Err, IfOk, IfSome, IfNone}
-use Rattle.script_grammar.specs.LineReading.{split_tokens}
+use Rattle.script_grammar.specs.TokenReading.{split_tokens}
 use Rattle.script_model.specs.declared.line.ScriptLine.{ScriptLine}
 use Rattle.script_model.specs.ScriptGrammar.{SpellsLine}
 use Rattle.script_grammar.specs.EventReading.{read_script_line}
-use Rattle.script_grammar.proofs.EventLemmas.{is_found, is_only}
+use Rattle.script_grammar.proofs.ScriptLineLemmas.{is_found, is_only}
 use Rattle.script_parse.proofs.parse.parse_line.Goals as goal
 
 found : {E : Type 0} (bytes : List ℕ) (r : Result (Option ScriptLine) E) → length bytes ≤ 4096 → IfOk r (λ o. o ≡ read_script_line (split_tokens bytes)) → IfOk r (λ o. IfSome o (λ l. SpellsLine bytes l))

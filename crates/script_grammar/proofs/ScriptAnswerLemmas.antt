@@ -1,9 +1,6 @@
--- A right answer of a sound script holds no newline.
-use Rattle.std.proofs.Common.{◌≡◌, ℕ, zero, suc, ◌/◌, ◌%◌, ◌<◌, Bool, true, false, List, [], ◌∷◌, Option, Some, None, IsSomeAnd, refl, sym, subst, eqb, cond, arith}
-use Rattle.std.specs.Prelude.{codes, decimal}
-use Rattle.std.specs.Fmt.{digit_glyph, digits, digits_onto}
-use Rattle.std.specs.List.{flat_map}
-use Rattle.std.proofs.lemmas.List.Concat.{flat_map-cons}
+-- The text of a right answer holds no newline, those to lines of events included.
+use Rattle.std.proofs.Common.{◌≡◌, ℕ, true, List, Option, Some, None, IsSomeAnd, refl, sym, subst}
+use Rattle.std.specs.Prelude.{codes}
 use Rattle.board_event_model.specs.declared.access.EventAccess.{EventAccess}
 use Rattle.board_event_model.specs.declared.access.EventAccess.TheVariants as access
 use Rattle.board_event_model.specs.declared.access.EventAnswer.{EventAnswer}
@@ -22,9 +19,8 @@ use Rattle.board_cell_model.specs.declared.access.Access.TheVariants as board_ac
 use Rattle.board_model.specs.declared.answer.Reply.TheVariants as board_reply
 use Rattle.board_model.specs.AnswerGrammar.{IsAnswer, number_text}
 use Rattle.board_model.specs.Lines.{IsOneLine}
-use Rattle.script_grammar.proofs.AnswerLemmas.{answer_free}
-use Rattle.script_grammar.proofs.SpaceLemmas.{free_append, free_visible}
-use Rattle.script_grammar.proofs.SplitLemmas.{IsFree, free_lacks}
+use Rattle.script_grammar.proofs.BoardAnswerLemmas.{IsFlat, answer_free, flat_number, flat_numbers}
+use Rattle.script_grammar.proofs.SplitLemmas.{free_append, free_event_name, free_lacks}
 use Rattle.script_model.specs.declared.line.ScriptLine.{ScriptLine}
 use Rattle.script_model.specs.declared.line.ScriptLine.TheVariants as line
 use Rattle.script_model.specs.declared.reply.EventReply.{EventReply}
@@ -35,37 +31,7 @@ use Rattle.script_model.specs.ScriptEvents.{EventAsk, IsEventAccess, IsStepOf, S
 use Rattle.script_model.specs.ScriptTurns.{EventTurn, IsTurnAnswer, ScriptState, begins, drops, expires, refused, steps, turn_of}
 use Rattle.script_model.specs.ScriptSession.{IsRuled}
 use Rattle.script_model.specs.SoundEvents.{AreSoundEvents, IsFormedEvent}
-use Rattle.script_grammar.specs.LawsOfLines.{RightAnswersHoldNoNewline}
-use Rattle.script_grammar.proofs.LineLemmas.{visible_name}
-
--- ---- numbers of any size
-
-abbrev IsFlat : List ℕ → Type 0
-IsFlat text = IsFree 10 text
-
-flat_glyph : (d : ℕ) → d < 10 → (rest : List ℕ) → IsFlat rest → IsFlat (digit_glyph false d ∷ rest)
-flat_glyph d low rest h = grind arith
-
-either_flat : (b : Bool) (x y : List ℕ) → IsFlat x → IsFlat y → IsFlat (cond b x y)
-either_flat true x y h k = h
-either_flat false x y h k = k
-
-flat_onto : (k n : ℕ) (rest : List ℕ) → IsFlat rest → IsFlat (digits_onto k 10 false n rest)
-flat_onto zero n rest h = h
-flat_onto (suc k) n rest h =
-    let more = flat_glyph (n % 10) (omega arith) rest h in
-    either_flat (eqb (n / 10) 0) _ _ more (flat_onto k (n / 10) (digit_glyph false (n % 10) ∷ rest) more)
-
-flat_decimal : (n : ℕ) → IsFlat (decimal n)
-unfolding digits
-flat_decimal n = flat_onto 64 n [] refl
-
-flat_number : (n : ℕ) → IsFlat (number_text n)
-flat_number n = flat_decimal n
-
-flat_numbers : (ns : List ℕ) → IsFlat (flat_map number_text ns)
-flat_numbers [] = refl
-flat_numbers (n ∷ ns) = subst IsFlat (sym (flat_map-cons number_text n ns)) (free_append 10 (number_text n) (flat_map number_text ns) (flat_number n) (flat_numbers ns))
+use Rattle.script_grammar.specs.LawsOfScriptLines.{RightAnswersHoldNoNewline}
 
 -- ---- what a step of events prints
 
@@ -90,8 +56,8 @@ flat_told None = refl
 flat_told (Some r) = flat_reply r
 
 flat_event : (k : EventKind) (name : List ℕ) → is_event_name name ≡ true → IsFlat (event_text k name)
-flat_event kind.Bits name h = free_visible 10 255 refl name (visible_name name h)
-flat_event kind.Queue name h = free_visible 10 255 refl name (visible_name name h)
+flat_event kind.Bits name h = free_event_name 10 refl name h
+flat_event kind.Queue name h = free_event_name 10 refl name h
 
 flat_found : (a : EventAnswer) → IsFlat (found_text a)
 flat_found event_answer.Done = refl

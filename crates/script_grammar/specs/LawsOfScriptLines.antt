@@ -1,4 +1,4 @@
--- Laws of lines: the bytes of a line say which line it is, and a right answer is one line of output.
+-- Laws of the lines of a script, those of events included: bytes say which line they are, and a right answer is one line of output.
 use Rattle.std.specs.Prelude.{◌≡◌, ℕ, List}
 use Rattle.board_model.specs.Lines.{IsOneLine}
 use Rattle.script_model.specs.declared.line.ScriptLine.{ScriptLine}

@@ -1,4 +1,4 @@
--- An input of lines of the grammar has exactly one output.
+-- The lines of an input fix its session and so its output, and where they are of the grammar there is one.
 use Rattle.std.proofs.Common.{◌≡◌, ℕ, List, [], ◌∷◌, length, arith, refl, sym, ap, subst, ◌∙◌}
 use Rattle.std.specs.List.{AllByRecursion}
 use Rattle.board_model.specs.Lines.{lines_of}
@@ -7,12 +7,31 @@ use Rattle.script_model.specs.ScriptGrammar.{IsScriptLine, SpellsLine}
 use Rattle.script_model.specs.ScriptSession.{Session}
 use Rattle.script_model.specs.ScriptSession.{lines_of as session_lines}
 use Rattle.script_model.specs.ScriptOutput.{SpellsAll, output_of}
-use Rattle.script_grammar.specs.LawsOfOutputs.{InputsHaveOneOutput, ScriptsHaveAnOutput}
-use Rattle.script_grammar.proofs.ScriptLemmas.{one_session_of}
+use Rattle.script_model.proofs.AnswerLaws.{one_session}
 use Rattle.script_model.proofs.EachLaws.{each_script_run}
+use Rattle.script_grammar.specs.LawsOfOutputs.{InputsHaveOneOutput, InputsHaveOneSession, ScriptsHaveAnOutput}
+use Rattle.script_grammar.proofs.ScriptLineLemmas.{one_line}
+
+-- ---- one session, and one output
+
+both_heads : (k l : ScriptLine) (ks ls : List ScriptLine) → k ≡ l → ks ≡ ls → k ∷ ks ≡ l ∷ ls
+both_heads k l ks ls e f = cc
+
+same_lines : (bytes : List (List ℕ)) (xs ys : Session) → SpellsAll bytes xs → SpellsAll bytes ys → session_lines xs ≡ session_lines ys
+same_lines [] [] [] h k = refl
+same_lines [] [] (y ∷ ys) h k = absurd k
+same_lines [] (x ∷ xs) ys h k = absurd h
+same_lines (b ∷ bs) [] ys h k = absurd h
+same_lines (b ∷ bs) (x ∷ xs) [] h k = absurd k
+same_lines (b ∷ bs) (x ∷ xs) (y ∷ ys) h k = both_heads x.0 y.0 (session_lines xs) (session_lines ys) (one_line b x.0 y.0 h.0 k.0) (same_lines bs xs ys h.1 k.1)
+
+pub one_session_of : InputsHaveOneSession
+one_session_of bytes xs ys lawful_xs lawful_ys h k = one_session xs ys lawful_xs lawful_ys (same_lines bytes xs ys h k)
 
 pub one_output : InputsHaveOneOutput
 one_output input one two h k = h.bytes ∙ ap output_of (one_session_of (lines_of input) h.session k.session h.lawful k.lawful h.lines k.lines) ∙ sym k.bytes
+
+-- ---- a session, and an output
 
 -- the lines that texts spell
 record AreRead (texts : List (List ℕ)) : Type 0 where

@@ -1,5 +1,5 @@
-//! Laws of lines. Each function's contract is a theorem over the definitions alone.
-ghost use Rattle.script_grammar.specs.LawsOfLines.{BytesSpellOneLine, RightAnswersHoldNoNewline};
+//! Laws of the lines of a script, those of events included, and of right answers. The check proves the contracts.
+ghost use Rattle.script_grammar.specs.LawsOfScriptLines.{BytesSpellOneLine, RightAnswersHoldNoNewline};
 
 /// Two different lines are never spelled by the same bytes.
 pub fn lines_are_told_apart()

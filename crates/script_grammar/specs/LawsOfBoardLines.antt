@@ -1,4 +1,4 @@
--- What holds of the two grammars.
+-- Laws of board lines and of the answers to them.
 use Rattle.std.specs.Prelude.{◌≡◌, ℕ, List}
 use Rattle.board_model.specs.declared.line.Line.{Line}
 use Rattle.board_model.specs.declared.answer.Answer.{Answer}
@@ -6,9 +6,9 @@ use Rattle.board_model.specs.LineGrammar.{IsLine, Spells, spell}
 use Rattle.board_model.specs.AnswerGrammar.{IsAnswer, answer_text}
 use Rattle.board_model.specs.Lines.{IsOneLine}
 
--- bytes spell at most one line
-abbrev pub BytesSpellOneLine : Type 0
-BytesSpellOneLine = (bytes : List ℕ) (k l : Line) → Spells bytes k → Spells bytes l → k ≡ l
+-- bytes spell at most one board line
+abbrev pub BytesSpellOneBoardLine : Type 0
+BytesSpellOneBoardLine = (bytes : List ℕ) (k l : Line) → Spells bytes k → Spells bytes l → k ≡ l
 
 -- lines are told apart by their bytes, however long these are
 abbrev pub FormsAreSpelledApart : Type 0

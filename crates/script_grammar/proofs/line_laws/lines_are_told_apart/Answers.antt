@@ -1,5 +1,0 @@
-use Rattle.script_grammar.proofs.LineLemmas.{one_line}
-use Rattle.script_grammar.proofs.line_laws.lines_are_told_apart.Goals as goal
-
-pub returns : goal.returns
-returns c = one_line

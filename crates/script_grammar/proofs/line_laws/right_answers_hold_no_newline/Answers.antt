@@ -1,5 +1,0 @@
-use Rattle.script_grammar.proofs.NewlineLemmas.{right_is_one_line}
-use Rattle.script_grammar.proofs.line_laws.right_answers_hold_no_newline.Goals as goal
-
-pub returns : goal.returns
-returns c = right_is_one_line

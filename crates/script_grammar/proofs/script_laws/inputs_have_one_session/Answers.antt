@@ -1,5 +1,0 @@
-use Rattle.script_grammar.proofs.ScriptLemmas.{one_session_of}
-use Rattle.script_grammar.proofs.script_laws.inputs_have_one_session.Goals as goal
-
-pub returns : goal.returns
-returns c = one_session_of
