@@ -91,7 +91,7 @@ impl Script<'_> {
         let mut note = Vec::new(alloc);
         push_told(self.note, &mut note)?;
         let mut source = MemorySource::new(script, piece, Vec::new(alloc));
-        let mut sink = MemorySink::new(alloc, output.len() + 1, piece, Vec::new(alloc))?;
+        let mut sink = MemorySink::new(alloc, output.len(), piece, Vec::new(alloc))?;
         let mut notes = MemorySink::new(alloc, 100, 0, Vec::new(alloc))?;
         let status = run_words(alloc, &Vec::new(alloc), &mut source, &mut sink, &mut notes);
         assert_eq!(rt; sink.held(), output.as_slice(), "output of {}", self.name);
