@@ -43,7 +43,7 @@ const USAGE: Run = Run {
     ..PLAIN
 };
 
-const RUNS: [Run; 11] = [
+const RUNS: [Run; 12] = [
     Run {
         failed_reads: &[1],
         status: 3,
@@ -55,6 +55,14 @@ const RUNS: [Run; 11] = [
         failed_writes: &[2],
         status: 4,
         output: "ok\ntable = ok 1\n",
+        note: "write fault\n",
+        ..PLAIN
+    },
+    // The sink has room for the front of an answer.
+    Run {
+        room: 5,
+        status: 4,
+        output: "ok\nta",
         note: "write fault\n",
         ..PLAIN
     },

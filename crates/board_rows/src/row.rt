@@ -1,10 +1,8 @@
 //! A worked script, and the ways in which it is run.
-ghost use Rattle.script_machine.specs.ScriptMachine.{StandsAfter};
 ghost use Rattle.script_model.specs.ScriptSession.{start};
 
 use board_cell::{PlainWords, SeatWords};
-use board_script::{LineError, Machine, MemorySink, MemorySource, run_words};
-use board_service::BoardWords;
+use board_script::{LineError, Machine, MemorySink, MemorySource, RunsLines, run_words};
 use std::alloc::{AllocError, Global};
 use std::process::Abort;
 use std::test::Fail;
@@ -79,8 +77,8 @@ pub(crate) struct Script<'a> {
 impl Script<'_> {
     /// Runs it line by line, over plain words and over words that threads may share, and then as the program does, in one piece and byte by byte.
     pub(crate) fn holds(&self, rt: &impl Abort, alloc: Global) -> Result<(), Fail> {
-        answers_each_line(rt, alloc, Machine::<PlainWords>::new(alloc), self)?;
-        answers_each_line(rt, alloc, Machine::<SeatWords>::new(alloc), self)?;
+        answers_each_line(rt, alloc, &mut Machine::<PlainWords>::new(alloc), self)?;
+        answers_each_line(rt, alloc, &mut Machine::<SeatWords>::new(alloc), self)?;
         self.runs_in_pieces(rt, alloc, 0)?;
         self.runs_in_pieces(rt, alloc, 1)
     }
@@ -91,7 +89,7 @@ impl Script<'_> {
         let mut note = Vec::new(alloc);
         push_told(self.note, &mut note)?;
         let mut source = MemorySource::new(script, piece, Vec::new(alloc));
-        let mut sink = MemorySink::new(alloc, output.len() + 1, piece, Vec::new(alloc))?;
+        let mut sink = MemorySink::new(alloc, output.len(), piece, Vec::new(alloc))?;
         let mut notes = MemorySink::new(alloc, 100, 0, Vec::new(alloc))?;
         let status = run_words(alloc, &Vec::new(alloc), &mut source, &mut sink, &mut notes);
         assert_eq!(rt; sink.held(), output.as_slice(), "output of {}", self.name);
@@ -130,13 +128,13 @@ pub(crate) fn bytes_of(
 }
 
 // Runs the lines one after another up to the first outside the grammar, and compares each answer.
-fn answers_each_line<C: BoardWords + Drop>(
+fn answers_each_line<M: RunsLines>(
     rt: &impl Abort,
     alloc: Global,
-    mut machine: Machine<C>,
+    machine: &mut M,
     script: &Script,
 ) -> Result<(), Fail>
-    requires { StandsAfter machine 0 start }
+    requires { M.stands machine.old 0 start }
 {
     let mut answer = Vec::new(alloc);
     for (n, (line, wanted)) in script.lines.iter().enumerate() {
