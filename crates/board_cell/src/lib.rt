@@ -25,10 +25,11 @@ mod update_call;
 mod words;
 
 pub use access::{Access, Progress};
+pub use board_cell_model::{a_get_hears_in_order, a_try_decides};
 pub use board_layout::CellShape;
 pub use cell_error::CellError;
 pub use get_call::GetCall;
-pub use laws::{a_get_hears_in_order, a_history_is_legal, a_try_decides};
+pub use laws::a_history_is_legal;
 pub use one_access::{FreshCall, PublishCall, PutCall};
 pub use plain_words::PlainWords;
 pub use runs::{run_fresh, run_get, run_publish, run_put, run_update};

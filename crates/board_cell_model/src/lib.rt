@@ -5,5 +5,7 @@
 #![tactic(auto)]
 
 mod access;
+mod laws;
 
 pub use access::Access;
+pub use laws::{a_get_hears_in_order, a_try_decides, copies_lie_apart, the_counter_is_raised_last};

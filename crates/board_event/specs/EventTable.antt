@@ -22,8 +22,8 @@ pub record EventTable : Type 0 where
   pub queues : List (List ℕ × ℕ)
 
 -- no events
-abbrev pub no_events : EventTable
-no_events = record { drawn = 0; events = []; bits = []; queues = [] }
+abbrev pub empty_table : EventTable
+empty_table = record { drawn = 0; events = []; bits = []; queues = [] }
 
 -- the code of a table
 abbrev pub table_code : Coded EventTable

@@ -205,6 +205,7 @@ impl EventMemory {
                     EventAnswer::Done
                 }
                 EventAccess::Swap(word) => EventAnswer::Word(bits.swap(word)),
+                // `CanPerform`: bits take neither.
                 EventAccess::Push(_) | EventAccess::Pop => unreachable!(),
             },
             Pending::Queue(queue) => match access {
@@ -218,6 +219,7 @@ impl EventMemory {
                     Some(id) => EventAnswer::Id(id),
                     None => EventAnswer::Empty,
                 },
+                // `CanPerform`: a queue takes no other.
                 _ => unreachable!(),
             },
         }

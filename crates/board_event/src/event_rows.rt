@@ -5,7 +5,7 @@ ghost use Rattle.std.specs.BTreeMap.{insert_entry};
 ghost use Rattle.board_store.specs.Table.{at, putting, without};
 ghost use Rattle.board_event_model.specs.declared.kind.EventKind.{EventKind as Kind};
 ghost use Rattle.board_event_model.specs.EventMemory.{CanPerform, Event, IsRight, after};
-ghost use Rattle.board_event.specs.EventTable.{AreLeft, LosesName, changed, event_at, freed, listened, names_of, no_events, named_with, settled, with_gone, with_names, with_notifier, without_event, without_listener, without_notifier};
+ghost use Rattle.board_event.specs.EventTable.{AreLeft, LosesName, changed, event_at, freed, listened, names_of, empty_table, named_with, settled, with_gone, with_names, with_notifier, without_event, without_listener, without_notifier};
 
 use crate::event_memory::EventMemory;
 use board_event_model::{EventAccess, EventAnswer, EventKind};
@@ -38,7 +38,7 @@ impl Model for EventRows {
 impl EventRows {
     /// No events. Takes no memory.
     pub(crate) fn new(alloc: Global) -> EventRows
-        ensures { result ≡ no_events }
+        ensures { result ≡ empty_table }
     {
         EventRows {
             drawn: 0,
@@ -71,6 +71,18 @@ impl EventRows {
         ensures { option_copied result ≡ event_at self.now number }
     {
         self.events.get(&number)
+    }
+
+    /// The event under a number that has one.
+    pub(crate) fn standing(&self, number: u64) -> &EventMemory
+        requires { IsSome (event_at self.now number) }
+        ensures { event_at self.now number ≡ Some result.now }
+    {
+        match self.event(number) {
+            Some(memory) => memory,
+            // The event stands.
+            None => unreachable!(),
+        }
     }
 
     /// Makes an event with its listener, unless memory is refused.
@@ -133,6 +145,7 @@ impl EventRows {
         ensures { self.new ≡ changed self.old event with_notifier }
     {
         let Some(memory) = self.events.get_mut(&event) else {
+            // The event stands.
             unreachable!()
         };
         memory.add_notifier()
@@ -144,6 +157,7 @@ impl EventRows {
         ensures { self.new ≡ changed self.old event without_listener }
     {
         let Some(memory) = self.events.get_mut(&event) else {
+            // The event stands.
             unreachable!()
         };
         memory.release_listener()
@@ -155,6 +169,7 @@ impl EventRows {
         ensures { self.new ≡ changed self.old event without_notifier }
     {
         let Some(memory) = self.events.get_mut(&event) else {
+            // The event stands.
             unreachable!()
         };
         memory.release_notifier()
@@ -167,6 +182,7 @@ impl EventRows {
         ensures after { self.new ≡ changed self.old event (λ e. after e access) }
     {
         let Some(memory) = self.events.get_mut(&event) else {
+            // The event stands.
             unreachable!()
         };
         memory.perform(access)
@@ -178,6 +194,7 @@ impl EventRows {
         ensures { self.new ≡ changed self.old event with_gone }
     {
         let Some(memory) = self.events.get_mut(&event) else {
+            // The event stands.
             unreachable!()
         };
         memory.mark_gone()
@@ -190,10 +207,7 @@ impl EventRows {
         ensures left { AreLeft self.old self.new }
         ensures gone { IsSomeAnd (event_at self.old event) (λ e. LosesName e self.new event) }
     {
-        let Some(memory) = self.events.get(&event) else {
-            unreachable!()
-        };
-        let is_held = memory.is_held();
+        let is_held = self.standing(event).is_held();
         self.settle_name(event);
         if !is_held {
             self.drop_event(event);
@@ -207,9 +221,7 @@ impl EventRows {
         ensures left { AreLeft self.old self.new }
         ensures gone { IsSomeAnd (event_at self.old event) (λ e. LosesName e self.new event) }
     {
-        let Some(memory) = self.events.get(&event) else {
-            unreachable!()
-        };
+        let memory = self.standing(event);
         let (kind, name) = (memory.kind(), *memory.name());
         if !memory.holds_name() {
             self.free_name(kind, &name, event);

@@ -3,7 +3,7 @@ ghost use Rattle.std.specs.Prelude.{◌≡◌, ◌<◌, ◌^◌, ◌↔◌, ℕ,
 ghost use Rattle.board_layout.specs.Answer.{Answers, Refuses};
 ghost use Rattle.board_store.specs.Table.{at, name_at, without};
 ghost use Rattle.board_event_model.specs.EventMemory.{CanPerform, Event, IsRight, after};
-ghost use Rattle.board_event.specs.EventTable.{HoldsName, IsEventTable, IsNotifierAnswer, changed, event_at, listen_answer, listened, names_of, no_events, notifier_of, settled, with_gone, with_names, with_notifier, without_listener, without_notifier};
+ghost use Rattle.board_event.specs.EventTable.{HoldsName, IsEventTable, IsNotifierAnswer, changed, event_at, listen_answer, listened, names_of, empty_table, notifier_of, settled, with_gone, with_names, with_notifier, without_listener, without_notifier};
 
 use crate::event_rows::EventRows;
 use board_event_model::{EventAccess, EventAnswer, EventKind};
@@ -38,7 +38,7 @@ impl Model for Events {
 impl Events {
     /// No events. Takes no memory.
     pub fn new(alloc: Global) -> Events
-        ensures { result ≡ no_events }
+        ensures { result ≡ empty_table }
     {
         Events {
             rows: EventRows::new(alloc),
@@ -127,9 +127,7 @@ impl Events {
         requires { IsSome (event_at self.now number) }
         ensures { IsSomeAnd (event_at self.now number) (λ e. result ≡ notifier_of number e) }
     {
-        let Some(memory) = self.rows.event(number) else {
-            unreachable!()
-        };
+        let memory = self.rows.standing(number);
         if !memory.has_listener() {
             return Err(NotifierCreateError::DoesNotExist);
         }
@@ -192,10 +190,7 @@ impl Events {
         requires { IsSome (event_at self.now event) }
         ensures { IsSomeAnd (event_at self.now event) (λ e. result ≡ e.kind) }
     {
-        let Some(memory) = self.rows.event(event) else {
-            unreachable!()
-        };
-        memory.kind()
+        self.rows.standing(event).kind()
     }
 
     /// The full name with which an event was made.
@@ -203,10 +198,7 @@ impl Events {
         requires { IsSome (event_at self.now event) }
         ensures { IsSomeAnd (event_at self.now event) (λ e. result.now ≡ e.name) }
     {
-        let Some(memory) = self.rows.event(event) else {
-            unreachable!()
-        };
-        memory.name()
+        self.rows.standing(event).name()
     }
 
     /// The greatest id that was handed to `listen`.
@@ -214,10 +206,7 @@ impl Events {
         requires { IsSome (event_at self.now event) }
         ensures { IsSomeAnd (event_at self.now event) (λ e. result ≡ e.max) }
     {
-        let Some(memory) = self.rows.event(event) else {
-            unreachable!()
-        };
-        memory.max()
+        self.rows.standing(event).max()
     }
 
     /// Makes an access to an event.

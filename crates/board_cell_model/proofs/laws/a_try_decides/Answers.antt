@@ -1,7 +1,7 @@
 use Rattle.std.proofs.Common.{ℕ, List, [], ◌∙◌, ap, ◌≤◌, ◌≡◌, length, arith}
 use Rattle.board_cell_model.specs.OwedAccesses.{reading_from}
-use Rattle.board_cell.proofs.Hearing.{try_hears, try_closes, hear-last, hear-again}
-use Rattle.board_cell.proofs.laws.a_try_decides.Goals as goal
+use Rattle.board_cell_model.proofs.Hearing.{try_hears, try_closes, hear-last, hear-again}
+use Rattle.board_cell_model.proofs.laws.a_try_decides.Goals as goal
 
 at_most : (w : ℕ) (words : List ℕ) → length words ≡ w → length words ≤ w
 at_most w words all = omega arith
