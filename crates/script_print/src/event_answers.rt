@@ -6,8 +6,8 @@ ghost use Rattle.board_model.specs.AnswerGrammar.{number_text};
 ghost use Rattle.script_model.specs.ScriptAnswers.{event_access_text, event_reply_text, event_text, event_told_text, expired, found_text, of_ask, of_event, popped_text, script_answer_line};
 
 use crate::answers::{push_number, push_numbers};
-use crate::names::{event_kind_name, notify_error_name};
-use crate::replies::push_both;
+use crate::names::{event_kind_name, notify_error_path};
+use crate::replies::push_counted;
 use board_event_model::{EventAccess, EventAnswer, EventKind};
 use script_model::EventReply;
 use std::alloc::AllocError;
@@ -114,10 +114,7 @@ fn push_event_reply(reply: &EventReply, out: &mut Vec<u8>) -> Result<(), AllocEr
 {
     match reply {
         EventReply::Done => out.extend_from_slice(b"ok"),
-        EventReply::Id(id) => {
-            out.extend_from_slice(b"id")?;
-            push_number(*id, out)
-        }
+        EventReply::Id(id) => push_counted(b"id", *id, out),
         EventReply::Ids(ids) => {
             out.extend_from_slice(b"ids")?;
             push_numbers(ids.as_slice(), out)
@@ -125,11 +122,7 @@ fn push_event_reply(reply: &EventReply, out: &mut Vec<u8>) -> Result<(), AllocEr
         EventReply::Nothing => out.extend_from_slice(b"none"),
         EventReply::AlreadyExists => out.extend_from_slice(b"ListenerCreateError::AlreadyExists"),
         EventReply::DoesNotExist => out.extend_from_slice(b"NotifierCreateError::DoesNotExist"),
-        EventReply::NotNotified(error) => push_both(
-            b"NotifierNotifyError::",
-            notify_error_name(*error),
-            out,
-        ),
+        EventReply::NotNotified(error) => out.extend_from_slice(notify_error_path(*error)),
     }
 }
 

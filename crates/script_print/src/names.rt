@@ -1,5 +1,5 @@
 //! The lines of refusals, and the words of types and errors.
-ghost use Rattle.std.specs.Prelude.{◌≡◌};
+ghost use Rattle.std.specs.Prelude.{◌≡◌, ◌++◌, codes};
 ghost use Rattle.board_model.specs.declared.answer.Answer.TheVariants as answer;
 ghost use Rattle.board_model.specs.AnswerGrammar.{answer_line, create_error_text, entry_error_text, entry_mut_error_text, open_error_text, reader_error_text, writer_error_text};
 ghost use Rattle.board_model.specs.LineGrammar.{key_type_text};
@@ -40,96 +40,6 @@ pub(crate) fn key_type_name(key_type: KeyType) -> &'static [u8]
     }
 }
 
-pub(crate) fn create_error_name(error: BlackboardCreateError) -> &'static [u8]
-    ensures { result.now ≡ create_error_text error }
-{
-    match error {
-        BlackboardCreateError::AlreadyExists => b"AlreadyExists",
-        BlackboardCreateError::IsBeingCreatedByAnotherInstance =>
-            b"IsBeingCreatedByAnotherInstance",
-        BlackboardCreateError::InternalFailure => b"InternalFailure",
-        BlackboardCreateError::InsufficientPermissions => b"InsufficientPermissions",
-        BlackboardCreateError::ServiceInCorruptedState => b"ServiceInCorruptedState",
-        BlackboardCreateError::HangsInCreation => b"HangsInCreation",
-        BlackboardCreateError::NoEntriesProvided => b"NoEntriesProvided",
-        BlackboardCreateError::NumbersSpent => b"NumbersSpent",
-        BlackboardCreateError::OutOfMemory => b"OutOfMemory",
-    }
-}
-
-pub(crate) fn open_error_name(error: BlackboardOpenError) -> &'static [u8]
-    ensures { result.now ≡ open_error_text error }
-{
-    match error {
-        BlackboardOpenError::DoesNotExist => b"DoesNotExist",
-        BlackboardOpenError::ServiceInCorruptedState => b"ServiceInCorruptedState",
-        BlackboardOpenError::IncompatibleKeys => b"IncompatibleKeys",
-        BlackboardOpenError::InternalFailure => b"InternalFailure",
-        BlackboardOpenError::IncompatibleAttributes => b"IncompatibleAttributes",
-        BlackboardOpenError::IncompatibleMessagingPattern => b"IncompatibleMessagingPattern",
-        BlackboardOpenError::DoesNotSupportRequestedAmountOfReaders =>
-            b"DoesNotSupportRequestedAmountOfReaders",
-        BlackboardOpenError::InsufficientPermissions => b"InsufficientPermissions",
-        BlackboardOpenError::HangsInCreation => b"HangsInCreation",
-        BlackboardOpenError::IsMarkedForDestruction => b"IsMarkedForDestruction",
-        BlackboardOpenError::ExceedsMaxNumberOfNodes => b"ExceedsMaxNumberOfNodes",
-        BlackboardOpenError::DoesNotSupportRequestedAmountOfNodes =>
-            b"DoesNotSupportRequestedAmountOfNodes",
-        BlackboardOpenError::NumbersSpent => b"NumbersSpent",
-        BlackboardOpenError::OutOfMemory => b"OutOfMemory",
-    }
-}
-
-pub(crate) fn reader_error_name(error: ReaderCreateError) -> &'static [u8]
-    ensures { result.now ≡ reader_error_text error }
-{
-    match error {
-        ReaderCreateError::ExceedsMaxSupportedReaders => b"ExceedsMaxSupportedReaders",
-        ReaderCreateError::FailedToDeployThreadsafetyPolicy => b"FailedToDeployThreadsafetyPolicy",
-        ReaderCreateError::UnableToCreatePortTag => b"UnableToCreatePortTag",
-        ReaderCreateError::ThingUnknown(_) => b"ThingUnknown",
-        ReaderCreateError::NumbersSpent => b"NumbersSpent",
-        ReaderCreateError::OutOfMemory => b"OutOfMemory",
-    }
-}
-
-pub(crate) fn writer_error_name(error: WriterCreateError) -> &'static [u8]
-    ensures { result.now ≡ writer_error_text error }
-{
-    match error {
-        WriterCreateError::ExceedsMaxSupportedWriters => b"ExceedsMaxSupportedWriters",
-        WriterCreateError::InternalFailure => b"InternalFailure",
-        WriterCreateError::FailedToDeployThreadsafetyPolicy => b"FailedToDeployThreadsafetyPolicy",
-        WriterCreateError::UnableToCreatePortTag => b"UnableToCreatePortTag",
-        WriterCreateError::ThingUnknown(_) => b"ThingUnknown",
-        WriterCreateError::NumbersSpent => b"NumbersSpent",
-        WriterCreateError::OutOfMemory => b"OutOfMemory",
-    }
-}
-
-pub(crate) fn entry_error_name(error: EntryHandleError) -> &'static [u8]
-    ensures { result.now ≡ entry_error_text error }
-{
-    match error {
-        EntryHandleError::EntryDoesNotExist => b"EntryDoesNotExist",
-        EntryHandleError::ThingUnknown(_) => b"ThingUnknown",
-        EntryHandleError::NumbersSpent => b"NumbersSpent",
-        EntryHandleError::OutOfMemory => b"OutOfMemory",
-    }
-}
-
-pub(crate) fn entry_mut_error_name(error: EntryHandleMutError) -> &'static [u8]
-    ensures { result.now ≡ entry_mut_error_text error }
-{
-    match error {
-        EntryHandleMutError::EntryDoesNotExist => b"EntryDoesNotExist",
-        EntryHandleMutError::HandleAlreadyExists => b"HandleAlreadyExists",
-        EntryHandleMutError::ThingUnknown(_) => b"ThingUnknown",
-        EntryHandleMutError::NumbersSpent => b"NumbersSpent",
-        EntryHandleMutError::OutOfMemory => b"OutOfMemory",
-    }
-}
-
 pub(crate) fn event_kind_name(kind: EventKind) -> &'static [u8]
     ensures { result.now ≡ kind_text kind }
 {
@@ -139,14 +49,103 @@ pub(crate) fn event_kind_name(kind: EventKind) -> &'static [u8]
     }
 }
 
-pub(crate) fn notify_error_name(error: NotifierNotifyError) -> &'static [u8]
-    ensures { result.now ≡ notify_error_text error }
+// The path of an error, as `EntryHandleError::EntryDoesNotExist`.
+macro_rules! error_path {
+    ($error:expr, $enum:ident { $($case:ident $(($field:tt))?),* $(,)? }) => {
+        match $error {
+            $($enum::$case $(($field))? => concat!(stringify!($enum), "::", stringify!($case)).as_bytes(),)*
+        }
+    };
+}
+
+pub(crate) fn create_error_path(error: BlackboardCreateError) -> &'static [u8]
+    ensures { result.now ≡ codes "BlackboardCreateError::" ++ create_error_text error }
 {
-    match error {
-        NotifierNotifyError::Interrupt => b"Interrupt",
-        NotifierNotifyError::FailedToDeliverSignal => b"FailedToDeliverSignal",
-        NotifierNotifyError::TriggerIdOutOfBounds => b"TriggerIdOutOfBounds",
-        NotifierNotifyError::Disconnected => b"Disconnected",
-        NotifierNotifyError::InternalFailure => b"InternalFailure",
-    }
+    error_path!(
+        error,
+        BlackboardCreateError {
+            AlreadyExists,
+            IsBeingCreatedByAnotherInstance,
+            InternalFailure,
+            InsufficientPermissions,
+            ServiceInCorruptedState,
+            HangsInCreation,
+            NoEntriesProvided,
+            NumbersSpent,
+            OutOfMemory,
+        }
+    )
+}
+
+pub(crate) fn open_error_path(error: BlackboardOpenError) -> &'static [u8]
+    ensures { result.now ≡ codes "BlackboardOpenError::" ++ open_error_text error }
+{
+    error_path!(
+        error,
+        BlackboardOpenError {
+            DoesNotExist,
+            ServiceInCorruptedState,
+            IncompatibleKeys,
+            InternalFailure,
+            IncompatibleAttributes,
+            IncompatibleMessagingPattern,
+            DoesNotSupportRequestedAmountOfReaders,
+            InsufficientPermissions,
+            HangsInCreation,
+            IsMarkedForDestruction,
+            ExceedsMaxNumberOfNodes,
+            DoesNotSupportRequestedAmountOfNodes,
+            NumbersSpent,
+            OutOfMemory,
+        }
+    )
+}
+
+pub(crate) fn reader_error_path(error: ReaderCreateError) -> &'static [u8]
+    ensures { result.now ≡ codes "ReaderCreateError::" ++ reader_error_text error }
+{
+    error_path!(error, ReaderCreateError {
+        ExceedsMaxSupportedReaders, FailedToDeployThreadsafetyPolicy, UnableToCreatePortTag,
+        ThingUnknown(_), NumbersSpent, OutOfMemory,
+    })
+}
+
+pub(crate) fn writer_error_path(error: WriterCreateError) -> &'static [u8]
+    ensures { result.now ≡ codes "WriterCreateError::" ++ writer_error_text error }
+{
+    error_path!(error, WriterCreateError {
+        ExceedsMaxSupportedWriters, InternalFailure, FailedToDeployThreadsafetyPolicy,
+        UnableToCreatePortTag, ThingUnknown(_), NumbersSpent, OutOfMemory,
+    })
+}
+
+pub(crate) fn entry_error_path(error: EntryHandleError) -> &'static [u8]
+    ensures { result.now ≡ codes "EntryHandleError::" ++ entry_error_text error }
+{
+    error_path!(error, EntryHandleError {
+        EntryDoesNotExist, ThingUnknown(_), NumbersSpent, OutOfMemory,
+    })
+}
+
+pub(crate) fn entry_mut_error_path(error: EntryHandleMutError) -> &'static [u8]
+    ensures { result.now ≡ codes "EntryHandleMutError::" ++ entry_mut_error_text error }
+{
+    error_path!(error, EntryHandleMutError {
+        EntryDoesNotExist, HandleAlreadyExists, ThingUnknown(_), NumbersSpent, OutOfMemory,
+    })
+}
+
+pub(crate) fn notify_error_path(error: NotifierNotifyError) -> &'static [u8]
+    ensures { result.now ≡ codes "NotifierNotifyError::" ++ notify_error_text error }
+{
+    error_path!(
+        error,
+        NotifierNotifyError {
+            Interrupt,
+            FailedToDeliverSignal,
+            TriggerIdOutOfBounds,
+            Disconnected,
+            InternalFailure,
+        }
+    )
 }

@@ -1,14 +1,14 @@
 //! The bytes of replies, which are added to a buffer of the caller's.
 ghost use Rattle.std.specs.Prelude.{◌≡◌, ◌++◌, ◌∷◌, ◌==◌, OnOk, decimal, map, slice_index};
 ghost use Rattle.std.specs.List.{flat_map, join_with_byte};
-ghost use Rattle.board_model.specs.AnswerGrammar.{info_text, key_item_text, name_item_text, reply_text, words_text};
+ghost use Rattle.board_model.specs.AnswerGrammar.{info_text, key_item_text, name_item_text, number_text, reply_text, words_text};
 ghost use Rattle.board_model.specs.LineGrammar.{key_text};
-ghost use Rattle.script_print.specs.Texts.{comma_text, counts_text, limits_text, taken_text};
+ghost use Rattle.script_print.specs.Texts.{comma_text, counts_text};
 
 use crate::answers::{push_digits, push_number};
 use crate::names::{
-    create_error_name, entry_error_name, entry_mut_error_name, key_type_name, open_error_name,
-    reader_error_name, writer_error_name,
+    create_error_path, entry_error_path, entry_mut_error_path, key_type_name, open_error_path,
+    reader_error_path, writer_error_path,
 };
 use board_model::{Info, Key, Name, Reply, ValueType};
 use std::alloc::AllocError;
@@ -106,6 +106,14 @@ fn push_names(names: &[Name], out: &mut Vec<u8>) -> Result<(), AllocError>
     Ok(())
 }
 
+// Adds a word, and a number behind a space.
+pub(crate) fn push_counted(word: &[u8], n: u64, out: &mut Vec<u8>) -> Result<(), AllocError>
+    ensures { OnOk result (out.new.items ≡ out.old.items ++ (word.now ++ number_text n)) }
+{
+    out.extend_from_slice(word)?;
+    push_number(n, out)
+}
+
 // Adds a text and another.
 pub(crate) fn push_both(first: &[u8], second: &[u8], out: &mut Vec<u8>) -> Result<(), AllocError>
     ensures { OnOk result (out.new.items ≡ out.old.items ++ (first.now ++ second.now)) }
@@ -114,36 +122,15 @@ pub(crate) fn push_both(first: &[u8], second: &[u8], out: &mut Vec<u8>) -> Resul
     out.extend_from_slice(second)
 }
 
-// Adds what is taken of a board.
-fn push_taken(info: &Info, out: &mut Vec<u8>) -> Result<(), AllocError>
-    ensures { OnOk result (out.new.items ≡ out.old.items ++ taken_text info.now) }
-{
-    out.extend_from_slice(b" taken")?;
-    push_number(info.readers, out)?;
-    push_number(info.writers, out)?;
-    push_number(info.nodes, out)
-}
-
 // Adds how much a board has, and what is taken of it.
 fn push_counts(info: &Info, out: &mut Vec<u8>) -> Result<(), AllocError>
     ensures { OnOk result (out.new.items ≡ out.old.items ++ counts_text info.now) }
 {
-    out.extend_from_slice(b" entries")?;
-    push_number(info.entries, out)?;
-    out.extend_from_slice(b" attrs")?;
-    push_number(info.attributes, out)?;
-    push_taken(info, out)
-}
-
-// Adds a board's limits, and what follows them.
-fn push_limits(info: &Info, out: &mut Vec<u8>) -> Result<(), AllocError>
-    ensures { OnOk result (out.new.items ≡ out.old.items ++ limits_text info.now) }
-{
-    out.extend_from_slice(b" readers")?;
-    push_number(info.max_readers, out)?;
-    out.extend_from_slice(b" nodes")?;
-    push_number(info.max_nodes, out)?;
-    push_counts(info, out)
+    push_counted(b" entries", info.entries, out)?;
+    push_counted(b" attrs", info.attributes, out)?;
+    push_counted(b" taken", info.readers, out)?;
+    push_number(info.writers, out)?;
+    push_number(info.nodes, out)
 }
 
 fn push_info(info: &Info, out: &mut Vec<u8>) -> Result<(), AllocError>
@@ -151,7 +138,9 @@ fn push_info(info: &Info, out: &mut Vec<u8>) -> Result<(), AllocError>
 {
     push_both(b"info ", info.name.as_text().as_bytes(), out)?;
     push_both(b" ", key_type_name(info.key_type), out)?;
-    push_limits(info, out)
+    push_counted(b" readers", info.max_readers, out)?;
+    push_counted(b" nodes", info.max_nodes, out)?;
+    push_counts(info, out)
 }
 
 // Adds what a finished call is told.
@@ -160,18 +149,14 @@ pub(crate) fn push_reply(reply: &Reply, out: &mut Vec<u8>) -> Result<(), AllocEr
 {
     match reply {
         Reply::Done => out.extend_from_slice(b"ok"),
-        Reply::Number(n) => {
-            out.extend_from_slice(b"ok")?;
-            push_number(*n, out)
-        }
+        Reply::Number(n) => push_counted(b"ok", *n, out),
         Reply::Got {
             value_type,
             words,
             generation,
         } => {
             push_value(*value_type, words.as_slice(), out)?;
-            out.extend_from_slice(b" gen")?;
-            push_number(*generation, out)
+            push_counted(b" gen", *generation, out)
         }
         Reply::Fresh(true) => out.extend_from_slice(b"true"),
         Reply::Fresh(false) => out.extend_from_slice(b"false"),
@@ -184,39 +169,13 @@ pub(crate) fn push_reply(reply: &Reply, out: &mut Vec<u8>) -> Result<(), AllocEr
             push_names(names.as_slice(), out)
         }
         Reply::Info(info) => push_info(info, out),
-        Reply::Id(n) => {
-            out.extend_from_slice(b"id")?;
-            push_number(*n, out)
-        }
-        Reply::Generation(n) => {
-            out.extend_from_slice(b"gen")?;
-            push_number(*n, out)
-        }
-        Reply::CreateError(error) => push_both(
-            b"BlackboardCreateError::",
-            create_error_name(*error),
-            out,
-        ),
-        Reply::OpenError(error) => push_both(
-            b"BlackboardOpenError::",
-            open_error_name(*error),
-            out,
-        ),
-        Reply::ReaderError(error) => push_both(
-            b"ReaderCreateError::",
-            reader_error_name(*error),
-            out,
-        ),
-        Reply::WriterError(error) => push_both(
-            b"WriterCreateError::",
-            writer_error_name(*error),
-            out,
-        ),
-        Reply::EntryError(error) => push_both(b"EntryHandleError::", entry_error_name(*error), out),
-        Reply::EntryMutError(error) => push_both(
-            b"EntryHandleMutError::",
-            entry_mut_error_name(*error),
-            out,
-        ),
+        Reply::Id(n) => push_counted(b"id", *n, out),
+        Reply::Generation(n) => push_counted(b"gen", *n, out),
+        Reply::CreateError(error) => out.extend_from_slice(create_error_path(*error)),
+        Reply::OpenError(error) => out.extend_from_slice(open_error_path(*error)),
+        Reply::ReaderError(error) => out.extend_from_slice(reader_error_path(*error)),
+        Reply::WriterError(error) => out.extend_from_slice(writer_error_path(*error)),
+        Reply::EntryError(error) => out.extend_from_slice(entry_error_path(*error)),
+        Reply::EntryMutError(error) => out.extend_from_slice(entry_mut_error_path(*error)),
     }
 }
