@@ -1,10 +1,10 @@
-//! Standard input, output and error as source and sinks. They tell no bytes.
+//! Standard input, output and error as source and sinks. What bytes they have is not known to a contract.
 ghost use Rattle.std.specs.Prelude.{None};
 ghost use Rattle.board_model.specs.Lines.{HasCause};
 ghost use Rattle.script_loop.specs.Streams.{Writes};
 
 use board_script::{Failed, Sink, Source};
-use std::io::{Read, Stderr, Stdin, Stdout, Write};
+use std::io::{Read, Stdin, Write};
 
 /// Standard input.
 #[derive(Drop)]
@@ -53,50 +53,26 @@ fn write_front<W: Write>(out: &mut W, faults: &mut u64, bytes: &[u8]) -> Result<
     Err(Failed)
 }
 
-/// Standard output.
+/// Standard output, or standard error.
 #[derive(Drop)]
-pub struct StdoutSink {
-    stdout: Stdout,
+pub struct OutSink<W> {
+    out: W,
     faults: u64,
 }
 
-impl StdoutSink {
+impl<W: Write + Drop> OutSink<W> {
     /// The sink that writes to it.
-    pub fn new(stdout: Stdout) -> StdoutSink {
-        StdoutSink { stdout, faults: 0 }
+    pub fn new(out: W) -> OutSink<W> {
+        OutSink { out, faults: 0 }
     }
 }
 
-impl Sink for StdoutSink {
+impl<W: Write + Drop> Sink for OutSink<W> {
     ghost held = { λ s. None };
 
     ghost faults = { λ s. s.faults };
 
     fn write(&mut self, bytes: &[u8]) -> Result<usize, Failed> {
-        write_front(&mut self.stdout, &mut self.faults, bytes)
-    }
-}
-
-/// Standard error.
-#[derive(Drop)]
-pub struct StderrSink {
-    stderr: Stderr,
-    faults: u64,
-}
-
-impl StderrSink {
-    /// The sink that writes to it.
-    pub fn new(stderr: Stderr) -> StderrSink {
-        StderrSink { stderr, faults: 0 }
-    }
-}
-
-impl Sink for StderrSink {
-    ghost held = { λ s. None };
-
-    ghost faults = { λ s. s.faults };
-
-    fn write(&mut self, bytes: &[u8]) -> Result<usize, Failed> {
-        write_front(&mut self.stderr, &mut self.faults, bytes)
+        write_front(&mut self.out, &mut self.faults, bytes)
     }
 }

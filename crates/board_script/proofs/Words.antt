@@ -1,15 +1,15 @@
 -- The words of the command line.
 use Rattle.std.proofs.Common.{◌≡◌, ℕ, ◌<◌, ◌≤◌, Bool, true, false, List, [], ◌∷◌, length, map, get_or, arith, refl, sym, ap, subst, ◌∙◌, Option, Some, None, inl, inr}
-use Rattle.std.specs.Prelude.{codes, decimal, ◌⊎◌, not, IfNone, OnOk, IfErr, IsErrOf, Result, Ok, Err}
+use Rattle.std.specs.Prelude.{codes, decimal, ◌⊎◌, not, IfNone, OnOk, Result, Ok, Err}
 use Rattle.std.specs.Str.{bytes_eq}
 use Rattle.std.proofs.lemmas.Slice.Eq.{bytes_eq-Decides}
-use Rattle.board_model.specs.Lines.{Rose}
 use Rattle.script_grammar.specs.TokenReading.{read_number}
 use Rattle.script_grammar.proofs.NumeralLemmas.{number_again, number_takes}
 use Rattle.script_loop.specs.declared.error.ScriptError.{ScriptError}
 use Rattle.script_loop.specs.declared.error.ScriptError.TheVariants as error
-use Rattle.script_generator.specs.Summary.{IsSummed, LeavesOff}
-use Rattle.board_script.specs.Top.{IsGen, IsGenerated, IsNoted, IsSummedUp, note_of, status_of}
+use Rattle.script_loop.specs.Runs.{Stream}
+use Rattle.script_generator.specs.Summary.{IsGenerated, IsSummed}
+use Rattle.board_script.specs.Top.{IsGen, IsNoted, IsSummedUp, note_of, status_of}
 
 pub same_text : (a b : List ℕ) → false ≡ not (bytes_eq a b) → a ≡ b
 same_text a b e = at (bytes_eq a b) refl e
@@ -70,24 +70,16 @@ no_other words a b k e r (inr l) n h = let i = read_is words a b k e r n h in ab
 
 -- ---- runs
 
-pub summed_up : (answer : Result (Unit {0}) ScriptError) (k n : ℕ) (before held : Option (List ℕ)) (write_faults write_now : ℕ) (noted_before noted : Option (List ℕ)) (note_faults note_now : ℕ) (status : ℕ) → k ≡ n
-    → OnOk answer (IsSummed k before held) → IfErr answer (λ e. LeavesOff e k before held) → (IsErrOf answer error.WriteFault → Rose write_faults write_now)
-    → status ≡ status_of answer → IsNoted noted_before noted note_faults note_now (note_of answer)
-    → IsSummedUp status n before held write_faults write_now noted_before noted note_faults note_now
-summed_up answer k n before held write_faults write_now noted_before noted note_faults note_now status same ok err write is note = record {
-  answer = answer;
-  run = subst (λ (j : ℕ). IsGenerated answer j before held write_faults write_now) same (record { ok = ok; err = err; write = write });
-  is = is;
-  note = note;
-}
+pub summed_up : (answer : Result (Unit {0}) ScriptError) (k n status : ℕ) (sink notes : Stream) → k ≡ n → IsGenerated k sink answer → status ≡ status_of answer → IsNoted notes (note_of answer) → IsSummedUp status n sink notes
+summed_up answer k n status sink notes same run is note = record { answer = answer; run = subst (λ (j : ℕ). IsGenerated j sink answer) same run; is = is; note = note }
 
-summed_at : (answer : Result (Unit {0}) ScriptError) (n : ℕ) (before held : Option (List ℕ)) (status : ℕ) → OnOk answer (IsSummed n before held) → status ≡ status_of answer → status ≡ 0 → IsSummed n before held
-summed_at (Ok x) n before held status ok is zero = ok
-summed_at (Err error.ReadFault) n before held status ok is zero = absurd cc
-summed_at (Err error.WriteFault) n before held status ok is zero = absurd cc
-summed_at (Err (error.BadLine k)) n before held status ok is zero = absurd cc
-summed_at (Err error.TooLong) n before held status ok is zero = absurd cc
-summed_at (Err error.OutOfMemory) n before held status ok is zero = absurd cc
+summed_at : (answer : Result (Unit {0}) ScriptError) (n status : ℕ) (sink : Stream) → OnOk answer (IsSummed n sink) → status ≡ status_of answer → status ≡ 0 → IsSummed n sink
+summed_at (Ok x) n status sink ok is zero = ok
+summed_at (Err error.ReadFault) n status sink ok is zero = absurd cc
+summed_at (Err error.WriteFault) n status sink ok is zero = absurd cc
+summed_at (Err (error.BadLine k)) n status sink ok is zero = absurd cc
+summed_at (Err error.TooLong) n status sink ok is zero = absurd cc
+summed_at (Err error.OutOfMemory) n status sink ok is zero = absurd cc
 
-pub summed : (answer : Result (Unit {0}) ScriptError) (k n : ℕ) (before held : Option (List ℕ)) (status : ℕ) → k ≡ n → OnOk answer (IsSummed k before held) → status ≡ status_of answer → status ≡ 0 → IsSummed n before held
-summed answer k n before held status same ok is zero = subst (λ (j : ℕ). IsSummed j before held) same (summed_at answer k before held status ok is zero)
+pub summed : (answer : Result (Unit {0}) ScriptError) (k n status : ℕ) (sink : Stream) → k ≡ n → IsGenerated k sink answer → status ≡ status_of answer → status ≡ 0 → IsSummed n sink
+summed answer k n status sink same run is zero = subst (λ (j : ℕ). IsSummed j sink) same (summed_at answer k status sink run.ok is zero)

@@ -1,11 +1,9 @@
 -- The statuses and notes of the program.
-use Rattle.std.specs.Prelude.{◌≡◌, ℕ, ◌<◌, ◌≤◌, ◌++◌, List, [], ◌∷◌, length, take, codes, decimal, Option, Result, Ok, Err, IfErr, IsErrOf, OnOk}
-use Rattle.std.specs.Io.KnownBytes.{Appends, IsAtEnd}
-use Rattle.board_model.specs.Lines.{Rose}
+use Rattle.std.specs.Prelude.{◌≡◌, ℕ, ◌<◌, ◌≤◌, ◌++◌, List, [], ◌∷◌, length, take, codes, decimal, Result, Ok, Err}
 use Rattle.script_loop.specs.declared.error.ScriptError.{ScriptError}
 use Rattle.script_loop.specs.declared.error.ScriptError.TheVariants.{ReadFault, WriteFault, BadLine, TooLong, OutOfMemory}
-use Rattle.script_loop.specs.Runs.{IsRunOf, IsStopped}
-use Rattle.script_generator.specs.Summary.{IsSummed, LeavesOff}
+use Rattle.script_loop.specs.Runs.{Runs, CountsOn, Gains, HasFailed, Stream}
+use Rattle.script_generator.specs.Summary.{IsGenerated}
 
 -- the status of a run
 abbrev pub status_of : Result (Unit {0}) ScriptError → ℕ
@@ -44,36 +42,22 @@ IsUsage words = (words ≡ [] → ⊥) × ((n : ℕ) → IsGen words n → ⊥)
 -- ---- runs
 
 -- a front of the text was written, and all of it where the count of faults didn't rise
-pub record IsNoted (before held : Option (List ℕ)) (faults now : ℕ) (text : List ℕ) : Type 0 where
+pub record IsNoted (notes : Stream) (text : List ℕ) : Type 0 where
   pub written : ℕ
-  pub bytes : Appends before held (take written text)
-  pub cause : written < length text → Rose faults now
-  pub later : faults ≤ now
+  pub bytes : Gains notes (take written text)
+  pub cause : written < length text → HasFailed notes
+  pub later : CountsOn notes
 
--- a script was run: the sink held `before`, and now it holds `held`
-pub record IsScriptRun (answer : Result (Unit {0}) ScriptError) (input left : Option (List ℕ)) (read_faults read_now : ℕ) (before held : Option (List ℕ)) (write_faults write_now : ℕ) : Type 0 where
-  pub ok : OnOk answer (IsRunOf 4294967295 input before held)
-  pub end : OnOk answer (IsAtEnd left)
-  pub err : IfErr answer (λ e. IsStopped e 4294967295 input left before held)
-  pub read : IsErrOf answer ReadFault → Rose read_faults read_now
-  pub write : IsErrOf answer WriteFault → Rose write_faults write_now
-
--- the status and the note are those of a script's answer
-pub record IsAnswered (status : ℕ) (input left : Option (List ℕ)) (read_faults read_now : ℕ) (before held : Option (List ℕ)) (write_faults write_now : ℕ) (noted_before noted : Option (List ℕ)) (note_faults note_now : ℕ) : Type 0 where
+-- a script was run, and the status and the note are those of its answer
+pub record IsAnswered (status : ℕ) (source sink notes : Stream) : Type 0 where
   pub answer : Result (Unit {0}) ScriptError
-  pub run : IsScriptRun answer input left read_faults read_now before held write_faults write_now
+  pub run : Runs 4294967295 source sink answer
   pub is : status ≡ status_of answer
-  pub note : IsNoted noted_before noted note_faults note_now (note_of answer)
+  pub note : IsNoted notes (note_of answer)
 
--- the script of n was run
-pub record IsGenerated (answer : Result (Unit {0}) ScriptError) (n : ℕ) (before held : Option (List ℕ)) (write_faults write_now : ℕ) : Type 0 where
-  pub ok : OnOk answer (IsSummed n before held)
-  pub err : IfErr answer (λ e. LeavesOff e n before held)
-  pub write : IsErrOf answer WriteFault → Rose write_faults write_now
-
--- the status and the note are those of its answer
-pub record IsSummedUp (status n : ℕ) (before held : Option (List ℕ)) (write_faults write_now : ℕ) (noted_before noted : Option (List ℕ)) (note_faults note_now : ℕ) : Type 0 where
+-- the script of n was run, and the status and the note are those of its answer
+pub record IsSummedUp (status n : ℕ) (sink notes : Stream) : Type 0 where
   pub answer : Result (Unit {0}) ScriptError
-  pub run : IsGenerated answer n before held write_faults write_now
+  pub run : IsGenerated n sink answer
   pub is : status ≡ status_of answer
-  pub note : IsNoted noted_before noted note_faults note_now (note_of answer)
+  pub note : IsNoted notes (note_of answer)

@@ -1,9 +1,6 @@
 //! Scripts, from their source to their sink.
-ghost use Rattle.std.specs.Prelude.{◌≡◌, ◌≤◌, IfErr, IsErrOf, IsSomeAnd, OnOk};
-ghost use Rattle.std.specs.Io.KnownBytes.{IsAtEnd};
-ghost use Rattle.board_model.specs.Lines.{Rose};
-ghost use Rattle.script_model.specs.ScriptOutput.{IsScript};
-ghost use Rattle.script_loop.specs.Runs.{IsRunOf, IsStopped};
+ghost use Rattle.std.specs.Prelude.{◌≤◌};
+ghost use Rattle.script_loop.specs.Runs.{Runs, stream_of};
 
 use board_cell::PlainWords;
 use script_loop::{RunsLines, ScriptError, Sink, Source, run_lines};
@@ -25,21 +22,11 @@ pub fn run_script_within<S: Source, K: Sink>(
 ) -> Result<(), ScriptError>
     requires { limit ≤ 4294967295 }
 
-    // The sink gained the output of the lawful session of the input's lines, which was read to its end.
-    ensures ok { OnOk result (IsRunOf limit (S.left source.old) (K.held sink.old) (K.held sink.new)) }
-    ensures end { OnOk result (IsAtEnd (S.left source.new)) }
-
-    // Each error comes where `IsStopped` says, and leaves what it says.
-    ensures err { IfErr result (λ e. IsStopped e limit (S.left source.old) (S.left source.new) (K.held sink.old) (K.held sink.new)) }
-
-    // A known script of lines of the grammar, at most `limit`, is run to its end where nothing fails.
-    ensures complete { IsSomeAnd (S.left source.old) (IsScript limit) → ¬ Rose (S.faults source.old) (S.faults source.new) → ¬ Rose (K.faults sink.old) (K.faults sink.new) → IfErr result (λ e. e ≡ ScriptError.OutOfMemory) }
-
-    // The faults are those of the source and of the sink.
-    ensures read { IsErrOf result ScriptError.ReadFault → Rose (S.faults source.old) (S.faults source.new) }
-    ensures write { IsErrOf result ScriptError.WriteFault → Rose (K.faults sink.old) (K.faults sink.new) }
-    ensures read_later { S.faults source.old ≤ S.faults source.new }
-    ensures write_later { K.faults sink.old ≤ K.faults sink.new }
+    // The sink gained the output of the lawful session of the input's lines, or the error says what stands.
+    ensures { Runs limit
+        (stream_of S.left S.faults source.old source.new)
+        (stream_of K.held K.faults sink.old sink.new)
+        result }
 {
     let mut machine = Machine::<PlainWords>::new(alloc);
     run_lines(alloc, limit, &mut machine, source, sink)
@@ -54,21 +41,10 @@ pub fn run_script<S: Source, K: Sink>(
     source: &mut S,
     sink: &mut K,
 ) -> Result<(), ScriptError>
-    // The sink gained the output of the lawful session of the input's lines, which was read to its end.
-    ensures ok { OnOk result (IsRunOf 4294967295 (S.left source.old) (K.held sink.old) (K.held sink.new)) }
-    ensures end { OnOk result (IsAtEnd (S.left source.new)) }
-
-    // Each error comes where `IsStopped` says, and leaves what it says.
-    ensures err { IfErr result (λ e. IsStopped e 4294967295 (S.left source.old) (S.left source.new) (K.held sink.old) (K.held sink.new)) }
-
-    // A known script of lines of the grammar, no more, is run to its end where nothing fails.
-    ensures complete { IsSomeAnd (S.left source.old) (IsScript 4294967295) → ¬ Rose (S.faults source.old) (S.faults source.new) → ¬ Rose (K.faults sink.old) (K.faults sink.new) → IfErr result (λ e. e ≡ ScriptError.OutOfMemory) }
-
-    // The faults are those of the source and of the sink.
-    ensures read { IsErrOf result ScriptError.ReadFault → Rose (S.faults source.old) (S.faults source.new) }
-    ensures write { IsErrOf result ScriptError.WriteFault → Rose (K.faults sink.old) (K.faults sink.new) }
-    ensures read_later { S.faults source.old ≤ S.faults source.new }
-    ensures write_later { K.faults sink.old ≤ K.faults sink.new }
+    ensures { Runs 4294967295
+        (stream_of S.left S.faults source.old source.new)
+        (stream_of K.held K.faults sink.old sink.new)
+        result }
 {
     run_script_within(alloc, MAX_LINES, source, sink)
 }

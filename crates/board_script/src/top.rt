@@ -2,7 +2,7 @@
 ghost use Rattle.std.specs.Prelude.{◌≡◌, ℕ, ◌<◌, [], length, map, Err, IfNone, IfSome};
 ghost use Rattle.std.specs.String.{string_bytes};
 ghost use Rattle.std.specs.Io.KnownBytes.{IsAtEnd};
-ghost use Rattle.script_loop.specs.Runs.{IsRunOf};
+ghost use Rattle.script_loop.specs.Runs.{IsRunOf, stream_of};
 ghost use Rattle.script_generator.specs.Summary.{IsSummed};
 ghost use Rattle.board_script.specs.Top.{IsAnswered, IsGen, IsNoted, IsSummedUp, IsUsage, note_of, status_of, usage_note};
 
@@ -16,7 +16,7 @@ use std::alloc::Global;
 
 // Writes a note. That it fails changes nothing else.
 fn note<N: Sink>(notes: &mut N, text: &[u8])
-    ensures { IsNoted (N.held notes.old) (N.held notes.new) (N.faults notes.old) (N.faults notes.new) text.now }
+    ensures { IsNoted (stream_of N.held N.faults notes.old notes.new) text.now }
 {
     let _ = write_whole(notes, text);
 }
@@ -58,9 +58,9 @@ fn status(error: ScriptError) -> u8
 }
 
 // Notes an error, and gives the status.
-fn tell<N: Sink>(answer: Result<(), ScriptError>, notes: &mut N) -> u8
+fn report<N: Sink>(answer: Result<(), ScriptError>, notes: &mut N) -> u8
     ensures is { result ≡ status_of answer }
-    ensures note { IsNoted (N.held notes.old) (N.held notes.new) (N.faults notes.old) (N.faults notes.new) (note_of answer) }
+    ensures note { IsNoted (stream_of N.held N.faults notes.old notes.new) (note_of answer) }
 {
     match answer {
         Ok(()) => 0,
@@ -101,17 +101,28 @@ pub fn run_words<S: Source, K: Sink, N: Sink>(
     notes: &mut N,
 ) -> u8
     // Without words, and with status 0, the sink gained the output of the lawful session of the input's lines, which was read to its end.
-    ensures ok { length words.now.items ≡ 0 → result ≡ 0 → IsRunOf 4294967295 (S.left source.old) (K.held sink.old) (K.held sink.new) }
+    ensures ok { length words.now.items ≡ 0 → result ≡ 0
+        → IsRunOf 4294967295
+        (stream_of S.left S.faults source.old source.new)
+        (stream_of K.held K.faults sink.old sink.new) }
     ensures end { length words.now.items ≡ 0 → result ≡ 0 → IsAtEnd (S.left source.new) }
 
-    // Without words the status and the note are those of the script's answer, which comes where `IsAnswered` says.
-    ensures ran { length words.now.items ≡ 0 → IsAnswered result (S.left source.old) (S.left source.new) (S.faults source.old) (S.faults source.new) (K.held sink.old) (K.held sink.new) (K.faults sink.old) (K.faults sink.new) (N.held notes.old) (N.held notes.new) (N.faults notes.old) (N.faults notes.new) }
+    // Without words the status and the note are those of the script's answer, which comes where `Runs` says.
+    ensures ran { length words.now.items ≡ 0
+        → IsAnswered result
+        (stream_of S.left S.faults source.old source.new)
+        (stream_of K.held K.faults sink.old sink.new)
+        (stream_of N.held N.faults notes.old notes.new) }
 
     // With `gen N`, and with status 0, the sink gained the summary of the lawful session whose lines are the generated script.
-    ensures summed { (n : ℕ) → IsGen (map string_bytes words.now.items) n → result ≡ 0 → IsSummed n (K.held sink.old) (K.held sink.new) }
+    ensures summed { (n : ℕ) → IsGen (map string_bytes words.now.items) n → result ≡ 0
+        → IsSummed n (stream_of K.held K.faults sink.old sink.new) }
 
     // The other statuses are 4, after a front of the summary, and 7, after nothing; the note is the status's.
-    ensures generated { (n : ℕ) → IsGen (map string_bytes words.now.items) n → IsSummedUp result n (K.held sink.old) (K.held sink.new) (K.faults sink.old) (K.faults sink.new) (N.held notes.old) (N.held notes.new) (N.faults notes.old) (N.faults notes.new) }
+    ensures generated { (n : ℕ) → IsGen (map string_bytes words.now.items) n
+        → IsSummedUp result n
+        (stream_of K.held K.faults sink.old sink.new)
+        (stream_of N.held N.faults notes.old notes.new) }
 
     // With any words nothing is read.
     ensures unread { 0 < length words.now.items → source.new ≡ source.old }
@@ -119,15 +130,16 @@ pub fn run_words<S: Source, K: Sink, N: Sink>(
     // The status is 2 with all other words, and only then. Then nothing is run.
     ensures usage { IsUsage (map string_bytes words.now.items) → result ≡ 2 }
     ensures usage_only { result ≡ 2 → IsUsage (map string_bytes words.now.items) }
-    ensures usage_note { IsUsage (map string_bytes words.now.items) → IsNoted (N.held notes.old) (N.held notes.new) (N.faults notes.old) (N.faults notes.new) usage_note }
+    ensures usage_note { IsUsage (map string_bytes words.now.items)
+        → IsNoted (stream_of N.held N.faults notes.old notes.new) usage_note }
     ensures unwritten { IsUsage (map string_bytes words.now.items) → sink.new ≡ sink.old }
 {
     if words.is_empty() {
-        return tell(run_script(alloc, source, sink), notes);
+        return report(run_script(alloc, source, sink), notes);
     }
     let Some(n) = generated_by(words) else {
         note(notes, b"usage: board_run [gen N]\n");
         return 2;
     };
-    tell(run_generated(alloc, n, sink), notes)
+    report(run_generated(alloc, n, sink), notes)
 }

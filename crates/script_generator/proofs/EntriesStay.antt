@@ -18,7 +18,7 @@ use Rattle.board_model.specs.Tables.{Tables, board_at, entry_at, entry_in, is_nu
 use Rattle.board_model.specs.TableCalls.{asked, create_refusals, first_of}
 use Rattle.board_model.specs.Things.{Standing}
 use Rattle.board_model.specs.TypeTable.{same_key}
-use Rattle.script_generator.specs.Counting.{is_plain}
+use Rattle.script_generator.specs.Counting.{is_plain_line}
 
 abbrev BoardTables : Type 0
 BoardTables = Tables (List ℕ) (List ℕ)
@@ -71,7 +71,7 @@ step_grows s party gone a told = grows_same s.standing.tables _ refl
 step_grows s party (running r) a None = grows_same s.standing.tables _ refl
 step_grows s party (running r) a (Some told) = value_grows s.standing s.published party r.request
 
-line_grows : (s : State) (l : Line) (a : Answer) → is_plain l ≡ true → Grows s.standing.tables (after s l a).standing.tables
+line_grows : (s : State) (l : Line) (a : Answer) → is_plain_line l ≡ true → Grows s.standing.tables (after s l a).standing.tables
 line_grows s (line.Begin party c) answer.Begun h = grows_same s.standing.tables _ refl
 line_grows s (line.Begin party c) (answer.Refused why) h = grows_same s.standing.tables _ refl
 line_grows s (line.Begin party c) (answer.Step a told) h = grows_same s.standing.tables _ refl
@@ -99,7 +99,7 @@ found_board : (o : Option Board) (i : ℕ) (e : Entry) → entry_in o i ≡ Some
 found_board None i e h = absurd cc
 found_board (Some b) i e h = (b, refl)
 
-pub entry_stays : (s : State) (l : Line) (a : Answer) → is_plain l ≡ true → (n i : ℕ) (e : Entry) → entry_at s.standing.tables n i ≡ Some e → entry_at (after s l a).standing.tables n i ≡ Some e
+pub entry_stays : (s : State) (l : Line) (a : Answer) → is_plain_line l ≡ true → (n i : ℕ) (e : Entry) → entry_at s.standing.tables n i ≡ Some e → entry_at (after s l a).standing.tables n i ≡ Some e
 entry_stays s l a h n i e found =
     let g = line_grows s l a h in
     let b = found_board (board_at s.standing.tables n) i e found in

@@ -28,7 +28,7 @@ use Rattle.board_model.proofs.ThingLemmas.{all_push}
 use Rattle.script_loop.proofs.LineLemmas.{lines_more}
 use Rattle.script_generator.specs.Counting.{IsAsked, SpellsPlain, is_plain_call}
 use Rattle.script_generator.specs.Generator.{asked_by, choice, create_board, drawn, generated, line_for, number_drawn, open_board, opening, reader_calls, writer_calls}
-use Rattle.script_generator.specs.LawsOfGenerator.{GeneratedScriptsAreScripts, bytes_of}
+use Rattle.script_generator.specs.LawsOfGenerator.{GeneratedScriptsAreScripts, script_bytes}
 use Rattle.script_generator.proofs.GeneratorEnds.{line_is_plain}
 
 -- ---- tokens
@@ -322,17 +322,17 @@ drawn_spelled n (suc k) few =
 
 -- ---- the script
 
-spells_lines : (ls : List Line) → AllByRecursion IsSpelled ls → (session : Session) → lines_of session ≡ map script_line.Board ls → SpellsAll (text.lines_of (bytes_of ls)) session
+spells_lines : (ls : List Line) → AllByRecursion IsSpelled ls → (session : Session) → lines_of session ≡ map script_line.Board ls → SpellsAll (text.lines_of (script_bytes ls)) session
 spells_lines [] h [] e = tt
 spells_lines [] h (p ∷ ps) e = absurd cc
 spells_lines (l ∷ ls) h [] e = absurd cc
 spells_lines (l ∷ ls) h (p ∷ ps) e =
     let same : p.0 ≡ script_line.Board l = cc e in
     let rest : lines_of ps ≡ map script_line.Board ls = cc e in
-    let bytes : bytes_of (l ∷ ls) ≡ spell l ++ 10 ∷ bytes_of ls =
-    flat_map-cons (λ (x : Line). spell x ++ 10 ∷ []) l ls ∙ append_assoc (spell l) (10 ∷ []) (bytes_of ls) in
-    let cut : text.lines_of (bytes_of (l ∷ ls)) ≡ spell l ∷ text.lines_of (bytes_of ls) =
-    ap (λ (x : List ℕ). text.lines_of x) bytes ∙ lines_more (spell l) (bytes_of ls) (one_line l h.0) in
+    let bytes : script_bytes (l ∷ ls) ≡ spell l ++ 10 ∷ script_bytes ls =
+    flat_map-cons (λ (x : Line). spell x ++ 10 ∷ []) l ls ∙ append_assoc (spell l) (10 ∷ []) (script_bytes ls) in
+    let cut : text.lines_of (script_bytes (l ∷ ls)) ≡ spell l ∷ text.lines_of (script_bytes ls) =
+    ap (λ (x : List ℕ). text.lines_of x) bytes ∙ lines_more (spell l) (script_bytes ls) (one_line l h.0) in
     subst (λ (xs : List (List ℕ)). SpellsAll xs (p ∷ ps)) (sym cut)
     (subst (λ (x : ScriptLine). SpellsLine (spell l) x) (sym same) (spells l h.0), spells_lines ls h.1 ps rest)
 

@@ -10,19 +10,19 @@ use Rattle.script_model.specs.ScriptSession.{Session, start, state_after}
 use Rattle.script_model.specs.ScriptTurns.{ScriptState}
 use Rattle.script_model.proofs.AnswerLaws.{one_session}
 use Rattle.script_boards.specs.Machine.{tables_of}
-use Rattle.script_machine.specs.Counters.{HasEntry}
+use Rattle.script_machine.specs.Counters.{EntryStands}
 use Rattle.script_generator.specs.declared.generator.Generator.{Generator}
 use Rattle.script_generator.specs.declared.summary.Counts.{Counts}
-use Rattle.script_generator.specs.Counting.{HasRun, IsSummaryOf, RanMore, is_plain}
+use Rattle.script_generator.specs.Counting.{HasRun, IsSummaryOf, RanMore, is_plain_line}
 use Rattle.script_generator.specs.Generator.{asked_by, choice, drawn, line_for, number_after, number_drawn, opening, reader_calls, writer_calls}
 use Rattle.script_generator.specs.Summary.{counts_of, generation_of, summary_text}
-use Rattle.script_generator.specs.WorkedGenerator.{on_boards, opened}
+use Rattle.script_generator.specs.WorkedGenerator.{on_boards, opening_session}
 use Rattle.script_generator.proofs.GeneratorRuns.{ran_both}
 use Rattle.script_generator.proofs.QuietScripts.{lawful_on_boards, state_on_boards}
 
 -- ---- the opening
 
-pub opened_is_lawful : boards.IsLawful opened
+pub opened_is_lawful : boards.IsLawful opening_session
 opened_is_lawful = search rules
 
 some_entry : (o : Option Entry) → is_some o ≡ true → (e : Entry) × (o ≡ Some e)
@@ -30,12 +30,12 @@ some_entry None e = absurd cc
 some_entry (Some x) e = (x, refl)
 
 -- an entry that stands after the worked opening stands after the opening
-pub opening_has : (g : Generator) → HasRun g opening → (i : ℕ) → is_some (entry_at (boards.state_after boards.start opened).standing.tables 1 i) ≡ true → HasEntry g.machine 1 i
+pub opening_has : (g : Generator) → HasRun g opening → (i : ℕ) → is_some (entry_at (boards.state_after boards.start opening_session).standing.tables 1 i) ≡ true → EntryStands g.machine 1 i
 opening_has g h i e =
-    let same : h.session ≡ on_boards opened = one_session h.session (on_boards opened) h.stands.lawful (lawful_on_boards boards.start opened refl opened_is_lawful) h.lines_are in
-    let found = some_entry (entry_at (boards.state_after boards.start opened).standing.tables 1 i) e in
-    let tables : (boards.state_after boards.start opened).standing.tables ≡ tables_of g.machine.boards =
-    ap (λ (x : ScriptState). x.boards.standing.tables) (sym (state_on_boards boards.start opened refl))
+    let same : h.session ≡ on_boards opening_session = one_session h.session (on_boards opening_session) h.stands.lawful (lawful_on_boards boards.start opening_session refl opened_is_lawful) h.lines_are in
+    let found = some_entry (entry_at (boards.state_after boards.start opening_session).standing.tables 1 i) e in
+    let tables : (boards.state_after boards.start opening_session).standing.tables ≡ tables_of g.machine.boards =
+    ap (λ (x : ScriptState). x.boards.standing.tables) (sym (state_on_boards boards.start opening_session refl))
     ∙ (ap (λ (x : Session). (state_after start x).boards.standing.tables) (sym same) ∙ h.stands.state.represents.boards.tables) in
     (found.0, ap (λ t. entry_at t 1 i) (sym tables) ∙ found.1)
 
@@ -64,11 +64,11 @@ number_more n k x e = e ∙ ap (λ (j : ℕ). number_drawn n j) (sym (add-one k)
 pub length_run : (n k : ℕ) → length (opening ++ drawn n k) ≡ 24 + k
 length_run n k = length-append opening (drawn n k) ∙ ap (λ (j : ℕ). 24 + j) (length_drawn n k)
 
-either : (b : Bool) (x y : Line) → is_plain x ≡ true → is_plain y ≡ true → is_plain (cond b x y) ≡ true
+either : (b : Bool) (x y : Line) → is_plain_line x ≡ true → is_plain_line y ≡ true → is_plain_line (cond b x y) ≡ true
 either true x y h k = h
 either false x y h k = k
 
-pub line_is_plain : (c k : ℕ) → is_plain (line_for c k) ≡ true
+pub line_is_plain : (c k : ℕ) → is_plain_line (line_for c k) ≡ true
 line_is_plain c k =
     either (c == 0) _ _ refl
     (either (c == 1) _ _ refl

@@ -12,12 +12,12 @@ use Rattle.script_model.specs.ScriptAnswers.{ScriptAnswer, of_boards, script_ans
 use Rattle.script_model.specs.ScriptSession.{IsLawfulFrom, IsRight, Session, after, start, state_after}
 use Rattle.script_model.specs.ScriptTurns.{ScriptState}
 use Rattle.script_grammar.proofs.ScriptLineLemmas.{one_line}
-use Rattle.script_loop.specs.Runs.{HasAnswered, StandsFor}
-use Rattle.script_machine.specs.Counters.{HasEntry}
+use Rattle.script_loop.specs.Machines.{HasAnswered, StandsFor}
+use Rattle.script_machine.specs.Counters.{EntryStands}
 use Rattle.script_machine.specs.ScriptMachine.{StandsAfter}
 use Rattle.script_generator.specs.declared.generator.Generator.{Generator}
 use Rattle.script_generator.specs.declared.summary.Counts.{Counts}
-use Rattle.script_generator.specs.Counting.{AreLow, HasRun, IsRunning, OfAnswer, RanMore, RunsPlain, SpellsPlain, counted}
+use Rattle.script_generator.specs.Counting.{AreLow, HasRun, IsRunning, OfAnswer, RanMore, RunsPlain, SpellsPlain, counted_with}
 use Rattle.script_generator.proofs.EntriesStay.{entry_stays}
 use Rattle.script_generator.proofs.PlainCalls.{plain_after}
 use Rattle.script_generator.proofs.QuietScripts.{board_answer, quiet, quiet_after}
@@ -46,7 +46,7 @@ run_low g room h = counts_low h.run.session g.counts h.run.stands.few h.run.coun
 -- ---- one line more
 
 module _ (old new : Generator) (bytes text : List ℕ) (answered : (session : Session) → StandsFor StandsAfter old.machine session → HasAnswered StandsAfter new.machine session bytes text)
-    (counts : OfAnswer text (λ a. new.counts ≡ counted old.counts a)) (l : Line) (spells : SpellsPlain bytes l) where
+    (counts : OfAnswer text (λ a. new.counts ≡ counted_with old.counts a)) (l : Line) (spells : SpellsPlain bytes l) where
   -- the answer behind a run is one of boards
   record IsAnswered (session : Session) : Type 0 where
     answer : Answer
@@ -89,10 +89,10 @@ module _ (old new : Generator) (bytes text : List ℕ) (answered : (session : Se
         };
         quiet = ap (λ (x : ScriptState). x.events) still;
         plain = subst (λ (x : ScriptState). RunsPlain x.boards) (sym still) (plain_after s.boards l a.answer spells.plain h.plain);
-        counts = counts a.answer a.right.answer a.text_is ∙ (ap (λ (c : Counts). counted c a.answer) h.counts ∙ sym (counts_more h.session l a.answer h.plain spells.plain a.right));
+        counts = counts a.answer a.right.answer a.text_is ∙ (ap (λ (c : Counts). counted_with c a.answer) h.counts ∙ sym (counts_more h.session l a.answer h.plain spells.plain a.right));
       }
 
-  kept_behind : (lines : List Line) (h : HasRun old lines) (board i : ℕ) → HasEntry old.machine board i → HasEntry new.machine board i
+  kept_behind : (lines : List Line) (h : HasRun old lines) (board i : ℕ) → EntryStands old.machine board i → EntryStands new.machine board i
   kept_behind lines h board i e =
       let s = state_after start h.session in
       let a = answer_behind lines h in

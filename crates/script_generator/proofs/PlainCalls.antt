@@ -28,8 +28,8 @@ use Rattle.board_model.specs.TypeTable.{value_words}
 use Rattle.script_model.specs.declared.line.ScriptLine.TheVariants as script_line
 use Rattle.script_model.specs.ScriptAnswers.{of_boards}
 use Rattle.script_model.specs.ScriptTurns.{ScriptState}
-use Rattle.script_generator.specs.Counting.{RunsPlain, is_last_read, is_last_write, is_plain, is_plain_call, is_plain_request}
-use Rattle.script_generator.specs.Summary.{ended, ended_by, is_get, is_update}
+use Rattle.script_generator.specs.Counting.{RunsPlain, is_last_read, is_last_write, is_plain_line, is_plain_call, is_plain_request}
+use Rattle.script_generator.specs.Summary.{call_ended, ended_by, is_get, is_update}
 
 -- ---- calls that begin
 
@@ -112,7 +112,7 @@ plain_step s h party (running r) e a (Some told) =
     all_plain (stepped s party r a (Some told)) (plain_with _ party free tt (λ p. plain_notice a (s.parties p) (party_plain s h p)))
 
 -- a plain line leaves a plain state
-pub plain_after : (s : State) (l : Line) (a : Answer) → is_plain l ≡ true → RunsPlain s → RunsPlain (after s l a)
+pub plain_after : (s : State) (l : Line) (a : Answer) → is_plain_line l ≡ true → RunsPlain s → RunsPlain (after s l a)
 plain_after s (line.Begin party c) answer.Begun p h =
     all_plain (after s (line.Begin party c) answer.Begun)
     (plain_with s.parties party (begun (request_of s.standing s.published party c)) (plain_begun (request_of s.standing s.published party c) (plain_asked s.standing s.published party c p)) (party_plain s h))
@@ -212,7 +212,7 @@ ends_at s party a plain h = at (s.parties party) refl
         (ends_step r (plain party r e) a (subst (λ (y : Party). IsOwedStep y a) e (h.owed (ap step_reason e))))
 
 -- a right answer to a plain line
-pub ends_told : (s : ScriptState) (l : Line) (a : Answer) → RunsPlain s.boards → is_plain l ≡ true → IsRight s.boards l a → EndsAsTold (ended s (script_line.Board l) (of_boards a)) a
+pub ends_told : (s : ScriptState) (l : Line) (a : Answer) → RunsPlain s.boards → is_plain_line l ≡ true → IsRight s.boards l a → EndsAsTold (call_ended s (script_line.Board l) (of_boards a)) a
 ends_told s (line.Begin party c) a plain p h = ends_begin s.boards party c a h
 ends_told s (line.Step party) a plain p h = ends_at s.boards party a plain h
 ends_told s (line.Release party name) a plain p h = absurd cc

@@ -11,8 +11,8 @@ use Rattle.script_model.specs.ScriptAnswers.{ScriptAnswer, of_boards}
 use Rattle.script_model.specs.ScriptSession.{Session, after, start, state_after}
 use Rattle.script_model.specs.ScriptTurns.{ScriptState}
 use Rattle.script_generator.specs.declared.summary.Counts.{Counts}
-use Rattle.script_generator.specs.Counting.{AreLow, RunsPlain, counted, is_plain, one_more}
-use Rattle.script_generator.specs.Summary.{count_from, counts_of, ended, is_get, is_refused, is_step, is_update}
+use Rattle.script_generator.specs.Counting.{AreLow, RunsPlain, counted_with, is_plain_line, one_more}
+use Rattle.script_generator.specs.Summary.{count_from, counts_of, call_ended, is_get, is_refused, is_step, is_update}
 use Rattle.script_generator.proofs.PlainCalls.{ends_told}
 
 count_more : (is : ScriptState → ScriptLine → ScriptAnswer → Bool) (s : ScriptState) (ps : Session) (p : ScriptLine × ScriptAnswer) → count_from is s (ps ++ p ∷ []) ≡ one_more (count_from is s ps) (is (state_after s ps) p.0 p.1)
@@ -43,8 +43,8 @@ counts_low ps c lt e = rw e (record {
   lines = lt;
   refused = omega (arith, lt, count_within (λ s l a. is_refused a) start ps);
   steps = omega (arith, lt, count_within (λ s l a. is_step a) start ps);
-  updates = omega (arith, lt, count_within (λ s l a. is_update (ended s l a)) start ps);
-  gets = omega (arith, lt, count_within (λ s l a. is_get (ended s l a)) start ps);
+  updates = omega (arith, lt, count_within (λ s l a. is_update (call_ended s l a)) start ps);
+  gets = omega (arith, lt, count_within (λ s l a. is_get (call_ended s l a)) start ps);
 })
 
 abbrev make : ℕ → ℕ → ℕ → ℕ → ℕ → Counts
@@ -59,13 +59,13 @@ same_counts a b e f g h i =
     ∙ ap (λ (n : ℕ). make b.lines b.refused b.steps b.updates n) i)))
 
 -- a line more is counted by its answer
-pub counts_more : (ps : Session) (l : Line) (a : Answer) → RunsPlain (state_after start ps).boards → is_plain l ≡ true → boards.IsRight (state_after start ps).boards l a → counts_of (ps ++ (script_line.Board l, of_boards a) ∷ []) ≡ counted (counts_of ps) a
+pub counts_more : (ps : Session) (l : Line) (a : Answer) → RunsPlain (state_after start ps).boards → is_plain_line l ≡ true → boards.IsRight (state_after start ps).boards l a → counts_of (ps ++ (script_line.Board l, of_boards a) ∷ []) ≡ counted_with (counts_of ps) a
 counts_more ps l a plain p h =
     let ends = ends_told (state_after start ps) l a plain p h in
     let pair : ScriptLine × ScriptAnswer = (script_line.Board l, of_boards a) in
-    same_counts (counts_of (ps ++ pair ∷ [])) (counted (counts_of ps) a)
+    same_counts (counts_of (ps ++ pair ∷ [])) (counted_with (counts_of ps) a)
     (length-append ps (pair ∷ []))
     (count_more (λ s l a. is_refused a) start ps pair)
     (count_more (λ s l a. is_step a) start ps pair)
-    (count_more (λ s l a. is_update (ended s l a)) start ps pair ∙ ap (λ (b : Bool). one_more (count_from (λ s l a. is_update (ended s l a)) start ps) b) ends.update)
-    (count_more (λ s l a. is_get (ended s l a)) start ps pair ∙ ap (λ (b : Bool). one_more (count_from (λ s l a. is_get (ended s l a)) start ps) b) ends.get)
+    (count_more (λ s l a. is_update (call_ended s l a)) start ps pair ∙ ap (λ (b : Bool). one_more (count_from (λ s l a. is_update (call_ended s l a)) start ps) b) ends.update)
+    (count_more (λ s l a. is_get (call_ended s l a)) start ps pair ∙ ap (λ (b : Bool). one_more (count_from (λ s l a. is_get (call_ended s l a)) start ps) b) ends.get)

@@ -16,8 +16,8 @@ use Rattle.script_model.specs.ScriptAnswers.{of_boards}
 use Rattle.script_model.specs.ScriptEvents.{no_events}
 use Rattle.script_model.specs.ScriptGrammar.{SpellsLine}
 use Rattle.script_model.specs.ScriptSession.{IsLawful, Session, lines_of, start, state_after}
-use Rattle.script_loop.specs.Runs.{StandsFor}
-use Rattle.script_machine.specs.Counters.{HasEntry}
+use Rattle.script_loop.specs.Machines.{StandsFor}
+use Rattle.script_machine.specs.Counters.{EntryStands}
 use Rattle.script_machine.specs.ScriptMachine.{StandsAfter}
 use Rattle.script_generator.specs.declared.generator.Generator.{Generator}
 use Rattle.script_generator.specs.declared.summary.Counts.{Counts}
@@ -40,8 +40,8 @@ abbrev pub one_more : ℕ → Bool → ℕ
 one_more n is = if is then n + 1 else n
 
 -- with a line that was answered so
-abbrev pub counted : Counts → Answer → Counts
-counted c a = record {
+abbrev pub counted_with : Counts → Answer → Counts
+counted_with c a = record {
   lines = c.lines + 1;
   refused = one_more c.refused (is_refused (of_boards a));
   steps = one_more c.steps (is_step (of_boards a));
@@ -81,15 +81,15 @@ is_plain_call (call.Fill l m v) = false
 is_plain_call c = true
 
 -- such a call begins, or a party takes a step
-abbrev pub is_plain : Line → Bool
-is_plain (line.Begin party c) = is_plain_call c
-is_plain (line.Step party) = true
-is_plain l = false
+abbrev pub is_plain_line : Line → Bool
+is_plain_line (line.Begin party c) = is_plain_call c
+is_plain_line (line.Step party) = true
+is_plain_line l = false
 
 -- the bytes spell the line, which is of that kind
 pub record SpellsPlain (bytes : List ℕ) (l : Line) : Type 0 where
   pub spelled : SpellsLine bytes (script_line.Board l)
-  pub plain : is_plain l ≡ true
+  pub plain : is_plain_line l ≡ true
 
 -- a line in which these bytes follow `begin` and the party begins the call, and the party may step; both are of that kind
 pub record IsAsked (party bytes : List ℕ) (c : Call) : Type 0 where
@@ -120,7 +120,7 @@ pub record IsRunning (g : Generator) (room : ℕ) : Type 0 where
 -- lines were run behind others, and each entry that stood before still stands
 pub record RanMore (old new : Generator) (more : List Line) : Type 0 where
   pub run : (lines : List Line) → length (lines ++ more) < 2 ^ 62 → HasRun old lines → HasRun new (lines ++ more)
-  pub entries : (board i : ℕ) → HasEntry old.machine board i → HasEntry new.machine board i
+  pub entries : (board i : ℕ) → EntryStands old.machine board i → EntryStands new.machine board i
 
 -- the text is the summary of the lawful session of these lines
 pub record IsSummaryOf (lines : List Line) (text : List ℕ) : Type 0 where

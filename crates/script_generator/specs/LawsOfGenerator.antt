@@ -10,9 +10,9 @@ use Rattle.script_model.specs.ScriptSession.{Session, lines_of}
 use Rattle.script_generator.specs.Generator.{generated}
 
 -- the bytes of lines, each with its newline
-abbrev pub bytes_of : List Line → List ℕ
-bytes_of lines = flat_map (λ l. spell l ++ 10 ∷ []) lines
+abbrev pub script_bytes : List Line → List ℕ
+script_bytes lines = flat_map (λ l. spell l ++ 10 ∷ []) lines
 
 -- the bytes of a generated script are lines of the grammar, and just its own
 abbrev pub GeneratedScriptsAreScripts : Type 0
-GeneratedScriptsAreScripts = (n : ℕ) (session : Session) → n ≤ 1000000 → lines_of session ≡ map script_line.Board (generated n) → SpellsAll (text.lines_of (bytes_of (generated n))) session
+GeneratedScriptsAreScripts = (n : ℕ) (session : Session) → n ≤ 1000000 → lines_of session ≡ map script_line.Board (generated n) → SpellsAll (text.lines_of (script_bytes (generated n))) session

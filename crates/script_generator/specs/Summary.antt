@@ -1,6 +1,5 @@
 -- What a session comes to: how many lines, refusals, steps, finished updates and gets, and the generations of the first board.
-use Rattle.std.specs.Prelude.{◌≡◌, ℕ, ◌+◌, Bool, true, false, if◌then◌else◌, List, [], ◌∷◌, ◌++◌, length, map, take, codes, decimal, Option, Some, None}
-use Rattle.std.specs.Io.KnownBytes.{Appends}
+use Rattle.std.specs.Prelude.{◌≡◌, ℕ, ◌+◌, Bool, true, false, if◌then◌else◌, List, [], ◌∷◌, ◌++◌, length, map, take, codes, decimal, Option, Some, None, Result, IfErr, IsErrOf, OnOk}
 use Rattle.board_model.specs.declared.answer.Answer.{Answer}
 use Rattle.board_model.specs.declared.answer.Answer.TheVariants as answer
 use Rattle.board_model.specs.declared.line.Line.TheVariants as line
@@ -13,6 +12,7 @@ use Rattle.script_model.specs.ScriptSession.{IsLawful, Session, after, lines_of,
 use Rattle.script_model.specs.ScriptTurns.{ScriptState}
 use Rattle.script_loop.specs.declared.error.ScriptError.{ScriptError}
 use Rattle.script_loop.specs.declared.error.ScriptError.TheVariants.{ReadFault, WriteFault, BadLine, TooLong, OutOfMemory}
+use Rattle.script_loop.specs.Runs.{CountsOn, Gains, HasFailed, Stream}
 use Rattle.script_generator.specs.declared.summary.Counts.{Counts}
 use Rattle.script_generator.specs.Generator.{generated}
 
@@ -36,9 +36,9 @@ ended_by (running r) (answer.Step a (Some told)) = Some r.request
 ended_by x a = None
 
 -- the call on boards that ends with the line and its answer
-abbrev pub ended : ScriptState → ScriptLine → ScriptAnswer → Option Request
-ended s (script_line.Board (line.Step party)) (of_boards a) = ended_by (s.boards.parties party) a
-ended s l a = None
+abbrev pub call_ended : ScriptState → ScriptLine → ScriptAnswer → Option Request
+call_ended s (script_line.Board (line.Step party)) (of_boards a) = ended_by (s.boards.parties party) a
+call_ended s l a = None
 
 -- it is an update
 abbrev pub is_update : Option Request → Bool
@@ -61,8 +61,8 @@ counts_of session = record {
   lines = length session;
   refused = count_from (λ s l a. is_refused a) start session;
   steps = count_from (λ s l a. is_step a) start session;
-  updates = count_from (λ s l a. is_update (ended s l a)) start session;
-  gets = count_from (λ s l a. is_get (ended s l a)) start session;
+  updates = count_from (λ s l a. is_update (call_ended s l a)) start session;
+  gets = count_from (λ s l a. is_get (call_ended s l a)) start session;
 }
 
 -- the generation of an entry of board 1: how many values were published
@@ -82,27 +82,37 @@ summary_text c first second =
 abbrev pub summary : Session → List ℕ
 summary session = summary_text (counts_of session) (generation_of session 0) (generation_of session 1)
 
--- ---- runs of the generated script: the sink held `before`, and now it holds `held`
+-- ---- runs of the generated script
 
 -- the sink gained the summary of the lawful session of the generated lines
-pub record IsSummed (n : ℕ) (before held : Option (List ℕ)) : Type 0 where
+pub record IsSummed (n : ℕ) (sink : Stream) : Type 0 where
   pub session : Session
   pub lawful : IsLawful session
   pub lines : lines_of session ≡ map script_line.Board (generated n)
-  pub output : Appends before held (summary session)
+  pub output : Gains sink (summary session)
 
 -- the sink gained a front of it
-pub record IsCut (n : ℕ) (before held : Option (List ℕ)) : Type 0 where
+pub record IsCut (n : ℕ) (sink : Stream) : Type 0 where
   pub session : Session
   pub lawful : IsLawful session
   pub lines : lines_of session ≡ map script_line.Board (generated n)
   pub written : ℕ
-  pub output : Appends before held (take written (summary session))
+  pub output : Gains sink (take written (summary session))
 
 -- what stands after each error; no others come
-abbrev pub LeavesOff : ScriptError → ℕ → Option (List ℕ) → Option (List ℕ) → Type 0
-LeavesOff WriteFault n before held = IsCut n before held
-LeavesOff OutOfMemory n before held = held ≡ before
-LeavesOff ReadFault n before held = ⊥
-LeavesOff (BadLine line) n before held = ⊥
-LeavesOff TooLong n before held = ⊥
+abbrev pub LeavesOff : ScriptError → ℕ → Stream → Type 0
+LeavesOff WriteFault n sink = IsCut n sink
+LeavesOff OutOfMemory n sink = sink.after ≡ sink.before
+LeavesOff ReadFault n sink = ⊥
+LeavesOff (BadLine line) n sink = ⊥
+LeavesOff TooLong n sink = ⊥
+
+-- what a run of the script of n comes to
+pub record IsGenerated (n : ℕ) (sink : Stream) (result : Result (Unit {0}) ScriptError) : Type 0 where
+  -- the sink gained the summary of the lawful session whose lines are the generated script
+  pub ok : OnOk result (IsSummed n sink)
+  -- only two errors come, and leave what this says
+  pub err : IfErr result (λ e. LeavesOff e n sink)
+  -- the fault is the sink's
+  pub write : IsErrOf result WriteFault → HasFailed sink
+  pub write_later : CountsOn sink

@@ -26,32 +26,32 @@ on_boards pairs = map (λ (pair : Line × Answer). (script_line.Board pair.0, of
 -- ---- the run
 
 -- a call on the tables that is told a number
-abbrev pub asked : List ℕ → Call → ℕ → boards.Session
-asked party c n = accepted party c ∷ last_step party access.Table (reply.Number n) ∷ []
+abbrev pub asked_number : List ℕ → Call → ℕ → boards.Session
+asked_number party c n = accepted party c ∷ last_step party access.Table (reply.Number n) ∷ []
 
 -- the board is made, and each entry gets a write handle
 abbrev pub opened_by_writer : boards.Session
 opened_by_writer =
-    asked (codes "w") create_board 1
-    ++ (asked (codes "w") (call.Writer (codes "p") (codes "f")) 1
-    ++ (asked (codes "w") (call.EntryMut (codes "m0") (codes "p") (key.U64 0) type.U64) 0
-    ++ asked (codes "w") (call.EntryMut (codes "m1") (codes "p") (key.U64 1) type.Q4) 32))
+    asked_number (codes "w") create_board 1
+    ++ (asked_number (codes "w") (call.Writer (codes "p") (codes "f")) 1
+    ++ (asked_number (codes "w") (call.EntryMut (codes "m0") (codes "p") (key.U64 0) type.U64) 0
+    ++ asked_number (codes "w") (call.EntryMut (codes "m1") (codes "p") (key.U64 1) type.Q4) 32))
 
 -- the board is opened, and each entry gets a read handle
 abbrev pub opened_by_reader : List ℕ → ℕ → boards.Session
 opened_by_reader party port =
-    asked party open_board 1
-    ++ (asked party (call.Reader (codes "r") (codes "f")) port
-    ++ (asked party (call.Entry (codes "h0") (codes "r") (key.U64 0) type.U64) 0
-    ++ asked party (call.Entry (codes "h1") (codes "r") (key.U64 1) type.Q4) 32))
+    asked_number party open_board 1
+    ++ (asked_number party (call.Reader (codes "r") (codes "f")) port
+    ++ (asked_number party (call.Entry (codes "h0") (codes "r") (key.U64 0) type.U64) 0
+    ++ asked_number party (call.Entry (codes "h1") (codes "r") (key.U64 1) type.Q4) 32))
 
 -- the opening and its answers
-abbrev pub opened : boards.Session
-opened = opened_by_writer ++ (opened_by_reader (codes "a") 2 ++ opened_by_reader (codes "b") 3)
+abbrev pub opening_session : boards.Session
+opening_session = opened_by_writer ++ (opened_by_reader (codes "a") 2 ++ opened_by_reader (codes "b") 3)
 
 -- behind the opening comes one line, a step that is refused
 abbrev pub run_for_one : Session
-run_for_one = on_boards (opened ++ refused (line.Step (codes "a")) reason.Idle ∷ [])
+run_for_one = on_boards (opening_session ++ refused (line.Step (codes "a")) reason.Idle ∷ [])
 
 -- its summary
 abbrev pub summary_for_one : List ℕ

@@ -1,16 +1,16 @@
 //! Runs of the script that is made from a number.
-ghost use Rattle.std.specs.Prelude.{◌≡◌, ◌+◌, ◌∷◌, ◌++◌, [], ◌≤◌, ◌<◌, ◌^◌, List, codes, decimal, length, true, IfErr, IfOk, IsErrOf, OnOk};
+ghost use Rattle.std.specs.Prelude.{◌≡◌, ◌+◌, ◌∷◌, ◌++◌, [], ◌≤◌, ◌<◌, ◌^◌, List, codes, decimal, length, true, IfOk, IsErrOf, OnOk};
 ghost use Rattle.std.specs.List.{join_with_byte};
 ghost use Rattle.board_model.specs.declared.line.Call.{Call};
 ghost use Rattle.board_model.specs.declared.line.Line.{Line};
 ghost use Rattle.board_model.specs.declared.line.Line.TheVariants as a_line;
 ghost use Rattle.board_model.specs.LineGrammar.{is_name, spell};
-ghost use Rattle.board_model.specs.Lines.{Rose};
 ghost use Rattle.script_generator.specs.Counting.{HasRun, IsAsked, IsRunning, IsSummaryOf, RanMore, SpellsPlain};
 ghost use Rattle.script_generator.specs.Generator as generator;
 ghost use Rattle.script_generator.specs.Generator.{asked_by, generated, line_for, opening, reader_calls, writer_calls};
-ghost use Rattle.script_generator.specs.Summary.{IsSummed, LeavesOff};
-ghost use Rattle.script_machine.specs.Counters.{HasEntry};
+ghost use Rattle.script_generator.specs.Summary.{IsGenerated};
+ghost use Rattle.script_loop.specs.Runs.{stream_of};
+ghost use Rattle.script_machine.specs.Counters.{EntryStands};
 
 use crate::summary::{Counts, summary_text};
 use board_cell::PlainWords;
@@ -136,6 +136,7 @@ impl Generator {
                 Ok(())
             }
             Err(LineError::OutOfMemory) => Err(AllocError),
+            // The line is in the grammar, and clause `bad` of `Machine::line` refuses no such line.
             Err(LineError::Bad) => unreachable!(),
         }
     }
@@ -185,8 +186,8 @@ impl Generator {
         ensures run { OnOk result (HasRun self.new opening) }
 
         // Both entries stand.
-        ensures first { OnOk result (HasEntry self.new.machine 1 0) }
-        ensures second { OnOk result (HasEntry self.new.machine 1 1) }
+        ensures first { OnOk result (EntryStands self.new.machine 1 0) }
+        ensures second { OnOk result (EntryStands self.new.machine 1 1) }
     {
         self.open_writer(line)?;
         self.open_reader(b"a", line)?;
@@ -196,8 +197,8 @@ impl Generator {
     // The six lines of what was run.
     fn summary(&mut self) -> Text<256>
         requires running { IsRunning self.old 0 }
-        requires first { HasEntry self.old.machine 1 0 }
-        requires second { HasEntry self.old.machine 1 1 }
+        requires first { EntryStands self.old.machine 1 0 }
+        requires second { EntryStands self.old.machine 1 1 }
         ensures { (lines : List Line) → HasRun self.old lines → IsSummaryOf lines result }
     {
         let first = self.machine.counter(1, 0);
@@ -206,7 +207,7 @@ impl Generator {
     }
 }
 
-// Runs the script of `n`, and tells its six lines.
+// Runs the script of `n`, and gives its six lines.
 fn summary_of(alloc: Global, n: u64) -> Result<Text<256>, AllocError>
     requires { n ≤ 1000000 }
     ensures { IfOk result (IsSummaryOf (generated n)) }
@@ -230,16 +231,11 @@ fn summary_of(alloc: Global, n: u64) -> Result<Text<256>, AllocError>
 pub fn run_generated<K: Sink>(alloc: Global, n: u64, sink: &mut K) -> Result<(), ScriptError>
     requires { n ≤ 1000000 }
 
-    // The sink gained the summary of the lawful session whose lines are the generated script.
-    ensures ok { OnOk result (IsSummed n (K.held sink.old) (K.held sink.new)) }
+    // The sink gained the summary of the lawful session of the generated lines, or the error says what stands.
+    ensures run { IsGenerated n (stream_of K.held K.faults sink.old sink.new) result }
 
-    // Only two errors come, and leave what `LeavesOff` says.
-    ensures err { IfErr result (λ e. LeavesOff e n (K.held sink.old) (K.held sink.new)) }
-
-    // The fault is the sink's, and the sink is untouched where memory was refused.
-    ensures write { IsErrOf result ScriptError.WriteFault → Rose (K.faults sink.old) (K.faults sink.new) }
+    // The sink is untouched where memory was refused.
     ensures untouched { IsErrOf result ScriptError.OutOfMemory → sink.new ≡ sink.old }
-    ensures write_later { K.faults sink.old ≤ K.faults sink.new }
 {
     let Ok(summary) = summary_of(alloc, n) else {
         return Err(ScriptError::OutOfMemory);

@@ -1,7 +1,7 @@
 //! What is counted over a script, and its six lines.
 ghost use Rattle.std.specs.Prelude.{◌≡◌, ◌+◌, ◌<◌, ◌≤◌, ◌^◌, ◌++◌, length, decimal};
 ghost use Rattle.script_model.specs.ScriptAnswers.{of_boards};
-ghost use Rattle.script_generator.specs.Counting.{AreLow, OfAnswer, counted, is_last_read, is_last_write, one_more};
+ghost use Rattle.script_generator.specs.Counting.{AreLow, OfAnswer, counted_with, is_last_read, is_last_write, one_more};
 ghost use Rattle.script_generator.specs.Summary as counts;
 ghost use Rattle.script_generator.specs.Summary.{summary_text};
 
@@ -63,7 +63,7 @@ impl Counts {
     /// Counts a line with this answer, where no other calls that read or write run than gets and updates.
     pub(crate) fn count(&mut self, answer: &[u8])
         requires { AreLow self.old }
-        ensures { OfAnswer answer.now (λ a. self.new ≡ counted self.old a) }
+        ensures { OfAnswer answer.now (λ a. self.new ≡ counted_with self.old a) }
     {
         *self = Counts {
             lines: self.lines + 1,

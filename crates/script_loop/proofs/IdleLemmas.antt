@@ -13,7 +13,7 @@ use Rattle.script_model.specs.ScriptAnswers.{ScriptAnswer, of_boards, script_ans
 use Rattle.script_model.specs.ScriptGrammar.{IsScriptLine, SpellsLine}
 use Rattle.script_model.specs.ScriptSession.{Session, start, after, IsRight}
 use Rattle.script_model.specs.ScriptTurns.{ScriptState}
-use Rattle.script_loop.specs.Runs.{HasAnswered, StandsFor}
+use Rattle.script_loop.specs.Machines.{HasAnswered, StandsFor}
 use Rattle.script_loop.specs.IdleMachine.{idle_reason}
 
 abbrev refused : Reason → ScriptAnswer

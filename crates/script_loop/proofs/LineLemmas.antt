@@ -6,7 +6,7 @@ use Rattle.std.proofs.lemmas.List.Splits.{slice_split_at, slice_split_none, slic
 use Rattle.std.proofs.lemmas.List.Elements.{recursion_from_All}
 use Rattle.std.specs.Io.KnownBytes.{prepend_known, Keeps, IsAtEnd}
 use Rattle.board_model.specs.Lines.{IsOneLine, lines_of, whole_parts, TakesLine}
-use Rattle.script_loop.specs.Streams.{HasLongLine}
+use Rattle.script_loop.specs.Reader.{HasLongLine}
 
 abbrev is_newline : ℕ → Bool
 is_newline b = eqb b 10

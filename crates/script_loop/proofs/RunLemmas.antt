@@ -12,9 +12,10 @@ use Rattle.script_model.specs.ScriptGrammar.{SpellsLine}
 use Rattle.script_model.specs.ScriptSession.{Session, start, after, state_after, IsLawfulFrom, IsRight}
 use Rattle.script_model.specs.ScriptTurns.{ScriptState}
 use Rattle.script_model.specs.ScriptOutput.{AreLinesOf, BeginsWith, Fed, FollowedBy, GoesOnAfter, LeavesGrammarAfter, SpellsAll, output_of}
-use Rattle.script_loop.specs.Streams.{HasLongLine, HasMore}
+use Rattle.script_loop.specs.Reader.{HasLongLine, HasMore}
 use Rattle.script_loop.proofs.LineLemmas.{some_lines}
-use Rattle.script_loop.specs.Runs.{HasAnswered, HasRun, IsBadAt, IsPast, IsReadCut, IsRunOf, IsSpent, IsWriteCut, SpellsNone, StandsFor}
+use Rattle.script_loop.specs.Runs.{IsBadAt, IsPast, IsReadCut, IsRunOf, IsSpent, IsWriteCut, Stream}
+use Rattle.script_loop.specs.Machines.{HasAnswered, HasRun, SpellsNone, StandsFor}
 
 -- ---- a session with one more pair
 
@@ -127,75 +128,86 @@ goes_on stands m new count input left rest before held now b text r t a w =
       output = subst (Appends before now) (sym (output_more r.session p)) (Appends-trans before held now (output_of r.session) (script_answer_line a.answer) r.output w2);
     }
 
-pub ends : {M : Type 0} (stands : M → ℕ → ScriptState → Type 0) (m : M) (count limit : ℕ) (input left before held : Option (List ℕ)) → HasRun stands m count input left before held → count ≤ limit → IsAtEnd left → IsRunOf limit input before held
-ends stands m count limit input left before held r few e = record {
-  session = r.session;
-  lawful = r.lawful;
-  lines = fed_all input left r.session r.fed e;
-  few = omega (arith, r.counted, few);
-  output = r.output;
-}
+-- ---- what a run comes to
 
-pub read_cut : {M : Type 0} (stands : M → ℕ → ScriptState → Type 0) (m : M) (count : ℕ) (input stream left before held : Option (List ℕ)) (part : List ℕ) → HasRun stands m count input stream before held → Keeps stream (prepend_known part left) → IsOneLine part → IsReadCut input left before held
-read_cut stands m count input stream left before held part r k one = record {
-  session = r.session;
-  lawful = r.lawful;
-  part = part;
-  cut = one;
-  lines = fed_kept input stream (prepend_known part left) r.session r.fed k;
-  output = r.output;
-}
+module _ {M : Type 0} (stands : M → ℕ → ScriptState → Type 0) (m : M) (count limit : ℕ) (source sink : Stream) (left : Option (List ℕ)) (r : HasRun stands m count source.before left sink.before sink.after) where
+  pub ends : count ≤ limit → IsAtEnd left → IsRunOf limit source sink
+  ends few e = record {
+    session = r.session;
+    lawful = r.lawful;
+    lines = fed_all source.before left r.session r.fed e;
+    few = omega (arith, r.counted, few);
+    output = r.output;
+  }
 
-pub bad_at : {M : Type 0} (stands : M → ℕ → ScriptState → Type 0) (m : M) (count limit : ℕ) (input left rest before held : Option (List ℕ)) (b : List ℕ) → HasRun stands m count input left before held → count < limit → TakesLine left rest b → SpellsNone b → IsBadAt (count + 1) limit input before held
-bad_at stands m count limit input left rest before held b r lt t none = record {
-  session = r.session;
-  lawful = r.lawful;
-  lines = fed_leaves input left rest r.session b r.fed t none;
-  number = ap (λ k. k + 1) (sym r.counted);
-  allowed = omega (arith, lt);
-  output = r.output;
-}
+  pub read_cut : (part : List ℕ) → Keeps left (prepend_known part source.after) → IsOneLine part → IsReadCut source sink
+  read_cut part k one = record {
+    session = r.session;
+    lawful = r.lawful;
+    part = part;
+    cut = one;
+    lines = fed_kept source.before left (prepend_known part source.after) r.session r.fed k;
+    output = r.output;
+  }
 
-pub long_at : {M : Type 0} (stands : M → ℕ → ScriptState → Type 0) (m : M) (count limit : ℕ) (input left before held : Option (List ℕ)) → HasRun stands m count input left before held → count < limit → HasLongLine left → IsBadAt (count + 1) limit input before held
-long_at stands m count limit input left before held r lt h = record {
-  session = r.session;
-  lawful = r.lawful;
-  lines = fed_long input left r.session r.fed h;
-  number = ap (λ k. k + 1) (sym r.counted);
-  allowed = omega (arith, lt);
-  output = r.output;
-}
+  pub bad_at : (rest : Option (List ℕ)) (b : List ℕ) → count < limit → TakesLine left rest b → SpellsNone b → IsBadAt (count + 1) limit source sink
+  bad_at rest b lt t none = record {
+    session = r.session;
+    lawful = r.lawful;
+    lines = fed_leaves source.before left rest r.session b r.fed t none;
+    number = ap (λ k. k + 1) (sym r.counted);
+    allowed = omega (arith, lt);
+    output = r.output;
+  }
 
-pub is_past : {M : Type 0} (stands : M → ℕ → ScriptState → Type 0) (m : M) (count limit : ℕ) (input left before held : Option (List ℕ)) → HasRun stands m count input left before held → count ≡ limit → HasMore left → IsPast limit input before held
-is_past stands m count limit input left before held r all h = record {
-  session = r.session;
-  lawful = r.lawful;
-  lines = fed_goes_on input left r.session r.fed h;
-  full = r.counted ∙ all;
-  output = r.output;
-}
+  pub long_at : count < limit → HasLongLine left → IsBadAt (count + 1) limit source sink
+  long_at lt h = record {
+    session = r.session;
+    lawful = r.lawful;
+    lines = fed_long source.before left r.session r.fed h;
+    number = ap (λ k. k + 1) (sym r.counted);
+    allowed = omega (arith, lt);
+    output = r.output;
+  }
 
-pub is_spent : {M : Type 0} (stands : M → ℕ → ScriptState → Type 0) (m : M) (count : ℕ) (input left before held : Option (List ℕ)) → HasRun stands m count input left before held → IsSpent input before held
-is_spent stands m count input left before held r = record { session = r.session; lawful = r.lawful; lines = fed_begins input left r.session r.fed; output = r.output }
+  pub is_past : count ≡ limit → HasMore left → IsPast limit source sink
+  is_past all h = record {
+    session = r.session;
+    lawful = r.lawful;
+    lines = fed_goes_on source.before left r.session r.fed h;
+    full = r.counted ∙ all;
+    output = r.output;
+  }
+
+  pub is_spent : IsSpent source sink
+  is_spent = record { session = r.session; lawful = r.lawful; lines = fed_begins source.before left r.session r.fed; output = r.output }
 
 -- nothing was run
-pub spent_at_once : (input before : Option (List ℕ)) → IsSpent input before before
-spent_at_once None before = record { session = []; lawful = tt; lines = tt; output = Appends-nil before }
-spent_at_once (Some i) before = record { session = []; lawful = tt; lines = (lines_of i, record { lines = []; all = refl; spelled = tt }); output = Appends-nil before }
+spent_on : (input : Option (List ℕ)) → BeginsWith input []
+spent_on None = tt
+spent_on (Some i) = (lines_of i, record { lines = []; all = refl; spelled = tt })
+
+pub spent_at_once : (source sink : Stream) → sink.after ≡ sink.before → IsSpent source sink
+spent_at_once source sink same = record {
+  session = [];
+  lawful = tt;
+  lines = spent_on source.before;
+  output = subst (λ (x : Option (List ℕ)). Appends sink.before x []) (sym same) (Appends-nil sink.before);
+}
 
 -- a front of what is written behind is a front of all
 fronts : (all text : List ℕ) (n : ℕ) → all ++ take n text ≡ take (length all + n) (all ++ text)
 fronts all text n = sym (take-append-add all text n)
 
-pub write_cut : {M : Type 0} (stands : M → ℕ → ScriptState → Type 0) (m new : M) (count : ℕ) (input left rest before held now : Option (List ℕ)) (b text : List ℕ) (n : ℕ) → (r : HasRun stands m count input left before held) → TakesLine left rest b → HasAnswered stands new r.session b text → Appends held now (take n text) → IsWriteCut input before now
-write_cut stands m new count input left rest before held now b text n r t a w =
+pub write_cut : {M : Type 0} (stands : M → ℕ → ScriptState → Type 0) (m new : M) (count : ℕ) (source sink : Stream) (left rest held : Option (List ℕ)) (b text : List ℕ) (n : ℕ) → (r : HasRun stands m count source.before left sink.before held) → TakesLine left rest b → HasAnswered stands new r.session b text → Appends held sink.after (take n text) → IsWriteCut source sink
+write_cut stands m new count source sink left rest held b text n r t a w =
     let p : ScriptLine × ScriptAnswer = (a.line, a.answer) in
-    let w2 : Appends held now (take n (script_answer_line a.answer)) = subst (λ (x : List ℕ). Appends held now (take n x)) a.told w in
-    let all : Appends before now (output_of r.session ++ take n (script_answer_line a.answer)) = Appends-trans before held now (output_of r.session) (take n (script_answer_line a.answer)) r.output w2 in
+    let w2 : Appends held sink.after (take n (script_answer_line a.answer)) = subst (λ (x : List ℕ). Appends held sink.after (take n x)) a.told w in
+    let all : Appends sink.before sink.after (output_of r.session ++ take n (script_answer_line a.answer)) = Appends-trans sink.before held sink.after (output_of r.session) (take n (script_answer_line a.answer)) r.output w2 in
     record {
       session = r.session ++ p ∷ [];
       lawful = lawful_more start r.session p r.lawful a.right;
-      lines = fed_begins input rest (r.session ++ p ∷ []) (fed_more input left rest r.session b p r.fed t a.spelled);
+      lines = fed_begins source.before rest (r.session ++ p ∷ []) (fed_more source.before left rest r.session b p r.fed t a.spelled);
       written = length (output_of r.session) + n;
-      output = subst (λ (x : List ℕ). Appends before now (take (length (output_of r.session) + n) x)) (sym (output_more r.session p)) (subst (Appends before now) (fronts (output_of r.session) (script_answer_line a.answer) n) all);
+      output = subst (λ (x : List ℕ). Appends sink.before sink.after (take (length (output_of r.session) + n) x)) (sym (output_more r.session p)) (subst (Appends sink.before sink.after) (fronts (output_of r.session) (script_answer_line a.answer) n) all);
     }

@@ -1,11 +1,10 @@
 -- What a line reader has in hand.
-use Rattle.std.specs.Prelude.{ℕ, ◌-◌, Bool, List, take, drop, Option}
-use Rattle.std.specs.Io.KnownBytes.{IsAtEnd}
+use Rattle.std.specs.Prelude.{ℕ, ◌-◌, ◌<◌, Bool, List, length, take, drop, slice_get, IsSomeAnd, Option, Some, None, ⊤}
+use Rattle.std.specs.Io.KnownBytes.{IsAtEnd, prepend_known}
 use Rattle.script_loop.specs.declared.line_reader.LineReader.{LineReader}
 use Rattle.script_loop.specs.declared.line_reader.Fetched.{Fetched}
 use Rattle.script_loop.specs.declared.line_reader.Fetched.TheVariants.{Line, Long, End}
-use Rattle.board_model.specs.Lines.{TakesLine}
-use Rattle.script_loop.specs.Streams.{HasLongLine}
+use Rattle.board_model.specs.Lines.{TakesLine, lines_of}
 
 -- the bytes from one place to another
 abbrev pub between : List ℕ → ℕ → ℕ → List ℕ
@@ -15,15 +14,29 @@ between bytes from to = take (to - from) (drop from bytes)
 abbrev pub in_hand : LineReader → List ℕ
 in_hand r = between r.bytes.items r.start r.end
 
+-- the bytes still to come: those in hand, and then those that the source has left
+abbrev pub to_come : LineReader → Option (List ℕ) → Option (List ℕ)
+to_come r left = prepend_known (in_hand r) left
+
 -- the line that was given last
 abbrev pub line_given : LineReader → List ℕ
 line_given r = between r.bytes.items r.line_start r.line_end
 
--- the source has told its end
-abbrev pub has_ended : LineReader → Bool
-has_ended r = r.ended
+-- the source has come to its end
+abbrev pub source_ended : LineReader → Bool
+source_ended r = r.ended
 
--- what a look for the next line found: before it the source and the hand had these bytes, and now they have those
+-- the first line has more than 4096 bytes, where the bytes are known
+abbrev pub HasLongLine : Option (List ℕ) → Type 0
+HasLongLine None = ⊤
+HasLongLine (Some bytes) = IsSomeAnd (slice_get (lines_of bytes) 0) (λ line. 4096 < length line)
+
+-- a byte is left, where the bytes are known
+abbrev pub HasMore : Option (List ℕ) → Type 0
+HasMore None = ⊤
+HasMore (Some bytes) = 0 < length bytes
+
+-- what a look for the next line found: before it these bytes were to come, and now those are
 abbrev pub IsFetched : Fetched → List ℕ → Option (List ℕ) → Option (List ℕ) → Type 0
 IsFetched Line line old new = TakesLine old new line
 IsFetched Long line old new = HasLongLine old

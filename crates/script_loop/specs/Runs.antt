@@ -1,103 +1,113 @@
--- Machines that answer lines, and what a run of them has done.
-use Rattle.std.specs.Prelude.{◌≡◌, ℕ, ◌+◌, ◌≤◌, ◌<◌, ◌^◌, List, length, take, Option}
-use Rattle.std.specs.Io.KnownBytes.{Appends, prepend_known}
-use Rattle.board_model.specs.Lines.{IsOneLine}
-use Rattle.script_model.specs.declared.line.ScriptLine.{ScriptLine}
-use Rattle.script_model.specs.ScriptAnswers.{ScriptAnswer, script_answer_line}
-use Rattle.script_model.specs.ScriptGrammar.{SpellsLine}
-use Rattle.script_model.specs.ScriptSession.{Session, start, after, state_after, IsLawful, IsRight}
-use Rattle.script_model.specs.ScriptTurns.{ScriptState}
-use Rattle.script_model.specs.ScriptOutput.{AreLinesOf, BeginsWith, Fed, GoesOnAfter, LeavesGrammarAfter, output_of}
+-- What a run of a script comes to, from its source to its sink.
+use Rattle.std.specs.Prelude.{◌≡◌, ℕ, ◌+◌, ◌≤◌, List, length, take, IsSomeAnd, Option, Result, IfErr, IsErrOf, OnOk}
+use Rattle.std.specs.Io.KnownBytes.{Appends, IsAtEnd, prepend_known}
+use Rattle.board_model.specs.Lines.{IsOneLine, Rose}
+use Rattle.script_model.specs.ScriptSession.{Session, IsLawful}
+use Rattle.script_model.specs.ScriptOutput.{AreLinesOf, BeginsWith, Fed, GoesOnAfter, IsScript, LeavesGrammarAfter, output_of}
 use Rattle.script_loop.specs.declared.error.ScriptError.{ScriptError}
 use Rattle.script_loop.specs.declared.error.ScriptError.TheVariants.{ReadFault, WriteFault, BadLine, TooLong, OutOfMemory}
 
--- ---- machines
+-- ---- before and after
 
--- the machine stands for the number of lines and the last state of this session, which is lawful and short enough that no number reaches its end
-pub record StandsFor {M : Type 0} (stands : M → ℕ → ScriptState → Type 0) (m : M) (session : Session) : Type 0 where
-  pub lawful : IsLawful session
-  pub few : length session < 2 ^ 63
-  pub state : stands m (length session) (state_after start session)
+-- a source or a sink: the bytes that a source has left or that a sink holds, where they are known, and its count of faults, each before and after
+pub record Stream : Type 0 where
+  pub before : Option (List ℕ)
+  pub after : Option (List ℕ)
+  pub faults_before : ℕ
+  pub faults_after : ℕ
 
--- the bytes spell a line, the text is the line of its right answer, and the machine stands for the session with this pair
-pub record HasAnswered {M : Type 0} (stands : M → ℕ → ScriptState → Type 0) (new : M) (session : Session) (bytes text : List ℕ) : Type 0 where
-  pub line : ScriptLine
-  pub answer : ScriptAnswer
-  pub spelled : SpellsLine bytes line
-  pub right : IsRight (state_after start session) line answer
-  pub state : stands new (length session + 1) (after (state_after start session) line answer)
-  pub told : text ≡ script_answer_line answer
+-- a value before and after as a stream, by its bytes and its count
+abbrev pub stream_of : {A : Type 0} → (A → Option (List ℕ)) → (A → ℕ) → A → A → Stream
+stream_of bytes faults old new = record { before = bytes old; after = bytes new; faults_before = faults old; faults_after = faults new }
 
--- no line of the grammar has these bytes
-abbrev pub SpellsNone : List ℕ → Type 0
-SpellsNone bytes = (l : ScriptLine) → SpellsLine bytes l → ⊥
+-- its known bytes grew by these
+abbrev pub Gains : Stream → List ℕ → Type 0
+Gains sink bytes = Appends sink.before sink.after bytes
 
--- ---- runs over an input: the sink held `before`, and now it holds `held`
+-- its count of faults has risen
+abbrev pub HasFailed : Stream → Type 0
+HasFailed stream = Rose stream.faults_before stream.faults_after
+
+-- its count of faults hasn't fallen
+abbrev pub CountsOn : Stream → Type 0
+CountsOn stream = stream.faults_before ≤ stream.faults_after
+
+-- ---- runs
 
 -- all lines of the input were answered
-pub record IsRunOf (limit : ℕ) (input before held : Option (List ℕ)) : Type 0 where
+pub record IsRunOf (limit : ℕ) (source sink : Stream) : Type 0 where
   pub session : Session
   pub lawful : IsLawful session
-  pub lines : AreLinesOf input session
+  pub lines : AreLinesOf source.before session
   pub few : length session ≤ limit
-  pub output : Appends before held (output_of session)
+  pub output : Gains sink (output_of session)
 
--- the source failed, and has these bytes left: the lines that were whole were answered, a part of the next was read
-pub record IsReadCut (input left before held : Option (List ℕ)) : Type 0 where
+-- the source failed: the lines that were whole were answered, and a part of the next was read
+pub record IsReadCut (source sink : Stream) : Type 0 where
   pub session : Session
   pub lawful : IsLawful session
   pub part : List ℕ
   pub cut : IsOneLine part
-  pub lines : Fed input (prepend_known part left) session
-  pub output : Appends before held (output_of session)
+  pub lines : Fed source.before (prepend_known part source.after) session
+  pub output : Gains sink (output_of session)
 
 -- the sink failed: of the answers to the first lines a front was written
-pub record IsWriteCut (input before held : Option (List ℕ)) : Type 0 where
+pub record IsWriteCut (source sink : Stream) : Type 0 where
   pub session : Session
   pub lawful : IsLawful session
-  pub lines : BeginsWith input session
+  pub lines : BeginsWith source.before session
   pub written : ℕ
-  pub output : Appends before held (take written (output_of session))
+  pub output : Gains sink (take written (output_of session))
 
 -- line n is the first outside the grammar, and the lines before it were answered
-pub record IsBadAt (n limit : ℕ) (input before held : Option (List ℕ)) : Type 0 where
+pub record IsBadAt (n limit : ℕ) (source sink : Stream) : Type 0 where
   pub session : Session
   pub lawful : IsLawful session
-  pub lines : LeavesGrammarAfter input session
+  pub lines : LeavesGrammarAfter source.before session
   pub number : n ≡ length session + 1
   pub allowed : n ≤ limit
-  pub output : Appends before held (output_of session)
+  pub output : Gains sink (output_of session)
 
 -- as many lines as are allowed were answered, and another one follows
-pub record IsPast (limit : ℕ) (input before held : Option (List ℕ)) : Type 0 where
+pub record IsPast (limit : ℕ) (source sink : Stream) : Type 0 where
   pub session : Session
   pub lawful : IsLawful session
-  pub lines : GoesOnAfter input session
+  pub lines : GoesOnAfter source.before session
   pub full : length session ≡ limit
-  pub output : Appends before held (output_of session)
+  pub output : Gains sink (output_of session)
 
 -- memory was refused: the lines before were answered
-pub record IsSpent (input before held : Option (List ℕ)) : Type 0 where
+pub record IsSpent (source sink : Stream) : Type 0 where
   pub session : Session
   pub lawful : IsLawful session
-  pub lines : BeginsWith input session
-  pub output : Appends before held (output_of session)
+  pub lines : BeginsWith source.before session
+  pub output : Gains sink (output_of session)
 
 -- what stands after each error
-abbrev pub IsStopped : ScriptError → ℕ → Option (List ℕ) → Option (List ℕ) → Option (List ℕ) → Option (List ℕ) → Type 0
-IsStopped ReadFault limit input left before held = IsReadCut input left before held
-IsStopped WriteFault limit input left before held = IsWriteCut input before held
-IsStopped (BadLine n) limit input left before held = IsBadAt n limit input before held
-IsStopped TooLong limit input left before held = IsPast limit input before held
-IsStopped OutOfMemory limit input left before held = IsSpent input before held
+abbrev pub IsStopped : ScriptError → ℕ → Stream → Stream → Type 0
+IsStopped ReadFault limit source sink = IsReadCut source sink
+IsStopped WriteFault limit source sink = IsWriteCut source sink
+IsStopped (BadLine n) limit source sink = IsBadAt n limit source sink
+IsStopped TooLong limit source sink = IsPast limit source sink
+IsStopped OutOfMemory limit source sink = IsSpent source sink
 
--- ---- inside a run
+-- the source is known to be a script of at most so many lines, and neither it nor the sink failed
+pub record IsUndisturbed (limit : ℕ) (source sink : Stream) : Type 0 where
+  pub script : IsSomeAnd source.before (IsScript limit)
+  pub read : ¬ HasFailed source
+  pub written : ¬ HasFailed sink
 
--- so many lines were answered, and the rest is left
-pub record HasRun {M : Type 0} (stands : M → ℕ → ScriptState → Type 0) (m : M) (count : ℕ) (input left before held : Option (List ℕ)) : Type 0 where
-  pub session : Session
-  pub lawful : IsLawful session
-  pub state : stands m (length session) (state_after start session)
-  pub counted : length session ≡ count
-  pub fed : Fed input left session
-  pub output : Appends before held (output_of session)
+-- what a run of at most so many lines comes to
+pub record Runs (limit : ℕ) (source sink : Stream) (result : Result (Unit {0}) ScriptError) : Type 0 where
+  -- the sink gained the output of the lawful session of the input's lines, which was read to its end
+  pub ok : OnOk result (IsRunOf limit source sink)
+  pub end : OnOk result (IsAtEnd source.after)
+  -- each error comes where this says, and leaves what it says
+  pub err : IfErr result (λ e. IsStopped e limit source sink)
+  -- a known script is run to its end where nothing fails
+  pub complete : IsUndisturbed limit source sink → IfErr result (λ e. e ≡ OutOfMemory)
+  -- the faults are those of the source and of the sink
+  pub read : IsErrOf result ReadFault → HasFailed source
+  pub write : IsErrOf result WriteFault → HasFailed sink
+  pub read_later : CountsOn source
+  pub write_later : CountsOn sink

@@ -2,7 +2,9 @@
 //!
 //! `run_lines` is the loop, over any `Source`, any `Sink` and any machine that answers lines (`RunsLines`);
 //! `LineReader` takes lines from a source. Contracts see the bytes that a source has left and a sink holds, where they
-//! are known (`specs/Streams`); `specs/Runs` says what a run has done, and what stands after each error.
+//! are known. `specs/Runs` says what a run comes to, field by field in the record `Runs`: what it has done, and what
+//! stands after each error. `specs/Machines` says when a machine stands for a session, `specs/Reader` what a line reader
+//! has in hand.
 #![tactic(auto)]
 
 mod error;

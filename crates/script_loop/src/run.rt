@@ -1,11 +1,9 @@
 //! Lines that are run one after another.
-ghost use Rattle.std.specs.Prelude.{◌≡◌, ◌≤◌, ◌^◌, [], IfErr, IsErrOf, IsSomeAnd, List, OnErr, OnOk, ℕ};
-ghost use Rattle.std.specs.Io.KnownBytes.{IsAtEnd};
-ghost use Rattle.board_model.specs.Lines.{Rose};
-ghost use Rattle.script_model.specs.ScriptOutput.{IsScript};
+ghost use Rattle.std.specs.Prelude.{◌≡◌, ◌≤◌, [], IsErrOf, OnErr, OnOk, ℕ};
 ghost use Rattle.script_model.specs.ScriptSession.{Session, start};
 ghost use Rattle.script_model.specs.ScriptTurns.{ScriptState};
-ghost use Rattle.script_loop.specs.Runs.{HasAnswered, IsRunOf, IsStopped, SpellsNone, StandsFor};
+ghost use Rattle.script_loop.specs.Runs.{Runs, stream_of};
+ghost use Rattle.script_loop.specs.Machines.{AnswersEach, SpellsNone, StandsFor, StandsStill};
 
 use crate::error::{LineError, ScriptError};
 use crate::line_reader::{Fetched, LineReader};
@@ -28,11 +26,11 @@ pub trait RunsLines {
         requires { (session : Session) × StandsFor stands self.old session }
 
         // For each session that it stands for the answer is right, and it stands for the session with this pair.
-        ensures ok { OnOk result ((session : Session) → StandsFor stands self.old session → HasAnswered stands self.new session line.now answer.new.items) }
+        ensures ok { OnOk result (AnswersEach stands self.old self.new line.now answer.new.items) }
 
         // A line outside the grammar is refused, no other one is, and nothing changes.
         ensures bad { IsErrOf result LineError.Bad → SpellsNone line.now }
-        ensures same { IsErrOf result LineError.Bad → (n : ℕ) (s : ScriptState) → stands self.old n s → stands self.new n s }
+        ensures same { IsErrOf result LineError.Bad → StandsStill stands self.old self.new }
 
         ensures err { OnErr result (answer.new.items ≡ []) };
 }
@@ -53,21 +51,11 @@ pub fn run_lines<M: RunsLines, S: Source, K: Sink>(
     requires limit { limit ≤ 4294967295 }
     requires machine { M.stands machine.old 0 start }
 
-    // The sink gained the output of the lawful session of the input's lines, which was read to its end.
-    ensures ok { OnOk result (IsRunOf limit (S.left source.old) (K.held sink.old) (K.held sink.new)) }
-    ensures end { OnOk result (IsAtEnd (S.left source.new)) }
-
-    // Each error comes where `IsStopped` says, and leaves what it says.
-    ensures err { IfErr result (λ e. IsStopped e limit (S.left source.old) (S.left source.new) (K.held sink.old) (K.held sink.new)) }
-
-    // A known script of lines of the grammar, at most `limit`, is run to its end where nothing fails.
-    ensures complete { IsSomeAnd (S.left source.old) (IsScript limit) → ¬ Rose (S.faults source.old) (S.faults source.new) → ¬ Rose (K.faults sink.old) (K.faults sink.new) → IfErr result (λ e. e ≡ ScriptError.OutOfMemory) }
-
-    // The faults are those of the source and of the sink.
-    ensures read { IsErrOf result ScriptError.ReadFault → Rose (S.faults source.old) (S.faults source.new) }
-    ensures write { IsErrOf result ScriptError.WriteFault → Rose (K.faults sink.old) (K.faults sink.new) }
-    ensures read_later { S.faults source.old ≤ S.faults source.new }
-    ensures write_later { K.faults sink.old ≤ K.faults sink.new }
+    // The sink gained the output of the lawful session of the input's lines, or the error says what stands.
+    ensures { Runs limit
+        (stream_of S.left S.faults source.old source.new)
+        (stream_of K.held K.faults sink.old sink.new)
+        result }
 {
     let Ok(mut reader) = LineReader::new(alloc) else {
         return Err(ScriptError::OutOfMemory);

@@ -14,13 +14,13 @@ pub struct Failed;
 
 /// Where bytes come from.
 ///
-/// Contracts see the bytes that are `left` to read, where a source tells them, and a count of `faults` that never falls.
+/// Contracts see the bytes that are `left` to read, where they are known, and a count of `faults` that never falls.
 pub trait Source {
     ghost left: { Self → Option (List ℕ) };
 
     ghost faults: { Self → ℕ };
 
-    /// Fills a front of `buf` with the next bytes, and tells how many. 0 for a `buf` that isn't empty means the end.
+    /// Fills a front of `buf` with the next bytes, and gives how many. 0 for a `buf` that isn't empty means the end.
     ///
     /// # Errors
     /// `Failed` where no byte could be had; the bytes that are left stay.
@@ -36,13 +36,13 @@ pub trait Source {
 
 /// Where bytes go.
 ///
-/// Contracts see the bytes that are `held`, where a sink tells them, and a count of `faults` that never falls.
+/// Contracts see the bytes that are `held`, where they are known, and a count of `faults` that never falls.
 pub trait Sink {
     ghost held: { Self → Option (List ℕ) };
 
     ghost faults: { Self → ℕ };
 
-    /// Takes a front of `bytes`, at least one byte where there is one, and tells how many.
+    /// Takes a front of `bytes`, at least one byte where there is one, and gives how many.
     ///
     /// # Errors
     /// `Failed` where no byte could be taken; what is held stays.

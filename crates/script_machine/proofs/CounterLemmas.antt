@@ -6,11 +6,11 @@ use Rattle.board_model.specs.Tables.{entry_at}
 use Rattle.board_model.proofs.SoundLemmas.{sound_session}
 use Rattle.script_model.specs.ScriptSession.{IsLawful, Session, start, state_after}
 use Rattle.script_model.proofs.PartLemmas.{boards_law_holds}
-use Rattle.script_loop.specs.Runs.{StandsFor}
+use Rattle.script_loop.specs.Machines.{StandsFor}
 use Rattle.script_boards.specs.Steps.{HasCounter, IsCounter}
 use Rattle.script_boards.proofs.TableSteps.{CounterAt, counter_at}
 use Rattle.script_machine.specs.declared.machine.Machine.{Machine}
-use Rattle.script_machine.specs.Counters.{HasEntry}
+use Rattle.script_machine.specs.Counters.{EntryStands}
 use Rattle.script_machine.specs.ScriptMachine.{StandsAfter}
 
 -- the boards after a lawful session of a script are sound
@@ -19,7 +19,7 @@ boards_sound session lawful =
     let part = boards_law_holds session lawful in
     subst Sound part.state (sound_session _ part.lawful)
 
-module _ {C : Type 0} (m : Machine C) (session : Session) (h : StandsFor StandsAfter m session) (board i : ℕ) (e : HasEntry m board i) where
+module _ {C : Type 0} (m : Machine C) (session : Session) (h : StandsFor StandsAfter m session) (board i : ℕ) (e : EntryStands m board i) where
   at : CounterAt m.boards (state_after start session).boards h.state.represents.boards (boards_sound session h.lawful) board i
   at = counter_at m.boards (state_after start session).boards h.state.represents.boards (boards_sound session h.lawful) board i e.0
       (ap (λ t. entry_at t board i) h.state.represents.boards.tables ∙ e.1)

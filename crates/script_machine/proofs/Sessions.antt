@@ -4,7 +4,7 @@ use Rattle.board_model.specs.LawfulSession as boards
 use Rattle.script_boards.specs.Machine as boards_machine
 use Rattle.script_boards.specs.Machine.{drawn_by}
 use Rattle.script_boards.proofs.Listings.{reached_by}
-use Rattle.script_loop.specs.Runs.{HasAnswered, StandsFor}
+use Rattle.script_loop.specs.Machines.{HasAnswered, StandsFor}
 use Rattle.script_model.specs.declared.line.ScriptLine.{ScriptLine}
 use Rattle.script_model.specs.Parts.{board_part}
 use Rattle.script_model.specs.ScriptGrammar.{SpellsLine}

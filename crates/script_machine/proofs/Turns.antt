@@ -30,7 +30,7 @@ use Rattle.script_model.specs.ScriptGrammar.{IsScriptLine}
 use Rattle.script_model.specs.ScriptSession.{IsRight, IsRuled, after, after_boards, after_turn}
 use Rattle.script_model.specs.ScriptTurns.{EventTurn, IsTurnAnswer, ScriptState, begin_turn, begins, board_turn, drop_turn, drops, expire_of_call, expire_turn, expires, free_turn, is_name_taken, may_expire, refused, request_turn, steps, takes_event_name, task_turn, turn_of, turned}
 use Rattle.script_machine.specs.declared.machine.Machine.{Machine}
-use Rattle.script_machine.specs.ScriptMachine.{IsTelling, Represents, is_gone, no_wait}
+use Rattle.script_machine.specs.ScriptMachine.{IsTelling, Represents, is_gone_answer, no_wait}
 
 -- ---- answers
 
@@ -194,17 +194,17 @@ module _ (s : ScriptState) (party : List ℕ) where
 -- ---- abandonments
 
 -- an answer that tells of an abandonment is this one
-the_gone : (a : Answer) → is_gone a ≡ true → a ≡ answer.Gone
+the_gone : (a : Answer) → is_gone_answer a ≡ true → a ≡ answer.Gone
 the_gone answer.Begun e = absurd cc
 the_gone (answer.Refused why) e = absurd cc
 the_gone (answer.Step x told) e = absurd cc
 the_gone answer.Gone e = refl
 the_gone (answer.Words words) e = absurd cc
 
-pub gone_with : (x : ScriptEvents) (party : List ℕ) (a : Answer) → is_gone a ≡ true → after_boards x (board_line.Abandon party) a ≡ events_abandoned x party
+pub gone_with : (x : ScriptEvents) (party : List ℕ) (a : Answer) → is_gone_answer a ≡ true → after_boards x (board_line.Abandon party) a ≡ events_abandoned x party
 gone_with x party a e = rw (the_gone a e) refl
 
-pub gone_without : (x : ScriptEvents) (party : List ℕ) (a : Answer) → is_gone a ≡ false → after_boards x (board_line.Abandon party) a ≡ x
+pub gone_without : (x : ScriptEvents) (party : List ℕ) (a : Answer) → is_gone_answer a ≡ false → after_boards x (board_line.Abandon party) a ≡ x
 gone_without x party answer.Begun e = refl
 gone_without x party (answer.Refused why) e = refl
 gone_without x party (answer.Step b told) e = refl

@@ -6,5 +6,5 @@ use Rattle.script_boards.specs.Machine.{tables_of}
 use Rattle.script_machine.specs.declared.machine.Machine.{Machine}
 
 -- the entry stands
-abbrev pub HasEntry : {C : Type 0} → Machine C → ℕ → ℕ → Type 0
-HasEntry m board i = (e : Entry) × (entry_at (tables_of m.boards) board i ≡ Some e)
+abbrev pub EntryStands : {C : Type 0} → Machine C → ℕ → ℕ → Type 0
+EntryStands m board i = (e : Entry) × (entry_at (tables_of m.boards) board i ≡ Some e)

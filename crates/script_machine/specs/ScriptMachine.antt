@@ -40,8 +40,8 @@ pub record StandsAfter {C : Type 0} (m : Machine C) (count : ℕ) (s : ScriptSta
   pub drawn : drawn_by m.boards ≤ count
 
 -- it holds of each reached state that the machine stands for
-abbrev pub OfEach : {C : Type 0} → Machine C → (ScriptState → Type 0) → Type 0
-OfEach m Holds = (s : ScriptState) (count : ℕ) → Represents m s → IsReached s count → Holds s
+abbrev pub OfEachState : {C : Type 0} → Machine C → (ScriptState → Type 0) → Type 0
+OfEachState m Holds = (s : ScriptState) (count : ℕ) → Represents m s → IsReached s count → Holds s
 
 -- the text is the line of an answer that is right after the state, and the machine stands for what follows
 pub record IsTelling {C : Type 0} (new : Machine C) (l : ScriptLine) (text : List ℕ) (s : ScriptState) : Type 0 where
@@ -52,14 +52,14 @@ pub record IsTelling {C : Type 0} (new : Machine C) (l : ScriptLine) (text : Lis
 
 -- so the text is, after each reached state that the machine stood for
 abbrev pub Tells : {C : Type 0} → Machine C → Machine C → ScriptLine → List ℕ → Type 0
-Tells old new l text = OfEach old (IsTelling new l text)
+Tells old new l text = OfEachState old (IsTelling new l text)
 
 -- ---- answers of the machine of boards
 
 -- the party was abandoned
-abbrev pub is_gone : Answer → Bool
-is_gone answer.Gone = true
-is_gone a = false
+abbrev pub is_gone_answer : Answer → Bool
+is_gone_answer answer.Gone = true
+is_gone_answer a = false
 
 -- a party that runs a call on boards isn't in a timed wait
 abbrev pub no_wait : Reason → Reason

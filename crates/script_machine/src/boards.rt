@@ -11,7 +11,7 @@ ghost use Rattle.script_model.specs.ScriptEvents.{runs_on_events};
 ghost use Rattle.script_model.specs.ScriptTurns.{takes_event_name};
 ghost use Rattle.script_boards.specs.Machine.{drawn_by};
 ghost use Rattle.script_events.specs.PartyEvents as events;
-ghost use Rattle.script_machine.specs.ScriptMachine.{IsLed, OfEach, Tells, is_gone};
+ghost use Rattle.script_machine.specs.ScriptMachine.{IsLed, OfEachState, Tells, is_gone_answer};
 
 use crate::machine::Machine;
 use board_cell_model::Access;
@@ -31,7 +31,7 @@ fn push_listing(words: &[u64], out: &mut Vec<u8>) -> Result<(), AllocError>
 
 // Whether a party was abandoned.
 fn is_gone(answer: &Answer) -> bool
-    ensures { result ≡ is_gone answer.now }
+    ensures { result ≡ is_gone_answer answer.now }
 {
     matches!(answer, Answer::Gone)
 }
@@ -59,7 +59,7 @@ fn new_name(call: &Call) -> Option<Name>
 impl<C: BoardWords + Drop> Machine<C> {
     // Whether the thing that a call makes would have the name of a listener or notifier of its party.
     fn takes_event_name(&self, party: &Name, call: &Call) -> bool
-        ensures { OfEach self.now (λ s. result ≡ takes_event_name s.events party.now (requests.new_name call.now)) }
+        ensures { OfEachState self.now (λ s. result ≡ takes_event_name s.events party.now (requests.new_name call.now)) }
     {
         match new_name(call) {
             Some(name) => self.events.holds(party, &name),

@@ -1,11 +1,10 @@
 //! The machine's one call: the line of a script, and the answer to it.
-ghost use Rattle.std.specs.Prelude.{◌≡◌, ℕ, ◌+◌, ◌≤◌, [], true, IsErrOf, OnErr, OnOk};
+ghost use Rattle.std.specs.Prelude.{◌≡◌, ◌+◌, ◌≤◌, [], true, IsErrOf, OnErr, OnOk};
 ghost use Rattle.board_model.specs.LineGrammar.{IsLine};
 ghost use Rattle.script_model.specs.declared.line.ScriptLine.TheVariants as script_line;
 ghost use Rattle.script_model.specs.ScriptGrammar.{IsScriptLine};
 ghost use Rattle.script_model.specs.ScriptSession.{Session, start};
-ghost use Rattle.script_model.specs.ScriptTurns.{ScriptState};
-ghost use Rattle.script_loop.specs.Runs.{HasAnswered, SpellsNone, StandsFor};
+ghost use Rattle.script_loop.specs.Machines.{AnswersEach, SpellsNone, StandsFor, StandsStill};
 ghost use Rattle.script_boards.specs.Machine.{drawn_by};
 ghost use Rattle.script_machine.specs.ScriptMachine.{IsLed, StandsAfter, Tells};
 
@@ -101,11 +100,11 @@ impl<C: BoardWords + Drop> Machine<C> {
         requires { (session : Session) × StandsFor StandsAfter self.old session }
 
         // For each session that it stands for the answer is right, and it stands for the session with this pair.
-        ensures ok { OnOk result ((session : Session) → StandsFor StandsAfter self.old session → HasAnswered StandsAfter self.new session line.now answer.new.items) }
+        ensures ok { OnOk result (AnswersEach StandsAfter self.old self.new line.now answer.new.items) }
 
         // A line outside the grammar is refused, no other one is, and nothing changes.
         ensures bad { IsErrOf result LineError.Bad → SpellsNone line.now }
-        ensures same { IsErrOf result LineError.Bad → (n : ℕ) (s : ScriptState) → StandsAfter self.old n s → StandsAfter self.new n s }
+        ensures same { IsErrOf result LineError.Bad → StandsStill StandsAfter self.old self.new }
 
         ensures spent { IsErrOf result LineError.OutOfMemory → self.new.spent ≡ true }
         ensures err { OnErr result (answer.new.items ≡ []) }

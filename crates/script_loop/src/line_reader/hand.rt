@@ -1,7 +1,7 @@
 ghost use Rattle.std.specs.Prelude.{◌≡◌, ◌<◌, ◌≤◌, ◌+◌, [], IfErr, IfNone, IfOk, IfSome, IsTrue, OnErr, OnOk, drop, false, length, slice_index, take};
-ghost use Rattle.std.specs.Io.KnownBytes.{Consumes, Keeps, IsAtEnd, prepend_known};
+ghost use Rattle.std.specs.Io.KnownBytes.{Consumes, Keeps, IsAtEnd};
 ghost use Rattle.board_model.specs.Lines.{HasCause, IsOneLine};
-ghost use Rattle.script_loop.specs.Reader.{has_ended, in_hand, line_given};
+ghost use Rattle.script_loop.specs.Reader.{source_ended, in_hand, line_given, to_come};
 
 use super::LineReader;
 use crate::error::LineError;
@@ -9,7 +9,7 @@ use crate::stream::{Failed, Source};
 use script_parse::place_of;
 use std::alloc::Global;
 
-// Reads into the bytes from a place on, and tells how many came.
+// Reads into the bytes from a place on, and gives how many came.
 fn read_behind<S: Source>(bytes: &mut [u8], from: usize, source: &mut S) -> Result<usize, Failed>
     requires { from < length bytes.old }
     ensures bound { IfOk result (λ count. from + count ≤ length bytes.old) }
@@ -29,7 +29,7 @@ impl LineReader {
     /// `OutOfMemory` where memory is refused.
     pub fn new(alloc: Global) -> Result<LineReader, LineError>
         ensures hand { IfOk result (λ reader. in_hand reader ≡ []) }
-        ensures ended { IfOk result (λ reader. has_ended reader ≡ false) }
+        ensures ended { IfOk result (λ reader. source_ended reader ≡ false) }
         ensures err { IfErr result (λ e. e ≡ LineError.OutOfMemory) }
     {
         let bytes = vec![in alloc; 0; 4097]?;
@@ -76,7 +76,7 @@ impl LineReader {
         requires { len + dropped ≤ length (in_hand self.old) }
         ensures line { line_given self.new ≡ take len (in_hand self.old) }
         ensures hand { in_hand self.new ≡ drop (len + dropped) (in_hand self.old) }
-        ensures ended { has_ended self.new ≡ has_ended self.old }
+        ensures ended { source_ended self.new ≡ source_ended self.old }
     {
         self.line_start = self.start;
         self.line_end = self.start + len;
@@ -87,7 +87,7 @@ impl LineReader {
     fn to_front(&mut self)
         ensures front { self.new.start ≡ 0 }
         ensures hand { in_hand self.new ≡ in_hand self.old }
-        ensures ended { has_ended self.new ≡ has_ended self.old }
+        ensures ended { source_ended self.new ≡ source_ended self.old }
     {
         if self.start > 0 {
             self.bytes.copy_within(self.start..self.end, 0);
@@ -101,13 +101,13 @@ impl LineReader {
     // Takes more bytes in hand, as many as the buffer has room for, and notes where none is left.
     pub(super) fn fill<S: Source>(&mut self, source: &mut S) -> Result<(), Failed>
         requires room { length (in_hand self.old) < 4097 }
-        requires open { has_ended self.old ≡ false }
-        ensures kept { Keeps (prepend_known (in_hand self.old) (S.left source.old)) (prepend_known (in_hand self.new) (S.left source.new)) }
+        requires open { source_ended self.old ≡ false }
+        ensures kept { Keeps (to_come self.old (S.left source.old)) (to_come self.new (S.left source.new)) }
         ensures front { take (length (in_hand self.old)) (in_hand self.new) ≡ in_hand self.old }
-        ensures grew { OnOk result (has_ended self.new ≡ false → length (in_hand self.old) < length (in_hand self.new)) }
-        ensures same { IsTrue (has_ended self.new) → in_hand self.new ≡ in_hand self.old }
+        ensures grew { OnOk result (source_ended self.new ≡ false → length (in_hand self.old) < length (in_hand self.new)) }
+        ensures same { IsTrue (source_ended self.new) → in_hand self.new ≡ in_hand self.old }
         ensures failed { OnErr result (in_hand self.new ≡ in_hand self.old) }
-        ensures ended { IsTrue (has_ended self.new) → IsAtEnd (S.left source.new) }
+        ensures ended { IsTrue (source_ended self.new) → IsAtEnd (S.left source.new) }
         ensures cause { HasCause (S.faults source.old) (S.faults source.new) result }
     {
         self.to_front();

@@ -4,7 +4,7 @@ ghost use Rattle.board_model.specs.declared.answer.Answer.TheVariants as answers
 ghost use Rattle.board_model.specs.AnswerGrammar.{answer_line};
 ghost use Rattle.script_model.specs.declared.line.ScriptLine.{ScriptLine};
 ghost use Rattle.script_model.specs.ScriptGrammar.{SpellsLine};
-ghost use Rattle.script_loop.specs.Runs.{SpellsNone};
+ghost use Rattle.script_loop.specs.Machines.{SpellsNone};
 ghost use Rattle.script_loop.specs.IdleMachine.{idle_reason};
 
 use crate::{LineError, RunsLines};

@@ -60,31 +60,10 @@ fn a_line_has_room_for_4096_bytes(rt: HostRuntime) -> Result<(), Fail> {
 }
 
 #[test]
-fn a_failed_read_loses_nothing(rt: HostRuntime) -> Result<(), Fail> {
-    let bytes = Vec::from_slice(rt.alloc(), b"ab\nc")?;
-    let fails = Vec::from_array(rt.alloc(), [1])?;
-    let mut source = MemorySource::new(bytes, 1, fails);
-    let mut reader = LineReader::new(rt.alloc())?;
-    assert_eq!(rt; reader.next(&mut source), Err(Failed));
-    assert_eq!(rt; reader.next(&mut source)?, Fetched::Line);
-    assert_eq!(rt; reader.line(), b"ab".as_slice());
-    assert_eq!(rt; reader.next(&mut source)?, Fetched::Line);
-    assert_eq!(rt; reader.line(), b"c".as_slice());
-    assert_eq!(rt; reader.next(&mut source)?, Fetched::End);
-    Ok(())
-}
-
-#[test]
 fn a_sink_takes_what_it_has_room_for(rt: HostRuntime) -> Result<(), Fail> {
     let mut sink = MemorySink::new(rt.alloc(), 2, 1, Vec::new(rt.alloc()))?;
     assert_eq!(rt; write_whole(&mut sink, b"abc"), Err(Failed));
     assert_eq!(rt; sink.held(), b"ab".as_slice());
     assert_eq!(rt; write_whole(&mut sink, b""), Ok(()));
-
-    let fails = Vec::from_array(rt.alloc(), [1])?;
-    let mut sink = MemorySink::new(rt.alloc(), 9, 2, fails)?;
-    assert_eq!(rt; write_whole(&mut sink, b"abcd"), Err(Failed));
-    assert_eq!(rt; write_whole(&mut sink, b"cd"), Ok(()));
-    assert_eq!(rt; sink.held(), b"abcd".as_slice());
     Ok(())
 }

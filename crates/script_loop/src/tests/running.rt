@@ -42,52 +42,18 @@ fn check(alloc: Global, trial: &Trial) -> Result<bool, Fail> {
 }
 
 #[test]
-fn lines_are_answered_in_order(rt: HostRuntime) -> Result<(), Fail> {
+fn scripts_are_run_until_they_end_or_must_stop(rt: HostRuntime) -> Result<(), Fail> {
     let trials = [
-        PLAIN,
         Trial {
             script: b"words 1\nstep a",
             written: b"refused noboard\nrefused idle\n",
             ..PLAIN
         },
         Trial {
-            script: b"words 1\nstep a\n",
-            piece: 1,
-            written: b"refused noboard\nrefused idle\n",
-            ..PLAIN
-        },
-        Trial {
-            script: b"words 1\n\nstep a\n",
-            result: Err(ScriptError::BadLine(2)),
-            written: b"refused noboard\n",
-            ..PLAIN
-        },
-        Trial {
-            script: b"step a\nstep b\nstep B\n",
-            result: Err(ScriptError::BadLine(3)),
-            written: b"refused idle\nrefused idle\n",
-            ..PLAIN
-        },
-        Trial {
             script: b"begin a notify n 1\nbegin a wait l all try\nexpire a\nbegin a notify n\n",
+            piece: 1,
             result: Err(ScriptError::BadLine(4)),
             written: b"refused unknown\nrefused unknown\nrefused idle\n",
-            ..PLAIN
-        },
-    ];
-    for trial in &trials {
-        assert!(rt; check(rt.alloc(), trial)?);
-    }
-    Ok(())
-}
-
-#[test]
-fn a_run_stops_where_it_must(rt: HostRuntime) -> Result<(), Fail> {
-    let trials = [
-        Trial {
-            script: b"step a\nstep b\n",
-            limit: 2,
-            written: b"refused idle\nrefused idle\n",
             ..PLAIN
         },
         Trial {
@@ -110,12 +76,6 @@ fn a_run_stops_where_it_must(rt: HostRuntime) -> Result<(), Fail> {
             room: 15,
             result: Err(ScriptError::WriteFault),
             written: b"refused idle\nre",
-            ..PLAIN
-        },
-        Trial {
-            script: b"step a\nbegin a lend l m\nbegin a gen m\n",
-            result: Err(ScriptError::BadLine(2)),
-            written: b"refused idle\n",
             ..PLAIN
         },
         Trial {

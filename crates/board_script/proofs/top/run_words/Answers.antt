@@ -4,9 +4,9 @@ use Rattle.board_script.proofs.top.run_words.Goals as goal
 pub returns-clause-summed : goal.returns-clause-summed
 returns-clause-summed g c = λ n h zero.
     let same = one_number _ c.in-Some.n n (rw c.deref.ensures.value at c.in-Some.ensures.some) h in
-    summed c.run_generated.result c.in-Some.n n _ _ c.tell-2.result same c.run_generated.ensures.ok c.tell-2.ensures.is zero
+    summed c.run_generated.result c.in-Some.n n c.report-2.result _ same c.run_generated.ensures.run c.report-2.ensures.is zero
 
 pub returns-clause-generated : goal.returns-clause-generated
 returns-clause-generated g c = λ n h.
     let same = one_number _ c.in-Some.n n (rw c.deref.ensures.value at c.in-Some.ensures.some) h in
-    summed_up c.run_generated.result c.in-Some.n n _ _ _ _ _ _ _ _ c.tell-2.result same c.run_generated.ensures.ok c.run_generated.ensures.err c.run_generated.ensures.write c.tell-2.ensures.is c.tell-2.ensures.note
+    summed_up c.run_generated.result c.in-Some.n n c.report-2.result _ _ same c.run_generated.ensures.run c.report-2.ensures.is c.report-2.ensures.note

@@ -1,5 +1,5 @@
 use Rattle.std.proofs.Common.{sym, subst}
-use Rattle.script_loop.specs.Runs.{StandsFor}
+use Rattle.script_loop.specs.Machines.{StandsFor}
 use Rattle.script_machine.specs.ScriptMachine.{StandsAfter}
 use Rattle.script_generator.proofs.GeneratorEnds.{summary_told}
 use Rattle.script_generator.proofs.generator.Generator.summary.Goals as goal

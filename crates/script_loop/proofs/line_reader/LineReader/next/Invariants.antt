@@ -1,7 +1,7 @@
 use Rattle.std.proofs.Common.{◌≤◌, ◌-◌, ◌+◌, length, take, cond, IsTrue}
 use Rattle.std.specs.Io.KnownBytes.{IsAtEnd, Keeps, prepend_known}
 use Rattle.board_model.specs.Lines.{IsOneLine}
-use Rattle.script_loop.specs.Reader.{has_ended, in_hand}
+use Rattle.script_loop.specs.Reader.{source_ended, in_hand}
 use Rattle.script_loop.proofs.line_reader.LineReader.next.Given as goal
 
 abbrev pub invariant-loop-at : goal.invariant-loop-at
@@ -9,9 +9,9 @@ invariant-loop-at g l = record {
   kept : Keeps (prepend_known (in_hand l.fn.self) (g.S.Source.left l.fn.source)) (prepend_known (in_hand l.self) (g.S.Source.left l.source));
   searched : l.searched ≤ length (in_hand l.self);
   none_before : IsOneLine (take l.searched (in_hand l.self));
-  one_source : IsTrue (has_ended l.self) → IsAtEnd (g.S.Source.left l.source);
+  one_source : IsTrue (source_ended l.self) → IsAtEnd (g.S.Source.left l.source);
   later : g.S.Source.faults l.fn.source ≤ g.S.Source.faults l.source;
 }
 
 abbrev pub decreases-loop-at : goal.decreases-loop-at
-decreases-loop-at g l = 4097 - length (in_hand l.self) + cond (has_ended l.self) 0 1
+decreases-loop-at g l = 4097 - length (in_hand l.self) + cond (source_ended l.self) 0 1

@@ -2,13 +2,13 @@ use Rattle.std.proofs.Common.{◌≡◌, true, false, refl, sym, subst, ◌∙�
 use Rattle.board_model.specs.declared.line.Line.TheVariants as board_line
 use Rattle.script_boards.proofs.Listings.{on_ok}
 use Rattle.script_events.specs.PartyEvents as events
-use Rattle.script_machine.specs.ScriptMachine.{is_gone}
+use Rattle.script_machine.specs.ScriptMachine.{is_gone_answer}
 use Rattle.script_machine.proofs.Turns.{from_nothing, gone_with, gone_without, told_alone}
 use Rattle.script_machine.proofs.machine.Machine.abandon.Goals as goal
 
 pub returns-then-is_gone-clause-tells : goal.returns-then-is_gone-clause-tells
 returns-then-is_gone-clause-tells g c = on_ok (λ e s count rep reached.
-    let gone : is_gone c.in_ok-answer.answer ≡ true = sym c.is_gone.ensures ∙ c.if-is_gone.true in
+    let gone : is_gone_answer c.in_ok-answer.answer ≡ true = sym c.is_gone.ensures ∙ c.if-is_gone.true in
     let served = c.in_ok-answer.ensures.serves s.boards rep.boards reached.boards c.requires.line in
     told_alone _ s (board_line.Abandon c.args.party) c.in_ok-answer.answer _ refl c.requires.line served.0
     (record { alive = rep.alive; boards = served.1; events = subst (λ x. events.Represents c.abandon-then-is_gone.new.self x) (sym (gone_with s.events c.args.party c.in_ok-answer.answer gone)) (c.abandon-then-is_gone.ensures s.events count reached.few reached.sound.events rep.events) })
@@ -16,7 +16,7 @@ returns-then-is_gone-clause-tells g c = on_ok (λ e s count rep reached.
 
 pub returns-clause-tells : goal.returns-clause-tells
 returns-clause-tells g c = on_ok (λ e s count rep reached.
-    let stays : is_gone c.in_ok-answer.answer ≡ false = sym c.is_gone.ensures ∙ c.if-is_gone.false in
+    let stays : is_gone_answer c.in_ok-answer.answer ≡ false = sym c.is_gone.ensures ∙ c.if-is_gone.false in
     let served = c.in_ok-answer.ensures.serves s.boards rep.boards reached.boards c.requires.line in
     told_alone _ s (board_line.Abandon c.args.party) c.in_ok-answer.answer _ refl c.requires.line served.0
     (record { alive = rep.alive; boards = served.1; events = subst (λ x. events.Represents c.args.self.now.events x) (sym (gone_without s.events c.args.party c.in_ok-answer.answer stays)) rep.events })
