@@ -1,6 +1,6 @@
 //! Events.
 use crate::openings::{A_QUEUE, A_SET_OF_64, A_SET_OF_128};
-use crate::row::{PLAIN, Row, Script, all_hold};
+use crate::row::{PLAIN, Part, Row, Script, all_hold};
 use std::alloc::{AllocError, Global};
 use std::test::Fail;
 
@@ -198,39 +198,48 @@ fn numbered(alloc: Global, text: &str, count: u64) -> Result<Vec<String>, AllocE
     Ok(texts)
 }
 
-// 513 ids are notified, one more than the queue takes, and then all are waited for. After the first was taken there is room for the last.
+// What the steps of a wait for 513 ids answer, from the second on.
+fn taken(alloc: Global) -> Result<Vec<String>, AllocError> {
+    let mut answers = Vec::new(alloc);
+    for id in 2..=512 {
+        answers.push(format!(in alloc; "pop queue:q {id}")?)?;
+    }
+    let ids = numbered(alloc, " ", 513)?.concat(alloc)?;
+    answers.push(format!(in alloc; "pop queue:q 513 = ids{ids}")?)?;
+    Ok(answers)
+}
+
+// There is no room for the 513th id before the first was taken.
+const THE_LAST_ID: Part = &[
+    ("begin n notify n 513", "ok"),
+    (
+        "step n",
+        "push queue:q = NotifierNotifyError::FailedToDeliverSignal",
+    ),
+    ("begin e wait e all try", "ok"),
+    ("step e", "pop queue:q 1"),
+    ("begin n notify n 513", "ok"),
+    ("step n", "push queue:q = ok"),
+];
+
+// 513 ids are notified, one more than the queue takes, and all are waited for.
 #[test]
 fn a_full_queue(rt: HostRuntime) -> Result<(), Fail> {
-    let alloc = rt.alloc();
-    let notified = numbered(alloc, "begin n notify n ", 512)?;
-    let popped = numbered(alloc, "pop queue:q ", 512)?;
-    let ids = numbered(alloc, " ", 513)?.concat(alloc)?;
-    let last = format!(in alloc; "pop queue:q 513 = ids{ids}")?;
-    let mut lines = A_QUEUE.to_vec(alloc)?;
+    let notified = numbered(rt.alloc(), "begin n notify n ", 512)?;
+    let taken = taken(rt.alloc())?;
+    let mut lines = A_QUEUE.to_vec(rt.alloc())?;
     for line in &notified {
-        lines.push((line, "ok"))?;
-        lines.push(("step n", "push queue:q = ok"))?;
+        lines.extend_from_slice(&[(line, "ok"), ("step n", "push queue:q = ok")])?;
     }
-    lines.extend_from_slice(&[
-        ("begin n notify n 513", "ok"),
-        (
-            "step n",
-            "push queue:q = NotifierNotifyError::FailedToDeliverSignal",
-        ),
-        ("begin e wait e all try", "ok"),
-        ("step e", "pop queue:q 1"),
-        ("begin n notify n 513", "ok"),
-        ("step n", "push queue:q = ok"),
-    ])?;
-    for answer in popped.iter().skip(1) {
+    lines.extend_from_slice(THE_LAST_ID)?;
+    for answer in &taken {
         lines.push(("step e", answer))?;
     }
-    lines.push(("step e", &last))?;
     Script {
         name: "a full queue",
         lines: &lines,
         status: 0,
         note: "",
     }
-    .holds(&rt, alloc)
+    .holds(&rt, rt.alloc())
 }
