@@ -10,8 +10,7 @@ use Rattle.board_model.specs.declared.answer.Reply.{Reply}
 use Rattle.board_model.specs.AnswerGrammar.{IsAccess, IsAnswer, access_text, answer_line, place_text, told_text}
 use Rattle.board_model.specs.LineGrammar.{IsNumber}
 use Rattle.script_grammar.proofs.ReaderLemmas.{both}
-use Rattle.script_grammar.proofs.SplitLemmas.{free_append}
-use Rattle.script_grammar.proofs.SplitLemmas.{IsFree, free_number, lacks}
+use Rattle.script_grammar.proofs.SplitLemmas.{IsFree, free_append, free_number, lacks}
 use Rattle.script_generator.specs.Counting.{OfAnswer, is_last_read, is_last_write}
 
 -- the bytes begin so

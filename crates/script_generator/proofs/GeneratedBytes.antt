@@ -22,8 +22,7 @@ use Rattle.script_model.specs.ScriptGrammar.{SpellsLine}
 use Rattle.script_model.specs.ScriptOutput.{SpellsAll}
 use Rattle.script_model.specs.ScriptSession.{Session, lines_of}
 use Rattle.script_grammar.proofs.ReaderLemmas.{both}
-use Rattle.script_grammar.proofs.SplitLemmas.{free_append, free_joined, free_name}
-use Rattle.script_grammar.proofs.SplitLemmas.{IsFree, free_lacks, free_number, lacks}
+use Rattle.script_grammar.proofs.SplitLemmas.{IsFree, free_append, free_joined, free_lacks, free_name, free_number, lacks}
 use Rattle.board_model.proofs.ThingLemmas.{all_push}
 use Rattle.script_loop.proofs.LineLemmas.{lines_more}
 use Rattle.script_generator.specs.Counting.{IsAsked, SpellsPlain, is_plain_call}

@@ -1,5 +1,6 @@
 //! The optional parts of calls, in their order.
-ghost use Rattle.std.specs.Prelude.{◌≡◌, IfOk, codes};
+ghost use Rattle.std.specs.Prelude.{◌≡◌, ℕ, IfOk, List, Option};
+ghost use Rattle.std.specs.Option.{option_map};
 ghost use Rattle.script_grammar.specs.LineReading.{read_board, read_limit, read_limits, read_needs, read_pair, read_parts};
 ghost use Rattle.script_grammar.specs.TokenReading.{first_by, read_attribute_key};
 ghost use Rattle.script_parse.specs.Tokens.{with_rest};
@@ -58,42 +59,65 @@ impl<'a> Tokens<'a> {
     }
 }
 
-// The pairs of attributes, each behind the word. Only their list takes memory.
+// A part of a call that may come many times, each time behind its word.
+trait Part: Copy {
+    ghost read: { List (List ℕ) → Option (Self × List (List ℕ)) };
+
+    fn take(tokens: &mut Tokens) -> Option<Self>
+        ensures { with_rest result tokens.new ≡ read tokens.old };
+}
+
+impl Part for Attribute {
+    ghost read = { read_pair };
+
+    fn take(tokens: &mut Tokens) -> Option<Self> {
+        tokens.pair()
+    }
+}
+
+impl Part for Text<64> {
+    ghost read = { first_by read_attribute_key };
+
+    fn take(tokens: &mut Tokens) -> Option<Self> {
+        tokens.attribute_key()
+    }
+}
+
+// The parts behind this word. Only their list takes memory.
+fn parts_of<P: Part>(
+    alloc: Global,
+    word: &[u8],
+    tokens: &mut Tokens,
+) -> Result<Option<Vec<P>>, AllocError>
+    ensures { IfOk result (λ o. with_rest (option_map (λ parts. parts.items) o) tokens.new
+        ≡ read_parts 8 word.now P.read tokens.old) }
+{
+    let mut parts = Vec::new(alloc);
+    while parts.len() < MOST_PARTS {
+        if !tokens.take_word(word) {
+            break;
+        }
+        let Some(part) = P::take(tokens) else {
+            return Ok(None);
+        };
+        parts.push(part)?;
+    }
+    Ok(Some(parts))
+}
+
+// The pairs of attributes, each behind the word.
 pub(crate) fn attributes_of(
     alloc: Global,
     word: &[u8],
     tokens: &mut Tokens,
 ) -> Result<Option<Attributes>, AllocError>
-    ensures { IfOk result (λ o. with_rest o tokens.new ≡ read_parts 8 word.now read_pair tokens.old) }
+    ensures { IfOk result (λ o. with_rest o tokens.new
+        ≡ read_parts 8 word.now read_pair tokens.old) }
 {
-    let mut attributes = Vec::new(alloc);
-    while attributes.len() < MOST_PARTS {
-        if !tokens.take_word(word) {
-            break;
-        }
-        let Some(attribute) = tokens.pair() else {
-            return Ok(None);
-        };
-        attributes.push(attribute)?;
-    }
-    Ok(Some(Attributes::from_vec(attributes)))
-}
-
-// The keys that an opener needs. Only their list takes memory.
-fn needed_keys_of(alloc: Global, tokens: &mut Tokens) -> Result<Option<AttributeKeys>, AllocError>
-    ensures { IfOk result (λ o. with_rest o tokens.new ≡ read_parts 8 (codes "needkey") (first_by read_attribute_key) tokens.old) }
-{
-    let mut keys = Vec::new(alloc);
-    while keys.len() < MOST_PARTS {
-        if !tokens.take_word(b"needkey") {
-            break;
-        }
-        let Some(key) = tokens.attribute_key() else {
-            return Ok(None);
-        };
-        keys.push(key)?;
-    }
-    Ok(Some(AttributeKeys::from_vec(keys)))
+    let Some(pairs) = parts_of::<Attribute>(alloc, word, tokens)? else {
+        return Ok(None);
+    };
+    Ok(Some(Attributes::from_vec(pairs)))
 }
 
 #[tactic(auto, unfolding(script_grammar::specs::LineReading::read_needs))]
@@ -106,8 +130,9 @@ pub(crate) fn needs_of(
     let Some(pairs) = attributes_of(alloc, b"need", tokens)? else {
         return Ok(None);
     };
-    let Some(keys) = needed_keys_of(alloc, tokens)? else {
+    let Some(keys) = parts_of::<Text<64>>(alloc, b"needkey", tokens)? else {
         return Ok(None);
     };
+    let keys = AttributeKeys::from_vec(keys);
     Ok(Some(Requirements { pairs, keys }))
 }

@@ -30,7 +30,8 @@ impl<'a> Model for Tokens<'a> {
 
 // The text up to the separator, and the text behind it.
 fn cut<'a>(text: &'a [u8], separator: u8) -> (&'a [u8], Option<&'a [u8]>)
-    ensures { slice_split (λ b. b == separator) text.now ≡ result.0.now ∷ parts_left separator result.1 }
+    ensures { slice_split (λ b. b == separator) text.now
+        ≡ result.0.now ∷ parts_left separator result.1 }
 {
     match place_of(text, separator) {
         None => (text, None),

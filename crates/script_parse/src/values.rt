@@ -49,7 +49,8 @@ impl<'a> Tokens<'a> {
 
 #[tactic(auto, unfolding(script_grammar::specs::LineReading::read_entry))]
 fn entry_of(word: &[u8], key: &[u8], value: &[u8]) -> Option<(Key, Value)>
-    ensures { option_map (λ pair. record { key = pair.0; value = pair.1 }) result ≡ read_entry word.now key.now value.now }
+    ensures { option_map (λ pair. record { key = pair.0; value = pair.1 }) result
+        ≡ read_entry word.now key.now value.now }
 {
     if !is_word(word, b"add") {
         return None;

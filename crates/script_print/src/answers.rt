@@ -114,7 +114,8 @@ pub fn push_refused(reason: Reason, out: &mut Vec<u8>) -> Result<(), AllocError>
 /// # Errors
 /// `AllocError` where memory is refused; then a front of the line may have been added.
 pub fn push_step(access: Access, reply: &Option<Reply>, out: &mut Vec<u8>) -> Result<(), AllocError>
-    ensures { OnOk result (out.new.items ≡ out.old.items ++ answer_line (answer.Step access reply.now)) }
+    ensures { OnOk result (out.new.items
+        ≡ out.old.items ++ answer_line (answer.Step access reply.now)) }
 {
     push_access(access, out)?;
     push_told(reply, out)?;

@@ -19,7 +19,8 @@ fn push_event(
     name: &[u8],
     out: &mut Vec<u8>,
 ) -> Result<(), AllocError>
-    ensures { OnOk result (out.new.items ≡ out.old.items ++ (word.now ++ event_text kind name.now)) }
+    ensures { OnOk result (out.new.items
+        ≡ out.old.items ++ (word.now ++ event_text kind name.now)) }
 {
     out.extend_from_slice(word)?;
     out.extend_from_slice(event_kind_name(kind))?;
@@ -49,7 +50,8 @@ fn word_in(answer: EventAnswer) -> u64
 
 // Adds the number of a word, and what was read of it.
 fn push_read(word: u64, answer: EventAnswer, out: &mut Vec<u8>) -> Result<(), AllocError>
-    ensures { OnOk result (out.new.items ≡ out.old.items ++ (number_text word ++ number_text (word_in answer))) }
+    ensures { OnOk result (out.new.items
+        ≡ out.old.items ++ (number_text word ++ number_text (word_in answer))) }
 {
     push_number(word, out)?;
     push_number(word_in(answer), out)
@@ -72,7 +74,8 @@ fn push_event_access(
     answer: EventAnswer,
     out: &mut Vec<u8>,
 ) -> Result<(), AllocError>
-    ensures { OnOk result (out.new.items ≡ out.old.items ++ event_access_text kind name.now access answer) }
+    ensures { OnOk result (out.new.items
+        ≡ out.old.items ++ event_access_text kind name.now access answer) }
 {
     match access {
         EventAccess::Listener => {
@@ -128,7 +131,8 @@ fn push_event_reply(reply: &EventReply, out: &mut Vec<u8>) -> Result<(), AllocEr
 
 // Adds what is told with the last step of a call on events.
 fn push_event_told(told: Option<&EventReply>, out: &mut Vec<u8>) -> Result<(), AllocError>
-    ensures { OnOk result (out.new.items ≡ out.old.items ++ event_told_text (option_map (λ reply. reply.now) told.entry)) }
+    ensures { OnOk result (out.new.items
+        ≡ out.old.items ++ event_told_text (option_map (λ reply. reply.now) told.entry)) }
 {
     match told {
         None => Ok(()),
@@ -151,7 +155,9 @@ pub fn push_event_step(
     told: Option<&EventReply>,
     out: &mut Vec<u8>,
 ) -> Result<(), AllocError>
-    ensures { OnOk result (out.new.items ≡ out.old.items ++ script_answer_line (of_event kind name.now access answer (option_map (λ reply. reply.now) told.entry))) }
+    ensures { OnOk result (out.new.items
+        ≡ out.old.items ++ script_answer_line (of_event kind name.now access answer
+        (option_map (λ reply. reply.now) told.entry))) }
 {
     push_event_access(kind, name, access, answer, out)?;
     push_event_told(told, out)?;

@@ -26,7 +26,8 @@ fn push_behind_commas(numbers: &[u64], out: &mut Vec<u8>) -> Result<(), AllocErr
 
 // Adds the numbers, which commas part.
 fn push_parted(numbers: &[u64], out: &mut Vec<u8>) -> Result<(), AllocError>
-    ensures { OnOk result (out.new.items ≡ out.old.items ++ join_with_byte 44 (map decimal numbers.now)) }
+    ensures { OnOk result (out.new.items
+        ≡ out.old.items ++ join_with_byte 44 (map decimal numbers.now)) }
 {
     match numbers {
         [] => Ok(()),
