@@ -1,7 +1,8 @@
 -- Lines that begin a call.
 use Rattle.std.proofs.Common.{◌≡◌, ℕ, ◌+◌, ◌^◌, ◌<◌, Bool, true, false, cond, List, [], ◌∷◌, ◌++◌, length, arith, refl, sym, ap, subst, ◌∙◌, Option, Some, None}
-use Rattle.std.specs.Prelude.{◌||◌, is_some}
+use Rattle.std.specs.Prelude.{◌||◌, is_some, not, IsErrAnd, Result, Ok, Err}
 use Rattle.std.specs.List.{filter}
+use Rattle.std.proofs.lemmas.Result.{err_from_is_err_and}
 use Rattle.board_layout.specs.declared.type_detail.TypeDetail.{TypeDetail}
 use Rattle.board_model.specs.declared.answer.Answer.TheVariants as answer
 use Rattle.board_model.specs.declared.answer.Reason.{Reason}
@@ -30,13 +31,14 @@ use Rattle.board_model.specs.Sound.{BoardTables, HasEntry, HasEntryAt, IsTyped, 
 use Rattle.board_model.proofs.OpeningLemmas.{sized}
 use Rattle.board_model.proofs.ThingLemmas.{all_found}
 use Rattle.board_cell.specs.Calls.{Asking, Getting, Updating}
-use Rattle.script_boards.specs.declared.begin.Checked.TheVariants as checked
 use Rattle.script_boards.specs.declared.machine.KeptValue.{KeptValue}
 use Rattle.script_boards.specs.declared.machine.Lent.{Lent}
 use Rattle.script_boards.specs.declared.machine.BoardMachine.{BoardMachine}
 use Rattle.script_boards.specs.declared.machine.PartyRow.{PartyRow}
 use Rattle.script_boards.specs.declared.machine.Task.{Task}
 use Rattle.script_boards.specs.declared.machine.Task.TheVariants as task
+use Rattle.script_boards.specs.declared.not_begun.NotBegun.{NotBegun}
+use Rattle.script_boards.specs.declared.not_begun.NotBegun.TheVariants as not_begun
 use Rattle.script_boards.specs.Begins.{IsChecked, IsHandle, IsTaskFor, handle_held, holds_any, is_handle}
 use Rattle.script_boards.specs.Loans.{lent_words}
 use Rattle.script_parties.specs.Parties.{words_of}
@@ -51,6 +53,22 @@ some_thing x = Some x
 
 some_same : (x y : Held) → some_thing x ≡ Some y → x ≡ y
 some_same x y e = cc
+
+-- ---- refusals
+
+pub not_false : (b : Bool) → not b ≡ false → b ≡ true
+not_false true e = refl
+not_false false e = absurd cc
+
+-- a `?` on what a call requires refuses it with this reason
+pub refused_for : (result : Result Task NotBegun) (why refusal : Reason) → IsErrAnd result (λ e. e ≡ not_begun.Refused why) → why ≡ refusal → result ≡ Err (not_begun.Refused refusal)
+refused_for result why refusal h e =
+    let p = err_from_is_err_and result h in
+    p.1 ∙ ap (λ (x : NotBegun). Err x) (p.2 ∙ ap (λ (x : Reason). not_begun.Refused x) e)
+
+-- the reason that there is for a refusal
+pub reason_for : (reason : Option Reason) (request : Option Request) (e : NotBegun) (why : Reason) → e ≡ not_begun.Refused why → IsChecked reason request (Err e) → reason ≡ Some why
+reason_for reason request e why q h = subst (λ (x : NotBegun). IsChecked reason request (Err x)) q h
 
 -- ---- what a party holds
 
@@ -186,14 +204,14 @@ module _ {C : Type 0} (m : BoardMachine C) (s : State) (rep : Represents m s) (s
     -- a get that begins
     pub get_begins : (name : Option (List ℕ)) (begun : Getting) (type : ValueType) → begun ≡ record { shape = cell_shape e.cell; reading = opening } → holds_any m party name ≡ false → type ≡ value_type_of e.value
         → IsChecked (call_reason s.standing party (call.Get handle name) (request_of s.standing s.published party (call.Get handle name))) (request_of s.standing s.published party (call.Get handle name))
-        (checked.Accepted (task.Get n begun type name))
+        (Ok (task.Get n begun type name))
     get_begins name begun type is untaken t =
         rw (fetch_asked name) (rw (taken_is m s rep party name ∙ untaken) refl, record { fetch = fetched name; request = refl; board_is = nb; call_is = is; type_is = t; name_is = refl })
 
     -- a get whose name is taken
     pub get_taken : (name : Option (List ℕ)) → holds_any m party name ≡ true
         → IsChecked (call_reason s.standing party (call.Get handle name) (request_of s.standing s.published party (call.Get handle name))) (request_of s.standing s.published party (call.Get handle name))
-        (checked.Refused reason.Taken)
+        (Err (not_begun.Refused reason.Taken))
     get_taken name taken = rw (fetch_asked name) (rw (taken_is m s rep party name ∙ taken) refl)
 
     module _ (name : List ℕ) (k : Kept) (stands : kept m.values.items party name ≡ Some k) where
@@ -206,20 +224,20 @@ module _ {C : Type 0} (m : BoardMachine C) (s : State) (rep : Represents m s) (s
       -- a look that begins
       pub fresh_begins : (begun : Asking) → begun ≡ record { shape = cell_shape e.cell; generation = k.generation; counter = None } → same_type (value_detail k.type) e.value ≡ true
           → IsChecked (call_reason s.standing party (call.Fresh handle name) (request_of s.standing s.published party (call.Fresh handle name))) (request_of s.standing s.published party (call.Fresh handle name))
-          (checked.Accepted (task.Fresh n begun))
+          (Ok (task.Fresh n begun))
       fresh_begins begun is typed = rw look_asked (rw typed refl, record { look = looked; request = refl; board_is = nb; call_is = is })
 
       -- a look at a value of another type
       pub fresh_mistyped : same_type (value_detail k.type) e.value ≡ false
           → IsChecked (call_reason s.standing party (call.Fresh handle name) (request_of s.standing s.published party (call.Fresh handle name))) (request_of s.standing s.published party (call.Fresh handle name))
-          (checked.Refused reason.Type)
+          (Err (not_begun.Refused reason.Type))
       fresh_mistyped typed = rw look_asked (rw typed refl)
 
   -- an update that begins
   pub update_begins : (party handle : List ℕ) (x : Held) (v : Value) (g : ℕ) (words : List ℕ) (begun : Updating) → begun ≡ record { shape = cell_shape e.cell; generation = g; words = words; written = 0 } → n ≡ x.board → i ≡ entry_of x.kind
       → handle_held m party handle ≡ Some x → same_type (value_detail (type_of v)) e.value ≡ true → IsCounter m n i g → words ≡ value_words v
       → IsChecked (call_reason s.standing party (call.Update handle v) (request_of s.standing s.published party (call.Update handle v))) (request_of s.standing s.published party (call.Update handle v))
-      (checked.Accepted (task.Update n begun))
+      (Ok (task.Update n begun))
   update_begins party handle x v g words begun is nb ib held typed counter w =
       let u : Publication = record { board = x.board; entry = entry_of x.kind; shape = cell_shape e.cell; type = e.value; handle = handle; generation = length (s.published x.board (entry_of x.kind)); value = v } in
       let f : entry_at s.standing.tables x.board (entry_of x.kind) ≡ Some e = ap (λ (k : ℕ). entry_at s.standing.tables x.board k) (sym ib) ∙ ap (λ (k : ℕ). entry_at s.standing.tables k i) (sym nb) ∙ in_state in
@@ -274,7 +292,7 @@ some_request t None h = absurd h
 some_request t (Some q) h = (q, refl, h)
 
 pub begin_begun : {C : Type 0} (m new : BoardMachine C) (s : State) (rep : Represents m s) (party : List ℕ) (c : Call) (t : Task) → s.parties party ≡ free
-    → IsChecked (call_reason s.standing party c (request_of s.standing s.published party c)) (request_of s.standing s.published party c) (checked.Accepted t)
+    → IsChecked (call_reason s.standing party c (request_of s.standing s.published party c)) (request_of s.standing s.published party c) (Ok t)
     → tables_of new ≡ tables_of m → new.domain.words ≡ m.domain.words → new.values.items ≡ m.values.items → new.loans.items ≡ m.loans.items → new.parties.items ≡ m.parties.items ++ record { name = party; task = t } ∷ []
     → IsLine (line.Begin party c) → IsRight s (line.Begin party c) answer.Begun × Represents new (after s (line.Begin party c) answer.Begun)
 begin_begun m new s rep party c t e h tables words values loans parties l =

@@ -6,6 +6,7 @@ pub mod LoanChecks
 pub mod LoanRows
 pub mod LoanSteps
 pub mod Memories
+pub mod OwedAccesses
 pub mod OwedRows
 pub mod OwedWords
 pub mod PartyRows

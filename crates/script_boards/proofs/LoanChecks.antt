@@ -1,5 +1,6 @@
 -- Lines that begin a call on a loan that stands.
 use Rattle.std.proofs.Common.{◌≡◌, ℕ, ◌<◌, Bool, true, false, cond, List, length, refl, sym, ap, subst, ◌∙◌, Option, Some, None, option_map}
+use Rattle.std.specs.Prelude.{Result, Ok, Err}
 use Rattle.std.proofs.lemmas.Bool.{lt-ltb}
 use Rattle.board_model.specs.declared.answer.Reason.TheVariants as reason
 use Rattle.board_model.specs.declared.line.Call.{Call}
@@ -17,11 +18,12 @@ use Rattle.board_model.specs.TypeTable.{same_type, type_of, value_detail, value_
 use Rattle.board_model.specs.LawfulSession.{State, all_put, call_reason}
 use Rattle.board_model.specs.Sound.{IsLent, Sound, is_suspended}
 use Rattle.board_cell.specs.Calls.{Publishing, Putting, Updating}
-use Rattle.script_boards.specs.declared.begin.Checked.{Checked}
-use Rattle.script_boards.specs.declared.begin.Checked.TheVariants as checked
 use Rattle.script_boards.specs.declared.machine.BoardMachine.{BoardMachine}
 use Rattle.script_boards.specs.declared.machine.TableTask.TheVariants as table_task
+use Rattle.script_boards.specs.declared.machine.Task.{Task}
 use Rattle.script_boards.specs.declared.machine.Task.TheVariants as task
+use Rattle.script_boards.specs.declared.not_begun.NotBegun.{NotBegun}
+use Rattle.script_boards.specs.declared.not_begun.NotBegun.TheVariants as not_begun
 use Rattle.board_model.specs.declared.line.Call.TheVariants as call
 use Rattle.script_boards.specs.Begins.{IsChecked, IsHandle, holds, loan_held, written_by}
 use Rattle.script_boards.specs.Loans.{lent_words}
@@ -31,7 +33,7 @@ use Rattle.script_boards.proofs.CallChecks.{entry_stands, taken_is, write_handle
 use Rattle.script_boards.proofs.TableSteps.{counter_at, some_entry}
 
 -- a call is looked at so in a state
-abbrev pub IsLookedAt : State → List ℕ → Call → Checked → Type 0
+abbrev pub IsLookedAt : State → List ℕ → Call → Result Task NotBegun → Type 0
 IsLookedAt s party c x = IsChecked (call_reason s.standing party c (request_of s.standing s.published party c)) (request_of s.standing s.published party c) x
 
 abbrev a_loan : Held → List (Option ℕ) → Option (Held × List (Option ℕ))
@@ -130,10 +132,10 @@ module _ {C : Type 0} (m : BoardMachine C) (s : State) (rep : Represents m s) (p
         discard_asked : request_of s.standing s.published party (call.Discard lent handle) ≡ Some (table (discard (lending_of lent handle words)))
         discard_asked = rw (held_is, entry_is) refl
 
-        pub discard_taken : holds m party handle ≡ true → IsLookedAt s party (call.Discard lent handle) (checked.Refused reason.Taken)
+        pub discard_taken : holds m party handle ≡ true → IsLookedAt s party (call.Discard lent handle) (Err (not_begun.Refused reason.Taken))
         discard_taken taken = rw discard_asked (rw (taken_is m s rep party (Some handle) ∙ taken) refl)
 
-        pub discard_begins : holds m party handle ≡ false → IsLookedAt s party (call.Discard lent handle) (checked.Accepted (task.Table (table_task.Discard lent handle)))
+        pub discard_begins : holds m party handle ≡ false → IsLookedAt s party (call.Discard lent handle) (Ok (task.Table (table_task.Discard lent handle)))
         discard_begins untaken =
             rw discard_asked (rw (taken_is m s rep party (Some handle) ∙ untaken) refl, record { lending = lending_of lent handle words; request = refl; loan_is = refl; handle_is = refl })
 
@@ -142,7 +144,7 @@ module _ {C : Type 0} (m : BoardMachine C) (s : State) (rep : Represents m s) (p
 
         pub publish_begins : holds m party handle ≡ false → all_put words ≡ true → (g : ℕ) → IsCounter m x.board (entry_of x.kind) g
             → (begun : Publishing) → begun ≡ record { shape = cell_shape e.cell; generation = g; done = false }
-            → IsLookedAt s party (call.Publish lent handle) (checked.Accepted (task.Publish x.board begun lent handle))
+            → IsLookedAt s party (call.Publish lent handle) (Ok (task.Publish x.board begun lent handle))
         publish_begins untaken all g counter begun is =
             rw publish_asked (
               rw (taken_is m s rep party (Some handle) ∙ untaken) (rw all refl),
@@ -160,12 +162,12 @@ module _ {C : Type 0} (m : BoardMachine C) (s : State) (rep : Represents m s) (p
           fill_asked : request_of s.standing s.published party (call.Fill lent handle v) ≡ Some (fill (lending_of lent handle words) v)
           fill_asked = rw (held_is, entry_is) refl
 
-          pub fill_mistyped : holds m party handle ≡ false → same_type (value_detail (type_of v)) e.value ≡ false → IsLookedAt s party (call.Fill lent handle v) (checked.Refused reason.Type)
+          pub fill_mistyped : holds m party handle ≡ false → same_type (value_detail (type_of v)) e.value ≡ false → IsLookedAt s party (call.Fill lent handle v) (Err (not_begun.Refused reason.Type))
           fill_mistyped untaken typed = rw fill_asked (rw (taken_is m s rep party (Some handle) ∙ untaken) (rw typed refl))
 
           pub fill_begins : holds m party handle ≡ false → same_type (value_detail (type_of v)) e.value ≡ true → (g : ℕ) → IsCounter m x.board (entry_of x.kind) g
               → (begun : Updating) → begun ≡ record { shape = cell_shape e.cell; generation = g; words = value_words v; written = 0 }
-              → IsLookedAt s party (call.Fill lent handle v) (checked.Accepted (task.Fill x.board begun lent handle))
+              → IsLookedAt s party (call.Fill lent handle v) (Ok (task.Fill x.board begun lent handle))
           fill_begins untaken typed g counter begun is =
               rw fill_asked (
                 rw (taken_is m s rep party (Some handle) ∙ untaken) (rw typed refl),
@@ -186,7 +188,7 @@ module _ {C : Type 0} (m : BoardMachine C) (s : State) (rep : Represents m s) (p
 
         pub put_begins : index < e.cell.words → (g : ℕ) → IsCounter m x.board (entry_of x.kind) g
             → (begun : Putting) → begun ≡ record { shape = cell_shape e.cell; generation = g; index = index; word = word; done = false }
-            → IsLookedAt s party (call.Put lent index word) (checked.Accepted (task.Put x.board begun lent index word))
+            → IsLookedAt s party (call.Put lent index word) (Ok (task.Put x.board begun lent index word))
         put_begins below g counter begun is =
             rw put_asked (
               rw (lt-ltb index e.cell.words below) refl,

@@ -1,6 +1,6 @@
 -- Refusals that no name has to do with.
 use Rattle.std.proofs.Common.{◌≡◌, ℕ, Bool, true, false, cond, List, refl, sym, subst, ◌∙◌, Option, Some, None}
-use Rattle.std.specs.Prelude.{not}
+use Rattle.std.specs.Prelude.{not, Ok}
 use Rattle.board_model.specs.declared.answer.Answer.TheVariants as answer
 use Rattle.board_model.specs.declared.answer.Reason.{Reason}
 use Rattle.board_model.specs.declared.answer.Reason.TheVariants as reason
@@ -10,9 +10,8 @@ use Rattle.board_model.specs.LineGrammar.{IsLine}
 use Rattle.board_model.specs.Parties.{Party, free, gone, running}
 use Rattle.board_model.specs.Requests.{Request, new_name, request_of}
 use Rattle.board_model.specs.LawfulSession.{IsRight, State, call_reason, free_reason, is_filled, is_indexed, is_taken, is_typed}
-use Rattle.script_boards.specs.declared.begin.Checked.{Checked}
-use Rattle.script_boards.specs.declared.begin.Checked.TheVariants as checked
-use Rattle.script_boards.specs.Begins.{IsChecked, finds_all, is_for_unknown, is_unknown}
+use Rattle.script_boards.specs.declared.machine.Task.{Task}
+use Rattle.script_boards.specs.Begins.{IsChecked, IsPastNames, IsTaskFor, finds_all, past_names}
 use Rattle.script_boards.proofs.CallChecks.{begin_busy, begin_gone, begin_refused}
 
 abbrev some_reason : Reason → Option Reason
@@ -26,17 +25,18 @@ later_reasons false false true d e = absurd cc
 later_reasons false false false true e = absurd cc
 later_reasons false false false false e = absurd cc
 
-the_unknown : (why : Reason) → is_for_unknown why ≡ true → why ≡ reason.Unknown
-the_unknown reason.Abandoned e = absurd cc
-the_unknown reason.Busy e = absurd cc
-the_unknown reason.Idle e = absurd cc
-the_unknown reason.Unknown e = refl
-the_unknown reason.Taken e = absurd cc
-the_unknown reason.Type e = absurd cc
-the_unknown reason.Index e = absurd cc
-the_unknown reason.Unfilled e = absurd cc
-the_unknown reason.NotWaiting e = absurd cc
-the_unknown reason.NoBoard e = absurd cc
+-- the reason is what is told past names
+the_unknown : (why told : Reason) → past_names why ≡ some_reason told → (why ≡ reason.Unknown) × (told ≡ reason.Unknown)
+the_unknown reason.Abandoned told e = absurd cc
+the_unknown reason.Busy told e = absurd cc
+the_unknown reason.Idle told e = absurd cc
+the_unknown reason.Unknown told e = (refl, cc)
+the_unknown reason.Taken told e = absurd cc
+the_unknown reason.Type told e = absurd cc
+the_unknown reason.Index told e = absurd cc
+the_unknown reason.Unfilled told e = absurd cc
+the_unknown reason.NotWaiting told e = absurd cc
+the_unknown reason.NoBoard told e = absurd cc
 
 module _ (s : State) (party : List ℕ) (c : Call) where
   abbrev request : Option Request
@@ -61,21 +61,31 @@ module _ (s : State) (party : List ℕ) (c : Call) where
           (rw h refl, λ l. subst (λ (x : Reason). IsRight s (line.Begin party c) (answer.Refused x)) (sym w) (begin_gone s party c h l))
 
   -- something that the call uses isn't held
-  pub past_unknown : (x : Checked) → s.parties party ≡ free → IsChecked (call_reason s.standing party c request) request x → is_unknown x ≡ true → IsPast reason.Unknown
-  past_unknown (checked.Accepted t) h k e = absurd cc
-  past_unknown (checked.Refused why) h k e =
-      let u : call_reason s.standing party c request ≡ Some reason.Unknown = k ∙ rw (the_unknown why e) refl in
-      (rw h (none request u), λ l. begin_refused s party c reason.Unknown h u l)
+  unknown : s.parties party ≡ free → call_reason s.standing party c request ≡ Some reason.Unknown → IsPast reason.Unknown
+  unknown h u = (rw h (none request u), λ l. begin_refused s party c reason.Unknown h u l)
     where
       none : (q : Option Request) → call_reason s.standing party c q ≡ Some reason.Unknown → finds_all free q ≡ false
       none None u = refl
       none (Some q) u = absurd (later_reasons (is_taken s.standing party (new_name c)) (not (is_typed s.standing q)) (not (is_indexed q)) (not (is_filled q)) u)
 
-  -- all that it uses is held
-  pub past_found : (x : Checked) → s.parties party ≡ free → IsChecked (call_reason s.standing party c request) request x → is_unknown x ≡ false → finds_all (s.parties party) request ≡ true
-  past_found x h k e = rw h (some request x k e)
+  -- all that it uses is held: it begins
+  pub past_begun : (t : Task) → s.parties party ≡ free → IsChecked (call_reason s.standing party c request) request (Ok t) → finds_all (s.parties party) request ≡ true
+  past_begun t h k = rw h (some request k.1)
     where
-      some : (q : Option Request) (x : Checked) → IsChecked (call_reason s.standing party c q) q x → is_unknown x ≡ false → finds_all free q ≡ true
-      some (Some q) x k e = refl
-      some None (checked.Accepted t) k e = absurd k.1
-      some None (checked.Refused why) k e = absurd (let w : some_reason reason.Unknown ≡ Some why = k in let v : reason.Unknown ≡ why = cc in let u : is_for_unknown why ≡ true = rw (sym v) refl in cc)
+      some : (q : Option Request) → IsTaskFor t q → finds_all free q ≡ true
+      some (Some q) k = refl
+      some None k = absurd k
+
+  -- it is refused
+  pub past_refused : (why : Reason) → s.parties party ≡ free → call_reason s.standing party c request ≡ Some why → IsPastNames s party c (past_names why)
+  past_refused why h k = by (past_names why) refl
+    where
+      some : (q : Option Request) → call_reason s.standing party c q ≡ Some why → past_names why ≡ None → finds_all free q ≡ true
+      some (Some q) k e = refl
+      some None k e = absurd (let w : some_reason reason.Unknown ≡ Some why = k in let v : reason.Unknown ≡ why = cc in let u : some_reason reason.Unknown ≡ None = subst (λ (x : Reason). past_names x ≡ None) (sym v) e in cc)
+
+      by : (o : Option Reason) → past_names why ≡ o → IsPastNames s party c o
+      by None e = rw h (some request k e)
+      by (Some told) e =
+          let p = the_unknown why told e in
+          rw p.1 (unknown h (k ∙ rw p.0 refl))

@@ -11,7 +11,7 @@ use Rattle.board_model.specs.declared.answer.Reason.TheVariants as reason
 use Rattle.board_model.specs.declared.answer.Reply.TheVariants as reply
 use Rattle.board_model.specs.declared.line.Line.TheVariants as line
 use Rattle.board_model.specs.LineGrammar.{IsLine}
-use Rattle.board_model.specs.Parties.{Running, free, gone, running}
+use Rattle.board_model.specs.Parties.{Party, free, gone, running}
 use Rattle.board_model.specs.Replies.{released_thing}
 use Rattle.board_model.specs.Things.{Kept, is_held, thing_of, with_at}
 use Rattle.board_model.specs.LawfulSession.{IsRight, State, after, free_reason, reason_of}
@@ -67,27 +67,10 @@ module _ (party name : List ℕ) where
 
 -- ---- the line
 
+abbrev some_reason : Reason → Option Reason
+some_reason why = Some why
+
 module _ {C : Type 0} (m : BoardMachine C) (s : State) (rep : Represents m s) (party name : List ℕ) (l : IsLine (line.Release party name)) where
-  pub release_busy : (r : Running) → s.parties party ≡ running r → IsRight s (line.Release party name) (answer.Refused reason.Busy)
-  release_busy r e = record {
-    line = l;
-    answer = tt;
-    reason = rw e refl;
-    owed = rw e (λ h. absurd cc);
-    word = λ _. tt;
-    reply = λ _. tt;
-  }
-
-  pub release_gone : s.parties party ≡ gone → IsRight s (line.Release party name) (answer.Refused reason.Abandoned)
-  release_gone e = record {
-    line = l;
-    answer = tt;
-    reason = rw e refl;
-    owed = rw e (λ h. absurd cc);
-    word = λ _. tt;
-    reply = λ _. tt;
-  }
-
   -- what the party holds by the machine it holds in the state
   held_is : is_held s.standing party name ≡ holds m party name
   held_is = rw (rep.tables, rep.values party name) refl
@@ -98,17 +81,27 @@ module _ {C : Type 0} (m : BoardMachine C) (s : State) (rep : Represents m s) (p
   reason_is : (held : Bool) → holds m party name ≡ held → reason_of s (line.Release party name) ≡ release_reason held
   reason_is held e = ap release_reason (held_is ∙ e)
 
+  -- a refusal that doesn't look at what is held
+  free_first : (p : Party) (why : Reason) (o : Option Reason) → Some why ≡ free_reason p None → free_reason p o ≡ Some why
+  free_first free why o e = absurd cc
+  free_first (running r) why o e = sym e
+  free_first gone why o e = sym e
+
+  refused : (why : Reason) → reason_of s (line.Release party name) ≡ Some why → IsRight s (line.Release party name) (answer.Refused why)
+  refused why r = record {
+    line = l;
+    answer = tt;
+    reason = rw r refl;
+    owed = λ n. absurd (let x : some_reason why ≡ None = sym r ∙ n in cc);
+    word = λ _. tt;
+    reply = λ _. tt;
+  }
+
+  pub release_refused : (why : Reason) → Some why ≡ free_reason (s.parties party) None → IsRight s (line.Release party name) (answer.Refused why)
+  release_refused why e = refused why (free_first (s.parties party) why (cond (is_held s.standing party name) None (Some reason.Unknown)) e)
+
   pub release_unknown : s.parties party ≡ free → holds m party name ≡ false → IsRight s (line.Release party name) (answer.Refused reason.Unknown)
-  release_unknown e h =
-      let r : reason_of s (line.Release party name) ≡ Some reason.Unknown = reason_is false h ∙ rw e refl in
-      record {
-        line = l;
-        answer = tt;
-        reason = rw r refl;
-        owed = rw r (λ n. absurd cc);
-        word = λ _. tt;
-        reply = λ _. tt;
-      }
+  release_unknown e h = refused reason.Unknown (reason_is false h ∙ rw e refl)
 
   pub released_right : (new : BoardMachine C) → s.parties party ≡ free → holds m party name ≡ true → IsLetGo m new party name
       → IsRight s (line.Release party name) (answer.Step access.Table (Some reply.Done)) × Represents new (after s (line.Release party name) (answer.Step access.Table (Some reply.Done)))

@@ -1,5 +1,5 @@
 -- Whether a call may begin.
-use Rattle.std.specs.Prelude.{◌≡◌, ℕ, Bool, true, false, ◌||◌, if◌then◌else◌, List, [], Option, Some, None, is_some, not, option_map}
+use Rattle.std.specs.Prelude.{◌≡◌, ℕ, Bool, true, false, ◌||◌, if◌then◌else◌, List, [], Option, Some, None, is_some, not, option_map, Result, Ok, Err, ⊤}
 use Rattle.std.specs.List.{position_from}
 use Rattle.board_model.specs.declared.answer.Reason.{Reason}
 use Rattle.board_model.specs.declared.answer.Reason.TheVariants as reason
@@ -18,10 +18,10 @@ use Rattle.board_model.specs.LawfulSession.{IsRight, State, call_reason}
 use Rattle.board_model.specs.Sound.{Sound}
 use Rattle.board_model.specs.declared.tables.ThingKind.TheVariants as thing_kind
 use Rattle.board_model.specs.Things.{Held, of_kind, thing_of}
-use Rattle.script_boards.specs.declared.begin.Checked.{Checked}
-use Rattle.script_boards.specs.declared.begin.Checked.TheVariants as checked
 use Rattle.script_boards.specs.declared.machine.BoardMachine.{BoardMachine}
 use Rattle.script_boards.specs.declared.machine.Task.{Task}
+use Rattle.script_boards.specs.declared.not_begun.NotBegun.{NotBegun}
+use Rattle.script_boards.specs.declared.not_begun.NotBegun.TheVariants as not_begun
 use Rattle.script_boards.specs.Loans.{lent_words}
 use Rattle.script_boards.specs.Machine.{IsReached, IsTaskOf, Represents, is_row_of, kept}
 
@@ -97,26 +97,32 @@ abbrev pub IsTaskFor : Task → Option Request → Type 0
 IsTaskFor t None = ⊥
 IsTaskFor t (Some q) = IsTaskOf t q []
 
--- refused with the reason that there is, or begun
-abbrev pub IsChecked : Option Reason → Option Request → Checked → Type 0
-IsChecked reason request (checked.Refused why) = reason ≡ Some why
-IsChecked reason request (checked.Accepted t) = (reason ≡ None) × IsTaskFor t request
+-- what a call uses is this, or it is unknown
+abbrev pub IsUsed : {T : Type 0} → Option T → Result T Reason → Type 0
+IsUsed found (Ok x) = found ≡ Some x
+IsUsed found (Err why) = (found ≡ None) × (why ≡ reason.Unknown)
+
+-- what a call requires holds, or the call is refused for it
+abbrev pub IsRequired : Bool → Reason → Result ⊤ Reason → Type 0
+IsRequired holds refusal (Ok done) = holds ≡ true
+IsRequired holds refusal (Err why) = (holds ≡ false) × (why ≡ refusal)
+
+-- begun, or refused with the reason that there is; nothing is said where memory was refused
+abbrev pub IsChecked : Option Reason → Option Request → Result Task NotBegun → Type 0
+IsChecked reason request (Ok t) = (reason ≡ None) × IsTaskFor t request
+IsChecked reason request (Err (not_begun.Refused why)) = reason ≡ Some why
+IsChecked reason request (Err not_begun.OutOfMemory) = ⊤
 
 -- a call of the party is looked at so, in each state that the machine stands for
-abbrev pub Checks : {C : Type 0} → BoardMachine C → List ℕ → Call → Checked → Type 0
+abbrev pub Checks : {C : Type 0} → BoardMachine C → List ℕ → Call → Result Task NotBegun → Type 0
 Checks m party c result = (s : State) → Represents m s → Sound s → IsChecked (call_reason s.standing party c (request_of s.standing s.published party c)) (request_of s.standing s.published party c) result
 
 -- ---- what names have nothing to do with
 
--- the reason is that something isn't held
-abbrev pub is_for_unknown : Reason → Bool
-is_for_unknown reason.Unknown = true
-is_for_unknown why = false
-
--- the check says that the call doesn't find all that it uses
-abbrev pub is_unknown : Checked → Bool
-is_unknown (checked.Refused why) = is_for_unknown why
-is_unknown (checked.Accepted t) = false
+-- the reason, where it is that something isn't held
+abbrev pub past_names : Reason → Option Reason
+past_names reason.Unknown = Some reason.Unknown
+past_names why = None
 
 -- a free party finds all that a call uses
 abbrev pub finds_all : Party → Option Request → Bool

@@ -58,16 +58,16 @@ CanGoOn (task.Publish board call loan handle) = call.done ≡ false
 CanGoOn (task.Fill board call loan handle) = call.written ≤ length call.words
 CanGoOn task.Gone = ⊥
 
+-- an access to a cell, as one of the board; a write is its call's last one, or not
+abbrev pub owed_on : ℕ → Access → Bool → OwedAccess
+owed_on board (access.Read word) last = owed.Read (record { board = board; word = word })
+owed_on board (access.Write word value) last = owed.Write (record { board = board; word = word; value = value; is_last = last })
+
 -- the write is the one that a publication of words owes
 pub record IsOwedWrite (board : ℕ) (call : Updating) (w : OwedWrite) : Type 0 where
   pub board_is : w.board ≡ board
   pub access : to_write w.board w.word w.value ≡ owed_write board call.shape call.generation call.words call.written
   pub last : w.is_last ≡ (call.written == length call.words)
-
--- the access is a write
-abbrev pub IsWrite : Access → Type 0
-IsWrite (access.Read word) = ⊥
-IsWrite (access.Write word value) = Unit {0}
 
 -- the write is the one that a call of one write owes
 pub record IsOnlyWrite (board : ℕ) (owes : Owed) (w : OwedWrite) : Type 0 where

@@ -1,18 +1,22 @@
 //! Lines `begin P CALL`.
-ghost use Rattle.std.specs.Prelude.{◌≡◌, ◌+◌, ◌<◌, ◌≤◌, ◌^◌, ◌||◌, true, Some, IfOk, OnOk, find, is_some};
+ghost use Rattle.std.specs.Prelude.{◌≡◌, ◌+◌, ◌<◌, ◌≤◌, ◌^◌, ◌||◌, true, Some, IfOk, OnOk, find, is_some, not};
 ghost use Rattle.std.specs.List.{list_all};
 ghost use Rattle.board_layout.specs.Layout.{cell_shape};
 ghost use Rattle.board_model.specs.LawfulSession.{has_key_type};
 ghost use Rattle.board_model.specs.Tables as tables;
+ghost use Rattle.board_model.specs.Things.{of_kind, thing_of};
+ghost use Rattle.board_model.specs.TypeTable as types;
+ghost use Rattle.board_model.specs.declared.answer.Reason.TheVariants as reason;
 ghost use Rattle.board_model.specs.declared.line.Call.TheVariants as call;
 ghost use Rattle.board_model.specs.declared.line.Line.TheVariants as line;
 ghost use Rattle.script_boards.specs.Machine.{IsLed, Serves, kept, tables_of};
-ghost use Rattle.script_boards.specs.Begins.{Checks, HasGeneration, HasNoRow, IsHandle, handle_held, has_id, holds, holds_any, written_by};
+ghost use Rattle.script_boards.specs.Begins.{Checks, HasGeneration, HasNoRow, IsHandle, IsRequired, IsUsed, handle_held, has_id, holds, holds_any, written_by};
 ghost use Rattle.script_boards.specs.Loans.{lent_words};
 
 use crate::loans::words_lent;
 use crate::lookups::value_of;
 use crate::machine::{BoardMachine, PartyRow, TableTask, Task};
+use crate::not_begun::NotBegun;
 use board_model::{
     AddedEntries, AddedEntry, Answer, Attributes, BoardName, Call, Entry, Key, KeyType, Kind,
     Limits, Name, Reason, Requirements, ThingKind, Value, ValueType, same_key_type, same_type,
@@ -23,19 +27,29 @@ use board_service::BoardWords;
 use script_parties::{Held, entry_of};
 use std::alloc::AllocError;
 
-/// Whether a call may begin: what it has to do, or why not.
-#[derive(Drop, Debug)]
-pub(crate) enum Checked {
-    Refused(Reason),
-    Accepted(Task),
-}
-
 fn have_key_type(key_type: KeyType, entries: &[AddedEntry]) -> bool
     ensures { result ≡ list_all (has_key_type key_type) entries.now }
 {
     entries
         .iter()
         .all(|e| same_key_type(type_of_key(&e.key), key_type))
+}
+
+/// Nothing where it holds, else the refusal.
+pub(crate) fn require(holds: bool, why: Reason) -> Result<(), Reason>
+    ensures { IsRequired holds why result }
+{
+    if !holds {
+        return Err(why);
+    }
+    Ok(())
+}
+
+/// Whether a value is of an entry's type.
+pub(crate) fn is_value_of(value: Value, entry: &Entry) -> bool
+    ensures { result ≡ types.same_type (types.value_detail (types.type_of value)) entry.now.value }
+{
+    same_type(&value_detail(type_of(value)), &entry.value)
 }
 
 // What a read handle of an entry knows.
@@ -115,192 +129,65 @@ impl<C: BoardWords + Drop> BoardMachine<C> {
     {
         match self.domain.entry_at(handle.board, entry_of(&handle.kind)) {
             Some(entry) => entry,
+            // `IsLed` and `IsHandle`: the entry of a handle stands.
             None => unreachable!(),
         }
     }
 
-    fn check_create(
-        &self,
-        party: &Name,
-        factory: Name,
-        name: BoardName,
-        key_type: KeyType,
-        limits: Limits,
-        attributes: Attributes,
-        entries: AddedEntries,
-    ) -> Checked
-        ensures { Checks self.now party.now (call.Create factory name key_type limits attributes entries) result }
+    // The thing of this kind that the party holds under the name.
+    fn thing_used(&self, kind: ThingKind, party: &Name, name: &Name) -> Result<Held, Reason>
+        ensures { IsUsed (of_kind kind (thing_of self.now.domain.tables.things party.now name.now)) result }
     {
-        if self.holds(party, &factory) {
-            return Checked::Refused(Reason::Taken);
-        }
-        if !have_key_type(key_type, entries.as_slice()) {
-            return Checked::Refused(Reason::Type);
-        }
-        Checked::Accepted(Task::Table(TableTask::Create {
-            factory,
-            name,
-            key_type,
-            limits,
-            attributes,
-            entries,
-        }))
+        self.domain
+            .held_of_kind(kind, party, name)
+            .ok_or(Reason::Unknown)
     }
 
-    fn check_open(
-        &self,
-        party: &Name,
-        factory: Name,
-        name: BoardName,
-        key_type: KeyType,
-        limits: Limits,
-        needs: Requirements,
-    ) -> Checked
-        ensures { Checks self.now party.now (call.Open factory name key_type limits needs) result }
+    // The write handle that the party holds under the name, where it isn't lent.
+    fn handle_used(&self, party: &Name, name: &Name) -> Result<Held, Reason>
+        ensures { IsUsed (handle_held self.now party.now name.now) result }
     {
-        if self.holds(party, &factory) {
-            return Checked::Refused(Reason::Taken);
-        }
-        Checked::Accepted(Task::Table(TableTask::Open {
-            factory,
-            name,
-            key_type,
-            limits,
-            needs,
-        }))
+        self.handle_held(party, name).ok_or(Reason::Unknown)
     }
 
-    fn check_reader(&self, party: &Name, name: Name, factory: &Name) -> Checked
-        ensures { Checks self.now party.now (call.Reader name factory.now) result }
+    /// That the party holds nothing under the name of what its call makes.
+    pub(crate) fn is_free_name(&self, party: &Name, name: &Name) -> Result<(), Reason>
+        ensures { IsRequired (not (holds self.now party.now name.now)) reason.Taken result }
     {
-        let Some(found) = self.domain.held_of_kind(ThingKind::Factory, party, factory) else {
-            return Checked::Refused(Reason::Unknown);
-        };
-        if self.holds(party, &name) {
-            return Checked::Refused(Reason::Taken);
-        }
-        Checked::Accepted(Task::Table(TableTask::Reader {
-            name,
-            factory: found,
-        }))
+        require(!self.holds(party, name), Reason::Taken)
     }
 
-    fn check_writer(&self, party: &Name, name: Name, factory: &Name) -> Checked
-        ensures { Checks self.now party.now (call.Writer name factory.now) result }
-    {
-        let Some(found) = self.domain.held_of_kind(ThingKind::Factory, party, factory) else {
-            return Checked::Refused(Reason::Unknown);
-        };
-        if self.holds(party, &name) {
-            return Checked::Refused(Reason::Taken);
-        }
-        Checked::Accepted(Task::Table(TableTask::Writer {
-            name,
-            factory: found,
-        }))
-    }
-
-    fn check_entry(
-        &self,
-        party: &Name,
-        name: Name,
-        reader: &Name,
-        key: Key,
-        value_type: ValueType,
-    ) -> Checked
-        ensures { Checks self.now party.now (call.Entry name reader.now key value_type) result }
-    {
-        let Some(found) = self.domain.held_of_kind(ThingKind::Reader, party, reader) else {
-            return Checked::Refused(Reason::Unknown);
-        };
-        if self.holds(party, &name) {
-            return Checked::Refused(Reason::Taken);
-        }
-        if !self.domain.is_key_of(found.board, &key) {
-            return Checked::Refused(Reason::Type);
-        }
-        Checked::Accepted(Task::Table(TableTask::Entry {
-            name,
-            reader: found,
-            key,
-            value_type,
-        }))
-    }
-
-    fn check_entry_mut(
-        &self,
-        party: &Name,
-        name: Name,
-        writer: &Name,
-        key: Key,
-        value_type: ValueType,
-    ) -> Checked
-        ensures { Checks self.now party.now (call.EntryMut name writer.now key value_type) result }
-    {
-        let Some(found) = self.domain.held_of_kind(ThingKind::Writer, party, writer) else {
-            return Checked::Refused(Reason::Unknown);
-        };
-        if self.holds(party, &name) {
-            return Checked::Refused(Reason::Taken);
-        }
-        if !self.domain.is_key_of(found.board, &key) {
-            return Checked::Refused(Reason::Type);
-        }
-        Checked::Accepted(Task::Table(TableTask::EntryMut {
-            name,
-            writer: found,
-            key,
-            value_type,
-        }))
-    }
-
-    fn check_get(
-        &self,
-        party: &Name,
-        handle: &Name,
-        name: Option<Name>,
-    ) -> Result<Checked, AllocError>
+    fn check_get(&self, party: &Name, handle: &Name, value: Option<Name>) -> Result<Task, NotBegun>
         requires { IsLed self.now }
-        ensures { IfOk result (Checks self.now party.now (call.Get handle.now name)) }
+        ensures { Checks self.now party.now (call.Get handle.now value) result }
     {
-        let Some(found) = self
-            .domain
-            .held_of_kind(ThingKind::ReadHandle, party, handle)
-        else {
-            return Ok(Checked::Refused(Reason::Unknown));
-        };
+        let found = self.thing_used(ThingKind::ReadHandle, party, handle)?;
         let entry = self.entry_held(&found);
-        if self.holds_any(party, &name) {
-            return Ok(Checked::Refused(Reason::Taken));
-        }
+        require(!self.holds_any(party, &value), Reason::Taken)?;
         let core = read_core(entry);
         let buffer = Vec::from_elem(self.alloc, 0, core.shape.words as usize)?;
-        Ok(Checked::Accepted(Task::Get {
+        Ok(Task::Get {
             board: found.board,
             call: core.get(buffer),
             value_type: value_type_of(&entry.value),
-            name,
-        }))
+            value,
+        })
     }
 
-    fn check_fresh(&self, party: &Name, handle: &Name, value: &Name) -> Checked
+    fn check_fresh(&self, party: &Name, handle: &Name, value: &Name) -> Result<Task, NotBegun>
         requires { IsLed self.now }
         ensures { Checks self.now party.now (call.Fresh handle.now value.now) result }
     {
-        let Some(found) = self
-            .domain
-            .held_of_kind(ThingKind::ReadHandle, party, handle)
-        else {
-            return Checked::Refused(Reason::Unknown);
-        };
+        let found = self.thing_used(ThingKind::ReadHandle, party, handle)?;
         let entry = self.entry_held(&found);
         let Some(kept) = value_of(party, value, &self.values) else {
-            return Checked::Refused(Reason::Unknown);
+            return Err(NotBegun::Refused(Reason::Unknown));
         };
-        if !same_type(&value_detail(kept.value_type), &entry.value) {
-            return Checked::Refused(Reason::Type);
-        }
-        Checked::Accepted(Task::Fresh {
+        require(
+            same_type(&value_detail(kept.value_type), &entry.value),
+            Reason::Type,
+        )?;
+        Ok(Task::Fresh {
             board: found.board,
             call: read_core(entry).fresh(kept.generation),
         })
@@ -312,72 +199,47 @@ impl<C: BoardWords + Drop> BoardMachine<C> {
         handle: &Name,
         value: Value,
         generation: u64,
-    ) -> Result<Checked, AllocError>
+    ) -> Result<Task, NotBegun>
         requires led { IsLed self.now }
         requires generation { HasGeneration self.now party.now (call.Update handle.now value) generation }
-        ensures { IfOk result (Checks self.now party.now (call.Update handle.now value)) }
+        ensures { Checks self.now party.now (call.Update handle.now value) result }
     {
-        let Some(found) = self.handle_held(party, handle) else {
-            return Ok(Checked::Refused(Reason::Unknown));
-        };
+        let found = self.handle_used(party, handle)?;
         let entry = self.entry_held(&found);
-        if !same_type(&value_detail(type_of(value)), &entry.value) {
-            return Ok(Checked::Refused(Reason::Type));
-        }
+        require(is_value_of(value, entry), Reason::Type)?;
         let core = write_core(entry, generation);
         let words = value_words(self.alloc, value)?;
-        Ok(Checked::Accepted(Task::Update {
+        Ok(Task::Update {
             board: found.board,
             call: core.update(words),
+        })
+    }
+
+    fn check_loan(&self, party: &Name, loan: Name, handle: Name) -> Result<Task, NotBegun>
+        requires { IsLed self.now }
+        ensures { Checks self.now party.now (call.Loan loan handle) result }
+    {
+        let found = self.handle_used(party, &handle)?;
+        let entry = self.entry_held(&found);
+        self.is_free_name(party, &loan)?;
+        Ok(Task::Table(TableTask::Loan {
+            handle,
+            loan,
+            words: entry.cell.words,
         }))
     }
 
-    fn check_keys(&self, party: &Name, factory: &Name) -> Checked
-        ensures { Checks self.now party.now (call.Keys factory.now) result }
-    {
-        match self.domain.held_of_kind(ThingKind::Factory, party, factory) {
-            Some(factory) => Checked::Accepted(Task::Table(TableTask::Keys { factory })),
-            None => Checked::Refused(Reason::Unknown),
-        }
-    }
-
-    fn check_nodes(&self, party: &Name, factory: &Name) -> Checked
-        ensures { Checks self.now party.now (call.Nodes factory.now) result }
-    {
-        match self.domain.held_of_kind(ThingKind::Factory, party, factory) {
-            Some(factory) => Checked::Accepted(Task::Table(TableTask::Nodes { factory })),
-            None => Checked::Refused(Reason::Unknown),
-        }
-    }
-
-    fn check_info(&self, party: &Name, factory: &Name) -> Checked
-        ensures { Checks self.now party.now (call.Info factory.now) result }
-    {
-        match self.domain.held_of_kind(ThingKind::Factory, party, factory) {
-            Some(factory) => Checked::Accepted(Task::Table(TableTask::Info { factory })),
-            None => Checked::Refused(Reason::Unknown),
-        }
-    }
-
-    fn check_id(&self, party: &Name, name: &Name) -> Checked
+    fn check_id(&self, party: &Name, name: &Name) -> Result<Task, NotBegun>
         ensures { Checks self.now party.now (call.Id name.now) result }
     {
         let Some(thing) = self.domain.thing_of(party, name) else {
-            return Checked::Refused(Reason::Unknown);
+            return Err(NotBegun::Refused(Reason::Unknown));
         };
-        if !has_id(&thing.kind, self.is_lent(party, name)) {
-            return Checked::Refused(Reason::Unknown);
-        }
-        Checked::Accepted(Task::Table(TableTask::Id { thing: *thing }))
-    }
-
-    fn check_gen(&self, party: &Name, handle: &Name) -> Checked
-        ensures { Checks self.now party.now (call.Gen handle.now) result }
-    {
-        match self.handle_held(party, handle) {
-            Some(handle) => Checked::Accepted(Task::Table(TableTask::Gen { handle })),
-            None => Checked::Refused(Reason::Unknown),
-        }
+        require(
+            has_id(&thing.kind, self.is_lent(party, name)),
+            Reason::Unknown,
+        )?;
+        Ok(Task::Table(TableTask::Id { thing: *thing }))
     }
 
     // The handle or the loan whose entry the call writes, where the party has it.
@@ -413,17 +275,12 @@ impl<C: BoardWords + Drop> BoardMachine<C> {
         }
     }
 
-    // Whether the call may begin.
-    pub(crate) fn check(
-        &self,
-        party: &Name,
-        call: Call,
-        generation: u64,
-    ) -> Result<Checked, AllocError>
+    // What the call has to do, where it may begin.
+    pub(crate) fn check(&self, party: &Name, call: Call, generation: u64) -> Result<Task, NotBegun>
         requires led { IsLed self.now }
         requires free { HasNoRow self.now party.now }
         requires generation { HasGeneration self.now party.now call generation }
-        ensures { IfOk result (Checks self.now party.now call) }
+        ensures { Checks self.now party.now call result }
     {
         match call {
             Call::Create {
@@ -433,49 +290,105 @@ impl<C: BoardWords + Drop> BoardMachine<C> {
                 limits,
                 attributes,
                 entries,
-            } => Ok(self.check_create(party, factory, name, key_type, limits, attributes, entries)),
+            } => {
+                self.is_free_name(party, &factory)?;
+                require(have_key_type(key_type, entries.as_slice()), Reason::Type)?;
+                Ok(Task::Table(TableTask::Create {
+                    factory,
+                    name,
+                    key_type,
+                    limits,
+                    attributes,
+                    entries,
+                }))
+            }
             Call::Open {
                 factory,
                 name,
                 key_type,
                 limits,
                 needs,
-            } => Ok(self.check_open(party, factory, name, key_type, limits, needs)),
-            Call::Reader { reader, factory } => Ok(self.check_reader(party, reader, &factory)),
-            Call::Writer { writer, factory } => Ok(self.check_writer(party, writer, &factory)),
+            } => {
+                self.is_free_name(party, &factory)?;
+                Ok(Task::Table(TableTask::Open {
+                    factory,
+                    name,
+                    key_type,
+                    limits,
+                    needs,
+                }))
+            }
+            Call::Reader { reader, factory } => {
+                let factory = self.thing_used(ThingKind::Factory, party, &factory)?;
+                self.is_free_name(party, &reader)?;
+                Ok(Task::Table(TableTask::Reader { reader, factory }))
+            }
+            Call::Writer { writer, factory } => {
+                let factory = self.thing_used(ThingKind::Factory, party, &factory)?;
+                self.is_free_name(party, &writer)?;
+                Ok(Task::Table(TableTask::Writer { writer, factory }))
+            }
             Call::Entry {
                 handle,
                 reader,
                 key,
                 value_type,
-            } => Ok(self.check_entry(party, handle, &reader, key, value_type)),
+            } => {
+                let reader = self.thing_used(ThingKind::Reader, party, &reader)?;
+                self.is_free_name(party, &handle)?;
+                require(self.domain.is_key_of(reader.board, &key), Reason::Type)?;
+                Ok(Task::Table(TableTask::Entry {
+                    handle,
+                    reader,
+                    key,
+                    value_type,
+                }))
+            }
             Call::EntryMut {
                 handle,
                 writer,
                 key,
                 value_type,
-            } => Ok(self.check_entry_mut(party, handle, &writer, key, value_type)),
+            } => {
+                let writer = self.thing_used(ThingKind::Writer, party, &writer)?;
+                self.is_free_name(party, &handle)?;
+                require(self.domain.is_key_of(writer.board, &key), Reason::Type)?;
+                Ok(Task::Table(TableTask::EntryMut {
+                    handle,
+                    writer,
+                    key,
+                    value_type,
+                }))
+            }
             Call::Get { handle, value } => self.check_get(party, &handle, value),
-            Call::Fresh { handle, value } => Ok(self.check_fresh(party, &handle, &value)),
+            Call::Fresh { handle, value } => self.check_fresh(party, &handle, &value),
             Call::Update { handle, value } => self.check_update(party, &handle, value, generation),
-            Call::Loan { loan, handle } => Ok(self.check_loan(party, loan, &handle)),
-            Call::Discard { loan, handle } => Ok(self.check_discard(party, loan, handle)),
-            Call::Put { loan, index, word } => Ok(self.check_put(
-                party, loan, index, word, generation,
-            )),
-            Call::Publish { loan, handle } => Ok(self.check_publish(
-                party, loan, handle, generation,
-            )),
+            Call::Loan { loan, handle } => self.check_loan(party, loan, handle),
+            Call::Discard { loan, handle } => self.check_discard(party, loan, handle),
+            Call::Put { loan, index, word } => self.check_put(party, loan, index, word, generation),
+            Call::Publish { loan, handle } => self.check_publish(party, loan, handle, generation),
             Call::Fill {
                 loan,
                 handle,
                 value,
             } => self.check_fill(party, loan, handle, value, generation),
-            Call::Keys { factory } => Ok(self.check_keys(party, &factory)),
-            Call::Nodes { factory } => Ok(self.check_nodes(party, &factory)),
-            Call::Info { factory } => Ok(self.check_info(party, &factory)),
-            Call::Id { thing } => Ok(self.check_id(party, &thing)),
-            Call::Gen { handle } => Ok(self.check_gen(party, &handle)),
+            Call::Keys { factory } => {
+                let factory = self.thing_used(ThingKind::Factory, party, &factory)?;
+                Ok(Task::Table(TableTask::Keys { factory }))
+            }
+            Call::Nodes { factory } => {
+                let factory = self.thing_used(ThingKind::Factory, party, &factory)?;
+                Ok(Task::Table(TableTask::Nodes { factory }))
+            }
+            Call::Info { factory } => {
+                let factory = self.thing_used(ThingKind::Factory, party, &factory)?;
+                Ok(Task::Table(TableTask::Info { factory }))
+            }
+            Call::Id { thing } => self.check_id(party, &thing),
+            Call::Gen { handle } => {
+                let handle = self.handle_used(party, &handle)?;
+                Ok(Task::Table(TableTask::Gen { handle }))
+            }
         }
     }
 
@@ -487,12 +400,13 @@ impl<C: BoardWords + Drop> BoardMachine<C> {
         ensures drawn { OnOk result (self.new.domain.drawn ≤ self.old.domain.drawn + 1) }
     {
         let generation = self.generation_for(&party, &call);
-        match self.check(&party, call, generation)? {
-            Checked::Refused(why) => Ok(Answer::Refused(why)),
-            Checked::Accepted(task) => {
+        match self.check(&party, call, generation) {
+            Ok(task) => {
                 self.parties.push(PartyRow { name: party, task })?;
                 Ok(Answer::Begun)
             }
+            Err(NotBegun::Refused(why)) => Ok(Answer::Refused(why)),
+            Err(NotBegun::OutOfMemory) => Err(AllocError),
         }
     }
 

@@ -14,6 +14,7 @@ mod begin;
 mod loans;
 mod lookups;
 mod machine;
+mod not_begun;
 mod refusals;
 mod release;
 mod step;

@@ -8,11 +8,10 @@ ghost use Rattle.script_boards.specs.LoanCalls.{CanSettle, HasLoanWord, IsGivenB
 ghost use Rattle.script_boards.specs.Loans.{is_lent_as, lent_words};
 ghost use Rattle.script_boards.specs.Machine.{IsLed};
 
-use crate::begin::{Checked, write_core};
+use crate::begin::{is_value_of, require, write_core};
 use crate::machine::{BoardMachine, Lent, TableTask, Task};
-use board_model::{
-    Name, Reason, Reply, ThingKind, Value, same_type, type_of, value_detail, value_words,
-};
+use crate::not_begun::NotBegun;
+use board_model::{Name, Reason, Reply, ThingKind, Value, value_words};
 use board_ports::LoanCore;
 use board_service::BoardWords;
 use script_parties::Held;
@@ -76,36 +75,20 @@ impl<C: BoardWords + Drop> BoardMachine<C> {
         }
     }
 
-    /// Whether a loan may be made.
-    pub(crate) fn check_loan(&self, party: &Name, loan: Name, handle: &Name) -> Checked
-        requires { IsLed self.now }
-        ensures { Checks self.now party.now (call.Loan loan handle.now) result }
-    {
-        let Some(found) = self.handle_held(party, handle) else {
-            return Checked::Refused(Reason::Unknown);
-        };
-        let entry = self.entry_held(&found);
-        if self.holds(party, &loan) {
-            return Checked::Refused(Reason::Taken);
-        }
-        Checked::Accepted(Task::Table(TableTask::Loan {
-            handle: *handle,
-            loan,
-            words: entry.cell.words,
-        }))
-    }
-
     /// Whether a loan may be discarded.
-    pub(crate) fn check_discard(&self, party: &Name, loan: Name, handle: Name) -> Checked
+    pub(crate) fn check_discard(
+        &self,
+        party: &Name,
+        loan: Name,
+        handle: Name,
+    ) -> Result<Task, NotBegun>
         ensures { Checks self.now party.now (call.Discard loan handle) result }
     {
         let Some(_) = self.loan_held(party, &loan) else {
-            return Checked::Refused(Reason::Unknown);
+            return Err(NotBegun::Refused(Reason::Unknown));
         };
-        if self.holds(party, &handle) {
-            return Checked::Refused(Reason::Taken);
-        }
-        Checked::Accepted(Task::Table(TableTask::Discard { loan, handle }))
+        self.is_free_name(party, &handle)?;
+        Ok(Task::Table(TableTask::Discard { loan, handle }))
     }
 
     /// Whether a word may be put into a loan.
@@ -116,21 +99,21 @@ impl<C: BoardWords + Drop> BoardMachine<C> {
         index: u64,
         word: u64,
         generation: u64,
-    ) -> Checked
+    ) -> Result<Task, NotBegun>
         requires led { IsLed self.now }
         requires free { HasNoRow self.now party.now }
         requires generation { HasGeneration self.now party.now (call.Put loan index word) generation }
         ensures { Checks self.now party.now (call.Put loan index word) result }
     {
         let Some((found, words)) = self.loan_held(party, &loan) else {
-            return Checked::Refused(Reason::Unknown);
+            return Err(NotBegun::Refused(Reason::Unknown));
         };
         let entry = self.entry_held(&found);
         let core = LoanCore::lent(write_core(entry, generation), words);
         let Some(call) = core.put(index, word) else {
-            return Checked::Refused(Reason::Index);
+            return Err(NotBegun::Refused(Reason::Index));
         };
-        Checked::Accepted(Task::Put {
+        Ok(Task::Put {
             board: found.board,
             call,
             loan,
@@ -146,24 +129,20 @@ impl<C: BoardWords + Drop> BoardMachine<C> {
         loan: Name,
         handle: Name,
         generation: u64,
-    ) -> Checked
+    ) -> Result<Task, NotBegun>
         requires led { IsLed self.now }
         requires free { HasNoRow self.now party.now }
         requires generation { HasGeneration self.now party.now (call.Publish loan handle) generation }
         ensures { Checks self.now party.now (call.Publish loan handle) result }
     {
         let Some((found, words)) = self.loan_held(party, &loan) else {
-            return Checked::Refused(Reason::Unknown);
+            return Err(NotBegun::Refused(Reason::Unknown));
         };
         let entry = self.entry_held(&found);
-        if self.holds(party, &handle) {
-            return Checked::Refused(Reason::Taken);
-        }
+        self.is_free_name(party, &handle)?;
         let core = LoanCore::lent(write_core(entry, generation), words);
-        if !core.is_filled() {
-            return Checked::Refused(Reason::Unfilled);
-        }
-        Checked::Accepted(Task::Publish {
+        require(core.is_filled(), Reason::Unfilled)?;
+        Ok(Task::Publish {
             board: found.board,
             call: core.publish(),
             loan,
@@ -179,30 +158,26 @@ impl<C: BoardWords + Drop> BoardMachine<C> {
         handle: Name,
         value: Value,
         generation: u64,
-    ) -> Result<Checked, AllocError>
+    ) -> Result<Task, NotBegun>
         requires led { IsLed self.now }
         requires free { HasNoRow self.now party.now }
         requires generation { HasGeneration self.now party.now (call.Fill loan handle value) generation }
-        ensures { IfOk result (Checks self.now party.now (call.Fill loan handle value)) }
+        ensures { Checks self.now party.now (call.Fill loan handle value) result }
     {
         let Some((found, put)) = self.loan_held(party, &loan) else {
-            return Ok(Checked::Refused(Reason::Unknown));
+            return Err(NotBegun::Refused(Reason::Unknown));
         };
         let entry = self.entry_held(&found);
-        if self.holds(party, &handle) {
-            return Ok(Checked::Refused(Reason::Taken));
-        }
-        if !same_type(&value_detail(type_of(value)), &entry.value) {
-            return Ok(Checked::Refused(Reason::Type));
-        }
+        self.is_free_name(party, &handle)?;
+        require(is_value_of(value, entry), Reason::Type)?;
         let core = LoanCore::lent(write_core(entry, generation), put);
         let words = value_words(self.alloc, value)?;
-        Ok(Checked::Accepted(Task::Fill {
+        Ok(Task::Fill {
             board: found.board,
             call: core.fill(words),
             loan,
             handle,
-        }))
+        })
     }
 
     /// Makes a loan of a write handle. No word of it is put.
@@ -242,6 +217,7 @@ impl<C: BoardWords + Drop> BoardMachine<C> {
     {
         match place_of_loan(party, loan, &self.loans) {
             Some(place) => self.loans[place].words[index as usize] = Some(word),
+            // `HasLoanWord`: the loan stands.
             None => unreachable!(),
         }
     }

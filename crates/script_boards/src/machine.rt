@@ -26,21 +26,21 @@ pub(crate) enum TableTask {
         needs: Requirements,
     },
     Reader {
-        name: Name,
+        reader: Name,
         factory: Held,
     },
     Writer {
-        name: Name,
+        writer: Name,
         factory: Held,
     },
     Entry {
-        name: Name,
+        handle: Name,
         reader: Held,
         key: Key,
         value_type: ValueType,
     },
     EntryMut {
-        name: Name,
+        handle: Name,
         writer: Held,
         key: Key,
         value_type: ValueType,
@@ -81,7 +81,7 @@ pub(crate) enum Task {
         board: u64,
         call: GetCall,
         value_type: ValueType,
-        name: Option<Name>,
+        value: Option<Name>,
     },
     Fresh {
         board: u64,

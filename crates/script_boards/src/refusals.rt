@@ -2,21 +2,24 @@
 ghost use Rattle.std.specs.Prelude.{◌≡◌, None, IfNone, IfOk};
 ghost use Rattle.board_model.specs.LawfulSession.{State, free_reason};
 ghost use Rattle.board_model.specs.Things as held;
-ghost use Rattle.script_boards.specs.Begins.{HasNoRow, LooksPastNames, is_unknown};
+ghost use Rattle.script_boards.specs.Begins.{HasNoRow, LooksPastNames, past_names};
 ghost use Rattle.script_boards.specs.Machine.{IsLed, Represents};
 
-use crate::begin::Checked;
 use crate::lookups::place_of_party;
 use crate::machine::BoardMachine;
+use crate::not_begun::NotBegun;
 use board_model::{Call, Name, Reason};
 use board_service::BoardWords;
 use std::alloc::AllocError;
 
-// Whether a call doesn't find all that it uses.
-fn is_unknown(checked: &Checked) -> bool
-    ensures { result ≡ is_unknown checked.now }
+// The reason, where it is that a call doesn't find all that it uses.
+fn past_names(why: Reason) -> Option<Reason>
+    ensures { result ≡ past_names why }
 {
-    matches!(checked, Checked::Refused(Reason::Unknown))
+    match why {
+        Reason::Unknown => Some(why),
+        _ => None,
+    }
 }
 
 impl<C: BoardWords + Drop> BoardMachine<C> {
@@ -59,11 +62,10 @@ impl<C: BoardWords + Drop> BoardMachine<C> {
             return Ok(Some(why));
         }
         let generation = self.generation_for(party, &call);
-        let checked = self.check(party, call, generation)?;
-        if is_unknown(&checked) {
-            Ok(Some(Reason::Unknown))
-        } else {
-            Ok(None)
+        match self.check(party, call, generation) {
+            Ok(_) => Ok(None),
+            Err(NotBegun::Refused(why)) => Ok(past_names(why)),
+            Err(NotBegun::OutOfMemory) => Err(AllocError),
         }
     }
 }

@@ -6,7 +6,6 @@ ghost use Rattle.script_boards.specs.Machine.{IsLed, Serves, is_kept_as};
 ghost use Rattle.script_boards.specs.Steps.{IsLetGo};
 
 use crate::loans::forget_loan;
-use crate::lookups::place_of_party;
 use crate::machine::{BoardMachine, KeptValue};
 use board_cell_model::Access;
 use board_model::{Answer, Name, Reason, Reply};
@@ -35,11 +34,8 @@ impl<C: BoardWords + Drop> BoardMachine<C> {
         ensures serves { Serves self.old self.new (line.Release party.now name.now) result }
         ensures drawn { self.new.domain.drawn ≡ self.old.domain.drawn }
     {
-        if let Some(at) = place_of_party(party, &self.parties) {
-            if self.parties[at].task.is_gone() {
-                return Answer::Refused(Reason::Abandoned);
-            }
-            return Answer::Refused(Reason::Busy);
+        if let Some(why) = self.refusal_of_party(party) {
+            return Answer::Refused(why);
         }
         if !self.holds(party, name) {
             return Answer::Refused(Reason::Unknown);

@@ -1,18 +1,18 @@
 //! Lines `step P`.
 ghost use Rattle.std.specs.Prelude.{◌≡◌, ◌+◌, ◌<◌, ◌≤◌, ◌^◌, ◌==◌, IfOk, OnOk, length, slice_set, slice_index_or};
 ghost use Rattle.std.specs.List.{remove};
-ghost use Rattle.board_cell.specs.Calls.{progress_of, told};
+ghost use Rattle.board_cell.specs.Calls.{progress_of};
 ghost use Rattle.board_model.specs.AnswerGrammar.{IsReply};
 ghost use Rattle.board_model.specs.declared.line.Line.TheVariants as line;
 ghost use Rattle.script_parties.specs.Parties.{HasWord, IsLoaded};
 ghost use Rattle.script_boards.specs.Machine.{IsLed, Serves};
 ghost use Rattle.script_boards.specs.Steps as steps;
-ghost use Rattle.script_boards.specs.Steps.{CanGoOn, CanGoOnAt, CanRun, GoesOnAt, HasCounter, HasRead, HoldsAsBefore, IsCounter, IsOnlyWrite, IsOwedBy, IsOwedWrite, IsReadTold, IsSame, IsTold, IsWordSet, IsWrite, OwesAt, ticked};
+ghost use Rattle.script_boards.specs.Steps.{CanGoOn, CanGoOnAt, CanRun, GoesOnAt, HasCounter, HasRead, HoldsAsBefore, IsCounter, IsOwedBy, IsReadTold, IsSame, IsTold, IsWordSet, OwesAt, owed_on, ticked};
 ghost use Rattle.script_boards.specs.declared.step.OwedAccess.TheVariants as owed;
 
 use crate::lookups::place_of_party;
 use crate::machine::{BoardMachine, KeptValue, PartyRow, TableTask, Task};
-use board_cell::{Access as CellAccess, Progress, UpdateCall};
+use board_cell::{Access as CellAccess, Progress};
 use board_cell_model::Access;
 use board_model::{Answer, Name, Reason, Reply, Words};
 use board_service::BoardWords;
@@ -43,35 +43,18 @@ pub(crate) enum OwedAccess {
     Write(OwedWrite),
 }
 
-// The write that a publication of words owes.
-fn write_of(board: u64, call: &UpdateCall) -> OwedWrite
-    requires { call.now.written ≤ length call.now.words }
-    ensures { IsOwedWrite board call.now result }
-{
-    match call.next() {
-        CellAccess::Write { word, value } => OwedWrite {
-            board,
-            word,
-            value,
-            is_last: !call.owes_word(),
-        },
-        CellAccess::Read { word: _ } => unreachable!(),
-    }
-}
-
-// The write of a call that has no other access.
-fn only_write_of(board: u64, access: CellAccess) -> OwedWrite
-    requires { IsWrite access }
-    ensures { IsOnlyWrite board (told board access) result }
+// The access that a call makes to its cell, as one of the board. `is_last` is for a write.
+fn owed_on(board: u64, access: CellAccess, is_last: bool) -> OwedAccess
+    ensures { result ≡ owed_on board access is_last }
 {
     match access {
-        CellAccess::Write { word, value } => OwedWrite {
+        CellAccess::Read { word } => OwedAccess::Read(OwedRead { board, word }),
+        CellAccess::Write { word, value } => OwedAccess::Write(OwedWrite {
             board,
             word,
             value,
-            is_last: true,
-        },
-        CellAccess::Read { word: _ } => unreachable!(),
+            is_last,
+        }),
     }
 }
 
@@ -97,41 +80,30 @@ impl Task {
                 board,
                 call,
                 value_type: _,
-                name: _,
-            } => match call.next() {
-                CellAccess::Read { word } => OwedAccess::Read(OwedRead {
-                    board: *board,
-                    word,
-                }),
-                CellAccess::Write { word: _, value: _ } => unreachable!(),
-            },
-            Task::Fresh { board, call } => match call.next() {
-                CellAccess::Read { word } => OwedAccess::Read(OwedRead {
-                    board: *board,
-                    word,
-                }),
-                CellAccess::Write { word: _, value: _ } => unreachable!(),
-            },
-            Task::Update { board, call } => OwedAccess::Write(write_of(*board, call)),
+                value: _,
+            } => owed_on(*board, call.next(), false),
+            Task::Fresh { board, call } => owed_on(*board, call.next(), false),
+            Task::Update { board, call } => owed_on(*board, call.next(), !call.owes_word()),
             Task::Put {
                 board,
                 call,
                 loan: _,
                 index: _,
                 word: _,
-            } => OwedAccess::Write(only_write_of(*board, call.next())),
+            } => owed_on(*board, call.next(), true),
             Task::Publish {
                 board,
                 call,
                 loan: _,
                 handle: _,
-            } => OwedAccess::Write(only_write_of(*board, call.next())),
+            } => owed_on(*board, call.next(), true),
             Task::Fill {
                 board,
                 call,
                 loan: _,
                 handle: _,
-            } => OwedAccess::Write(write_of(*board, call)),
+            } => owed_on(*board, call.next(), !call.owes_word()),
+            // `CanGoOn`: no party that is gone.
             Task::Gone => unreachable!(),
         }
     }
@@ -147,7 +119,7 @@ impl Task {
                 board: _,
                 call,
                 value_type: _,
-                name: _,
+                value: _,
             } => call.took(word),
             Task::Fresh { board: _, call } => call.took(word),
             Task::Update { board: _, call } => call.took(word),
@@ -187,6 +159,7 @@ impl<C: BoardWords + Drop> BoardMachine<C> {
                 let first = entry.cell.first;
                 self.domain.load(board, first)
             }
+            // `HasCounter`: the entry stands.
             None => unreachable!(),
         }
     }
@@ -250,20 +223,20 @@ impl<C: BoardWords + Drop> BoardMachine<C> {
             } => self
                 .domain
                 .open(party, factory, *name.as_text(), key_type, limits, &needs),
-            TableTask::Reader { name, factory } => self.domain.reader(name, &factory),
-            TableTask::Writer { name, factory } => self.domain.writer(name, &factory),
+            TableTask::Reader { reader, factory } => self.domain.reader(reader, &factory),
+            TableTask::Writer { writer, factory } => self.domain.writer(writer, &factory),
             TableTask::Entry {
-                name,
+                handle,
                 reader,
                 key,
                 value_type,
-            } => self.domain.entry(name, &reader, &key, value_type),
+            } => self.domain.entry(handle, &reader, &key, value_type),
             TableTask::EntryMut {
-                name,
+                handle,
                 writer,
                 key,
                 value_type,
-            } => self.domain.entry_mut(name, &writer, &key, value_type),
+            } => self.domain.entry_mut(handle, &writer, &key, value_type),
             TableTask::Loan {
                 handle,
                 loan,
@@ -295,11 +268,11 @@ impl<C: BoardWords + Drop> BoardMachine<C> {
                 board: _,
                 call,
                 value_type,
-                name,
+                value,
             } => {
                 let generation = call.generation();
                 let words = call.into_buffer();
-                if let Some(name) = name {
+                if let Some(name) = value {
                     let copy = Vec::from_slice(self.alloc, &words)?;
                     self.values.push(KeptValue {
                         party,
@@ -316,6 +289,7 @@ impl<C: BoardWords + Drop> BoardMachine<C> {
                 })
             }
             Task::Fresh { board: _, call } => Ok(Reply::Fresh(call.answer())),
+            // `HasRead`: a get or a look.
             _ => unreachable!(),
         }
     }
@@ -336,6 +310,7 @@ impl<C: BoardWords + Drop> BoardMachine<C> {
                     reply: Some(told),
                 })
             }
+            // `OwesAt`: the row that stands here owes a step on the tables.
             _ => unreachable!(),
         }
     }

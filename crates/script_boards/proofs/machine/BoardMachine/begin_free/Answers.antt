@@ -1,19 +1,31 @@
 use Rattle.std.proofs.Common.{refl, sym, subst}
 use Rattle.board_model.specs.Requests.{request_of}
-use Rattle.board_model.specs.LawfulSession.{call_reason}
-use Rattle.script_boards.specs.declared.begin.Checked.{Checked}
-use Rattle.script_boards.specs.Begins.{IsChecked}
+use Rattle.board_model.specs.declared.answer.Answer.TheVariants as answer
+use Rattle.board_model.specs.declared.answer.Reason.{Reason}
+use Rattle.board_model.specs.declared.line.Line.TheVariants as line
+use Rattle.board_model.specs.LawfulSession.{IsRight, call_reason}
 use Rattle.script_boards.specs.Machine.{Represents}
-use Rattle.script_boards.proofs.CallChecks.{begin_begun, begin_refused}
+use Rattle.script_boards.proofs.CallChecks.{begin_begun, begin_refused, reason_for}
 use Rattle.script_boards.proofs.PartyRows.{is_free}
 use Rattle.script_boards.proofs.machine.BoardMachine.begin_free.Goals as goal
 
-pub returns-in-Refused-clause-serves : goal.returns-in-Refused-clause-serves
-returns-in-Refused-clause-serves g c =
+pub returns-in-Err-Refused-clause-serves : goal.returns-in-Err-Refused-clause-serves
+returns-in-Err-Refused-clause-serves g c =
+    let m = c.args.self.now in
+    let party = c.args.party in
+    let call = c.args.call in
     λ s rep reached l.
-    (begin_refused s c.args.party c.args.call c.in-Refused.why (is_free c.args.self.now.parties.items s.parties rep.parties c.args.party c.requires.free) (subst (λ (x : Checked). IsChecked (call_reason s.standing c.args.party c.args.call (request_of s.standing s.published c.args.party c.args.call)) (request_of s.standing s.published c.args.party c.args.call) x) c.in-Refused.is (c.in_ok-why.ensures s (subst (λ m. Represents m s) (sym c.generation_for-generation.ensures.same) rep) reached.sound)) l, subst (λ m. Represents m s) (sym c.generation_for-generation.ensures.same) rep)
+    let rep2 = subst (λ x. Represents x s) (sym c.generation_for-generation.ensures.same) rep in
+    let reason =
+    reason_for (call_reason s.standing party call (request_of s.standing s.published party call)) (request_of s.standing s.published party call) c.in-Err-Refused.field-0 c.in-Err-Refused.why c.in-Err-Refused.field-0-is
+    (c.in-Err-Refused.ensures s rep2 reached.sound) in
+    (subst (λ (why : Reason). IsRight s (line.Begin party call) (answer.Refused why)) (sym c.in-Err-Refused.why-is) (begin_refused s party call c.in-Err-Refused.why (is_free m.parties.items s.parties rep.parties party c.requires.free) reason l), rep2)
 
-pub returns-in_ok-push-in-Accepted-clause-serves : goal.returns-in_ok-push-in-Accepted-clause-serves
-returns-in_ok-push-in-Accepted-clause-serves g c =
+pub returns-in_ok-push-in-Ok-clause-serves : goal.returns-in_ok-push-in-Ok-clause-serves
+returns-in_ok-push-in-Ok-clause-serves g c =
+    let m = c.args.self.now in
+    let party = c.args.party in
     λ s rep reached l.
-    begin_begun c.generation_for-generation.new.self _ s (subst (λ m. Represents m s) (sym c.generation_for-generation.ensures.same) rep) c.args.party c.args.call c.in-Accepted.task (is_free c.args.self.now.parties.items s.parties rep.parties c.args.party c.requires.free) (subst (λ (x : Checked). IsChecked (call_reason s.standing c.args.party c.args.call (request_of s.standing s.published c.args.party c.args.call)) (request_of s.standing s.published c.args.party c.args.call) x) c.in-Accepted.is (c.in_ok-why.ensures s (subst (λ m. Represents m s) (sym c.generation_for-generation.ensures.same) rep) reached.sound)) refl refl refl refl c.in_ok-push-in-Accepted.ensures.items l
+    let rep2 = subst (λ x. Represents x s) (sym c.generation_for-generation.ensures.same) rep in
+    begin_begun c.generation_for-generation.new.self _ s rep2 party c.args.call c.in-Ok.task (is_free m.parties.items s.parties rep.parties party c.requires.free) (c.in-Ok.ensures s rep2 reached.sound) refl refl refl refl
+    c.in_ok-push-in-Ok.ensures.items l

@@ -3,12 +3,13 @@ use Rattle.std.proofs.Common.{◌≡◌, ℕ, ◌+◌, ◌<◌, ◌^◌, List, l
 use Rattle.board_layout.specs.declared.shape.CellShape.{CellShape}
 use Rattle.board_layout.specs.Layout.{cell_end, cell_shape}
 use Rattle.board_cell.specs.Calls.{Updating}
+use Rattle.board_model.specs.declared.answer.Reason.TheVariants as reason
 use Rattle.board_model.specs.Tables.{entry_of}
 use Rattle.board_model.specs.Things.{Held}
 use Rattle.board_model.specs.TypeTable.{same_type, type_of, value_detail, value_words}
 use Rattle.script_boards.specs.Begins.{IsGenerationOf, holds, loan_held}
 use Rattle.script_boards.proofs.Bounds.{bounded}
-use Rattle.script_boards.proofs.CallChecks.{cell_is_low, counter_is_low, value_fits}
+use Rattle.script_boards.proofs.CallChecks.{cell_is_low, counter_is_low, refused_for, value_fits}
 use Rattle.script_boards.proofs.LoanChecks.{fill_begins, fill_mistyped, loan_width}
 use Rattle.board_ports.specs.Loans.{LoanSeen}
 use Rattle.script_boards.proofs.PartyRows.{is_free}
@@ -70,8 +71,8 @@ returns g c =
     ∙ ap (λ (y : CellShape). a_fill y c.args.generation c.in_ok-words.words.items) (ap (λ (l : LoanSeen). l.handle.shape) c.lent-core.ensures ∙ c.write_core.ensures.shape)
     ∙ ap (λ (ws : List ℕ). a_fill (cell_shape entry.cell) c.args.generation ws) w)
 
-pub returns-then-not-same_type : goal.returns-then-not-same_type
-returns-then-not-same_type g c =
+pub returns-in_err-require : goal.returns-in_err-require
+returns-in_err-require g c =
     let m = c.args.self.now in
     let party = c.args.party.now in
     let x = c.in-Some.found in
@@ -79,6 +80,7 @@ returns-then-not-same_type g c =
     let words = c.in-Some.put.now.items in
     let held : loan_held m party c.args.loan ≡ a_loan x words = search rules in
     let untaken : holds m party c.args.handle ≡ false = search rules in
-    let t : same_type (value_detail (type_of c.args.value)) entry.value ≡ false = search rules in
+    let t : same_type (value_detail (type_of c.args.value)) entry.value ≡ false = sym c.is_value_of.ensures ∙ c.in_err-require.ensures.0 in
+    let refused = refused_for c.from_residual-in_err-require.result c.in_err-require.field-0.0 reason.Type c.from_residual-in_err-require.ensures.1 c.in_err-require.ensures.1 in
     λ s rep sound.
-    fill_mistyped m s rep party sound x entry c.entry_held-entry.ensures c.args.loan words held c.args.handle c.args.value untaken t
+    rw refused (fill_mistyped m s rep party sound x entry c.entry_held-entry.ensures c.args.loan words held c.args.handle c.args.value untaken t)

@@ -3,11 +3,12 @@ use Rattle.board_layout.specs.declared.shape.CellShape.{CellShape}
 use Rattle.board_layout.specs.Layout.{cell_end}
 use Rattle.board_cell_model.specs.OwedAccesses.{opening}
 use Rattle.board_cell.specs.Calls.{Getting}
+use Rattle.board_model.specs.declared.answer.Reason.TheVariants as reason
 use Rattle.board_model.specs.declared.tables.ThingKind.TheVariants as thing_kind
 use Rattle.board_model.specs.Tables.{entry_of}
 use Rattle.board_model.specs.Things.{Held, of_kind, thing_of}
 use Rattle.script_boards.specs.Begins.{holds_any}
-use Rattle.script_boards.proofs.CallChecks.{cell_is_low, get_begins, get_taken, read_handle}
+use Rattle.script_boards.proofs.CallChecks.{cell_is_low, get_begins, get_taken, not_false, read_handle, refused_for}
 use Rattle.script_boards.proofs.machine.BoardMachine.check_get.Goals as goal
 
 abbrev a_get : CellShape → Getting
@@ -16,26 +17,28 @@ a_get x = record { shape = x; reading = opening }
 abbrev a_thing : Held → Option Held
 a_thing x = Some x
 
-pub returns-then-holds_any : goal.returns-then-holds_any
-returns-then-holds_any g c =
-    let h : of_kind thing_kind.ReadHandle (thing_of c.args.self.now.domain.tables.things c.args.party.now c.args.handle.now) ≡ a_thing c.in-Some.found = search rules in
-    let t : holds_any c.args.self.now c.args.party.now c.args.name ≡ true = search rules in
-    λ s rep sound. get_taken c.args.self.now s rep sound c.in-Some.found.board (entry_of c.in-Some.found.kind) c.entry_held-entry.result.now c.entry_held-entry.ensures c.args.party.now c.args.handle.now c.in-Some.found refl refl h c.args.name t
+pub returns-in_err-require : goal.returns-in_err-require
+returns-in_err-require g c =
+    let h : of_kind thing_kind.ReadHandle (thing_of c.args.self.now.domain.tables.things c.args.party.now c.args.handle.now) ≡ a_thing c.in_ok-found.found = search rules in
+    let t : holds_any c.args.self.now c.args.party.now c.args.value ≡ true = sym c.holds_any.ensures ∙ not_false c.holds_any.result c.in_err-require.ensures.0 in
+    let refused = refused_for c.from_residual-in_err-require.result c.in_err-require.field-0.0 reason.Taken c.from_residual-in_err-require.ensures.1 c.in_err-require.ensures.1 in
+    λ s rep sound. rw refused
+    (get_taken c.args.self.now s rep sound c.in_ok-found.found.board (entry_of c.in_ok-found.found.kind) c.entry_held-entry.result.now c.entry_held-entry.ensures c.args.party.now c.args.handle.now c.in_ok-found.found refl refl h c.args.value t)
 
 pub get-requires-clause-shape : goal.get-requires-clause-shape
 get-requires-clause-shape g c =
     let led = c.requires in
     subst (λ (x : CellShape). cell_end x < 2 ^ 64) (sym c.read_core-core.ensures)
-    (cell_is_low c.args.self.now led.state led.represents led.reached.sound c.in-Some.found.board (entry_of c.in-Some.found.kind) c.entry_held-entry.result.now c.entry_held-entry.ensures)
+    (cell_is_low c.args.self.now led.state led.represents led.reached.sound c.in_ok-found.found.board (entry_of c.in_ok-found.found.kind) c.entry_held-entry.result.now c.entry_held-entry.ensures)
 
 pub returns : goal.returns
 returns g c =
-    let h : of_kind thing_kind.ReadHandle (thing_of c.args.self.now.domain.tables.things c.args.party.now c.args.handle.now) ≡ a_thing c.in-Some.found = search rules in
-    let free : holds_any c.args.self.now c.args.party.now c.args.name ≡ false = search rules in
-    λ s rep sound. get_begins c.args.self.now s rep sound c.in-Some.found.board (entry_of c.in-Some.found.kind) c.entry_held-entry.result.now c.entry_held-entry.ensures c.args.party.now c.args.handle.now c.in-Some.found refl refl h c.args.name c.get.result c.value_type_of.result
+    let h : of_kind thing_kind.ReadHandle (thing_of c.args.self.now.domain.tables.things c.args.party.now c.args.handle.now) ≡ a_thing c.in_ok-found.found = search rules in
+    let free : holds_any c.args.self.now c.args.party.now c.args.value ≡ false = search rules in
+    λ s rep sound. get_begins c.args.self.now s rep sound c.in_ok-found.found.board (entry_of c.in_ok-found.found.kind) c.entry_held-entry.result.now c.entry_held-entry.ensures c.args.party.now c.args.handle.now c.in_ok-found.found refl refl h c.args.value c.get.result c.value_type_of.result
     (c.get.ensures ∙ ap (λ (x : CellShape). a_get x) c.read_core-core.ensures) free c.value_type_of.ensures
 
 pub entry_held-entry-requires-clause-held : goal.entry_held-entry-requires-clause-held
 entry_held-entry-requires-clause-held g c =
-    let h : of_kind thing_kind.ReadHandle (thing_of c.args.self.now.domain.tables.things c.args.party.now c.args.handle.now) ≡ a_thing c.in-Some.found = search rules in
-    read_handle c.args.self.now c.args.party.now c.args.handle.now c.in-Some.found h
+    let h : of_kind thing_kind.ReadHandle (thing_of c.args.self.now.domain.tables.things c.args.party.now c.args.handle.now) ≡ a_thing c.in_ok-found.found = search rules in
+    read_handle c.args.self.now c.args.party.now c.args.handle.now c.in_ok-found.found h

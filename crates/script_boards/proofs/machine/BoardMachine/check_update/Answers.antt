@@ -21,34 +21,34 @@ update-requires-clause-width g c =
     let t : same_type (value_detail (type_of c.args.value)) c.entry_held-entry.result.now.value ≡ true = search rules in
     let w : c.in_ok-words.words.items ≡ value_words c.args.value = search rules in
     let led = c.requires.led in
-    ap (λ (ws : List ℕ). length ws) w ∙ value_fits c.args.self.now led.state led.represents led.reached.sound c.in-Some.found.board (entry_of c.in-Some.found.kind) c.entry_held-entry.result.now c.entry_held-entry.ensures c.args.value t
+    ap (λ (ws : List ℕ). length ws) w ∙ value_fits c.args.self.now led.state led.represents led.reached.sound c.in_ok-found.found.board (entry_of c.in_ok-found.found.kind) c.entry_held-entry.result.now c.entry_held-entry.ensures c.args.value t
     ∙ ap (λ (x : CellShape). x.words) (sym c.write_core-core.ensures.shape)
 
 pub update-requires-clause-shape : goal.update-requires-clause-shape
 update-requires-clause-shape g c =
     let led = c.requires.led in
     subst (λ (x : CellShape). cell_end x < 2 ^ 64) (sym c.write_core-core.ensures.shape)
-    (cell_is_low c.args.self.now led.state led.represents led.reached.sound c.in-Some.found.board (entry_of c.in-Some.found.kind) c.entry_held-entry.result.now c.entry_held-entry.ensures)
+    (cell_is_low c.args.self.now led.state led.represents led.reached.sound c.in_ok-found.found.board (entry_of c.in_ok-found.found.kind) c.entry_held-entry.result.now c.entry_held-entry.ensures)
 
 pub update-requires-clause-room : goal.update-requires-clause-room
 update-requires-clause-room g c =
-    let h : handle_held c.args.self.now c.args.party.now c.args.handle.now ≡ a_thing c.in-Some.found = search rules in
+    let h : handle_held c.args.self.now c.args.party.now c.args.handle.now ≡ a_thing c.in_ok-found.found = search rules in
     let led = c.requires.led in
     subst (λ (g : ℕ). g + 1 < 2 ^ 64) (sym c.write_core-core.ensures.generation)
-    (counter_is_low c.args.self.now led.state led.represents led.reached.sound c.in-Some.found.board (entry_of c.in-Some.found.kind) c.entry_held-entry.result.now c.entry_held-entry.ensures c.args.generation (bounded led.state led.reached)
+    (counter_is_low c.args.self.now led.state led.represents led.reached.sound c.in_ok-found.found.board (entry_of c.in_ok-found.found.kind) c.entry_held-entry.result.now c.entry_held-entry.ensures c.args.generation (bounded led.state led.reached)
     (subst (λ (o : Option Held). IsGenerationOf c.args.self.now o c.args.generation) h c.requires.generation))
 
 pub returns : goal.returns
 returns g c =
     let t : same_type (value_detail (type_of c.args.value)) c.entry_held-entry.result.now.value ≡ true = search rules in
     let w : c.in_ok-words.words.items ≡ value_words c.args.value = search rules in
-    let h : handle_held c.args.self.now c.args.party.now c.args.handle.now ≡ a_thing c.in-Some.found = search rules in
-    λ s rep sound. update_begins c.args.self.now s rep sound c.in-Some.found.board (entry_of c.in-Some.found.kind) c.entry_held-entry.result.now c.entry_held-entry.ensures c.args.party.now c.args.handle.now c.in-Some.found c.args.value c.args.generation c.in_ok-words.words.items c.update.result
+    let h : handle_held c.args.self.now c.args.party.now c.args.handle.now ≡ a_thing c.in_ok-found.found = search rules in
+    λ s rep sound. update_begins c.args.self.now s rep sound c.in_ok-found.found.board (entry_of c.in_ok-found.found.kind) c.entry_held-entry.result.now c.entry_held-entry.ensures c.args.party.now c.args.handle.now c.in_ok-found.found c.args.value c.args.generation c.in_ok-words.words.items c.update.result
     (c.update.ensures ∙ ap (λ (g : ℕ). an_update c.write_core-core.result.shape g c.in_ok-words.words.items) c.write_core-core.ensures.generation
     ∙ ap (λ (x : CellShape). an_update x c.args.generation c.in_ok-words.words.items) c.write_core-core.ensures.shape) refl refl h t
     (subst (λ (o : Option Held). IsGenerationOf c.args.self.now o c.args.generation) h c.requires.generation) w
 
 pub entry_held-entry-requires-clause-held : goal.entry_held-entry-requires-clause-held
 entry_held-entry-requires-clause-held g c =
-    let h : handle_held c.args.self.now c.args.party.now c.args.handle.now ≡ a_thing c.in-Some.found = search rules in
-    unlent_handle c.args.self.now c.args.party.now c.args.handle.now c.in-Some.found h
+    let h : handle_held c.args.self.now c.args.party.now c.args.handle.now ≡ a_thing c.in_ok-found.found = search rules in
+    unlent_handle c.args.self.now c.args.party.now c.args.handle.now c.in_ok-found.found h

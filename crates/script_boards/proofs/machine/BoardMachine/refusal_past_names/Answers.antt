@@ -1,20 +1,25 @@
-use Rattle.std.proofs.Common.{◌≡◌, rules, sym, subst, true, false}
-use Rattle.script_boards.specs.Begins.{is_unknown}
+use Rattle.std.proofs.Common.{sym, subst}
+use Rattle.board_model.specs.Requests.{request_of}
+use Rattle.board_model.specs.LawfulSession.{call_reason}
 use Rattle.script_boards.specs.Machine.{Represents}
+use Rattle.script_boards.proofs.CallChecks.{reason_for}
 use Rattle.script_boards.proofs.PartyRows.{is_free}
-use Rattle.script_boards.proofs.PastNames.{past_found, past_unknown}
+use Rattle.script_boards.proofs.PastNames.{past_begun, past_refused}
 use Rattle.script_boards.proofs.machine.BoardMachine.refusal_past_names.Goals as goal
-
-pub returns-then-is_unknown-clause-told : goal.returns-then-is_unknown-clause-told
-returns-then-is_unknown-clause-told g c =
-    let u : is_unknown c.in_ok-checked.checked ≡ true = search rules in
-    λ s rep reached.
-    let rep2 = subst (λ m. Represents m s) (sym c.generation_for-generation.ensures.same) rep in
-    past_unknown s c.args.party.now c.args.call c.in_ok-checked.checked (is_free c.args.self.now.parties.items s.parties rep.parties c.args.party.now c.in_default.ensures.free) (c.in_ok-checked.ensures s rep2 reached.sound) u
+use Rattle.script_boards.proofs.machine.BoardMachine.refusal_past_names.Goals.{in-Ok, in-Err-Refused, in-Err-OutOfMemory}
 
 pub returns-clause-told : goal.returns-clause-told
 returns-clause-told g c =
-    let u : is_unknown c.in_ok-checked.checked ≡ false = search rules in
-    λ s rep reached.
-    let rep2 = subst (λ m. Represents m s) (sym c.generation_for-generation.ensures.same) rep in
-    past_found s c.args.party.now c.args.call c.in_ok-checked.checked (is_free c.args.self.now.parties.items s.parties rep.parties c.args.party.now c.in_default.ensures.free) (c.in_ok-checked.ensures s rep2 reached.sound) u
+    let m = c.args.self.now in
+    let party = c.args.party.now in
+    let call = c.args.call in
+    elim c.match-check.branch [
+      | in-Ok w ↦ rw w.result-is (λ s rep reached.
+          past_begun s party call w.in-Ok.field-0 (is_free m.parties.items s.parties rep.parties party c.in_default.ensures.free)
+          (w.in-Ok.ensures s (subst (λ x. Represents x s) (sym c.generation_for-generation.ensures.same) rep) reached.sound))
+      | in-Err-Refused w ↦ rw (w.result-is, w.past_names.ensures) (λ s rep reached.
+          past_refused s party call w.in-Err-Refused.why (is_free m.parties.items s.parties rep.parties party c.in_default.ensures.free)
+          (reason_for (call_reason s.standing party call (request_of s.standing s.published party call)) (request_of s.standing s.published party call) w.in-Err-Refused.field-0 w.in-Err-Refused.why w.in-Err-Refused.field-0-is
+          (w.in-Err-Refused.ensures s (subst (λ x. Represents x s) (sym c.generation_for-generation.ensures.same) rep) reached.sound)))
+      | in-Err-OutOfMemory w ↦ rw w.result-is tt
+    ]

@@ -1,37 +1,27 @@
-use Rattle.std.proofs.Common.{◌≡◌, ℕ, sym, subst}
-use Rattle.board_cell.specs.Calls.{told}
-use Rattle.board_cell.specs.declared.access.Access.{Access}
-use Rattle.board_cell.specs.declared.access.Access.TheVariants as access
-use Rattle.board_cell_model.specs.OwedAccesses.{to_read, to_write}
-use Rattle.board_model.proofs.BoundLaws.{no_write}
+use Rattle.std.proofs.Common.{subst}
 use Rattle.script_boards.specs.declared.machine.Task.{Task}
-use Rattle.script_boards.specs.declared.step.OwedAccess.TheVariants as owed
-use Rattle.script_boards.specs.declared.step.OwedRead.{OwedRead}
-use Rattle.script_boards.specs.Steps.{IsOwedBy, IsWrite}
+use Rattle.script_boards.specs.Steps.{CanGoOn}
+use Rattle.script_boards.proofs.OwedAccesses.{fill_owes, fresh_owes, get_owes, publish_owes, put_owes, update_owes}
 use Rattle.script_boards.proofs.machine.Task.owed.Goals as goal
 
--- a look owes no write
-read_only : (board word p v : ℕ) → to_write board p v ≡ to_read board word → ⊥
-read_only board word p v e = absurd cc
+pub returns-in-Get : goal.returns-in-Get
+returns-in-Get c = rw (c.in-Get.is, c.owed_on.ensures) (get_owes c.in-Get.board c.in-Get.call c.in-Get.value_type c.in-Get.value c.next.result c.next.ensures)
 
--- what is told as a write is one
-is_write : (a : Access) (board word value : ℕ) → told board a ≡ to_write board word value → IsWrite a
-is_write (access.Read w) board word value e = absurd cc
-is_write (access.Write w v) board word value e = tt
+pub returns-in-Fresh : goal.returns-in-Fresh
+returns-in-Fresh c = rw (c.in-Fresh.is, c.owed_on-in-Fresh.ensures) (fresh_owes c.in-Fresh.board c.in-Fresh.call c.next-in-Fresh.result c.next-in-Fresh.ensures)
 
-pub only_write_of-requires : goal.only_write_of-requires
-only_write_of-requires c = is_write _ 0 _ _ (c.next-in-Put.ensures 0)
+pub returns-in-Update : goal.returns-in-Update
+returns-in-Update c =
+    rw (c.in-Update.is, c.owed_on-in-Update.ensures, c.owes_word.ensures)
+    (update_owes c.in-Update.board c.in-Update.call c.next-in-Update.result (subst (λ (t : Task). CanGoOn t) c.in-Update.is c.requires) c.next-in-Update.ensures)
 
-pub only_write_of-requires-in-Publish : goal.only_write_of-requires-in-Publish
-only_write_of-requires-in-Publish c = is_write _ 0 _ _ (c.next-in-Publish.ensures 0)
+pub returns-in-Put : goal.returns-in-Put
+returns-in-Put c = rw (c.in-Put.is, c.owed_on-in-Put.ensures) (put_owes c.in-Put.board c.in-Put.call c.in-Put.loan c.in-Put.index c.in-Put.word c.next-in-Put.result c.next-in-Put.ensures)
 
-pub unreachable-requires : goal.unreachable-requires
-unreachable-requires c = no_write _ _ 0 0 _ _ (sym (c.in-Write.ensures 0))
+pub returns-in-Publish : goal.returns-in-Publish
+returns-in-Publish c = rw (c.in-Publish.is, c.owed_on-in-Publish.ensures) (publish_owes c.in-Publish.board c.in-Publish.call c.in-Publish.loan c.in-Publish.handle c.next-in-Publish.result c.next-in-Publish.ensures)
 
-pub unreachable-requires-in-Write-next : goal.unreachable-requires-in-Write-next
-unreachable-requires-in-Write-next c = read_only 0 _ _ _ (c.in-Write-next.ensures 0)
-
-pub returns-in-Read-next : goal.returns-in-Read-next
-returns-in-Read-next c =
-    let r : OwedRead = record { board = c.in-Fresh.board; word = c.in-Read-next.word } in
-    subst (λ (t : Task). IsOwedBy t (owed.Read r)) (sym c.in-Fresh.is) (c.in-Read-next.ensures c.in-Fresh.board)
+pub returns-in-Fill : goal.returns-in-Fill
+returns-in-Fill c =
+    rw (c.in-Fill.is, c.owed_on-in-Fill.ensures, c.owes_word-in-Fill.ensures)
+    (fill_owes c.in-Fill.board c.in-Fill.call c.next-in-Fill.result (subst (λ (t : Task). CanGoOn t) c.in-Fill.is c.requires) c.next-in-Fill.ensures c.in-Fill.loan c.in-Fill.handle)
