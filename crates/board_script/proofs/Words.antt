@@ -9,7 +9,7 @@ use Rattle.script_loop.specs.declared.error.ScriptError.{ScriptError}
 use Rattle.script_loop.specs.declared.error.ScriptError.TheVariants as error
 use Rattle.script_loop.specs.Runs.{Stream}
 use Rattle.script_generator.specs.Summary.{IsGenerated, IsSummed}
-use Rattle.board_script.specs.Top.{IsGen, IsNoted, IsSummedUp, note_of, status_of}
+use Rattle.board_script.specs.Top.{AreGenWords, IsNoted, IsSummedUp, note_of, status_of}
 
 pub same_text : (a b : List ℕ) → false ≡ not (bytes_eq a b) → a ≡ b
 same_text a b e = at (bytes_eq a b) refl e
@@ -26,12 +26,12 @@ two f (a ∷ b ∷ []) x y l e g = rw (e, g) refl
 two f (a ∷ b ∷ c ∷ more) x y l e g = absurd (omega arith)
 
 -- the second word is the number's spelling
-pub spelled : (a b : List ℕ) (n : ℕ) → IsGen (a ∷ b ∷ []) n → read_number b ≡ Some n
+pub spelled : (a b : List ℕ) (n : ℕ) → AreGenWords (a ∷ b ∷ []) n → read_number b ≡ Some n
 spelled a b n h =
     let e : b ≡ decimal n = let f = h.words_are in cc f in
     ap (λ (x : List ℕ). read_number x) e ∙ number_again n (omega (arith, h.most))
 
-pub is_gen : (a b : List ℕ) (n : ℕ) → a ≡ codes "gen" → read_number b ≡ Some n → 1 ≤ n → n ≤ 1000000 → IsGen (a ∷ b ∷ []) n
+pub is_gen : (a b : List ℕ) (n : ℕ) → a ≡ codes "gen" → read_number b ≡ Some n → 1 ≤ n → n ≤ 1000000 → AreGenWords (a ∷ b ∷ []) n
 is_gen a b n e f least most = record {
   words_are = let g = (number_takes b n f).0 in cc (e, g);
   least = least;
@@ -39,7 +39,7 @@ is_gen a b n e f least most = record {
 }
 
 -- the words have one number
-pub one_number : (words : List (List ℕ)) (n m : ℕ) → IsGen words n → IsGen words m → n ≡ m
+pub one_number : (words : List (List ℕ)) (n m : ℕ) → AreGenWords words n → AreGenWords words m → n ≡ m
 one_number words n m h k =
     let a = h.words_are in
     let b = k.words_are in
@@ -48,23 +48,23 @@ one_number words n m h k =
     cc f
 
 -- a number that isn't read is none
-pub unread : (words : List (List ℕ)) (a b : List ℕ) → words ≡ a ∷ b ∷ [] → read_number b ≡ None → (n : ℕ) → IsGen words n → ⊥
+pub unread : (words : List (List ℕ)) (a b : List ℕ) → words ≡ a ∷ b ∷ [] → read_number b ≡ None → (n : ℕ) → AreGenWords words n → ⊥
 unread words a b e r n h =
-    let f : Some n ≡ None = sym (spelled a b n (subst (λ (ws : List (List ℕ)). IsGen ws n) e h)) ∙ r in
+    let f : Some n ≡ None = sym (spelled a b n (subst (λ (ws : List (List ℕ)). AreGenWords ws n) e h)) ∙ r in
     absurd cc
 
-pub unread_none : (o : Option ℕ) (words : List (List ℕ)) (a b : List ℕ) → words ≡ a ∷ b ∷ [] → read_number b ≡ None → IfNone o ((n : ℕ) → IsGen words n → ⊥)
+pub unread_none : (o : Option ℕ) (words : List (List ℕ)) (a b : List ℕ) → words ≡ a ∷ b ∷ [] → read_number b ≡ None → IfNone o ((n : ℕ) → AreGenWords words n → ⊥)
 unread_none None words a b e r = unread words a b e r
 unread_none (Some x) words a b e r = tt
 
 -- a number that is read is the words' own
-pub read_is : (words : List (List ℕ)) (a b : List ℕ) (k : ℕ) → words ≡ a ∷ b ∷ [] → read_number b ≡ Some k → (n : ℕ) → IsGen words n → k ≡ n
+pub read_is : (words : List (List ℕ)) (a b : List ℕ) (k : ℕ) → words ≡ a ∷ b ∷ [] → read_number b ≡ Some k → (n : ℕ) → AreGenWords words n → k ≡ n
 read_is words a b k e r n h =
-    let f : Some k ≡ Some n = sym r ∙ spelled a b n (subst (λ (ws : List (List ℕ)). IsGen ws n) e h) in
+    let f : Some k ≡ Some n = sym r ∙ spelled a b n (subst (λ (ws : List (List ℕ)). AreGenWords ws n) e h) in
     cc f
 
 -- and so a number outside the range is none
-pub no_other : (words : List (List ℕ)) (a b : List ℕ) (k : ℕ) → words ≡ a ∷ b ∷ [] → read_number b ≡ Some k → (k < 1) ⊎ ((1 ≤ k) × (1000000 < k)) → (n : ℕ) → IsGen words n → ⊥
+pub no_other : (words : List (List ℕ)) (a b : List ℕ) (k : ℕ) → words ≡ a ∷ b ∷ [] → read_number b ≡ Some k → (k < 1) ⊎ ((1 ≤ k) × (1000000 < k)) → (n : ℕ) → AreGenWords words n → ⊥
 no_other words a b k e r (inl l) n h = let i = read_is words a b k e r n h in absurd (omega (arith, i, l, h.least))
 no_other words a b k e r (inr l) n h = let i = read_is words a b k e r n h in absurd (omega (arith, i, l.1, h.most))
 

@@ -30,14 +30,14 @@ usage_note = codes "usage: board_run [gen N]\n"
 -- ---- the words of the command line
 
 -- they are `gen N`, with N from 1 to 1000000 in its one spelling
-pub record IsGen (words : List (List ℕ)) (n : ℕ) : Type 0 where
+pub record AreGenWords (words : List (List ℕ)) (n : ℕ) : Type 0 where
   pub words_are : words ≡ codes "gen" ∷ decimal n ∷ []
   pub least : 1 ≤ n
   pub most : n ≤ 1000000
 
 -- there are some, and they are not so
 abbrev pub IsUsage : List (List ℕ) → Type 0
-IsUsage words = (words ≡ [] → ⊥) × ((n : ℕ) → IsGen words n → ⊥)
+IsUsage words = (words ≡ [] → ⊥) × ((n : ℕ) → AreGenWords words n → ⊥)
 
 -- ---- runs
 

@@ -1,10 +1,10 @@
 //! The program's top call, its statuses and its notes.
-ghost use Rattle.std.specs.Prelude.{◌≡◌, ℕ, ◌<◌, [], length, map, Err, IfNone, IfSome};
+ghost use Rattle.std.specs.Prelude.{◌≡◌, ℕ, ◌<◌, length, map, Err, IfNone, IfSome};
 ghost use Rattle.std.specs.String.{string_bytes};
 ghost use Rattle.std.specs.Io.KnownBytes.{IsAtEnd};
 ghost use Rattle.script_loop.specs.Runs.{IsRunOf, stream_of};
 ghost use Rattle.script_generator.specs.Summary.{IsSummed};
-ghost use Rattle.board_script.specs.Top.{IsAnswered, IsGen, IsNoted, IsSummedUp, IsUsage, note_of, status_of, usage_note};
+ghost use Rattle.board_script.specs.Top.{IsAnswered, AreGenWords, IsNoted, IsSummedUp, IsUsage, note_of, status_of, usage_note};
 
 use crate::script::run_script;
 use board_layout::Text;
@@ -74,8 +74,8 @@ fn report<N: Sink>(answer: Result<(), ScriptError>, notes: &mut N) -> u8
 
 // N, where the words are `gen N`.
 fn generated_by(words: &[String]) -> Option<u64>
-    ensures some { IfSome result (IsGen (map string_bytes words.now)) }
-    ensures none { IfNone result ((n : ℕ) → IsGen (map string_bytes words.now) n → ⊥) }
+    ensures some { IfSome result (AreGenWords (map string_bytes words.now)) }
+    ensures none { IfNone result ((n : ℕ) → AreGenWords (map string_bytes words.now) n → ⊥) }
 {
     if words.len() != 2 || words[0].as_bytes() != b"gen".as_slice() {
         return None;
@@ -115,11 +115,11 @@ pub fn run_words<S: Source, K: Sink, N: Sink>(
         (stream_of N.held N.faults notes.old notes.new) }
 
     // With `gen N`, and with status 0, the sink gained the summary of the lawful session whose lines are the generated script.
-    ensures summed { (n : ℕ) → IsGen (map string_bytes words.now.items) n → result ≡ 0
+    ensures summed { (n : ℕ) → AreGenWords (map string_bytes words.now.items) n → result ≡ 0
         → IsSummed n (stream_of K.held K.faults sink.old sink.new) }
 
     // The other statuses are 4, after a front of the summary, and 7, after nothing; the note is the status's.
-    ensures generated { (n : ℕ) → IsGen (map string_bytes words.now.items) n
+    ensures generated { (n : ℕ) → AreGenWords (map string_bytes words.now.items) n
         → IsSummedUp result n
         (stream_of K.held K.faults sink.old sink.new)
         (stream_of N.held N.faults notes.old notes.new) }

@@ -25,7 +25,7 @@ use Rattle.script_grammar.proofs.ReaderLemmas.{both}
 use Rattle.script_grammar.proofs.SplitLemmas.{IsFree, free_append, free_joined, free_lacks, free_name, free_number, lacks}
 use Rattle.board_model.proofs.ThingLemmas.{all_push}
 use Rattle.script_loop.proofs.LineLemmas.{lines_more}
-use Rattle.script_generator.specs.Counting.{IsAsked, SpellsPlain, is_plain_call}
+use Rattle.script_generator.specs.Counting.{SpellsCall, SpellsPlain, is_plain_call}
 use Rattle.script_generator.specs.Generator.{asked_by, choice, create_board, drawn, generated, line_for, number_drawn, open_board, opening, reader_calls, writer_calls}
 use Rattle.script_generator.specs.LawsOfGenerator.{GeneratedScriptsAreScripts, script_bytes}
 use Rattle.script_generator.proofs.GeneratorEnds.{line_is_plain}
@@ -216,7 +216,7 @@ joined p [] lt = absurd (omega arith)
 joined p (t ∷ ts) lt = refl
 
 -- a call with its bytes
-asks_so : (p bytes : List ℕ) (c : Call) → IsParty p → IsSpelledCall c → is_plain_call c ≡ true → 0 < length (call_tokens c) → bytes ≡ join_with_byte 32 (call_tokens c) → IsAsked p bytes c
+asks_so : (p bytes : List ℕ) (c : Call) → IsParty p → IsSpelledCall c → is_plain_call c ≡ true → 0 < length (call_tokens c) → bytes ≡ join_with_byte 32 (call_tokens c) → SpellsCall p bytes c
 asks_so p bytes c h k plain lt e =
     let same : codes "begin " ++ (p ++ (codes " " ++ bytes)) ≡ spell (line.Begin p c) = ap (λ (x : List ℕ). codes "begin " ++ (p ++ (codes " " ++ x))) e ∙ joined p (call_tokens c) lt in
     record {
@@ -228,22 +228,22 @@ asks_so p bytes c h k plain lt e =
 with_digits : (f : List ℕ → List ℕ → List ℕ) → f (codes "0") (codes "1") ≡ f (decimal 0) (decimal 1)
 with_digits f = ap (λ (x : List ℕ). f x (codes "1")) (sym (decimal_digit 0 (lit< tt))) ∙ ap (λ (x : List ℕ). f (decimal 0) x) (sym (decimal_digit 1 (lit< tt)))
 
-pub asks_create : IsAsked (codes "w") (codes "create f gen u64 add u64:0 u64:0 add u64:1 q4:0,0,0,0") create_board
+pub asks_create : SpellsCall (codes "w") (codes "create f gen u64 add u64:0 u64:0 add u64:1 q4:0,0,0,0") create_board
 asks_create =
     asks_so (codes "w") _ create_board w by_writer.0 refl (omega arith)
     (with_digits (λ (z o : List ℕ).
     join_with_byte 32 (codes "create" ∷ codes "f" ∷ codes "gen" ∷ codes "u64" ∷ codes "add" ∷ (codes "u64:" ++ z) ∷ (codes "u64:" ++ z) ∷ codes "add" ∷ (codes "u64:" ++ o)
     ∷ (codes "q4:" ++ join_with_byte 44 (z ∷ z ∷ z ∷ z ∷ [])) ∷ [])))
 
-pub asks_writer : IsAsked (codes "w") (codes "writer p f") (call.Writer (codes "p") (codes "f"))
+pub asks_writer : SpellsCall (codes "w") (codes "writer p f") (call.Writer (codes "p") (codes "f"))
 asks_writer = asks_so (codes "w") _ (call.Writer (codes "p") (codes "f")) w by_writer.1.0 refl (omega arith) refl
 
-pub asks_first_write : IsAsked (codes "w") (codes "entrymut m0 p u64:0 u64") (call.EntryMut (codes "m0") (codes "p") (key.U64 0) type.U64)
+pub asks_first_write : SpellsCall (codes "w") (codes "entrymut m0 p u64:0 u64") (call.EntryMut (codes "m0") (codes "p") (key.U64 0) type.U64)
 asks_first_write =
     asks_so (codes "w") _ (call.EntryMut (codes "m0") (codes "p") (key.U64 0) type.U64) w by_writer.1.1.0 refl (omega arith)
     (with_digits (λ (z o : List ℕ). join_with_byte 32 (codes "entrymut" ∷ codes "m0" ∷ codes "p" ∷ (codes "u64:" ++ z) ∷ codes "u64" ∷ [])))
 
-pub asks_second_write : IsAsked (codes "w") (codes "entrymut m1 p u64:1 q4") (call.EntryMut (codes "m1") (codes "p") (key.U64 1) type.Q4)
+pub asks_second_write : SpellsCall (codes "w") (codes "entrymut m1 p u64:1 q4") (call.EntryMut (codes "m1") (codes "p") (key.U64 1) type.Q4)
 asks_second_write =
     asks_so (codes "w") _ (call.EntryMut (codes "m1") (codes "p") (key.U64 1) type.Q4) w by_writer.1.1.1.0 refl (omega arith)
     (with_digits (λ (z o : List ℕ). join_with_byte 32 (codes "entrymut" ∷ codes "m1" ∷ codes "p" ∷ (codes "u64:" ++ o) ∷ codes "q4" ∷ [])))
@@ -256,18 +256,18 @@ party p h =
     record { name = h; token = record { free = free_name 10 refl p h; short = omega (arith, few) } }
 
 module _ (p : List ℕ) (h : is_name p ≡ true) where
-  pub asks_open : IsAsked p (codes "open f gen u64") open_board
+  pub asks_open : SpellsCall p (codes "open f gen u64") open_board
   asks_open = asks_so p _ open_board (party p h) by_reader.0 refl (omega arith) refl
 
-  pub asks_reader : IsAsked p (codes "reader r f") (call.Reader (codes "r") (codes "f"))
+  pub asks_reader : SpellsCall p (codes "reader r f") (call.Reader (codes "r") (codes "f"))
   asks_reader = asks_so p _ (call.Reader (codes "r") (codes "f")) (party p h) by_reader.1.0 refl (omega arith) refl
 
-  pub asks_first_read : IsAsked p (codes "entry h0 r u64:0 u64") (call.Entry (codes "h0") (codes "r") (key.U64 0) type.U64)
+  pub asks_first_read : SpellsCall p (codes "entry h0 r u64:0 u64") (call.Entry (codes "h0") (codes "r") (key.U64 0) type.U64)
   asks_first_read =
       asks_so p _ (call.Entry (codes "h0") (codes "r") (key.U64 0) type.U64) (party p h) by_reader.1.1.0 refl (omega arith)
       (with_digits (λ (z o : List ℕ). join_with_byte 32 (codes "entry" ∷ codes "h0" ∷ codes "r" ∷ (codes "u64:" ++ z) ∷ codes "u64" ∷ [])))
 
-  pub asks_second_read : IsAsked p (codes "entry h1 r u64:1 q4") (call.Entry (codes "h1") (codes "r") (key.U64 1) type.Q4)
+  pub asks_second_read : SpellsCall p (codes "entry h1 r u64:1 q4") (call.Entry (codes "h1") (codes "r") (key.U64 1) type.Q4)
   asks_second_read =
       asks_so p _ (call.Entry (codes "h1") (codes "r") (key.U64 1) type.Q4) (party p h) by_reader.1.1.1.0 refl (omega arith)
       (with_digits (λ (z o : List ℕ). join_with_byte 32 (codes "entry" ∷ codes "h1" ∷ codes "r" ∷ (codes "u64:" ++ o) ∷ codes "q4" ∷ [])))

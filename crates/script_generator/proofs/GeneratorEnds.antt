@@ -13,7 +13,7 @@ use Rattle.script_boards.specs.Machine.{tables_of}
 use Rattle.script_machine.specs.Counters.{EntryStands}
 use Rattle.script_generator.specs.declared.generator.Generator.{Generator}
 use Rattle.script_generator.specs.declared.summary.Counts.{Counts}
-use Rattle.script_generator.specs.Counting.{HasRun, IsSummaryOf, RanMore, is_plain_line}
+use Rattle.script_generator.specs.Counting.{HasCounted, IsSummaryOf, RanMore, is_plain_line}
 use Rattle.script_generator.specs.Generator.{asked_by, choice, drawn, line_for, number_after, number_drawn, opening, reader_calls, writer_calls}
 use Rattle.script_generator.specs.Summary.{counts_of, generation_of, summary_text}
 use Rattle.script_generator.specs.WorkedGenerator.{on_boards, opening_session}
@@ -30,7 +30,7 @@ some_entry None e = absurd cc
 some_entry (Some x) e = (x, refl)
 
 -- an entry that stands after the worked opening stands after the opening
-pub opening_has : (g : Generator) → HasRun g opening → (i : ℕ) → is_some (entry_at (boards.state_after boards.start opening_session).standing.tables 1 i) ≡ true → EntryStands g.machine 1 i
+pub opening_has : (g : Generator) → HasCounted g opening → (i : ℕ) → is_some (entry_at (boards.state_after boards.start opening_session).standing.tables 1 i) ≡ true → EntryStands g.machine 1 i
 opening_has g h i e =
     let same : h.session ≡ on_boards opening_session = one_session h.session (on_boards opening_session) h.stands.lawful (lawful_on_boards boards.start opening_session refl opened_is_lawful) h.lines_are in
     let found = some_entry (entry_at (boards.state_after boards.start opening_session).standing.tables 1 i) e in
@@ -40,7 +40,7 @@ opening_has g h i e =
     (found.0, ap (λ t. entry_at t 1 i) (sym tables) ∙ found.1)
 
 -- the opening was run
-pub opening_run : (a b c d : Generator) → HasRun a [] → RanMore a b (asked_by (codes "w") writer_calls) → RanMore b c (asked_by (codes "a") reader_calls) → RanMore c d (asked_by (codes "b") reader_calls) → HasRun d opening
+pub opening_run : (a b c d : Generator) → HasCounted a [] → RanMore a b (asked_by (codes "w") writer_calls) → RanMore b c (asked_by (codes "a") reader_calls) → RanMore c d (asked_by (codes "b") reader_calls) → HasCounted d opening
 opening_run a b c d h one two three = (ran_both a b d _ _ one (ran_both b c d _ _ two three)).run [] (omega arith) h
 
 -- ---- the lines that are drawn
@@ -81,7 +81,7 @@ line_is_plain c k =
 
 -- ---- the summary
 
-pub summary_told : (g : Generator) (lines : List Line) (h : HasRun g lines) (first second : ℕ) → first ≡ generation_of h.session 0 → second ≡ generation_of h.session 1
+pub summary_told : (g : Generator) (lines : List Line) (h : HasCounted g lines) (first second : ℕ) → first ≡ generation_of h.session 0 → second ≡ generation_of h.session 1
     → (text : List ℕ) → text ≡ summary_text g.counts first second → IsSummaryOf lines text
 summary_told g lines h first second a b text t = record {
   session = h.session;

@@ -17,7 +17,7 @@ use Rattle.script_machine.specs.Counters.{EntryStands}
 use Rattle.script_machine.specs.ScriptMachine.{StandsAfter}
 use Rattle.script_generator.specs.declared.generator.Generator.{Generator}
 use Rattle.script_generator.specs.declared.summary.Counts.{Counts}
-use Rattle.script_generator.specs.Counting.{AreLow, HasRun, IsRunning, OfAnswer, RanMore, RunsPlain, SpellsPlain, counted_with}
+use Rattle.script_generator.specs.Counting.{AreLow, HasCounted, IsRunning, OfAnswer, RanMore, RunsPlain, SpellsPlain, counted_with}
 use Rattle.script_generator.proofs.EntriesStay.{entry_stays}
 use Rattle.script_generator.proofs.PlainCalls.{plain_after}
 use Rattle.script_generator.proofs.QuietScripts.{board_answer, quiet, quiet_after}
@@ -32,7 +32,7 @@ state_more s [] p = refl
 state_more s (q ∷ ps) p = state_more (after s q.0 q.1) ps p
 
 -- as many lines as pairs
-run_length : (g : Generator) (lines : List Line) (h : HasRun g lines) → length h.session ≡ length lines
+run_length : (g : Generator) (lines : List Line) (h : HasCounted g lines) → length h.session ≡ length lines
 run_length g lines h = sym (length-map h.session (λ (p : ScriptLine × ScriptAnswer). p.0)) ∙ (ap length h.lines_are ∙ length-map lines script_line.Board)
 
 -- the machine of a run stands for a session
@@ -55,7 +55,7 @@ module _ (old new : Generator) (bytes text : List ℕ) (answered : (session : Se
     text_is : text ≡ answer_line answer
     state : StandsAfter new.machine (length session + 1) (after (state_after start session) (script_line.Board l) (of_boards answer))
 
-  answer_behind : (lines : List Line) (h : HasRun old lines) → IsAnswered h.session
+  answer_behind : (lines : List Line) (h : HasCounted old lines) → IsAnswered h.session
   answer_behind lines h =
       let s = state_after start h.session in
       let a = answered h.session h.stands in
@@ -71,7 +71,7 @@ module _ (old new : Generator) (bytes text : List ℕ) (answered : (session : Se
             (subst (λ (x : ScriptLine). StandsAfter new.machine (length h.session + 1) (after s x a.answer)) same a.state);
       }
 
-  ran_behind : (lines : List Line) → length (lines ++ l ∷ []) < 2 ^ 62 → HasRun old lines → HasRun new (lines ++ l ∷ [])
+  ran_behind : (lines : List Line) → length (lines ++ l ∷ []) < 2 ^ 62 → HasCounted old lines → HasCounted new (lines ++ l ∷ [])
   ran_behind lines lt h =
       let s = state_after start h.session in
       let a = answer_behind lines h in
@@ -92,7 +92,7 @@ module _ (old new : Generator) (bytes text : List ℕ) (answered : (session : Se
         counts = counts a.answer a.right.answer a.text_is ∙ (ap (λ (c : Counts). counted_with c a.answer) h.counts ∙ sym (counts_more h.session l a.answer h.plain spells.plain a.right));
       }
 
-  kept_behind : (lines : List Line) (h : HasRun old lines) (board i : ℕ) → EntryStands old.machine board i → EntryStands new.machine board i
+  kept_behind : (lines : List Line) (h : HasCounted old lines) (board i : ℕ) → EntryStands old.machine board i → EntryStands new.machine board i
   kept_behind lines h board i e =
       let s = state_after start h.session in
       let a = answer_behind lines h in
@@ -111,12 +111,12 @@ module _ (old new : Generator) (bytes text : List ℕ) (answered : (session : Se
 pub ran_both : (a b c : Generator) (xs ys : List Line) → RanMore a b xs → RanMore b c ys → RanMore a c (xs ++ ys)
 ran_both a b c xs ys h k = record { run = run; entries = λ board i e. k.entries board i (h.entries board i e) }
   where
-    run : (lines : List Line) → length (lines ++ (xs ++ ys)) < 2 ^ 62 → HasRun a lines → HasRun c (lines ++ (xs ++ ys))
+    run : (lines : List Line) → length (lines ++ (xs ++ ys)) < 2 ^ 62 → HasCounted a lines → HasCounted c (lines ++ (xs ++ ys))
     run lines lt r =
         let all : (lines ++ xs) ++ ys ≡ lines ++ (xs ++ ys) = append_assoc lines xs ys in
         let few : length ((lines ++ xs) ++ ys) < 2 ^ 62 = subst (λ (ls : List Line). length ls < 2 ^ 62) (sym all) lt in
         let less : length (lines ++ xs) < 2 ^ 62 = omega (arith, length-append (lines ++ xs) ys, few) in
-        subst (HasRun c) all (k.run (lines ++ xs) few (h.run lines less r))
+        subst (HasCounted c) all (k.run (lines ++ xs) few (h.run lines less r))
 
 -- there is room for what follows
 pub runs_on : (a b : Generator) (room rest : ℕ) (xs : List Line) → IsRunning a room → RanMore a b xs → length xs + rest ≤ room → IsRunning b rest

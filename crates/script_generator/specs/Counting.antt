@@ -92,7 +92,7 @@ pub record SpellsPlain (bytes : List ℕ) (l : Line) : Type 0 where
   pub plain : is_plain_line l ≡ true
 
 -- a line in which these bytes follow `begin` and the party begins the call, and the party may step; both are of that kind
-pub record IsAsked (party bytes : List ℕ) (c : Call) : Type 0 where
+pub record SpellsCall (party bytes : List ℕ) (c : Call) : Type 0 where
   pub begin : SpellsPlain (codes "begin " ++ (party ++ (codes " " ++ bytes))) (line.Begin party c)
   pub step : SpellsPlain (codes "step " ++ party) (line.Step party)
 
@@ -103,7 +103,7 @@ RunsPlain s = (party : List ℕ) (r : Running) → s.parties party ≡ running r
 -- ---- runs
 
 -- these lines were run and counted: the machine stands for their lawful session, which has no events, and the counts are those of it
-pub record HasRun (g : Generator) (lines : List Line) : Type 0 where
+pub record HasCounted (g : Generator) (lines : List Line) : Type 0 where
   pub session : Session
   pub lines_are : lines_of session ≡ map script_line.Board lines
   pub stands : StandsFor StandsAfter g.machine session
@@ -115,11 +115,11 @@ pub record HasRun (g : Generator) (lines : List Line) : Type 0 where
 pub record IsRunning (g : Generator) (room : ℕ) : Type 0 where
   pub lines : List Line
   pub few : length lines + room < 2 ^ 62
-  pub run : HasRun g lines
+  pub run : HasCounted g lines
 
 -- lines were run behind others, and each entry that stood before still stands
 pub record RanMore (old new : Generator) (more : List Line) : Type 0 where
-  pub run : (lines : List Line) → length (lines ++ more) < 2 ^ 62 → HasRun old lines → HasRun new (lines ++ more)
+  pub run : (lines : List Line) → length (lines ++ more) < 2 ^ 62 → HasCounted old lines → HasCounted new (lines ++ more)
   pub entries : (board i : ℕ) → EntryStands old.machine board i → EntryStands new.machine board i
 
 -- the text is the summary of the lawful session of these lines

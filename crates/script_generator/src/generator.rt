@@ -1,11 +1,11 @@
 //! Runs of the script that is made from a number.
-ghost use Rattle.std.specs.Prelude.{◌≡◌, ◌+◌, ◌∷◌, ◌++◌, [], ◌≤◌, ◌<◌, ◌^◌, List, codes, decimal, length, true, IfOk, IsErrOf, OnOk};
+ghost use Rattle.std.specs.Prelude.{◌≡◌, ◌+◌, ◌∷◌, ◌++◌, [], ◌≤◌, ◌<◌, List, codes, decimal, true, IfOk, IsErrOf, OnOk};
 ghost use Rattle.std.specs.List.{join_with_byte};
 ghost use Rattle.board_model.specs.declared.line.Call.{Call};
 ghost use Rattle.board_model.specs.declared.line.Line.{Line};
 ghost use Rattle.board_model.specs.declared.line.Line.TheVariants as a_line;
 ghost use Rattle.board_model.specs.LineGrammar.{is_name, spell};
-ghost use Rattle.script_generator.specs.Counting.{HasRun, IsAsked, IsRunning, IsSummaryOf, RanMore, SpellsPlain};
+ghost use Rattle.script_generator.specs.Counting.{HasCounted, SpellsCall, IsRunning, IsSummaryOf, RanMore, SpellsPlain};
 ghost use Rattle.script_generator.specs.Generator as generator;
 ghost use Rattle.script_generator.specs.Generator.{asked_by, generated, line_for, opening, reader_calls, writer_calls};
 ghost use Rattle.script_generator.specs.Summary.{IsGenerated};
@@ -109,7 +109,7 @@ fn drawn_line<'a>(number: u64, k: u64, buffer: &'a mut Vec<u8>) -> Result<&'a [u
 impl Generator {
     // Nothing was run.
     fn new(alloc: Global) -> Generator
-        ensures { HasRun result [] }
+        ensures { HasCounted result [] }
     {
         Generator {
             machine: Machine::new(alloc),
@@ -144,8 +144,8 @@ impl Generator {
     // Begins a call on the tables, and takes its step. The lines are written into the buffer.
     fn ask(&mut self, party: &[u8], call: &[u8], line: &mut Vec<u8>) -> Result<(), AllocError>
         requires room { IsRunning self.old 2 }
-        requires asked { (c : Call) × IsAsked party.now call.now c }
-        ensures { OnOk result ((c : Call) → IsAsked party.now call.now c → RanMore self.old self.new (a_line.Begin party.now c ∷ a_line.Step party.now ∷ [])) }
+        requires asked { (c : Call) × SpellsCall party.now call.now c }
+        ensures { OnOk result ((c : Call) → SpellsCall party.now call.now c → RanMore self.old self.new (a_line.Begin party.now c ∷ a_line.Step party.now ∷ [])) }
     {
         write_begin(party, call, line)?;
         self.run(line)?;
@@ -182,8 +182,8 @@ impl Generator {
 
     // Runs the opening.
     fn open(&mut self, line: &mut Vec<u8>) -> Result<(), AllocError>
-        requires { HasRun self.old [] }
-        ensures run { OnOk result (HasRun self.new opening) }
+        requires { HasCounted self.old [] }
+        ensures run { OnOk result (HasCounted self.new opening) }
 
         // Both entries stand.
         ensures first { OnOk result (EntryStands self.new.machine 1 0) }
@@ -199,7 +199,7 @@ impl Generator {
         requires running { IsRunning self.old 0 }
         requires first { EntryStands self.old.machine 1 0 }
         requires second { EntryStands self.old.machine 1 1 }
-        ensures { (lines : List Line) → HasRun self.old lines → IsSummaryOf lines result }
+        ensures { (lines : List Line) → HasCounted self.old lines → IsSummaryOf lines result }
     {
         let first = self.machine.counter(1, 0);
         let second = self.machine.counter(1, 1);

@@ -1,5 +1,5 @@
 -- What a line is on account of events, and the machine after its answer.
-use Rattle.std.proofs.Common.{◌≡◌, ℕ, Bool, true, false, List, [], ◌∷◌, ◌++◌, refl, sym, ap, subst, ◌∙◌, Option, Some, None}
+use Rattle.std.proofs.Common.{◌≡◌, ℕ, Bool, true, false, List, [], ◌++◌, refl, sym, ap, subst, ◌∙◌, Option, Some, None}
 use Rattle.std.specs.Prelude.{◌&&◌, if◌then◌else◌, is_some}
 use Rattle.std.specs.List.{AllByRecursion}
 use Rattle.board_model.specs.Tables.{board_at}
@@ -28,7 +28,7 @@ use Rattle.script_model.specs.ScriptAnswers.{ScriptAnswer, expired, of_boards, s
 use Rattle.script_model.specs.ScriptEvents.{EventAsk, EventTask, ScriptEvents, events_abandoned, holds_event, name_made, runs_on_events, task_of}
 use Rattle.script_model.specs.ScriptGrammar.{IsScriptLine}
 use Rattle.script_model.specs.ScriptSession.{IsRight, IsRuled, after, after_boards, after_turn}
-use Rattle.script_model.specs.ScriptTurns.{EventTurn, IsTurnAnswer, ScriptState, begin_turn, begins, board_turn, drop_turn, drops, expire_of_call, expire_turn, expires, free_turn, is_name_taken, may_expire, refused, request_turn, steps, takes_event_name, task_turn, turn_of, turned}
+use Rattle.script_model.specs.ScriptTurns.{EventTurn, IsTurnAnswer, ScriptState, begin_turn, begins, board_turn, drop_turn, drops, expire_of_call, expires, free_turn, is_name_taken, may_expire, refused, steps, takes_event_name, task_turn, turn_of, turned}
 use Rattle.script_machine.specs.declared.machine.Machine.{Machine}
 use Rattle.script_machine.specs.ScriptMachine.{IsTelling, Represents, is_gone_answer, no_wait}
 

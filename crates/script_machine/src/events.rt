@@ -1,5 +1,5 @@
 //! Lines of events.
-ghost use Rattle.std.specs.Prelude.{◌≡◌, ◌+◌, ◌≤◌, [], OnOk};
+ghost use Rattle.std.specs.Prelude.{◌≡◌, ◌+◌, [], OnOk};
 ghost use Rattle.script_model.specs.declared.line.ScriptLine.TheVariants as line;
 ghost use Rattle.script_model.specs.ScriptEvents.{name_made};
 ghost use Rattle.script_model.specs.ScriptGrammar.{IsScriptLine};

@@ -1,6 +1,6 @@
 use Rattle.std.proofs.Common.{◌≡◌, ℕ, List, sym, ◌+◌, ◌<◌, ◌^◌, [], ◌∷◌, ◌++◌, arith, subst, ◌∙◌, ap, length}
 use Rattle.board_model.specs.declared.line.Line.{Line}
-use Rattle.script_generator.specs.Counting.{HasRun}
+use Rattle.script_generator.specs.Counting.{HasCounted}
 use Rattle.script_generator.specs.Generator.{choice, drawn, generated, line_for, number_after, opening}
 use Rattle.script_generator.proofs.GeneratedBytes.{spells_drawn}
 use Rattle.script_generator.proofs.GeneratorEnds.{drawn_more, length_run, number_more}
@@ -28,7 +28,7 @@ loop-k-preserved c =
     let all = drawn_more c.args.n c.loop-k.k c.number_after-number.result x in
     let few : length ((opening ++ drawn c.args.n c.loop-k.k) ++ l ∷ []) < 2 ^ 62 = subst (λ (ls : List Line). length ls < 2 ^ 62) (sym all) (omega (arith, length_run c.args.n (c.loop-k.k + 1), c.loop-k-test.true, most)) in
     record {
-      run = subst (HasRun c.run.new.self) all (ran.run (opening ++ drawn c.args.n c.loop-k.k) few c.loop-k.invariant.run);
+      run = subst (HasCounted c.run.new.self) all (ran.run (opening ++ drawn c.args.n c.loop-k.k) few c.loop-k.invariant.run);
       number = number_more c.args.n c.loop-k.k c.number_after-number.result x;
       first = ran.entries 1 0 c.loop-k.invariant.first;
       second = ran.entries 1 1 c.loop-k.invariant.second;
@@ -44,4 +44,4 @@ summary-requires-clause-running c = record {
 pub returns : goal.returns
 returns c =
     let end : c.loop-k.k ≡ c.args.n = omega (arith, c.loop-k-test.false, c.loop-k.auto.k-end) in
-    c.summary.ensures (generated c.args.n) (subst (λ (k : ℕ). HasRun c.loop-k.generator (opening ++ drawn c.args.n k)) end c.loop-k.invariant.run)
+    c.summary.ensures (generated c.args.n) (subst (λ (k : ℕ). HasCounted c.loop-k.generator (opening ++ drawn c.args.n k)) end c.loop-k.invariant.run)

@@ -1,8 +1,8 @@
 use Rattle.std.proofs.Common.{refl, subst, rules, arith}
 use Rattle.script_loop.specs.Reader.{line_given}
 use Rattle.script_loop.specs.Machines.{SpellsNone}
-use Rattle.script_loop.proofs.CompleteLemmas.{gave_up, left_grammar, ran, unread, unwritten, was_long}
-use Rattle.script_loop.proofs.RunLemmas.{bad_at, ends, goes_on, is_past, is_spent, long_at, read_cut, spent_at_once, stands_for, write_cut}
+use Rattle.script_loop.proofs.CompleteLemmas.{gave_up, left_grammar, unwritten, was_long}
+use Rattle.script_loop.proofs.RunLemmas.{bad_at, goes_on, is_past, is_spent, long_at, spent_at_once, stands_for, write_cut}
 use Rattle.script_loop.proofs.run.run_lines.Goals as goal
 
 pub returns-in_default : goal.returns-in_default

@@ -1,4 +1,4 @@
-use Rattle.std.proofs.Common.{◌≡◌, ℕ, true, false, sym, subst, ◌∙◌, Option}
+use Rattle.std.proofs.Common.{◌≡◌, true, false, sym, subst, ◌∙◌, Option}
 use Rattle.board_model.specs.declared.answer.Answer.TheVariants as answer
 use Rattle.board_model.specs.declared.answer.Reason.{Reason}
 use Rattle.board_model.specs.declared.answer.Reason.TheVariants as reason
@@ -8,8 +8,7 @@ use Rattle.script_boards.specs.Begins.{IsPastNames}
 use Rattle.script_boards.proofs.Listings.{on_ok}
 use Rattle.script_model.specs.declared.line.ScriptLine.TheVariants as line
 use Rattle.script_model.specs.ScriptEvents.{runs_on_events}
-use Rattle.script_model.specs.ScriptTurns.{ScriptState, takes_event_name}
-use Rattle.script_machine.specs.ScriptMachine.{IsReached, Represents}
+use Rattle.script_model.specs.ScriptTurns.{takes_event_name}
 use Rattle.script_machine.proofs.Turns.{begin_alone, begin_busy, begin_taken, begin_unfound, from_nothing, same_boards, told_alone, told_refused}
 use Rattle.script_machine.proofs.machine.Machine.begin.Goals as goal
 

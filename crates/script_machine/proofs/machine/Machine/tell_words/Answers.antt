@@ -1,4 +1,4 @@
-use Rattle.std.proofs.Common.{◌≡◌, ℕ, true, false, refl, sym, subst, ◌∙◌, Option, Vec, Global}
+use Rattle.std.proofs.Common.{◌≡◌, ℕ, true, false, refl, subst, ◌∙◌, Option, Vec, Global}
 use Rattle.std.specs.Prelude.{IfNone, IfSome, is_some}
 use Rattle.board_model.specs.declared.answer.Answer.TheVariants as answer
 use Rattle.board_model.specs.declared.answer.Reason.TheVariants as reason
