@@ -8,7 +8,6 @@
 #![tactic(auto)]
 
 mod channel;
-mod channel_registry;
 mod channels;
 pub mod communication_channel;
 mod connector;
@@ -19,8 +18,7 @@ mod queue;
 mod tests;
 
 pub use channel::Channel;
-pub use channel_registry::ChannelRegistry;
-pub use channels::{Channels, SharedQueue};
+pub use channels::{ChannelRegistry, Channels, SharedQueue};
 pub use communication_channel::{
     CommunicationChannel, CommunicationChannelConnector, CommunicationChannelCreator,
     CommunicationChannelParticipant, CommunicationChannelReceiver, CommunicationChannelSender,

@@ -7,10 +7,10 @@
 #![tactic(auto)]
 
 mod cleaner;
+mod holder;
 mod monitor;
 pub mod monitoring;
 mod monitoring_builder;
-mod monitoring_registry;
 mod monitors;
 mod process_local_monitoring;
 #[cfg(test)]
@@ -23,7 +23,6 @@ pub use monitoring::{
     Monitoring, MonitoringBuilder, MonitoringCleaner, MonitoringMonitor, MonitoringToken, State,
 };
 pub use monitoring_builder::Builder;
-pub use monitoring_registry::MonitoringRegistry;
-pub use monitors::{Life, Monitors};
+pub use monitors::{Life, MonitoringRegistry, Monitors};
 pub use process_local_monitoring::ProcessLocalMonitoring;
 pub use token::Token;
