@@ -3,8 +3,8 @@
 //! `Channels` is the table of names with capacity and overflow (`specs/Channels`); a channel's numbers stand in its
 //! `Queue` (`specs/Queue`), behind a lock of its own.
 //!
-//! A typed call takes the lock of its registry or of its queue and does what its lent form does, whose name ends in
-//! `_in`. The lent form has the same answers over the value behind the lock, and its contract says them.
+//! A typed call takes the lock of its registry or of its queue and calls its lent form, whose name ends in `_in` and
+//! whose contract says the answers.
 #![tactic(auto)]
 
 mod channel;

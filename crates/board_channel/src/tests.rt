@@ -112,14 +112,22 @@ fn channels_are_made_and_opened_when_lent(rt: HostRuntime) -> Result<(), Fail> {
     let sender = connector(b"c", &registry)?.open_sender_in(&mut state)?;
     let other = connector(b"c", &registry)?.try_open_sender_in(&mut state)?;
     assert_eq!(rt; (sender.buffer_size(), other.buffer_size()), (3, 3));
+    receiver.release_in(&mut state);
+    assert_eq!(rt; state.name_at(0), None);
+    Ok(())
+}
+
+#[test]
+fn a_lent_queue_overflows(rt: HostRuntime) -> Result<(), Fail> {
+    let registry = ChannelRegistry::new(rt.alloc())?;
+    let mut state = Channels::new(rt.alloc());
+    let end = creator(b"c", &registry)?.create_receiver_in(&mut state, rt.alloc())?;
     let listed = Channel::list_cfg_in(&mut state, rt.alloc(), &channels())?;
     assert_eq!(rt; listed.as_slice(), [FileName::new(b"c")?].as_slice());
     let mut queue = Queue::new(rt.alloc(), 1, true)?;
-    assert_eq!(rt; sender.send_in(&mut queue, &1), Ok(None));
-    assert_eq!(rt; other.try_send_in(&mut queue, &2), Ok(Some(1)));
-    assert_eq!(rt; receiver.receive_in(&mut queue), Ok(Some(2)));
-    receiver.release_in(&mut state);
-    assert_eq!(rt; state.name_at(0), None);
+    assert_eq!(rt; end.send_in(&mut queue, &1), Ok(None));
+    assert_eq!(rt; end.try_send_in(&mut queue, &2), Ok(Some(1)));
+    assert_eq!(rt; end.receive_in(&mut queue), Ok(Some(2)));
     Ok(())
 }
 

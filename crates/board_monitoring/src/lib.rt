@@ -1,9 +1,10 @@
 //! Monitoring: whether who took a name still lives.
 //!
-//! `Monitors` is the table: a name is alive, dead, or owned by a cleaner (`specs/Monitors`).
+//! `Monitors` is the table: a name is alive, dead, or owned by a cleaner (`specs/Monitors`). `Token` and `Cleaner` are
+//! both a `Holder`.
 //!
-//! A typed call takes the lock of its registry and does what its lent form does, whose name ends in `_in`. The lent
-//! form has the same answers over the value behind the lock, and its contract says them.
+//! A typed call takes its registry's lock and calls its lent form, whose name ends in `_in` and whose contract says the
+//! answers.
 #![tactic(auto)]
 
 mod cleaner;

@@ -4,8 +4,8 @@ use crate::{
     MonitoringRegistry, MonitoringToken, Monitors, ProcessLocalMonitoring, State, Token,
 };
 use board_names::{
-    Configuration, FileName, MonitoringCreateCleanerError, MonitoringCreateTokenError,
-    NameTable, NamedConcept, NamedConceptBuilder, NamedConceptMgmt,
+    Configuration, FileName, MonitoringCreateCleanerError, MonitoringCreateTokenError, NameTable,
+    NamedConcept, NamedConceptBuilder, NamedConceptMgmt,
 };
 use std::alloc::Global;
 use std::process::Abort;
@@ -114,17 +114,16 @@ fn monitored_names_are_let_go(rt: HostRuntime) -> Result<(), Fail> {
 }
 
 #[test]
-fn a_name_is_taken_and_cleaned_up_when_lent(rt: HostRuntime) -> Result<(), Fail> {
+fn a_name_is_taken_when_lent(rt: HostRuntime) -> Result<(), Fail> {
     let registry = MonitoringRegistry::new(rt.alloc())?;
     let mut state = Monitors::new(rt.alloc());
     let token = names(&registry)?.token_in(&mut state, rt.alloc())?;
     let listed = ProcessLocalMonitoring::list_cfg_in(&mut state, rt.alloc(), &monitored())?;
     assert_eq!(rt; listed.as_slice(), [FileName::new(b"t")?].as_slice());
     token.abandon_in(&mut state);
-    let cleaner = names(&registry)?.cleaner_in(&mut state)?;
-    let seen = names(&registry)?.monitor()?.state_in(&mut state);
-    assert_eq!(rt; seen, Ok(State::Dead));
-    cleaner.release_in(&mut state);
+    names(&registry)?
+        .cleaner_in(&mut state)?
+        .release_in(&mut state);
     assert_eq!(rt; state.name_at(0), None);
     Ok(())
 }

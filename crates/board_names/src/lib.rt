@@ -9,6 +9,9 @@
 //! let path = config.path_for(&FileName::new(b"door")?);           // /tmp/iceoryx2/iox2_door.event
 //! assert_eq!(config.extract_name_from_path(&path), Some(door));
 //! ```
+//!
+//! What stands under such names is a `NameTable`: pairs of a full name and a value (`specs/Table`). A `Registry` shares it
+//! behind a lock. `NamedConceptMgmt` has the calls on all names of a table, once for all concepts.
 #![tactic(auto)]
 
 mod base64url;

@@ -1,10 +1,10 @@
 //! Static storage: bytes that are written once under a name.
 //!
-//! `Table` maps full names to values, and `Statics` is the table of storages, each locked or with its bytes; both are
-//! seen as functions of names (`specs/Table`, `specs/Statics`).
+//! `Statics` is the table of storages, each locked or with its bytes, seen as pairs of name and storage (`specs/Statics`);
+//! `specs/Storage` says what a builder and what it makes are seen as, and what their calls answer.
 //!
-//! A typed call takes its registry's lock and calls its lent form, whose name ends in `_in`. The lent form has the same
-//! answers over the storages themselves, and its contract says them.
+//! A typed call takes its registry's lock and calls its lent form, whose name ends in `_in` and whose contract says the
+//! answers.
 #![tactic(auto)]
 
 mod builder;
