@@ -1,8 +1,7 @@
 -- Channels by full names, what clauses see of their ends, and what their calls answer.
-use Rattle.std.specs.Prelude.{ℕ, Bool, List, Option, Some, None, Result, Ok, Err, max, if◌then◌else◌}
-use Rattle.board_names.specs.declared.configuration.Configuration.{Configuration}
-use Rattle.board_names.specs.Configuration.{full_name}
-use Rattle.board_store.specs.Table.{taking, without}
+use Rattle.std.specs.Prelude.{ℕ, List, Bool, true, false, Option, Some, None, Result, Ok, Err, max}
+use Rattle.board_names.specs.Concept.{Named, Placed, path_of, placed}
+use Rattle.board_names.specs.Table.{at, taking}
 use Rattle.board_layout.specs.Answer.{with_value}
 use Rattle.board_names.specs.declared.errors.communication_channel.CommunicationChannelCreateError.{CommunicationChannelCreateError}
 use Rattle.board_names.specs.declared.errors.communication_channel.CommunicationChannelCreateError.TheVariants.{AlreadyExists}
@@ -29,38 +28,36 @@ open_answer (Some size) = Ok size
 
 -- a creator
 pub record CreatorView : Type 0 where
-  pub name : List ℕ
-  pub config : Configuration
+  pub named : Named
   pub capacity : ℕ
   pub overflow : Bool
 
 -- one end of a channel, and whether it made the channel
 pub record DuplexView : Type 0 where
-  pub name : List ℕ
-  pub path : List ℕ
+  pub place : Placed
   pub made : Bool
   pub size : Size
 
--- the end of a channel of this size
-abbrev pub duplex_of : List ℕ → Configuration → Bool → Size → DuplexView
-duplex_of name config made size = record { name = name; path = full_name config name; made = made; size = size }
+-- the receiver of a channel of this size
+abbrev pub receiver_of : Named → Size → DuplexView
+receiver_of named size = record { place = placed named; made = true; size = size }
+
+-- the sender of a channel of this size
+abbrev pub sender_of : Named → Size → DuplexView
+sender_of named size = record { place = placed named; made = false; size = size }
 
 -- the size that a creator asks for
 abbrev pub asked_size : CreatorView → Size
 asked_size c = size_of c.capacity c.overflow
 
 -- the receiver that a creator makes
-abbrev pub receiver_of : CreatorView → Bool → DuplexView
-receiver_of c made = duplex_of c.name c.config made (asked_size c)
+abbrev pub asked_receiver : CreatorView → DuplexView
+asked_receiver c = receiver_of c.named (asked_size c)
 
--- what `create_receiver` answers
-abbrev pub create_receiver_answer : DuplexView → Option Size → Result DuplexView CommunicationChannelCreateError
-create_receiver_answer made = taking made AlreadyExists
+-- what `create_receiver` answers over these channels
+abbrev pub create_receiver_answer : CreatorView → List (List ℕ × Size) → Result DuplexView CommunicationChannelCreateError
+create_receiver_answer c channels = taking (asked_receiver c) AlreadyExists (at channels (path_of c.named))
 
--- what `open_sender` answers
-abbrev pub open_sender_answer : (Size → DuplexView) → Option Size → Result DuplexView CommunicationChannelOpenError
-open_sender_answer end size = with_value end (open_answer size)
-
--- the channels after an end was released
-abbrev pub released : List (List ℕ × Size) → DuplexView → List (List ℕ × Size)
-released channels end = if end.made then without channels end.path else channels
+-- what `open_sender` answers over these channels
+abbrev pub open_sender_answer : Named → List (List ℕ × Size) → Result DuplexView CommunicationChannelOpenError
+open_sender_answer named channels = with_value (sender_of named) (open_answer (at channels (path_of named)))

@@ -10,8 +10,8 @@ pub record QueueView : Type 0 where
   pub overflow : Bool
 
 -- an empty queue
-abbrev pub opened : ℕ → Bool → QueueView
-opened capacity overflow = record { items = []; capacity = max 1 capacity; overflow = overflow }
+abbrev pub empty_queue : ℕ → Bool → QueueView
+empty_queue capacity overflow = record { items = []; capacity = max 1 capacity; overflow = overflow }
 
 -- there is room for one more
 abbrev pub has_room : QueueView → Bool

@@ -1,12 +1,14 @@
 //! Channels by full names.
 ghost use Rattle.std.specs.Prelude.{◌≡◌, ℕ, ◌≤◌, List, [], ◌∷◌, Some, None, Ok, Err, OnOk, OnErr, is_some, IfOk, IsOkUnless, max, Bool};
 ghost use Rattle.board_layout.specs.Answer.{Answers, Refuses};
-ghost use Rattle.board_store.specs.Table.{at, putting, without, name_at};
+ghost use Rattle.board_names.specs.Table.{at, putting};
 ghost use Rattle.board_channel.specs.Channels.{size_of, create_answer, open_answer};
 
 use crate::queue::Queue;
-use board_names::{CommunicationChannelCreateError, CommunicationChannelOpenError, FilePath};
-use board_store::Table;
+use board_names::{
+    CommunicationChannelCreateError, CommunicationChannelOpenError, FilePath, NameTable,
+    NamedConceptDoesExistError, Registry, Table,
+};
 use std::alloc::{AllocError, Global};
 use std::collections::BTreeMap;
 use std::marker::Model;
@@ -87,7 +89,7 @@ impl SharedQueue {
 /// Channels by full names. Clauses see the pairs of name and size, in the order of the names.
 #[derive(Drop)]
 pub struct Channels {
-    pub(crate) names: Table<SharedQueue>,
+    names: Table<SharedQueue>,
     alloc: Global,
 }
 
@@ -101,16 +103,6 @@ impl Model for Channels {
 }
 
 impl Channels {
-    /// No channels. Takes no memory.
-    pub fn new(alloc: Global) -> Channels
-        ensures { result ≡ [] }
-    {
-        Channels {
-            names: BTreeMap::new(alloc),
-            alloc,
-        }
-    }
-
     /// Makes a channel under a name, and shares its queue.
     ///
     /// # Errors
@@ -156,19 +148,34 @@ impl Channels {
             },
         }
     }
+}
 
-    /// Lets a name go, and tells whether it was held. Who shares the channel goes on with it.
-    pub fn remove(&mut self, name: &FilePath) -> bool
-        ensures value { result ≡ is_some (at self.old name.now) }
-        ensures after { self.new ≡ without self.old name.now }
-    {
+impl NameTable for Channels {
+    type Value = SharedQueue;
+
+    ghost entries = { λ c. c };
+
+    ghost existence = { λ one. Ok (is_some one) };
+
+    fn new(alloc: Global) -> Channels {
+        Channels {
+            names: BTreeMap::new(alloc),
+            alloc,
+        }
+    }
+
+    fn table(&self) -> &Table<SharedQueue> {
+        &self.names
+    }
+
+    fn does_exist(&self, name: &FilePath) -> Result<bool, NamedConceptDoesExistError> {
+        Ok(self.names.contains_key(name))
+    }
+
+    fn remove(&mut self, name: &FilePath) -> bool {
         self.names.remove(name).is_some()
     }
-
-    /// The name at an index, counted from 0 in the order of the names.
-    pub fn name_at(&self, index: usize) -> Option<FilePath>
-        ensures { result ≡ name_at self.now index }
-    {
-        self.names.keys().nth(index).copied()
-    }
 }
+
+/// Channels that many values share, behind a lock.
+pub type ChannelRegistry = Registry<Channels>;

@@ -74,7 +74,10 @@ pub trait CommunicationChannelSender: CommunicationChannelParticipant + NamedCon
         rt: &R,
         value: &u64,
     ) -> Result<Option<u64>, CommunicationChannelSendError>
-        ensures { IsOkUnless result ReceiverCacheIsFull };
+        ensures { IsOkUnless result ReceiverCacheIsFull }
+    {
+        self.send(rt, value)
+    }
 }
 
 /// The end that receives.

@@ -1,18 +1,17 @@
 //! How a sender is opened.
 ghost use Rattle.std.specs.Prelude.{◌≡◌, ℕ, List, false, codes, IfOk};
 ghost use Rattle.board_layout.specs.Answer.{Answers, Refuses};
-ghost use Rattle.board_names.specs.Configuration.{full_name, started};
-ghost use Rattle.board_store.specs.Table.{at};
-ghost use Rattle.board_channel.specs.Channels.{duplex_of, open_sender_answer};
+ghost use Rattle.board_names.specs.Concept.{path_of, starting};
+ghost use Rattle.board_names.specs.declared.errors.communication_channel.CommunicationChannelOpenError.TheVariants.{OutOfMemory};
+ghost use Rattle.board_channel.specs.Channels.{sender_of, open_sender_answer};
 
 use crate::channel::Channel;
-use crate::channel_registry::ChannelRegistry;
-use crate::channels::{Channels, SharedQueue};
+use crate::channels::{ChannelRegistry, Channels, SharedQueue};
 use crate::communication_channel::{CommunicationChannel, CommunicationChannelConnector};
 use crate::duplex::Duplex;
 use board_names::{
-    CommunicationChannelOpenError, Configuration, FileName, FilePath, NamedConceptBuilder,
-    NamedConceptConfiguration, RegistryError,
+    CommunicationChannelOpenError, Configuration, FileName, NamePlace, NameRequest,
+    NamedConceptBuilder, RegistryError,
 };
 use std::marker::Model;
 use std::sync::Wait;
@@ -20,9 +19,7 @@ use std::sync::Wait;
 /// A builder of a sender. Clauses see the name and the configuration.
 #[derive(Drop)]
 pub struct Connector {
-    name: FileName,
-    config: Configuration,
-    registry: ChannelRegistry,
+    request: NameRequest<Channels>,
 }
 
 impl Model for Connector {
@@ -30,7 +27,7 @@ impl Model for Connector {
 
     ghost Value = { Named };
 
-    ghost view = { λ c. record { name = c.name; config = c.config } };
+    ghost view = { λ c. c.request };
 }
 
 impl Connector {
@@ -42,13 +39,13 @@ impl Connector {
         self,
         state: &mut Channels,
     ) -> Result<Duplex, CommunicationChannelOpenError>
-        ensures answer { Answers result CommunicationChannelOpenError.OutOfMemory (open_sender_answer (duplex_of self.name self.config false) (at state.old (full_name self.config self.name))) }
-        ensures refused { Refuses result (open_sender_answer (duplex_of self.name self.config false) (at state.old (full_name self.config self.name))) }
+        ensures answer { Answers result OutOfMemory (open_sender_answer self state.old) }
+        ensures refused { Refuses result (open_sender_answer self state.old) }
         ensures stays { state.new ≡ state.old }
     {
-        let path = self.path();
-        let shared = state.open(&path)?;
-        Ok(Duplex::at(self.name, path, false, shared, self.registry))
+        let place = self.request.place();
+        let shared = state.open(place.path())?;
+        Ok(Duplex::at(place, false, shared))
     }
 
     /// `try_open_sender` over the channels themselves.
@@ -59,27 +56,20 @@ impl Connector {
         self,
         state: &mut Channels,
     ) -> Result<Duplex, CommunicationChannelOpenError>
-        ensures answer { Answers result CommunicationChannelOpenError.OutOfMemory (open_sender_answer (duplex_of self.name self.config false) (at state.old (full_name self.config self.name))) }
-        ensures refused { Refuses result (open_sender_answer (duplex_of self.name self.config false) (at state.old (full_name self.config self.name))) }
+        ensures answer { Answers result OutOfMemory (open_sender_answer self state.old) }
+        ensures refused { Refuses result (open_sender_answer self state.old) }
         ensures stays { state.new ≡ state.old }
     {
         self.open_sender_in(state)
     }
+}
 
-    fn join<R: Wait>(
-        &self,
-        rt: &R,
-        path: &FilePath,
-    ) -> Result<SharedQueue, CommunicationChannelOpenError> {
-        let state = self.registry.state.lock(rt);
-        state.open(path)
-    }
-
-    fn path(&self) -> FilePath
-        ensures { result ≡ full_name self.now.config self.now.name }
-    {
-        self.config.path_for(&self.name)
-    }
+fn join<R: Wait>(
+    rt: &R,
+    place: &NamePlace<Channels>,
+) -> Result<SharedQueue, CommunicationChannelOpenError> {
+    let state = place.lock(rt);
+    state.open(place.path())
 }
 
 impl NamedConceptBuilder for Connector {
@@ -88,22 +78,15 @@ impl NamedConceptBuilder for Connector {
     ghost named = { λ c. c };
 
     fn new(name: &FileName, registry: &ChannelRegistry) -> Result<Connector, RegistryError>
-        ensures { IfOk result (λ c. c ≡ record { name = name.now; config = started (codes ".com") }) }
+        ensures { IfOk result (λ c. c ≡ starting name.now (codes ".com")) }
     {
-        let registry = registry.share()?;
         Ok(Connector {
-            name: *name,
-            config: Configuration::with_suffix(&Channel::default_suffix()),
-            registry,
+            request: NameRequest::new(name, &Channel::default_suffix(), registry)?,
         })
     }
 
     fn config(mut self, config: &Configuration) -> Connector {
-        self.config = Configuration {
-            prefix: config.prefix,
-            suffix: config.suffix,
-            path_hint: config.path_hint,
-        };
+        self.request = self.request.with(config);
         self
     }
 }
@@ -112,15 +95,15 @@ impl CommunicationChannelConnector for Connector {
     type Sender = Duplex;
 
     fn open_sender<R: Wait>(self, rt: &R) -> Result<Duplex, CommunicationChannelOpenError>
-        ensures { IfOk result (λ end. end ≡ duplex_of self.name self.config false end.size) }
+        ensures { IfOk result (λ end. end ≡ sender_of self end.size) }
     {
-        let path = self.path();
-        let shared = self.join(rt, &path)?;
-        Ok(Duplex::at(self.name, path, false, shared, self.registry))
+        let place = self.request.place();
+        let shared = join(rt, &place)?;
+        Ok(Duplex::at(place, false, shared))
     }
 
     fn try_open_sender<R: Wait>(self, rt: &R) -> Result<Duplex, CommunicationChannelOpenError>
-        ensures { IfOk result (λ end. end ≡ duplex_of self.name self.config false end.size) }
+        ensures { IfOk result (λ end. end ≡ sender_of self end.size) }
     {
         self.open_sender(rt)
     }

@@ -1,20 +1,20 @@
 //! How a channel is made.
 ghost use Rattle.std.specs.Prelude.{◌≡◌, ℕ, List, true, false, codes, IfOk, OnOk, OnErr};
 ghost use Rattle.board_layout.specs.Answer.{Answers, Refuses};
-ghost use Rattle.board_names.specs.Configuration.{full_name, started};
-ghost use Rattle.board_store.specs.Table.{at, putting};
-ghost use Rattle.board_channel.specs.Channels.{asked_size, receiver_of, create_receiver_answer};
+ghost use Rattle.board_names.specs.Concept.{path_of, starting};
+ghost use Rattle.board_names.specs.Table.{putting};
+ghost use Rattle.board_names.specs.declared.errors.communication_channel.CommunicationChannelCreateError.TheVariants.{OutOfMemory};
+ghost use Rattle.board_channel.specs.Channels.{asked_size, asked_receiver, create_receiver_answer};
 
 use crate::channel::Channel;
-use crate::channel_registry::ChannelRegistry;
-use crate::channels::{Channels, SharedQueue};
+use crate::channels::{ChannelRegistry, Channels, SharedQueue};
 use crate::communication_channel::{
     CommunicationChannel, CommunicationChannelCreator, DEFAULT_RECEIVER_BUFFER_SIZE,
 };
 use crate::duplex::Duplex;
 use board_names::{
-    CommunicationChannelCreateError, Configuration, FileName, FilePath, NamedConceptBuilder,
-    NamedConceptConfiguration, RegistryError,
+    CommunicationChannelCreateError, Configuration, FileName, NameRequest, NamedConceptBuilder,
+    RegistryError,
 };
 use std::alloc::Global;
 use std::marker::Model;
@@ -24,11 +24,9 @@ use std::sync::Wait;
 /// overflows.
 #[derive(Drop)]
 pub struct Creator {
-    name: FileName,
-    config: Configuration,
+    request: NameRequest<Channels>,
     capacity: usize,
     overflow: bool,
-    registry: ChannelRegistry,
 }
 
 impl Model for Creator {
@@ -36,7 +34,7 @@ impl Model for Creator {
 
     ghost Value = { CreatorView };
 
-    ghost view = { λ c. record { name = c.name; config = c.config; capacity = c.capacity; overflow = c.overflow } };
+    ghost view = { λ c. record { named = c.request; capacity = c.capacity; overflow = c.overflow } };
 }
 
 impl Creator {
@@ -49,60 +47,42 @@ impl Creator {
         state: &mut Channels,
         alloc: Global,
     ) -> Result<Duplex, CommunicationChannelCreateError>
-        ensures answer { Answers result CommunicationChannelCreateError.OutOfMemory (create_receiver_answer (receiver_of self true) (at state.old (full_name self.config self.name))) }
-        ensures refused { Refuses result (create_receiver_answer (receiver_of self true) (at state.old (full_name self.config self.name))) }
-        ensures ok { OnOk result (state.new ≡ putting state.old (full_name self.config self.name) (asked_size self)) }
+        ensures answer { Answers result OutOfMemory (create_receiver_answer self state.old) }
+        ensures refused { Refuses result (create_receiver_answer self state.old) }
+        ensures ok { OnOk result (state.new ≡ putting state.old (path_of self.named) (asked_size self)) }
         ensures err { OnErr result (state.new ≡ state.old) }
     {
-        let path = self.path();
-        let shared = state.create(&path, self.capacity, self.overflow)?;
-        Ok(Duplex::at(self.name, path, true, shared, self.registry))
+        let shared = state.create(&self.request.path(), self.capacity, self.overflow)?;
+        Ok(Duplex::at(self.request.place(), true, shared))
     }
 
-    fn make<R: Wait>(
-        &self,
-        rt: &R,
-        path: &FilePath,
-    ) -> Result<SharedQueue, CommunicationChannelCreateError>
+    fn make<R: Wait>(&self, rt: &R) -> Result<SharedQueue, CommunicationChannelCreateError>
         ensures { IfOk result (λ shared. shared ≡ asked_size self.now) }
     {
-        let mut state = self.registry.state.lock(rt);
-        state.create(path, self.capacity, self.overflow)
-    }
-
-    fn path(&self) -> FilePath
-        ensures { result ≡ full_name self.now.config self.now.name }
-    {
-        self.config.path_for(&self.name)
+        let mut state = self.request.lock(rt);
+        state.create(&self.request.path(), self.capacity, self.overflow)
     }
 }
 
 impl NamedConceptBuilder for Creator {
     type Registry = ChannelRegistry;
 
-    ghost named = { λ c. record { name = c.name; config = c.config } };
+    ghost named = { λ c. c.named };
 
     fn new(name: &FileName, registry: &ChannelRegistry) -> Result<Creator, RegistryError>
-        ensures { IfOk result (λ c. c ≡ record { name = name.now; config = started (codes ".com"); capacity = 8; overflow = false }) }
+        ensures { IfOk result (λ c. c ≡ record { named = starting name.now (codes ".com"); capacity = 8; overflow = false }) }
     {
-        let registry = registry.share()?;
         Ok(Creator {
-            name: *name,
-            config: Configuration::with_suffix(&Channel::default_suffix()),
+            request: NameRequest::new(name, &Channel::default_suffix(), registry)?,
             capacity: DEFAULT_RECEIVER_BUFFER_SIZE,
             overflow: false,
-            registry,
         })
     }
 
     fn config(mut self, config: &Configuration) -> Creator
-        ensures { result ≡ record self { config = config.now } }
+        ensures { result ≡ record self { named = record self.named { config = config.now } } }
     {
-        self.config = Configuration {
-            prefix: config.prefix,
-            suffix: config.suffix,
-            path_hint: config.path_hint,
-        };
+        self.request = self.request.with(config);
         self
     }
 }
@@ -133,10 +113,9 @@ impl CommunicationChannelCreator for Creator {
         rt: &R,
         alloc: Global,
     ) -> Result<Duplex, CommunicationChannelCreateError>
-        ensures { IfOk result (λ end. end ≡ receiver_of self true) }
+        ensures { IfOk result (λ end. end ≡ asked_receiver self) }
     {
-        let path = self.path();
-        let shared = self.make(rt, &path)?;
-        Ok(Duplex::at(self.name, path, true, shared, self.registry))
+        let shared = self.make(rt)?;
+        Ok(Duplex::at(self.request.place(), true, shared))
     }
 }

@@ -1,17 +1,15 @@
 //! One end of a channel.
 ghost use Rattle.std.specs.Prelude.{◌≡◌, ℕ, List, Bool, Ok, slice_get};
-ghost use Rattle.board_store.specs.Table.{without};
+ghost use Rattle.board_names.specs.Table.{let_go};
 ghost use Rattle.board_channel.specs.Queue.{sent, send_answer, received};
-ghost use Rattle.board_channel.specs.Channels.{released};
 
-use crate::channel_registry::ChannelRegistry;
 use crate::channels::{Channels, SharedQueue};
 use crate::communication_channel::{
     CommunicationChannelParticipant, CommunicationChannelReceiver, CommunicationChannelSender,
 };
 use crate::queue::Queue;
 use board_names::{
-    CommunicationChannelReceiveError, CommunicationChannelSendError, FileName, FilePath,
+    CommunicationChannelReceiveError, CommunicationChannelSendError, FileName, NamePlace,
     NamedConcept,
 };
 use std::marker::Model;
@@ -22,11 +20,9 @@ use std::sync::Wait;
 /// Clauses see the name, the full name, whether this end made the channel, and the channel's size.
 #[derive(Drop)]
 pub struct Duplex {
-    name: FileName,
-    path: FilePath,
+    place: NamePlace<Channels>,
     made: bool,
     shared: SharedQueue,
-    registry: ChannelRegistry,
 }
 
 impl Model for Duplex {
@@ -34,25 +30,17 @@ impl Model for Duplex {
 
     ghost Value = { DuplexView };
 
-    ghost view = { λ d. record { name = d.name; path = d.path; made = d.made; size = d.shared } };
+    ghost view = { λ d. record { place = d.place; made = d.made; size = d.shared } };
 }
 
 impl Duplex {
-    pub(crate) fn at(
-        name: FileName,
-        path: FilePath,
-        made: bool,
-        shared: SharedQueue,
-        registry: ChannelRegistry,
-    ) -> Duplex
-        ensures { result ≡ record { name = name; path = path; made = made; size = shared } }
+    pub(crate) fn at(place: NamePlace<Channels>, made: bool, shared: SharedQueue) -> Duplex
+        ensures { result ≡ record { place = place; made = made; size = shared } }
     {
         Duplex {
-            name,
-            path,
+            place,
             made,
             shared,
-            registry,
         }
     }
 
@@ -83,7 +71,7 @@ impl Duplex {
         ensures answer { result ≡ send_answer state.old }
         ensures after { state.new ≡ sent state.old value.now }
     {
-        state.try_send(*value)
+        self.send_in(state, value)
     }
 
     /// `receive` over the queue itself.
@@ -102,31 +90,23 @@ impl Duplex {
 
     /// `release` over the channels themselves.
     pub fn release_in(self, state: &mut Channels)
-        ensures { state.new ≡ released state.old self }
+        ensures { state.new ≡ let_go state.old self.made self.place.path }
     {
-        self.let_go(state);
+        self.place.let_go(state, self.made);
     }
 
     /// Gives this end up, and the name where it made the channel.
     pub fn release<R: Wait>(self, rt: &R) {
-        let mut state = self.registry.state.lock(rt);
-        self.let_go(&mut state);
-    }
-
-    fn let_go(&self, state: &mut Channels)
-        ensures { state.new ≡ released state.old self.now }
-    {
-        if self.made {
-            let _ = state.remove(&self.path);
-        }
+        let mut state = self.place.lock(rt);
+        self.place.let_go(&mut state, self.made);
     }
 }
 
 impl NamedConcept for Duplex {
-    ghost name_of = { λ d. d.name };
+    ghost name_of = { λ d. d.place.name };
 
     fn name(&self) -> &FileName {
-        &self.name
+        self.place.name()
     }
 }
 
@@ -146,15 +126,6 @@ impl CommunicationChannelSender for Duplex {
     ) -> Result<Option<u64>, CommunicationChannelSendError> {
         let mut state = self.shared.queue.lock(rt);
         self.send_in(&mut state, value)
-    }
-
-    fn try_send<R: Wait>(
-        &self,
-        rt: &R,
-        value: &u64,
-    ) -> Result<Option<u64>, CommunicationChannelSendError> {
-        let mut state = self.shared.queue.lock(rt);
-        self.try_send_in(&mut state, value)
     }
 }
 

@@ -3,12 +3,11 @@
 //! `Channels` is the table of names with capacity and overflow (`specs/Channels`); a channel's numbers stand in its
 //! `Queue` (`specs/Queue`), behind a lock of its own.
 //!
-//! A typed call takes the lock of its registry or of its queue and does what its lent form does, whose name ends in
-//! `_in`. The lent form has the same answers over the value behind the lock, and its contract says them.
+//! A typed call takes the lock of its registry or of its queue and calls its lent form, whose name ends in `_in` and
+//! whose contract says the answers.
 #![tactic(auto)]
 
 mod channel;
-mod channel_registry;
 mod channels;
 pub mod communication_channel;
 mod connector;
@@ -19,8 +18,7 @@ mod queue;
 mod tests;
 
 pub use channel::Channel;
-pub use channel_registry::ChannelRegistry;
-pub use channels::{Channels, SharedQueue};
+pub use channels::{ChannelRegistry, Channels, SharedQueue};
 pub use communication_channel::{
     CommunicationChannel, CommunicationChannelConnector, CommunicationChannelCreator,
     CommunicationChannelParticipant, CommunicationChannelReceiver, CommunicationChannelSender,

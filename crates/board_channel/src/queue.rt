@@ -1,6 +1,6 @@
 //! Numbers in order, up to a capacity.
 ghost use Rattle.std.specs.Prelude.{◌≡◌, ℕ, ◌+◌, ◌<◌, ◌≤◌, List, [], ◌∷◌, ◌++◌, Some, None, Ok, Err, length, IfOk, IsErrOf, IsOkUnless, max, slice_get, Bool, false};
-ghost use Rattle.board_channel.specs.Queue.{QueueView, sent, send_answer, received, opened};
+ghost use Rattle.board_channel.specs.Queue.{QueueView, sent, send_answer, received, empty_queue};
 
 use board_names::{CommunicationChannelCreateError, CommunicationChannelSendError};
 use std::alloc::Global;
@@ -39,7 +39,7 @@ impl Queue {
         capacity: usize,
         overflow: bool,
     ) -> Result<Queue, CommunicationChannelCreateError>
-        ensures value { IfOk result (λ queue. queue ≡ opened capacity overflow) }
+        ensures value { IfOk result (λ queue. queue ≡ empty_queue capacity overflow) }
         ensures memory { IsOkUnless result CommunicationChannelCreateError.OutOfMemory }
     {
         let capacity = capacity.max(1);

@@ -1,4 +1,4 @@
-//! Channels by the typed calls, and again by the lent forms.
+//! Channels by the typed calls, of which their clauses say little, and once by the lent forms.
 use crate::{
     Channel, ChannelRegistry, Channels, CommunicationChannel, CommunicationChannelConnector,
     CommunicationChannelCreator, CommunicationChannelParticipant, CommunicationChannelReceiver,
@@ -7,7 +7,7 @@ use crate::{
 };
 use board_names::{
     CommunicationChannelCreateError, CommunicationChannelOpenError, CommunicationChannelSendError,
-    Configuration, FileName, FilePath, NamedConcept, NamedConceptBuilder,
+    Configuration, FileName, NameTable, NamedConcept, NamedConceptBuilder,
     NamedConceptConfiguration, NamedConceptMgmt,
 };
 use std::alloc::Global;
@@ -25,10 +25,6 @@ fn connector(value: &[u8], registry: &ChannelRegistry) -> Result<Connector, Fail
 
 fn channels() -> Configuration {
     Configuration::with_suffix(&Channel::default_suffix())
-}
-
-fn path() -> Result<FilePath, Fail> {
-    Ok(monitored().path_for(&FileName::new(b"t")?))
 }
 
 fn fills<R: Wait + Abort>(rt: &R, sender: &Duplex) {
@@ -107,80 +103,31 @@ fn channels_refuse_overflow_and_are_made_once(rt: HostRuntime) -> Result<(), Fai
     is_made_once(&rt, rt.alloc(), &registry)
 }
 
-fn fills_in<R: Abort>(rt: &R, end: &Duplex, queue: &mut Queue) {
-    assert_eq!(rt; end.send_in(queue, &1), Ok(None));
-    assert_eq!(rt; end.try_send_in(queue, &2), Ok(None));
-}
-
-fn refuses_in<R: Abort>(rt: &R, alloc: Global, end: &Duplex) -> Result<(), Fail> {
-    let mut queue = Queue::new(alloc, 2, false)?;
-    fills_in(rt, end, &mut queue);
-    assert_eq!(rt;
-        end.send_in(&mut queue, &3),
-        Err(CommunicationChannelSendError::ReceiverCacheIsFull)
-    );
-    assert_eq!(rt; end.receive_in(&mut queue), Ok(Some(1)));
-    assert_eq!(rt; end.receive_in(&mut queue), Ok(Some(2)));
-    assert_eq!(rt; end.receive_in(&mut queue), Ok(None));
-    Ok(())
-}
-
-fn overflows_in<R: Abort>(rt: &R, alloc: Global, end: &Duplex) -> Result<(), Fail> {
-    let mut queue = Queue::new(alloc, 2, true)?;
-    fills_in(rt, end, &mut queue);
-    assert_eq!(rt; end.send_in(&mut queue, &3), Ok(Some(1)));
-    assert_eq!(rt; end.receive_in(&mut queue), Ok(Some(2)));
-    Ok(())
-}
-
-fn is_made_once_in<R: Abort>(
-    rt: &R,
-    alloc: Global,
-    registry: &ChannelRegistry,
-    state: &mut Channels,
-) -> Result<(), Fail> {
-    let creator_of_one = creator(b"e", registry)?.buffer_size(0);
-    let receiver = creator_of_one.create_receiver_in(state, alloc)?;
-    assert_eq!(rt; receiver.buffer_size(), 1);
-    let again = creator(b"e", registry)?.create_receiver_in(state, alloc);
-    assert_eq!(rt;
-        again.err(),
-        Some(CommunicationChannelCreateError::AlreadyExists)
-    );
-    let absent = connector(b"f", registry)?.open_sender_in(state);
-    assert_eq!(rt;
-        absent.err(),
-        Some(CommunicationChannelOpenError::DoesNotExist)
-    );
-    receiver.release_in(state);
-    Ok(())
-}
-
 #[test]
-fn channels_refuse_overflow_and_are_made_once_when_lent(rt: HostRuntime) -> Result<(), Fail> {
-    let registry = ChannelRegistry::new(rt.alloc())?;
-    let mut state = Channels::new(rt.alloc());
-    let creator = creator(b"c", &registry)?;
-    let end = creator.create_receiver_in(&mut state, rt.alloc())?;
-    refuses_in(&rt, rt.alloc(), &end)?;
-    overflows_in(&rt, rt.alloc(), &end)?;
-    is_made_once_in(&rt, rt.alloc(), &registry, &mut state)
-}
-
-#[test]
-fn lent_channels_are_opened_and_let_go(rt: HostRuntime) -> Result<(), Fail> {
+fn channels_are_made_and_opened_when_lent(rt: HostRuntime) -> Result<(), Fail> {
     let registry = ChannelRegistry::new(rt.alloc())?;
     let mut state = Channels::new(rt.alloc());
     let creator = creator(b"c", &registry)?.buffer_size(3);
     let receiver = creator.create_receiver_in(&mut state, rt.alloc())?;
     let sender = connector(b"c", &registry)?.open_sender_in(&mut state)?;
-    assert_eq!(rt; sender.buffer_size(), 3);
     let other = connector(b"c", &registry)?.try_open_sender_in(&mut state)?;
-    assert_eq!(rt; *other.name(), FileName::new(b"c")?);
-    sender.release_in(&mut state);
-    assert!(rt; state.name_at(0).is_some());
+    assert_eq!(rt; (sender.buffer_size(), other.buffer_size()), (3, 3));
     receiver.release_in(&mut state);
     assert_eq!(rt; state.name_at(0), None);
+    Ok(())
+}
+
+#[test]
+fn a_lent_queue_overflows(rt: HostRuntime) -> Result<(), Fail> {
+    let registry = ChannelRegistry::new(rt.alloc())?;
+    let mut state = Channels::new(rt.alloc());
+    let end = creator(b"c", &registry)?.create_receiver_in(&mut state, rt.alloc())?;
+    let listed = Channel::list_cfg_in(&mut state, rt.alloc(), &channels())?;
+    assert_eq!(rt; listed.as_slice(), [FileName::new(b"c")?].as_slice());
+    let mut queue = Queue::new(rt.alloc(), 1, true)?;
+    assert_eq!(rt; end.send_in(&mut queue, &1), Ok(None));
+    assert_eq!(rt; end.try_send_in(&mut queue, &2), Ok(Some(1)));
+    assert_eq!(rt; end.receive_in(&mut queue), Ok(Some(2)));
     Ok(())
 }
 
@@ -199,21 +146,6 @@ fn channels_are_listed(rt: HostRuntime) -> Result<(), Fail> {
     assert_eq!(rt; removed, Ok(true));
     let again = Channel::remove_cfg(&rt, &registry, &c, &channels());
     assert_eq!(rt; again, Ok(false));
-    Ok(())
-}
-
-#[test]
-fn channels_are_listed_when_lent(rt: HostRuntime) -> Result<(), Fail> {
-    let registry = ChannelRegistry::new(rt.alloc())?;
-    let mut state = Channels::new(rt.alloc());
-    let _receiver = creator(b"c", &registry)?.create_receiver_in(&mut state, rt.alloc())?;
-    let c = FileName::new(b"c")?;
-    let listed = Channel::list_cfg_in(&mut state, rt.alloc(), &channels())?;
-    assert_eq!(rt; listed.as_slice(), [c].as_slice());
-    let held = Channel::does_exist_cfg_in(&mut state, &c, &channels());
-    assert_eq!(rt; held, Ok(true));
-    let removed = Channel::remove_cfg_in(&mut state, &c, &channels());
-    assert_eq!(rt; removed, Ok(true));
     Ok(())
 }
 
@@ -238,15 +170,15 @@ fn any_channel_is_made_by_the_traits(rt: HostRuntime) -> Result<(), Fail> {
 }
 
 #[test]
-fn channels_are_kept_by_name(rt: HostRuntime) -> Result<(), Fail> {
+fn queues_are_shared(rt: HostRuntime) -> Result<(), Fail> {
     let mut state = Channels::new(rt.alloc());
-    let name = path()?;
+    let name = channels().path_for(&FileName::new(b"c")?);
     let made = state.create(&name, 4, true)?;
-    assert_eq!(rt; (made.capacity(), made.overflows()), (4, true));
-    assert_eq!(rt; state.open(&name)?.capacity(), 4);
-    assert!(rt; state.remove(&name) && !state.remove(&name));
+    let opened = state.open(&name)?;
+    assert!(rt; state.remove(&name));
+    assert_eq!(rt; (made.share()?.capacity(), opened.overflows()), (4, true));
     let alone = SharedQueue::new(rt.alloc(), 0, false)?;
-    assert_eq!(rt; alone.share()?.capacity(), 1);
+    assert_eq!(rt; alone.capacity(), 1);
     Ok(())
 }
 

@@ -7,7 +7,8 @@ use Rattle.std.proofs.lemmas.Bool.{cases_lt, lt-leb, both_ways}
 use Rattle.std.proofs.lemmas.List.{get_or_past}
 use Rattle.std.proofs.lemmas.List.Folds.{list_all_at}
 use Rattle.std.proofs.lemmas.Str.{IsUtf8-from_ascii}
-use Rattle.board_names.specs.Names.{is_printable, IsServiceName}
+use Rattle.board_layout.specs.Types.{is_printable}
+use Rattle.board_names.specs.Names.{IsServiceName}
 
 and_false : (x : Bool) → (x && false) ≡ false
 and_false true = refl

@@ -1,5 +1,5 @@
 -- Which attributes a service may have.
-use Rattle.std.specs.Prelude.{ℕ, ◌≤◌, Bool, IsTrue, nat_le, ◌&&◌, List, length}
+use Rattle.std.specs.Prelude.{◌≡◌, ℕ, ◌≤◌, Bool, IsTrue, nat_le, ◌&&◌, List, length}
 use Rattle.std.specs.List.{list_all}
 use Rattle.board_layout.specs.Types.{is_printable}
 use Rattle.board_model.specs.declared.attributes.Attribute.{Attribute}
@@ -25,3 +25,7 @@ pub record AreAttributes (attributes : List Attribute) : Type 0 where
 pub record AreKeys (keys : List (List ℕ)) : Type 0 where
   pub few : length keys ≤ 8
   pub each : IsTrue (list_all (is_text 64) keys)
+
+-- what may stand in a list meets one that is full
+abbrev pub MeetsFull : {A : Type 0} → Bool → List A → Type 0
+MeetsFull may_stand list = IsTrue may_stand × (length list ≡ 8)

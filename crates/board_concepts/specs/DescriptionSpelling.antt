@@ -104,3 +104,8 @@ pub record Reads (Spells : Description → List ℕ → Type 0) (bytes : List �
 -- bytes begin with one spelling at most, and nothing is behind it
 abbrev pub IsPrefixFree : (Description → List ℕ → Type 0) → Type 0
 IsPrefixFree Spells = (d e : Description) (bytes more : List ℕ) → Spells d bytes → Spells e (bytes ++ more) → (d ≡ e) × (more ≡ [])
+
+-- what is read from a spelling of a description is that description, want of memory aside
+abbrev pub ReadsBack : (Description → List ℕ → Type 0) → Type 0
+ReadsBack Spells = (d : Description) (bytes : List ℕ) (result : Result Description DeserializeError) →
+    IsDescription d → Spells d bytes → Reads Spells bytes result → Answers result OutOfMemory (Ok d)

@@ -64,9 +64,11 @@ impl Hash for Sha1 {
     fn new(bytes: &[u8]) -> Sha1 {
         let digest = Digest::digest(bytes);
         let mut digits = [0u8; 40];
+        // 20 bytes are 40 digits, so there is room for them.
         let Ok(()) = hex::encode_to_slice(&digest, &mut digits) else {
             unreachable!()
         };
+        // Such digits meet the rule (`accepted` of `Base64Url::new`).
         let Ok(text) = Base64Url::new(&digits) else {
             unreachable!()
         };

@@ -1,4 +1,8 @@
-//! The concepts that a service is made of: how a value is shared, hashes, attributes, and descriptions with their spelling.
+//! The front of all concepts that a service is made of.
+//!
+//! A concept of named things has a module with its traits, its types and `Local`, its implementation within one process:
+//! `monitoring`, `communication_channel` and `static_storage`. `hash` and `serialize` are concepts of values. Beside them
+//! stand attributes, descriptions and how a value is shared.
 //!
 //! `specs/Spelling` says how numbers, texts and lists are spelled in bytes, `specs/DescriptionSpelling` how a board's
 //! description is, and `specs/Attributes` what a set of attributes has and when it meets requirements.
@@ -8,12 +12,15 @@ mod arc_sync_policy;
 mod attribute_set;
 mod attribute_specifier;
 mod attribute_verifier;
+pub mod communication_channel;
 mod description;
 pub mod hash;
 mod laws;
+pub mod monitoring;
 pub mod serialize;
 mod sharing;
 mod spelling;
+pub mod static_storage;
 
 pub use arc_sync_policy::{ArcSyncPolicy, MutexProtected, SingleThreaded};
 pub use attribute_set::AttributeSet;

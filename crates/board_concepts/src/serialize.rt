@@ -29,8 +29,8 @@ pub trait Serialize {
         ensures ok { IfOk result (λ bytes. Spells value.now bytes.items) }
         ensures memory { IsOkUnless result OutOfMemory };
 
-    /// The description that is spelled by these bytes. Memory is taken for its attributes alone, and only once all bytes are known
-    /// to be right.
+    /// The description that is spelled by these bytes. Memory is taken for its attributes alone, and only once all bytes
+    /// are known to be right.
     ///
     /// # Errors
     /// `InternalError` where the bytes spell no description; `OutOfMemory`.
@@ -40,7 +40,10 @@ pub trait Serialize {
 
 /// The wire format of postcard 1.1.3, in its shortest spelling alone and with nothing behind it.
 ///
-/// An unsigned number is groups of 7 bits, the low group first, with the high bit set on all but the last; a text is its length and its bytes, a list its length and its items, a variant its number (`FixedSize` 0, `Dynamic` 1). The fields are the version, which is 1, the name, the type of keys (variant, name, size, alignment), the most readers and nodes, and the list of attributes, each its key and its value.
+/// An unsigned number is groups of 7 bits, the low group first, with the high bit set on all but the last; a text is its
+/// length and its bytes, a list its length and its items, a variant its number (`FixedSize` 0, `Dynamic` 1). The fields
+/// are the version, which is 1, the name, the type of keys (variant, name, size, alignment), the most readers and nodes,
+/// and the list of attributes, each its key and its value.
 #[derive(Clone, Copy, Debug)]
 pub struct Postcard;
 

@@ -175,6 +175,7 @@ fn fill(set: &mut AttributeSet, bytes: &[u8], count: u64) -> Result<(), AllocErr
     if count == 0 {
         return Ok(());
     }
+    // An attribute is spelled at the front (`spelled`), and `read_attribute` finds it (its `every`).
     let Some((attribute, behind)) = read_attribute(bytes) else {
         unreachable!()
     };
@@ -188,6 +189,7 @@ pub(crate) fn list_of(alloc: Global, bytes: &[u8]) -> Result<AttributeSet, Alloc
     requires { (attributes : List Attribute) × AreAttributes attributes × SpelledList attributes bytes.now [] }
     ensures { (attributes : List Attribute) → AreAttributes attributes → SpelledList attributes bytes.now [] → IfOk result (λ set. set ≡ attributes) }
 {
+    // The list begins with its length, which is 8 at most, and `number` finds it (its `every`).
     let Some((count, items)) = number(bytes, MAX_ATTRIBUTES as u64) else {
         unreachable!()
     };

@@ -1,6 +1,6 @@
 -- What the steps on the rows leave: no name is new.
 use Rattle.std.specs.Prelude.{◌≡◌, ℕ, Bool, true, false, cond, List, Option, Some, None}
-use Rattle.board_store.specs.Table.{at}
+use Rattle.board_names.specs.Table.{at}
 use Rattle.board_event_model.specs.declared.kind.EventKind.{EventKind}
 use Rattle.board_event_model.specs.declared.kind.EventKind.TheVariants as kind
 use Rattle.board_event.specs.EventTable.{AreLeft, EventTable, names_of, with_names, without_event}

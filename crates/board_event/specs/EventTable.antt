@@ -4,7 +4,7 @@ use Rattle.std.specs.Coded.{Coded, code_by, coded×, coded_ℕ, coded_list}
 use Rattle.std.specs.Ordering.{nat_cmp}
 use Rattle.std.specs.Map.{lookup, remove_entry, set_value}
 use Rattle.std.specs.BTreeMap.{insert_entry, is_at}
-use Rattle.board_store.specs.Table.{at, putting, without}
+use Rattle.board_names.specs.Table.{at, putting, without}
 use Rattle.board_names.specs.declared.errors.event.ListenerCreateError.{ListenerCreateError}
 use Rattle.board_names.specs.declared.errors.event.ListenerCreateError.TheVariants as listener_error
 use Rattle.board_names.specs.declared.errors.event.NotifierCreateError.{NotifierCreateError}

@@ -2,15 +2,14 @@
 ghost use Rattle.std.specs.Prelude.{◌≡◌, ◌≢◌, ℕ, List, ◌<◌, ◌+◌, ◌-◌, ◌^◌, true, false, is_some, option_copied, IfSome, IsSome, IsSomeAnd, Some, None};
 ghost use Rattle.std.specs.Ordering.{nat_cmp};
 ghost use Rattle.std.specs.BTreeMap.{insert_entry};
-ghost use Rattle.board_store.specs.Table.{at, putting, without};
+ghost use Rattle.board_names.specs.Table.{at, putting, without};
 ghost use Rattle.board_event_model.specs.declared.kind.EventKind.{EventKind as Kind};
 ghost use Rattle.board_event_model.specs.EventMemory.{CanPerform, Event, IsRight, after};
 ghost use Rattle.board_event.specs.EventTable.{AreLeft, LosesName, changed, event_at, freed, listened, names_of, empty_table, named_with, settled, with_gone, with_names, with_notifier, without_event, without_listener, without_notifier};
 
 use crate::event_memory::EventMemory;
 use board_event_model::{EventAccess, EventAnswer, EventKind};
-use board_names::FilePath;
-use board_store::Table;
+use board_names::{FilePath, Table};
 use std::alloc::Global;
 use std::collections::BTreeMap;
 use std::marker::Model;

@@ -1,7 +1,7 @@
 //! Events by their numbers and names.
 ghost use Rattle.std.specs.Prelude.{◌≡◌, ◌<◌, ◌^◌, ◌↔◌, ℕ, true, is_some, IfOk, IfSome, IsSome, IsSomeAnd, IsTrue, OnOk, OnErr, Some};
 ghost use Rattle.board_layout.specs.Answer.{Answers, Refuses};
-ghost use Rattle.board_store.specs.Table.{at, name_at, without};
+ghost use Rattle.board_names.specs.Table.{at, name_at, without};
 ghost use Rattle.board_event_model.specs.EventMemory.{CanPerform, Event, IsRight, after};
 ghost use Rattle.board_event.specs.EventTable.{HoldsName, IsEventTable, IsNotifierAnswer, changed, event_at, listen_answer, listened, names_of, empty_table, notifier_of, settled, with_gone, with_names, with_notifier, without_listener, without_notifier};
 

@@ -1,8 +1,7 @@
 -- Monitored names, and what their calls answer.
 use Rattle.std.specs.Prelude.{ℕ, List, Option, Some, None, Result, Ok, Err, is_some, if◌then◌else◌}
-use Rattle.board_names.specs.declared.configuration.Configuration.{Configuration}
-use Rattle.board_names.specs.Configuration.{full_name}
-use Rattle.board_store.specs.Table.{at, putting, taking}
+use Rattle.board_names.specs.Concept.{Named, Placed, path_of, placed}
+use Rattle.board_names.specs.Table.{at, putting, taking}
 use Rattle.board_layout.specs.Answer.{with_value}
 use Rattle.board_monitoring.specs.declared.monitors.Life.{Life}
 use Rattle.board_monitoring.specs.declared.monitors.Life.TheVariants.{Alive, Dead, OwnedByCleaner}
@@ -21,12 +20,16 @@ Lives = List (List ℕ × Life)
 abbrev pub marked : Lives → List ℕ → Lives
 marked lives name = if is_some (at lives name) then putting lives name Dead else lives
 
--- the names after a cleaner asked for one of them, by what stands there
-abbrev pub claimed : Lives → List ℕ → Option Life → Lives
-claimed lives name (Some Dead) = putting lives name OwnedByCleaner
-claimed lives name (Some Alive) = lives
-claimed lives name (Some OwnedByCleaner) = lives
-claimed lives name None = lives
+-- the names with one of them claimed, by what stands there
+abbrev pub claimed_by : Lives → List ℕ → Option Life → Lives
+claimed_by lives name (Some Dead) = putting lives name OwnedByCleaner
+claimed_by lives name (Some Alive) = lives
+claimed_by lives name (Some OwnedByCleaner) = lives
+claimed_by lives name None = lives
+
+-- the names after a cleaner asked for one of them
+abbrev pub claimed : Lives → List ℕ → Lives
+claimed lives name = claimed_by lives name (at lives name)
 
 -- what a monitor sees, by what stands there
 abbrev pub state_of : Option Life → State
@@ -46,19 +49,10 @@ cleaner_answer (Some Alive) = Err InstanceStillAlive
 cleaner_answer (Some OwnedByCleaner) = Err AlreadyOwnedByAnotherInstance
 cleaner_answer (Some Dead) = Ok tt
 
--- what clauses see of a token, of a monitor and of a cleaner
-pub record Watched : Type 0 where
-  pub name : List ℕ
-  pub path : List ℕ
+-- what a builder's `token` answers over these names
+abbrev pub token_of : Named → Lives → Result Placed MonitoringCreateTokenError
+token_of asked lives = taking (placed asked) AlreadyExists (at lives (path_of asked))
 
--- the token, monitor or cleaner that a builder of this name makes
-abbrev pub watched : List ℕ → Configuration → Watched
-watched name config = record { name = name; path = full_name config name }
-
--- what a builder's `token` answers
-abbrev pub token_of : Watched → Option Life → Result Watched MonitoringCreateTokenError
-token_of made = taking made AlreadyExists
-
--- what a builder's `cleaner` answers
-abbrev pub cleaner_of : Watched → Option Life → Result Watched MonitoringCreateCleanerError
-cleaner_of made life = with_value (λ u. made) (cleaner_answer life)
+-- what a builder's `cleaner` answers over these names
+abbrev pub cleaner_of : Named → Lives → Result Placed MonitoringCreateCleanerError
+cleaner_of asked lives = with_value (λ u. placed asked) (cleaner_answer (at lives (path_of asked)))

@@ -1,16 +1,17 @@
 //! Monitoring: whether who took a name still lives.
 //!
-//! `Monitors` is the table: a name is alive, dead, or owned by a cleaner (`specs/Monitors`).
+//! `Monitors` is the table: a name is alive, dead, or owned by a cleaner (`specs/Monitors`). `Token` and `Cleaner` are
+//! both a `Holder`.
 //!
-//! A typed call takes the lock of its registry and does what its lent form does, whose name ends in `_in`. The lent
-//! form has the same answers over the value behind the lock, and its contract says them.
+//! A typed call takes its registry's lock and calls its lent form, whose name ends in `_in` and whose contract says the
+//! answers.
 #![tactic(auto)]
 
 mod cleaner;
+mod holder;
 mod monitor;
 pub mod monitoring;
 mod monitoring_builder;
-mod monitoring_registry;
 mod monitors;
 mod process_local_monitoring;
 #[cfg(test)]
@@ -23,7 +24,6 @@ pub use monitoring::{
     Monitoring, MonitoringBuilder, MonitoringCleaner, MonitoringMonitor, MonitoringToken, State,
 };
 pub use monitoring_builder::Builder;
-pub use monitoring_registry::MonitoringRegistry;
-pub use monitors::{Life, Monitors};
+pub use monitors::{Life, MonitoringRegistry, Monitors};
 pub use process_local_monitoring::ProcessLocalMonitoring;
 pub use token::Token;

@@ -1,40 +1,33 @@
 //! One who watches a name.
 ghost use Rattle.std.specs.Prelude.{◌≡◌, ℕ, List, Ok};
-ghost use Rattle.board_store.specs.Table.{at};
+ghost use Rattle.board_names.specs.Table.{at};
 ghost use Rattle.board_monitoring.specs.Monitors.{state_of};
 
 use crate::monitoring::{MonitoringMonitor, State};
-use crate::monitoring_registry::MonitoringRegistry;
 use crate::monitors::Monitors;
-use board_names::{FileName, FilePath, MonitoringStateError, NamedConcept};
+use board_names::{FileName, MonitoringStateError, NamePlace, NamedConcept};
 use std::marker::Model;
 use std::sync::Wait;
 
 /// One who watches a name. Clauses see the name and the full name.
 #[derive(Drop)]
 pub struct Monitor {
-    name: FileName,
-    path: FilePath,
-    registry: MonitoringRegistry,
+    place: NamePlace<Monitors>,
 }
 
 impl Model for Monitor {
-    ghost use Rattle.board_monitoring.specs.Monitors.{Watched};
+    ghost use Rattle.board_names.specs.Concept.{Placed};
 
-    ghost Value = { Watched };
+    ghost Value = { Placed };
 
-    ghost view = { λ m. record { name = m.name; path = m.path } };
+    ghost view = { λ m. m.place };
 }
 
 impl Monitor {
-    pub(crate) fn at(name: FileName, path: FilePath, registry: MonitoringRegistry) -> Monitor
-        ensures { result ≡ record { name = name; path = path } }
+    pub(crate) fn at(place: NamePlace<Monitors>) -> Monitor
+        ensures { result ≡ place }
     {
-        Monitor {
-            name,
-            path,
-            registry,
-        }
+        Monitor { place }
     }
 
     /// `state` over the names themselves.
@@ -45,7 +38,7 @@ impl Monitor {
         ensures answer { result ≡ Ok (state_of (at state.old self.now.path)) }
         ensures stays { state.new ≡ state.old }
     {
-        Ok(state.state(&self.path))
+        Ok(state.state(self.place.path()))
     }
 }
 
@@ -53,13 +46,13 @@ impl NamedConcept for Monitor {
     ghost name_of = { λ m. m.name };
 
     fn name(&self) -> &FileName {
-        &self.name
+        self.place.name()
     }
 }
 
 impl MonitoringMonitor for Monitor {
     fn state<R: Wait>(&self, rt: &R) -> Result<State, MonitoringStateError> {
-        let mut state = self.registry.state.lock(rt);
+        let mut state = self.place.lock(rt);
         self.state_in(&mut state)
     }
 }

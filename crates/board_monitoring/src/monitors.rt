@@ -1,12 +1,15 @@
 //! Monitored names.
 ghost use Rattle.std.specs.Prelude.{◌≡◌, ℕ, List, [], ◌∷◌, Some, None, Ok, Err, OnOk, OnErr, is_some, IfOk, length};
 ghost use Rattle.board_layout.specs.Answer.{Answers, Refuses};
-ghost use Rattle.board_store.specs.Table.{at, putting, without, name_at};
+ghost use Rattle.board_names.specs.Table.{at, putting};
+ghost use Rattle.board_names.specs.declared.errors.monitoring.MonitoringCreateTokenError.TheVariants.{OutOfMemory};
 ghost use Rattle.board_monitoring.specs.Monitors.{state_of, token_answer, cleaner_answer, marked, claimed};
 
 use crate::monitoring::State;
-use board_names::{FilePath, MonitoringCreateCleanerError, MonitoringCreateTokenError};
-use board_store::Table;
+use board_names::{
+    FilePath, MonitoringCreateCleanerError, MonitoringCreateTokenError, NameTable,
+    NamedConceptDoesExistError, Registry, Table,
+};
 use std::alloc::Global;
 use std::collections::BTreeMap;
 use std::marker::Model;
@@ -25,7 +28,7 @@ pub enum Life {
 /// Monitored names. Clauses see the pairs of name and life, in the order of the names.
 #[derive(Drop)]
 pub struct Monitors {
-    pub(crate) names: Table<Life>,
+    names: Table<Life>,
 }
 
 impl Model for Monitors {
@@ -38,21 +41,12 @@ impl Model for Monitors {
 }
 
 impl Monitors {
-    /// No names. Takes no memory.
-    pub fn new(alloc: Global) -> Monitors
-        ensures { result ≡ [] }
-    {
-        Monitors {
-            names: BTreeMap::new(alloc),
-        }
-    }
-
     /// Takes a name for a token.
     ///
     /// # Errors
     /// `AlreadyExists` where the name is held; `OutOfMemory`. The names stay as they were.
     pub fn token(&mut self, name: &FilePath) -> Result<(), MonitoringCreateTokenError>
-        ensures answer { Answers result MonitoringCreateTokenError.OutOfMemory (token_answer (at self.old name.now)) }
+        ensures answer { Answers result OutOfMemory (token_answer (at self.old name.now)) }
         ensures refused { Refuses result (token_answer (at self.old name.now)) }
         ensures ok { OnOk result (self.new ≡ putting self.old name.now Life.Alive) }
         ensures err { OnErr result (self.new ≡ self.old) }
@@ -73,7 +67,7 @@ impl Monitors {
     /// they were.
     pub fn cleaner(&mut self, name: &FilePath) -> Result<(), MonitoringCreateCleanerError>
         ensures answer { result ≡ cleaner_answer (at self.old name.now) }
-        ensures after { self.new ≡ claimed self.old name.now (at self.old name.now) }
+        ensures after { self.new ≡ claimed self.old name.now }
     {
         match self.names.get(name).copied() {
             None => Err(MonitoringCreateCleanerError::DoesNotExist),
@@ -116,19 +110,33 @@ impl Monitors {
         };
         true
     }
+}
 
-    /// Lets a name go, and tells whether it was held.
-    pub fn remove(&mut self, name: &FilePath) -> bool
-        ensures value { result ≡ is_some (at self.old name.now) }
-        ensures after { self.new ≡ without self.old name.now }
-    {
+impl NameTable for Monitors {
+    type Value = Life;
+
+    ghost entries = { λ m. m };
+
+    ghost existence = { λ one. Ok (is_some one) };
+
+    fn new(alloc: Global) -> Monitors {
+        Monitors {
+            names: BTreeMap::new(alloc),
+        }
+    }
+
+    fn table(&self) -> &Table<Life> {
+        &self.names
+    }
+
+    fn does_exist(&self, name: &FilePath) -> Result<bool, NamedConceptDoesExistError> {
+        Ok(self.names.contains_key(name))
+    }
+
+    fn remove(&mut self, name: &FilePath) -> bool {
         self.names.remove(name).is_some()
     }
-
-    /// The name at an index, counted from 0 in the order of the names.
-    pub fn name_at(&self, index: usize) -> Option<FilePath>
-        ensures { result ≡ name_at self.now index }
-    {
-        self.names.keys().nth(index).copied()
-    }
 }
+
+/// Monitored names that many values share, behind a lock.
+pub type MonitoringRegistry = Registry<Monitors>;

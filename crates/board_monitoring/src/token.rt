@@ -1,39 +1,35 @@
 //! The holder of a monitored name.
 ghost use Rattle.std.specs.Prelude.{◌≡◌, ℕ, List};
-ghost use Rattle.board_store.specs.Table.{without};
+ghost use Rattle.board_names.specs.Table.{without};
 ghost use Rattle.board_monitoring.specs.Monitors.{marked};
 
+use crate::holder::Holder;
 use crate::monitoring::MonitoringToken;
-use crate::monitoring_registry::MonitoringRegistry;
 use crate::monitors::Monitors;
-use board_names::{FileName, FilePath, NamedConcept};
+use board_names::{FileName, NamePlace, NamedConcept};
 use std::marker::Model;
 use std::sync::Wait;
 
 /// The holder of a monitored name. Clauses see the name and the full name.
 #[derive(Drop)]
 pub struct Token {
-    name: FileName,
-    path: FilePath,
-    registry: MonitoringRegistry,
+    holder: Holder,
 }
 
 impl Model for Token {
-    ghost use Rattle.board_monitoring.specs.Monitors.{Watched};
+    ghost use Rattle.board_names.specs.Concept.{Placed};
 
-    ghost Value = { Watched };
+    ghost Value = { Placed };
 
-    ghost view = { λ t. record { name = t.name; path = t.path } };
+    ghost view = { λ t. t.holder };
 }
 
 impl Token {
-    pub(crate) fn at(name: FileName, path: FilePath, registry: MonitoringRegistry) -> Token
-        ensures { result ≡ record { name = name; path = path } }
+    pub(crate) fn at(place: NamePlace<Monitors>) -> Token
+        ensures { result ≡ place }
     {
         Token {
-            name,
-            path,
-            registry,
+            holder: Holder::at(place),
         }
     }
 
@@ -41,26 +37,14 @@ impl Token {
     pub fn abandon_in(self, state: &mut Monitors)
         ensures { state.new ≡ marked state.old self.path }
     {
-        self.leave(state);
+        self.holder.leave_in(state);
     }
 
     /// `release` over the names themselves.
     pub fn release_in(self, state: &mut Monitors)
         ensures { state.new ≡ without state.old self.path }
     {
-        self.let_go(state);
-    }
-
-    fn leave(&self, state: &mut Monitors)
-        ensures { state.new ≡ marked state.old self.now.path }
-    {
-        let _ = state.mark_dead(&self.path);
-    }
-
-    fn let_go(&self, state: &mut Monitors)
-        ensures { state.new ≡ without state.old self.now.path }
-    {
-        let _ = state.remove(&self.path);
+        self.holder.release_in(state);
     }
 }
 
@@ -68,18 +52,16 @@ impl NamedConcept for Token {
     ghost name_of = { λ t. t.name };
 
     fn name(&self) -> &FileName {
-        &self.name
+        self.holder.name()
     }
 }
 
 impl MonitoringToken for Token {
     fn abandon<R: Wait>(self, rt: &R) {
-        let mut state = self.registry.state.lock(rt);
-        self.leave(&mut state);
+        self.holder.leave(rt);
     }
 
     fn release<R: Wait>(self, rt: &R) {
-        let mut state = self.registry.state.lock(rt);
-        self.let_go(&mut state);
+        self.holder.release(rt);
     }
 }

@@ -1,3 +1,4 @@
+pub mod Table
 pub mod Names
 pub mod Configuration
 pub mod Concept

@@ -1,6 +1,7 @@
 //! A text of letters, digits, `-` and `_`.
 ghost use Rattle.std.specs.Prelude.{◌≡◌, ℕ, ◌+◌, ◌-◌, ◌<◌, ◌≤◌, ◌↔◌, List, [], ◌∷◌, length, IsTrue, Ok, IfOk, IsErrOf};
-ghost use Rattle.board_names.specs.Names.{IsBase64Url};
+ghost use Rattle.board_names.specs.Names.{FitsAndBreaks, IsBase64Url};
+ghost use Rattle.board_names.specs.declared.errors.concept.SemanticStringError.TheVariants.{ExceedsMaximumLength, InvalidContent};
 ghost use Rattle.std.specs.Cmp.Rules.{hashing};
 ghost use Rattle.std.specs.Hash as fed;
 ghost use Rattle.std.proofs.Common.{rules};
@@ -38,8 +39,8 @@ impl Base64Url {
     /// # Errors
     /// `ExceedsMaximumLength` where there are more than 255; else `InvalidContent` where they break the rule.
     pub fn new(value: &[u8]) -> Result<Base64Url, SemanticStringError>
-        ensures long { IsErrOf result SemanticStringError.ExceedsMaximumLength ↔ (255 < length value.now) }
-        ensures content { IsErrOf result SemanticStringError.InvalidContent ↔ ((length value.now ≤ 255) × ¬ IsBase64Url value.now) }
+        ensures long { IsErrOf result ExceedsMaximumLength ↔ (255 < length value.now) }
+        ensures content { IsErrOf result InvalidContent ↔ FitsAndBreaks 255 IsBase64Url value.now }
         ensures accepted { IsBase64Url value.now → result ≡ Ok value.now }
         ensures ok { IfOk result (λ n. (n ≡ value.now) × IsBase64Url value.now) }
     {

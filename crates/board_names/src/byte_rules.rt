@@ -1,7 +1,8 @@
 //! Which bytes the texts may have.
 ghost use Rattle.std.specs.Prelude.{◌≡◌, ℕ, ◌+◌, ◌<◌, ◌≤◌, ◌↔◌, ◌&&◌, nat_le, List, [], ◌∷◌, length, IsTrue};
 ghost use Rattle.std.specs.List.{list_all};
-ghost use Rattle.board_names.specs.Names.{IsFileName, IsPath, IsServiceName, IsNodeName, IsBase64Url, is_file_byte, is_path_byte, is_printable, is_base64url_byte};
+ghost use Rattle.board_layout.specs.Types.{is_printable};
+ghost use Rattle.board_names.specs.Names.{IsFileName, IsPath, IsServiceName, IsNodeName, IsBase64Url, is_file_byte, is_path_byte, is_base64url_byte};
 
 /// Whether these bytes make a `FileName`.
 pub(crate) fn is_file_name(value: &[u8]) -> bool

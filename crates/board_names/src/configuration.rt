@@ -9,7 +9,7 @@ use crate::path::Path;
 use board_layout::Text;
 
 /// The parts that are put round a name: `path_hint`, a slash, `prefix`, the name, `suffix`.
-#[derive(Clone, Debug, PartialEq, Eq, Drop)]
+#[derive(Clone, Copy, Debug, PartialEq, Eq)]
 pub struct Configuration {
     pub prefix: FileName,
     pub suffix: FileName,

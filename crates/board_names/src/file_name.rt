@@ -1,6 +1,7 @@
 //! The name of a file.
 ghost use Rattle.std.specs.Prelude.{◌≡◌, ℕ, ◌+◌, ◌-◌, ◌<◌, ◌≤◌, ◌↔◌, List, [], ◌∷◌, length, IsTrue, Ok, IfOk, IsErrOf};
-ghost use Rattle.board_names.specs.Names.{IsFileName};
+ghost use Rattle.board_names.specs.Names.{FitsAndBreaks, IsFileName};
+ghost use Rattle.board_names.specs.declared.errors.concept.SemanticStringError.TheVariants.{ExceedsMaximumLength, InvalidContent};
 
 use crate::byte_rules::is_file_name;
 use crate::errors::concept::SemanticStringError;
@@ -34,8 +35,8 @@ impl FileName {
     /// # Errors
     /// `ExceedsMaximumLength` where there are more than 255; else `InvalidContent` where they break the rule.
     pub fn new(value: &[u8]) -> Result<FileName, SemanticStringError>
-        ensures long { IsErrOf result SemanticStringError.ExceedsMaximumLength ↔ (255 < length value.now) }
-        ensures content { IsErrOf result SemanticStringError.InvalidContent ↔ ((length value.now ≤ 255) × ¬ IsFileName value.now) }
+        ensures long { IsErrOf result ExceedsMaximumLength ↔ (255 < length value.now) }
+        ensures content { IsErrOf result InvalidContent ↔ FitsAndBreaks 255 IsFileName value.now }
         ensures accepted { IsFileName value.now → result ≡ Ok value.now }
         ensures ok { IfOk result (λ n. (n ≡ value.now) × IsFileName value.now) }
     {

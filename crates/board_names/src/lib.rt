@@ -1,4 +1,5 @@
-//! The names that things carry, how they are spelled, the traits that all named things share, and the errors of every layer.
+//! The names that things carry, how they are spelled, the tables and registries that hold them, the traits that all named
+//! things share, and the errors of every layer.
 //!
 //! Errors stand here, below the definitions, since the definitions answer with these very enums (`errors/`, a file a
 //! subject). A file name is spelled from a name by a `Configuration`, and a name is read back from it:
@@ -8,6 +9,9 @@
 //! let path = config.path_for(&FileName::new(b"door")?);           // /tmp/iceoryx2/iox2_door.event
 //! assert_eq!(config.extract_name_from_path(&path), Some(door));
 //! ```
+//!
+//! What stands under such names is a `NameTable`: pairs of a full name and a value (`specs/Table`). A `Registry` shares it
+//! behind a lock. `NamedConceptMgmt` has the calls on all names of a table, once for all concepts.
 #![tactic(auto)]
 
 mod base64url;
@@ -18,10 +22,13 @@ mod errors;
 mod file_name;
 mod file_path;
 mod laws;
+mod name_place;
 mod named_concept;
 mod node_name;
 mod path;
+mod registry;
 mod service_name;
+mod table;
 #[cfg(test)]
 mod tests;
 mod trigger_id;
@@ -61,8 +68,11 @@ pub use errors::static_storage::{
 pub use file_name::FileName;
 pub use file_path::FilePath;
 pub use laws::path_and_back;
+pub use name_place::{NamePlace, NameRequest};
 pub use named_concept::{NamedConcept, NamedConceptBuilder, NamedConceptMgmt};
 pub use node_name::NodeName;
 pub use path::Path;
+pub use registry::Registry;
 pub use service_name::ServiceName;
+pub use table::{NameTable, Table, list_names};
 pub use trigger_id::{EventId, TriggerId};

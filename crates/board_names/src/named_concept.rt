@@ -1,14 +1,20 @@
 //! What all named things share: a name, a builder, and the calls on all things of one kind.
-ghost use Rattle.std.specs.Prelude.{◌≡◌, ℕ, List, Ok, IfOk, codes};
+ghost use Rattle.std.specs.Prelude.{◌≡◌, ℕ, List, Option, Ok, is_some, IfOk, IsOk, IsOkUnless, codes};
+ghost use Rattle.std.specs.Map.{keys_of};
 ghost use Rattle.board_names.specs.Concept.{Named};
+ghost use Rattle.board_names.specs.Configuration.{full_name};
+ghost use Rattle.board_names.specs.Extraction.{Lists};
+ghost use Rattle.board_names.specs.Table.{at, without};
 
-use crate::configuration::Configuration;
+use crate::configuration::{Configuration, NamedConceptConfiguration};
 use crate::errors::concept::{
     NamedConceptDoesExistError, NamedConceptListError, NamedConceptPathHintRemoveError,
     NamedConceptRemoveError, RegistryError,
 };
 use crate::file_name::FileName;
 use crate::path::Path;
+use crate::registry::Registry;
+use crate::table::{NameTable, list_names};
 use std::alloc::Global;
 use std::sync::Wait;
 
@@ -36,12 +42,62 @@ pub trait NamedConceptBuilder: Sized {
 
     /// The builder with this configuration.
     fn config(self, config: &Configuration) -> Self
-        ensures { named result ≡ record { name = (named self).name; config = config.now } };
+        ensures { named result ≡ record (named self) { config = config.now } };
 }
 
 /// The calls on all values of one kind in a registry.
+///
+/// A typed call takes the registry's lock and calls its lent form, whose name ends in `_in`. The lent form has the same
+/// answers over the names themselves, and its contract says them.
 pub trait NamedConceptMgmt {
-    type Registry;
+    /// What stands under the names.
+    type Names: NameTable + Drop;
+
+    /// `does_exist_cfg` over the names themselves.
+    ///
+    /// # Errors
+    /// `UnderlyingResourcesBeingSetUp` where the name is that of a locked static storage.
+    fn does_exist_cfg_in(
+        state: &mut Self::Names,
+        name: &FileName,
+        cfg: &Configuration,
+    ) -> Result<bool, NamedConceptDoesExistError>
+        ensures answer { result ≡ Self.Names.existence (at (Self.Names.entries state.old) (full_name cfg.now name.now)) }
+        ensures stays { state.new ≡ state.old }
+    {
+        state.does_exist(&cfg.path_for(name))
+    }
+
+    /// `list_cfg` over the names themselves.
+    ///
+    /// # Errors
+    /// `OutOfMemory`.
+    fn list_cfg_in(
+        state: &mut Self::Names,
+        alloc: Global,
+        cfg: &Configuration,
+    ) -> Result<Vec<FileName>, NamedConceptListError>
+        ensures names { IfOk result (λ names. Lists cfg.now (keys_of (Self.Names.entries state.old)) names.items) }
+        ensures memory { IsOkUnless result NamedConceptListError.OutOfMemory }
+        ensures stays { state.new ≡ state.old }
+    {
+        list_names(alloc, state.table(), cfg)
+    }
+
+    /// `remove_cfg` over the names themselves.
+    ///
+    /// # Errors
+    /// None: it is never refused.
+    fn remove_cfg_in(
+        state: &mut Self::Names,
+        name: &FileName,
+        cfg: &Configuration,
+    ) -> Result<bool, NamedConceptRemoveError>
+        ensures answer { result ≡ Ok (is_some (at (Self.Names.entries state.old) (full_name cfg.now name.now))) }
+        ensures after { Self.Names.entries state.new ≡ without (Self.Names.entries state.old) (full_name cfg.now name.now) }
+    {
+        Ok(state.remove(&cfg.path_for(name)))
+    }
 
     /// Whether the name is held.
     ///
@@ -49,10 +105,15 @@ pub trait NamedConceptMgmt {
     /// `UnderlyingResourcesBeingSetUp` where the name is that of a locked static storage.
     fn does_exist_cfg<R: Wait>(
         rt: &R,
-        registry: &Self::Registry,
+        registry: &Registry<Self::Names>,
         name: &FileName,
         cfg: &Configuration,
-    ) -> Result<bool, NamedConceptDoesExistError>;
+    ) -> Result<bool, NamedConceptDoesExistError>
+        ensures { (one : Option Self.Names.Value) × (result ≡ Self.Names.existence one) }
+    {
+        let mut state = registry.lock(rt);
+        Self::does_exist_cfg_in(&mut state, name, cfg)
+    }
 
     /// The names that are held under this configuration, in the order of full names.
     ///
@@ -61,9 +122,14 @@ pub trait NamedConceptMgmt {
     fn list_cfg<R: Wait>(
         rt: &R,
         alloc: Global,
-        registry: &Self::Registry,
+        registry: &Registry<Self::Names>,
         cfg: &Configuration,
-    ) -> Result<Vec<FileName>, NamedConceptListError>;
+    ) -> Result<Vec<FileName>, NamedConceptListError>
+        ensures { IsOkUnless result NamedConceptListError.OutOfMemory }
+    {
+        let mut state = registry.lock(rt);
+        Self::list_cfg_in(&mut state, alloc, cfg)
+    }
 
     /// Lets the name go, and tells whether it was held.
     ///
@@ -73,10 +139,15 @@ pub trait NamedConceptMgmt {
     /// None: it is never refused.
     fn remove_cfg<R: Wait>(
         rt: &R,
-        registry: &Self::Registry,
+        registry: &Registry<Self::Names>,
         name: &FileName,
         cfg: &Configuration,
-    ) -> Result<bool, NamedConceptRemoveError>;
+    ) -> Result<bool, NamedConceptRemoveError>
+        ensures { IsOk result }
+    {
+        let mut state = registry.lock(rt);
+        Self::remove_cfg_in(&mut state, name, cfg)
+    }
 
     /// A path hint has nothing to remove.
     ///

@@ -1,6 +1,7 @@
 //! The name of a node.
 ghost use Rattle.std.specs.Prelude.{◌≡◌, ℕ, ◌+◌, ◌-◌, ◌<◌, ◌≤◌, ◌↔◌, List, [], ◌∷◌, length, IsTrue, Ok, IfOk, IsErrOf};
-ghost use Rattle.board_names.specs.Names.{IsNodeName};
+ghost use Rattle.board_names.specs.Names.{FitsAndBreaks, IsNodeName};
+ghost use Rattle.board_names.specs.declared.errors.concept.SemanticStringError.TheVariants.{ExceedsMaximumLength, InvalidContent};
 
 use crate::byte_rules::is_node_name;
 use crate::constants::MAX_NODE_NAME_LENGTH;
@@ -35,8 +36,8 @@ impl NodeName {
     /// # Errors
     /// `ExceedsMaximumLength` where it has more than 128 bytes; else `InvalidContent` where it breaks the rule.
     pub fn new(value: &str) -> Result<NodeName, SemanticStringError>
-        ensures long { IsErrOf result SemanticStringError.ExceedsMaximumLength ↔ (128 < length value.now) }
-        ensures content { IsErrOf result SemanticStringError.InvalidContent ↔ ((length value.now ≤ 128) × ¬ IsNodeName value.now) }
+        ensures long { IsErrOf result ExceedsMaximumLength ↔ (128 < length value.now) }
+        ensures content { IsErrOf result InvalidContent ↔ FitsAndBreaks 128 IsNodeName value.now }
         ensures accepted { IsNodeName value.now → result ≡ Ok value.now }
         ensures ok { IfOk result (λ n. (n ≡ value.now) × IsNodeName value.now) }
     {

@@ -1,6 +1,7 @@
 //! The name of a service.
 ghost use Rattle.std.specs.Prelude.{◌≡◌, ℕ, ◌+◌, ◌-◌, ◌<◌, ◌≤◌, ◌↔◌, List, [], ◌∷◌, length, IsTrue, Ok, IfOk, IsErrOf};
-ghost use Rattle.board_names.specs.Names.{IsServiceName};
+ghost use Rattle.board_names.specs.Names.{FitsAndBreaks, IsServiceName};
+ghost use Rattle.board_names.specs.declared.errors.concept.SemanticStringError.TheVariants.{ExceedsMaximumLength, InvalidContent};
 ghost use Rattle.std.specs.Cmp.Rules.{hashing};
 ghost use Rattle.std.specs.Hash as fed;
 ghost use Rattle.std.proofs.Common.{rules};
@@ -39,8 +40,8 @@ impl ServiceName {
     /// # Errors
     /// `ExceedsMaximumLength` where it has more than 255 bytes; else `InvalidContent` where it breaks the rule.
     pub fn new(value: &str) -> Result<ServiceName, SemanticStringError>
-        ensures long { IsErrOf result SemanticStringError.ExceedsMaximumLength ↔ (255 < length value.now) }
-        ensures content { IsErrOf result SemanticStringError.InvalidContent ↔ ((length value.now ≤ 255) × ¬ IsServiceName value.now) }
+        ensures long { IsErrOf result ExceedsMaximumLength ↔ (255 < length value.now) }
+        ensures content { IsErrOf result InvalidContent ↔ FitsAndBreaks 255 IsServiceName value.now }
         ensures accepted { IsServiceName value.now → result ≡ Ok value.now }
         ensures ok { IfOk result (λ n. (n ≡ value.now) × IsServiceName value.now) }
     {

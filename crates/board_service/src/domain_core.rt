@@ -12,6 +12,7 @@ mod told;
 use crate::board_row::BoardRow;
 use crate::cells::Cells;
 use crate::counts::Held;
+use board_names::NameTable;
 use board_store::Statics;
 use std::alloc::Global;
 use std::marker::Model;

@@ -1,3 +1,3 @@
-pub mod Table
 pub mod Statics
 pub mod Storage
+pub mod Reading

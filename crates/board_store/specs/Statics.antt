@@ -1,6 +1,6 @@
 -- Static storages, and what their calls answer.
 use Rattle.std.specs.Prelude.{ℕ, List, Option, Some, None, Result, Ok, Err, Bool, true, false, option_map}
-use Rattle.board_store.specs.Table.{at, taking}
+use Rattle.board_names.specs.Table.{at, taking}
 use Rattle.board_store.specs.declared.statics.Stored.{Stored}
 use Rattle.board_store.specs.declared.statics.Stored.TheVariants.{Locked, Final}
 use Rattle.board_names.specs.declared.errors.static_storage.StaticStorageCreateError.{StaticStorageCreateError}

@@ -1,10 +1,9 @@
 -- What clauses see of a builder and of what it makes, and what their calls answer.
-use Rattle.std.specs.Prelude.{◌≡◌, ◌⊎◌, ℕ, List, Bool, true, false, Option, if◌then◌else◌, Some, None, Result, Ok, Err}
-use Rattle.board_names.specs.declared.configuration.Configuration.{Configuration}
-use Rattle.board_names.specs.Configuration.{full_name}
-use Rattle.board_store.specs.Table.{putting, without, taking}
+use Rattle.std.specs.Prelude.{◌≡◌, ◌⊎◌, ℕ, List, Bool, true, false, Option, Some, None, Result, Ok, Err}
+use Rattle.board_names.specs.Concept.{Named, Placed, path_of, placed}
+use Rattle.board_names.specs.Table.{at, putting, taking}
 use Rattle.board_layout.specs.Answer.{with_value}
-use Rattle.board_store.specs.Statics.{Storages, open_answer, unlock_answer}
+use Rattle.board_store.specs.Statics.{Storages, locked_of, open_answer, unlock_answer}
 use Rattle.board_store.specs.declared.statics.Stored.{Stored}
 use Rattle.board_store.specs.declared.statics.Stored.TheVariants.{Locked, Final}
 use Rattle.board_names.specs.declared.errors.static_storage.StaticStorageCreateError.{StaticStorageCreateError}
@@ -16,73 +15,58 @@ use Rattle.board_names.specs.declared.errors.concept.NamedConceptDoesExistError.
 
 -- a builder
 pub record BuilderView : Type 0 where
-  pub name : List ℕ
-  pub config : Configuration
+  pub named : Named
   pub owns : Bool
 
 -- a storage that is still to be filled
 pub record LockedView : Type 0 where
-  pub name : List ℕ
-  pub path : List ℕ
+  pub place : Placed
   pub owns : Bool
 
 -- a storage that has its bytes
 pub record StorageView : Type 0 where
-  pub name : List ℕ
-  pub path : List ℕ
+  pub place : Placed
   pub owns : Bool
   pub bytes : List ℕ
 
--- the full name of what a builder makes
-abbrev pub path_of : BuilderView → List ℕ
-path_of b = full_name b.config b.name
-
 -- the storage that a builder makes with these bytes
 abbrev pub storage_of : BuilderView → List ℕ → StorageView
-storage_of b bytes = record { name = b.name; path = path_of b; owns = b.owns; bytes = bytes }
+storage_of b bytes = record { place = placed b.named; owns = b.owns; bytes = bytes }
 
 -- the locked storage that a builder makes
 abbrev pub locked_of_builder : BuilderView → LockedView
-locked_of_builder b = record { name = b.name; path = path_of b; owns = b.owns }
+locked_of_builder b = record { place = placed b.named; owns = b.owns }
 
 -- a locked storage with these bytes
 abbrev pub filled : LockedView → List ℕ → StorageView
-filled l bytes = record { name = l.name; path = l.path; owns = l.owns; bytes = bytes }
+filled l bytes = record { place = l.place; owns = l.owns; bytes = bytes }
 
--- the full name that the taking of a name answers
-abbrev pub take_answer : BuilderView → Option Stored → Result (List ℕ) StaticStorageCreateError
-take_answer b = taking (path_of b) AlreadyExists
+-- what `create` answers over these storages
+abbrev pub create_storage_answer : BuilderView → List ℕ → Storages → Result StorageView StaticStorageCreateError
+create_storage_answer b contents storages = taking (storage_of b contents) AlreadyExists (at storages (path_of b.named))
 
--- the content that `create` answers
-abbrev pub create_content_answer : List ℕ → Option Stored → Result (List ℕ) StaticStorageCreateError
-create_content_answer contents = taking contents AlreadyExists
-
--- what `create` answers
-abbrev pub create_storage_answer : BuilderView → List ℕ → Option Stored → Result StorageView StaticStorageCreateError
-create_storage_answer b contents = taking (storage_of b contents) AlreadyExists
+-- the content that `create` keeps
+abbrev pub create_content_answer : BuilderView → List ℕ → Storages → Result (List ℕ) StaticStorageCreateError
+create_content_answer b contents storages = taking contents AlreadyExists (at storages (path_of b.named))
 
 -- the storages stay, or the name is locked
 abbrev pub StaysOrIsLocked : Storages → Storages → List ℕ → Type 0
 StaysOrIsLocked old new name = (new ≡ old) ⊎ (new ≡ putting old name Locked)
 
--- what `create_locked` answers
-abbrev pub create_locked_answer : BuilderView → Option Stored → Result LockedView StaticStorageCreateError
-create_locked_answer b = taking (locked_of_builder b) AlreadyExists
+-- what `create_locked` answers over these storages
+abbrev pub create_locked_answer : BuilderView → Storages → Result LockedView StaticStorageCreateError
+create_locked_answer b storages = taking (locked_of_builder b) AlreadyExists (at storages (path_of b.named))
 
--- what one look of `open` answers
-abbrev pub open_storage_answer : BuilderView → Option Stored → Result StorageView StaticStorageOpenError
-open_storage_answer b one = with_value (storage_of b) (open_answer one)
+-- what one look of `open` answers over these storages
+abbrev pub open_storage_answer : BuilderView → Storages → Result StorageView StaticStorageOpenError
+open_storage_answer b storages = with_value (storage_of b) (open_answer (at storages (path_of b.named)))
 
--- what `unlock` answers
-abbrev pub unlock_storage_answer : LockedView → List ℕ → Option Bool → Result StorageView StaticStorageUnlockError
-unlock_storage_answer l contents locked = with_value (filled l) (unlock_answer contents locked)
+-- what `unlock` answers over these storages
+abbrev pub unlock_storage_answer : LockedView → List ℕ → Storages → Result StorageView StaticStorageUnlockError
+unlock_storage_answer l contents storages = with_value (filled l) (unlock_answer contents (locked_of storages l.place.path))
 
 -- what `does_exist_cfg` answers
 abbrev pub exists_answer : Option Stored → Result Bool NamedConceptDoesExistError
 exists_answer None = Ok false
 exists_answer (Some Locked) = Err UnderlyingResourcesBeingSetUp
 exists_answer (Some (Final bytes)) = Ok true
-
--- the storages after a release
-abbrev pub released : Storages → Bool → List ℕ → Storages
-released s owns name = if owns then without s name else s

@@ -1,21 +1,21 @@
 //! How a static storage is made or opened.
 ghost use Rattle.std.specs.Prelude.{◌≡◌, ℕ, ◌∷◌, ◌++◌, List, Some, None, true, codes, IfOk, OnOk, OnErr, IsErrOf};
 ghost use Rattle.board_layout.specs.Answer.{Answers, Refuses};
-ghost use Rattle.board_names.specs.Configuration.{full_name, started};
-ghost use Rattle.board_store.specs.Table.{at, putting};
-ghost use Rattle.board_store.specs.Statics.{create_answer, open_answer};
-ghost use Rattle.board_store.specs.Storage.{path_of, storage_of, create_storage_answer, create_content_answer, take_answer, locked_of_builder, StaysOrIsLocked, create_locked_answer, open_storage_answer};
+ghost use Rattle.board_names.specs.Concept.{path_of, starting};
+ghost use Rattle.board_names.specs.Table.{at, putting};
+ghost use Rattle.board_names.specs.declared.errors.static_storage.StaticStorageCreateError.TheVariants.{AlreadyExists, OutOfMemory};
+ghost use Rattle.board_store.specs.Statics.{open_answer};
+ghost use Rattle.board_store.specs.Storage.{storage_of, create_storage_answer, create_content_answer, locked_of_builder, StaysOrIsLocked, create_locked_answer, open_storage_answer};
 ghost use Rattle.board_store.specs.declared.statics.Stored.TheVariants.{Locked as Stood, Final};
 
 use crate::content::Content;
 use crate::locked::Locked;
-use crate::registry::StaticRegistry;
 use crate::static_storage::{StaticStorage, StaticStorageBuilder};
-use crate::statics::Statics;
+use crate::statics::{StaticRegistry, Statics};
 use crate::storage::Storage;
 use board_names::{
-    Configuration, FileName, FilePath, NamedConceptBuilder, NamedConceptConfiguration,
-    RegistryError, StaticStorageCreateError, StaticStorageOpenError,
+    Configuration, FileName, NamePlace, NameRequest, NamedConceptBuilder, RegistryError,
+    StaticStorageCreateError, StaticStorageOpenError,
 };
 use std::alloc::Global;
 use std::marker::Model;
@@ -24,10 +24,8 @@ use std::sync::Wait;
 /// A builder of a static storage. Clauses see its name, its configuration and whether what it makes owns the name.
 #[derive(Drop)]
 pub struct Builder {
-    name: FileName,
-    config: Configuration,
+    request: NameRequest<Statics>,
     owns: bool,
-    registry: StaticRegistry,
 }
 
 impl Model for Builder {
@@ -35,7 +33,7 @@ impl Model for Builder {
 
     ghost Value = { BuilderView };
 
-    ghost view = { λ b. record { name = b.name; config = b.config; owns = b.owns } };
+    ghost view = { λ b. record { named = b.request; owns = b.owns } };
 }
 
 impl Builder {
@@ -49,11 +47,11 @@ impl Builder {
         alloc: Global,
         contents: &[u8],
     ) -> Result<Storage, StaticStorageCreateError>
-        ensures answer { Answers result StaticStorageCreateError.OutOfMemory (create_storage_answer self contents.now (at state.old (path_of self))) }
-        ensures refused { Refuses result (create_storage_answer self contents.now (at state.old (path_of self))) }
-        ensures ok { OnOk result (state.new ≡ putting state.old (path_of self) (Final contents.now)) }
-        ensures already { IsErrOf result StaticStorageCreateError.AlreadyExists → state.new ≡ state.old }
-        ensures memory { IsErrOf result StaticStorageCreateError.OutOfMemory → StaysOrIsLocked state.old state.new (path_of self) }
+        ensures answer { Answers result OutOfMemory (create_storage_answer self contents.now state.old) }
+        ensures refused { Refuses result (create_storage_answer self contents.now state.old) }
+        ensures ok { OnOk result (state.new ≡ putting state.old (path_of self.named) (Final contents.now)) }
+        ensures already { IsErrOf result AlreadyExists → state.new ≡ state.old }
+        ensures memory { IsErrOf result OutOfMemory → StaysOrIsLocked state.old state.new (path_of self.named) }
     {
         let content = self.create_content(state, contents)?;
         Ok(self.into_storage(content))
@@ -68,13 +66,14 @@ impl Builder {
         state: &mut Statics,
         alloc: Global,
     ) -> Result<Locked, StaticStorageCreateError>
-        ensures answer { Answers result StaticStorageCreateError.OutOfMemory (create_locked_answer self (at state.old (path_of self))) }
-        ensures refused { Refuses result (create_locked_answer self (at state.old (path_of self))) }
-        ensures ok { OnOk result (state.new ≡ putting state.old (path_of self) Stood) }
+        ensures answer { Answers result OutOfMemory (create_locked_answer self state.old) }
+        ensures refused { Refuses result (create_locked_answer self state.old) }
+        ensures ok { OnOk result (state.new ≡ putting state.old (path_of self.named) Stood) }
         ensures err { OnErr result (state.new ≡ state.old) }
     {
-        let path = self.take(state)?;
-        Ok(Locked::at(self.name, path, self.owns, self.registry))
+        let place = self.request.place();
+        state.create_locked(place.path())?;
+        Ok(Locked::at(place, self.owns))
     }
 
     /// One look of `open`, over the storages themselves.
@@ -82,31 +81,12 @@ impl Builder {
     /// # Errors
     /// `DoesNotExist` where the name isn't held; `InitializationNotYetFinalized` where it is locked; `OutOfMemory`.
     pub fn open_in(self, state: &mut Statics) -> Result<Storage, StaticStorageOpenError>
-        ensures answer { Answers result StaticStorageOpenError.OutOfMemory (open_storage_answer self (at state.old (path_of self))) }
-        ensures refused { Refuses result (open_storage_answer self (at state.old (path_of self))) }
+        ensures answer { Answers result StaticStorageOpenError.OutOfMemory (open_storage_answer self state.old) }
+        ensures refused { Refuses result (open_storage_answer self state.old) }
         ensures stays { state.new ≡ state.old }
     {
         let content = self.look_in(state)?;
         Ok(self.into_storage(content))
-    }
-
-    fn take(&self, state: &mut Statics) -> Result<FilePath, StaticStorageCreateError>
-        ensures answer { Answers result StaticStorageCreateError.OutOfMemory (take_answer self.now (at state.old (path_of self.now))) }
-        ensures refused { Refuses result (take_answer self.now (at state.old (path_of self.now))) }
-        ensures path { IfOk result (λ path. path ≡ path_of self.now) }
-        ensures ok { OnOk result (state.new ≡ putting state.old (path_of self.now) Stood) }
-        ensures err { OnErr result (state.new ≡ state.old) }
-    {
-        let path = self.path();
-        state.create_locked(&path)?;
-        Ok(path)
-    }
-
-    fn take_locking<R: Wait>(&self, rt: &R) -> Result<FilePath, StaticStorageCreateError>
-        ensures { IfOk result (λ path. path ≡ path_of self.now) }
-    {
-        let mut state = self.registry.state.lock(rt);
-        self.take(&mut state)
     }
 
     fn create_locking<R: Wait>(
@@ -116,7 +96,7 @@ impl Builder {
     ) -> Result<Content, StaticStorageCreateError>
         ensures { IfOk result (λ content. content ≡ contents.now) }
     {
-        let mut state = self.registry.state.lock(rt);
+        let mut state = self.request.lock(rt);
         self.create_content(&mut state, contents)
     }
 
@@ -126,13 +106,14 @@ impl Builder {
         contents: &[u8],
     ) -> Result<Content, StaticStorageCreateError>
         ensures value { IfOk result (λ content. content ≡ contents.now) }
-        ensures answer { Answers result StaticStorageCreateError.OutOfMemory (create_content_answer contents.now (at state.old (path_of self.now))) }
-        ensures refused { Refuses result (create_content_answer contents.now (at state.old (path_of self.now))) }
-        ensures ok { OnOk result (state.new ≡ putting state.old (path_of self.now) (Final contents.now)) }
-        ensures already { IsErrOf result StaticStorageCreateError.AlreadyExists → state.new ≡ state.old }
-        ensures memory { IsErrOf result StaticStorageCreateError.OutOfMemory → StaysOrIsLocked state.old state.new (path_of self.now) }
+        ensures answer { Answers result OutOfMemory (create_content_answer self.now contents.now state.old) }
+        ensures refused { Refuses result (create_content_answer self.now contents.now state.old) }
+        ensures ok { OnOk result (state.new ≡ putting state.old (path_of self.now.named) (Final contents.now)) }
+        ensures already { IsErrOf result AlreadyExists → state.new ≡ state.old }
+        ensures memory { IsErrOf result OutOfMemory → StaysOrIsLocked state.old state.new (path_of self.now.named) }
     {
-        let path = self.take(state)?;
+        let path = self.request.path();
+        state.create_locked(&path)?;
         match state.fill(&path, contents) {
             Ok(content) => Ok(content),
             Err(_) => Err(StaticStorageCreateError::OutOfMemory),
@@ -140,15 +121,15 @@ impl Builder {
     }
 
     fn look_in(&self, state: &mut Statics) -> Result<Content, StaticStorageOpenError>
-        ensures answer { Answers result StaticStorageOpenError.OutOfMemory (open_answer (at state.old (path_of self.now))) }
-        ensures refused { Refuses result (open_answer (at state.old (path_of self.now))) }
+        ensures answer { Answers result StaticStorageOpenError.OutOfMemory (open_answer (at state.old (path_of self.now.named))) }
+        ensures refused { Refuses result (open_answer (at state.old (path_of self.now.named))) }
         ensures stays { state.new ≡ state.old }
     {
-        state.try_open(&self.path())
+        state.try_open(&self.request.path())
     }
 
     fn look<R: Wait>(&self, rt: &R) -> Result<Content, StaticStorageOpenError> {
-        let mut state = self.registry.state.lock(rt);
+        let mut state = self.request.lock(rt);
         self.look_in(&mut state)
     }
 
@@ -163,45 +144,37 @@ impl Builder {
         self.look(rt)
     }
 
-    fn path(&self) -> FilePath
-        ensures { result ≡ path_of self.now }
-    {
-        self.config.path_for(&self.name)
-    }
-
     fn into_storage(self, content: Content) -> Storage
         ensures { result ≡ storage_of self content }
     {
-        let path = self.path();
-        Storage::at(self.name, path, self.owns, content, self.registry)
+        Storage::at(self.request.place(), self.owns, content)
     }
+}
+
+fn take<R: Wait>(rt: &R, place: &NamePlace<Statics>) -> Result<(), StaticStorageCreateError> {
+    let mut state = place.lock(rt);
+    state.create_locked(place.path())
 }
 
 impl NamedConceptBuilder for Builder {
     type Registry = StaticRegistry;
 
-    ghost named = { λ b. record { name = b.name; config = b.config } };
+    ghost named = { λ b. b.named };
 
     fn new(name: &FileName, registry: &StaticRegistry) -> Result<Builder, RegistryError>
-        ensures { IfOk result (λ b. b ≡ record { name = name.now; config = started (codes ".static_storage"); owns = true }) }
+        ensures { IfOk result (λ b. b ≡ record { named = starting name.now (codes ".static_storage"); owns = true }) }
     {
-        let registry = registry.share()?;
+        let request = NameRequest::new(name, &Storage::default_suffix(), registry)?;
         Ok(Builder {
-            name: *name,
-            config: Configuration::with_suffix(&Storage::default_suffix()),
+            request,
             owns: true,
-            registry,
         })
     }
 
     fn config(mut self, config: &Configuration) -> Builder
-        ensures { result ≡ record self { config = config.now } }
+        ensures { result ≡ record self { named = record self.named { config = config.now } } }
     {
-        self.config = Configuration {
-            prefix: config.prefix,
-            suffix: config.suffix,
-            path_hint: config.path_hint,
-        };
+        self.request = self.request.with(config);
         self
     }
 }
@@ -239,8 +212,9 @@ impl StaticStorageBuilder for Builder {
     ) -> Result<Locked, StaticStorageCreateError>
         ensures { IfOk result (λ locked. locked ≡ locked_of_builder self) }
     {
-        let path = self.take_locking(rt)?;
-        Ok(Locked::at(self.name, path, self.owns, self.registry))
+        let place = self.request.place();
+        take(rt, &place)?;
+        Ok(Locked::at(place, self.owns))
     }
 
     fn open<R: Wait>(self, rt: &R, polls: u32) -> Result<Storage, StaticStorageOpenError>

@@ -1,5 +1,6 @@
 //! Bytes that many values share.
 ghost use Rattle.std.specs.Prelude.{◌≡◌, ℕ, ◌+◌, ◌-◌, ◌<◌, ◌≤◌, ◌==◌, ◌↔◌, List, [], ◌∷◌, ◌++◌, length, drop, IfOk, IsErrOf, OnOk, OnErr};
+ghost use Rattle.board_store.specs.Reading.{ReadsInto};
 
 use board_names::StaticStorageReadError;
 use std::alloc::{AllocError, Global};
@@ -70,9 +71,7 @@ impl Content {
     /// # Errors
     /// `BufferTooSmall` where the buffer is shorter. It stays as it was.
     pub fn read(&self, buffer: &mut [u8]) -> Result<(), StaticStorageReadError>
-        ensures small { IsErrOf result StaticStorageReadError.BufferTooSmall ↔ (length buffer.old < length self.now) }
-        ensures ok { OnOk result (buffer.new ≡ self.now ++ drop (length self.now) buffer.old) }
-        ensures err { OnErr result ((buffer.new ≡ buffer.old) × (length buffer.old < length self.now)) }
+        ensures { ReadsInto self.now buffer.old buffer.new result }
     {
         let bytes = self.as_bytes();
         if buffer.len() < bytes.len() {

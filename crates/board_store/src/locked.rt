@@ -1,17 +1,16 @@
 //! A static storage that is still to be filled.
 ghost use Rattle.std.specs.Prelude.{◌≡◌, ℕ, List, Bool, IfOk, OnOk, OnErr, IsErrOf};
 ghost use Rattle.board_layout.specs.Answer.{Answers, Refuses};
-ghost use Rattle.board_store.specs.Table.{at, putting, without};
-ghost use Rattle.board_store.specs.Statics.{locked_of};
-ghost use Rattle.board_store.specs.Storage.{filled, unlock_storage_answer, released};
+ghost use Rattle.board_names.specs.Table.{let_go, putting};
+ghost use Rattle.board_names.specs.declared.errors.static_storage.StaticStorageUnlockError.TheVariants.{OutOfMemory};
+ghost use Rattle.board_store.specs.Storage.{filled, unlock_storage_answer};
 ghost use Rattle.board_store.specs.declared.statics.Stored.TheVariants.{Final};
 
 use crate::content::Content;
-use crate::registry::StaticRegistry;
 use crate::static_storage::StaticStorageLocked;
 use crate::statics::Statics;
 use crate::storage::Storage;
-use board_names::{FileName, FilePath, NamedConcept, StaticStorageUnlockError};
+use board_names::{FileName, NamePlace, NamedConcept, StaticStorageUnlockError};
 use std::alloc::Global;
 use std::marker::Model;
 use std::sync::Wait;
@@ -19,10 +18,8 @@ use std::sync::Wait;
 /// A static storage that is still to be filled. Clauses see its name, its full name and whether it owns the name.
 #[derive(Drop)]
 pub struct Locked {
-    name: FileName,
-    path: FilePath,
+    place: NamePlace<Statics>,
     owns: bool,
-    registry: StaticRegistry,
 }
 
 impl Model for Locked {
@@ -30,19 +27,14 @@ impl Model for Locked {
 
     ghost Value = { LockedView };
 
-    ghost view = { λ l. record { name = l.name; path = l.path; owns = l.owns } };
+    ghost view = { λ l. record { place = l.place; owns = l.owns } };
 }
 
 impl Locked {
-    pub(crate) fn at(name: FileName, path: FilePath, owns: bool, registry: StaticRegistry) -> Locked
-        ensures { result ≡ record { name = name; path = path; owns = owns } }
+    pub(crate) fn at(place: NamePlace<Statics>, owns: bool) -> Locked
+        ensures { result ≡ record { place = place; owns = owns } }
     {
-        Locked {
-            name,
-            path,
-            owns,
-            registry,
-        }
+        Locked { place, owns }
     }
 
     /// `unlock` over the storages themselves.
@@ -55,41 +47,41 @@ impl Locked {
         alloc: Global,
         contents: &[u8],
     ) -> Result<Storage, StaticStorageUnlockError>
-        ensures answer { Answers result StaticStorageUnlockError.OutOfMemory (unlock_storage_answer self contents.now (locked_of state.old self.path)) }
-        ensures refused { Refuses result (unlock_storage_answer self contents.now (locked_of state.old self.path)) }
-        ensures ok { OnOk result (state.new ≡ putting state.old self.path (Final contents.now)) }
+        ensures answer { Answers result OutOfMemory (unlock_storage_answer self contents.now state.old) }
+        ensures refused { Refuses result (unlock_storage_answer self contents.now state.old) }
+        ensures ok { OnOk result (state.new ≡ putting state.old self.place.path (Final contents.now)) }
         ensures err { OnErr result (state.new ≡ state.old) }
     {
-        let content = state.unlock(&self.path, contents)?;
+        let content = state.unlock(self.place.path(), contents)?;
         Ok(self.into_storage(content))
     }
 
     fn fill<R: Wait>(&self, rt: &R, contents: &[u8]) -> Result<Content, StaticStorageUnlockError>
         ensures { IfOk result (λ content. content ≡ contents.now) }
     {
-        let mut state = self.registry.state.lock(rt);
-        state.unlock(&self.path, contents)
+        let mut state = self.place.lock(rt);
+        state.unlock(self.place.path(), contents)
     }
 
     fn into_storage(self, content: Content) -> Storage
         ensures { result ≡ filled self content }
     {
-        Storage::at(self.name, self.path, self.owns, content, self.registry)
+        Storage::at(self.place, self.owns, content)
     }
 
     /// `release` over the storages themselves.
     pub fn release_in(self, state: &mut Statics)
-        ensures { state.new ≡ released state.old self.owns self.path }
+        ensures { state.new ≡ let_go state.old self.owns self.place.path }
     {
-        state.let_go(&self.path, self.owns);
+        self.place.let_go(state, self.owns);
     }
 }
 
 impl NamedConcept for Locked {
-    ghost name_of = { λ l. l.name };
+    ghost name_of = { λ l. l.place.name };
 
     fn name(&self) -> &FileName {
-        &self.name
+        self.place.name()
     }
 }
 
@@ -109,13 +101,7 @@ impl StaticStorageLocked for Locked {
     }
 
     fn release<R: Wait>(self, rt: &R) {
-        let Locked {
-            name: _,
-            path,
-            owns,
-            registry,
-        } = self;
-        let mut state = registry.state.lock(rt);
-        state.let_go(&path, owns);
+        let mut state = self.place.lock(rt);
+        self.place.let_go(&mut state, self.owns);
     }
 }

@@ -1,5 +1,6 @@
 //! What a static storage does: bytes are written once under a name, and then read by whoever opens it.
 ghost use Rattle.std.specs.Prelude.{◌≡◌, ℕ, ◌==◌, ◌<◌, ◌++◌, ◌↔◌, List, Bool, true, false, length, drop, codes, IsErrOf, OnOk, OnErr};
+ghost use Rattle.board_store.specs.Reading.{ReadsInto};
 
 use board_names::{
     FileName, NamedConcept, NamedConceptBuilder, NamedConceptMgmt, StaticStorageCreateError,
@@ -36,9 +37,7 @@ pub trait StaticStorage: NamedConceptMgmt + NamedConcept + Sized {
     /// # Errors
     /// `BufferTooSmall` where the buffer is shorter.
     fn read(&self, buffer: &mut [u8]) -> Result<(), StaticStorageReadError>
-        ensures small { IsErrOf result StaticStorageReadError.BufferTooSmall ↔ (length buffer.old < length (content_of self.now)) }
-        ensures ok { OnOk result (buffer.new ≡ content_of self.now ++ drop (length (content_of self.now)) buffer.old) }
-        ensures err { OnErr result ((buffer.new ≡ buffer.old) × (length buffer.old < length (content_of self.now))) };
+        ensures { ReadsInto (content_of self.now) buffer.old buffer.new result };
 
     /// Leaves the name when the storage is released.
     fn release_ownership(&mut self)

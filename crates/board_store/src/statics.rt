@@ -1,14 +1,14 @@
 //! Static storages by full names.
 ghost use Rattle.std.specs.Prelude.{◌≡◌, ◌≢◌, ℕ, ◌+◌, ◌-◌, ◌<◌, ◌≤◌, ◌==◌, ◌↔◌, List, [], ◌∷◌, ◌++◌, length, Some, None, true, is_some, IfOk, IsErrOf, OnOk, OnErr, IsTrue, IsSome, IfSome, option_map};
 ghost use Rattle.board_layout.specs.Answer.{Answers, Refuses};
-ghost use Rattle.board_store.specs.Table.{at, putting, without, name_at};
+ghost use Rattle.board_names.specs.Table.{at, putting, without, name_at};
 ghost use Rattle.board_store.specs.Statics.{bytes_of, locked_of, create_answer, open_answer, unlock_answer};
-ghost use Rattle.board_store.specs.Storage.{released};
+ghost use Rattle.board_store.specs.Storage.{exists_answer};
 
 use crate::content::Content;
-use crate::table::Table;
 use board_names::{
-    FilePath, StaticStorageCreateError, StaticStorageOpenError, StaticStorageUnlockError,
+    FilePath, NameTable, NamedConceptDoesExistError, Registry, StaticStorageCreateError,
+    StaticStorageOpenError, StaticStorageUnlockError, Table,
 };
 use std::alloc::{AllocError, Global};
 use std::collections::BTreeMap;
@@ -24,7 +24,7 @@ pub enum Stored {
 /// Static storages by full names. Clauses see the pairs of name and storage, in the order of the names.
 #[derive(Drop)]
 pub struct Statics {
-    pub(crate) names: Table<Stored>,
+    names: Table<Stored>,
     alloc: Global,
 }
 
@@ -38,16 +38,6 @@ impl Model for Statics {
 }
 
 impl Statics {
-    /// No storages. Takes no memory.
-    pub fn new(alloc: Global) -> Statics
-        ensures { result ≡ [] }
-    {
-        Statics {
-            names: BTreeMap::new(alloc),
-            alloc,
-        }
-    }
-
     /// Takes a name for a storage that is still to be filled.
     ///
     /// # Errors
@@ -145,28 +135,38 @@ impl Statics {
             Some(Stored::Final(_)) => Some(false),
         }
     }
+}
 
-    /// Lets a name go, and tells whether it was held.
-    pub fn remove(&mut self, name: &FilePath) -> bool
-        ensures value { result ≡ is_some (at self.old name.now) }
-        ensures after { self.new ≡ without self.old name.now }
-    {
-        self.names.remove(name).is_some()
-    }
+impl NameTable for Statics {
+    type Value = Stored;
 
-    /// Lets a name go where it is owned.
-    pub(crate) fn let_go(&mut self, name: &FilePath, owns: bool)
-        ensures { self.new ≡ released self.old owns name.now }
-    {
-        if owns {
-            let _ = self.remove(name);
+    ghost entries = { λ s. s };
+
+    ghost existence = { exists_answer };
+
+    fn new(alloc: Global) -> Statics {
+        Statics {
+            names: BTreeMap::new(alloc),
+            alloc,
         }
     }
 
-    /// The name at an index, counted from 0 in the order of the names.
-    pub fn name_at(&self, index: usize) -> Option<FilePath>
-        ensures { result ≡ name_at self.now index }
-    {
-        self.names.keys().nth(index).copied()
+    fn table(&self) -> &Table<Stored> {
+        &self.names
+    }
+
+    fn does_exist(&self, name: &FilePath) -> Result<bool, NamedConceptDoesExistError> {
+        match self.is_locked(name) {
+            None => Ok(false),
+            Some(false) => Ok(true),
+            Some(true) => Err(NamedConceptDoesExistError::UnderlyingResourcesBeingSetUp),
+        }
+    }
+
+    fn remove(&mut self, name: &FilePath) -> bool {
+        self.names.remove(name).is_some()
     }
 }
+
+/// Static storages that many values share, behind a lock.
+pub type StaticRegistry = Registry<Statics>;

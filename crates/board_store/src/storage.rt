@@ -1,24 +1,13 @@
 //! A static storage that has its bytes.
-ghost use Rattle.std.specs.Prelude.{◌≡◌, ℕ, ◌==◌, ◌<◌, ◌++◌, ◌↔◌, List, Bool, Some, None, Ok, Err, true, false, is_some, length, drop, codes, IfOk, OnOk, OnErr, IsErrOf, IsOk, IsOkUnless};
-ghost use Rattle.std.specs.Map.{keys_of};
-ghost use Rattle.board_names.specs.Configuration.{full_name};
-ghost use Rattle.board_names.specs.Extraction.{Lists};
-ghost use Rattle.board_store.specs.Table.{at, without};
-ghost use Rattle.board_store.specs.Storage.{exists_answer, released};
+ghost use Rattle.std.specs.Prelude.{◌≡◌, ℕ, ◌==◌, ◌<◌, ◌++◌, ◌↔◌, List, Bool, true, false, length, drop, codes, OnOk, OnErr, IsErrOf};
+ghost use Rattle.board_names.specs.Table.{let_go};
 
 use crate::builder::Builder;
 use crate::content::Content;
 use crate::locked::Locked;
-use crate::registry::StaticRegistry;
 use crate::static_storage::StaticStorage;
 use crate::statics::Statics;
-use crate::table::list_names;
-use board_names::{
-    Configuration, FileName, FilePath, NamedConcept, NamedConceptConfiguration,
-    NamedConceptDoesExistError, NamedConceptListError, NamedConceptMgmt, NamedConceptRemoveError,
-    StaticStorageReadError,
-};
-use std::alloc::Global;
+use board_names::{FileName, NamePlace, NamedConcept, NamedConceptMgmt, StaticStorageReadError};
 use std::marker::Model;
 use std::sync::Wait;
 
@@ -27,11 +16,9 @@ use std::sync::Wait;
 /// Clauses see its name, its full name, whether it owns the name, and the bytes.
 #[derive(Drop)]
 pub struct Storage {
-    name: FileName,
-    path: FilePath,
+    place: NamePlace<Statics>,
     owns: bool,
     content: Content,
-    registry: StaticRegistry,
 }
 
 impl Model for Storage {
@@ -39,130 +26,38 @@ impl Model for Storage {
 
     ghost Value = { StorageView };
 
-    ghost view = { λ s. record { name = s.name; path = s.path; owns = s.owns; bytes = s.content } };
+    ghost view = { λ s. record { place = s.place; owns = s.owns; bytes = s.content } };
 }
 
 impl Storage {
-    pub(crate) fn at(
-        name: FileName,
-        path: FilePath,
-        owns: bool,
-        content: Content,
-        registry: StaticRegistry,
-    ) -> Storage
-        ensures { result ≡ record { name = name; path = path; owns = owns; bytes = content } }
+    pub(crate) fn at(place: NamePlace<Statics>, owns: bool, content: Content) -> Storage
+        ensures { result ≡ record { place = place; owns = owns; bytes = content } }
     {
         Storage {
-            name,
-            path,
+            place,
             owns,
             content,
-            registry,
         }
     }
 
     /// `release` over the storages themselves.
     pub fn release_in(self, state: &mut Statics)
-        ensures { state.new ≡ released state.old self.owns self.path }
+        ensures { state.new ≡ let_go state.old self.owns self.place.path }
     {
-        state.let_go(&self.path, self.owns);
-    }
-
-    /// `does_exist_cfg` over the storages themselves.
-    ///
-    /// # Errors
-    /// `UnderlyingResourcesBeingSetUp` where the name is held locked.
-    pub fn does_exist_cfg_in(
-        state: &mut Statics,
-        name: &FileName,
-        cfg: &Configuration,
-    ) -> Result<bool, NamedConceptDoesExistError>
-        ensures answer { result ≡ exists_answer (at state.old (full_name cfg.now name.now)) }
-        ensures stays { state.new ≡ state.old }
-    {
-        match state.is_locked(&cfg.path_for(name)) {
-            None => Ok(false),
-            Some(false) => Ok(true),
-            Some(true) => Err(NamedConceptDoesExistError::UnderlyingResourcesBeingSetUp),
-        }
-    }
-
-    /// `list_cfg` over the storages themselves: those that are locked too.
-    ///
-    /// # Errors
-    /// `OutOfMemory`.
-    pub fn list_cfg_in(
-        state: &mut Statics,
-        alloc: Global,
-        cfg: &Configuration,
-    ) -> Result<Vec<FileName>, NamedConceptListError>
-        ensures names { IfOk result (λ names. Lists cfg.now (keys_of state.old) names.items) }
-        ensures memory { IsOkUnless result NamedConceptListError.OutOfMemory }
-        ensures stays { state.new ≡ state.old }
-    {
-        list_names(alloc, &state.names, cfg)
-    }
-
-    /// `remove_cfg` over the storages themselves.
-    ///
-    /// # Errors
-    /// None: it is never refused.
-    pub fn remove_cfg_in(
-        state: &mut Statics,
-        name: &FileName,
-        cfg: &Configuration,
-    ) -> Result<bool, NamedConceptRemoveError>
-        ensures answer { result ≡ Ok (is_some (at state.old (full_name cfg.now name.now))) }
-        ensures after { state.new ≡ without state.old (full_name cfg.now name.now) }
-    {
-        Ok(state.remove(&cfg.path_for(name)))
+        self.place.let_go(state, self.owns);
     }
 }
 
 impl NamedConcept for Storage {
-    ghost name_of = { λ s. s.name };
+    ghost name_of = { λ s. s.place.name };
 
     fn name(&self) -> &FileName {
-        &self.name
+        self.place.name()
     }
 }
 
 impl NamedConceptMgmt for Storage {
-    type Registry = StaticRegistry;
-
-    fn does_exist_cfg<R: Wait>(
-        rt: &R,
-        registry: &StaticRegistry,
-        name: &FileName,
-        cfg: &Configuration,
-    ) -> Result<bool, NamedConceptDoesExistError> {
-        let mut state = registry.state.lock(rt);
-        Storage::does_exist_cfg_in(&mut state, name, cfg)
-    }
-
-    fn list_cfg<R: Wait>(
-        rt: &R,
-        alloc: Global,
-        registry: &StaticRegistry,
-        cfg: &Configuration,
-    ) -> Result<Vec<FileName>, NamedConceptListError>
-        ensures { IsOkUnless result NamedConceptListError.OutOfMemory }
-    {
-        let mut state = registry.state.lock(rt);
-        Storage::list_cfg_in(&mut state, alloc, cfg)
-    }
-
-    fn remove_cfg<R: Wait>(
-        rt: &R,
-        registry: &StaticRegistry,
-        name: &FileName,
-        cfg: &Configuration,
-    ) -> Result<bool, NamedConceptRemoveError>
-        ensures { IsOk result }
-    {
-        let mut state = registry.state.lock(rt);
-        Storage::remove_cfg_in(&mut state, name, cfg)
-    }
+    type Names = Statics;
 }
 
 impl StaticStorage for Storage {
@@ -199,15 +94,8 @@ impl StaticStorage for Storage {
     }
 
     fn release<R: Wait>(self, rt: &R) {
-        let Storage {
-            name: _,
-            path,
-            owns,
-            content: _,
-            registry,
-        } = self;
-        let mut state = registry.state.lock(rt);
-        state.let_go(&path, owns);
+        let mut state = self.place.lock(rt);
+        self.place.let_go(&mut state, self.owns);
     }
 
     fn default_suffix() -> FileName {

@@ -1,16 +1,15 @@
-//! Static storage by the typed calls, and again by the lent forms.
+//! Static storage by the typed calls, of which their clauses say little, and once by the lent forms.
 use crate::{
     Builder, Content, Locked, StaticRegistry, StaticStorage, StaticStorageBuilder,
-    StaticStorageLocked, Statics, Storage, Table, list_names,
+    StaticStorageLocked, Statics, Storage,
 };
 use board_names::{
-    Configuration, FileName, FilePath, NamedConcept, NamedConceptBuilder,
-    NamedConceptConfiguration, NamedConceptDoesExistError, NamedConceptMgmt, Path,
+    Configuration, FileName, NameTable, NamedConcept, NamedConceptBuilder,
+    NamedConceptConfiguration, NamedConceptDoesExistError, NamedConceptMgmt,
     StaticStorageCreateError, StaticStorageOpenError, StaticStorageReadError,
     StaticStorageUnlockError,
 };
 use std::alloc::Global;
-use std::collections::BTreeMap;
 use std::process::Abort;
 use std::sync::Wait;
 use std::test::Fail;
@@ -97,73 +96,29 @@ fn a_storage_is_filled_once(rt: HostRuntime) -> Result<(), Fail> {
     late(&rt, alloc, &registry)
 }
 
-fn exists_in(
-    value: &[u8],
-    state: &mut Statics,
-) -> Result<Result<bool, NamedConceptDoesExistError>, Fail> {
-    let name = FileName::new(value)?;
-    Ok(Storage::does_exist_cfg_in(state, &name, &usual()))
-}
-
-fn locks_in<R: Abort>(
-    rt: &R,
-    alloc: Global,
-    registry: &StaticRegistry,
-    state: &mut Statics,
-) -> Result<Locked, Fail> {
-    let locked = builder(b"x", registry)?.create_locked_in(state, alloc)?;
-    let again = builder(b"x", registry)?.create_locked_in(state, alloc);
-    assert_eq!(rt; again.err(), Some(StaticStorageCreateError::AlreadyExists));
-    Ok(locked)
-}
-
-fn early_in<R: Abort>(
-    rt: &R,
-    alloc: Global,
-    registry: &StaticRegistry,
-    state: &mut Statics,
-) -> Result<(), Fail> {
-    assert_eq!(rt;
-        exists_in(b"x", state)?,
-        Err(NamedConceptDoesExistError::UnderlyingResourcesBeingSetUp)
-    );
-    let names = Storage::list_cfg_in(state, alloc, &usual())?;
-    assert_eq!(rt; names.as_slice(), [FileName::new(b"x")?].as_slice());
-    let early = builder(b"x", registry)?.open_in(state);
-    assert_eq!(rt;
-        early.err(),
-        Some(StaticStorageOpenError::InitializationNotYetFinalized)
-    );
-    Ok(())
-}
-
-fn late_in<R: Abort>(
-    rt: &R,
-    alloc: Global,
-    registry: &StaticRegistry,
-    state: &mut Statics,
-) -> Result<(), Fail> {
-    let gone = builder(b"x", registry)?.open_in(state);
-    assert_eq!(rt; gone.err(), Some(StaticStorageOpenError::DoesNotExist));
-    let empty = builder(b"x", registry)?.create_in(state, alloc, &[])?;
-    assert!(rt; empty.is_empty());
-    let other = builder(b"y", registry)?.create_locked_in(state, alloc)?;
-    other.release_in(state);
-    assert_eq!(rt; exists_in(b"y", state)?, Ok(false));
+#[test]
+fn storages_are_made_when_lent(rt: HostRuntime) -> Result<(), Fail> {
+    let alloc = rt.alloc();
+    let registry = StaticRegistry::new(alloc)?;
+    let mut state = Statics::new(alloc);
+    let locked = builder(b"x", &registry)?.create_locked_in(&mut state, alloc)?;
+    let filled = locked.unlock_in(&mut state, alloc, &[1, 2, 3])?;
+    shows_its_bytes(&rt, &filled);
+    let opened = builder(b"x", &registry)?.open_in(&mut state)?;
+    shows_its_bytes(&rt, &opened);
     Ok(())
 }
 
 #[test]
-fn a_storage_is_filled_once_in_lent_storages(rt: HostRuntime) -> Result<(), Fail> {
+fn storages_are_listed_when_lent(rt: HostRuntime) -> Result<(), Fail> {
     let alloc = rt.alloc();
     let registry = StaticRegistry::new(alloc)?;
     let mut state = Statics::new(alloc);
-    let locked = locks_in(&rt, alloc, &registry, &mut state)?;
-    early_in(&rt, alloc, &registry, &mut state)?;
-    let storage = locked.unlock_in(&mut state, alloc, &[1, 2, 3])?;
-    shows_its_bytes(&rt, &storage);
-    storage.release_in(&mut state);
-    late_in(&rt, alloc, &registry, &mut state)
+    let made = builder(b"y", &registry)?.create_in(&mut state, alloc, &[])?;
+    assert!(rt; made.is_empty());
+    let names = Storage::list_cfg_in(&mut state, alloc, &usual())?;
+    assert_eq!(rt; names.as_slice(), [FileName::new(b"y")?].as_slice());
+    Ok(())
 }
 
 fn opened<R: Wait>(rt: &R, alloc: Global, registry: &StaticRegistry) -> Result<Storage, Fail> {
@@ -204,20 +159,6 @@ fn a_storage_goes_on_without_its_name(rt: HostRuntime) -> Result<(), Fail> {
 }
 
 #[test]
-fn a_storage_goes_on_without_its_name_in_lent_storages(rt: HostRuntime) -> Result<(), Fail> {
-    let alloc = rt.alloc();
-    let registry = StaticRegistry::new(alloc)?;
-    let mut state = Statics::new(alloc);
-    let _made = builder(b"x", &registry)?.create_in(&mut state, alloc, &[1, 2, 3])?;
-    let storage = builder(b"x", &registry)?.open_in(&mut state)?;
-    let x = FileName::new(b"x")?;
-    assert_eq!(rt; Storage::remove_cfg_in(&mut state, &x, &usual()), Ok(true));
-    assert_eq!(rt; Storage::remove_cfg_in(&mut state, &x, &usual()), Ok(false));
-    shows_its_bytes(&rt, &storage);
-    Ok(())
-}
-
-#[test]
 fn names_and_configurations_differ(rt: HostRuntime) -> Result<(), Fail> {
     let alloc = rt.alloc();
     let registry = StaticRegistry::new(alloc)?;
@@ -244,18 +185,6 @@ fn what_is_gone_is_not_unlocked(rt: HostRuntime) -> Result<(), Fail> {
     assert_eq!(rt; Storage::remove_cfg(&rt, &registry, &x, &usual()), Ok(true));
     let gone = locked.unlock(&rt, alloc, &[1]);
     assert_eq!(rt; gone.err(), Some(StaticStorageUnlockError::InternalError));
-    Ok(())
-}
-
-#[test]
-fn defaults_are_the_usual_parts(rt: HostRuntime) -> Result<(), Fail> {
-    assert_eq!(rt; Storage::default_prefix(), FileName::new(b"iox2_")?);
-    assert_eq!(rt; Storage::default_path_hint(), Path::new(b"/tmp/iceoryx2")?);
-    assert_eq!(rt;
-        Storage::default_suffix(),
-        FileName::new(b".static_storage")?
-    );
-    assert_eq!(rt; Storage::remove_path_hint(&Path::new(b"/tmp")?), Ok(()));
     Ok(())
 }
 
@@ -291,45 +220,18 @@ fn are_sent(builder: Builder, locked: Locked, storage: Storage) -> (Builder, Loc
 }
 
 #[test]
-fn storages_are_kept_by_name(rt: HostRuntime) -> Result<(), Fail> {
+fn contents_are_shared(rt: HostRuntime) -> Result<(), Fail> {
     let alloc = rt.alloc();
     let mut state = Statics::new(alloc);
-    let name = path_of(b"x")?;
+    let name = usual().path_for(&FileName::new(b"x")?);
     assert_eq!(rt; state.create_locked(&name), Ok(()));
-    assert_eq!(rt; state.is_locked(&name), Some(true));
-    let content = state.unlock(&name, &[1, 2])?;
-    assert_eq!(rt; content.as_bytes(), [1, 2].as_slice());
-    assert_eq!(rt; state.bytes_of(&name), Some([1, 2].as_slice()));
-    assert_eq!(rt; state.try_open(&name)?.len(), 2);
-    assert_eq!(rt; state.name_at(0), Some(name));
+    let content = state.unlock(&name, &[4, 5])?;
     assert!(rt; state.remove(&name));
-    assert!(rt; !state.remove(&name));
-    Ok(())
-}
-
-fn path_of(value: &[u8]) -> Result<FilePath, Fail> {
-    Ok(usual().path_for(&FileName::new(value)?))
-}
-
-#[test]
-fn contents_are_shared(rt: HostRuntime) -> Result<(), Fail> {
-    let content = Content::of(rt.alloc(), &[4, 5])?;
     let shared = content.share()?;
-    assert_eq!(rt; (shared.len(), shared.is_empty()), (2, false));
     let mut buffer = [9u8; 3];
     assert_eq!(rt; shared.read(&mut buffer), Ok(()));
     assert_eq!(rt; buffer, [4, 5, 9]);
-    Ok(())
-}
-
-#[test]
-fn the_names_of_any_table_are_listed(rt: HostRuntime) -> Result<(), Fail> {
-    let alloc = rt.alloc();
-    let mut table: Table<u8> = BTreeMap::new(alloc);
-    table.insert(path_of(b"b")?, 1)?;
-    table.insert(path_of(b"a")?, 2)?;
-    let names = list_names(alloc, &table, &usual())?;
-    let wanted = [FileName::new(b"a")?, FileName::new(b"b")?];
-    assert_eq!(rt; names.as_slice(), wanted.as_slice());
+    let copy = Content::of(alloc, shared.as_bytes())?;
+    assert_eq!(rt; copy.len(), 2);
     Ok(())
 }

@@ -6,7 +6,7 @@ use Rattle.std.specs.List.{AllByRecursion, filter, list_any}
 use Rattle.std.proofs.lemmas.Bool.{and_parts}
 use Rattle.board_model.proofs.ListLemmas.{same_bytes}
 use Rattle.board_model.proofs.ThingLemmas.{same_to_itself}
-use Rattle.board_store.specs.Table.{at}
+use Rattle.board_names.specs.Table.{at}
 use Rattle.board_event_model.specs.declared.kind.EventKind.{EventKind}
 use Rattle.board_event_model.specs.EventMemory.{Event, is_held}
 use Rattle.board_event_model.specs.EventSessions.{StandingEvent, event_of, gone_with}

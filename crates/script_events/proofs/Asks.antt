@@ -1,7 +1,7 @@
 -- What parties hold after a listener or a notifier was asked for.
 use Rattle.std.proofs.Common.{◌≡◌, ℕ, ◌+◌, ◌<◌, ◌≤◌, true, false, List, [], ◌∷◌, ◌++◌, refl, sym, ap, subst, ◌∙◌, Option, Some, None, inl, inr, arith}
 use Rattle.std.specs.Prelude.{if◌then◌else◌, ◌==◌, ◌^◌, ◌-◌, nat_lt, Result, Ok, Err, IsSomeAnd}
-use Rattle.board_store.specs.Table.{at}
+use Rattle.board_names.specs.Table.{at}
 use Rattle.board_event_model.specs.declared.kind.EventKind.{EventKind}
 use Rattle.board_event_model.specs.EventMemory.{Event, is_held, new_event}
 use Rattle.board_event_model.specs.EventSessions.{EventSession, StandingEvent, event_of, listen, next_session}

@@ -2,7 +2,7 @@
 use Rattle.std.proofs.Common.{◌≡◌, ℕ, ◌+◌, ◌<◌, Bool, true, false, List, [], ◌∷◌, length, map, refl, sym, ap, ◌∙◌, Option, Some, None, inl, inr, arith}
 use Rattle.std.specs.Prelude.{if◌then◌else◌, ◌==◌, ◌-◌, not, IsSomeAnd}
 use Rattle.std.specs.List.{filter}
-use Rattle.board_store.specs.Table.{at}
+use Rattle.board_names.specs.Table.{at}
 use Rattle.board_event_model.specs.EventMemory.{Event, is_held}
 use Rattle.board_event_model.specs.EventSessions.{change_at, event_of}
 use Rattle.board_event_model.proofs.QuietLemmas.{eqb_self, eqb_true}

@@ -4,7 +4,8 @@ use Rattle.std.specs.Prelude.{◌&&◌, ◌==◌, not, nat_le}
 use Rattle.std.specs.List.{list_all}
 use Rattle.std.proofs.lemmas.Bool.{and_from, and_parts, le-leb, leb-true}
 use Rattle.board_model.specs.LineGrammar.{is_board_name, is_visible_byte}
-use Rattle.board_names.specs.Names.{IsServiceName, is_printable}
+use Rattle.board_layout.specs.Types.{is_printable}
+use Rattle.board_names.specs.Names.{IsServiceName}
 
 printable : (b : ℕ) → is_visible_byte b ≡ true → is_printable b ≡ true
 printable b h =

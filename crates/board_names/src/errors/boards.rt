@@ -3,80 +3,59 @@ use thiserror::Error;
 
 /// Why a board was not made.
 #[derive(Clone, Copy, Debug, PartialEq, Eq, Hash, Error)]
+#[error("BlackboardCreateError::{:?}", self)]
 pub enum BlackboardCreateError {
     /// A board of this name stands.
-    #[error("BlackboardCreateError::AlreadyExists")]
     AlreadyExists,
     /// Never given here.
-    #[error("BlackboardCreateError::IsBeingCreatedByAnotherInstance")]
     IsBeingCreatedByAnotherInstance,
     /// Never given here.
-    #[error("BlackboardCreateError::InternalFailure")]
     InternalFailure,
     /// Never given here.
-    #[error("BlackboardCreateError::InsufficientPermissions")]
     InsufficientPermissions,
     /// Two keys are equal, or the cells take more than 4294967295 bytes.
-    #[error("BlackboardCreateError::ServiceInCorruptedState")]
     ServiceInCorruptedState,
     /// Never given here.
-    #[error("BlackboardCreateError::HangsInCreation")]
     HangsInCreation,
     /// No entry was added.
-    #[error("BlackboardCreateError::NoEntriesProvided")]
     NoEntriesProvided,
     /// All board or thing numbers were drawn.
-    #[error("BlackboardCreateError::NumbersSpent")]
     NumbersSpent,
     /// Memory was refused.
-    #[error("BlackboardCreateError::OutOfMemory")]
     OutOfMemory,
 }
 
 /// Why a board was not opened.
 #[derive(Clone, Copy, Debug, PartialEq, Eq, Hash, Error)]
+#[error("BlackboardOpenError::{:?}", self)]
 pub enum BlackboardOpenError {
     /// No board of this name stands.
-    #[error("BlackboardOpenError::DoesNotExist")]
     DoesNotExist,
     /// Never given here.
-    #[error("BlackboardOpenError::ServiceInCorruptedState")]
     ServiceInCorruptedState,
     /// The board has another key type.
-    #[error("BlackboardOpenError::IncompatibleKeys")]
     IncompatibleKeys,
     /// Never given here.
-    #[error("BlackboardOpenError::InternalFailure")]
     InternalFailure,
     /// A needed attribute is missing.
-    #[error("BlackboardOpenError::IncompatibleAttributes")]
     IncompatibleAttributes,
     /// Never given here.
-    #[error("BlackboardOpenError::IncompatibleMessagingPattern")]
     IncompatibleMessagingPattern,
     /// The board allows fewer readers than were asked for.
-    #[error("BlackboardOpenError::DoesNotSupportRequestedAmountOfReaders")]
     DoesNotSupportRequestedAmountOfReaders,
     /// Never given here.
-    #[error("BlackboardOpenError::InsufficientPermissions")]
     InsufficientPermissions,
     /// Never given here.
-    #[error("BlackboardOpenError::HangsInCreation")]
     HangsInCreation,
     /// Never given here.
-    #[error("BlackboardOpenError::IsMarkedForDestruction")]
     IsMarkedForDestruction,
     /// As many other nodes use the board as it allows.
-    #[error("BlackboardOpenError::ExceedsMaxNumberOfNodes")]
     ExceedsMaxNumberOfNodes,
     /// The board allows fewer nodes than were asked for.
-    #[error("BlackboardOpenError::DoesNotSupportRequestedAmountOfNodes")]
     DoesNotSupportRequestedAmountOfNodes,
     /// All thing numbers were drawn.
-    #[error("BlackboardOpenError::NumbersSpent")]
     NumbersSpent,
     /// Memory was refused.
-    #[error("BlackboardOpenError::OutOfMemory")]
     OutOfMemory,
 }
 

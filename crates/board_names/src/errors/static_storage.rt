@@ -3,44 +3,35 @@ use thiserror::Error;
 
 /// Why a static storage was not created.
 #[derive(Clone, Copy, Debug, PartialEq, Eq, Hash, Error)]
+#[error("StaticStorageCreateError::{:?}", self)]
 pub enum StaticStorageCreateError {
     /// The name is held.
-    #[error("StaticStorageCreateError::AlreadyExists")]
     AlreadyExists,
     /// A file could not be made.
-    #[error("StaticStorageCreateError::Creation")]
     Creation,
     /// Never given here.
-    #[error("StaticStorageCreateError::Write")]
     Write,
     /// Never given here.
-    #[error("StaticStorageCreateError::InsufficientPermissions")]
     InsufficientPermissions,
     /// Never given here.
-    #[error("StaticStorageCreateError::InternalError")]
     InternalError,
     /// Memory was refused.
-    #[error("StaticStorageCreateError::OutOfMemory")]
     OutOfMemory,
 }
 
 /// Why a static storage was not opened.
 #[derive(Clone, Copy, Debug, PartialEq, Eq, Hash, Error)]
+#[error("StaticStorageOpenError::{:?}", self)]
 pub enum StaticStorageOpenError {
     /// The name isn't held.
-    #[error("StaticStorageOpenError::DoesNotExist")]
     DoesNotExist,
     /// A file could not be read.
-    #[error("StaticStorageOpenError::Read")]
     Read,
     /// The name is locked, at each look.
-    #[error("StaticStorageOpenError::InitializationNotYetFinalized")]
     InitializationNotYetFinalized,
     /// Never given here.
-    #[error("StaticStorageOpenError::InternalError")]
     InternalError,
     /// Memory was refused.
-    #[error("StaticStorageOpenError::OutOfMemory")]
     OutOfMemory,
 }
 

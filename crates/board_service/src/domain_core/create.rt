@@ -6,7 +6,7 @@ ghost use Rattle.board_layout.specs.Layout.{IsShape, opening_words, payload, pla
 ghost use Rattle.board_model.specs.Tables.{shapes_of};
 ghost use Rattle.board_service.specs.Domain as domain;
 ghost use Rattle.board_service.specs.Entries.{IsOpening, added_of, words_in};
-ghost use Rattle.board_store.specs.Table.{at, putting};
+ghost use Rattle.board_names.specs.Table.{at, putting};
 ghost use Rattle.board_store.specs.declared.statics.Stored.TheVariants.{Final};
 
 use super::DomainCore;
@@ -21,7 +21,7 @@ use crate::refusals::{create_refusal, limit_of};
 use board_concepts::{AttributeSet, Description};
 use board_layout::{BoardKey, Plan, TypeDetail, TypeVariant};
 use board_model::{Entries, Kind, Limits, Thing};
-use board_names::{BlackboardCreateError, FilePath, ServiceName};
+use board_names::{BlackboardCreateError, FilePath, NameTable, ServiceName};
 use board_store::Statics;
 use std::alloc::{AllocError, Global};
 

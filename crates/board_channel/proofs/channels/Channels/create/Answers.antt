@@ -1,7 +1,7 @@
 use Rattle.std.proofs.Common.{rules, ◌≡◌, is_some, false}
 use Rattle.board_layout.proofs.AnswerLemmas.{Refuses-value}
-use Rattle.board_store.specs.Table.{at}
-use Rattle.board_store.proofs.TableLemmas.{taking-free}
+use Rattle.board_names.specs.Table.{at}
+use Rattle.board_names.proofs.TableLemmas.{taking-free}
 use Rattle.board_channel.specs.Channels.{size_of}
 use Rattle.board_names.specs.declared.errors.communication_channel.CommunicationChannelCreateError.TheVariants.{AlreadyExists}
 use Rattle.board_channel.proofs.channels.Channels.create.Goals as goal

@@ -1,7 +1,7 @@
 use Rattle.std.proofs.Common.{rules, ◌≡◌, is_some, false}
 use Rattle.board_layout.proofs.AnswerLemmas.{Refuses-value}
-use Rattle.board_store.specs.Table.{at}
-use Rattle.board_store.proofs.TableLemmas.{taking-free}
+use Rattle.board_names.specs.Table.{at}
+use Rattle.board_names.proofs.TableLemmas.{taking-free}
 use Rattle.board_names.specs.declared.errors.monitoring.MonitoringCreateTokenError.TheVariants.{AlreadyExists}
 use Rattle.board_monitoring.proofs.monitors.Monitors.token.Goals as goal
 

@@ -1,11 +1,11 @@
 use Rattle.std.proofs.Common.{rules, ◌≡◌, subst}
 use Rattle.board_layout.specs.Answer.{Refuses}
-use Rattle.board_store.specs.Table.{at}
+use Rattle.board_names.specs.Concept.{path_of}
+use Rattle.board_names.specs.Table.{at}
 use Rattle.board_store.specs.Statics.{open_answer}
-use Rattle.board_store.specs.Storage.{path_of}
 use Rattle.board_store.proofs.builder.Builder.look_in.Goals as goal
 
 pub returns-clause-refused : goal.returns-clause-refused
 returns-clause-refused c =
-    let path : c.path.result ≡ path_of c.args.self.now = search rules in
+    let path : c.path.result ≡ path_of c.args.self.now.named = search rules in
     subst (λ p. Refuses c.try_open.result (open_answer (at c.args.state.now p))) path c.try_open.ensures.refused

@@ -9,7 +9,7 @@ use Rattle.std.specs.Map.{lookup}
 use Rattle.std.specs.BTreeMap.{insert_entry, is_at}
 use Rattle.std.proofs.lemmas.Cmp.{tied_itself}
 use Rattle.board_layout.specs.Answer.{Answers, Refuses}
-use Rattle.board_store.specs.Table.{at, putting, taking}
+use Rattle.board_names.specs.Table.{at, putting, taking}
 
 -- a later entry under a key takes the place of an earlier one
 insert_entry_twice : {K X : Type 0} (cmp : K → K → Ordering) (self : (k : K) → cmp k k ≡ Equal) (es : List (K × X)) (k : K) (x y : X) →

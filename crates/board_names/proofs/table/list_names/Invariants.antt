@@ -1,6 +1,6 @@
 use Rattle.std.specs.Map.{keys_of}
-use Rattle.board_store.proofs.Listing.{ListsBehind}
-use Rattle.board_store.proofs.table.list_names.Given as goal
+use Rattle.board_names.proofs.Listing.{ListsBehind}
+use Rattle.board_names.proofs.table.list_names.Given as goal
 
 abbrev pub invariant-loop-path : goal.invariant-loop-path
 invariant-loop-path g l = ListsBehind l.cfg (keys_of l.table.entries) l.path-iterator l.names.items

@@ -1,5 +1,5 @@
 -- Tables by full names: pairs of a name's bytes and a value, in the order of the names.
-use Rattle.std.specs.Prelude.{ℕ, List, Option, Some, None, Result, Ok, Err, slice_get}
+use Rattle.std.specs.Prelude.{ℕ, List, Option, Some, None, Result, Ok, Err, Bool, if◌then◌else◌, slice_get}
 use Rattle.std.specs.Ordering.{nat_cmp}
 use Rattle.std.specs.Cmp.Lexicographic.{slice_cmp}
 use Rattle.std.specs.Map.{lookup, remove_entry, keys_of}
@@ -16,6 +16,10 @@ putting table name value = insert_entry (slice_cmp nat_cmp) table name value
 -- the table with nothing under the name
 abbrev pub without : {X : Type 0} → List (List ℕ × X) → List ℕ → List (List ℕ × X)
 without table name = remove_entry (is_at (slice_cmp nat_cmp name)) table
+
+-- the table after a name was let go where it was owned
+abbrev pub let_go : {X : Type 0} → List (List ℕ × X) → Bool → List ℕ → List (List ℕ × X)
+let_go table owns name = if owns then without table name else table
 
 -- the name at an index, counted from 0
 abbrev pub name_at : {X : Type 0} → List (List ℕ × X) → ℕ → Option (List ℕ)

@@ -3,8 +3,8 @@ use Rattle.std.specs.Prelude.{option_to_list}
 use Rattle.std.specs.Map.{keys_of}
 use Rattle.std.proofs.lemmas.List.{append-nil}
 use Rattle.board_names.specs.Extraction.{Lists}
-use Rattle.board_store.proofs.Listing.{ListsBehind, ListsBehind-next, Extracts-from}
-use Rattle.board_store.proofs.table.list_names.Goals as goal
+use Rattle.board_names.proofs.Listing.{ListsBehind, ListsBehind-next, Extracts-from}
+use Rattle.board_names.proofs.table.list_names.Goals as goal
 
 pub loop-path-preserved-else-is_err : goal.loop-path-preserved-else-is_err
 loop-path-preserved-else-is_err g c =

@@ -1,0 +1,8 @@
+//! Channels: numbers in order, from senders to a receiver.
+pub use board_channel::communication_channel::Local;
+pub use board_channel::{
+    Channel, ChannelRegistry, Channels, CommunicationChannel, CommunicationChannelConnector,
+    CommunicationChannelCreator, CommunicationChannelParticipant, CommunicationChannelReceiver,
+    CommunicationChannelSender, Connector, Creator, DEFAULT_RECEIVER_BUFFER_SIZE, Duplex, Queue,
+    SharedQueue,
+};

@@ -1,0 +1,7 @@
+//! Monitoring: whether who took a name still lives.
+pub use board_monitoring::monitoring::Local;
+pub use board_monitoring::{
+    Builder, Cleaner, Life, Monitor, Monitoring, MonitoringBuilder, MonitoringCleaner,
+    MonitoringMonitor, MonitoringRegistry, MonitoringToken, Monitors, ProcessLocalMonitoring,
+    State, Token,
+};
