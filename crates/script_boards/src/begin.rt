@@ -150,8 +150,8 @@ impl<C: BoardWords + Drop> BoardMachine<C> {
         self.handle_held(party, name).ok_or(Reason::Unknown)
     }
 
-    /// That the party holds nothing under the name of what its call makes.
-    pub(crate) fn is_free_name(&self, party: &Name, name: &Name) -> Result<(), Reason>
+    /// That the party holds nothing under a name, which its call is to make.
+    pub(crate) fn require_free(&self, party: &Name, name: &Name) -> Result<(), Reason>
         ensures { IsRequired (not (holds self.now party.now name.now)) reason.Taken result }
     {
         require(!self.holds(party, name), Reason::Taken)
@@ -221,7 +221,7 @@ impl<C: BoardWords + Drop> BoardMachine<C> {
     {
         let found = self.handle_used(party, &handle)?;
         let entry = self.entry_held(&found);
-        self.is_free_name(party, &loan)?;
+        self.require_free(party, &loan)?;
         Ok(Task::Table(TableTask::Loan {
             handle,
             loan,
@@ -291,7 +291,7 @@ impl<C: BoardWords + Drop> BoardMachine<C> {
                 attributes,
                 entries,
             } => {
-                self.is_free_name(party, &factory)?;
+                self.require_free(party, &factory)?;
                 require(have_key_type(key_type, entries.as_slice()), Reason::Type)?;
                 Ok(Task::Table(TableTask::Create {
                     factory,
@@ -309,7 +309,7 @@ impl<C: BoardWords + Drop> BoardMachine<C> {
                 limits,
                 needs,
             } => {
-                self.is_free_name(party, &factory)?;
+                self.require_free(party, &factory)?;
                 Ok(Task::Table(TableTask::Open {
                     factory,
                     name,
@@ -320,12 +320,12 @@ impl<C: BoardWords + Drop> BoardMachine<C> {
             }
             Call::Reader { reader, factory } => {
                 let factory = self.thing_used(ThingKind::Factory, party, &factory)?;
-                self.is_free_name(party, &reader)?;
+                self.require_free(party, &reader)?;
                 Ok(Task::Table(TableTask::Reader { reader, factory }))
             }
             Call::Writer { writer, factory } => {
                 let factory = self.thing_used(ThingKind::Factory, party, &factory)?;
-                self.is_free_name(party, &writer)?;
+                self.require_free(party, &writer)?;
                 Ok(Task::Table(TableTask::Writer { writer, factory }))
             }
             Call::Entry {
@@ -335,7 +335,7 @@ impl<C: BoardWords + Drop> BoardMachine<C> {
                 value_type,
             } => {
                 let reader = self.thing_used(ThingKind::Reader, party, &reader)?;
-                self.is_free_name(party, &handle)?;
+                self.require_free(party, &handle)?;
                 require(self.domain.is_key_of(reader.board, &key), Reason::Type)?;
                 Ok(Task::Table(TableTask::Entry {
                     handle,
@@ -351,7 +351,7 @@ impl<C: BoardWords + Drop> BoardMachine<C> {
                 value_type,
             } => {
                 let writer = self.thing_used(ThingKind::Writer, party, &writer)?;
-                self.is_free_name(party, &handle)?;
+                self.require_free(party, &handle)?;
                 require(self.domain.is_key_of(writer.board, &key), Reason::Type)?;
                 Ok(Task::Table(TableTask::EntryMut {
                     handle,

@@ -87,7 +87,7 @@ impl<C: BoardWords + Drop> BoardMachine<C> {
         let Some(_) = self.loan_held(party, &loan) else {
             return Err(NotBegun::Refused(Reason::Unknown));
         };
-        self.is_free_name(party, &handle)?;
+        self.require_free(party, &handle)?;
         Ok(Task::Table(TableTask::Discard { loan, handle }))
     }
 
@@ -139,7 +139,7 @@ impl<C: BoardWords + Drop> BoardMachine<C> {
             return Err(NotBegun::Refused(Reason::Unknown));
         };
         let entry = self.entry_held(&found);
-        self.is_free_name(party, &handle)?;
+        self.require_free(party, &handle)?;
         let core = LoanCore::lent(write_core(entry, generation), words);
         require(core.is_filled(), Reason::Unfilled)?;
         Ok(Task::Publish {
@@ -168,7 +168,7 @@ impl<C: BoardWords + Drop> BoardMachine<C> {
             return Err(NotBegun::Refused(Reason::Unknown));
         };
         let entry = self.entry_held(&found);
-        self.is_free_name(party, &handle)?;
+        self.require_free(party, &handle)?;
         require(is_value_of(value, entry), Reason::Type)?;
         let core = LoanCore::lent(write_core(entry, generation), put);
         let words = value_words(self.alloc, value)?;

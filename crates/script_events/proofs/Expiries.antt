@@ -13,7 +13,7 @@ use Rattle.script_events.specs.declared.rows.CallRow.{CallRow}
 use Rattle.script_events.specs.declared.rows.CallTask.{CallTask}
 use Rattle.script_events.specs.declared.rows.CallTask.TheVariants as task
 use Rattle.script_events.specs.Calls.{may_end}
-use Rattle.script_events.specs.PartyEvents.{AreCallRows, AreCalls, IsAskedBy, IsTaskOf, IsTurned, Represents, is_call_of}
+use Rattle.script_events.specs.PartyEvents.{AreCallRows, AreCalls, IsAskedBy, IsTaskOf, IsTurned, Represents, is_row_of}
 use Rattle.script_events.proofs.Lists.{none_from, some_from, taken_out}
 use Rattle.script_events.proofs.CallRows.{ended, without_rows}
 
@@ -30,14 +30,14 @@ act_waits (task.Notifier name kind event) d h = absurd h
 act_waits (task.Act a) d h = rw (h.call, h.waited) refl
 
 -- the row at the party's place is the one that there is
-same_row : (rows : List CallRow) (party : List ℕ) (place : ℕ) (row only : CallRow) → Some place ≡ position_from (is_call_of party) 0 rows → row ≡ get_or rows place row → filter (is_call_of party) rows ≡ only ∷ [] → row ≡ only
-same_row rows party place row one at is alone = is ∙ (taken_out (is_call_of party) place rows one alone at).there row
+same_row : (rows : List CallRow) (party : List ℕ) (place : ℕ) (row only : CallRow) → Some place ≡ position_from (is_row_of party) 0 rows → row ≡ get_or rows place row → filter (is_row_of party) rows ≡ only ∷ [] → row ≡ only
+same_row rows party place row one at is alone = is ∙ (taken_out (is_row_of party) place rows one alone at).there row
 
-module _ (rows : List CallRow) (party : List ℕ) (place : ℕ) (row : CallRow) (at : Some place ≡ position_from (is_call_of party) 0 rows) (is : row ≡ get_or rows place row) where
+module _ (rows : List CallRow) (party : List ℕ) (place : ℕ) (row : CallRow) (at : Some place ≡ position_from (is_row_of party) 0 rows) (is : row ≡ get_or rows place row) where
   -- what the rows say of the end
-  pub end_of : (a : Option EventAsk) (d : Option PartyCall) → AreCallRows (filter (is_call_of party) rows) a d → (b : Bool) → may_end row.task ≡ b
+  pub end_of : (a : Option EventAsk) (d : Option PartyCall) → AreCallRows (filter (is_row_of party) rows) a d → (b : Bool) → may_end row.task ≡ b
       → expire_of_call party a d ≡ (if b then expires party else refused reason.NotWaiting)
-  end_of None None are b e = absurd (some_from (is_call_of party) 0 place rows (sym at) are)
+  end_of None None are b e = absurd (some_from (is_row_of party) 0 place rows (sym at) are)
   end_of (Some q) d are true e = absurd (
       let same = same_row rows party place row are.row at is are.only in
       let stays : may_end row.task ≡ false = ap (λ (r : CallRow). may_end r.task) same ∙ ask_stays are.row.task q are.task in
@@ -49,7 +49,7 @@ module _ (rows : List CallRow) (party : List ℕ) (place : ℕ) (row : CallRow) 
       rw waits refl
 
   -- an end that is granted is that of no ask
-  pub not_asked : (a : Option EventAsk) (d : Option PartyCall) → AreCallRows (filter (is_call_of party) rows) a d → may_end row.task ≡ true → a ≡ None
+  pub not_asked : (a : Option EventAsk) (d : Option PartyCall) → AreCallRows (filter (is_row_of party) rows) a d → may_end row.task ≡ true → a ≡ None
   not_asked None d are e = refl
   not_asked (Some q) d are e = absurd (
       let same = same_row rows party place row are.row at is are.only in
@@ -61,24 +61,24 @@ pub refused_turn : (m : PartyEvents) (x : ScriptEvents) (turn : EventTurn) (why 
 refused_turn m x turn why e rep = record { told_is = rw e refl; represents = λ a. rw e rep }
 
 -- no call, nothing to end
-pub idle_end : (rows : List CallRow) (party : List ℕ) (a : Option EventAsk) (d : Option PartyCall) → None ≡ position_from (is_call_of party) 0 rows → AreCallRows (filter (is_call_of party) rows) a d → expire_of_call party a d ≡ refused reason.Idle
-idle_end rows party a d none are = (let free = without_rows _ a d (none_from (is_call_of party) 0 rows (sym none)) are in rw (free.0, free.1) refl)
+pub idle_end : (rows : List CallRow) (party : List ℕ) (a : Option EventAsk) (d : Option PartyCall) → None ≡ position_from (is_row_of party) 0 rows → AreCallRows (filter (is_row_of party) rows) a d → expire_of_call party a d ≡ refused reason.Idle
+idle_end rows party a d none are = (let free = without_rows _ a d (none_from (is_row_of party) 0 rows (sym none)) are in rw (free.0, free.1) refl)
 
 -- the party's calls are ended
 pub calls_ended : (rows : List CallRow) (party : List ℕ) (asked : List ℕ → Option EventAsk) (doing : List ℕ → Option PartyCall) → AreCalls rows asked doing
-    → AreCalls (filter (λ row. not (is_call_of party row)) rows) (with_ask asked party None) (do_at doing party None)
+    → AreCalls (filter (λ row. not (is_row_of party row)) rows) (with_ask asked party None) (do_at doing party None)
 calls_ended rows party asked doing are = ended rows party asked (with_ask asked party None) doing (do_at doing party None) are
     (λ p f. (rw f refl, rw f refl)) (rw (same_to_itself party) refl) (rw (same_to_itself party) refl)
 
 -- also where it asks for nothing
 pub call_ended : (rows : List CallRow) (party : List ℕ) (asked : List ℕ → Option EventAsk) (doing : List ℕ → Option PartyCall) → AreCalls rows asked doing → asked party ≡ None
-    → AreCalls (filter (λ row. not (is_call_of party row)) rows) asked (do_at doing party None)
+    → AreCalls (filter (λ row. not (is_row_of party row)) rows) asked (do_at doing party None)
 call_ended rows party asked doing are free = ended rows party asked asked doing (do_at doing party None) are
     (λ p f. (refl, rw f refl)) free (rw (same_to_itself party) refl)
 
 -- and where it runs no call on an event
 pub ask_ended : (rows : List CallRow) (party : List ℕ) (asked : List ℕ → Option EventAsk) (doing : List ℕ → Option PartyCall) → AreCalls rows asked doing → doing party ≡ None
-    → AreCalls (filter (λ row. not (is_call_of party row)) rows) (with_ask asked party None) doing
+    → AreCalls (filter (λ row. not (is_row_of party row)) rows) (with_ask asked party None) doing
 ask_ended rows party asked doing are free = ended rows party asked (with_ask asked party None) doing doing are
     (λ p f. (rw f refl, refl)) (rw (same_to_itself party) refl) free
 

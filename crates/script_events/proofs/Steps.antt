@@ -27,7 +27,7 @@ use Rattle.script_events.specs.declared.rows.EventRow.{EventRow}
 use Rattle.script_events.specs.declared.step.Stepped.{Stepped}
 use Rattle.script_events.specs.declared.step.Stepped.TheVariants as stepped
 use Rattle.script_events.specs.Calls.{AnswersAsk, AreRowsAfter, GoesOn, IsAsked, IsLeftTask, IsWentOn}
-use Rattle.script_events.specs.PartyEvents.{AreCallRows, AreCalls, Holds, IsAnswerOf, IsAskedBy, IsOneCall, IsStepped, IsTaskOf, Represents, event_call, is_call_of}
+use Rattle.script_events.specs.PartyEvents.{AreCallRows, AreCalls, Holds, IsAnswerOf, IsAskedBy, IsOneCall, IsStepped, IsTaskOf, Represents, event_call, is_row_of}
 use Rattle.script_events.proofs.Lists.{passes_one}
 use Rattle.script_events.proofs.CallRows.{begun}
 use Rattle.script_events.proofs.Holding.{IsThere, event_of-some, thing_there}
@@ -97,8 +97,8 @@ asking xs row q a d e f h = elim (said xs row a d e h) [
 ]
 
 -- the row is the party's
-pub own_row : (party : List ℕ) (rows : List CallRow) (row : CallRow) → filter (is_call_of party) rows ≡ row ∷ [] → row.party ≡ party
-own_row party rows row one = sym (same_bytes party row.party (passes_one (is_call_of party) rows row one))
+pub own_row : (party : List ℕ) (rows : List CallRow) (row : CallRow) → filter (is_row_of party) rows ≡ row ∷ [] → row.party ≡ party
+own_row party rows row one = sym (same_bytes party row.party (passes_one (is_row_of party) rows row one))
 
 -- ---- an ask
 
@@ -119,10 +119,10 @@ made_same x party (to_notify name k event) P h = by (x.names k event)
     by None = h
     by (Some n) = open_with n (event_of x.session.stands n)
 
-pub ask_stepped : (m new : PartyEvents) (x : ScriptEvents) (count : ℕ) (sound : AreSoundEvents x count) (rep : Represents m x) (party : List ℕ) (row : CallRow) (one : filter (is_call_of party) m.calls.items ≡ row ∷ []) (q : EventAsk) (is : IsAskedBy row.task q) (told : EventReply)
-    → AnswersAsk m.events m.things.items new.events new.things.items row.party q told → new.calls.items ≡ filter (λ r. not (is_call_of party r)) m.calls.items → IsStepped new x party (stepped.Asked told)
+pub ask_stepped : (m new : PartyEvents) (x : ScriptEvents) (count : ℕ) (sound : AreSoundEvents x count) (rep : Represents m x) (party : List ℕ) (row : CallRow) (one : filter (is_row_of party) m.calls.items ≡ row ∷ []) (q : EventAsk) (is : IsAskedBy row.task q) (told : EventReply)
+    → AnswersAsk m.events m.things.items new.events new.things.items row.party q told → new.calls.items ≡ filter (λ r. not (is_row_of party r)) m.calls.items → IsStepped new x party (stepped.Asked told)
 ask_stepped m new x count sound rep party row one q is told answers calls =
-    let asked : x.asked party ≡ Some q = asking (filter (is_call_of party) m.calls.items) row q (x.asked party) (x.session.doing party) one is (rep.calls party) in
+    let asked : x.asked party ≡ Some q = asking (filter (is_row_of party) m.calls.items) row q (x.asked party) (x.session.doing party) one is (rep.calls party) in
     let own : row.party ≡ party = own_row party m.calls.items row one in
     let done : IsAsked new.events new.things.items x party q told = subst (λ (p : List ℕ). x.asked p ≡ Some q → IsAsked new.events new.things.items x p q told) own (λ e. answers x count sound e rep.held) asked in
     let idle : x.session.doing party ≡ None = sound.apart party q asked in
@@ -153,9 +153,9 @@ call_there t rows x count sound holds party d runs =
     subst (λ (n : ℕ). IsThere t x n) (thing_on uses.thing d.on d.call.first uses.uses) (thing_there t rows x count sound holds party uses.name uses.thing uses.found)
 
 -- so it goes on, and its event can take its access
-module _ (m : PartyEvents) (x : ScriptEvents) (count : ℕ) (few : count < 2 ^ 63) (sound : AreSoundEvents x count) (rep : Represents m x) (party : List ℕ) (row : CallRow) (one : filter (is_call_of party) m.calls.items ≡ row ∷ []) (a : Act) (is : row.task ≡ task.Act a) where
+module _ (m : PartyEvents) (x : ScriptEvents) (count : ℕ) (few : count < 2 ^ 63) (sound : AreSoundEvents x count) (rep : Represents m x) (party : List ℕ) (row : CallRow) (one : filter (is_row_of party) m.calls.items ≡ row ∷ []) (a : Act) (is : row.task ≡ task.Act a) where
   acts : IsActing (task.Act a) (x.asked party) (x.session.doing party)
-  acts = acting (filter (is_call_of party) m.calls.items) row a (x.asked party) (x.session.doing party) one is (rep.calls party)
+  acts = acting (filter (is_row_of party) m.calls.items) row a (x.asked party) (x.session.doing party) one is (rep.calls party)
 
   there : IsThere m.events x acts.call.on
   there = call_there m.events m.things.items x count sound rep.held party acts.call acts.doing
@@ -203,10 +203,10 @@ right_step x asked doing d e answer f g was h = rw (f, g) (rw was h)
 right_of : (t : EventTable) (n : ℕ) (e : Event) (access : EventAccess) (answer : EventAnswer) → event_at t n ≡ Some e → IsSomeAnd (event_at t n) (λ e. IsRight e access answer) → IsRight e access answer
 right_of t n e access answer found h = (rw found at h)
 
-module _ (m mid new : PartyEvents) (x : ScriptEvents) (count : ℕ) (few : count < 2 ^ 63) (sound : AreSoundEvents x count) (rep : Represents m x) (party : List ℕ) (row : CallRow) (one : filter (is_call_of party) m.calls.items ≡ row ∷ []) (a : Act) (is : row.task ≡ task.Act a)
-    (events : mid.events ≡ m.events) (things : mid.things.items ≡ m.things.items) (calls : mid.calls.items ≡ filter (λ r. not (is_call_of party r)) m.calls.items) (told : Stepped) (went : IsWentOn mid new party a told) where
+module _ (m mid new : PartyEvents) (x : ScriptEvents) (count : ℕ) (few : count < 2 ^ 63) (sound : AreSoundEvents x count) (rep : Represents m x) (party : List ℕ) (row : CallRow) (one : filter (is_row_of party) m.calls.items ≡ row ∷ []) (a : Act) (is : row.task ≡ task.Act a)
+    (events : mid.events ≡ m.events) (things : mid.things.items ≡ m.things.items) (calls : mid.calls.items ≡ filter (λ r. not (is_row_of party r)) m.calls.items) (told : Stepped) (went : IsWentOn mid new party a told) where
   mine : IsActing (task.Act a) (x.asked party) (x.session.doing party)
-  mine = acting (filter (is_call_of party) m.calls.items) row a (x.asked party) (x.session.doing party) one is (rep.calls party)
+  mine = acting (filter (is_row_of party) m.calls.items) row a (x.asked party) (x.session.doing party) one is (rep.calls party)
 
   abbrev d : PartyCall
   d = mine.call

@@ -93,8 +93,8 @@ notifier_rows n rows = length (filter (λ (row : EventRow). notifies_on n (thing
 -- ---- rows of calls
 
 -- the row is of a call of the party
-abbrev pub is_call_of : List ℕ → CallRow → Bool
-is_call_of party row = bytes_eq party row.party
+abbrev pub is_row_of : List ℕ → CallRow → Bool
+is_row_of party row = bytes_eq party row.party
 
 -- a call as the definitions see it
 abbrev pub event_call : ActiveCall → EventCall
@@ -160,7 +160,7 @@ pub record Holds (t : EventTable) (rows : List EventRow) (x : ScriptEvents) : Ty
 
 -- the rows of calls are those of the parties
 abbrev pub AreCalls : List CallRow → (List ℕ → Option EventAsk) → (List ℕ → Option PartyCall) → Type 0
-AreCalls rows asked doing = (p : List ℕ) → AreCallRows (filter (is_call_of p) rows) (asked p) (doing p)
+AreCalls rows asked doing = (p : List ℕ) → AreCallRows (filter (is_row_of p) rows) (asked p) (doing p)
 
 -- what parties hold and run here stands for the events of a script
 pub record Represents (m : PartyEvents) (x : ScriptEvents) : Type 0 where

@@ -45,6 +45,7 @@ pub(crate) fn listen(
         }
         Err(ListenerCreateError::AlreadyExists) => Ok(EventReply::AlreadyExists),
         Err(ListenerCreateError::OutOfMemory) => Err(AllocError),
+        // `few`: numbers are left, and nothing else refuses a listener.
         Err(_) => unreachable!(),
     }
 }
@@ -73,6 +74,7 @@ pub(crate) fn add_notifier(
             Ok(EventReply::Done)
         }
         Err(NotifierCreateError::DoesNotExist) => Ok(EventReply::DoesNotExist),
+        // `few`: there may be one more, and nothing else refuses a notifier.
         Err(_) => unreachable!(),
     }
 }

@@ -53,7 +53,7 @@ impl PartyEvents {
                     return Err(Reason::Taken);
                 }
                 Ok(CallTask::Listen {
-                    name: listener,
+                    listener,
                     kind: EventKind::Bits,
                     event,
                     max,
@@ -64,7 +64,7 @@ impl PartyEvents {
                     return Err(Reason::Taken);
                 }
                 Ok(CallTask::Listen {
-                    name: listener,
+                    listener,
                     kind: EventKind::Queue,
                     event,
                     max: 0,
@@ -79,7 +79,7 @@ impl PartyEvents {
                     return Err(Reason::Taken);
                 }
                 Ok(CallTask::Notifier {
-                    name: notifier,
+                    notifier,
                     kind,
                     event,
                 })

@@ -62,13 +62,13 @@ impl CallTask {
         match self {
             CallTask::Act(act) => act.call.is_timed() && act.waited,
             CallTask::Listen {
-                name: _,
+                listener: _,
                 kind: _,
                 event: _,
                 max: _,
             } => false,
             CallTask::Notifier {
-                name: _,
+                notifier: _,
                 kind: _,
                 event: _,
             } => false,

@@ -2,14 +2,14 @@
 ghost use Rattle.std.specs.Prelude.{◌≡◌, ◌∷◌, [], find, length, not, option_map};
 ghost use Rattle.std.specs.List.{filter, position_from};
 ghost use Rattle.script_events.specs.Calls.{listened_in, notified_in};
-ghost use Rattle.script_events.specs.PartyEvents.{is_call_of, is_thing_of};
+ghost use Rattle.script_events.specs.PartyEvents.{is_row_of, is_thing_of};
 
 use crate::rows::{CallRow, EventRow, Role};
 use board_model::Name;
 
 /// Where the call of a party stands.
 pub(crate) fn place_of_call(party: &Name, calls: &[CallRow]) -> Option<usize>
-    ensures { result ≡ position_from (is_call_of party.now) 0 calls.now }
+    ensures { result ≡ position_from (is_row_of party.now) 0 calls.now }
 {
     for (i, row) in calls.iter().enumerate() {
         if *party == row.party {
@@ -68,11 +68,12 @@ pub(crate) fn notified(party: &Name, name: &Name, things: &[EventRow]) -> Option
 
 /// Takes out the one row of a party's call.
 pub(crate) fn take_call(party: &Name, calls: &mut Vec<CallRow>) -> CallRow
-    requires { length (filter (is_call_of party.now) calls.old.items) ≡ 1 }
-    ensures one { filter (is_call_of party.now) calls.old.items ≡ result ∷ [] }
-    ensures left { calls.new.items ≡ filter (λ row. not (is_call_of party.now row)) calls.old.items }
+    requires { length (filter (is_row_of party.now) calls.old.items) ≡ 1 }
+    ensures one { filter (is_row_of party.now) calls.old.items ≡ result ∷ [] }
+    ensures left { calls.new.items ≡ filter (λ row. not (is_row_of party.now row)) calls.old.items }
 {
     let Some(place) = place_of_call(party, calls) else {
+        // The row stands.
         unreachable!()
     };
     calls.remove(place)
@@ -80,7 +81,7 @@ pub(crate) fn take_call(party: &Name, calls: &mut Vec<CallRow>) -> CallRow
 
 /// Takes out the rows of a party's calls.
 pub(crate) fn end_calls(party: &Name, calls: &mut Vec<CallRow>)
-    ensures { calls.new.items ≡ filter (λ row. not (is_call_of party.now row)) calls.old.items }
+    ensures { calls.new.items ≡ filter (λ row. not (is_row_of party.now row)) calls.old.items }
 {
     calls.retain(|row| !(*party == row.party));
 }
@@ -92,6 +93,7 @@ pub(crate) fn take_thing(party: &Name, name: &Name, things: &mut Vec<EventRow>) 
     ensures left { things.new.items ≡ filter (λ row. not (is_thing_of party.now name.now row)) things.old.items }
 {
     let Some(place) = place_of_thing(party, name, things) else {
+        // The row stands.
         unreachable!()
     };
     things.remove(place)

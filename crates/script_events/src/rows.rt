@@ -41,14 +41,14 @@ pub(crate) struct Act {
 pub(crate) enum CallTask {
     /// A listener of a new event is asked for.
     Listen {
-        name: Name,
+        listener: Name,
         kind: EventKind,
         event: EventName,
         max: u64,
     },
     /// A notifier is asked for.
     Notifier {
-        name: Name,
+        notifier: Name,
         kind: EventKind,
         event: EventName,
     },

@@ -44,7 +44,7 @@ impl PartyEvents {
         let CallRow { party, task } = take_call(party, &mut self.calls);
         match task {
             CallTask::Listen {
-                name,
+                listener,
                 kind,
                 event,
                 max,
@@ -53,19 +53,23 @@ impl PartyEvents {
                     &mut self.events,
                     &mut self.things,
                     party,
-                    name,
+                    listener,
                     kind,
                     &event,
                     max,
                 )?;
                 Ok(Stepped::Asked(reply))
             }
-            CallTask::Notifier { name, kind, event } => {
+            CallTask::Notifier {
+                notifier,
+                kind,
+                event,
+            } => {
                 let reply = add_notifier(
                     &mut self.events,
                     &mut self.things,
                     party,
-                    name,
+                    notifier,
                     kind,
                     &event,
                 )?;

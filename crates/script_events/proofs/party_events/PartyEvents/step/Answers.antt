@@ -5,7 +5,7 @@ use Rattle.script_events.specs.declared.party_events.PartyEvents.{PartyEvents}
 use Rattle.script_events.specs.declared.rows.CallTask.{CallTask}
 use Rattle.script_events.specs.declared.rows.CallTask.TheVariants as task
 use Rattle.script_events.specs.Calls.{IsWentOn}
-use Rattle.script_events.specs.PartyEvents.{IsAskedBy, IsStepped, OfEach, is_call_of}
+use Rattle.script_events.specs.PartyEvents.{IsAskedBy, IsStepped, OfEach, is_row_of}
 use Rattle.script_events.proofs.Asks.{few_notifiers}
 use Rattle.script_events.proofs.Steps.{act_can, act_goes_on, act_stepped, ask_stepped, if_ok, one_row, own_row}
 use Rattle.script_events.proofs.party_events.PartyEvents.step.Goals as goal
@@ -15,7 +15,7 @@ take_call-party-requires c =
     let m = c.args.self.now in
     let party = c.args.party.now in
     let led = c.requires.led in
-    one_row (filter (is_call_of party) m.calls.items) (led.state.asked party) (led.state.session.doing party) (led.represents.calls party) (c.requires.runs led.state led.count led.few led.sound led.represents)
+    one_row (filter (is_row_of party) m.calls.items) (led.state.asked party) (led.state.session.doing party) (led.represents.calls party) (c.requires.runs led.state led.count led.few led.sound led.represents)
 
 pub add_notifier-requires : goal.add_notifier-requires
 add_notifier-requires c =
@@ -46,8 +46,8 @@ returns-in_ok-reply-in-Listen c =
     let m = c.args.self.now in
     let party = c.args.party.now in
     let row = c.take_call-party.result in
-    let q = to_listen c.in-Listen.name c.in-Listen.kind c.in-Listen.event c.in-Listen.max in
-    let is : row.task ≡ task.Listen c.in-Listen.name c.in-Listen.kind c.in-Listen.event c.in-Listen.max = search rules in
+    let q = to_listen c.in-Listen.listener c.in-Listen.kind c.in-Listen.event c.in-Listen.max in
+    let is : row.task ≡ task.Listen c.in-Listen.listener c.in-Listen.kind c.in-Listen.event c.in-Listen.max = search rules in
     λ x count few sound rep.
     ask_stepped m _ x count sound rep party row c.take_call-party.ensures.one q (subst (λ (t : CallTask). IsAskedBy t q) (sym is) refl) c.in_ok-reply-in-Listen.reply c.in_ok-reply-in-Listen.ensures c.take_call-party.ensures.left
 
@@ -56,8 +56,8 @@ returns-in_ok-reply-in-Notifier c =
     let m = c.args.self.now in
     let party = c.args.party.now in
     let row = c.take_call-party.result in
-    let q = to_notify c.in-Notifier.name c.in-Notifier.kind c.in-Notifier.event in
-    let is : row.task ≡ task.Notifier c.in-Notifier.name c.in-Notifier.kind c.in-Notifier.event = search rules in
+    let q = to_notify c.in-Notifier.notifier c.in-Notifier.kind c.in-Notifier.event in
+    let is : row.task ≡ task.Notifier c.in-Notifier.notifier c.in-Notifier.kind c.in-Notifier.event = search rules in
     λ x count few sound rep.
     ask_stepped m _ x count sound rep party row c.take_call-party.ensures.one q (subst (λ (t : CallTask). IsAskedBy t q) (sym is) refl) c.in_ok-reply-in-Notifier.reply c.in_ok-reply-in-Notifier.ensures c.take_call-party.ensures.left
 
