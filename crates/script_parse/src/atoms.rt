@@ -11,14 +11,13 @@ use board_model::{Key, KeyType, Name, ValueType};
 fn has_name_bytes(text: &[u8]) -> bool
     ensures { result ≡ list_all is_name_byte text.now }
 {
-    text.iter()
-        .all(|b| (*b >= 97 && *b <= 122) || (*b >= 48 && *b <= 57))
+    text.iter().all(|b| (*b >= b'a' && *b <= b'z') || (*b >= b'0' && *b <= b'9'))
 }
 
 fn has_visible_bytes(text: &[u8]) -> bool
     ensures { result ≡ list_all is_visible_byte text.now }
 {
-    text.iter().all(|b| *b >= 33 && *b <= 126)
+    text.iter().all(|b| *b >= b'!' && *b <= b'~')
 }
 
 fn is_name(text: &[u8]) -> bool
@@ -67,7 +66,7 @@ fn is_plain(text: &[u8]) -> bool
     match text {
         [] => false,
         [_] => true,
-        [first, ..] => *first != 48,
+        [first, ..] => *first != b'0',
     }
 }
 
@@ -77,10 +76,10 @@ fn digits_value(text: &[u8]) -> Option<u64>
 {
     let mut n: u64 = 0;
     for b in text {
-        if *b < 48 || *b > 57 {
+        if *b < b'0' || *b > b'9' {
             return None;
         }
-        let digit = (*b - 48) as u64;
+        let digit = u64::from(*b - b'0');
         if n > (u64::MAX - digit) / 10 {
             return None;
         }

@@ -23,7 +23,7 @@ const MOST_ID: u64 = 65535;
 fn has_event_bytes(text: &[u8]) -> bool
     ensures { result ≡ list_all is_event_byte text.now }
 {
-    text.iter().all(|b| *b != 47 && *b != 92)
+    text.iter().all(|b| *b != b'/' && *b != b'\\')
 }
 
 fn is_event_name(text: &[u8]) -> bool

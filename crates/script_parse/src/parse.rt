@@ -81,10 +81,10 @@ fn line_of(alloc: Global, tokens: &mut Tokens) -> Result<Option<Line>, AllocErro
 fn script_line_of(alloc: Global, bytes: &[u8]) -> Result<Option<ScriptLine>, AllocError>
     ensures { IfOk result (λ o. o ≡ read_script_line (split_tokens bytes.now)) }
 {
-    if let Some(line) = line_of(alloc, &mut Tokens::between(bytes, 32))? {
+    if let Some(line) = line_of(alloc, &mut Tokens::between(bytes, b' '))? {
         return Ok(Some(ScriptLine::Board(line)));
     }
-    event_line_of(alloc, &mut Tokens::between(bytes, 32))
+    event_line_of(alloc, &mut Tokens::between(bytes, b' '))
 }
 
 /// The line of the script that these bytes spell, or `None` where no line of the grammar does.

@@ -35,7 +35,7 @@ pub(crate) fn value_of(text: &[u8]) -> Option<Value>
     }
     match bytes_behind(text, b"u64:") {
         Some(digits) => Some(Value::U64(number_of(digits)?)),
-        None => four_of(&mut Tokens::between(bytes_behind(text, b"q4:")?, 44)),
+        None => four_of(&mut Tokens::between(bytes_behind(text, b"q4:")?, b',')),
     }
 }
 

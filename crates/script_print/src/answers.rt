@@ -27,7 +27,7 @@ pub(crate) fn push_digits(n: u64, out: &mut Vec<u8>) -> Result<(), AllocError>
 pub(crate) fn push_number(n: u64, out: &mut Vec<u8>) -> Result<(), AllocError>
     ensures { OnOk result (out.new.items ≡ out.old.items ++ number_text n) }
 {
-    out.push(32)?;
+    out.push(b' ')?;
     push_digits(n, out)
 }
 
@@ -35,7 +35,7 @@ fn push_place(board: u64, word: u64, value: u64, out: &mut Vec<u8>) -> Result<()
     ensures { OnOk result (out.new.items ≡ out.old.items ++ place_text board word value) }
 {
     push_digits(board, out)?;
-    out.push(58)?;
+    out.push(b':')?;
     push_digits(word, out)?;
     push_number(value, out)
 }
@@ -119,7 +119,7 @@ pub fn push_step(access: Access, reply: &Option<Reply>, out: &mut Vec<u8>) -> Re
 {
     push_access(access, out)?;
     push_told(reply, out)?;
-    out.push(10)?;
+    out.push(b'\n')?;
     Ok(())
 }
 
@@ -132,7 +132,7 @@ pub fn push_words(words: &[u64], out: &mut Vec<u8>) -> Result<(), AllocError>
 {
     out.extend_from_slice(b"words")?;
     push_numbers(words, out)?;
-    out.push(10)?;
+    out.push(b'\n')?;
     Ok(())
 }
 

@@ -24,7 +24,7 @@ fn push_event(
 {
     out.extend_from_slice(word)?;
     out.extend_from_slice(event_kind_name(kind))?;
-    out.push(58)?;
+    out.push(b':')?;
     out.extend_from_slice(name)
 }
 
@@ -161,7 +161,7 @@ pub fn push_event_step(
 {
     push_event_access(kind, name, access, answer, out)?;
     push_event_told(told, out)?;
-    out.push(10)?;
+    out.push(b'\n')?;
     Ok(())
 }
 
@@ -174,7 +174,7 @@ pub fn push_event_asked(reply: &EventReply, out: &mut Vec<u8>) -> Result<(), All
 {
     out.extend_from_slice(b"table = ")?;
     push_event_reply(reply, out)?;
-    out.push(10)?;
+    out.push(b'\n')?;
     Ok(())
 }
 

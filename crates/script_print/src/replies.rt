@@ -18,7 +18,7 @@ fn push_behind_commas(numbers: &[u64], out: &mut Vec<u8>) -> Result<(), AllocErr
     ensures { OnOk result (out.new.items ≡ out.old.items ++ flat_map comma_text numbers.now) }
 {
     for number in numbers {
-        out.push(44)?;
+        out.push(b',')?;
         push_digits(*number, out)?;
     }
     Ok(())
@@ -90,7 +90,7 @@ fn push_keys(keys: &[Key], out: &mut Vec<u8>) -> Result<(), AllocError>
     ensures { OnOk result (out.new.items ≡ out.old.items ++ flat_map key_item_text keys.now) }
 {
     for key in keys {
-        out.push(32)?;
+        out.push(b' ')?;
         push_key(key, out)?;
     }
     Ok(())
@@ -101,7 +101,7 @@ fn push_names(names: &[Name], out: &mut Vec<u8>) -> Result<(), AllocError>
     ensures { OnOk result (out.new.items ≡ out.old.items ++ flat_map name_item_text names.now) }
 {
     for name in names {
-        out.push(32)?;
+        out.push(b' ')?;
         out.extend_from_slice(name.as_bytes())?;
     }
     Ok(())
