@@ -1,5 +1,7 @@
 //! The boards of a domain and the things of them, as plain data: one call is one step on the tables.
-ghost use Rattle.std.specs.Prelude.{◌≡◌, []};
+ghost use Rattle.std.specs.Prelude.{◌≡◌, ◌+◌, ◌-◌, ◌^◌, ◌<◌, [], IfOk, OnOk, OnErr};
+ghost use Rattle.board_model.specs.TableCalls.{with_thing};
+ghost use Rattle.board_service.specs.Domain.{with_tables};
 
 mod create;
 mod handles;
@@ -12,9 +14,11 @@ mod told;
 use crate::board_row::BoardRow;
 use crate::cells::Cells;
 use crate::counts::Held;
+use crate::ids::{NodeId, ThingId};
+use board_model::{Kind, Thing};
 use board_names::NameTable;
 use board_store::Statics;
-use std::alloc::Global;
+use std::alloc::{AllocError, Global};
 use std::marker::Model;
 
 /// The boards of a domain and the things of them.
@@ -62,5 +66,23 @@ impl<C: Cells> DomainCore<C> {
             last_thing: 0,
             alloc,
         }
+    }
+    // Adds a thing with the next number.
+    fn add_thing(&mut self, holder: NodeId, board: u64, kind: Kind) -> Result<ThingId, AllocError>
+        requires { self.old.last_thing < 2 ^ 64 - 2 }
+        ensures number { IfOk result (λ thing. thing ≡ self.old.last_thing + 1) }
+        ensures ok { OnOk result (self.new ≡ with_tables self.old (with_thing self.old.tables (record { holder = holder; name = self.old.last_thing + 1; board = board; kind = kind }))) }
+        ensures err { OnErr result (self.new ≡ self.old) }
+    {
+        self.things.reserve(1)?;
+        self.last_thing += 1;
+        let name = ThingId(self.last_thing);
+        self.things.push_reserved(Thing {
+            holder,
+            name,
+            board,
+            kind,
+        });
+        Ok(name)
     }
 }

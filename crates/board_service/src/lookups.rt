@@ -49,10 +49,11 @@ pub(crate) fn thing_at(number: ThingId, things: &[Held]) -> Option<&Held>
 /// The thing with the number, which stands.
 pub(crate) fn thing_of(number: ThingId, things: &[Held]) -> Held
     requires { IsSome (find (domain.is_thing number) things.now) }
-    ensures { result ≡ domain.thing_of number things.now }
+    ensures { result ≡ domain.thing_numbered number things.now }
 {
     match thing_at(number, things) {
         Some(t) => *t,
+        // The thing stands.
         None => unreachable!(),
     }
 }
@@ -71,11 +72,12 @@ fn place_of_thing(number: ThingId, things: &[Held]) -> Option<usize>
 /// Takes the thing with the number out.
 pub(crate) fn take_thing(number: ThingId, things: &mut Vec<Held>) -> Held
     requires { IsSome (find (domain.is_thing number) things.old.items) }
-    ensures taken { result ≡ domain.thing_of number things.old.items }
+    ensures taken { result ≡ domain.thing_numbered number things.old.items }
     ensures rest { things.new.items ≡ tables.without (domain.is_thing number) things.old.items }
 {
     match place_of_thing(number, things) {
         Some(i) => things.remove(i),
+        // The thing stands.
         None => unreachable!(),
     }
 }

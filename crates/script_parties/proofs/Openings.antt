@@ -38,7 +38,7 @@ use Rattle.script_parties.proofs.Growth.{IsMore, IsNode, all_more, named_more, n
 use Rattle.script_parties.proofs.Ports.{few_left, one_left, shown}
 use Rattle.board_service.specs.declared.made.Made.{Made}
 use Rattle.board_service.specs.Domain.{Domain, after_create, after_open, create_answer, made, open_answer, spent}
-use Rattle.board_service.specs.Entries.{IsOpening, words_in}
+use Rattle.board_service.specs.Entries.{IsOpening, first_words}
 
 -- a factory that a party has of a board
 abbrev pub factory_of : List ℕ → List ℕ → ℕ → Held
@@ -158,7 +158,7 @@ tables_before : {E : Type 0} (o : Option E) (n : ℕ) (after before : Tables (Li
 tables_before {E} o n after before why e = subst (λ (p : Option E). before ≡ (asked p n after before).1) (sym e) refl
 
 -- the words of the entries' first values
-words_same : (entries : List AddedEntry) → map words_in (map added_of entries) ≡ map (λ (e : AddedEntry). value_words e.value) entries
+words_same : (entries : List AddedEntry) → map first_words (map added_of entries) ≡ map (λ (e : AddedEntry). value_words e.value) entries
 words_same [] = refl
 words_same (e ∷ es) = ap (λ ws. value_words e.value ∷ ws) (words_same es)
 

@@ -5,7 +5,7 @@ ghost use Rattle.board_layout.specs.Keys.{details, same_keys};
 ghost use Rattle.board_layout.specs.Layout.{IsShape, opening_words, payload, places_from};
 ghost use Rattle.board_model.specs.Tables.{shapes_of};
 ghost use Rattle.board_service.specs.Domain as domain;
-ghost use Rattle.board_service.specs.Entries.{IsOpening, added_of, words_in};
+ghost use Rattle.board_service.specs.Entries.{IsOpening, added_of, first_words};
 ghost use Rattle.board_names.specs.Table.{at, putting};
 ghost use Rattle.board_store.specs.declared.statics.Stored.TheVariants.{Final};
 
@@ -38,7 +38,7 @@ fn make_described<C: Cells>(
     requires small { payload (shapes_of (map added_of entries.now.items)) < 2 ^ 32 }
     requires free { at descriptions.old path.now ≡ None }
     ensures opened { IfOk result (λ c. C.opened plan.now.cells.items (map added_of entries.now.items) c) }
-    ensures words { IfOk result (λ c. IfSome (C.words c) (λ ws. ws ≡ opening_words 0 plan.now.cells.items (map words_in (map added_of entries.now.items)))) }
+    ensures words { IfOk result (λ c. IfSome (C.words c) (λ ws. ws ≡ opening_words 0 plan.now.cells.items (map first_words (map added_of entries.now.items)))) }
     ensures ok { OnOk result (descriptions.new ≡ putting descriptions.old path.now (Final bytes.now)) }
     ensures err { OnErr result (descriptions.new ≡ descriptions.old) }
 {
@@ -71,7 +71,7 @@ impl<C: Cells> DomainCore<C> {
         requires shapes { All IsShape (shapes_of (map added_of entries.items)) }
         ensures answer { Answers result BlackboardCreateError.OutOfMemory (domain.create_answer self.old (same_keys K.eq K.value_of K.SIZE K.WORDS) name.now (map added_of entries.items)) }
         ensures refused { Refuses result (domain.create_answer self.old (same_keys K.eq K.value_of K.SIZE K.WORDS) name.now (map added_of entries.items)) }
-        ensures ok { OnOk result ((c : C) × C.opened (places_from 0 (shapes_of (map added_of entries.items))) (map added_of entries.items) c × IsOpening (C.words c) (map added_of entries.items) × (self.new ≡ domain.after_create self.old node name.now (details K.type_bytes K.SIZE K.ALIGNMENT) limits attributes (map added_of entries.items) c)) }
+        ensures ok { OnOk result (domain.IsCreated C.opened C.words self.old self.new node name.now (details K.type_bytes K.SIZE K.ALIGNMENT) limits attributes (map added_of entries.items)) }
         ensures err { OnErr result (self.new ≡ self.old) }
     {
         let wanted = entries.as_slice();

@@ -2,7 +2,6 @@
 ghost use Rattle.std.specs.Prelude.{true, ◌≡◌, OnOk, OnErr};
 ghost use Rattle.board_layout.specs.Answer.{Answers, Refuses};
 ghost use Rattle.board_layout.specs.Keys.{details, is_key};
-ghost use Rattle.board_layout.specs.Layout.{cell_shape};
 ghost use Rattle.board_service.specs.Domain as domain;
 
 use super::DomainCore;
@@ -13,7 +12,7 @@ use crate::lookups::{find_entry, thing_of};
 use crate::made::Found;
 use crate::refusals::LAST;
 use board_layout::{BoardKey, TypeDetail};
-use board_model::{Kind, Thing, ThingKind};
+use board_model::{Kind, ThingKind};
 use board_names::{EntryHandleError, EntryHandleMutError};
 
 impl<C: Cells> DomainCore<C> {
@@ -28,9 +27,9 @@ impl<C: Cells> DomainCore<C> {
         value: &TypeDetail,
     ) -> Result<Found, EntryHandleError>
         requires { domain.is_held self.old (details K.type_bytes K.SIZE K.ALIGNMENT) reader ThingKind.Reader ≡ true }
-        ensures answer { Answers result EntryHandleError.OutOfMemory (domain.entry_answer self.old (domain.entry_for self.old (domain.held self.old reader) (is_key K.eq K.value_of K.SIZE K.WORDS key.now) value.now)) }
-        ensures refused { Refuses result (domain.entry_answer self.old (domain.entry_for self.old (domain.held self.old reader) (is_key K.eq K.value_of K.SIZE K.WORDS key.now) value.now)) }
-        ensures ok { OnOk result (self.new ≡ domain.after_entry self.old (domain.held self.old reader) (domain.entry_for self.old (domain.held self.old reader) (is_key K.eq K.value_of K.SIZE K.WORDS key.now) value.now)) }
+        ensures answer { Answers result EntryHandleError.OutOfMemory (domain.entry_answer self.old (domain.entry_of self.old reader (is_key K.eq K.value_of K.SIZE K.WORDS key.now) value.now)) }
+        ensures refused { Refuses result (domain.entry_answer self.old (domain.entry_of self.old reader (is_key K.eq K.value_of K.SIZE K.WORDS key.now) value.now)) }
+        ensures ok { OnOk result (self.new ≡ domain.after_entry self.old (domain.held self.old reader) (domain.entry_of self.old reader (is_key K.eq K.value_of K.SIZE K.WORDS key.now) value.now)) }
         ensures err { OnErr result (self.new ≡ self.old) }
     {
         let of = thing_of(reader, &self.things);
@@ -41,23 +40,11 @@ impl<C: Cells> DomainCore<C> {
         if self.last_thing >= LAST {
             return Err(EntryHandleError::NumbersSpent);
         }
-        if self.things.reserve(1).is_err() {
-            return Err(EntryHandleError::OutOfMemory);
+        let kind = Kind::ReadHandle { entry };
+        match self.add_thing(of.holder, of.board, kind) {
+            Ok(thing) => Ok(Found::at(thing, entry, &cell)),
+            Err(_) => Err(EntryHandleError::OutOfMemory),
         }
-        self.last_thing += 1;
-        let thing = ThingId(self.last_thing);
-        self.things.push_reserved(Thing {
-            holder: of.holder,
-            name: thing,
-            board: of.board,
-            kind: Kind::ReadHandle { entry },
-        });
-        Ok(Found {
-            thing,
-            entry,
-            place: cell.place,
-            shape: cell.shape(),
-        })
     }
 
     /// Makes a write handle of the entry with this key and these details of its values, from a writer of a board whose keys are `K`'s.
@@ -71,9 +58,9 @@ impl<C: Cells> DomainCore<C> {
         value: &TypeDetail,
     ) -> Result<Found, EntryHandleMutError>
         requires { domain.is_held self.old (details K.type_bytes K.SIZE K.ALIGNMENT) writer ThingKind.Writer ≡ true }
-        ensures answer { Answers result EntryHandleMutError.OutOfMemory (domain.entry_mut_answer self.old (domain.held self.old writer) (domain.entry_for self.old (domain.held self.old writer) (is_key K.eq K.value_of K.SIZE K.WORDS key.now) value.now)) }
-        ensures refused { Refuses result (domain.entry_mut_answer self.old (domain.held self.old writer) (domain.entry_for self.old (domain.held self.old writer) (is_key K.eq K.value_of K.SIZE K.WORDS key.now) value.now)) }
-        ensures ok { OnOk result (self.new ≡ domain.after_entry_mut self.old (domain.held self.old writer) (domain.entry_for self.old (domain.held self.old writer) (is_key K.eq K.value_of K.SIZE K.WORDS key.now) value.now)) }
+        ensures answer { Answers result EntryHandleMutError.OutOfMemory (domain.entry_mut_answer self.old (domain.held self.old writer) (domain.entry_of self.old writer (is_key K.eq K.value_of K.SIZE K.WORDS key.now) value.now)) }
+        ensures refused { Refuses result (domain.entry_mut_answer self.old (domain.held self.old writer) (domain.entry_of self.old writer (is_key K.eq K.value_of K.SIZE K.WORDS key.now) value.now)) }
+        ensures ok { OnOk result (self.new ≡ domain.after_entry_mut self.old (domain.held self.old writer) (domain.entry_of self.old writer (is_key K.eq K.value_of K.SIZE K.WORDS key.now) value.now)) }
         ensures err { OnErr result (self.new ≡ self.old) }
     {
         let of = thing_of(writer, &self.things);
@@ -87,25 +74,13 @@ impl<C: Cells> DomainCore<C> {
         if self.last_thing >= LAST {
             return Err(EntryHandleMutError::NumbersSpent);
         }
-        if self.things.reserve(1).is_err() {
-            return Err(EntryHandleMutError::OutOfMemory);
-        }
-        self.last_thing += 1;
-        let thing = ThingId(self.last_thing);
-        self.things.push_reserved(Thing {
-            holder: of.holder,
-            name: thing,
-            board: of.board,
-            kind: Kind::WriteHandle {
-                entry,
-                port: port_of(&of.kind),
-            },
-        });
-        Ok(Found {
-            thing,
+        let kind = Kind::WriteHandle {
             entry,
-            place: cell.place,
-            shape: cell.shape(),
-        })
+            port: port_of(&of.kind),
+        };
+        match self.add_thing(of.holder, of.board, kind) {
+            Ok(thing) => Ok(Found::at(thing, entry, &cell)),
+            Err(_) => Err(EntryHandleMutError::OutOfMemory),
+        }
     }
 }

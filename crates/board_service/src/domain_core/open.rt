@@ -6,12 +6,12 @@ ghost use Rattle.board_service.specs.Domain as domain;
 
 use super::DomainCore;
 use crate::cells::Cells;
-use crate::ids::{NodeId, ThingId};
+use crate::ids::NodeId;
 use crate::made::Made;
 use crate::refusals::{number_of_named, open_refusal};
 use board_concepts::AttributeVerifier;
 use board_layout::{BoardKey, TypeDetail, TypeVariant};
-use board_model::{Kind, Limits, Thing};
+use board_model::{Kind, Limits};
 use board_names::{BlackboardOpenError, ServiceName};
 
 impl<C: Cells> DomainCore<C> {
@@ -46,17 +46,9 @@ impl<C: Cells> DomainCore<C> {
             return Err(why);
         }
         let number = number_of_named(name, &self.boards);
-        if self.things.reserve(1).is_err() {
-            return Err(BlackboardOpenError::OutOfMemory);
+        match self.add_thing(node, number, Kind::Factory) {
+            Ok(thing) => Ok(Made { thing, number }),
+            Err(_) => Err(BlackboardOpenError::OutOfMemory),
         }
-        self.last_thing += 1;
-        let thing = ThingId(self.last_thing);
-        self.things.push_reserved(Thing {
-            holder: node,
-            name: thing,
-            board: number,
-            kind: Kind::Factory,
-        });
-        Ok(Made { thing, number })
     }
 }

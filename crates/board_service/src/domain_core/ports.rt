@@ -10,7 +10,7 @@ use crate::ids::ThingId;
 use crate::lookups::{has_all_readers, thing_of};
 use crate::made::Made;
 use crate::refusals::LAST;
-use board_model::{Kind, Thing};
+use board_model::Kind;
 use board_names::{ReaderCreateError, WriterCreateError};
 
 impl<C: Cells> DomainCore<C> {
@@ -32,23 +32,14 @@ impl<C: Cells> DomainCore<C> {
         if self.last_port >= LAST || self.last_thing >= LAST {
             return Err(ReaderCreateError::NumbersSpent);
         }
-        if self.things.reserve(1).is_err() {
+        let port = self.last_port + 1;
+        let Ok(thing) = self.add_thing(of.holder, of.board, Kind::Reader { port }) else {
             return Err(ReaderCreateError::OutOfMemory);
-        }
-        self.last_port += 1;
-        self.last_thing += 1;
-        let thing = ThingId(self.last_thing);
-        self.things.push_reserved(Thing {
-            holder: of.holder,
-            name: thing,
-            board: of.board,
-            kind: Kind::Reader {
-                port: self.last_port,
-            },
-        });
+        };
+        self.last_port = port;
         Ok(Made {
             thing,
-            number: self.last_port,
+            number: port,
         })
     }
 
@@ -70,23 +61,14 @@ impl<C: Cells> DomainCore<C> {
         if self.last_port >= LAST || self.last_thing >= LAST {
             return Err(WriterCreateError::NumbersSpent);
         }
-        if self.things.reserve(1).is_err() {
+        let port = self.last_port + 1;
+        let Ok(thing) = self.add_thing(of.holder, of.board, Kind::Writer { port }) else {
             return Err(WriterCreateError::OutOfMemory);
-        }
-        self.last_port += 1;
-        self.last_thing += 1;
-        let thing = ThingId(self.last_thing);
-        self.things.push_reserved(Thing {
-            holder: of.holder,
-            name: thing,
-            board: of.board,
-            kind: Kind::Writer {
-                port: self.last_port,
-            },
-        });
+        };
+        self.last_port = port;
         Ok(Made {
             thing,
-            number: self.last_port,
+            number: port,
         })
     }
 }
