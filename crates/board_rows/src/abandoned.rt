@@ -3,7 +3,7 @@ mod boards;
 mod events;
 mod loans;
 
-use crate::row::{Part, Script};
+use crate::row::{Part, Script, joined};
 use std::alloc::Global;
 use std::process::Abort;
 use std::test::Fail;
@@ -20,17 +20,12 @@ struct Abandoned {
 
 impl Abandoned {
     fn holds(&self, rt: &impl Abort, alloc: Global) -> Result<(), Fail> {
-        let mut begun = Vec::new(alloc);
-        for part in self.opening {
-            begun.extend_from_slice(part)?;
-        }
+        let mut begun = joined(alloc, self.opening)?;
         for (n, line) in self.call.iter().enumerate() {
             begun.push(*line)?;
             let mut lines = begun.to_vec(alloc)?;
             if let Some(after) = self.after.get(n).or(self.after.last()) {
-                for part in *after {
-                    lines.extend_from_slice(part)?;
-                }
+                lines.extend_from_slice(&joined(alloc, after)?)?;
             }
             Script {
                 name: line.0,

@@ -227,9 +227,11 @@ const THE_LAST_ID: Part = &[
 fn a_full_queue(rt: HostRuntime) -> Result<(), Fail> {
     let notified = numbered(rt.alloc(), "begin n notify n ", 512)?;
     let taken = taken(rt.alloc())?;
-    let mut lines = A_QUEUE.to_vec(rt.alloc())?;
+    let mut lines = Vec::new(rt.alloc());
+    lines.extend_from_slice(A_QUEUE)?;
     for line in &notified {
-        lines.extend_from_slice(&[(line, "ok"), ("step n", "push queue:q = ok")])?;
+        lines.push((line, "ok"))?;
+        lines.push(("step n", "push queue:q = ok"))?;
     }
     lines.extend_from_slice(THE_LAST_ID)?;
     for answer in &taken {

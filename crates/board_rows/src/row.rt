@@ -30,16 +30,25 @@ pub(crate) const PLAIN: Row = Row {
     note: "",
 };
 
+/// The lines of the parts, one after another.
+pub(crate) fn joined(
+    alloc: Global,
+    parts: &[Part],
+) -> Result<Vec<(&'static str, &'static str)>, AllocError> {
+    let mut lines = Vec::new(alloc);
+    for part in parts {
+        lines.extend_from_slice(part)?;
+    }
+    Ok(lines)
+}
+
 impl Row {
     /// All its lines with their answers.
     pub(crate) fn all_lines(
         &self,
         alloc: Global,
     ) -> Result<Vec<(&'static str, &'static str)>, AllocError> {
-        let mut lines = Vec::new(alloc);
-        for part in self.opening {
-            lines.extend_from_slice(part)?;
-        }
+        let mut lines = joined(alloc, self.opening)?;
         lines.extend_from_slice(self.lines)?;
         Ok(lines)
     }
