@@ -4,7 +4,7 @@ ghost use Rattle.board_model.specs.Lines.{HasCause};
 ghost use Rattle.script_loop.specs.Streams.{Writes};
 
 use board_script::{Failed, Sink, Source};
-use std::io::{Read, Stdin, Write};
+use std::io::{Read, Stderr, Stdin, Stdout, Write};
 
 /// Standard input.
 #[derive(Drop)]
@@ -53,7 +53,13 @@ fn write_front<W: Write>(out: &mut W, faults: &mut u64, bytes: &[u8]) -> Result<
     Err(Failed)
 }
 
-/// Standard output, or standard error.
+/// Standard output.
+pub type StdoutSink = OutSink<Stdout>;
+
+/// Standard error.
+pub type StderrSink = OutSink<Stderr>;
+
+/// A stream of the process that is written to.
 #[derive(Drop)]
 pub struct OutSink<W> {
     out: W,

@@ -3,7 +3,7 @@
 
 mod adapters;
 
-use crate::adapters::{OutSink, StdinSource};
+use crate::adapters::{StderrSink, StdinSource, StdoutSink};
 use board_script::{Sink, run_words};
 use std::alloc::AllocError;
 use std::process::ExitCode;
@@ -25,13 +25,13 @@ fn words(rt: &HostRuntime) -> Result<Vec<String>, AllocError> {
 }
 
 fn main(rt: HostRuntime) -> ExitCode {
-    let mut notes = OutSink::new(rt.stderr());
+    let mut notes = StderrSink::new(rt.stderr());
     let Ok(words) = words(&rt) else {
         let _ = notes.write(b"out of memory\n");
         return ExitCode::from(7);
     };
     let mut source = StdinSource::new(rt.stdin());
-    let mut sink = OutSink::new(rt.stdout());
+    let mut sink = StdoutSink::new(rt.stdout());
     let status = run_words(rt.alloc(), &words, &mut source, &mut sink, &mut notes);
     ExitCode::from(status)
 }
