@@ -1,12 +1,13 @@
 //! The channels of one process.
 ghost use Rattle.std.specs.Prelude.{◌≡◌, ℕ, List, true, codes};
 
-use crate::channels::Channels;
+use crate::channels::{ChannelRegistry, Channels};
 use crate::communication_channel::CommunicationChannel;
 use crate::connector::Connector;
 use crate::creator::Creator;
 use crate::duplex::Duplex;
 use board_names::{FileName, NamedConceptMgmt};
+use std::sync::{MutexGuard, Wait};
 
 /// The channels of one process.
 #[derive(Clone, Copy, Debug, PartialEq, Eq)]
@@ -14,6 +15,12 @@ pub struct Channel;
 
 impl NamedConceptMgmt for Channel {
     type Names = Channels;
+
+    type Registry = ChannelRegistry;
+
+    fn lock<'a, R: Wait>(rt: &R, registry: &'a ChannelRegistry) -> MutexGuard<'a, Channels> {
+        registry.lock(rt)
+    }
 }
 
 impl CommunicationChannel for Channel {

@@ -17,6 +17,7 @@ mod queue;
 #[cfg(test)]
 mod tests;
 
+pub use board_names::NameTable;
 pub use channel::Channel;
 pub use channels::{ChannelRegistry, Channels, SharedQueue};
 pub use communication_channel::{

@@ -3,6 +3,6 @@ pub use board_channel::communication_channel::Local;
 pub use board_channel::{
     Channel, ChannelRegistry, Channels, CommunicationChannel, CommunicationChannelConnector,
     CommunicationChannelCreator, CommunicationChannelParticipant, CommunicationChannelReceiver,
-    CommunicationChannelSender, Connector, Creator, DEFAULT_RECEIVER_BUFFER_SIZE, Duplex, Queue,
-    SharedQueue,
+    CommunicationChannelSender, Connector, Creator, DEFAULT_RECEIVER_BUFFER_SIZE, Duplex,
+    NameTable, Queue, SharedQueue,
 };

@@ -2,6 +2,6 @@
 pub use board_monitoring::monitoring::Local;
 pub use board_monitoring::{
     Builder, Cleaner, Life, Monitor, Monitoring, MonitoringBuilder, MonitoringCleaner,
-    MonitoringMonitor, MonitoringRegistry, MonitoringToken, Monitors, ProcessLocalMonitoring,
-    State, Token,
+    MonitoringMonitor, MonitoringRegistry, MonitoringToken, Monitors, NameTable,
+    ProcessLocalMonitoring, State, Token,
 };

@@ -18,6 +18,7 @@ mod process_local_monitoring;
 mod tests;
 mod token;
 
+pub use board_names::NameTable;
 pub use cleaner::Cleaner;
 pub use monitor::Monitor;
 pub use monitoring::{

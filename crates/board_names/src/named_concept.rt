@@ -13,10 +13,9 @@ use crate::errors::concept::{
 };
 use crate::file_name::FileName;
 use crate::path::Path;
-use crate::registry::Registry;
 use crate::table::{NameTable, list_names};
 use std::alloc::Global;
-use std::sync::Wait;
+use std::sync::{MutexGuard, Wait};
 
 /// A value with the name that was given to its builder.
 pub trait NamedConcept {
@@ -52,6 +51,12 @@ pub trait NamedConceptBuilder: Sized {
 pub trait NamedConceptMgmt {
     /// What stands under the names.
     type Names: NameTable + Drop;
+
+    /// What shares them.
+    type Registry;
+
+    /// The names of a registry, once no one else has them.
+    fn lock<'a, R: Wait>(rt: &R, registry: &'a Self::Registry) -> MutexGuard<'a, Self::Names>;
 
     /// `does_exist_cfg` over the names themselves.
     ///
@@ -105,13 +110,13 @@ pub trait NamedConceptMgmt {
     /// `UnderlyingResourcesBeingSetUp` where the name is that of a locked static storage.
     fn does_exist_cfg<R: Wait>(
         rt: &R,
-        registry: &Registry<Self::Names>,
+        registry: &Self::Registry,
         name: &FileName,
         cfg: &Configuration,
     ) -> Result<bool, NamedConceptDoesExistError>
         ensures { (one : Option Self.Names.Value) × (result ≡ Self.Names.existence one) }
     {
-        let mut state = registry.lock(rt);
+        let mut state = Self::lock(rt, registry);
         Self::does_exist_cfg_in(&mut state, name, cfg)
     }
 
@@ -122,12 +127,12 @@ pub trait NamedConceptMgmt {
     fn list_cfg<R: Wait>(
         rt: &R,
         alloc: Global,
-        registry: &Registry<Self::Names>,
+        registry: &Self::Registry,
         cfg: &Configuration,
     ) -> Result<Vec<FileName>, NamedConceptListError>
         ensures { IsOkUnless result NamedConceptListError.OutOfMemory }
     {
-        let mut state = registry.lock(rt);
+        let mut state = Self::lock(rt, registry);
         Self::list_cfg_in(&mut state, alloc, cfg)
     }
 
@@ -139,13 +144,13 @@ pub trait NamedConceptMgmt {
     /// None: it is never refused.
     fn remove_cfg<R: Wait>(
         rt: &R,
-        registry: &Registry<Self::Names>,
+        registry: &Self::Registry,
         name: &FileName,
         cfg: &Configuration,
     ) -> Result<bool, NamedConceptRemoveError>
         ensures { IsOk result }
     {
-        let mut state = registry.lock(rt);
+        let mut state = Self::lock(rt, registry);
         Self::remove_cfg_in(&mut state, name, cfg)
     }
 

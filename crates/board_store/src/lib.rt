@@ -16,7 +16,7 @@ mod storage;
 #[cfg(test)]
 mod tests;
 
-pub use board_names::{Table, list_names};
+pub use board_names::{NameTable, Table, list_names};
 pub use builder::Builder;
 pub use content::Content;
 pub use locked::Locked;

@@ -6,10 +6,10 @@ use crate::builder::Builder;
 use crate::content::Content;
 use crate::locked::Locked;
 use crate::static_storage::StaticStorage;
-use crate::statics::Statics;
+use crate::statics::{StaticRegistry, Statics};
 use board_names::{FileName, NamePlace, NamedConcept, NamedConceptMgmt, StaticStorageReadError};
 use std::marker::Model;
-use std::sync::Wait;
+use std::sync::{MutexGuard, Wait};
 
 /// A static storage that has its bytes, and keeps them when its name is gone.
 ///
@@ -58,6 +58,12 @@ impl NamedConcept for Storage {
 
 impl NamedConceptMgmt for Storage {
     type Names = Statics;
+
+    type Registry = StaticRegistry;
+
+    fn lock<'a, R: Wait>(rt: &R, registry: &'a StaticRegistry) -> MutexGuard<'a, Statics> {
+        registry.lock(rt)
+    }
 }
 
 impl StaticStorage for Storage {
