@@ -189,23 +189,16 @@ fn events_of_parties(rt: HostRuntime) -> Result<(), Fail> {
     all_hold(&rt, rt.alloc(), &ROWS)
 }
 
-// The text with each number from 1 on.
-fn numbered(alloc: Global, text: &str, count: u64) -> Result<Vec<String>, AllocError> {
-    let mut texts = Vec::new(alloc);
-    for number in 1..=count {
-        texts.push(format!(in alloc; "{text}{number}")?)?;
-    }
-    Ok(texts)
-}
-
 // What the steps of a wait for 513 ids answer, from the second on.
 fn taken(alloc: Global) -> Result<Vec<String>, AllocError> {
     let mut answers = Vec::new(alloc);
+    let mut last = String::from_str(alloc, "pop queue:q 513 = ids 1")?;
     for id in 2..=512 {
         answers.push(format!(in alloc; "pop queue:q {id}")?)?;
+        last.push_str(&format!(in alloc; " {id}")?)?;
     }
-    let ids = numbered(alloc, " ", 513)?.concat(alloc)?;
-    answers.push(format!(in alloc; "pop queue:q 513 = ids{ids}")?)?;
+    last.push_str(" 513")?;
+    answers.push(last)?;
     Ok(answers)
 }
 
@@ -222,20 +215,46 @@ const THE_LAST_ID: Part = &[
     ("step n", "push queue:q = ok"),
 ];
 
+fn push_pair(
+    alloc: Global,
+    line: &str,
+    answer: &str,
+    lines: &mut Vec<(String, String)>,
+) -> Result<(), AllocError> {
+    let pair = (
+        String::from_str(alloc, line)?,
+        String::from_str(alloc, answer)?,
+    );
+    lines.push(pair)?;
+    Ok(())
+}
+
 // 513 ids are notified, one more than the queue takes, and all are waited for.
-#[test]
-fn a_full_queue(rt: HostRuntime) -> Result<(), Fail> {
-    let notified = numbered(rt.alloc(), "begin n notify n ", 512)?;
-    let taken = taken(rt.alloc())?;
-    let mut lines = Vec::new(rt.alloc());
-    lines.extend_from_slice(A_QUEUE)?;
-    for line in &notified {
-        lines.push((line, "ok"))?;
-        lines.push(("step n", "push queue:q = ok"))?;
+fn full_queue(alloc: Global) -> Result<Vec<(String, String)>, AllocError> {
+    let mut lines = Vec::new(alloc);
+    for (line, answer) in A_QUEUE {
+        push_pair(alloc, line, answer, &mut lines)?;
     }
-    lines.extend_from_slice(THE_LAST_ID)?;
-    for answer in &taken {
-        lines.push(("step e", answer))?;
+    for id in 1..=512 {
+        let line = format!(in alloc; "begin n notify n {id}")?;
+        push_pair(alloc, &line, "ok", &mut lines)?;
+        push_pair(alloc, "step n", "push queue:q = ok", &mut lines)?;
+    }
+    for (line, answer) in THE_LAST_ID {
+        push_pair(alloc, line, answer, &mut lines)?;
+    }
+    for answer in &taken(alloc)? {
+        push_pair(alloc, "step e", answer, &mut lines)?;
+    }
+    Ok(lines)
+}
+
+#[test]
+fn a_queue_is_filled(rt: HostRuntime) -> Result<(), Fail> {
+    let texts = full_queue(rt.alloc())?;
+    let mut lines = Vec::new(rt.alloc());
+    for (line, answer) in &texts {
+        lines.push((line.as_str(), answer.as_str()))?;
     }
     Script {
         name: "a full queue",
