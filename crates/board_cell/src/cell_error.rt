@@ -4,7 +4,7 @@ use thiserror::Error;
 /// Why there is no cell.
 #[derive(Error, Drop, Clone, Copy, Debug, PartialEq, Eq)]
 pub enum CellError {
-    /// Want of memory.
+    /// Memory was refused.
     #[error("CellError::{:?}", self)]
     OutOfMemory,
 }

@@ -59,7 +59,7 @@ impl SharedQueue {
     /// One more owner of the same queue.
     ///
     /// # Errors
-    /// Want of memory.
+    /// `AllocError` where memory is refused.
     pub fn share(&self) -> Result<SharedQueue, AllocError>
         ensures { IfOk result (λ shared. shared ≡ self.now) }
     {

@@ -1,14 +1,14 @@
 //! The front of all concepts that a service is made of.
 //!
 //! A concept of named things has a module with its traits, its types and `Local`, its implementation within one process:
-//! `monitoring`, `communication_channel` and `static_storage`. `hash` and `serialize` are concepts of values. Beside them
+//! `monitoring`, `communication_channel` and `static_storage`. `hash`, `serialize` and `arc_sync_policy` are concepts of values. Beside them
 //! stand attributes, descriptions and how a value is shared.
 //!
 //! `specs/Spelling` says how numbers, texts and lists are spelled in bytes, `specs/DescriptionSpelling` how a board's
 //! description is, and `specs/Attributes` what a set of attributes has and when it meets requirements.
 #![tactic(auto)]
 
-mod arc_sync_policy;
+pub mod arc_sync_policy;
 mod attribute_set;
 mod attribute_specifier;
 mod attribute_verifier;

@@ -64,12 +64,12 @@ pub record Lending : Type 0 where
 
 -- a call on the tables, which is one step
 pub data TableCall : Type 0 where
-  create : (factory name : List ℕ) (key : KeyType) (limits : Limits) (attributes : List Attribute) (entries : List AddedEntry) → TableCall
-  open_ : (factory name : List ℕ) (key : KeyType) (limits : Limits) (needs : Requirements) → TableCall
-  reader : (name : List ℕ) (factory : Held) → TableCall
-  writer : (name : List ℕ) (factory : Held) → TableCall
-  entry : (name : List ℕ) (reader : Held) (key : Key) (type : ValueType) → TableCall
-  entry_mut : (name : List ℕ) (writer : Held) (key : Key) (type : ValueType) → TableCall
+  create : (factory name : List ℕ) (key_type : KeyType) (limits : Limits) (attributes : List Attribute) (entries : List AddedEntry) → TableCall
+  open_ : (factory name : List ℕ) (key_type : KeyType) (limits : Limits) (needs : Requirements) → TableCall
+  reader : (reader : List ℕ) (factory : Held) → TableCall
+  writer : (writer : List ℕ) (factory : Held) → TableCall
+  entry : (handle : List ℕ) (reader : Held) (key : Key) (value_type : ValueType) → TableCall
+  entry_mut : (handle : List ℕ) (writer : Held) (key : Key) (value_type : ValueType) → TableCall
   loan : Lending → TableCall
   discard : Lending → TableCall
   keys : (factory : Held) → TableCall

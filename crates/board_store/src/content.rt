@@ -25,7 +25,7 @@ impl Content {
     /// A copy of these bytes.
     ///
     /// # Errors
-    /// Want of memory.
+    /// `AllocError` where memory is refused.
     pub fn of(alloc: Global, contents: &[u8]) -> Result<Content, AllocError>
         ensures { IfOk result (λ c. c ≡ contents.now) }
     {
@@ -37,7 +37,7 @@ impl Content {
     /// One more owner of the same bytes.
     ///
     /// # Errors
-    /// Want of memory.
+    /// `AllocError` where memory is refused.
     pub fn share(&self) -> Result<Content, AllocError>
         ensures { IfOk result (λ c. c ≡ self.now) }
     {

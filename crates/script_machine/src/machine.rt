@@ -79,7 +79,7 @@ impl<C: BoardWords + Drop> Machine<C> {
         }
     }
 
-    // After want of memory: the machine is spent, and what was answered is dropped.
+    // Memory was refused: no line can be answered any more, and what stood in the answer is dropped.
     fn give_up(&mut self, begun: &mut Vec<u8>) -> LineError
         ensures error { result ≡ LineError.OutOfMemory }
         ensures spent { self.new.spent ≡ true }

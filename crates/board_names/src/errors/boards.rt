@@ -7,15 +7,15 @@ use thiserror::Error;
 pub enum BlackboardCreateError {
     /// A board of this name stands.
     AlreadyExists,
-    /// Never given here.
+    /// Kept from iceoryx2; no call here gives it.
     IsBeingCreatedByAnotherInstance,
-    /// Never given here.
+    /// Kept from iceoryx2; no call here gives it.
     InternalFailure,
-    /// Never given here.
+    /// Kept from iceoryx2; no call here gives it.
     InsufficientPermissions,
     /// Two keys are equal, or the cells take more than 4294967295 bytes.
     ServiceInCorruptedState,
-    /// Never given here.
+    /// Kept from iceoryx2; no call here gives it.
     HangsInCreation,
     /// No entry was added.
     NoEntriesProvided,
@@ -31,23 +31,23 @@ pub enum BlackboardCreateError {
 pub enum BlackboardOpenError {
     /// No board of this name stands.
     DoesNotExist,
-    /// Never given here.
+    /// Kept from iceoryx2; no call here gives it.
     ServiceInCorruptedState,
     /// The board has another key type.
     IncompatibleKeys,
-    /// Never given here.
+    /// Kept from iceoryx2; no call here gives it.
     InternalFailure,
     /// A needed attribute is missing.
     IncompatibleAttributes,
-    /// Never given here.
+    /// Kept from iceoryx2; no call here gives it.
     IncompatibleMessagingPattern,
     /// The board allows fewer readers than were asked for.
     DoesNotSupportRequestedAmountOfReaders,
-    /// Never given here.
+    /// Kept from iceoryx2; no call here gives it.
     InsufficientPermissions,
-    /// Never given here.
+    /// Kept from iceoryx2; no call here gives it.
     HangsInCreation,
-    /// Never given here.
+    /// Kept from iceoryx2; no call here gives it.
     IsMarkedForDestruction,
     /// As many other nodes use the board as it allows.
     ExceedsMaxNumberOfNodes,
@@ -65,10 +65,10 @@ pub enum ReaderCreateError {
     /// The board has as many readers as it allows.
     #[error("ReaderCreateError::ExceedsMaxSupportedReaders")]
     ExceedsMaxSupportedReaders,
-    /// Never given here.
+    /// Kept from iceoryx2; no call here gives it.
     #[error("ReaderCreateError::FailedToDeployThreadsafetyPolicy")]
     FailedToDeployThreadsafetyPolicy,
-    /// Never given here.
+    /// Kept from iceoryx2; no call here gives it.
     #[error("ReaderCreateError::UnableToCreatePortTag")]
     UnableToCreatePortTag,
     /// The factory with this number is not held.
@@ -88,13 +88,13 @@ pub enum WriterCreateError {
     /// A writer of the board, or a handle made from one, stands.
     #[error("WriterCreateError::ExceedsMaxSupportedWriters")]
     ExceedsMaxSupportedWriters,
-    /// Never given here.
+    /// Kept from iceoryx2; no call here gives it.
     #[error("WriterCreateError::InternalFailure")]
     InternalFailure,
-    /// Never given here.
+    /// Kept from iceoryx2; no call here gives it.
     #[error("WriterCreateError::FailedToDeployThreadsafetyPolicy")]
     FailedToDeployThreadsafetyPolicy,
-    /// Never given here.
+    /// Kept from iceoryx2; no call here gives it.
     #[error("WriterCreateError::UnableToCreatePortTag")]
     UnableToCreatePortTag,
     /// The factory with this number is not held.

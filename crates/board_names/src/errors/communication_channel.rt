@@ -5,13 +5,13 @@ use thiserror::Error;
 #[derive(Clone, Copy, Debug, PartialEq, Eq, Hash, Error)]
 #[error("CommunicationChannelSendError::{:?}", self)]
 pub enum CommunicationChannelSendError {
-    /// Never given here.
+    /// Kept from iceoryx2; no call here gives it.
     ConnectionBroken,
-    /// Never given here.
+    /// Kept from iceoryx2; no call here gives it.
     MessageTooLarge,
     /// The channel is full and doesn't overflow.
     ReceiverCacheIsFull,
-    /// Never given here.
+    /// Kept from iceoryx2; no call here gives it.
     InternalFailure,
 }
 
@@ -19,11 +19,11 @@ pub enum CommunicationChannelSendError {
 #[derive(Clone, Copy, Debug, PartialEq, Eq, Hash, Error)]
 #[error("CommunicationChannelReceiveError::{:?}", self)]
 pub enum CommunicationChannelReceiveError {
-    /// Never given here.
+    /// Kept from iceoryx2; no call here gives it.
     ConnectionBroken,
-    /// Never given here.
+    /// Kept from iceoryx2; no call here gives it.
     MessageCorrupt,
-    /// Never given here.
+    /// Kept from iceoryx2; no call here gives it.
     InternalFailure,
 }
 
@@ -33,11 +33,11 @@ pub enum CommunicationChannelReceiveError {
 pub enum CommunicationChannelCreateError {
     /// The name is held.
     AlreadyExists,
-    /// Never given here.
+    /// Kept from iceoryx2; no call here gives it.
     SafeOverflowNotSupported,
-    /// Never given here.
+    /// Kept from iceoryx2; no call here gives it.
     CustomBufferSizeNotSupported,
-    /// Never given here.
+    /// Kept from iceoryx2; no call here gives it.
     InternalFailure,
     /// Memory was refused.
     OutOfMemory,
@@ -47,9 +47,9 @@ pub enum CommunicationChannelCreateError {
 #[derive(Clone, Copy, Debug, PartialEq, Eq, Hash, Error)]
 #[error("CommunicationChannelOpenError::{:?}", self)]
 pub enum CommunicationChannelOpenError {
-    /// Never given here.
+    /// Kept from iceoryx2; no call here gives it.
     InternalFailure,
-    /// Never given here.
+    /// Kept from iceoryx2; no call here gives it.
     AnotherInstanceIsAlreadyConnected,
     /// The name isn't held.
     DoesNotExist,

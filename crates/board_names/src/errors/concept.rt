@@ -23,13 +23,13 @@ pub enum RegistryError {
 #[derive(Clone, Copy, Debug, PartialEq, Eq, Error)]
 #[error("NamedConceptDoesExistError::{:?}", self)]
 pub enum NamedConceptDoesExistError {
-    /// Never given here.
+    /// Kept from iceoryx2; no call here gives it.
     InsufficientPermissions,
     /// The name is held by a static storage that is still locked.
     UnderlyingResourcesBeingSetUp,
-    /// Never given here.
+    /// Kept from iceoryx2; no call here gives it.
     UnderlyingResourcesCorrupted,
-    /// Never given here.
+    /// Kept from iceoryx2; no call here gives it.
     InternalError,
 }
 
@@ -37,7 +37,7 @@ pub enum NamedConceptDoesExistError {
 #[derive(Clone, Copy, Debug, PartialEq, Eq, Error)]
 #[error("NamedConceptListError::{:?}", self)]
 pub enum NamedConceptListError {
-    /// Never given here.
+    /// Kept from iceoryx2; no call here gives it.
     InsufficientPermissions,
     /// A file could not be looked at.
     InternalError,
@@ -49,7 +49,7 @@ pub enum NamedConceptListError {
 #[derive(Clone, Copy, Debug, PartialEq, Eq, Error)]
 #[error("NamedConceptRemoveError::{:?}", self)]
 pub enum NamedConceptRemoveError {
-    /// Never given here.
+    /// Kept from iceoryx2; no call here gives it.
     InsufficientPermissions,
     /// A file could not be removed.
     InternalError,
@@ -61,8 +61,8 @@ pub enum NamedConceptRemoveError {
 #[derive(Clone, Copy, Debug, PartialEq, Eq, Error)]
 #[error("NamedConceptPathHintRemoveError::{:?}", self)]
 pub enum NamedConceptPathHintRemoveError {
-    /// Never given here.
+    /// Kept from iceoryx2; no call here gives it.
     InsufficientPermissions,
-    /// Never given here.
+    /// Kept from iceoryx2; no call here gives it.
     InternalError,
 }

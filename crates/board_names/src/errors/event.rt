@@ -5,17 +5,17 @@ use thiserror::Error;
 #[derive(Clone, Copy, Debug, PartialEq, Eq, Hash, Error)]
 #[error("NotifierCreateError::{:?}", self)]
 pub enum NotifierCreateError {
-    /// Never given here.
+    /// Kept from iceoryx2; no call here gives it.
     Interrupt,
     /// The name isn't held, or its listener was released.
     DoesNotExist,
-    /// Never given here.
+    /// Kept from iceoryx2; no call here gives it.
     InsufficientPermissions,
-    /// Never given here.
+    /// Kept from iceoryx2; no call here gives it.
     VersionMismatch,
-    /// Never given here.
+    /// Kept from iceoryx2; no call here gives it.
     InitializationNotYetFinalized,
-    /// Never given here.
+    /// Kept from iceoryx2; no call here gives it.
     InternalFailure,
     /// The event has as many notifiers as can be counted.
     NumbersSpent,
@@ -25,11 +25,11 @@ pub enum NotifierCreateError {
 #[derive(Clone, Copy, Debug, PartialEq, Eq, Error)]
 #[error("ListenerWaitError::{:?}", self)]
 pub enum ListenerWaitError {
-    /// Never given here.
+    /// Kept from iceoryx2; no call here gives it.
     ContractViolation,
-    /// Never given here.
+    /// Kept from iceoryx2; no call here gives it.
     InternalFailure,
-    /// Never given here.
+    /// Kept from iceoryx2; no call here gives it.
     InterruptSignal,
 }
 
@@ -39,9 +39,9 @@ pub enum ListenerWaitError {
 pub enum ListenerCreateError {
     /// The name is held.
     AlreadyExists,
-    /// Never given here.
+    /// Kept from iceoryx2; no call here gives it.
     InsufficientPermissions,
-    /// Never given here.
+    /// Kept from iceoryx2; no call here gives it.
     InternalFailure,
     /// All event numbers were drawn.
     NumbersSpent,
@@ -53,7 +53,7 @@ pub enum ListenerCreateError {
 #[derive(Clone, Copy, Debug, PartialEq, Eq, Error)]
 #[error("NotifierNotifyError::{:?}", self)]
 pub enum NotifierNotifyError {
-    /// Never given here.
+    /// Kept from iceoryx2; no call here gives it.
     Interrupt,
     /// As many ids wait as the queue holds.
     FailedToDeliverSignal,
@@ -61,6 +61,6 @@ pub enum NotifierNotifyError {
     TriggerIdOutOfBounds,
     /// The listener is gone.
     Disconnected,
-    /// Never given here.
+    /// Kept from iceoryx2; no call here gives it.
     InternalFailure,
 }

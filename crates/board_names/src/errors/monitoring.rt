@@ -5,13 +5,13 @@ use thiserror::Error;
 #[derive(Clone, Copy, Debug, PartialEq, Eq, Error)]
 #[error("MonitoringCreateTokenError::{:?}", self)]
 pub enum MonitoringCreateTokenError {
-    /// Never given here.
+    /// Kept from iceoryx2; no call here gives it.
     InsufficientPermissions,
     /// The name is held.
     AlreadyExists,
-    /// Never given here.
+    /// Kept from iceoryx2; no call here gives it.
     SystemCorrupted,
-    /// Never given here.
+    /// Kept from iceoryx2; no call here gives it.
     InternalError,
     /// Memory was refused.
     OutOfMemory,
@@ -21,17 +21,17 @@ pub enum MonitoringCreateTokenError {
 #[derive(Clone, Copy, Debug, PartialEq, Eq, Error)]
 #[error("MonitoringCreateCleanerError::{:?}", self)]
 pub enum MonitoringCreateCleanerError {
-    /// Never given here.
+    /// Kept from iceoryx2; no call here gives it.
     Interrupt,
     /// The name's token lives.
     InstanceStillAlive,
     /// The name has a cleaner.
     AlreadyOwnedByAnotherInstance,
-    /// Never given here.
+    /// Kept from iceoryx2; no call here gives it.
     IsBeingCleanedUpOrAnotherCleanerCrashedDuringCleanup,
     /// The name isn't held.
     DoesNotExist,
-    /// Never given here.
+    /// Kept from iceoryx2; no call here gives it.
     InternalError,
 }
 
@@ -39,13 +39,13 @@ pub enum MonitoringCreateCleanerError {
 #[derive(Clone, Copy, Debug, PartialEq, Eq, Error)]
 #[error("MonitoringCreateMonitorError::{:?}", self)]
 pub enum MonitoringCreateMonitorError {
-    /// Never given here.
+    /// Kept from iceoryx2; no call here gives it.
     InsufficientPermissions,
-    /// Never given here.
+    /// Kept from iceoryx2; no call here gives it.
     Interrupt,
-    /// Never given here.
+    /// Kept from iceoryx2; no call here gives it.
     ConceptNameNotSupportedOnPlatform,
-    /// Never given here.
+    /// Kept from iceoryx2; no call here gives it.
     InternalError,
 }
 
@@ -53,10 +53,10 @@ pub enum MonitoringCreateMonitorError {
 #[derive(Clone, Copy, Debug, PartialEq, Eq, Error)]
 #[error("MonitoringStateError::{:?}", self)]
 pub enum MonitoringStateError {
-    /// Never given here.
+    /// Kept from iceoryx2; no call here gives it.
     Interrupt,
-    /// Never given here.
+    /// Kept from iceoryx2; no call here gives it.
     InsufficientPermissions,
-    /// Never given here.
+    /// Kept from iceoryx2; no call here gives it.
     InternalError,
 }

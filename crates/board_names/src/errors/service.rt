@@ -7,7 +7,7 @@ use thiserror::Error;
 pub enum ArcSyncPolicyCreationError {
     /// Memory was refused.
     InsufficientResources,
-    /// Never given here.
+    /// Kept from iceoryx2; no call here gives it.
     InternalFailure,
 }
 
@@ -15,7 +15,7 @@ pub enum ArcSyncPolicyCreationError {
 #[derive(Clone, Copy, Debug, PartialEq, Eq, Error)]
 #[error("SerializeError::{:?}", self)]
 pub enum SerializeError {
-    /// Never given here.
+    /// Kept from iceoryx2; no call here gives it.
     InternalError,
     /// Memory was refused.
     OutOfMemory,

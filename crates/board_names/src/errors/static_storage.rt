@@ -9,11 +9,11 @@ pub enum StaticStorageCreateError {
     AlreadyExists,
     /// A file could not be made.
     Creation,
-    /// Never given here.
+    /// Kept from iceoryx2; no call here gives it.
     Write,
-    /// Never given here.
+    /// Kept from iceoryx2; no call here gives it.
     InsufficientPermissions,
-    /// Never given here.
+    /// Kept from iceoryx2; no call here gives it.
     InternalError,
     /// Memory was refused.
     OutOfMemory,
@@ -29,7 +29,7 @@ pub enum StaticStorageOpenError {
     Read,
     /// The name is locked, at each look.
     InitializationNotYetFinalized,
-    /// Never given here.
+    /// Kept from iceoryx2; no call here gives it.
     InternalError,
     /// Memory was refused.
     OutOfMemory,
@@ -47,7 +47,7 @@ pub enum StaticStorageReadError {
     /// A file has other than the `expected` bytes: `found` were there to read.
     #[error("StaticStorageReadError::StaticStorageWasModified")]
     StaticStorageWasModified { expected: u64, found: u64 },
-    /// Never given here.
+    /// Kept from iceoryx2; no call here gives it.
     #[error("StaticStorageReadError::CreationNotComplete")]
     CreationNotComplete,
     /// Memory was refused.
@@ -58,7 +58,7 @@ pub enum StaticStorageReadError {
 /// Why a static storage was not unlocked.
 #[derive(Clone, Copy, Debug, PartialEq, Eq, Hash, Error)]
 pub enum StaticStorageUnlockError {
-    /// Never given here.
+    /// Kept from iceoryx2; no call here gives it.
     #[error("StaticStorageUnlockError::InsufficientPermissions")]
     InsufficientPermissions,
     /// A file took `taken` of the `given` bytes.
