@@ -18,7 +18,7 @@ use Rattle.script_model.specs.SoundEvents.{AreSoundEvents}
 use Rattle.script_events.specs.declared.rows.EventRow.{EventRow}
 use Rattle.script_events.specs.declared.rows.Role.{Role}
 use Rattle.script_events.specs.declared.rows.Role.TheVariants as role
-use Rattle.script_events.specs.Calls.{IsMarkable, is_listening, is_own_listener, mark_row, marked}
+use Rattle.script_events.specs.Calls.{IsMarkable, is_listening, is_own_listener, mark_row, marked_gone}
 use Rattle.script_events.specs.PartyEvents.{Holds, IsOnce, as_list, is_thing_of, listener_rows, listeners_in, listens_on, notifiers_in, thing_as, thing_of, where_held}
 use Rattle.script_events.proofs.Lists.{either}
 use Rattle.script_events.proofs.TableCalls.{change, changed_events}
@@ -148,18 +148,18 @@ still_markable party row t (r ∷ rows) h = ((λ e. by (is_own_listener party ro
     by false some = some
     by true some = (let e : event_at (changed t row.event with_gone) r.event ≡ gone_if (r.event == row.event) (event_at t r.event) = mark_one t row.event r.event in rw e (kept_some (r.event == row.event) (event_at t r.event) some))
 
-marks : (party : List ℕ) (rows : List EventRow) (t : EventTable) → IsOnce t → IsMarked party rows t (marked party rows t)
+marks : (party : List ℕ) (rows : List EventRow) (t : EventTable) → IsOnce t → IsMarked party rows t (marked_gone party rows t)
 marks party [] t once = record { events = λ q. not_marked (event_at t q); names = λ k. refl; drawn = refl; once = once }
 marks party (row ∷ rows) t once = elim (either (is_own_listener party row)) [
   | inl f ↦ (let more = marks party rows (changed t row.event with_gone) (once_one t row.event once) in
-      rw (f, marked) (record {
+      rw (f, marked_gone) (record {
         events = λ q. more.events q ∙ ap (gone_if (list_any (is_own_of party q) rows)) (mark_one t row.event q) ∙ own q f;
         names = λ k. more.names k ∙ names_one t row.event k once;
         drawn = more.drawn ∙ drawn_one t row.event once;
         once = more.once;
       }))
   | inr f ↦ (let more = marks party rows t once in
-      rw (f, marked) (record {
+      rw (f, marked_gone) (record {
         events = λ q. more.events q ∙ rw f refl;
         names = more.names;
         drawn = more.drawn;
@@ -270,7 +270,7 @@ module _ (t : EventTable) (rows : List EventRow) (x : ScriptEvents) (count : ℕ
       by None e = ap f (event_of-none x.session.stands q e ∙ sym (stood q None e))
       by (Some st) e = ap f (event_of-some x.session.stands q st e) ∙ sym (keeps st.event (st.event.gone || (st.event.held && bytes_eq party st.listener))) ∙ ap f (sym (stood q (Some st) e))
 
-  pub abandoned : (u : EventTable) → u ≡ marked party rows t → Holds u rows after
+  pub abandoned : (u : EventTable) → u ≡ marked_gone party rows t → Holds u rows after
   abandoned u is =
       let m : IsMarked party rows t u = subst (λ (v : EventTable). IsMarked party rows t v) (sym is) (marks party rows t holds.once) in
       record {

@@ -162,9 +162,9 @@ abbrev pub mark_row : List ℕ → EventRow → EventTable → EventTable
 mark_row party row t = if is_own_listener party row then changed t row.event with_gone else t
 
 -- the table after the listeners of a party were counted as gone, one after another
-abbrev pub marked : List ℕ → List EventRow → EventTable → EventTable
-marked party [] t = t
-marked party (row ∷ rows) t = marked party rows (mark_row party row t)
+abbrev pub marked_gone : List ℕ → List EventRow → EventTable → EventTable
+marked_gone party [] t = t
+marked_gone party (row ∷ rows) t = marked_gone party rows (mark_row party row t)
 
 -- the events of a party's listeners stand
 abbrev pub IsMarkable : List ℕ → EventTable → EventRow → Type 0

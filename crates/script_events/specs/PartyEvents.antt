@@ -19,8 +19,8 @@ use Rattle.board_model.specs.LawfulSession.{State}
 use Rattle.board_model.specs.Things.{is_held as holds_thing}
 use Rattle.script_model.specs.declared.line.EventRequest.{EventRequest}
 use Rattle.script_model.specs.ScriptAnswers.{ScriptAnswer, of_ask, of_event}
-use Rattle.script_model.specs.ScriptEvents.{EventAsk, EventThing, IsStepOf, ScriptEvents, listener, name_made, notifier, step_made, task_of, to_listen, to_notify}
-use Rattle.script_model.specs.ScriptTurns.{EventTurn, begins, drops, expires, refused, steps, task_turn, turned}
+use Rattle.script_model.specs.ScriptEvents.{EventAsk, EventThing, IsStepOf, ScriptEvents, event_let_go, listener, name_made, notifier, step_made, task_of, to_listen, to_notify}
+use Rattle.script_model.specs.ScriptTurns.{EventTurn, begins, drops, expire_of_call, expires, refused, steps, task_turn, turned}
 use Rattle.script_model.specs.SoundEvents.{AreSoundEvents}
 use Rattle.script_events.specs.declared.party_events.PartyEvents.{PartyEvents}
 use Rattle.script_events.specs.declared.rows.Act.{Act}
@@ -203,6 +203,14 @@ pub record IsTurned (new : PartyEvents) (x : ScriptEvents) (turn : EventTurn) (t
 abbrev pub IsBegun : PartyEvents → ScriptEvents → List ℕ → EventRequest → Bool → Option Reason → Type 0
 IsBegun new x party q taken told =
     (boards : State) → taken ≡ takes_board_name boards party (name_made q) → IsTurned new x (task_turn (record { boards = boards; events = x }) party q (task_of x party q)) told
+
+-- the listener or the notifier that a party holds under a name is let go
+abbrev pub thing_let_go : ScriptEvents → List ℕ → List ℕ → ScriptEvents
+thing_let_go x party name = event_let_go x party name (x.things party name)
+
+-- the expiry of what a party runs on events
+abbrev pub expiry : ScriptEvents → List ℕ → EventTurn
+expiry x party = expire_of_call party (x.asked party) (x.session.doing party)
 
 -- what a step was told is this answer; the event of its access stands in the table
 abbrev pub IsAnswerOf : EventTable → Stepped → ScriptAnswer → Type 0

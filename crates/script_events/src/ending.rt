@@ -1,10 +1,9 @@
 //! What ends: a listener or a notifier, a wait that expires, a party.
 ghost use Rattle.std.specs.Prelude.{◌≡◌, true};
 ghost use Rattle.std.specs.List.{AllByRecursion};
-ghost use Rattle.script_model.specs.ScriptEvents.{event_let_go, events_abandoned, holds_event};
-ghost use Rattle.script_model.specs.ScriptTurns.{expire_of_call};
-ghost use Rattle.script_events.specs.Calls.{IsMarkable, mark_row, marked};
-ghost use Rattle.script_events.specs.PartyEvents.{IsLed, IsTurned, OfEach, Represents};
+ghost use Rattle.script_model.specs.ScriptEvents.{events_abandoned, holds_event};
+ghost use Rattle.script_events.specs.Calls.{IsMarkable, mark_row, marked_gone};
+ghost use Rattle.script_events.specs.PartyEvents.{IsLed, IsTurned, OfEach, Represents, expiry, thing_let_go};
 
 use crate::lookups::{end_calls, place_of_call, take_thing};
 use crate::party_events::PartyEvents;
@@ -25,7 +24,7 @@ fn mark(party: &Name, row: &EventRow, events: &mut Events)
 /// Counts the listeners of a party as gone.
 fn mark_listeners(party: &Name, things: &[EventRow], events: &mut Events)
     requires { AllByRecursion (IsMarkable party.now events.old) things.now }
-    ensures { events.new ≡ marked party.now things.now events.old }
+    ensures { events.new ≡ marked_gone party.now things.now events.old }
 {
     for row in things {
         mark(party, row, events);
@@ -37,7 +36,7 @@ impl PartyEvents {
     pub fn release(&mut self, party: &Name, name: &Name)
         requires led { IsLed self.old }
         requires held { OfEach self.old (λ x. holds_event x party.now name.now ≡ true) }
-        ensures { OfEach self.old (λ x. Represents self.new (event_let_go x party.now name.now (x.things party.now name.now))) }
+        ensures { OfEach self.old (λ x. Represents self.new (thing_let_go x party.now name.now)) }
     {
         let row = take_thing(party, name, &mut self.things);
         match row.role {
@@ -49,7 +48,7 @@ impl PartyEvents {
     /// The call of a party ends where it is a timed wait whose last step found nothing; else it tells why not. Takes no memory.
     pub fn expire(&mut self, party: &Name) -> Option<Reason>
         requires { IsLed self.old }
-        ensures { OfEach self.old (λ x. IsTurned self.new x (expire_of_call party.now (x.asked party.now) (x.session.doing party.now)) result) }
+        ensures { OfEach self.old (λ x. IsTurned self.new x (expiry x party.now) result) }
     {
         let Some(place) = place_of_call(party, &self.calls) else {
             return Some(Reason::Idle);

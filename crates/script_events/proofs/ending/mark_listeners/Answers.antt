@@ -2,7 +2,7 @@ use Rattle.std.proofs.Common.{◌≡◌, ◌+◌, ◌<◌, ◌∷◌, List, add-
 use Rattle.std.specs.List.{AllByRecursion}
 use Rattle.board_event.specs.EventTable.{EventTable}
 use Rattle.script_events.specs.declared.rows.EventRow.{EventRow}
-use Rattle.script_events.specs.Calls.{IsMarkable, marked}
+use Rattle.script_events.specs.Calls.{IsMarkable, marked_gone}
 use Rattle.script_events.proofs.Abandonments.{still_markable}
 use Rattle.script_events.proofs.ending.mark_listeners.Goals as goal
 
@@ -18,5 +18,5 @@ loop-row-preserved c =
     let stand = subst (λ (xs : List EventRow). AllByRecursion (IsMarkable party c.loop-row.events) xs) at c.loop-row.invariant.stand in
     record {
       stand = subst (λ (t : EventTable). AllByRecursion (IsMarkable party t) (drop (i + 1) rows)) (sym c.mark.ensures) (still_markable party row c.loop-row.events (drop (i + 1) rows) stand.1);
-      rest = ap (marked party (drop (i + 1) rows)) c.mark.ensures ∙ ap (λ (xs : List EventRow). marked party xs c.loop-row.events) (sym at) ∙ c.loop-row.invariant.rest;
+      rest = ap (marked_gone party (drop (i + 1) rows)) c.mark.ensures ∙ ap (λ (xs : List EventRow). marked_gone party xs c.loop-row.events) (sym at) ∙ c.loop-row.invariant.rest;
     }
