@@ -23,7 +23,7 @@ use Rattle.script_boards.specs.declared.machine.Task.{Task}
 use Rattle.script_boards.specs.declared.not_begun.NotBegun.{NotBegun}
 use Rattle.script_boards.specs.declared.not_begun.NotBegun.TheVariants as not_begun
 use Rattle.script_boards.specs.Loans.{lent_words}
-use Rattle.script_boards.specs.Machine.{IsReached, IsTaskOf, Represents, is_row_of, kept}
+use Rattle.script_boards.specs.Machine.{IsReached, IsTaskOf, OfEach, is_row_of, kept}
 
 -- ---- what a party holds
 
@@ -115,7 +115,8 @@ IsChecked reason request (Err not_begun.OutOfMemory) = ⊤
 
 -- a call of the party is looked at so, in each state that the machine stands for
 abbrev pub Checks : {C : Type 0} → BoardMachine C → List ℕ → Call → Result Task NotBegun → Type 0
-Checks m party c result = (s : State) → Represents m s → Sound s → IsChecked (call_reason s.standing party c (request_of s.standing s.published party c)) (request_of s.standing s.published party c) result
+Checks m party c result =
+    OfEach m (λ s. Sound s → IsChecked (call_reason s.standing party c (request_of s.standing s.published party c)) (request_of s.standing s.published party c) result)
 
 -- ---- what names have nothing to do with
 
@@ -138,4 +139,4 @@ IsPastNames s party c None = finds_all (s.parties party) (request_of s.standing 
 
 -- so it is in each state that the machine stands for
 abbrev pub LooksPastNames : {C : Type 0} → BoardMachine C → List ℕ → Call → Option Reason → Type 0
-LooksPastNames m party c told = (s : State) → Represents m s → IsReached s → IsPastNames s party c told
+LooksPastNames m party c told = OfEach m (λ s. IsReached s → IsPastNames s party c told)

@@ -1,5 +1,5 @@
 -- The state of a script that a machine stands for.
-use Rattle.std.specs.Prelude.{◌≡◌, ℕ, ◌<◌, ◌^◌, Bool, ◌&&◌, if◌then◌else◌, List, [], ◌∷◌, length, Option, Some, None}
+use Rattle.std.specs.Prelude.{◌≡◌, ℕ, ◌<◌, ◌^◌, Bool, ◌&&◌, if◌then◌else◌, List, [], ◌∷◌, length, Option, Some, None, is_some}
 use Rattle.std.specs.List.{filter}
 use Rattle.std.specs.Str.{bytes_eq}
 use Rattle.board_cell_model.specs.declared.access.Access.{Access}
@@ -7,7 +7,7 @@ use Rattle.board_model.specs.declared.answer.Answer.{Answer}
 use Rattle.board_model.specs.declared.line.Line.{Line}
 use Rattle.board_model.specs.declared.value.ValueType.{ValueType}
 use Rattle.board_model.specs.TypeTable.{value_type_of, value_words}
-use Rattle.board_model.specs.Tables.{Tables}
+use Rattle.board_model.specs.Tables.{Tables, board_at}
 use Rattle.board_model.specs.Things.{Kept}
 use Rattle.board_model.specs.Requests.{Fetch, Look, Publication, Request, create, info, entry, entry_mut, fresh, get, id, open_, keys, nodes, reader, table, gen, update, writer}
 use Rattle.board_model.specs.Parties.{Party, Running, free, gone, reading, running}
@@ -146,6 +146,14 @@ pub record Represents {C : Type 0} (m : BoardMachine C) (s : State) : Type 0 whe
   pub loans : (p n : List ℕ) → s.standing.loans p n ≡ lent_words m.loans.items p n
   pub values : (p n : List ℕ) → s.standing.values p n ≡ kept m.values.items p n
 
+-- it holds of each state that the machine stands for
+abbrev pub OfEach : {C : Type 0} → BoardMachine C → (State → Type 0) → Type 0
+OfEach m Holds = (s : State) → Represents m s → Holds s
+
+-- the board stands
+abbrev pub has_board : State → ℕ → Bool
+has_board s number = is_some (board_at s.standing.tables number)
+
 -- what holds of a state that a lawful session of fewer than 2^63 pairs led to
 pub record IsReached (s : State) : Type 0 where
   pub sound : Sound s
@@ -168,4 +176,4 @@ drawn_by m = m.domain.drawn
 
 -- the answer is right after each state that the machine stood for, and the machine stands for what follows
 abbrev pub Serves : {C : Type 0} → BoardMachine C → BoardMachine C → Line → Answer → Type 0
-Serves old new l a = (s : State) → Represents old s → IsReached s → IsLine l → IsRight s l a × Represents new (after s l a)
+Serves old new l a = OfEach old (λ s. IsReached s → IsLine l → IsRight s l a × Represents new (after s l a))

@@ -1,9 +1,9 @@
 //! Refusals that no name has to do with, and names that parties hold.
 ghost use Rattle.std.specs.Prelude.{◌≡◌, None, IfNone, IfOk};
-ghost use Rattle.board_model.specs.LawfulSession.{State, free_reason};
+ghost use Rattle.board_model.specs.LawfulSession.{free_reason};
 ghost use Rattle.board_model.specs.Things as held;
 ghost use Rattle.script_boards.specs.Begins.{HasNoRow, LooksPastNames, past_names};
-ghost use Rattle.script_boards.specs.Machine.{IsLed, Represents};
+ghost use Rattle.script_boards.specs.Machine.{IsLed, OfEach};
 
 use crate::lookups::place_of_party;
 use crate::machine::BoardMachine;
@@ -25,14 +25,14 @@ fn past_names(why: Reason) -> Option<Reason>
 impl<C: BoardWords + Drop> BoardMachine<C> {
     /// Whether the party has a thing of a board, or a value, under the name.
     pub fn is_held(&self, party: &Name, name: &Name) -> bool
-        ensures { (s : State) → Represents self.now s → result ≡ held.is_held s.standing party.now name.now }
+        ensures { OfEach self.now (λ s. result ≡ held.is_held s.standing party.now name.now) }
     {
         self.holds(party, name)
     }
 
     /// Why a line is refused that only a free party may have. None where the party is free.
     pub fn refusal_of_party(&self, party: &Name) -> Option<Reason>
-        ensures reason { (s : State) → Represents self.now s → result ≡ free_reason (s.parties party.now) None }
+        ensures reason { OfEach self.now (λ s. result ≡ free_reason (s.parties party.now) None) }
         ensures free { IfNone result (HasNoRow self.now party.now) }
     {
         let Some(at) = place_of_party(party, &self.parties) else {

@@ -1,8 +1,7 @@
 //! A new machine, and the words of a board.
-ghost use Rattle.std.specs.Prelude.{◌≡◌, true, false, IfNone, IfOk, IfSome, is_some};
-ghost use Rattle.board_model.specs.LawfulSession.{State, start};
-ghost use Rattle.board_model.specs.Tables as tables;
-ghost use Rattle.script_boards.specs.Machine.{IsLed, Represents, drawn_by};
+ghost use Rattle.std.specs.Prelude.{◌≡◌, true, false, IfNone, IfOk, IfSome};
+ghost use Rattle.board_model.specs.LawfulSession.{start};
+ghost use Rattle.script_boards.specs.Machine.{OfEach, Represents, drawn_by, has_board};
 
 use crate::machine::BoardMachine;
 use board_service::BoardWords;
@@ -30,9 +29,9 @@ impl<C: BoardWords + Drop> BoardMachine<C> {
     /// `AllocError` where memory is refused.
     pub fn words_of(&mut self, number: u64) -> Result<Option<Vec<u64>>, AllocError>
         ensures same { self.new ≡ self.old }
-        ensures none { IfOk result (λ found. IfNone found ((s : State) → Represents self.old s → is_some (tables.board_at s.standing.tables number) ≡ false)) }
-        ensures stands { IfOk result (λ found. IfSome found (λ words. (s : State) → Represents self.old s → is_some (tables.board_at s.standing.tables number) ≡ true)) }
-        ensures words { IfOk result (λ found. IfSome found (λ words. (s : State) → Represents self.old s → words.items ≡ s.memory number)) }
+        ensures none { IfOk result (λ found. IfNone found (OfEach self.old (λ s. has_board s number ≡ false))) }
+        ensures stands { IfOk result (λ found. IfSome found (λ words. OfEach self.old (λ s. has_board s number ≡ true))) }
+        ensures words { IfOk result (λ found. IfSome found (λ words. OfEach self.old (λ s. words.items ≡ s.memory number))) }
     {
         self.domain.copy_words(number)
     }
