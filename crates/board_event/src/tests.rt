@@ -1,4 +1,4 @@
-//! Worked rows on events, each call abandoned at each step, and the corners. Every step of a call is one row of a table.
+//! Each call on events abandoned at each step, and the corners. Every step of a call is one row of a table.
 use crate::{
     EventAccess, EventAnswer, EventKind, EventProgress, EventStep, Events, ListenerCreateError,
     NotifierCreateError, NotifyCall, WaitCall, notify_step, wait_step,
@@ -8,7 +8,6 @@ use std::process::Abort;
 
 mod abandoned;
 mod corners;
-mod rows;
 mod sets;
 
 /// An access, its answer, and what the call has come to.

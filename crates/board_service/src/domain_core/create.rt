@@ -55,7 +55,7 @@ fn make_described<C: Cells>(
 }
 
 impl<C: Cells> DomainCore<C> {
-    /// Makes a board, and a factory of it for a node. `number` is the board's. Where the cells tell their words, they are those that open with the entries' values. A limit of `None` is 8 readers or 20 nodes; one of 0 is raised to 1.
+    /// Makes a board, and a factory of it for a node. `number` is the board's. Where the words of cells are known, they are those that open with the entries' values. A limit of `None` is 8 readers or 20 nodes; one of 0 is raised to 1.
     ///
     /// # Errors
     /// The first that holds: `AlreadyExists`, a board of this name stands; `NoEntriesProvided`; `ServiceInCorruptedState`, two keys are equal by `K`, or the cells ask for more than 4294967295 bytes; `NumbersSpent`; `OutOfMemory`. All stays as it was.

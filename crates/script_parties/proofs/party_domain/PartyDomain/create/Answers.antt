@@ -28,7 +28,7 @@ invariant_of-self-in-Ok g c =
     let new = factory_of c.args.party c.args.factory c.in-Ok.made.number in
     let ok = c.in-Ok.ensures.ok in
     let both = create_made g.C.Cells.words g.C.Words.list s.nodes.items s.numbers.items s.things.items s.core c.create_in.new.core c.args.party c.args.factory c.args.name c.args.key_type c.args.limits c.args.attributes.now c.args.entries.now
-    c.node_for.result c.from_text-name.result c.in_ok-attributes.attributes (map added_of c.in_ok-entries.entries.items) c.in-Ok.made ok.0 g.met.C.BoardWords.told c.self.invariant o c.in_ok-entries.ensures.keys c.in-Ok.ensures.answer ok.2 ok.3 in
+    c.node_for.result c.from_text-name.result c.in_ok-attributes.attributes (map added_of c.in_ok-entries.entries.items) c.in-Ok.made ok.0 g.met.C.BoardWords.known c.self.invariant o c.in_ok-entries.ensures.keys c.in-Ok.ensures.answer ok.2 ok.3 in
     let named = carried (λ ns xs. IsNamed (nodes_with c.args.party s.nodes.items) ns xs c.create_in.new.core) (s.numbers.items ++ c.in-Ok.made.thing ∷ []) c.push_reserved-in-Ok.new.self.items (s.things.items ++ new ∷ []) c.push_reserved.new.self.items
     (sym (c.push_reserved-in-Ok.ensures.items ∙ ap (λ ns. ns ++ c.in-Ok.made.thing ∷ []) c.reserve-3.ensures.items))
     (c.push_reserved.ensures.items ∙ ap (λ (xs : List Held). xs ++ new ∷ []) c.reserve-2.ensures.items) both.1 in
@@ -47,7 +47,7 @@ returns-in-Ok-clause-asked g c =
     let new = factory_of c.args.party c.args.factory c.in-Ok.made.number in
     let ok = c.in-Ok.ensures.ok in
     let both = create_made g.C.Cells.words g.C.Words.list s.nodes.items s.numbers.items s.things.items s.core c.create_in.new.core c.args.party c.args.factory c.args.name c.args.key_type c.args.limits c.args.attributes.now c.args.entries.now
-    c.node_for.result c.from_text-name.result c.in_ok-attributes.attributes (map added_of c.in_ok-entries.entries.items) c.in-Ok.made ok.0 g.met.C.BoardWords.told c.self.invariant o c.in_ok-entries.ensures.keys c.in-Ok.ensures.answer ok.2 ok.3 in
+    c.node_for.result c.from_text-name.result c.in_ok-attributes.attributes (map added_of c.in_ok-entries.entries.items) c.in-Ok.made ok.0 g.met.C.BoardWords.known c.self.invariant o c.in_ok-entries.ensures.keys c.in-Ok.ensures.answer ok.2 ok.3 in
     carried (λ now xs. IsCreate now (shown g.C.Words.list c.create_in.new.core xs) c.args.party c.args.factory c.args.name c.args.key_type c.args.limits c.args.attributes.now c.args.entries.now (reply.Number c.in-Ok.made.number))
     (shown g.C.Words.list s.core s.things.items) c.args.self.now (s.things.items ++ new ∷ []) c.push_reserved.new.self.items
     c.self.view_is (c.push_reserved.ensures.items ∙ ap (λ (xs : List Held). xs ++ new ∷ []) c.reserve-2.ensures.items) both.0
