@@ -7,10 +7,10 @@ use Rattle.board_bench.specs.declared.task.Task.TheVariants.{Get, Update, Shared
 abbrev pub is_width : ℕ → Bool
 is_width w = (w == 1) || (w == 4) || (w == 32)
 
-abbrev pub IsTask : Task → Type 0
-IsTask (Get width count) = IsTrue (is_width width) × (count < 2 ^ 40)
-IsTask (Update width count) = IsTrue (is_width width) × (count < 2 ^ 40)
-IsTask (Shared width readers updates) = IsTrue (is_width width) × (1 ≤ readers) × (readers ≤ 3) × (updates < 2 ^ 40)
+abbrev pub IsBenchTask : Task → Type 0
+IsBenchTask (Get width count) = IsTrue (is_width width) × (count < 2 ^ 40)
+IsBenchTask (Update width count) = IsTrue (is_width width) × (count < 2 ^ 40)
+IsBenchTask (Shared width readers updates) = IsTrue (is_width width) × (1 ≤ readers) × (readers ≤ 3) × (updates < 2 ^ 40)
 
 abbrev pub spelling : Task → List (List ℕ)
 spelling (Get width count) = codes "solo" ∷ decimal width ∷ codes "get" ∷ decimal count ∷ []

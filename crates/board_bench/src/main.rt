@@ -2,7 +2,7 @@
 #![tactic(auto)]
 
 ghost use Rattle.std.specs.Prelude.{◌≡◌, is_some, IfOk};
-ghost use Rattle.board_bench.specs.Task.{IsTask, is_shared};
+ghost use Rattle.board_bench.specs.Task.{IsBenchTask, is_shared};
 
 mod shared;
 mod solo;
@@ -27,7 +27,7 @@ fn run<R: Threads + Wait + Sync>(
     alloc: Global,
     task: Task,
 ) -> Result<Option<u64>, CellError>
-    requires { IsTask task }
+    requires { IsBenchTask task }
     ensures { IfOk result (λ gets. is_some gets ≡ is_shared task) }
 {
     match task {

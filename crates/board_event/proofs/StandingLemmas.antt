@@ -17,8 +17,8 @@ use Rattle.board_event_model.specs.declared.kind.EventKind.{EventKind}
 use Rattle.board_event_model.specs.declared.kind.EventKind.TheVariants as kind
 use Rattle.board_event_model.specs.declared.access.EventAccess.{EventAccess}
 use Rattle.board_event_model.specs.declared.access.EventAccess.TheVariants as access
-use Rattle.board_event_model.specs.EventMemory.{Event, after, holds_name, is_held, new_event}
-use Rattle.board_event.specs.EventTable.{AreLeft, EventTable, freed, HoldsName, IsEventTable, LosesName, changed, event_at, listened, named_with, names_of, settled, settled_with, with_event, with_gone, with_names, with_notifier, without_event}
+use Rattle.board_event_model.specs.EventMemory.{Event, after, holds_name, has_holder, new_event}
+use Rattle.board_event.specs.EventTable.{AreLeft, EventTable, freed, HoldsName, IsEventTable, LosesName, changed, event_at, table_listened, named_with, names_of, settled, settled_with, with_event, with_gone, with_names, with_notifier, without_event}
 
 -- ---- equal keys
 
@@ -166,11 +166,11 @@ Keeps-notifier e k name holds = record { kind = holds.kind; name = holds.name; h
 -- ---- a new event
 
 -- an event is put in under a number that is free, beside its name
-event_at-listened : (t : EventTable) (k : EventKind) (name : List ℕ) (max q : ℕ) → event_at (listened t k name max) q ≡ cond (is_at (nat_cmp (t.drawn + 1)) q) (Some (new_event k name max)) (event_at t q)
-event_at-listened t k name max q = lookup-put nat_cmp nat_cmp_total exact_unsigned t.events (t.drawn + 1) (new_event k name max) q
+event_at-table_listened : (t : EventTable) (k : EventKind) (name : List ℕ) (max q : ℕ) → event_at (table_listened t k name max) q ≡ cond (is_at (nat_cmp (t.drawn + 1)) q) (Some (new_event k name max)) (event_at t q)
+event_at-table_listened t k name max q = lookup-put nat_cmp nat_cmp_total exact_unsigned t.events (t.drawn + 1) (new_event k name max) q
 
 -- a name of the new table has the new event's number, or had its number before
-name_by : (k : EventKind) (name : List ℕ) (t : EventTable) (max : ℕ) (j : EventKind) (other : List ℕ) (m : ℕ) → at (names_of j (listened t k name max)) other ≡ Some m →
+name_by : (k : EventKind) (name : List ℕ) (t : EventTable) (max : ℕ) (j : EventKind) (other : List ℕ) (m : ℕ) → at (names_of j (table_listened t k name max)) other ≡ Some m →
     (G : Type 0) → (j ≡ k → name ≡ other → t.drawn + 1 ≡ m → G) → (at (names_of j t) other ≡ Some m → G) → G
 name_by k name t max j other m h G fresh before = by k j h fresh before
   where
@@ -182,7 +182,7 @@ name_by k name t max j other m h G fresh before = by k j h fresh before
     choice names true same is found fresh' before' = fresh' (same_name name other same) (let both = (rw is at found) in cc both)
     choice names false apart is found fresh' before' = before' (rw is at found)
 
-    by : (k j : EventKind) → at (names_of j (listened t k name max)) other ≡ Some m → (j ≡ k → name ≡ other → t.drawn + 1 ≡ m → G) → (at (names_of j t) other ≡ Some m → G) → G
+    by : (k j : EventKind) → at (names_of j (table_listened t k name max)) other ≡ Some m → (j ≡ k → name ≡ other → t.drawn + 1 ≡ m → G) → (at (names_of j t) other ≡ Some m → G) → G
     by kind.Bits kind.Bits found fresh' before' = choice t.bits _ refl (put t.bits) found (fresh' refl) before'
     by kind.Bits kind.Queue found fresh' before' = before' found
     by kind.Queue kind.Bits found fresh' before' = before' found
@@ -194,7 +194,7 @@ new_holds kind.Bits name max = record { kind = refl; name = refl; held = refl }
 new_holds kind.Queue name max = record { kind = refl; name = refl; held = refl }
 
 -- a listen
-pub kept_listened : (t : EventTable) (k : EventKind) (name : List ℕ) (max : ℕ) → IsEventTable t → IsEventTable (listened t k name max)
+pub kept_listened : (t : EventTable) (k : EventKind) (name : List ℕ) (max : ℕ) → IsEventTable t → IsEventTable (table_listened t k name max)
 kept_listened t k name max table = record { named = named; numbered = numbered }
   where
     fresh : HoldsName k name (new_event k name max)
@@ -207,16 +207,16 @@ kept_listened t k name max table = record { named = named; numbered = numbered }
     drawn_here : (m : ℕ) → m ≡ t.drawn + 1 → is_at (nat_cmp (t.drawn + 1)) m ≡ true
     drawn_here m e = rw e ((eq_by_cmp_equiv nat_cmp_total).refl (t.drawn + 1))
 
-    named : (j : EventKind) (other : List ℕ) (m : ℕ) → at (names_of j (listened t k name max)) other ≡ Some m → IsSomeAnd (event_at (listened t k name max) m) (HoldsName j other)
+    named : (j : EventKind) (other : List ℕ) (m : ℕ) → at (names_of j (table_listened t k name max)) other ≡ Some m → IsSomeAnd (event_at (table_listened t k name max) m) (HoldsName j other)
     named j other m h = name_by k name t max j other m h _
-        (λ kinds names same. let is = event_at-listened t k name max m in rw is (rw (drawn_here m (sym same)) (rw kinds (rw (sym names) fresh))))
+        (λ kinds names same. let is = event_at-table_listened t k name max m in rw is (rw (drawn_here m (sym same)) (rw kinds (rw (sym names) fresh))))
         (λ before. let old = table.named j other m before in
-        found_by (HoldsName j other) (is_at (nat_cmp (t.drawn + 1)) m) (event_at t m) _ (new_event k name max) (event_at-listened t k name max m)
+        found_by (HoldsName j other) (is_at (nat_cmp (t.drawn + 1)) m) (event_at t m) _ (new_event k name max) (event_at-table_listened t k name max m)
         (λ same. absurd (above m (event_at t m) (HoldsName j other) refl old (same_number (t.drawn + 1) m same)))
         (λ _. old))
 
-    numbered : (m : ℕ) → IsSome (event_at (listened t k name max) m) → m ≤ t.drawn + 1
-    numbered m some = number_by (m ≤ t.drawn + 1) (is_at (nat_cmp (t.drawn + 1)) m) (event_at t m) _ (new_event k name max) (event_at-listened t k name max m) some
+    numbered : (m : ℕ) → IsSome (event_at (table_listened t k name max) m) → m ≤ t.drawn + 1
+    numbered m some = number_by (m ≤ t.drawn + 1) (is_at (nat_cmp (t.drawn + 1)) m) (event_at t m) _ (new_event k name max) (event_at-table_listened t k name max m) some
         (λ same. let is = same_number (t.drawn + 1) m same in omega (arith, is))
         (λ _ before. let low = table.numbered m before in omega (arith, low))
 
@@ -250,7 +250,7 @@ apart_from n q apart k same = rw (sym (same_number n k same)) (rw ((eq_by_cmp_eq
 
 -- each other event stays
 event_at-settled : (t : EventTable) (n : ℕ) (e : Event) (q : ℕ) → is_at (nat_cmp n) q ≡ false → event_at (settled_with t n e) q ≡ event_at t q
-event_at-settled t n e q apart = by (is_held e)
+event_at-settled t n e q apart = by (has_holder e)
   where
     by : (b : Bool) → event_at (if b then named_with t n e else without_event (named_with t n e) n) q ≡ event_at t q
     by true = event_at-named_with t n e q
@@ -258,7 +258,7 @@ event_at-settled t n e q apart = by (is_held e)
 
 -- no number is drawn
 drawn-settled : (t : EventTable) (n : ℕ) (e : Event) → (settled_with t n e).drawn ≡ t.drawn
-drawn-settled t n e = by (is_held e) (holds_name e) e.kind
+drawn-settled t n e = by (has_holder e) (holds_name e) e.kind
   where
     by : (a b : Bool) (k : EventKind) → (if a then (if b then t else with_names k t (freed (names_of k t) e.name n)) else without_event (if b then t else with_names k t (freed (names_of k t) e.name n)) n).drawn ≡ t.drawn
     by true true k = refl
@@ -276,7 +276,7 @@ held_by_name kind.Queue false some holds = cc holds
 
 -- where the name is held still, the event stays as it is
 event_at-held : (t : EventTable) (n : ℕ) (e : Event) → holds_name e ≡ true → settled_with t n e ≡ t
-event_at-held t n e holds = let held : is_held e ≡ true = held_by_name e.kind e.held (nat_lt 0 e.notifiers) holds in rw held (rw holds refl)
+event_at-held t n e holds = let held : has_holder e ≡ true = held_by_name e.kind e.held (nat_lt 0 e.notifiers) holds in rw held (rw holds refl)
 
 -- a holder less leaves the kind and the name
 abbrev pub IsSameEvent : Event → Event → Type 0

@@ -11,7 +11,7 @@ use Rattle.board_names.specs.declared.errors.event.NotifierCreateError.{Notifier
 use Rattle.board_names.specs.declared.errors.event.NotifierCreateError.TheVariants as notifier_error
 use Rattle.board_event_model.specs.declared.kind.EventKind.{EventKind}
 use Rattle.board_event_model.specs.declared.kind.EventKind.TheVariants as kind
-use Rattle.board_event_model.specs.EventMemory.{Event, holds_name, is_held, new_event}
+use Rattle.board_event_model.specs.EventMemory.{Event, holds_name, has_holder, new_event}
 use Rattle.board_event.specs.Memories.{event_code}
 
 -- how many numbers were drawn, the events that stand by their numbers, and the held names of each kind with the number of the event that holds it
@@ -106,7 +106,7 @@ named_with t n e = if holds_name e then t else without_name_of t n e
 
 -- the table where event n is e and a holder of it was let go: its name goes with those who hold it, and the event with its last holder
 abbrev pub settled_with : EventTable → ℕ → Event → EventTable
-settled_with t n e = (if is_held e then named_with t n e else without_event (named_with t n e) n)
+settled_with t n e = (if has_holder e then named_with t n e else without_event (named_with t n e) n)
 
 -- the same, of the event that stands
 abbrev pub settled : EventTable → ℕ → EventTable
@@ -120,8 +120,8 @@ listen_answer t (Some n) = Err listener_error.AlreadyExists
 listen_answer t None = if nat_lt t.drawn (2 ^ 64 - 2) then Ok (t.drawn + 1) else Err listener_error.NumbersSpent
 
 -- the table after a listen
-abbrev pub listened : EventTable → EventKind → List ℕ → ℕ → EventTable
-listened t k name max = record (with_names k t (putting (names_of k t) name (t.drawn + 1))) {
+abbrev pub table_listened : EventTable → EventKind → List ℕ → ℕ → EventTable
+table_listened t k name max = record (with_names k t (putting (names_of k t) name (t.drawn + 1))) {
   drawn = t.drawn + 1;
   events = insert_entry nat_cmp t.events (t.drawn + 1) (new_event k name max);
 }

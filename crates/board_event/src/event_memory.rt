@@ -1,7 +1,7 @@
 //! The memory of one event.
 ghost use Rattle.std.specs.Prelude.{◌≡◌, ◌≤◌, ◌<◌, ◌+◌, ◌-◌, ◌^◌, ◌/◌, ℕ, IfOk, [], true, false, IsTrue, ◌↔◌};
 ghost use Rattle.std.specs.FinSet as set;
-ghost use Rattle.board_event_model.specs.EventMemory.{CanPerform, Event, IsRight, after, holds_name, is_held, new_event, pop_answer, push_answer, yes_or_no};
+ghost use Rattle.board_event_model.specs.EventMemory.{CanPerform, Event, IsRight, after, holds_name, has_holder, new_event, pop_answer, push_answer, yes_or_no};
 ghost use Rattle.board_event.specs.EventTable.{with_gone, with_notifier, without_listener, without_notifier};
 
 use crate::bit_set::BitSet;
@@ -112,7 +112,7 @@ impl EventMemory {
 
     /// Whether a listener or a notifier of it is held.
     pub fn is_held(&self) -> bool
-        ensures { result ≡ is_held self.now }
+        ensures { result ≡ has_holder self.now }
     {
         self.held || self.notifiers > 0
     }

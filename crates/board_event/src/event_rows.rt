@@ -5,7 +5,7 @@ ghost use Rattle.std.specs.BTreeMap.{insert_entry};
 ghost use Rattle.board_names.specs.Table.{at, putting, without};
 ghost use Rattle.board_event_model.specs.declared.kind.EventKind.{EventKind as Kind};
 ghost use Rattle.board_event_model.specs.EventMemory.{CanPerform, Event, IsRight, after};
-ghost use Rattle.board_event.specs.EventTable.{AreLeft, LosesName, changed, event_at, freed, listened, names_of, empty_table, named_with, settled, with_gone, with_names, with_notifier, without_event, without_listener, without_notifier};
+ghost use Rattle.board_event.specs.EventTable.{AreLeft, LosesName, changed, event_at, freed, table_listened, names_of, empty_table, named_with, settled, with_gone, with_names, with_notifier, without_event, without_listener, without_notifier};
 
 use crate::event_memory::EventMemory;
 use board_event_model::{EventAccess, EventAnswer, EventKind};
@@ -89,7 +89,7 @@ impl EventRows {
         requires free { at (names_of kind self.old) name.now ≡ None }
         requires few { self.old.drawn < 2 ^ 64 - 2 }
         ensures number { IfSome result (λ n. n ≡ self.old.drawn + 1) }
-        ensures added { IsSome result → self.new ≡ listened self.old kind name.now max }
+        ensures added { IsSome result → self.new ≡ table_listened self.old kind name.now max }
         ensures none { result ≡ None → self.new ≡ self.old }
     {
         let number = self.drawn + 1;

@@ -3,7 +3,7 @@ ghost use Rattle.std.specs.Prelude.{◌≡◌, ◌<◌, ◌^◌, ◌↔◌, ℕ,
 ghost use Rattle.board_layout.specs.Answer.{Answers, Refuses};
 ghost use Rattle.board_names.specs.Table.{at, name_at, without};
 ghost use Rattle.board_event_model.specs.EventMemory.{CanPerform, Event, IsRight, after};
-ghost use Rattle.board_event.specs.EventTable.{HoldsName, IsEventTable, IsNotifierAnswer, changed, event_at, listen_answer, listened, names_of, empty_table, notifier_of, settled, with_gone, with_names, with_notifier, without_listener, without_notifier};
+ghost use Rattle.board_event.specs.EventTable.{HoldsName, IsEventTable, IsNotifierAnswer, changed, event_at, listen_answer, table_listened, names_of, empty_table, notifier_of, settled, with_gone, with_names, with_notifier, without_listener, without_notifier};
 
 use crate::event_rows::EventRows;
 use board_event_model::{EventAccess, EventAnswer, EventKind};
@@ -58,7 +58,7 @@ impl Events {
     ) -> Result<u64, ListenerCreateError>
         ensures answer { Answers result ListenerCreateError.OutOfMemory (listen_answer self.old (at (names_of kind self.old) name.now)) }
         ensures refused { Refuses result (listen_answer self.old (at (names_of kind self.old) name.now)) }
-        ensures ok { OnOk result (self.new ≡ listened self.old kind name.now max) }
+        ensures ok { OnOk result (self.new ≡ table_listened self.old kind name.now max) }
         ensures err { OnErr result (self.new ≡ self.old) }
     {
         if self.holds(kind, name) {

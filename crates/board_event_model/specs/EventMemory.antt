@@ -33,12 +33,12 @@ is_bits kind.Bits = true
 is_bits kind.Queue = false
 
 -- whether a listener or a notifier of it is held
-abbrev pub is_held : Event → Bool
-is_held e = e.held || nat_lt 0 e.notifiers
+abbrev pub has_holder : Event → Bool
+has_holder e = e.held || nat_lt 0 e.notifiers
 
 -- a bits name is held by the listener or a notifier, a queue name by the listener
 abbrev pub holds_name : Event → Bool
-holds_name e = elim e.kind [ kind.Bits ↦ is_held e | kind.Queue ↦ e.held ]
+holds_name e = elim e.kind [ kind.Bits ↦ has_holder e | kind.Queue ↦ e.held ]
 
 -- whether an id is pending
 abbrev pub is_pending : Event → ℕ → Bool

@@ -8,11 +8,11 @@ use Rattle.board_model.specs.declared.answer.Answer.{Answer}
 use Rattle.board_model.specs.declared.line.Line.{Line}
 use Rattle.board_model.specs.declared.tables.Board.{Board}
 use Rattle.board_model.specs.TypeTable.{key_detail, same_key, value_detail}
-use Rattle.board_model.specs.Tables.{board_at, board_named, entry_found, is_numbered, is_of_board, new_board, without}
+use Rattle.board_model.specs.Tables.{board_at, board_named, entry_found, is_numbered, is_of_board, new_board, without_first}
 use Rattle.board_model.specs.TableCalls.{asked, boards_left, create_refusals, created, entry_mut_refusals, entry_refusals, first_of, id_of, joined, number_of, open_refusals, reader_refusals, with_read_handle, with_reader, with_write_handle, with_writer, writer_refusals}
 use Rattle.board_model.specs.Things.{Held, Standing, is_held_as, thing_of}
 use Rattle.board_model.specs.Requests.{Fetch, Published, Request, TableCall, create, info, entry, entry_mut, fill, fresh, get, discard, id, open_, loan, keys, nodes, publish, put, reader, table, gen, update, writer}
-use Rattle.board_model.specs.Replies.{added_of, ask, ask_tables, is_key, latest, released_thing, with_fetched}
+use Rattle.board_model.specs.Replies.{added_of, ask, ask_tables, keeps_key, latest, released_thing, with_fetched}
 use Rattle.board_model.specs.LawfulSession.{IsLawfulFrom, IsRight, Session, State, after, state_after}
 use Rattle.board_model.specs.Sound.{BoardTables, Sound}
 use Rattle.board_model.proofs.ListLemmas.{count_without, find_back, find_none, find_push_cases, find_true}
@@ -41,15 +41,15 @@ pushed_boards t new x at e n b le f =
         absurd (omega arith)
 
 -- a board goes
-without_missing : {X : Type 0} (q : X → Bool) (xs : List X) → find q xs ≡ None → without q xs ≡ xs
+without_missing : {X : Type 0} (q : X → Bool) (xs : List X) → find q xs ≡ None → without_first q xs ≡ xs
 without_missing q [] e = refl
 without_missing {X = X} q (z ∷ xs) e = at (q z) (without_missing q xs) e
   where
-    at : (b : Bool) → (find q xs ≡ None → without q xs ≡ xs) → cond b (Some z) (find q xs) ≡ None → cond b xs (z ∷ without q xs) ≡ z ∷ xs
+    at : (b : Bool) → (find q xs ≡ None → without_first q xs ≡ xs) → cond b (Some z) (find q xs) ≡ None → cond b xs (z ∷ without_first q xs) ≡ z ∷ xs
     at true ih k = absurd cc
     at false ih k = ap (λ (ys : List X). z ∷ ys) (ih k)
 
-found_without : (boards : List Board) (n m : ℕ) (b : Board) → count_by (is_numbered m) boards ≤ 1 → find (is_numbered n) (without (is_numbered m) boards) ≡ Some b → find (is_numbered n) boards ≡ Some b
+found_without : (boards : List Board) (n m : ℕ) (b : Board) → count_by (is_numbered m) boards ≤ 1 → find (is_numbered n) (without_first (is_numbered m) boards) ≡ Some b → find (is_numbered n) boards ≡ Some b
 found_without boards n m b few f = at (find (is_numbered m) boards) refl
   where
     taken : (t : Board) → find (is_numbered m) boards ≡ Some t → (z : Bool) → is_numbered n t ≡ z → find (is_numbered n) boards ≡ Some b
@@ -60,8 +60,8 @@ found_without boards n m b few f = at (find (is_numbered m) boards) refl
         let y : t.number ≡ m = eqb-true t.number m h in
         let c = count_without (is_numbered m) (is_numbered m) boards t e in
         let d : ◌≡◌ {A = ℕ} (cond (is_numbered m t) 1 0) 1 = ap (λ (z : Bool). cond z 1 0) h in
-        let k : find (is_numbered m) (without (is_numbered m) boards) ≡ Some b = subst (λ (a : ℕ). find (is_numbered a) (without (is_numbered m) boards) ≡ Some b) (sym x ∙ y) f in
-        absurd (find_none (is_numbered m) (without (is_numbered m) boards) b (omega (arith, c, few, d)) k)
+        let k : find (is_numbered m) (without_first (is_numbered m) boards) ≡ Some b = subst (λ (a : ℕ). find (is_numbered a) (without_first (is_numbered m) boards) ≡ Some b) (sym x ∙ y) f in
+        absurd (find_none (is_numbered m) (without_first (is_numbered m) boards) b (omega (arith, c, few, d)) k)
 
     at : (o : Option Board) → find (is_numbered m) boards ≡ o → find (is_numbered n) boards ≡ Some b
     at None e = ap (find (is_numbered n)) (sym (without_missing (is_numbered m) boards e)) ∙ f
@@ -70,7 +70,7 @@ found_without boards n m b few f = at (find (is_numbered m) boards) refl
 left_boards : (t new : BoardTables) (board : ℕ) (things : List Held) → ((n : ℕ) → count_by (is_numbered n) t.boards ≤ 1) → new.boards ≡ boards_left t.boards board things → KeepsBoards t new
 left_boards t new board things single e n b le f = at (list_any (is_of_board board) things) (ap (find (is_numbered n)) (sym e) ∙ f)
   where
-    at : (z : Bool) → find (is_numbered n) (cond z t.boards (without (is_numbered board) t.boards)) ≡ Some b → find (is_numbered n) t.boards ≡ Some b
+    at : (z : Bool) → find (is_numbered n) (cond z t.boards (without_first (is_numbered board) t.boards)) ≡ Some b → find (is_numbered n) t.boards ≡ Some b
     at true g = g
     at false g = found_without t.boards n board b (single board) g
 
@@ -96,13 +96,13 @@ kept_table s lists party (writer name x) =
     kept_asked s.tables (first_of (writer_refusals s.tables.things x.board)) (s.tables.last_port + 1) (with_writer s.tables x name)
     (same_boards s.tables (with_writer s.tables x name) refl)
 kept_table s lists party (entry name x k type) =
-    kept_asked s.tables (first_of (entry_refusals (entry_found (board_at s.tables x.board) (is_key k) (value_detail type)))) (id_of (entry_found (board_at s.tables x.board) (is_key k) (value_detail type)))
-    (with_read_handle s.tables x name (entry_found (board_at s.tables x.board) (is_key k) (value_detail type)))
-    (same_boards s.tables (with_read_handle s.tables x name (entry_found (board_at s.tables x.board) (is_key k) (value_detail type))) refl)
+    kept_asked s.tables (first_of (entry_refusals (entry_found (board_at s.tables x.board) (keeps_key k) (value_detail type)))) (id_of (entry_found (board_at s.tables x.board) (keeps_key k) (value_detail type)))
+    (with_read_handle s.tables x name (entry_found (board_at s.tables x.board) (keeps_key k) (value_detail type)))
+    (same_boards s.tables (with_read_handle s.tables x name (entry_found (board_at s.tables x.board) (keeps_key k) (value_detail type))) refl)
 kept_table s lists party (entry_mut name x k type) =
-    kept_asked s.tables (first_of (entry_mut_refusals s.tables.things x.board (entry_found (board_at s.tables x.board) (is_key k) (value_detail type)))) (id_of (entry_found (board_at s.tables x.board) (is_key k) (value_detail type)))
-    (with_write_handle s.tables x name (entry_found (board_at s.tables x.board) (is_key k) (value_detail type)))
-    (same_boards s.tables (with_write_handle s.tables x name (entry_found (board_at s.tables x.board) (is_key k) (value_detail type))) refl)
+    kept_asked s.tables (first_of (entry_mut_refusals s.tables.things x.board (entry_found (board_at s.tables x.board) (keeps_key k) (value_detail type)))) (id_of (entry_found (board_at s.tables x.board) (keeps_key k) (value_detail type)))
+    (with_write_handle s.tables x name (entry_found (board_at s.tables x.board) (keeps_key k) (value_detail type)))
+    (same_boards s.tables (with_write_handle s.tables x name (entry_found (board_at s.tables x.board) (keeps_key k) (value_detail type))) refl)
 kept_table s lists party (loan l) = same_boards s.tables (ask_tables s lists party (loan l)).standing.tables refl
 kept_table s lists party (discard l) = same_boards s.tables (ask_tables s lists party (discard l)).standing.tables refl
 kept_table s lists party (keys x) = same_boards s.tables s.tables refl
@@ -126,7 +126,7 @@ kept_ask s lists party (fill l v) = same_boards s.tables (ask s lists party (fil
 
 kept_release : (t : BoardTables) (party name : List ℕ) (o : Option Held) → ((n : ℕ) → count_by (is_numbered n) t.boards ≤ 1) → KeepsBoards t (released_thing t party name o)
 kept_release t party name None single = same_boards t t refl
-kept_release t party name (Some x) single = left_boards t (released_thing t party name (Some x)) x.board (without (is_held_as party name) t.things) single refl
+kept_release t party name (Some x) single = left_boards t (released_thing t party name (Some x)) x.board (without_first (is_held_as party name) t.things) single refl
 
 -- ---- lines
 

@@ -14,7 +14,7 @@ use Rattle.board_model.specs.Tables.{board_at, board_named, entry_found}
 use Rattle.board_model.specs.TableCalls.{asked, create_refusals, created, entry_mut_refusals, entry_refusals, first_of, id_of, joined, number_of, open_refusals, reader_refusals, with_read_handle, with_reader, with_write_handle, with_writer, writer_refusals}
 use Rattle.board_model.specs.Things.{Held, Standing, thing_of}
 use Rattle.board_model.specs.Requests.{Fetch, Published, Request, TableCall, request_of, create, info, entry, entry_mut, fill, fresh, get, discard, id, open_, loan, keys, nodes, publish, put, reader, table, gen, update, writer}
-use Rattle.board_model.specs.Replies.{added_of, ask, ask_tables, dropped, first_list, is_key, latest, lists_after, with_first_values, published_at, released_thing, with_fetched, word_put}
+use Rattle.board_model.specs.Replies.{added_of, ask, ask_tables, dropped, first_list, keeps_key, latest, lists_after, with_first_values, published_at, released_thing, with_fetched, word_put}
 use Rattle.board_model.specs.Parties.{begun, gone, with_party}
 use Rattle.board_model.specs.LawfulSession.{IsLawfulFrom, Session, State, after, start, state_after, stepped}
 use Rattle.board_model.specs.Sound.{BoardTables}
@@ -58,13 +58,13 @@ drawn_table s lists party (writer name x) =
     drawn_asked s.tables (first_of (writer_refusals s.tables.things x.board)) (s.tables.last_port + 1) (with_writer s.tables x name)
     (drawn_port s.tables (with_writer s.tables x name) refl refl)
 drawn_table s lists party (entry name x k type) =
-    drawn_asked s.tables (first_of (entry_refusals (entry_found (board_at s.tables x.board) (is_key k) (value_detail type)))) (id_of (entry_found (board_at s.tables x.board) (is_key k) (value_detail type)))
-    (with_read_handle s.tables x name (entry_found (board_at s.tables x.board) (is_key k) (value_detail type)))
-    (drawn_none s.tables (with_read_handle s.tables x name (entry_found (board_at s.tables x.board) (is_key k) (value_detail type))) refl refl)
+    drawn_asked s.tables (first_of (entry_refusals (entry_found (board_at s.tables x.board) (keeps_key k) (value_detail type)))) (id_of (entry_found (board_at s.tables x.board) (keeps_key k) (value_detail type)))
+    (with_read_handle s.tables x name (entry_found (board_at s.tables x.board) (keeps_key k) (value_detail type)))
+    (drawn_none s.tables (with_read_handle s.tables x name (entry_found (board_at s.tables x.board) (keeps_key k) (value_detail type))) refl refl)
 drawn_table s lists party (entry_mut name x k type) =
-    drawn_asked s.tables (first_of (entry_mut_refusals s.tables.things x.board (entry_found (board_at s.tables x.board) (is_key k) (value_detail type)))) (id_of (entry_found (board_at s.tables x.board) (is_key k) (value_detail type)))
-    (with_write_handle s.tables x name (entry_found (board_at s.tables x.board) (is_key k) (value_detail type)))
-    (drawn_none s.tables (with_write_handle s.tables x name (entry_found (board_at s.tables x.board) (is_key k) (value_detail type))) refl refl)
+    drawn_asked s.tables (first_of (entry_mut_refusals s.tables.things x.board (entry_found (board_at s.tables x.board) (keeps_key k) (value_detail type)))) (id_of (entry_found (board_at s.tables x.board) (keeps_key k) (value_detail type)))
+    (with_write_handle s.tables x name (entry_found (board_at s.tables x.board) (keeps_key k) (value_detail type)))
+    (drawn_none s.tables (with_write_handle s.tables x name (entry_found (board_at s.tables x.board) (keeps_key k) (value_detail type))) refl refl)
 drawn_table s lists party (loan l) = drawn_none s.tables (ask_tables s lists party (loan l)).standing.tables refl refl
 drawn_table s lists party (discard l) = drawn_none s.tables (ask_tables s lists party (discard l)).standing.tables refl refl
 drawn_table s lists party (keys x) = drawn_none s.tables s.tables refl refl

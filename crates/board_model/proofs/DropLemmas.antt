@@ -6,7 +6,7 @@ use Rattle.std.specs.Str.{bytes_eq}
 use Rattle.std.proofs.lemmas.Bool.{both_ways, cases_eq, eq-eqb, eqb-true, ne_eqb, or_parts}
 use Rattle.board_model.specs.declared.tables.Board.{Board}
 use Rattle.board_model.specs.declared.tables.Entry.{Entry}
-use Rattle.board_model.specs.Tables.{board_at, entry_at, entry_in, is_numbered, is_of_board, is_write_handle, without}
+use Rattle.board_model.specs.Tables.{board_at, entry_at, entry_in, is_numbered, is_of_board, is_write_handle, without_first}
 use Rattle.board_model.specs.TableCalls.{released}
 use Rattle.board_model.specs.Things.{Held, is_held_as, thing_of, with_at}
 use Rattle.board_model.specs.Requests.{Published}
@@ -43,7 +43,7 @@ boards_fewer t new memory published last single back h = record {
 
 -- ---- one thing less
 
-pub count_fewer : {X : Type 0} (p q : X → Bool) (xs : List X) (x : X) → find q xs ≡ Some x → count_by p (without q xs) ≤ count_by p xs
+pub count_fewer : {X : Type 0} (p q : X → Bool) (xs : List X) (x : X) → find q xs ≡ Some x → count_by p (without_first q xs) ≤ count_by p xs
 count_fewer p q xs x f = omega (arith, count_without p q xs x f)
 
 -- none that is left passes
@@ -55,51 +55,51 @@ all_off P Q p w (z ∷ xs) n h =
 
 module _ (t : BoardTables) (party name : List ℕ) (x : Held) (found : thing_of t.things party name ≡ Some x) where
   abbrev left : List Held
-  left = without (is_held_as party name) t.things
+  left = without_first (is_held_as party name) t.things
 
   abbrev new : BoardTables
   new = released t (is_held_as party name) x.board
 
   -- another board is found as before
-  other_board : (n m : ℕ) → (m ≡ n → ⊥) → find (is_numbered m) (without (is_numbered n) t.boards) ≡ find (is_numbered m) t.boards
+  other_board : (n m : ℕ) → (m ≡ n → ⊥) → find (is_numbered m) (without_first (is_numbered n) t.boards) ≡ find (is_numbered m) t.boards
   other_board n m ne = find_without_other (is_numbered m) (is_numbered n) (λ b k. ne_eqb b.number m (λ q. ne (sym q ∙ eqb-true b.number n k))) t.boards
 
   -- the board of a thing that is left stands as before
-  board_kept : (z : Bool) → list_any (is_of_board x.board) left ≡ z → (m : ℕ) → (m ≡ x.board → z ≡ true) → find (is_numbered m) (cond z t.boards (without (is_numbered x.board) t.boards)) ≡ find (is_numbered m) t.boards
+  board_kept : (z : Bool) → list_any (is_of_board x.board) left ≡ z → (m : ℕ) → (m ≡ x.board → z ≡ true) → find (is_numbered m) (cond z t.boards (without_first (is_numbered x.board) t.boards)) ≡ find (is_numbered m) t.boards
   board_kept true e m k = refl
   board_kept false e m k = other_board x.board m (λ q. both_ways false refl (k q))
 
   pub board_of_left : (p : Held → Bool) (y : Held) → find p left ≡ Some y → board_at new y.board ≡ board_at t y.board
   board_of_left p y f = board_kept (list_any (is_of_board x.board) left) refl y.board (λ q. any_found p (is_of_board x.board) left y f (eq-eqb y.board x.board q))
 
-  standing_left : (z : Bool) → list_any (is_of_board x.board) left ≡ z → AllByRecursion (HasBoard t) left → AllByRecursion (λ (y : Held). is_some (find (is_numbered y.board) (cond z t.boards (without (is_numbered x.board) t.boards))) ≡ true) left
+  standing_left : (z : Bool) → list_any (is_of_board x.board) left ≡ z → AllByRecursion (HasBoard t) left → AllByRecursion (λ (y : Held). is_some (find (is_numbered y.board) (cond z t.boards (without_first (is_numbered x.board) t.boards))) ≡ true) left
   standing_left true e h = h
-  standing_left false e h = all_off (HasBoard t) (λ (y : Held). is_some (find (is_numbered y.board) (without (is_numbered x.board) t.boards)) ≡ true) (is_of_board x.board)
+  standing_left false e h = all_off (HasBoard t) (λ (y : Held). is_some (find (is_numbered y.board) (without_first (is_numbered x.board) t.boards)) ≡ true) (is_of_board x.board)
       (λ y k off. ap is_some (other_board x.board y.board (λ q. both_ways (is_of_board x.board y) off (eq-eqb y.board x.board q))) ∙ k) left e h
 
   pub all_standing : AllByRecursion (HasBoard t) t.things → AllByRecursion (HasBoard new) new.things
   all_standing h = standing_left (list_any (is_of_board x.board) left) refl (all_without (HasBoard t) (is_held_as party name) t.things h)
 
-  entries_left : (z : Bool) → list_any (is_of_board x.board) left ≡ z → AllByRecursion (HasEntry t) left → AllByRecursion (HasEntry (record t { things = left; boards = cond z t.boards (without (is_numbered x.board) t.boards) })) left
+  entries_left : (z : Bool) → list_any (is_of_board x.board) left ≡ z → AllByRecursion (HasEntry t) left → AllByRecursion (HasEntry (record t { things = left; boards = cond z t.boards (without_first (is_numbered x.board) t.boards) })) left
   entries_left true e h = entries_kept t (record t { things = left }) (λ n i. refl) left h
-  entries_left false e h = all_off (HasEntry t) (HasEntry (record t { things = left; boards = without (is_numbered x.board) t.boards })) (is_of_board x.board)
-      (λ y k off. has_entry_kept t (record t { things = left; boards = without (is_numbered x.board) t.boards }) y.board (λ i. ap (λ (o : Option Board). entry_in o i) (other_board x.board y.board (λ q. both_ways (is_of_board x.board y) off (eq-eqb y.board x.board q)))) y.kind k) left e h
+  entries_left false e h = all_off (HasEntry t) (HasEntry (record t { things = left; boards = without_first (is_numbered x.board) t.boards })) (is_of_board x.board)
+      (λ y k off. has_entry_kept t (record t { things = left; boards = without_first (is_numbered x.board) t.boards }) y.board (λ i. ap (λ (o : Option Board). entry_in o i) (other_board x.board y.board (λ q. both_ways (is_of_board x.board y) off (eq-eqb y.board x.board q)))) y.kind k) left e h
 
   pub all_entries : AllByRecursion (HasEntry t) t.things → AllByRecursion (HasEntry new) new.things
   all_entries h = entries_left (list_any (is_of_board x.board) left) refl (all_without (HasEntry t) (is_held_as party name) t.things h)
 
   -- what stands now stood before
-  back : (memory : ℕ → List ℕ) (published : Published) → AreBoards t memory published → AllByRecursion (HasBoard t) t.things → (z : Bool) → (n : ℕ) (b : Board) → find (is_numbered n) (cond z t.boards (without (is_numbered x.board) t.boards)) ≡ Some b → find (is_numbered n) t.boards ≡ Some b
+  back : (memory : ℕ → List ℕ) (published : Published) → AreBoards t memory published → AllByRecursion (HasBoard t) t.things → (z : Bool) → (n : ℕ) (b : Board) → find (is_numbered n) (cond z t.boards (without_first (is_numbered x.board) t.boards)) ≡ Some b → find (is_numbered n) t.boards ≡ Some b
   back memory published h st true n b f = f
   back memory published h st false n b f = at (cases_eq n x.board)
     where
       at : (n ≡ x.board) ⊎ (n ≡ x.board → ⊥) → find (is_numbered n) t.boards ≡ Some b
       at (inr ne) = sym (other_board x.board n ne) ∙ f
       at (inl q) =
-          let f' = subst (λ (m : ℕ). find (is_numbered m) (without (is_numbered x.board) t.boards) ≡ Some b) q f in
+          let f' = subst (λ (m : ℕ). find (is_numbered m) (without_first (is_numbered x.board) t.boards) ≡ Some b) q f in
           absurd (gone (board_at t x.board) refl f')
         where
-          gone : (o : Option Board) → board_at t x.board ≡ o → find (is_numbered x.board) (without (is_numbered x.board) t.boards) ≡ Some b → ⊥
+          gone : (o : Option Board) → board_at t x.board ≡ o → find (is_numbered x.board) (without_first (is_numbered x.board) t.boards) ≡ Some b → ⊥
           gone None e f' =
               let s = all_found (HasBoard t) (is_held_as party name) t.things x st found in
               absurd (both_ways (is_some (board_at t x.board)) (ap is_some e) s)
@@ -107,13 +107,13 @@ module _ (t : BoardTables) (party name : List ℕ) (x : Held) (found : thing_of 
               let c = count_without (is_numbered x.board) (is_numbered x.board) t.boards y e in
               let u : is_numbered x.board y ≡ true = find_true (is_numbered x.board) t.boards y e in
               let d : ◌≡◌ {A = ℕ} (cond (is_numbered x.board y) 1 0) 1 = ap (λ (z : Bool). cond z 1 0) u in
-              find_none (is_numbered x.board) (without (is_numbered x.board) t.boards) b (omega (arith, c, d, h.single x.board)) f'
+              find_none (is_numbered x.board) (without_first (is_numbered x.board) t.boards) b (omega (arith, c, d, h.single x.board)) f'
 
-  single : (memory : ℕ → List ℕ) (published : Published) → AreBoards t memory published → AllByRecursion (HasBoard t) t.things → (z : Bool) (n : ℕ) → count_by (is_numbered n) (cond z t.boards (without (is_numbered x.board) t.boards)) ≤ 1
+  single : (memory : ℕ → List ℕ) (published : Published) → AreBoards t memory published → AllByRecursion (HasBoard t) t.things → (z : Bool) (n : ℕ) → count_by (is_numbered n) (cond z t.boards (without_first (is_numbered x.board) t.boards)) ≤ 1
   single memory published h st true n = h.single n
   single memory published h st false n = at (board_at t x.board) refl
     where
-      at : (o : Option Board) → board_at t x.board ≡ o → count_by (is_numbered n) (without (is_numbered x.board) t.boards) ≤ 1
+      at : (o : Option Board) → board_at t x.board ≡ o → count_by (is_numbered n) (without_first (is_numbered x.board) t.boards) ≤ 1
       at None e =
           let s = all_found (HasBoard t) (is_held_as party name) t.things x st found in
           absurd (both_ways (is_some (board_at t x.board)) (ap is_some e) s)

@@ -24,7 +24,7 @@ use Rattle.board_model.specs.Tables.{board_at, board_named, entries_of, entry_fo
 use Rattle.board_model.specs.TableCalls.{asked, create_refusals, created, entry_mut_refusals, entry_refusals, first_of, id_of, is_corrupted, joined, place_of, number_of, open_refusals, reader_refusals, with_read_handle, with_reader, with_write_handle, with_writer, writer_refusals}
 use Rattle.board_model.specs.Things.{Held, is_held_as, named_anew, thing_of, with_name}
 use Rattle.board_model.specs.Requests.{TableCall, create, info, entry, entry_mut, discard, id, open_, loan, keys, nodes, reader, gen, writer}
-use Rattle.board_model.specs.Replies.{added_of, ask_tables, is_key}
+use Rattle.board_model.specs.Replies.{added_of, ask_tables, keeps_key}
 use Rattle.board_model.specs.LawfulSession.{State, has_key_type}
 use Rattle.board_model.specs.Sound.{BoardTables, IsTableCall}
 use Rattle.board_model.specs.LawsOfForms.{AreFormedTables, IsFormedBoard, IsFormedCreate, IsFormedEntry, IsFormedInTable, IsFormedThing}
@@ -149,16 +149,16 @@ formed_table s party n (writer name x) h p q r =
     formed_asked s.standing.tables (first_of (writer_refusals s.standing.tables.things x.board)) (s.standing.tables.last_port + 1) new n h
     (λ _. formed_thing s.standing.tables new (record { holder = x.holder; name = name; board = x.board; kind = kind.Writer (s.standing.tables.last_port + 1) }) n h h.boards (omega arith) refl (record { holder = k.holder; port = omega arith }))
 formed_table s party n (entry name x key type) h p q r =
-    let found : Option (ℕ × Entry) = entry_found (board_at s.standing.tables x.board) (is_key key) (value_detail type) in
-    let new : BoardTables = with_read_handle s.standing.tables x name (entry_found (board_at s.standing.tables x.board) (is_key key) (value_detail type)) in
+    let found : Option (ℕ × Entry) = entry_found (board_at s.standing.tables x.board) (keeps_key key) (value_detail type) in
+    let new : BoardTables = with_read_handle s.standing.tables x name (entry_found (board_at s.standing.tables x.board) (keeps_key key) (value_detail type)) in
     let k = held_formed s.standing.tables party x n h r.1.found in
-    formed_asked s.standing.tables (first_of (entry_refusals (entry_found (board_at s.standing.tables x.board) (is_key key) (value_detail type)))) (id_of (entry_found (board_at s.standing.tables x.board) (is_key key) (value_detail type))) new n h
-    (λ _. formed_thing s.standing.tables new (record { holder = x.holder; name = name; board = x.board; kind = kind.ReadHandle (place_of (entry_found (board_at s.standing.tables x.board) (is_key key) (value_detail type))) }) n h h.boards (omega arith) refl (record { holder = k.holder; port = omega arith }))
+    formed_asked s.standing.tables (first_of (entry_refusals (entry_found (board_at s.standing.tables x.board) (keeps_key key) (value_detail type)))) (id_of (entry_found (board_at s.standing.tables x.board) (keeps_key key) (value_detail type))) new n h
+    (λ _. formed_thing s.standing.tables new (record { holder = x.holder; name = name; board = x.board; kind = kind.ReadHandle (place_of (entry_found (board_at s.standing.tables x.board) (keeps_key key) (value_detail type))) }) n h h.boards (omega arith) refl (record { holder = k.holder; port = omega arith }))
 formed_table s party n (entry_mut name x key type) h p q r =
-    let new : BoardTables = with_write_handle s.standing.tables x name (entry_found (board_at s.standing.tables x.board) (is_key key) (value_detail type)) in
+    let new : BoardTables = with_write_handle s.standing.tables x name (entry_found (board_at s.standing.tables x.board) (keeps_key key) (value_detail type)) in
     let k = held_formed s.standing.tables party x n h r.1.found in
-    formed_asked s.standing.tables (first_of (entry_mut_refusals s.standing.tables.things x.board (entry_found (board_at s.standing.tables x.board) (is_key key) (value_detail type)))) (id_of (entry_found (board_at s.standing.tables x.board) (is_key key) (value_detail type))) new n h
-    (λ _. formed_thing s.standing.tables new (record { holder = x.holder; name = name; board = x.board; kind = kind.WriteHandle (place_of (entry_found (board_at s.standing.tables x.board) (is_key key) (value_detail type))) (port_of x.kind) }) n h h.boards (omega arith) refl (record { holder = k.holder; port = k.port }))
+    formed_asked s.standing.tables (first_of (entry_mut_refusals s.standing.tables.things x.board (entry_found (board_at s.standing.tables x.board) (keeps_key key) (value_detail type)))) (id_of (entry_found (board_at s.standing.tables x.board) (keeps_key key) (value_detail type))) new n h
+    (λ _. formed_thing s.standing.tables new (record { holder = x.holder; name = name; board = x.board; kind = kind.WriteHandle (place_of (entry_found (board_at s.standing.tables x.board) (keeps_key key) (value_detail type))) (port_of x.kind) }) n h h.boards (omega arith) refl (record { holder = k.holder; port = k.port }))
 formed_table s party n (loan l) h p q r = formed_named s.standing.tables party l.handle l.loan n h
 formed_table s party n (discard l) h p q r = formed_named s.standing.tables party l.loan l.handle n h
 formed_table s party n (keys x) h p q r = formed_same s.standing.tables n h

@@ -17,7 +17,7 @@ use Rattle.board_model.specs.Tables.{board_at, entry_at, entry_found, entry_from
 use Rattle.board_model.specs.TableCalls.{asked, entry_asked, entry_mut_asked, first_of, place_of, with_write_handle}
 use Rattle.board_model.specs.Things.{Held, Standing}
 use Rattle.board_model.specs.Requests.{Request, create, info, entry, entry_mut, fill, fresh, get, discard, id, open_, loan, keys, nodes, publish, put, reader, table, gen, update, writer}
-use Rattle.board_model.specs.Replies.{ask, is_key, number_or}
+use Rattle.board_model.specs.Replies.{ask, keeps_key, number_or}
 use Rattle.board_model.specs.LawfulSession.{IsRight, State, state_after}
 use Rattle.board_model.specs.Sound.{BoardTables}
 use Rattle.board_model.specs.LawsOfSessions.{Pairs, at_one, at_two}
@@ -81,7 +81,7 @@ pub record IsFoundIn (t : BoardTables) (n : ℕ) (k : Key) (place number : ℕ) 
   pub board : Board
   pub stands : board_at t n ≡ Some board
   pub item : Entry
-  pub first : entry_from 0 (is_key k) board.entries ≡ Some (place, item)
+  pub first : entry_from 0 (keeps_key k) board.entries ≡ Some (place, item)
   pub told : number ≡ item.cell.place
 
 is_first : (value : TypeDetail) (x : Option (ℕ × Entry)) (y : ℕ × Entry) → of_type value x ≡ Some y → x ≡ Some y
@@ -92,13 +92,13 @@ is_first value (Some x) y e = at (same_type x.1.value value) e
     at true k = k
     at false k = absurd cc
 
-pub found_in : (t : BoardTables) (n : ℕ) (k : Key) (u : ValueType) (place number : ℕ) (x : ℕ × Entry) → (o : Option Board) → board_at t n ≡ o → entry_found o (is_key k) (value_detail u) ≡ Some x → place ≡ x.0 → number ≡ x.1.cell.place → IsFoundIn t n k place number
+pub found_in : (t : BoardTables) (n : ℕ) (k : Key) (u : ValueType) (place number : ℕ) (x : ℕ × Entry) → (o : Option Board) → board_at t n ≡ o → entry_found o (keeps_key k) (value_detail u) ≡ Some x → place ≡ x.0 → number ≡ x.1.cell.place → IsFoundIn t n k place number
 found_in t n k u place number x None e h p q = absurd cc
 found_in t n k u place number x (Some b) e h p q = record {
   board = b;
   stands = e;
   item = x.1;
-  first = is_first (value_detail u) (entry_from 0 (is_key k) b.entries) x h ∙ ap (λ (m : ℕ). Some (m, x.1)) (sym p);
+  first = is_first (value_detail u) (entry_from 0 (keeps_key k) b.entries) x h ∙ ap (λ (m : ℕ). Some (m, x.1)) (sym p);
   told = q;
 }
 
@@ -116,16 +116,16 @@ write_found s of name (Some x) number e = at (list_any (is_write_handle of.board
     at true k = absurd cc
     at false k = (x, refl, cc)
 
-asked_found : (s : State) (party : List ℕ) (q : Request) (n place number : ℕ) (k : Key) (u : ValueType) → AsksForHandle q n k u → reply.Number number ≡ (ask s.standing s.published party q).reply → place_of (entry_found (board_at s.standing.tables n) (is_key k) (value_detail u)) ≡ place
+asked_found : (s : State) (party : List ℕ) (q : Request) (n place number : ℕ) (k : Key) (u : ValueType) → AsksForHandle q n k u → reply.Number number ≡ (ask s.standing s.published party q).reply → place_of (entry_found (board_at s.standing.tables n) (keeps_key k) (value_detail u)) ≡ place
     → IsFoundIn s.standing.tables n k place number
 asked_found s party (table (entry name of l w)) n place number k u h e p =
-    let o : Option (ℕ × Entry) = entry_found (board_at s.standing.tables of.board) (is_key l) (value_detail w) in
-    let x = read_found s.standing of name (entry_found (board_at s.standing.tables of.board) (is_key l) (value_detail w)) number e in
-    let f : entry_found (board_at s.standing.tables n) (is_key k) (value_detail u) ≡ Some x.0 = rw (← h.0, ← h.1, ← h.2) x.1 in
+    let o : Option (ℕ × Entry) = entry_found (board_at s.standing.tables of.board) (keeps_key l) (value_detail w) in
+    let x = read_found s.standing of name (entry_found (board_at s.standing.tables of.board) (keeps_key l) (value_detail w)) number e in
+    let f : entry_found (board_at s.standing.tables n) (keeps_key k) (value_detail u) ≡ Some x.0 = rw (← h.0, ← h.1, ← h.2) x.1 in
     found_in s.standing.tables n k u place number x.0 (board_at s.standing.tables n) refl f (sym p ∙ ap place_of f) x.2
 asked_found s party (table (entry_mut name of l w)) n place number k u h e p =
-    let x = write_found s.standing of name (entry_found (board_at s.standing.tables of.board) (is_key l) (value_detail w)) number e in
-    let f : entry_found (board_at s.standing.tables n) (is_key k) (value_detail u) ≡ Some x.0 = rw (← h.0, ← h.1, ← h.2) x.1 in
+    let x = write_found s.standing of name (entry_found (board_at s.standing.tables of.board) (keeps_key l) (value_detail w)) number e in
+    let f : entry_found (board_at s.standing.tables n) (keeps_key k) (value_detail u) ≡ Some x.0 = rw (← h.0, ← h.1, ← h.2) x.1 in
     found_in s.standing.tables n k u place number x.0 (board_at s.standing.tables n) refl f (sym p ∙ ap place_of f) x.2
 asked_found s party (table (create f name l limits attributes entries)) n place number k u h e p = absurd h
 asked_found s party (table (open_ f name l limits needs)) n place number k u h e p = absurd h
@@ -158,8 +158,8 @@ record AreFound (t : BoardTables) (n : ℕ) (k l : Key) (i j one two : ℕ) : Ty
   pub stands : board_at t n ≡ Some board
   pub item : Entry
   pub other : Entry
-  pub first : entry_from 0 (is_key k) board.entries ≡ Some (i, item)
-  pub second : entry_from 0 (is_key l) board.entries ≡ Some (j, other)
+  pub first : entry_from 0 (keeps_key k) board.entries ≡ Some (i, item)
+  pub second : entry_from 0 (keeps_key l) board.entries ≡ Some (j, other)
   pub told : one ≡ item.cell.place
   pub later : two ≡ other.cell.place
 
@@ -175,7 +175,7 @@ both_found p n i j one two k l t u x y =
     let h : board_at (state_after (at_one p) (p.one ∷ p.between)).standing.tables n ≡ Some g.board = subst (λ (s : State). board_at s.standing.tables n ≡ Some g.board) a.state g.stands in
     let b : board_at (at_one p).standing.tables n ≡ Some g.board = session_boards (p.one ∷ p.between) (at_one p) (a.one, a.between) a.sound n g.board d h in
     let e : g.board ≡ f.board = same_board g.board f.board (sym b ∙ f.stands) in
-    record { board = f.board; stands = f.stands; item = f.item; other = g.item; first = f.first; second = subst (λ (z : Board). entry_from 0 (is_key l) z.entries ≡ Some (j, g.item)) e g.first; told = f.told; later = g.told }
+    record { board = f.board; stands = f.stands; item = f.item; other = g.item; first = f.first; second = subst (λ (z : Board). entry_from 0 (keeps_key l) z.entries ≡ Some (j, g.item)) e g.first; told = f.told; later = g.told }
 
 pub one_id : OneKeyOneId
 one_id p n i j one two k t u x y =
@@ -195,5 +195,5 @@ pub other_ids : OtherEntriesOtherIds
 other_ids p n i j number k l t u x y =
     let f = both_found p n i j number number k l t u x y in
     let a = apart p in
-    other_places (at_one p) n i j f.item f.other a.sound (placed_at (at_one p).standing.tables n i f.board (is_key k) f.item f.stands f.first) (placed_at (at_one p).standing.tables n j f.board (is_key l) f.other f.stands f.second)
+    other_places (at_one p) n i j f.item f.other a.sound (placed_at (at_one p).standing.tables n i f.board (keeps_key k) f.item f.stands f.first) (placed_at (at_one p).standing.tables n j f.board (keeps_key l) f.other f.stands f.second)
     (sym f.told ∙ f.later)

@@ -16,7 +16,7 @@ use Rattle.board_model.specs.declared.tables.Board.{Board}
 use Rattle.board_model.specs.declared.tables.ThingKind.{ThingKind}
 use Rattle.board_model.specs.declared.tables.ThingKind.TheVariants as thing_kind
 use Rattle.board_model.specs.LineGrammar.{IsCall, is_name}
-use Rattle.board_model.specs.Tables.{is_numbered, is_of_board, kind_of, port_of, same_kind, without}
+use Rattle.board_model.specs.Tables.{is_numbered, is_of_board, kind_of, port_of, same_kind, without_first}
 use Rattle.board_model.specs.TableCalls.{boards_left}
 use Rattle.board_model.specs.Things.{Held, Standing, held_of_kind, is_held_as, of_kind, thing_of}
 use Rattle.board_model.specs.Requests.{Fetch, Request, TableCall, and_then, create, info, discard, id, open_, loan, keys, nodes, gen, entry, entry_mut, fill, fresh, get, handle_of, handled, identified, loan_of, publish, put, reader, request_of, table, update, writer}
@@ -49,25 +49,25 @@ formed_ask s party r n (put l i w) h p k x = formed_same s.standing.tables n h
 formed_ask s party r n (publish l) h p k x = formed_named s.standing.tables party l.loan l.handle n h
 formed_ask s party r n (fill l v) h p k x = formed_named s.standing.tables party l.loan l.handle n h
 
-without_shorter : {X : Type 0} (p : X → Bool) (xs : List X) → length (without p xs) ≤ length xs
+without_shorter : {X : Type 0} (p : X → Bool) (xs : List X) → length (without_first p xs) ≤ length xs
 without_shorter p [] = omega arith
 without_shorter {X = X} p (x ∷ xs) = at (p x) (without_shorter p xs)
   where
-    at : (z : Bool) → length (without p xs) ≤ length xs → length (cond z xs (x ∷ without p xs)) ≤ length (x ∷ xs)
+    at : (z : Bool) → length (without_first p xs) ≤ length xs → length (cond z xs (x ∷ without_first p xs)) ≤ length (x ∷ xs)
     at true ih = omega arith
     at false ih = omega (arith, ih)
 
 formed_left : (boards : List Board) (board : ℕ) (things : List Held) → AllByRecursion IsFormedBoard boards → AllByRecursion IsFormedBoard (boards_left boards board things)
 formed_left boards board things h = at (list_any (is_of_board board) things)
   where
-    at : (z : Bool) → AllByRecursion IsFormedBoard (cond z boards (without (is_numbered board) boards))
+    at : (z : Bool) → AllByRecursion IsFormedBoard (cond z boards (without_first (is_numbered board) boards))
     at true = h
     at false = all_without IsFormedBoard (is_numbered board) boards h
 
 formed_release : (t : BoardTables) (party name : List ℕ) (n : ℕ) (o : Option Held) → AreFormedTables t n → AreFormedTables (released_thing t party name o) (n + 1)
 formed_release t party name n None h = formed_same t n h
 formed_release t party name n (Some x) h = record {
-  boards = formed_left t.boards x.board (without (is_held_as party name) t.things) h.boards;
+  boards = formed_left t.boards x.board (without_first (is_held_as party name) t.things) h.boards;
   things = all_without (IsFormedThing t.last_port) (is_held_as party name) t.things h.things;
   few = omega (arith, without_shorter (is_held_as party name) t.things, h.few);
 }

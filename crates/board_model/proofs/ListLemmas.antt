@@ -7,7 +7,7 @@ use Rattle.std.proofs.lemmas.Bool.{both_ways, or_left, or_right}
 use Rattle.std.proofs.lemmas.List.Folds.{list_any-append}
 use Rattle.std.proofs.lemmas.List.Sums.{sum_by_push, sum_by-cons}
 use Rattle.std.proofs.lemmas.Slice.Eq.{bytes_eq-Decides}
-use Rattle.board_model.specs.Tables.{without}
+use Rattle.board_model.specs.Tables.{without_first}
 
 -- ---- names
 
@@ -95,43 +95,43 @@ find_push_cases {X = X} p (z ∷ xs) x y e = at (p z) (find_push_cases p xs x y)
     at false ih q = ih q
 
 -- what isn't removed is still found
-pub find_without : {X : Type 0} (p q : X → Bool) (xs : List X) (y : X) → find p xs ≡ Some y → q y ≡ false → find p (without q xs) ≡ Some y
+pub find_without : {X : Type 0} (p q : X → Bool) (xs : List X) (y : X) → find p xs ≡ Some y → q y ≡ false → find p (without_first q xs) ≡ Some y
 find_without p q [] y e h = absurd cc
 find_without {X = X} p q (z ∷ xs) y e h = at (p z) refl (q z) refl (find_without p q xs y) e
   where
-    at : (b : Bool) → p z ≡ b → (c : Bool) → q z ≡ c → (find p xs ≡ Some y → q y ≡ false → find p (without q xs) ≡ Some y) → cond b (Some z) (find p xs) ≡ Some y → find p (cond c xs (z ∷ without q xs)) ≡ Some y
+    at : (b : Bool) → p z ≡ b → (c : Bool) → q z ≡ c → (find p xs ≡ Some y → q y ≡ false → find p (without_first q xs) ≡ Some y) → cond b (Some z) (find p xs) ≡ Some y → find p (cond c xs (z ∷ without_first q xs)) ≡ Some y
     at true g true f ih k =
         let s : z ≡ y = cc in
         let t : q y ≡ true = subst (λ (x : X). q x ≡ true) s f in
         absurd (both_ways (q y) h t)
     at false g true f ih k = k
-    at true g false f ih k = ap (λ (b : Bool). cond b (Some z) (find p (without q xs))) g ∙ k
-    at false g false f ih k = ap (λ (b : Bool). cond b (Some z) (find p (without q xs))) g ∙ ih k h
+    at true g false f ih k = ap (λ (b : Bool). cond b (Some z) (find p (without_first q xs))) g ∙ k
+    at false g false f ih k = ap (λ (b : Bool). cond b (Some z) (find p (without_first q xs))) g ∙ ih k h
 
-pub count_without : {X : Type 0} (p q : X → Bool) (xs : List X) (y : X) → find q xs ≡ Some y → count_by p (without q xs) + cond (p y) 1 0 ≡ count_by p xs
+pub count_without : {X : Type 0} (p q : X → Bool) (xs : List X) (y : X) → find q xs ≡ Some y → count_by p (without_first q xs) + cond (p y) 1 0 ≡ count_by p xs
 count_without p q [] y e = absurd cc
 count_without {X = X} p q (z ∷ xs) y e = at (q z) (count_without p q xs y) e
   where
-    at : (c : Bool) → (find q xs ≡ Some y → count_by p (without q xs) + cond (p y) 1 0 ≡ count_by p xs) → cond c (Some z) (find q xs) ≡ Some y → count_by p (cond c xs (z ∷ without q xs)) + cond (p y) 1 0 ≡ count_by p (z ∷ xs)
+    at : (c : Bool) → (find q xs ≡ Some y → count_by p (without_first q xs) + cond (p y) 1 0 ≡ count_by p xs) → cond c (Some z) (find q xs) ≡ Some y → count_by p (cond c xs (z ∷ without_first q xs)) + cond (p y) 1 0 ≡ count_by p (z ∷ xs)
     at true ih k =
         let s : z ≡ y = cc in
         let d : ◌≡◌ {A = ℕ} (cond (p y) 1 0) (cond (p z) 1 0) = ap (λ (x : X). cond (p x) 1 0) (sym s) in
         omega (arith, count_cons p z xs, d)
-    at false ih k = omega (arith, count_cons p z xs, count_cons p z (without q xs), ih k)
+    at false ih k = omega (arith, count_cons p z xs, count_cons p z (without_first q xs), ih k)
 
 -- what is found without a thing was found before, where the thing doesn't pass
-pub find_back : {X : Type 0} (p q : X → Bool) (xs : List X) (y t : X) → find q xs ≡ Some t → p t ≡ false → find p (without q xs) ≡ Some y → find p xs ≡ Some y
+pub find_back : {X : Type 0} (p q : X → Bool) (xs : List X) (y t : X) → find q xs ≡ Some t → p t ≡ false → find p (without_first q xs) ≡ Some y → find p xs ≡ Some y
 find_back p q [] y t e h k = absurd cc
 find_back {X = X} p q (z ∷ xs) y t e h k = at (q z) (p z) refl (find_back p q xs y t) e k
   where
-    at : (c b : Bool) → p z ≡ b → (find q xs ≡ Some t → p t ≡ false → find p (without q xs) ≡ Some y → find p xs ≡ Some y) → cond c (Some z) (find q xs) ≡ Some t → find p (cond c xs (z ∷ without q xs)) ≡ Some y → cond b (Some z) (find p xs) ≡ Some y
+    at : (c b : Bool) → p z ≡ b → (find q xs ≡ Some t → p t ≡ false → find p (without_first q xs) ≡ Some y → find p xs ≡ Some y) → cond c (Some z) (find q xs) ≡ Some t → find p (cond c xs (z ∷ without_first q xs)) ≡ Some y → cond b (Some z) (find p xs) ≡ Some y
     at true true f ih e k =
         let s : z ≡ t = cc in
         let u : p t ≡ true = subst (λ (x : X). p x ≡ true) s f in
         absurd (both_ways (p t) h u)
     at true false f ih e k = k
-    at false true f ih e k = sym (ap (λ (b : Bool). cond b (Some z) (find p (without q xs))) f) ∙ k
-    at false false f ih e k = ih e h (sym (ap (λ (b : Bool). cond b (Some z) (find p (without q xs))) f) ∙ k)
+    at false true f ih e k = sym (ap (λ (b : Bool). cond b (Some z) (find p (without_first q xs))) f) ∙ k
+    at false false f ih e k = ih e h (sym (ap (λ (b : Bool). cond b (Some z) (find p (without_first q xs))) f) ∙ k)
 
 -- at most one passes: the one that is found under another test is found
 pub find_only : {X : Type 0} (p q : X → Bool) (xs : List X) (y : X) → count_by p xs ≤ 1 → find q xs ≡ Some y → p y ≡ true → find p xs ≡ Some y
@@ -240,14 +240,14 @@ any_missing {X = X} p (z ∷ xs) h = at (p z) (any_missing p xs) h
     at false ih q = ih q
 
 -- what passes in a list without one item passed in the whole
-pub any_without : {X : Type 0} (p q : X → Bool) (xs : List X) → list_any p (without q xs) ≡ true → list_any p xs ≡ true
+pub any_without : {X : Type 0} (p q : X → Bool) (xs : List X) → list_any p (without_first q xs) ≡ true → list_any p xs ≡ true
 any_without p q [] h = absurd cc
 any_without {X = X} p q (z ∷ xs) h = at (q z) (any_without p q xs) h
   where
-    rest : (b : Bool) → (list_any p (without q xs) ≡ true → list_any p xs ≡ true) → (b || list_any p (without q xs)) ≡ true → (b || list_any p xs) ≡ true
+    rest : (b : Bool) → (list_any p (without_first q xs) ≡ true → list_any p xs ≡ true) → (b || list_any p (without_first q xs)) ≡ true → (b || list_any p xs) ≡ true
     rest true ih k = refl
     rest false ih k = ih k
 
-    at : (c : Bool) → (list_any p (without q xs) ≡ true → list_any p xs ≡ true) → list_any p (cond c xs (z ∷ without q xs)) ≡ true → (p z || list_any p xs) ≡ true
+    at : (c : Bool) → (list_any p (without_first q xs) ≡ true → list_any p xs ≡ true) → list_any p (cond c xs (z ∷ without_first q xs)) ≡ true → (p z || list_any p xs) ≡ true
     at true ih k = or_right (p z) (list_any p xs) k
     at false ih k = rest (p z) ih k

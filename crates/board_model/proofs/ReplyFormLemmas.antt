@@ -22,7 +22,7 @@ use Rattle.board_model.specs.Tables.{board_at, board_named, entry_at, entry_foun
 use Rattle.board_model.specs.TableCalls.{asked, create_refusals, created, entry_mut_refusals, entry_refusals, first_of, id_of, joined, number_of, open_refusals, reader_refusals, with_read_handle, with_reader, with_write_handle, with_writer, writer_refusals}
 use Rattle.board_model.specs.Things.{Held, is_held_as}
 use Rattle.board_model.specs.Requests.{Request, TableCall, create, info, entry, entry_mut, fill, fresh, get, discard, handled, id, open_, loan, keys, nodes, publish, put, reader, table, gen, update, writer}
-use Rattle.board_model.specs.Replies.{added_of, ask, ask_tables, id_number, info_of, is_before, is_key, keys_in, keys_of, latest, nodes_of, number_or, place_in, placed_once}
+use Rattle.board_model.specs.Replies.{added_of, ask, ask_tables, id_number, info_of, is_before, keeps_key, keys_in, keys_of, latest, nodes_of, number_or, place_in, placed_once}
 use Rattle.board_model.specs.Parties.{Running}
 use Rattle.board_model.specs.LawfulSession.{State}
 use Rattle.board_model.specs.Sound.{BoardTables, HasBoard, IsCalling, IsTableCall, Sound}
@@ -59,11 +59,11 @@ module _ (s : State) (sound : Sound s) (n : ℕ) (w : IsWithin s n) (lt : n < 2 
       let c = sound.boards.cells b i e f in
       omega (arith, sound.boards.placed b i e f, c.inside, c.head, sound.boards.short b i e f)
 
-  found_number : (b : ℕ) (k : Key) (u : ValueType) (o : Option (ℕ × Entry)) → entry_found (board_at s.standing.tables b) (is_key k) (value_detail u) ≡ o → IsNumber (id_of o)
+  found_number : (b : ℕ) (k : Key) (u : ValueType) (o : Option (ℕ × Entry)) → entry_found (board_at s.standing.tables b) (keeps_key k) (value_detail u) ≡ o → IsNumber (id_of o)
   found_number b k u None e = omega arith
   found_number b k u (Some x) e =
       let f = found_in s.standing.tables b k u x.0 x.1.cell.place x (board_at s.standing.tables b) refl e refl refl in
-      let g : entry_at s.standing.tables b x.0 ≡ Some f.item = placed_at s.standing.tables b x.0 f.board (is_key k) f.item f.stands f.first in
+      let g : entry_at s.standing.tables b x.0 ≡ Some f.item = placed_at s.standing.tables b x.0 f.board (keeps_key k) f.item f.stands f.first in
       let p : IsNumber f.item.cell.place = place_number b x.0 f.item g in
       omega (arith, f.told, p)
 
@@ -166,15 +166,15 @@ module _ (s : State) (sound : Sound s) (n : ℕ) (w : IsWithin s n) (lt : n < 2 
       told_number reply.WriterError (first_of (writer_refusals s.standing.tables.things x.board)) (s.standing.tables.last_port + 1) (with_writer s.standing.tables x name) s.standing.tables
       (omega (arith, w.ports)) (λ e q. one_told is_writer_reply (writer_refusals s.standing.tables.things x.board) (refl, tt) e q)
   table_told party (entry name x k type) h r =
-      told_number reply.EntryError (first_of (entry_refusals (entry_found (board_at s.standing.tables x.board) (is_key k) (value_detail type)))) (id_of (entry_found (board_at s.standing.tables x.board) (is_key k) (value_detail type)))
-      (with_read_handle s.standing.tables x name (entry_found (board_at s.standing.tables x.board) (is_key k) (value_detail type))) s.standing.tables
-      (found_number x.board k type (entry_found (board_at s.standing.tables x.board) (is_key k) (value_detail type)) refl)
-      (λ e q. one_told is_entry_reply (entry_refusals (entry_found (board_at s.standing.tables x.board) (is_key k) (value_detail type))) (refl, tt) e q)
+      told_number reply.EntryError (first_of (entry_refusals (entry_found (board_at s.standing.tables x.board) (keeps_key k) (value_detail type)))) (id_of (entry_found (board_at s.standing.tables x.board) (keeps_key k) (value_detail type)))
+      (with_read_handle s.standing.tables x name (entry_found (board_at s.standing.tables x.board) (keeps_key k) (value_detail type))) s.standing.tables
+      (found_number x.board k type (entry_found (board_at s.standing.tables x.board) (keeps_key k) (value_detail type)) refl)
+      (λ e q. one_told is_entry_reply (entry_refusals (entry_found (board_at s.standing.tables x.board) (keeps_key k) (value_detail type))) (refl, tt) e q)
   table_told party (entry_mut name x k type) h r =
-      told_number reply.EntryMutError (first_of (entry_mut_refusals s.standing.tables.things x.board (entry_found (board_at s.standing.tables x.board) (is_key k) (value_detail type)))) (id_of (entry_found (board_at s.standing.tables x.board) (is_key k) (value_detail type)))
-      (with_write_handle s.standing.tables x name (entry_found (board_at s.standing.tables x.board) (is_key k) (value_detail type))) s.standing.tables
-      (found_number x.board k type (entry_found (board_at s.standing.tables x.board) (is_key k) (value_detail type)) refl)
-      (λ e q. one_told is_entry_mut_reply (entry_mut_refusals s.standing.tables.things x.board (entry_found (board_at s.standing.tables x.board) (is_key k) (value_detail type))) (refl, (refl, tt)) e q)
+      told_number reply.EntryMutError (first_of (entry_mut_refusals s.standing.tables.things x.board (entry_found (board_at s.standing.tables x.board) (keeps_key k) (value_detail type)))) (id_of (entry_found (board_at s.standing.tables x.board) (keeps_key k) (value_detail type)))
+      (with_write_handle s.standing.tables x name (entry_found (board_at s.standing.tables x.board) (keeps_key k) (value_detail type))) s.standing.tables
+      (found_number x.board k type (entry_found (board_at s.standing.tables x.board) (keeps_key k) (value_detail type)) refl)
+      (λ e q. one_told is_entry_mut_reply (entry_mut_refusals s.standing.tables.things x.board (entry_found (board_at s.standing.tables x.board) (keeps_key k) (value_detail type))) (refl, (refl, tt)) e q)
   table_told party (loan l) h r = tt
   table_told party (discard l) h r = tt
   table_told party (keys x) h r = keys_known x.board (board_at s.standing.tables x.board) refl

@@ -36,7 +36,7 @@ use Rattle.board_model.specs.Tables.{board_at, board_named, entry_at, entry_foun
 use Rattle.board_model.specs.TableCalls.{asked, entry_mut_refusals, entry_refusals, id_of, create_refusals, created, first_of, is_corrupted, joined, number_of, open_refusals, place_of, with_thing}
 use Rattle.board_model.specs.Things.{Held, Standing, thing_of}
 use Rattle.board_model.specs.Requests.{Fetch, Lending, Publication, Request, TableCall, create, info, entry, entry_mut, fill, fresh, get, discard, id, open_, loan, keys, nodes, publish, put, reader, table, gen, update, writer}
-use Rattle.board_model.specs.Replies.{Asked, added_of, ask, given_back, is_key, lists_after, told_by, with_fetched, word_put}
+use Rattle.board_model.specs.Replies.{Asked, added_of, ask, given_back, keeps_key, lists_after, told_by, with_fetched, word_put}
 use Rattle.board_model.specs.Memory.{IsStanding, memory_after}
 use Rattle.board_model.specs.Parties.{Party, Running, free, is_done, owed, reading, running, with_party}
 use Rattle.board_model.specs.LawfulSession.{State, stepped}
@@ -238,11 +238,11 @@ pub record IsPlaceFrom (i j : ℕ) (es : List Entry) : Type 0 where
   pub sum : j ≡ i + place
   pub there : is_some (slice_get es place) ≡ true
 
-found_entry : (i : ℕ) (is_key : List ℕ → Bool) (es : List Entry) (x : ℕ × Entry) → entry_from i is_key es ≡ Some x → IsPlaceFrom i x.0 es
-found_entry i is_key [] x f = absurd cc
-found_entry i is_key (z ∷ es) x f = at (is_key z.key.bytes) f (found_entry (i + 1) is_key es x)
+found_entry : (i : ℕ) (keeps_key : List ℕ → Bool) (es : List Entry) (x : ℕ × Entry) → entry_from i keeps_key es ≡ Some x → IsPlaceFrom i x.0 es
+found_entry i keeps_key [] x f = absurd cc
+found_entry i keeps_key (z ∷ es) x f = at (keeps_key z.key.bytes) f (found_entry (i + 1) keeps_key es x)
   where
-    at : (b : Bool) → cond b (Some (i, z)) (entry_from (i + 1) is_key es) ≡ Some x → (entry_from (i + 1) is_key es ≡ Some x → IsPlaceFrom (i + 1) x.0 es) → IsPlaceFrom i x.0 (z ∷ es)
+    at : (b : Bool) → cond b (Some (i, z)) (entry_from (i + 1) keeps_key es) ≡ Some x → (entry_from (i + 1) keeps_key es ≡ Some x → IsPlaceFrom (i + 1) x.0 es) → IsPlaceFrom i x.0 (z ∷ es)
     at true q ih =
         let p = same_Some (i, z) x q in
         record { place = 0; sum = sym (ap (λ (y : ℕ × Entry). y.0) p) ∙ omega arith; there = refl }
@@ -250,29 +250,29 @@ found_entry i is_key (z ∷ es) x f = at (is_key z.key.bytes) f (found_entry (i 
         let h = ih q in
         record { place = suc h.place; sum = omega (arith, h.sum); there = h.there }
 
-entry_stands : (t : BoardTables) (board : ℕ) (is_key : List ℕ → Bool) (type : TypeDetail) (o : Option Board) → board_at t board ≡ o → (r : Option (ℕ × Entry)) → entry_found o is_key type ≡ r → is_none r ≡ false → is_some (entry_at t board (place_of r)) ≡ true
-entry_stands t board is_key type None e r f n = absurd (both_ways (is_none r) n (ap is_none (sym f)))
-entry_stands t board is_key type (Some b) e r f n = at (entry_from 0 is_key b.entries) refl r f n
+entry_stands : (t : BoardTables) (board : ℕ) (keeps_key : List ℕ → Bool) (type : TypeDetail) (o : Option Board) → board_at t board ≡ o → (r : Option (ℕ × Entry)) → entry_found o keeps_key type ≡ r → is_none r ≡ false → is_some (entry_at t board (place_of r)) ≡ true
+entry_stands t board keeps_key type None e r f n = absurd (both_ways (is_none r) n (ap is_none (sym f)))
+entry_stands t board keeps_key type (Some b) e r f n = at (entry_from 0 keeps_key b.entries) refl r f n
   where
-    typed : (x : ℕ × Entry) → entry_from 0 is_key b.entries ≡ Some x → (z : Bool) (r : Option (ℕ × Entry)) → cond z (Some x) None ≡ r → is_none r ≡ false → is_some (entry_at t board (place_of r)) ≡ true
+    typed : (x : ℕ × Entry) → entry_from 0 keeps_key b.entries ≡ Some x → (z : Bool) (r : Option (ℕ × Entry)) → cond z (Some x) None ≡ r → is_none r ≡ false → is_some (entry_at t board (place_of r)) ≡ true
     typed x g false r q n = absurd (both_ways (is_none r) n (ap is_none (sym q)))
     typed x g true r q n =
-        let h = found_entry 0 is_key b.entries x g in
+        let h = found_entry 0 keeps_key b.entries x g in
         let zero_plus : 0 + h.place ≡ h.place = omega arith in
         let p : x.0 ≡ h.place = h.sum ∙ zero_plus in
         let u : is_some (entry_in (board_at t board) x.0) ≡ true = ap (λ (o : Option Board). is_some (entry_in o x.0)) e ∙ ap (λ (m : ℕ). is_some (slice_get b.entries m)) p ∙ h.there in
         subst (λ (y : Option (ℕ × Entry)). is_some (entry_at t board (place_of y)) ≡ true) q u
 
-    at : (o : Option (ℕ × Entry)) → entry_from 0 is_key b.entries ≡ o → (r : Option (ℕ × Entry)) → of_type type o ≡ r → is_none r ≡ false → is_some (entry_at t board (place_of r)) ≡ true
+    at : (o : Option (ℕ × Entry)) → entry_from 0 keeps_key b.entries ≡ o → (r : Option (ℕ × Entry)) → of_type type o ≡ r → is_none r ≡ false → is_some (entry_at t board (place_of r)) ≡ true
     at None g r q n = absurd (both_ways (is_none r) n (ap is_none (sym q)))
     at (Some x) g r q n = typed x g (same_type x.1.value type) r q n
 
 module _ (s : State) (sound : Sound s) (party name : List ℕ) (x : Held) (k : Key) (type : ValueType) (calm : IsCalm s party) (unheld : IsFree s.standing party name) (f : thing_of s.standing.tables.things party x.name ≡ Some x) where
   abbrev sought : Option (ℕ × Entry)
-  sought = entry_found (board_at s.standing.tables x.board) (is_key k) (value_detail type)
+  sought = entry_found (board_at s.standing.tables x.board) (keeps_key k) (value_detail type)
 
   sought_stands : is_none sought ≡ false → is_some (entry_at s.standing.tables x.board (place_of sought)) ≡ true
-  sought_stands n = entry_stands s.standing.tables x.board (is_key k) (value_detail type) (board_at s.standing.tables x.board) refl sought refl n
+  sought_stands n = entry_stands s.standing.tables x.board (keeps_key k) (value_detail type) (board_at s.standing.tables x.board) refl sought refl n
 
   entry_step : Sound (standing_state s party (ask s.standing s.published party (table (entry name x k type))).standing)
   entry_step = made_or_not s party reply.EntryError (first_of (entry_refusals sought)) (id_of sought) (record { holder = x.holder; name = name; board = x.board; kind = kind.ReadHandle (place_of sought) }) s.standing.tables.last_port sound calm

@@ -8,7 +8,7 @@ use Rattle.std.proofs.lemmas.Option.{same_Some}
 use Rattle.std.proofs.lemmas.Slice.Eq.{bytes_eq-Decides}
 use Rattle.board_model.specs.declared.tables.Kind.{Kind}
 use Rattle.board_model.specs.declared.tables.Kind.TheVariants as kind
-use Rattle.board_model.specs.Tables.{board_at, entry_at, entry_of, is_write_handle, without, writes_entry}
+use Rattle.board_model.specs.Tables.{board_at, entry_at, entry_of, is_write_handle, without_first, writes_entry}
 use Rattle.board_model.specs.Things.{Held, is_held_as, named_anew, thing_of}
 use Rattle.board_model.specs.Sound.{BoardTables, HasBoard, HasEntry, HasEntryAt}
 use Rattle.board_model.proofs.ListLemmas.{count_agree, count_map, find_only, find_true, same_bytes}
@@ -41,11 +41,11 @@ pub all_map : {X : Type 0} (P : X → Type 0) (f : X → X) → ((x : X) → P x
 all_map P f w [] h = tt
 all_map P f w (z ∷ xs) h = (w z h.0, all_map P f w xs h.1)
 
-pub all_without : {X : Type 0} (P : X → Type 0) (q : X → Bool) (xs : List X) → AllByRecursion P xs → AllByRecursion P (without q xs)
+pub all_without : {X : Type 0} (P : X → Type 0) (q : X → Bool) (xs : List X) → AllByRecursion P xs → AllByRecursion P (without_first q xs)
 all_without P q [] h = tt
 all_without P q (z ∷ xs) h = at (q z) (all_without P q xs h.1)
   where
-    at : (b : Bool) → AllByRecursion P (without q xs) → AllByRecursion P (cond b xs (z ∷ without q xs))
+    at : (b : Bool) → AllByRecursion P (without_first q xs) → AllByRecursion P (cond b xs (z ∷ without_first q xs))
     at true ih = h.1
     at false ih = (h.0, ih)
 
@@ -62,11 +62,11 @@ find_push_here {X = X} p (z ∷ xs) y e h = at (p z) (find_push_here p xs y) e
     at false ih q = ih q h
 
 -- what is taken out is no other
-pub find_without_other : {X : Type 0} (p q : X → Bool) → ((x : X) → q x ≡ true → p x ≡ false) → (xs : List X) → find p (without q xs) ≡ find p xs
+pub find_without_other : {X : Type 0} (p q : X → Bool) → ((x : X) → q x ≡ true → p x ≡ false) → (xs : List X) → find p (without_first q xs) ≡ find p xs
 find_without_other p q off [] = refl
 find_without_other {X = X} p q off (z ∷ xs) = at (q z) refl (find_without_other p q off xs)
   where
-    at : (c : Bool) → q z ≡ c → find p (without q xs) ≡ find p xs → find p (cond c xs (z ∷ without q xs)) ≡ cond (p z) (Some z) (find p xs)
+    at : (c : Bool) → q z ≡ c → find p (without_first q xs) ≡ find p xs → find p (cond c xs (z ∷ without_first q xs)) ≡ cond (p z) (Some z) (find p xs)
     at true t ih = sym (ap (λ (b : Bool). cond b (Some z) (find p xs)) (off z t))
     at false t ih = ap (λ (o : Option X). cond (p z) (Some z) o) ih
 

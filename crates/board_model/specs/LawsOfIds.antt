@@ -13,7 +13,7 @@ use Rattle.board_model.specs.TypeTable.{value_detail}
 use Rattle.board_model.specs.Tables.{board_at, entry_at, entry_found}
 use Rattle.board_model.specs.TableCalls.{place_of}
 use Rattle.board_model.specs.Requests.{Request, TableCall, entry, entry_mut, table}
-use Rattle.board_model.specs.Replies.{is_key}
+use Rattle.board_model.specs.Replies.{keeps_key}
 use Rattle.board_model.specs.Parties.{Running, running}
 use Rattle.board_model.specs.LawfulSession.{State}
 use Rattle.board_model.specs.Sound.{Sound}
@@ -42,7 +42,7 @@ pub record IsMade (s : State) (pair : Line × Answer) (n place : ℕ) (key : Key
   pub access : Access
   pub runs : s.parties party ≡ running call
   pub request : AsksForHandle call.request n key t
-  pub found : place_of (entry_found (board_at s.standing.tables n) (is_key key) (value_detail t)) ≡ place
+  pub found : place_of (entry_found (board_at s.standing.tables n) (keeps_key key) (value_detail t)) ≡ place
   pub line : pair.0 ≡ line.Step party
   pub answer : pair.1 ≡ answer.Step access (Some (reply.Number id))
 

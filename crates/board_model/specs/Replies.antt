@@ -45,8 +45,8 @@ abbrev pub told_by : {E : Type 0} → Standing → (E → Reply) → Result ℕ 
 told_by s error result = record { reply = number_or error result.0; standing = record s { tables = result.1 } }
 
 -- whether the bytes of a kept key are equal to a key
-abbrev pub is_key : Key → List ℕ → Bool
-is_key k bytes = same_key (type_of_key k) bytes (key_bytes k)
+abbrev pub keeps_key : Key → List ℕ → Bool
+keeps_key k bytes = same_key (type_of_key k) bytes (key_bytes k)
 
 -- the words of a new loan: none of them was put yet
 abbrev pub none_put : ℕ → List (Option ℕ)
@@ -156,8 +156,8 @@ ask_tables s lists party (create f name k limits attributes entries) = told_by s
 ask_tables s lists party (open_ f name k limits needs) = told_by s reply.OpenError (open_asked bytes_eq s.tables party f name (key_detail k) limits needs)
 ask_tables s lists party (reader name of) = told_by s reply.ReaderError (reader_asked s.tables of name)
 ask_tables s lists party (writer name of) = told_by s reply.WriterError (writer_asked s.tables of name)
-ask_tables s lists party (entry name of k type) = told_by s reply.EntryError (entry_asked s.tables of name (entry_found (board_at s.tables of.board) (is_key k) (value_detail type)))
-ask_tables s lists party (entry_mut name of k type) = told_by s reply.EntryMutError (entry_mut_asked s.tables of name (entry_found (board_at s.tables of.board) (is_key k) (value_detail type)))
+ask_tables s lists party (entry name of k type) = told_by s reply.EntryError (entry_asked s.tables of name (entry_found (board_at s.tables of.board) (keeps_key k) (value_detail type)))
+ask_tables s lists party (entry_mut name of k type) = told_by s reply.EntryMutError (entry_mut_asked s.tables of name (entry_found (board_at s.tables of.board) (keeps_key k) (value_detail type)))
 ask_tables s lists party (loan l) = record { reply = reply.Done; standing = lent s party l }
 ask_tables s lists party (discard l) = record { reply = reply.Done; standing = given_back s party l }
 ask_tables s lists party (keys of) = only_told s (reply.Keys (keys_in (board_at s.tables of.board)))

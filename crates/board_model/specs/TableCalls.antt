@@ -23,7 +23,7 @@ use Rattle.board_names.specs.declared.errors.boards.EntryHandleError.TheVariants
 use Rattle.board_names.specs.declared.errors.boards.EntryHandleMutError.{EntryHandleMutError}
 use Rattle.board_names.specs.declared.errors.boards.EntryHandleMutError.TheVariants as entry_mut_error
 use Rattle.board_model.specs.TypeTable.{same_type}
-use Rattle.board_model.specs.Tables.{Tables, Added, holds_at, without, is_numbered, has_name, board_at, board_named, is_of_board, reader_slots, writer_slots, is_write_handle, is_node, nodes_taken, shapes_of, has_equal_keys, new_board, meets, port_of}
+use Rattle.board_model.specs.Tables.{Tables, Added, holds_at, without_first, is_numbered, has_name, board_at, board_named, is_of_board, reader_slots, writer_slots, is_write_handle, is_node, nodes_taken, shapes_of, has_equal_keys, new_board, meets, port_of}
 
 -- ---- refusals
 
@@ -180,8 +180,8 @@ entry_mut_asked t of name found = asked (first_of (entry_mut_refusals t.things o
 
 -- a board stands while a thing of it does
 abbrev pub boards_left : {H N : Type 0} → List Board → ℕ → List (Thing H N) → List Board
-boards_left boards board things = if list_any (is_of_board board) things then boards else without (is_numbered board) boards
+boards_left boards board things = if list_any (is_of_board board) things then boards else without_first (is_numbered board) boards
 
 -- without the thing that passes the test, which is of this board
 abbrev pub released : {H N : Type 0} → Tables H N → (Thing H N → Bool) → ℕ → Tables H N
-released t is_it board = record t { things = without is_it t.things; boards = boards_left t.boards board (without is_it t.things) }
+released t is_it board = record t { things = without_first is_it t.things; boards = boards_left t.boards board (without_first is_it t.things) }

@@ -39,9 +39,9 @@ holds_at None test = false
 holds_at (Some x) test = test x
 
 -- the list without the first that passes the test
-abbrev pub without : {A : Type 0} → (A → Bool) → List A → List A
-without p [] = []
-without p (x ∷ xs) = if p x then xs else x ∷ without p xs
+abbrev pub without_first : {A : Type 0} → (A → Bool) → List A → List A
+without_first p [] = []
+without_first p (x ∷ xs) = if p x then xs else x ∷ without_first p xs
 
 -- ---- looking up
 

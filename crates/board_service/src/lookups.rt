@@ -73,7 +73,7 @@ fn place_of_thing(number: ThingId, things: &[Held]) -> Option<usize>
 pub(crate) fn take_thing(number: ThingId, things: &mut Vec<Held>) -> Held
     requires { IsSome (find (domain.is_thing number) things.old.items) }
     ensures taken { result ≡ domain.thing_numbered number things.old.items }
-    ensures rest { things.new.items ≡ tables.without (domain.is_thing number) things.old.items }
+    ensures rest { things.new.items ≡ tables.without_first (domain.is_thing number) things.old.items }
 {
     match place_of_thing(number, things) {
         Some(i) => things.remove(i),
@@ -85,7 +85,7 @@ pub(crate) fn take_thing(number: ThingId, things: &mut Vec<Held>) -> Held
 /// Takes the board with the number out, and tells where it stood.
 pub(crate) fn take_board(number: u64, boards: &mut Vec<BoardRow>) -> Option<usize>
     ensures place { result ≡ position_from (tables.is_numbered number) 0 boards.old.items }
-    ensures rest { boards.new.items ≡ tables.without (tables.is_numbered number) boards.old.items }
+    ensures rest { boards.new.items ≡ tables.without_first (tables.is_numbered number) boards.old.items }
     ensures inside { IfSome result (λ i. i < length boards.old.items) }
     ensures shorter { OnSome result (length boards.new.items + 1 ≡ length boards.old.items) }
     ensures same { IfNone result (boards.new.items ≡ boards.old.items) }

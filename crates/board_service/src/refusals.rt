@@ -6,7 +6,7 @@ ghost use Rattle.board_layout.specs.Layout.{IsShape, payload};
 ghost use Rattle.board_model.specs.Tables as tables;
 ghost use Rattle.board_model.specs.TableCalls as calls;
 ghost use Rattle.board_service.specs.Domain.{spent};
-ghost use Rattle.board_service.specs.Entries.{added_of};
+ghost use Rattle.board_service.specs.Entries.{as_added};
 
 use crate::board_row::BoardRow;
 use crate::counts::{Held, is_node, nodes_taken};
@@ -30,7 +30,7 @@ fn has_name(name: &ServiceName, boards: &[BoardRow]) -> bool
 
 fn has_key<K: BoardKey>(key: &KeyMemory<64>, entries: &[NewEntry]) -> bool
     requires { K.SIZE ≤ 64 }
-    ensures { result ≡ tables.has_key (keys.same_keys K.eq K.value_of K.SIZE K.WORDS) key.now.bytes (map added_of entries.now) }
+    ensures { result ≡ tables.has_key (keys.same_keys K.eq K.value_of K.SIZE K.WORDS) key.now.bytes (map as_added entries.now) }
 {
     for entry in entries {
         if same_keys::<K>(&entry.key, key) {
@@ -42,7 +42,7 @@ fn has_key<K: BoardKey>(key: &KeyMemory<64>, entries: &[NewEntry]) -> bool
 
 fn has_equal_keys<K: BoardKey>(entries: &[NewEntry]) -> bool
     requires { K.SIZE ≤ 64 }
-    ensures { result ≡ tables.has_equal_keys (keys.same_keys K.eq K.value_of K.SIZE K.WORDS) (map added_of entries.now) }
+    ensures { result ≡ tables.has_equal_keys (keys.same_keys K.eq K.value_of K.SIZE K.WORDS) (map as_added entries.now) }
 {
     for (i, entry) in entries.iter().enumerate() {
         if has_key::<K>(&entry.key, &entries[i + 1..]) {
@@ -61,9 +61,9 @@ pub(crate) fn create_refusal<K: BoardKey>(
     last_thing: u64,
 ) -> Option<BlackboardCreateError>
     requires size { 0 < length entries.now → K.SIZE ≤ 64 }
-    requires shapes { All IsShape (tables.shapes_of (map added_of entries.now)) }
-    ensures first { result ≡ calls.first_of (calls.create_refusals (keys.same_keys K.eq K.value_of K.SIZE K.WORDS) boards.now name.now (map added_of entries.now) ++ (spent last_board || spent last_thing, BlackboardCreateError.NumbersSpent) ∷ []) }
-    ensures small { IfNone result (payload (tables.shapes_of (map added_of entries.now)) < 2 ^ 32) }
+    requires shapes { All IsShape (tables.shapes_of (map as_added entries.now)) }
+    ensures first { result ≡ calls.first_of (calls.create_refusals (keys.same_keys K.eq K.value_of K.SIZE K.WORDS) boards.now name.now (map as_added entries.now) ++ (spent last_board || spent last_thing, BlackboardCreateError.NumbersSpent) ∷ []) }
+    ensures small { IfNone result (payload (tables.shapes_of (map as_added entries.now)) < 2 ^ 32) }
     ensures key { IfNone result (K.SIZE ≤ 64) }
     ensures below { IfNone result ((last_board < 2 ^ 64 - 2) × (last_thing < 2 ^ 64 - 2)) }
 {

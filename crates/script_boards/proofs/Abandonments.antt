@@ -12,7 +12,7 @@ use Rattle.script_boards.specs.declared.machine.BoardMachine.{BoardMachine}
 use Rattle.script_boards.specs.declared.machine.PartyRow.{PartyRow}
 use Rattle.script_boards.specs.declared.machine.Task.TheVariants as task
 use Rattle.script_boards.specs.Loans.{lent_words}
-use Rattle.script_parties.specs.Parties.{Parties, words_of}
+use Rattle.script_parties.specs.Parties.{Parties, words_of_boards}
 use Rattle.script_boards.specs.Steps.{HoldsAsBefore}
 use Rattle.script_boards.specs.Machine.{Represents, kept, tables_of}
 use Rattle.script_boards.proofs.PartyRows.{AreParties, RunsAt, left_behind, left_idle}
@@ -44,7 +44,7 @@ module _ {C : Type 0} (m new : BoardMachine C) (s : State) (rep : Represents m s
   leaves : AreParties new.parties.items (with_party s.parties party gone) → Represents new (after s (line.Abandon party) answer.Gone)
   leaves rows = record {
     tables = rep.tables ∙ sym tables;
-    words = ap (λ (d : Parties). d.words) held.domain ∙ rep.words ∙ ap (λ x. words_of s.memory x.boards) (sym tables);
+    words = ap (λ (d : Parties). d.words) held.domain ∙ rep.words ∙ ap (λ x. words_of_boards s.memory x.boards) (sym tables);
     parties = rows;
     loans = λ p n. rep.loans p n ∙ ap (λ (xs : List Lent). lent_words xs p n) (sym held.loans);
     values = λ p n. rep.values p n ∙ ap (λ (vs : List KeptValue). kept vs p n) (sym held.values);

@@ -41,7 +41,7 @@ use Rattle.script_boards.specs.declared.not_begun.NotBegun.{NotBegun}
 use Rattle.script_boards.specs.declared.not_begun.NotBegun.TheVariants as not_begun
 use Rattle.script_boards.specs.Begins.{IsChecked, IsHandle, IsTaskFor, handle_held, holds_any, is_handle}
 use Rattle.script_boards.specs.Loans.{lent_words}
-use Rattle.script_parties.specs.Parties.{words_of}
+use Rattle.script_parties.specs.Parties.{words_of_boards}
 use Rattle.script_boards.specs.Machine.{AreRowsOf, Represents, is_row_of, kept, tables_of, updating}
 use Rattle.script_boards.specs.Steps.{HasCounter, IsCounter}
 use Rattle.script_boards.proofs.Bounds.{IsBounded}
@@ -308,7 +308,7 @@ begin_begun m new s rep party c t e h tables words values loans parties l =
       },
       record {
         tables = rep.tables ∙ sym tables;
-        words = words ∙ rep.words ∙ ap (λ x. words_of s.memory x.boards) (sym tables);
+        words = words ∙ rep.words ∙ ap (λ x. words_of_boards s.memory x.boards) (sym tables);
         parties = subst (λ (o : Option Request). (p : List ℕ) → AreRowsOf (filter (is_row_of p) new.parties.items) (with_party s.parties party (begun o) p)) (sym q.1)
             (subst (λ (xs : List PartyRow). (p : List ℕ) → AreRowsOf (filter (is_row_of p) xs) (with_party s.parties party (begun (Some q.0)) p)) (sym parties)
             (started m.parties.items s.parties rep.parties party e t q.0 q.2));

@@ -14,7 +14,7 @@ use Rattle.board_model.specs.Sound.{IsCalling, IsReading, Sound}
 use Rattle.board_model.proofs.RunningLemmas.{runs}
 use Rattle.board_model.proofs.StoreLemmas.{store_here}
 use Rattle.board_cell.specs.Calls.{Asking, Getting, Publishing, Putting, Updating}
-use Rattle.script_parties.specs.Parties.{HasWord, IsStored, Parties, words_of}
+use Rattle.script_parties.specs.Parties.{HasWord, IsStored, Parties, words_of_boards}
 use Rattle.script_boards.specs.declared.machine.BoardMachine.{BoardMachine}
 use Rattle.script_boards.specs.declared.machine.PartyRow.{PartyRow}
 use Rattle.script_boards.specs.declared.machine.Task.{Task}
@@ -98,7 +98,7 @@ module _ {C : Type 0} (m : BoardMachine C) (s : State) (rep : Represents m s) (s
 
   -- the words after a write
   pub stored_words : (new : Parties) (n word value : ℕ) → is_some (board_at s.standing.tables n) ≡ true → IsStored m.domain new n word value
-      → new.words ≡ words_of (store s.memory n word value) m.domain.tables.boards
+      → new.words ≡ words_of_boards (store s.memory n word value) m.domain.tables.boards
   stored_words new n word value h stored =
       let at = stands_at n h in
       let single = subst (λ t. count_by (is_numbered n) t.boards ≤ 1) rep.tables (sound.boards.single n) in

@@ -45,7 +45,7 @@ use Rattle.script_boards.specs.Machine as machine
 use Rattle.script_boards.specs.Machine.{AreRowsOf, IsTaskOf, Represents, getting, asking, is_row_of, kept, kept_from, kept_of, tables_of}
 use Rattle.script_parties.specs.Parties as parties
 use Rattle.script_parties.specs.Parties.{HasWord, IsLoaded, Parties}
-use Rattle.script_boards.specs.Steps.{IsOwedBy, IsReadTold, is_last, kept_anew, read_told, ticked, values_read}
+use Rattle.script_boards.specs.Steps.{IsOwedBy, IsReadTold, ends_call, kept_anew, read_told, ticked, values_read}
 use Rattle.script_boards.proofs.PartyRows.{RunsAt, ended, went_on}
 use Rattle.script_boards.proofs.Rows.{remove-set}
 use Rattle.script_boards.proofs.OwedWords.{has_word, stands_at}
@@ -170,7 +170,7 @@ module _ {C : Type 0} (m : BoardMachine C) (s : State) (rep : Represents m s) (s
     heard_more f = reading_push f.shape.words at.r.so_far made
 
     -- the last word of the task is that of the call
-    last_is : (t : Task) → IsTaskOf t at.r.request at.r.so_far → IsOwedBy t (owed_access.Read x) → is_done at.r.request more ≡ is_last t v
+    last_is : (t : Task) → IsTaskOf t at.r.request at.r.so_far → IsOwedBy t (owed_access.Read x) → is_done at.r.request more ≡ ends_call t v
     last_is (task.Table t) h o = absurd o
     last_is (task.Get board call type name) h o =
         let f = h.fetch in
@@ -183,7 +183,7 @@ module _ {C : Type 0} (m : BoardMachine C) (s : State) (rep : Represents m s) (s
     last_is task.Gone h o = absurd o
 
     -- the rest of a read that goes on
-    rest_is : (t : Task) → IsTaskOf t at.r.request at.r.so_far → IsOwedBy t (owed_access.Read x) → is_last t v ≡ false → IsTaskOf (ticked t v) at.r.request more
+    rest_is : (t : Task) → IsTaskOf t at.r.request at.r.so_far → IsOwedBy t (owed_access.Read x) → ends_call t v ≡ false → IsTaskOf (ticked t v) at.r.request more
     rest_is (task.Table t) h o e = absurd o
     rest_is (task.Get board call type name) h o e =
         let f = h.fetch in
@@ -204,7 +204,7 @@ module _ {C : Type 0} (m : BoardMachine C) (s : State) (rep : Represents m s) (s
 
     -- another read leaves the rest of the call
     pub read_goes_on : (new : BoardMachine C) → tables_of new ≡ tables_of m → new.domain.words ≡ m.domain.words → new.values.items ≡ m.values.items → new.loans.items ≡ m.loans.items
-        → (y : PartyRow) → y.name ≡ row.name → y.task ≡ ticked row.task v → is_last row.task v ≡ false → new.parties.items ≡ set m.parties.items place y
+        → (y : PartyRow) → y.name ≡ row.name → y.task ≡ ticked row.task v → ends_call row.task v ≡ false → new.parties.items ≡ set m.parties.items place y
         → IsRight s (line.Step party) (answer.Step made None) × Represents new (after s (line.Step party) (answer.Step made None))
     read_goes_on new tables ws values loans y n t e rows =
         let next : Running = record at.r { so_far = more } in
@@ -219,7 +219,7 @@ module _ {C : Type 0} (m : BoardMachine C) (s : State) (rep : Represents m s) (s
           },
           rw (at.runs) (record {
             tables = rep.tables ∙ sym tables;
-            words = ws ∙ rep.words ∙ ap (λ z. parties.words_of s.memory z.boards) (sym tables);
+            words = ws ∙ rep.words ∙ ap (λ z. parties.words_of_boards s.memory z.boards) (sym tables);
             parties = subst (λ (xs : List PartyRow). (p : List ℕ) → AreRowsOf (filter (is_row_of p) xs) (with_party (λ q. notice made (s.parties q)) party (running next) p))
                 (sym rows) (went_on m.parties.items s.parties rep.parties party place row at made y next n of);
             loans = λ p n. rep.loans p n ∙ ap (λ (xs : List Lent). lent_words xs p n) (sym loans);
@@ -229,7 +229,7 @@ module _ {C : Type 0} (m : BoardMachine C) (s : State) (rep : Represents m s) (s
 
     -- ---- the last word
 
-    told_is : (t : Task) (told : Reply) → IsTaskOf t at.r.request at.r.so_far → IsOwedBy t (owed_access.Read x) → is_last t v ≡ true → read_told (ticked t v) ≡ Some told → reply_read at.r.request more ≡ Some told
+    told_is : (t : Task) (told : Reply) → IsTaskOf t at.r.request at.r.so_far → IsOwedBy t (owed_access.Read x) → ends_call t v ≡ true → read_told (ticked t v) ≡ Some told → reply_read at.r.request more ≡ Some told
     told_is (task.Table t) told h o e r = absurd o
     told_is (task.Get board call type name) told h o e r =
         let f = h.fetch in
@@ -276,7 +276,7 @@ module _ {C : Type 0} (m : BoardMachine C) (s : State) (rep : Represents m s) (s
     no_name f ws g None = (refl, λ p n. refl)
     no_name f ws g (Some name) = (refl, λ p n. refl)
 
-    left_is : (t : Task) (told : Reply) (vs : List KeptValue) → IsTaskOf t at.r.request at.r.so_far → IsOwedBy t (owed_access.Read x) → is_last t v ≡ true → vs ≡ m.values.items ++ values_read party (ticked t v) → IsLeft vs told at.r.request
+    left_is : (t : Task) (told : Reply) (vs : List KeptValue) → IsTaskOf t at.r.request at.r.so_far → IsOwedBy t (owed_access.Read x) → ends_call t v ≡ true → vs ≡ m.values.items ++ values_read party (ticked t v) → IsLeft vs told at.r.request
     left_is (task.Table t) told vs h o e k = absurd o
     left_is (task.Get board call type name) told vs h o e k =
         let f = h.fetch in
@@ -306,7 +306,7 @@ module _ {C : Type 0} (m : BoardMachine C) (s : State) (rep : Represents m s) (s
     left_is task.Gone told vs h o e k = absurd o
 
     -- the last read ends the call
-    pub read_ends : (mid new : BoardMachine C) (y : PartyRow) → y.task ≡ ticked row.task v → is_last row.task v ≡ true
+    pub read_ends : (mid new : BoardMachine C) (y : PartyRow) → y.task ≡ ticked row.task v → ends_call row.task v ≡ true
         → tables_of mid ≡ tables_of m → mid.domain.words ≡ m.domain.words → mid.values.items ≡ m.values.items → mid.loans.items ≡ m.loans.items → mid.parties.items ≡ remove (set m.parties.items place y) place
         → (told : Reply) → IsReadTold mid new party (ticked row.task v) told → IsReply told
         → IsRight s (line.Step party) (answer.Step made (Some told)) × Represents new (after s (line.Step party) (answer.Step made (Some told)))
@@ -323,7 +323,7 @@ module _ {C : Type 0} (m : BoardMachine C) (s : State) (rep : Represents m s) (s
           },
           rw (at.runs) (record {
             tables = left.tables ∙ rep.tables ∙ sym tables ∙ ap (λ (d : Parties). d.tables) (sym h.domain);
-            words = ap (λ (d : Parties). d.words) h.domain ∙ ws ∙ rep.words ∙ ap (λ z. parties.words_of s.memory z.boards) (sym tables ∙ ap (λ (d : Parties). d.tables) (sym h.domain)) ∙ ap (λ (z : ℕ → List ℕ). parties.words_of z new.domain.tables.boards) (sym left.memory);
+            words = ap (λ (d : Parties). d.words) h.domain ∙ ws ∙ rep.words ∙ ap (λ z. parties.words_of_boards s.memory z.boards) (sym tables ∙ ap (λ (d : Parties). d.tables) (sym h.domain)) ∙ ap (λ (z : ℕ → List ℕ). parties.words_of_boards z new.domain.tables.boards) (sym left.memory);
             parties = subst (λ (xs : List PartyRow). (p : List ℕ) → AreRowsOf (filter (is_row_of p) xs) (with_party (λ q. notice made (s.parties q)) party free p))
                 (sym (h.parties ∙ rows ∙ remove-set m.parties.items place y)) (ended m.parties.items s.parties rep.parties party place row at made);
             loans = λ p n. left.loans p n ∙ rep.loans p n ∙ ap (λ (xs : List Lent). lent_words xs p n) (sym loans ∙ sym h.loans);

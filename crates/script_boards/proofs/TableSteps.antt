@@ -25,7 +25,7 @@ use Rattle.board_model.specs.AnswerGrammar.{IsReply}
 use Rattle.board_model.specs.LineGrammar.{IsLine}
 use Rattle.board_model.specs.Memory.{memory_after, opening_of, with_board}
 use Rattle.board_model.specs.Requests.{Request, TableCall, create, info, entry, entry_mut, discard, id, open_, loan, keys, nodes, reader, table, gen, writer}
-use Rattle.board_model.specs.Replies.{Asked, added_of, ask_tables, id_number, info_of, is_key, keys_in, nodes_of, number_or, only_told, told_by}
+use Rattle.board_model.specs.Replies.{Asked, added_of, ask_tables, id_number, info_of, keeps_key, keys_in, nodes_of, number_or, only_told, told_by}
 use Rattle.board_model.specs.Tables.{Tables, board_at, entry_at, entry_found, entry_in, entry_of, is_numbered, kind_of, new_board}
 use Rattle.board_model.specs.TableCalls.{asked, create_asked, create_refusals, created, entry_asked, entry_mut_asked, first_of, open_asked, reader_asked, writer_asked}
 use Rattle.board_model.specs.declared.tables.ThingKind.{ThingKind}
@@ -46,7 +46,7 @@ use Rattle.script_boards.specs.declared.machine.KeptValue.{KeptValue}
 use Rattle.script_boards.specs.declared.machine.TableTask.{TableTask}
 use Rattle.script_boards.specs.declared.machine.TableTask.TheVariants as table_task
 use Rattle.script_parties.specs.Overview.{keys_shown, standing_with}
-use Rattle.script_parties.specs.Parties.{IsAsked, IsCreate, IsFew, Parties, Stands, words_of, words_with}
+use Rattle.script_parties.specs.Parties.{IsAsked, IsCreate, IsFew, Parties, IsStandingThing, words_of_boards, words_with}
 use Rattle.script_boards.specs.LoanCalls.{IsGivenBack, IsLoaned}
 use Rattle.script_boards.specs.Loans.{IsDiscardTask, IsLoanTask, lent_words}
 use Rattle.script_boards.specs.Machine.{AreRowsOf, IsReached, IsTableTask, Represents, is_row_of, kept, tables_of}
@@ -108,7 +108,7 @@ module _ {C : Type 0} (m : BoardMachine C) (s : State) (rep : Represents m s) (r
     pub tables : (ask_tables s.standing s.published party c).standing.tables ≡ tables_of new
     pub loans : (p n : List ℕ) → (ask_tables s.standing s.published party c).standing.loans p n ≡ lent_words new.loans.items p n
     pub values : (p n : List ℕ) → (ask_tables s.standing s.published party c).standing.values p n ≡ kept new.values.items p n
-    pub words : new.domain.words ≡ words_of (memory_after s.memory (table c) told) new.domain.tables.boards
+    pub words : new.domain.words ≡ words_of_boards (memory_after s.memory (table c) told) new.domain.tables.boards
     pub parties : new.parties.items ≡ remove m.parties.items place
 
   calling : (c : TableCall) → at.r.request ≡ table c → IsCalling s party at.r (table c)
@@ -155,9 +155,9 @@ module _ {C : Type 0} (m : BoardMachine C) (s : State) (rep : Represents m s) (r
     kept_boards None n after before e = e
     kept_boards (Some x) n after before e = refl
 
-    kept_words : new.domain.tables.boards ≡ mid.domain.tables.boards → new.domain.words ≡ mid.domain.words → new.domain.words ≡ words_of s.memory new.domain.tables.boards
+    kept_words : new.domain.tables.boards ≡ mid.domain.tables.boards → new.domain.words ≡ mid.domain.words → new.domain.words ≡ words_of_boards s.memory new.domain.tables.boards
     kept_words b w =
-        w ∙ same_list ∙ rep.words ∙ ap (λ (bs : List Board). words_of s.memory bs) (ap (λ t. t.boards) (sym same) ∙ sym b)
+        w ∙ same_list ∙ rep.words ∙ ap (λ (bs : List Board). words_of_boards s.memory bs) (ap (λ t. t.boards) (sym same) ∙ sym b)
 
     kept_values : new.values.items ≡ mid.values.items → (p n : List ℕ) → s.standing.values p n ≡ kept new.values.items p n
     kept_values v p n = rep.values p n ∙ ap (λ (vs : List KeptValue). kept vs p n) (sym same_values ∙ sym v)
@@ -179,7 +179,7 @@ module _ {C : Type 0} (m : BoardMachine C) (s : State) (rep : Represents m s) (r
       tables = ap (λ (x : Asked). x.standing.tables) asks ∙ ap (λ t. (f t).1) tables_are ∙ sym h.0.tables;
       loans = λ p n. ap (λ (x : Asked). x.standing.loans p n) asks ∙ kept_loans h.1.loans p n;
       values = λ p n. ap (λ (x : Asked). x.standing.values p n) asks ∙ kept_values h.1.values p n;
-      words = kept_words (ap (λ t. t.boards) h.0.tables ∙ boards) h.0.words ∙ ap (λ (x : ℕ → List ℕ). words_of x new.domain.tables.boards) (sym memory);
+      words = kept_words (ap (λ t. t.boards) h.0.tables ∙ boards) h.0.words ∙ ap (λ (x : ℕ → List ℕ). words_of_boards x new.domain.tables.boards) (sym memory);
       parties = h.1.parties ∙ rows;
     }
 
@@ -191,7 +191,7 @@ module _ {C : Type 0} (m : BoardMachine C) (s : State) (rep : Represents m s) (r
       tables = ap (λ (x : Asked). x.standing.tables) asks ∙ tables_are ∙ ap tables_of (sym h.same);
       loans = λ p n. ap (λ (x : Asked). x.standing.loans p n) asks ∙ kept_loans (ap (λ (y : BoardMachine C). y.loans.items) h.same) p n;
       values = λ p n. ap (λ (x : Asked). x.standing.values p n) asks ∙ kept_values (ap (λ (y : BoardMachine C). y.values.items) h.same) p n;
-      words = kept_words (ap (λ (y : BoardMachine C). y.domain.tables.boards) h.same) (ap (λ (y : BoardMachine C). y.domain.words) h.same) ∙ ap (λ (x : ℕ → List ℕ). words_of x new.domain.tables.boards) (sym memory);
+      words = kept_words (ap (λ (y : BoardMachine C). y.domain.tables.boards) h.same) (ap (λ (y : BoardMachine C). y.domain.words) h.same) ∙ ap (λ (x : ℕ → List ℕ). words_of_boards x new.domain.tables.boards) (sym memory);
       parties = ap (λ (y : BoardMachine C). y.parties.items) h.same ∙ rows;
     }
 
@@ -270,7 +270,7 @@ module _ {C : Type 0} (m : BoardMachine C) (s : State) (rep : Represents m s) (r
       number = s.standing.tables.last_board + 1
 
       -- the words of the boards with those of a new one
-      words_more : words_of s.memory s.standing.tables.boards ++ opening_of entries ∷ [] ≡ words_of (with_board s.memory number (opening_of entries)) (next s.standing.tables).boards
+      words_more : words_of_boards s.memory s.standing.tables.boards ++ opening_of entries ∷ [] ≡ words_of_boards (with_board s.memory number (opening_of entries)) (next s.standing.tables).boards
       words_more =
           let new = new_board number n (key_detail k) limits attributes (map added_of entries) in
           let f : Board → List ℕ = λ b. with_board s.memory number (opening_of entries) b.number in
@@ -278,7 +278,7 @@ module _ {C : Type 0} (m : BoardMachine C) (s : State) (rep : Represents m s) (r
           let old = same_words s.memory (with_board s.memory number (opening_of entries)) number (λ m e. rw e refl) s.standing.tables.boards none in
           let here : with_board s.memory number (opening_of entries) number ≡ opening_of entries = rw (eq-eqb number number refl) refl in
           ap (λ (ws : List (List ℕ)). ws ++ opening_of entries ∷ []) (sym old)
-          ∙ ap (λ (w : List ℕ). words_of (with_board s.memory number (opening_of entries)) s.standing.tables.boards ++ w ∷ []) (sym here)
+          ∙ ap (λ (w : List ℕ). words_of_boards (with_board s.memory number (opening_of entries)) s.standing.tables.boards ++ w ∷ []) (sym here)
           ∙ sym (map_push f s.standing.tables.boards new)
 
       abbrev refusal : BoardTables → Option BlackboardCreateError
@@ -288,11 +288,11 @@ module _ {C : Type 0} (m : BoardMachine C) (s : State) (rep : Represents m s) (r
       told_of o = number_or reply.CreateError (asked o number (next s.standing.tables) s.standing.tables).0
 
       words_told : (o : Option BlackboardCreateError) (boards : List Board) → boards ≡ (asked o number (next s.standing.tables) s.standing.tables).1.boards
-          → words_with m.domain.words entries (told_of o) ≡ words_of (memory_after s.memory (table (create f n k limits attributes entries)) (told_of o)) boards
+          → words_with m.domain.words entries (told_of o) ≡ words_of_boards (memory_after s.memory (table (create f n k limits attributes entries)) (told_of o)) boards
       words_told None boards e =
-          ap (λ (ws : List (List ℕ)). ws ++ opening_of entries ∷ []) (rep.words ∙ ap (λ t. words_of s.memory t.boards) (sym rep.tables)) ∙ words_more
-          ∙ ap (λ (bs : List Board). words_of (with_board s.memory number (opening_of entries)) bs) (sym e)
-      words_told (Some why) boards e = rep.words ∙ ap (λ t. words_of s.memory t.boards) (sym rep.tables) ∙ ap (λ (bs : List Board). words_of s.memory bs) (sym e)
+          ap (λ (ws : List (List ℕ)). ws ++ opening_of entries ∷ []) (rep.words ∙ ap (λ t. words_of_boards s.memory t.boards) (sym rep.tables)) ∙ words_more
+          ∙ ap (λ (bs : List Board). words_of_boards (with_board s.memory number (opening_of entries)) bs) (sym e)
+      words_told (Some why) boards e = rep.words ∙ ap (λ t. words_of_boards s.memory t.boards) (sym rep.tables) ∙ ap (λ (bs : List Board). words_of_boards s.memory bs) (sym e)
 
       pub create_served : (told : Reply) → IsCreate mid.domain new.domain party f n k limits attributes entries told × IsRest mid new → IsServed new (create f n k limits attributes entries) told
       create_served told h =
@@ -306,7 +306,7 @@ module _ {C : Type 0} (m : BoardMachine C) (s : State) (rep : Represents m s) (r
             values = kept_values h.1.values;
             words =
                 h.0.words ∙ ap (λ (ws : List (List ℕ)). words_with ws entries told) same_list
-                ∙ subst (λ (t : Reply). words_with m.domain.words entries t ≡ words_of (memory_after s.memory (table (create f n k limits attributes entries)) t) new.domain.tables.boards) (sym told_same)
+                ∙ subst (λ (t : Reply). words_with m.domain.words entries t ≡ words_of_boards (memory_after s.memory (table (create f n k limits attributes entries)) t) new.domain.tables.boards) (sym told_same)
                 (words_told (refusal s.standing.tables) new.domain.tables.boards (ap (λ t. t.boards) tables_same));
             parties = h.1.parties ∙ rows;
           }
@@ -363,9 +363,9 @@ module _ {C : Type 0} (m : BoardMachine C) (s : State) (rep : Represents m s) (r
     served (table_task.Reader n x) told e h = (reader n x, e, asked_served (reader n x) reply.ReaderError (λ t. reader_asked t x n) told refl (kept_boards _ _ _ _ refl) refl h)
     served (table_task.Writer n x) told e h = (writer n x, e, asked_served (writer n x) reply.WriterError (λ t. writer_asked t x n) told refl (kept_boards _ _ _ _ refl) refl h)
     served (table_task.Entry n x k type) told e h =
-        (entry n x k type, e, asked_served (entry n x k type) reply.EntryError (λ t. entry_asked t x n (entry_found (board_at t x.board) (is_key k) (value_detail type))) told refl (kept_boards _ _ _ _ refl) refl h)
+        (entry n x k type, e, asked_served (entry n x k type) reply.EntryError (λ t. entry_asked t x n (entry_found (board_at t x.board) (keeps_key k) (value_detail type))) told refl (kept_boards _ _ _ _ refl) refl h)
     served (table_task.EntryMut n x k type) told e h =
-        (entry_mut n x k type, e, asked_served (entry_mut n x k type) reply.EntryMutError (λ t. entry_mut_asked t x n (entry_found (board_at t x.board) (is_key k) (value_detail type))) told refl (kept_boards _ _ _ _ refl) refl h)
+        (entry_mut n x k type, e, asked_served (entry_mut n x k type) reply.EntryMutError (λ t. entry_mut_asked t x n (entry_found (board_at t x.board) (keeps_key k) (value_detail type))) told refl (kept_boards _ _ _ _ refl) refl h)
     served (table_task.Loan handle lent words) told e h = (loan e.lending, e.request, loan_served handle lent words told e h.0 h.1)
     served (table_task.Discard lent handle) told e h = (discard e.lending, e.request, discard_served lent handle told e h.0 h.1)
     served (table_task.Keys x) told e h = (keys x, e, shown_served (keys x) _ told (ap (λ (ks : List Key). only_told s.standing (reply.Keys ks)) (keys_same x)) refl h)
@@ -391,7 +391,7 @@ module _ {C : Type 0} (m : BoardMachine C) (s : State) (rep : Represents m s) (r
     }
 
     -- what is held stands
-    stands : (k : ThingKind) (x : Held) → IsHeldThing s.standing party k x → Stands mid.domain x
+    stands : (k : ThingKind) (x : Held) → IsHeldThing s.standing party k x → IsStandingThing mid.domain x
     stands k x h =
         let n = (found_as s.standing.tables.things party x.name x h.found).holder in
         subst (λ (t : BoardTables). thing_of t.things x.holder x.name ≡ Some x) tables_are (subst (λ (p : List ℕ). thing_of s.standing.tables.things p x.name ≡ Some x) (sym n) h.found)

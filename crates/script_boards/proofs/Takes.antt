@@ -3,8 +3,8 @@ use Rattle.std.proofs.Common.{◌≡◌, ℕ, zero, suc, ◌+◌, Bool, true, fa
 use Rattle.std.specs.Prelude.{find}
 use Rattle.std.specs.List.{position_from, remove}
 use Rattle.board_model.specs.declared.tables.Board.{Board}
-use Rattle.board_model.specs.Tables.{without}
-use Rattle.script_parties.specs.Parties.{words_of}
+use Rattle.board_model.specs.Tables.{without_first}
+use Rattle.script_parties.specs.Parties.{words_of_boards}
 
 chosen : {A : Type 0} (b : Bool) (x y z : A) → cond b x y ≡ z → ((b ≡ true) × (x ≡ z)) ⊎ ((b ≡ false) × (y ≡ z))
 chosen true x y z e = inl (refl, e)
@@ -13,7 +13,7 @@ chosen false x y z e = inr (refl, e)
 abbrev a_number : ℕ → Option ℕ
 a_number n = Some n
 
-without_from : {X : Type 0} (p : X → Bool) (i k : ℕ) (xs : List X) → position_from p i xs ≡ Some k → (j : ℕ) × (k ≡ j + i) × (without p xs ≡ remove xs j)
+without_from : {X : Type 0} (p : X → Bool) (i k : ℕ) (xs : List X) → position_from p i xs ≡ Some k → (j : ℕ) × (k ≡ j + i) × (without_first p xs ≡ remove xs j)
 without_from p i k [] e = absurd cc
 without_from {X = X} p i k (x ∷ xs) e =
     elim (chosen (p x) (Some i) (position_from p (i + 1) xs) (Some k) e) [
@@ -24,13 +24,13 @@ without_from {X = X} p i k (x ∷ xs) e =
     ]
 
 -- the first that passes stands at k
-pub without_at : {X : Type 0} (p : X → Bool) (k : ℕ) (xs : List X) → Some k ≡ position_from p 0 xs → without p xs ≡ remove xs k
+pub without_at : {X : Type 0} (p : X → Bool) (k : ℕ) (xs : List X) → Some k ≡ position_from p 0 xs → without_first p xs ≡ remove xs k
 without_at p k xs e =
     let f = without_from p 0 k xs (sym e) in
     let q : k ≡ f.0 = omega (arith, f.1) in
     rw q f.2
 
-none_from : {X : Type 0} (p : X → Bool) (i : ℕ) (xs : List X) → position_from p i xs ≡ None → (find p xs ≡ None) × (without p xs ≡ xs)
+none_from : {X : Type 0} (p : X → Bool) (i : ℕ) (xs : List X) → position_from p i xs ≡ None → (find p xs ≡ None) × (without_first p xs ≡ xs)
 none_from p i [] e = (refl, refl)
 none_from {X = X} p i (x ∷ xs) e =
     elim (chosen (p x) (Some i) (position_from p (i + 1) xs) None e) [
@@ -39,11 +39,11 @@ none_from {X = X} p i (x ∷ xs) e =
     ]
 
 -- none passes
-pub none_at : {X : Type 0} (p : X → Bool) (xs : List X) → None ≡ position_from p 0 xs → (find p xs ≡ None) × (without p xs ≡ xs)
+pub none_at : {X : Type 0} (p : X → Bool) (xs : List X) → None ≡ position_from p 0 xs → (find p xs ≡ None) × (without_first p xs ≡ xs)
 none_at p xs e = none_from p 0 xs (sym e)
 
 -- the words of the boards that are left
-pub words_left : (f : ℕ → List ℕ) (bs : List Board) (k : ℕ) → words_of f (remove bs k) ≡ remove (words_of f bs) k
+pub words_left : (f : ℕ → List ℕ) (bs : List Board) (k : ℕ) → words_of_boards f (remove bs k) ≡ remove (words_of_boards f bs) k
 words_left f [] zero = refl
 words_left f [] (suc k) = refl
 words_left f (b ∷ bs) zero = refl

@@ -35,7 +35,7 @@ use Rattle.script_boards.specs.declared.step.OwedAccess.TheVariants as owed_acce
 use Rattle.script_boards.specs.declared.step.OwedWrite.{OwedWrite}
 use Rattle.script_boards.specs.LoanCalls.{CanSettle, IsGivenBack, IsSettled, IsWordPut}
 use Rattle.script_boards.specs.Loans.{filling, lent_words}
-use Rattle.script_parties.specs.Parties.{HasWord, Parties, words_of}
+use Rattle.script_parties.specs.Parties.{HasWord, Parties, words_of_boards}
 use Rattle.script_boards.specs.Machine.{AreRowsOf, IsTaskOf, Represents, is_row_of, kept, tables_of, updating}
 use Rattle.script_boards.specs.Steps.{IsOwedBy, IsWordSet, ticked}
 use Rattle.script_boards.proofs.LoanSteps.{given_back_loans, given_back_tables, put_loans}
@@ -257,10 +257,10 @@ module _ {C : Type 0} (m : BoardMachine C) (s : State) (rep : Represents m s) (s
       stored_values : (p n : List ℕ) → s.standing.values p n ≡ kept stored.values.items p n
       stored_values p n = rep.values p n ∙ ap (λ (vs : List KeptValue). kept vs p n) (sym is_stored.rest.values)
 
-      all_words : (boards : List Board) → boards ≡ stored.domain.tables.boards → stored.domain.words ≡ words_of (store s.memory w.board w.word w.value) boards
+      all_words : (boards : List Board) → boards ≡ stored.domain.tables.boards → stored.domain.words ≡ words_of_boards (store s.memory w.board w.word w.value) boards
       all_words boards e =
           stored_words m s rep sound stored.domain w.board w.word w.value step.board is_stored.stored
-          ∙ ap (λ (bs : List Board). words_of (store s.memory w.board w.word w.value) bs) (ap (λ t. t.boards) (sym is_stored.stored.tables) ∙ sym e)
+          ∙ ap (λ (bs : List Board). words_of_boards (store s.memory w.board w.word w.value) bs) (ap (λ t. t.boards) (sym is_stored.stored.tables) ∙ sym e)
 
       -- the last write ends the call
       pub write_ends : (mid new : BoardMachine C) → tables_of mid ≡ tables_of stored → mid.domain.words ≡ stored.domain.words → mid.values.items ≡ stored.values.items → mid.loans.items ≡ stored.loans.items
@@ -282,7 +282,7 @@ module _ {C : Type 0} (m : BoardMachine C) (s : State) (rep : Represents m s) (s
             rw (at.runs) (record {
               tables = left.tables;
               words = left.words ∙ words ∙ all_words new.domain.tables.boards (left.boards ∙ ap (λ t. t.boards) tables)
-                  ∙ ap (λ (f : ℕ → List ℕ). words_of f new.domain.tables.boards) (sym (left.memory (store s.memory w.board w.word w.value)));
+                  ∙ ap (λ (f : ℕ → List ℕ). words_of_boards f new.domain.tables.boards) (sym (left.memory (store s.memory w.board w.word w.value)));
               parties = subst (λ (xs : List PartyRow). (p : List ℕ) → AreRowsOf (filter (is_row_of p) xs) (with_party (λ q. notice made (s.parties q)) party free p))
                   (ap (λ (xs : List PartyRow). remove xs place) (sym is_stored.rest.parties) ∙ sym (left.parties ∙ rows))
                   (ended m.parties.items s.parties rep.parties party place row at made);

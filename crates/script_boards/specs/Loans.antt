@@ -35,15 +35,15 @@ pub record IsDiscardTask (lent handle : List ℕ) (q : Request) : Type 0 where
   pub handle_is : handle ≡ lending.handle
 
 -- a put that has made no access
-abbrev pub putting : Lending → ℕ → ℕ → Putting
-putting l i w = record { shape = l.shape; generation = l.generation; index = i; word = w; done = false }
+abbrev pub new_put : Lending → ℕ → ℕ → Putting
+new_put l i w = record { shape = l.shape; generation = l.generation; index = i; word = w; done = false }
 
 -- a put that runs is this one
 pub record IsPutTask (board : ℕ) (call : Putting) (lent : List ℕ) (index word : ℕ) (q : Request) : Type 0 where
   pub lending : Lending
   pub request : q ≡ put lending index word
   pub board_is : board ≡ lending.board
-  pub call_is : call ≡ putting lending index word
+  pub call_is : call ≡ new_put lending index word
   pub loan_is : lent ≡ lending.loan
 
 -- a publish that has made no access

@@ -17,7 +17,7 @@ use Rattle.board_model.specs.LawsOfForms.{AreFormed}
 use Rattle.board_model.specs.LawfulSession.{IsRight, State, after}
 use Rattle.board_model.specs.Sound.{Sound}
 use Rattle.board_cell.specs.Calls.{Asking, Getting, Updating}
-use Rattle.script_parties.specs.Parties.{words_of}
+use Rattle.script_parties.specs.Parties.{words_of_boards}
 use Rattle.script_boards.specs.Loans.{IsDiscardTask, IsFillTask, IsLoanTask, IsPublishTask, IsPutTask, lent_words}
 use Rattle.script_boards.specs.declared.machine.KeptValue.{KeptValue}
 use Rattle.script_boards.specs.declared.machine.BoardMachine.{BoardMachine}
@@ -141,7 +141,7 @@ tables_of m = m.domain.tables
 -- the machine stands for the state
 pub record Represents {C : Type 0} (m : BoardMachine C) (s : State) : Type 0 where
   pub tables : s.standing.tables ≡ tables_of m
-  pub words : m.domain.words ≡ words_of s.memory m.domain.tables.boards
+  pub words : m.domain.words ≡ words_of_boards s.memory m.domain.tables.boards
   pub parties : (p : List ℕ) → AreRowsOf (filter (is_row_of p) m.parties.items) (s.parties p)
   pub loans : (p n : List ℕ) → s.standing.loans p n ≡ lent_words m.loans.items p n
   pub values : (p n : List ℕ) → s.standing.values p n ≡ kept m.values.items p n

@@ -30,7 +30,7 @@ use Rattle.script_boards.specs.declared.step.OwedWrite.{OwedWrite}
 use Rattle.script_boards.specs.LoanCalls.{IsGivenBack, IsLoaned}
 use Rattle.script_boards.specs.Loans.{is_lent_as, lent_words}
 use Rattle.script_parties.specs.Overview.{keys_shown, standing_with}
-use Rattle.script_parties.specs.Parties.{IsCreate, IsEntry, IsEntryMut, IsFew, IsOpen, IsReader, IsReleased, IsStored, IsWriter, Stands}
+use Rattle.script_parties.specs.Parties.{IsCreate, IsEntry, IsEntryMut, IsFew, IsOpen, IsReader, IsReleased, IsStored, IsWriter, IsStandingThing}
 use Rattle.script_boards.specs.Machine.{is_kept_as, is_row_of, tables_of}
 use Rattle.script_boards.specs.TableCalls.{IsRest}
 
@@ -61,7 +61,7 @@ CanGoOn task.Gone = ⊥
 -- an access to a cell, as one of the board; a write is its call's last one, or not
 abbrev pub owed_on : ℕ → Access → Bool → OwedAccess
 owed_on board (access.Read word) last = owed.Read (record { board = board; word = word })
-owed_on board (access.Write word value) last = owed.Write (record { board = board; word = word; value = value; is_last = last })
+owed_on board (access.Write word value) last = owed.Write (record { board = board; word = word; value = value; ends_call = last })
 
 -- the write is the one that a publication of words owes
 pub record IsOwedWrite (board : ℕ) (call : Updating) (w : OwedWrite) : Type 0 where
@@ -102,11 +102,11 @@ ticked (task.Fill board call loan handle) v = task.Fill board (record call { wri
 ticked t v = t
 
 -- the access is the last of its call
-abbrev pub is_last : Task → ℕ → Bool
-is_last (task.Get board call type name) v = is_finished (hear call.shape.words call.reading v)
-is_last (task.Update board call) v = call.written == length call.words
-is_last (task.Fill board call loan handle) v = call.written == length call.words
-is_last t v = true
+abbrev pub ends_call : Task → ℕ → Bool
+ends_call (task.Get board call type name) v = is_finished (hear call.shape.words call.reading v)
+ends_call (task.Update board call) v = call.written == length call.words
+ends_call (task.Fill board call loan handle) v = call.written == length call.words
+ends_call t v = true
 
 -- ---- rows
 
@@ -160,10 +160,10 @@ IsCounter m board i g = (place : ℕ) (e : Entry) (d : List ℕ) → Some place 
 abbrev pub CanRun : {C : Type 0} → BoardMachine C → List ℕ → TableTask → Type 0
 CanRun m party (table_task.Create f n k l attributes entries) = IsFew m.domain × (is_board_name n ≡ true) × AreAttributes attributes
 CanRun m party (table_task.Open f n k l needs) = IsFew m.domain × (is_board_name n ≡ true) × AreRequirements needs
-CanRun m party (table_task.Reader n x) = IsFew m.domain × Stands m.domain x
-CanRun m party (table_task.Writer n x) = IsFew m.domain × Stands m.domain x
-CanRun m party (table_task.Entry n x k type) = IsFew m.domain × Stands m.domain x × (kind_of x.kind ≡ thing_kind.Reader) × (is_typed_key (board_at m.domain.tables x.board) k ≡ true)
-CanRun m party (table_task.EntryMut n x k type) = IsFew m.domain × Stands m.domain x × (kind_of x.kind ≡ thing_kind.Writer) × (is_typed_key (board_at m.domain.tables x.board) k ≡ true)
+CanRun m party (table_task.Reader n x) = IsFew m.domain × IsStandingThing m.domain x
+CanRun m party (table_task.Writer n x) = IsFew m.domain × IsStandingThing m.domain x
+CanRun m party (table_task.Entry n x k type) = IsFew m.domain × IsStandingThing m.domain x × (kind_of x.kind ≡ thing_kind.Reader) × (is_typed_key (board_at m.domain.tables x.board) k ≡ true)
+CanRun m party (table_task.EntryMut n x k type) = IsFew m.domain × IsStandingThing m.domain x × (kind_of x.kind ≡ thing_kind.Writer) × (is_typed_key (board_at m.domain.tables x.board) k ≡ true)
 CanRun m party (table_task.Loan handle loan words) = lent_words m.loans.items party loan ≡ None
 CanRun m party (table_task.Discard loan handle) = Unit {0}
 CanRun m party (table_task.Keys x) = Unit {0}

@@ -112,7 +112,7 @@ impl Task {
     fn took(&mut self, word: u64) -> Progress
         requires { CanGoOn self.old }
         ensures call { self.new ≡ ticked self.old word }
-        ensures progress { result ≡ progress_of (steps.is_last self.old word) }
+        ensures progress { result ≡ progress_of (steps.ends_call self.old word) }
     {
         match self {
             Task::Get {

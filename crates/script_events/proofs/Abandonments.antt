@@ -8,7 +8,7 @@ use Rattle.board_model.proofs.ListLemmas.{same_bytes}
 use Rattle.board_model.proofs.ThingLemmas.{same_to_itself}
 use Rattle.board_names.specs.Table.{at}
 use Rattle.board_event_model.specs.declared.kind.EventKind.{EventKind}
-use Rattle.board_event_model.specs.EventMemory.{Event, is_held}
+use Rattle.board_event_model.specs.EventMemory.{Event, has_holder}
 use Rattle.board_event_model.specs.EventSessions.{StandingEvent, event_of, gone_with}
 use Rattle.board_event_model.proofs.QuietLemmas.{eqb_true}
 use Rattle.board_event_model.proofs.SoundLemmas.{some_same}
@@ -19,7 +19,7 @@ use Rattle.script_events.specs.declared.rows.EventRow.{EventRow}
 use Rattle.script_events.specs.declared.rows.Role.{Role}
 use Rattle.script_events.specs.declared.rows.Role.TheVariants as role
 use Rattle.script_events.specs.Calls.{IsMarkable, is_listening, is_own_listener, mark_row, marked_gone}
-use Rattle.script_events.specs.PartyEvents.{Holds, IsOnce, as_list, is_thing_of, listener_rows, listeners_in, listens_on, notifiers_in, thing_as, thing_of, where_held}
+use Rattle.script_events.specs.PartyEvents.{Holds, IsOnce, as_list, is_thing_of, listener_rows, listeners_in, listens_on, notifiers_in, thing_as, thing_in, where_held}
 use Rattle.script_events.proofs.Lists.{either}
 use Rattle.script_events.proofs.TableCalls.{change, changed_events}
 use Rattle.script_events.proofs.Holding.{event_of-none, event_of-some, listener_there}
@@ -40,10 +40,10 @@ in_filter p row (y ∷ ys) (inr more) e = elim (either (p y)) [
 ]
 
 -- a list of one thing or none that has the row
-one_thing : (row : EventRow) (rows : List EventRow) (o : Option EventThing) → map thing_of rows ≡ as_list o → IsIn row rows → o ≡ Some (thing_of row)
+one_thing : (row : EventRow) (rows : List EventRow) (o : Option EventThing) → map thing_in rows ≡ as_list o → IsIn row rows → o ≡ Some (thing_in row)
 one_thing row [] o e h = absurd h
 one_thing row (y ∷ ys) None e h = absurd cc
-one_thing row (y ∷ []) (Some t) e (inl same) = (let f : thing_of y ≡ t = cc in rw same (ap (λ (u : EventThing). Some u) (sym f)))
+one_thing row (y ∷ []) (Some t) e (inl same) = (let f : thing_in y ≡ t = cc in rw same (ap (λ (u : EventThing). Some u) (sym f)))
 one_thing row (y ∷ []) (Some t) e (inr more) = absurd more
 one_thing row (y ∷ z ∷ ys) (Some t) e h = absurd cc
 
@@ -189,7 +189,7 @@ listens_role role.Notifier n q e = absurd cc
 
 module _ (t : EventTable) (rows : List EventRow) (x : ScriptEvents) (count : ℕ) (sound : AreSoundEvents x count) (holds : Holds t rows x) (party : List ℕ) where
   -- a row says what its party holds
-  says : (row : EventRow) → IsIn row rows → x.things row.party row.name ≡ Some (thing_of row)
+  says : (row : EventRow) → IsIn row rows → x.things row.party row.name ≡ Some (thing_in row)
   says row h = one_thing row (filter (is_thing_of row.party row.name) rows) (x.things row.party row.name) (holds.things row.party row.name)
       (in_filter (is_thing_of row.party row.name) row rows h (rw (same_to_itself row.party, same_to_itself row.name) refl))
 
@@ -221,7 +221,7 @@ module _ (t : EventTable) (rows : List EventRow) (x : ScriptEvents) (count : ℕ
       by false e true f = (
           let both = and_parts st.event.held (bytes_eq party st.listener) f in
           let one : listener_rows q rows ≡ 1 = holds.listeners q ∙ ap listeners_in (event_of-some x.session.stands q st stands) ∙ rw both.0 refl in
-          let found = some_row (λ row. listens_on q (thing_of row)) rows (omega (arith, one)) in
+          let found = some_row (λ row. listens_on q (thing_in row)) rows (omega (arith, one)) in
           let is = listens_role found.0.role found.0.event q found.2 in
           let mine = listener_there t rows x count sound holds found.0.party found.0.name q (says found.0 found.1 ∙ ap (λ (u : EventThing). Some u) (listens_as found.0.role found.0.event q found.2)) in
           let same : mine.0.st ≡ st = some_same mine.0.st st (sym mine.0.stands ∙ stands) in
@@ -234,7 +234,7 @@ module _ (t : EventTable) (rows : List EventRow) (x : ScriptEvents) (count : ℕ
   after = events_abandoned x party
 
   gone_same : (e : Event) (b : Bool) → where_held (Some (record e { gone = e.gone || b })) ≡ gone_if b (where_held (Some e))
-  gone_same e b = elim (either (is_held e)) [
+  gone_same e b = elim (either (has_holder e)) [
     | inl f ↦ rw f (mark b)
     | inr f ↦ rw f refl
   ]

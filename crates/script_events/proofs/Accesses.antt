@@ -4,7 +4,7 @@ use Rattle.std.specs.Prelude.{if◌then◌else◌, ◌==◌, ◌||◌, not, nat_
 use Rattle.board_names.specs.Table.{at}
 use Rattle.board_event_model.specs.declared.access.EventAccess.{EventAccess}
 use Rattle.board_event_model.specs.declared.access.EventAccess.TheVariants as access
-use Rattle.board_event_model.specs.EventMemory.{Event, after, is_held}
+use Rattle.board_event_model.specs.EventMemory.{Event, after, has_holder}
 use Rattle.board_event_model.specs.EventSessions.{change_at, event_of}
 use Rattle.board_event_model.proofs.QuietLemmas.{eqb_self, eqb_true}
 use Rattle.board_event.specs.EventTable.{EventTable, changed, event_at}
@@ -41,7 +41,7 @@ kept_after e (access.Clear id) = record { name = refl; held = refl; notifiers = 
 kept_after e (access.Swap k) = record { name = refl; held = refl; notifiers = refl }
 kept_after e access.Pop = record { name = refl; held = refl; notifiers = refl }
 
-same_held : (e f : Event) → IsSameHeld e f → is_held f ≡ is_held e
+same_held : (e f : Event) → IsSameHeld e f → has_holder f ≡ has_holder e
 same_held e f same = rw (same.held, same.notifiers) refl
 
 module _ (t u : EventTable) (rows : List EventRow) (x y : ScriptEvents) (holds : Holds t rows x) (n : ℕ) (a : EventAccess) (there : IsThere t x n) (is : u ≡ changed t n (λ e. after e a))

@@ -3,23 +3,23 @@ use Rattle.std.proofs.Common.{◌≡◌, ℕ, ◌+◌, ◌<◌, ◌≤◌, true,
 use Rattle.std.specs.Prelude.{if◌then◌else◌, ◌==◌, ◌^◌, ◌-◌, nat_lt, Result, Ok, Err, IsSomeAnd}
 use Rattle.board_names.specs.Table.{at}
 use Rattle.board_event_model.specs.declared.kind.EventKind.{EventKind}
-use Rattle.board_event_model.specs.EventMemory.{Event, is_held, new_event}
+use Rattle.board_event_model.specs.EventMemory.{Event, has_holder, new_event}
 use Rattle.board_event_model.specs.EventSessions.{EventSession, StandingEvent, event_of, listen, next_session}
 use Rattle.board_event_model.proofs.QuietLemmas.{eqb_true}
 use Rattle.board_event_model.proofs.SoundLemmas.{some_same}
-use Rattle.board_event.specs.EventTable.{EventTable, IsNotifierAnswer, changed, event_at, listen_answer, listened, names_of, notifier_of, with_notifier}
+use Rattle.board_event.specs.EventTable.{EventTable, IsNotifierAnswer, changed, event_at, listen_answer, table_listened, names_of, notifier_of, with_notifier}
 use Rattle.board_names.specs.declared.errors.event.ListenerCreateError.{ListenerCreateError}
 use Rattle.board_names.specs.declared.errors.event.ListenerCreateError.TheVariants as listener_error
 use Rattle.board_names.specs.declared.errors.event.NotifierCreateError.{NotifierCreateError}
 use Rattle.board_names.specs.declared.errors.event.NotifierCreateError.TheVariants as notifier_error
-use Rattle.script_model.specs.ScriptEvents.{EventThing, ScriptEvents, listener, notifier, to_listen, to_notify, with_listener, with_name}
+use Rattle.script_model.specs.ScriptEvents.{EventThing, ScriptEvents, listener, notifier, to_listen, to_notify, with_listener, name_held}
 use Rattle.script_model.specs.ScriptEvents as script
 use Rattle.script_model.specs.SoundEvents.{AreSoundEvents}
 use Rattle.script_model.specs.declared.reply.EventReply.TheVariants as reply
 use Rattle.script_events.specs.declared.rows.EventRow.{EventRow}
 use Rattle.script_events.specs.declared.rows.Role.TheVariants as role
 use Rattle.script_events.specs.Calls.{AnswersAsk, HasFewNotifiers, IsAsked}
-use Rattle.script_events.specs.PartyEvents.{Holds, listener_rows, listeners_in, listens_on, notifier_rows, notifiers_in, notifies_on, thing_of, where_held}
+use Rattle.script_events.specs.PartyEvents.{Holds, listener_rows, listeners_in, listens_on, notifier_rows, notifiers_in, notifies_on, thing_in, where_held}
 use Rattle.script_events.proofs.Lists.{either}
 use Rattle.script_events.proofs.TableCalls.{HasNames, IsChange, IsListened, change, listening}
 use Rattle.script_events.proofs.Holding.{count_more, event_of-none, event_of-some, one_if, other_change, own_change, things_more}
@@ -33,7 +33,7 @@ event_of-listen s p k name max q = elim (either (q == s.count + 1)) [
 ]
 
 module _ (t u : EventTable) (rows : List EventRow) (x : ScriptEvents) (count : ℕ) (sound : AreSoundEvents x count) (holds : Holds t rows x) (party name : List ℕ) (k : EventKind) (event : List ℕ) (max : ℕ)
-    (unheld : x.names k event ≡ None) (fresh : x.things party name ≡ None) (is : u ≡ listened t k event max) where
+    (unheld : x.names k event ≡ None) (fresh : x.things party name ≡ None) (is : u ≡ table_listened t k event max) where
   free : (o : Option StandingEvent) → x.session.stands (x.session.count + 1) ≡ o → x.session.stands (x.session.count + 1) ≡ None
   free None e = e
   free (Some st) e = absurd (let low = sound.numbered (x.session.count + 1) st e in omega arith)
@@ -60,13 +60,13 @@ module _ (t u : EventTable) (rows : List EventRow) (x : ScriptEvents) (count : �
       ]
 
   listeners : (q : ℕ) → listener_rows q (rows ++ row (x.session.count + 1) ∷ []) ≡ listeners_in (event_of after.session.stands q)
-  listeners q = count_more (λ (r : EventRow). listens_on q (thing_of r)) rows (row (x.session.count + 1)) ∙ ap (λ (m : ℕ). m + one_if (q == x.session.count + 1)) (holds.listeners q) ∙ elim (either (q == x.session.count + 1)) as (λ _. listeners_in (event_of x.session.stands q) + one_if (q == x.session.count + 1) ≡ listeners_in (event_of after.session.stands q)) [
+  listeners q = count_more (λ (r : EventRow). listens_on q (thing_in r)) rows (row (x.session.count + 1)) ∙ ap (λ (m : ℕ). m + one_if (q == x.session.count + 1)) (holds.listeners q) ∙ elim (either (q == x.session.count + 1)) as (λ _. listeners_in (event_of x.session.stands q) + one_if (q == x.session.count + 1) ≡ listeners_in (event_of after.session.stands q)) [
     | inl f ↦ rw (event_of-listen x.session party k event max q) (rw (f, eqb_true q (x.session.count + 1) f, no_event) refl)
     | inr f ↦ rw (event_of-listen x.session party k event max q) (rw f (omega arith))
   ]
 
   notifiers : (q : ℕ) → notifier_rows q (rows ++ row (x.session.count + 1) ∷ []) ≡ notifiers_in (event_of after.session.stands q)
-  notifiers q = count_more (λ (r : EventRow). notifies_on q (thing_of r)) rows (row (x.session.count + 1)) ∙ ap (λ (m : ℕ). m + 0) (holds.notifiers q) ∙ elim (either (q == x.session.count + 1)) as (λ _. notifiers_in (event_of x.session.stands q) + 0 ≡ notifiers_in (event_of after.session.stands q)) [
+  notifiers q = count_more (λ (r : EventRow). notifies_on q (thing_in r)) rows (row (x.session.count + 1)) ∙ ap (λ (m : ℕ). m + 0) (holds.notifiers q) ∙ elim (either (q == x.session.count + 1)) as (λ _. notifiers_in (event_of x.session.stands q) + 0 ≡ notifiers_in (event_of after.session.stands q)) [
     | inl f ↦ rw (event_of-listen x.session party k event max q) (rw (f, eqb_true q (x.session.count + 1) f, no_event) refl)
     | inr f ↦ rw (event_of-listen x.session party k event max q) (rw f (omega arith))
   ]
@@ -77,7 +77,7 @@ module _ (t u : EventTable) (rows : List EventRow) (x : ScriptEvents) (count : �
     once = new_table.once;
     events = events;
     drawn = new_table.drawn ∙ ap (λ (m : ℕ). m + 1) holds.drawn;
-    names = subst (λ (m : ℕ). HasNames u (with_name x.names k event (Some (m + 1)))) holds.drawn (new_table.names x.names holds.names);
+    names = subst (λ (m : ℕ). HasNames u (name_held x.names k event (Some (m + 1)))) holds.drawn (new_table.names x.names holds.names);
     things = things_more party name rows x.things holds.things fresh (row (x.session.count + 1)) refl refl;
     listeners = listeners;
     notifiers = notifiers;
@@ -94,7 +94,7 @@ module _ (t u : EventTable) (rows : List EventRow) (x : ScriptEvents) (holds : H
   more_row = record { party = party; name = name; role = role.Notifier; event = n }
 
   abbrev with_more : ScriptEvents
-  with_more = script.with_notifier x party name n e
+  with_more = script.notifier_more x party name n e
 
   abbrev more : Event → Event
   more d = record d { notifiers = e.notifiers + 1 }
@@ -132,8 +132,8 @@ module _ (t u : EventTable) (rows : List EventRow) (x : ScriptEvents) (holds : H
     drawn = more_table.drawn ∙ holds.drawn;
     names = λ k text. ap (λ (names : List (List ℕ × ℕ)). at names text) (more_table.names k) ∙ holds.names k text;
     things = things_more party name rows x.things holds.things fresh more_row refl refl;
-    listeners = λ q. count_more (λ (r : EventRow). listens_on q (thing_of r)) rows more_row ∙ ap (λ (m : ℕ). m + 0) (holds.listeners q) ∙ more_listeners q;
-    notifiers = λ q. count_more (λ (r : EventRow). notifies_on q (thing_of r)) rows more_row ∙ ap (λ (m : ℕ). m + one_if (q == n)) (holds.notifiers q) ∙ more_notifiers q;
+    listeners = λ q. count_more (λ (r : EventRow). listens_on q (thing_in r)) rows more_row ∙ ap (λ (m : ℕ). m + 0) (holds.listeners q) ∙ more_listeners q;
+    notifiers = λ q. count_more (λ (r : EventRow). notifies_on q (thing_in r)) rows more_row ∙ ap (λ (m : ℕ). m + one_if (q == n)) (holds.notifiers q) ∙ more_notifiers q;
   }
 
 -- ---- what the table answers
@@ -162,7 +162,7 @@ notifier_numbered n m e h = elim (either e.held) [
   ]
 ]
 
-pub listen_done : (t u : EventTable) (rows rows' : List EventRow) (party name : List ℕ) (k : EventKind) (event : List ℕ) (max n : ℕ) → Ok n ≡ listen_answer t (at (names_of k t) event) → u ≡ listened t k event max
+pub listen_done : (t u : EventTable) (rows rows' : List EventRow) (party name : List ℕ) (k : EventKind) (event : List ℕ) (max n : ℕ) → Ok n ≡ listen_answer t (at (names_of k t) event) → u ≡ table_listened t k event max
     → rows' ≡ rows ++ record { party = party; name = name; role = role.Listener; event = n } ∷ [] → AnswersAsk t rows u rows' party (to_listen name k event max) reply.Done
 listen_done t u rows rows' party name k event max n answer is more x count sound asked holds =
     let drawn = listen_drawn t n (at (names_of k t) event) answer in
@@ -194,7 +194,7 @@ named_event t rows x holds n e found = by (event_of x.session.stands n) refl (sy
   where
     by : (o : Option Event) → event_of x.session.stands n ≡ o → where_held o ≡ Some e → event_of x.session.stands n ≡ Some e
     by None f h = absurd cc
-    by (Some d) f h = elim (either (is_held d)) [
+    by (Some d) f h = elim (either (has_holder d)) [
       | inl g ↦ f ∙ (rw g at h)
       | inr g ↦ absurd (let none : None ≡ Some e = (rw g at h) in cc)
     ]
@@ -223,7 +223,7 @@ notifier_done t u rows rows' party name k event n answer is more x count sound a
         let found = notifier_numbered n m e h in
         let stands : event_of x.session.stands n ≡ Some e = rw found.1 (named_event t rows x holds m e g) in
         let named : x.names k event ≡ Some n = sym (holds.names k event) ∙ f ∙ ap (λ (i : ℕ). Some i) (sym found.1) in
-        let after : Holds u rows' (script.with_notifier x party name n e) = rw more (notifier_more t u rows x holds party name n e stands found.0 fresh is) in
+        let after : Holds u rows' (script.notifier_more x party name n e) = rw more (notifier_more t u rows x holds party name n e stands found.0 fresh is) in
         record { told_is = rw (named, stands, found.0) refl; held = rw (named, stands, found.0) after }
 
     by : (o : Option ℕ) → at (names_of k t) event ≡ o → IsNotifierAnswer t (Ok n) o → IsAsked u rows' x party (to_notify name k event) reply.Done

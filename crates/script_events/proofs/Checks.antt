@@ -24,7 +24,7 @@ use Rattle.script_events.specs.declared.rows.EventRow.{EventRow}
 use Rattle.script_events.specs.declared.rows.Role.{Role}
 use Rattle.script_events.specs.declared.rows.Role.TheVariants as role
 use Rattle.script_events.specs.Calls.{IsChecked, IsNewAct, IsTask, is_listening, listened_in, notified_in}
-use Rattle.script_events.specs.PartyEvents.{AreCallRows, AreCalls, Holds, IsTaskOf, IsTurned, Represents, is_thing_of, takes_board_name, thing_as, thing_of}
+use Rattle.script_events.specs.PartyEvents.{AreCallRows, AreCalls, Holds, IsTaskOf, IsTurned, Represents, is_thing_of, takes_board_name, thing_as, thing_in}
 use Rattle.script_events.proofs.Lists.{found_one}
 use Rattle.script_events.proofs.CallRows.{begun}
 use Rattle.script_events.proofs.Holding.{IsThere, event_of-some, listener_there, notifier_there}
@@ -50,11 +50,11 @@ notified_by role.Listener n = refl
 notified_by role.Notifier n = refl
 
 -- the rows tell what is listened on and notified
-pub listened_is : (o : Option EventRow) (y : Option EventThing) → option_map thing_of o ≡ y → listened_in o ≡ listened_event y
+pub listened_is : (o : Option EventRow) (y : Option EventThing) → option_map thing_in o ≡ y → listened_in o ≡ listened_event y
 listened_is None y e = rw (sym e) refl
 listened_is (Some row) y e = rw (sym e) (sym (listened_by row.role row.event))
 
-pub notified_is : (o : Option EventRow) (y : Option EventThing) → option_map thing_of o ≡ y → notified_in o ≡ notified y
+pub notified_is : (o : Option EventRow) (y : Option EventThing) → option_map thing_in o ≡ y → notified_in o ≡ notified y
 notified_is None y e = rw (sym e) refl
 notified_is (Some row) y e = rw (sym e) (sym (notified_by row.role row.event))
 
@@ -70,10 +70,10 @@ a_notifier (Some (notifier m)) n e = (let same : m ≡ n = cc in ap (λ (k : ℕ
 
 module _ (t : EventTable) (rows : List EventRow) (x : ScriptEvents) (count : ℕ) (sound : AreSoundEvents x count) (holds : Holds t rows x) (party name : List ℕ) where
   pub says_listened : listened_in (find (is_thing_of party name) rows) ≡ listened_event (x.things party name)
-  says_listened = listened_is (find (is_thing_of party name) rows) (x.things party name) (found_one thing_of (is_thing_of party name) (x.things party name) rows (holds.things party name))
+  says_listened = listened_is (find (is_thing_of party name) rows) (x.things party name) (found_one thing_in (is_thing_of party name) (x.things party name) rows (holds.things party name))
 
   pub says_notified : notified_in (find (is_thing_of party name) rows) ≡ notified (x.things party name)
-  says_notified = notified_is (find (is_thing_of party name) rows) (x.things party name) (found_one thing_of (is_thing_of party name) (x.things party name) rows (holds.things party name))
+  says_notified = notified_is (find (is_thing_of party name) rows) (x.things party name) (found_one thing_in (is_thing_of party name) (x.things party name) rows (holds.things party name))
 
   -- the event that is listened on stands
   pub listened_there : (n : ℕ) → Some n ≡ listened_in (find (is_thing_of party name) rows) → IsThere t x n

@@ -8,14 +8,14 @@ use Rattle.std.proofs.lemmas.List.{append-nil}
 use Rattle.std.proofs.lemmas.List.Elements.{filter-append}
 use Rattle.board_model.proofs.ListLemmas.{same_bytes}
 use Rattle.board_model.specs.Things.{with_at}
-use Rattle.board_event_model.specs.EventMemory.{Event, is_held}
+use Rattle.board_event_model.specs.EventMemory.{Event, has_holder}
 use Rattle.board_event_model.specs.EventSessions.{StandingEvent, change_at, event_of}
 use Rattle.board_event_model.proofs.QuietLemmas.{eqb_self, eqb_true}
 use Rattle.board_event.specs.EventTable.{EventTable, event_at}
-use Rattle.script_model.specs.ScriptEvents.{EventThing, ScriptEvents, listener, notifier, number_of}
+use Rattle.script_model.specs.ScriptEvents.{EventThing, ScriptEvents, listener, notifier, event_number}
 use Rattle.script_model.specs.SoundEvents.{AreSoundEvents, IsListening}
 use Rattle.script_events.specs.declared.rows.EventRow.{EventRow}
-use Rattle.script_events.specs.PartyEvents.{Holds, as_list, is_thing_of, notifier_rows, notifiers_in, notifies_on, thing_of, where_held}
+use Rattle.script_events.specs.PartyEvents.{Holds, as_list, is_thing_of, notifier_rows, notifiers_in, notifies_on, thing_in, where_held}
 use Rattle.script_events.proofs.Lists.{count_parts, either, filter_gone, filter_kept}
 
 -- ---- standing events
@@ -76,25 +76,25 @@ module _ (party name : List ℕ) where
   ]
 
   -- a thing goes
-  pub things_left : (rows : List EventRow) (things : List ℕ → List ℕ → Option EventThing) → ((p n : List ℕ) → map thing_of (filter (is_thing_of p n) rows) ≡ as_list (things p n))
-      → (p n : List ℕ) → map thing_of (filter (is_thing_of p n) (filter (λ row. not (is_thing_of party name row)) rows)) ≡ as_list (with_at things party name None p n)
+  pub things_left : (rows : List EventRow) (things : List ℕ → List ℕ → Option EventThing) → ((p n : List ℕ) → map thing_in (filter (is_thing_of p n) rows) ≡ as_list (things p n))
+      → (p n : List ℕ) → map thing_in (filter (is_thing_of p n) (filter (λ row. not (is_thing_of party name row)) rows)) ≡ as_list (with_at things party name None p n)
   things_left rows things are p n = elim (either (bytes_eq p party && bytes_eq n name)) [
     | inl f ↦ rw (f, filter_gone (is_thing_of p n) (is_thing_of party name) (own_test p n f) rows) refl
     | inr f ↦ rw (f, filter_kept (is_thing_of p n) (is_thing_of party name) (other_test p n f) rows) (are p n)
   ]
 
   -- a thing comes
-  pub things_more : (rows : List EventRow) (things : List ℕ → List ℕ → Option EventThing) → ((p n : List ℕ) → map thing_of (filter (is_thing_of p n) rows) ≡ as_list (things p n))
+  pub things_more : (rows : List EventRow) (things : List ℕ → List ℕ → Option EventThing) → ((p n : List ℕ) → map thing_in (filter (is_thing_of p n) rows) ≡ as_list (things p n))
       → things party name ≡ None → (row : EventRow) → row.party ≡ party → row.name ≡ name
-      → (p n : List ℕ) → map thing_of (filter (is_thing_of p n) (rows ++ row ∷ [])) ≡ as_list (with_at things party name (Some (thing_of row)) p n)
+      → (p n : List ℕ) → map thing_in (filter (is_thing_of p n) (rows ++ row ∷ [])) ≡ as_list (with_at things party name (Some (thing_in row)) p n)
   things_more rows things are free row e g p n = elim (either (bytes_eq p party && bytes_eq n name)) [
     | inl f ↦ (let both = and_parts (bytes_eq p party) (bytes_eq n name) f in
-        let none : map thing_of (filter (is_thing_of p n) rows) ≡ [] = are p n ∙ rw (same_bytes p party both.0, same_bytes n name both.1) (ap as_list free) in
-        rw f (ap (map thing_of) (filter-append (is_thing_of p n) rows (row ∷ []) ∙ ap (λ (b : Bool). filter (is_thing_of p n) rows ++ cond b (row ∷ []) []) (same_test p n row e g ∙ f) ∙ ap (λ (xs : List EventRow). xs ++ row ∷ []) (empty _ none))))
-    | inr f ↦ rw f (ap (map thing_of) (filter-append (is_thing_of p n) rows (row ∷ []) ∙ ap (λ (b : Bool). filter (is_thing_of p n) rows ++ cond b (row ∷ []) []) (same_test p n row e g ∙ f) ∙ append-nil (filter (is_thing_of p n) rows)) ∙ are p n)
+        let none : map thing_in (filter (is_thing_of p n) rows) ≡ [] = are p n ∙ rw (same_bytes p party both.0, same_bytes n name both.1) (ap as_list free) in
+        rw f (ap (map thing_in) (filter-append (is_thing_of p n) rows (row ∷ []) ∙ ap (λ (b : Bool). filter (is_thing_of p n) rows ++ cond b (row ∷ []) []) (same_test p n row e g ∙ f) ∙ ap (λ (xs : List EventRow). xs ++ row ∷ []) (empty _ none))))
+    | inr f ↦ rw f (ap (map thing_in) (filter-append (is_thing_of p n) rows (row ∷ []) ∙ ap (λ (b : Bool). filter (is_thing_of p n) rows ++ cond b (row ∷ []) []) (same_test p n row e g ∙ f) ∙ append-nil (filter (is_thing_of p n) rows)) ∙ are p n)
   ]
     where
-      empty : (xs : List EventRow) → map thing_of xs ≡ [] → xs ≡ []
+      empty : (xs : List EventRow) → map thing_in xs ≡ [] → xs ≡ []
       empty [] h = refl
       empty (x ∷ xs) h = absurd cc
 
@@ -114,12 +114,12 @@ pub count_left : {X : Type 0} (test q : X → Bool) (rows : List X) (row : X) �
 count_left test q rows row e = count_parts test q rows ∙ rw e (elim (either (test row)) [ inl f ↦ rw f refl | inr f ↦ rw f refl ])
 
 -- a row that passes both tests counts
-pub counted : (test : EventThing → Bool) (q : EventRow → Bool) (rows : List EventRow) (t : EventThing) → map thing_of (filter q rows) ≡ t ∷ [] → test t ≡ true → 0 < length (filter (λ row. test (thing_of row)) rows)
+pub counted : (test : EventThing → Bool) (q : EventRow → Bool) (rows : List EventRow) (t : EventThing) → map thing_in (filter q rows) ≡ t ∷ [] → test t ≡ true → 0 < length (filter (λ row. test (thing_in row)) rows)
 counted test q [] t e h = absurd cc
-counted test q (x ∷ rows) t e h = elim (either (test (thing_of x))) [
+counted test q (x ∷ rows) t e h = elim (either (test (thing_in x))) [
   | inl f ↦ rw f (omega arith)
   | inr f ↦ rw f (elim (either (q x)) [
-    | inl g ↦ absurd (let both : thing_of x ∷ map thing_of (filter q rows) ≡ t ∷ [] = (rw g at e) in let same : thing_of x ≡ t = cc in let k : test (thing_of x) ≡ true = rw same h in cc)
+    | inl g ↦ absurd (let both : thing_in x ∷ map thing_in (filter q rows) ≡ t ∷ [] = (rw g at e) in let same : thing_in x ≡ t = cc in let k : test (thing_in x) ≡ true = rw same h in cc)
     | inr g ↦ counted test q rows t (rw g at e) h
   ])
 ]
@@ -130,10 +130,10 @@ counted test q (x ∷ rows) t e h = elim (either (test (thing_of x))) [
 pub record IsThere (t : EventTable) (x : ScriptEvents) (n : ℕ) : Type 0 where
   pub st : StandingEvent
   pub stands : x.session.stands n ≡ Some st
-  pub held : is_held st.event ≡ true
+  pub held : has_holder st.event ≡ true
   pub found : event_at t n ≡ Some st.event
 
-abbrev there_by : (t : EventTable) (rows : List EventRow) (x : ScriptEvents) → Holds t rows x → (n : ℕ) (st : StandingEvent) → x.session.stands n ≡ Some st → is_held st.event ≡ true → IsThere t x n
+abbrev there_by : (t : EventTable) (rows : List EventRow) (x : ScriptEvents) → Holds t rows x → (n : ℕ) (st : StandingEvent) → x.session.stands n ≡ Some st → has_holder st.event ≡ true → IsThere t x n
 there_by t rows x holds n st e h = record {
   st = st;
   stands = e;
@@ -141,10 +141,10 @@ there_by t rows x holds n st e h = record {
   found = holds.events n ∙ ap where_held (event_of-some x.session.stands n st e) ∙ rw h refl;
 }
 
-listening_held : (e : Event) → e.held ≡ true → is_held e ≡ true
+listening_held : (e : Event) → e.held ≡ true → has_holder e ≡ true
 listening_held e h = rw h refl
 
-notified_held : (e : Event) → 0 < e.notifiers → is_held e ≡ true
+notified_held : (e : Event) → 0 < e.notifiers → has_holder e ≡ true
 notified_held e h = elim (either e.held) [ inl f ↦ rw f refl | inr f ↦ rw f (grind arith) ]
 
 -- a listener's event, and its listener's party
@@ -170,6 +170,6 @@ notifier_there t rows x count sound holds p name n e = by (x.session.stands n) r
         (there_by t rows x holds n st f (notified_held st.event some), some)
 
 -- of whatever it is
-pub thing_there : (t : EventTable) (rows : List EventRow) (x : ScriptEvents) (count : ℕ) → AreSoundEvents x count → Holds t rows x → (p name : List ℕ) (thing : EventThing) → x.things p name ≡ Some thing → IsThere t x (number_of thing)
+pub thing_there : (t : EventTable) (rows : List EventRow) (x : ScriptEvents) (count : ℕ) → AreSoundEvents x count → Holds t rows x → (p name : List ℕ) (thing : EventThing) → x.things p name ≡ Some thing → IsThere t x (event_number thing)
 thing_there t rows x count sound holds p name (listener n) e = (listener_there t rows x count sound holds p name n e).0
 thing_there t rows x count sound holds p name (notifier n) e = (notifier_there t rows x count sound holds p name n e).0

@@ -3,17 +3,17 @@ use Rattle.std.proofs.Common.{◌≡◌, ℕ, ◌+◌, ◌<◌, Bool, true, fals
 use Rattle.std.specs.Prelude.{if◌then◌else◌, ◌==◌, ◌-◌, not, IsSomeAnd}
 use Rattle.std.specs.List.{filter}
 use Rattle.board_names.specs.Table.{at}
-use Rattle.board_event_model.specs.EventMemory.{Event, is_held}
+use Rattle.board_event_model.specs.EventMemory.{Event, has_holder}
 use Rattle.board_event_model.specs.EventSessions.{change_at, event_of}
 use Rattle.board_event_model.proofs.QuietLemmas.{eqb_self, eqb_true}
 use Rattle.board_event.specs.EventTable.{EventTable, changed, event_at, settled, without_listener, without_notifier}
-use Rattle.script_model.specs.ScriptEvents.{EventThing, ScriptEvents, event_let_go, let_go_from, listener, names_left, notifier, number_of}
+use Rattle.script_model.specs.ScriptEvents.{EventThing, ScriptEvents, event_let_go, let_go_from, listener, names_left, notifier, event_number}
 use Rattle.script_model.specs.SoundEvents.{AreSoundEvents}
 use Rattle.script_events.specs.declared.rows.CallRow.{CallRow}
 use Rattle.script_events.specs.declared.rows.EventRow.{EventRow}
 use Rattle.script_events.specs.declared.rows.Role.{Role}
 use Rattle.script_events.specs.declared.rows.Role.TheVariants as role
-use Rattle.script_events.specs.PartyEvents.{AreCalls, Holds, is_thing_of, listeners_in, listens_on, notifiers_in, notifies_on, thing_as, thing_of, where_held}
+use Rattle.script_events.specs.PartyEvents.{AreCalls, Holds, is_thing_of, listeners_in, listens_on, notifiers_in, notifies_on, thing_as, thing_in, where_held}
 use Rattle.script_events.proofs.Lists.{either, says_one}
 use Rattle.script_events.proofs.TableCalls.{HasNames, IsChange, IsSettled, change, settle}
 use Rattle.script_events.proofs.Holding.{IsThere, count_left, event_of-some, listener_there, notifier_there, one_if, other_change, own_change, things_left}
@@ -40,7 +40,7 @@ module _ (t s u : EventTable) (rows : List EventRow) (x : ScriptEvents) (holds :
   rest = filter (λ r. not (is_thing_of party name r)) rows
 
   events_left : (f : Event → Event) → f e ≡ less e → (q : ℕ) → event_at u q ≡ where_held (event_of (change_at x.session.stands n f) q)
-  events_left f same q = left.events q ∙ elim (either (q == n)) as (λ _. (if q == n then (if is_held (less e) then Some (less e) else None) else event_at s q) ≡ where_held (event_of (change_at x.session.stands n f) q)) [
+  events_left f same q = left.events q ∙ elim (either (q == n)) as (λ _. (if q == n then (if has_holder (less e) then Some (less e) else None) else event_at s q) ≡ where_held (event_of (change_at x.session.stands n f) q)) [
     | inl g ↦ rw (g, own_change x.session.stands n f e was q g, same) refl
     | inr g ↦ rw (g, other_change x.session.stands n f q g) (table.events q ∙ rw g (holds.events q))
   ]
@@ -49,11 +49,11 @@ module _ (t s u : EventTable) (rows : List EventRow) (x : ScriptEvents) (holds :
   names_now = left.names x.names (λ k text. ap (λ (names : List (List ℕ × ℕ)). at names text) (table.names k) ∙ holds.names k text)
 
   -- how many rows are of an event before and after
-  parts : (test : EventThing → Bool) (thing : EventThing) → thing_of row ≡ thing → length (filter (λ r. test (thing_of r)) rows) ≡ one_if (test thing) + length (filter (λ r. test (thing_of r)) rest)
-  parts test thing same = count_left (λ r. test (thing_of r)) (is_thing_of party name) rows row one ∙ ap (λ (y : EventThing). one_if (test y) + length (filter (λ r. test (thing_of r)) rest)) same
+  parts : (test : EventThing → Bool) (thing : EventThing) → thing_in row ≡ thing → length (filter (λ r. test (thing_in r)) rows) ≡ one_if (test thing) + length (filter (λ r. test (thing_in r)) rest)
+  parts test thing same = count_left (λ r. test (thing_in r)) (is_thing_of party name) rows row one ∙ ap (λ (y : EventThing). one_if (test y) + length (filter (λ r. test (thing_in r)) rest)) same
 
 module _ (t s u : EventTable) (rows : List EventRow) (x : ScriptEvents) (holds : Holds t rows x) (party name : List ℕ) (row : EventRow) (one : filter (is_thing_of party name) rows ≡ row ∷ [])
-    (n : ℕ) (there : IsThere t x n) (thing : thing_of row ≡ listener n) (held : there.st.event.held ≡ true) (is : s ≡ changed t n without_listener) (done : u ≡ settled s n) where
+    (n : ℕ) (there : IsThere t x n) (thing : thing_in row ≡ listener n) (held : there.st.event.held ≡ true) (is : s ≡ changed t n without_listener) (done : u ≡ settled s n) where
   abbrev after_listener : ScriptEvents
   after_listener = let_go_from x party name (listener n) (Some there.st.event)
 
@@ -94,7 +94,7 @@ module _ (t s u : EventTable) (rows : List EventRow) (x : ScriptEvents) (holds :
   }
 
 module _ (t s u : EventTable) (rows : List EventRow) (x : ScriptEvents) (holds : Holds t rows x) (party name : List ℕ) (row : EventRow) (one : filter (is_thing_of party name) rows ≡ row ∷ [])
-    (n : ℕ) (there : IsThere t x n) (thing : thing_of row ≡ notifier n) (some : 0 < there.st.event.notifiers) (is : s ≡ changed t n without_notifier) (done : u ≡ settled s n) where
+    (n : ℕ) (there : IsThere t x n) (thing : thing_in row ≡ notifier n) (some : 0 < there.st.event.notifiers) (is : s ≡ changed t n without_notifier) (done : u ≡ settled s n) where
   abbrev after_notifier : ScriptEvents
   after_notifier = let_go_from x party name (notifier n) (Some there.st.event)
 
@@ -140,16 +140,16 @@ module _ (t s u : EventTable) (rows : List EventRow) (x : ScriptEvents) (holds :
 -- ---- what is let go
 
 -- a role of a row
-listener_role : (row : EventRow) → row.role ≡ role.Listener → thing_of row ≡ listener row.event
+listener_role : (row : EventRow) → row.role ≡ role.Listener → thing_in row ≡ listener row.event
 listener_role row e = ap (λ (r : Role). thing_as r row.event) e
 
-notifier_role : (row : EventRow) → row.role ≡ role.Notifier → thing_of row ≡ notifier row.event
+notifier_role : (row : EventRow) → row.role ≡ role.Notifier → thing_in row ≡ notifier row.event
 notifier_role row e = ap (λ (r : Role). thing_as r row.event) e
 
 module _ (t : EventTable) (rows : List EventRow) (x : ScriptEvents) (count : ℕ) (sound : AreSoundEvents x count) (holds : Holds t rows x) (party name : List ℕ) (row : EventRow) (one : filter (is_thing_of party name) rows ≡ row ∷ []) where
   -- the row says what the party holds
-  held_thing : x.things party name ≡ Some (thing_of row)
-  held_thing = says_one (x.things party name) (thing_of row) (sym (holds.things party name) ∙ ap (map thing_of) one)
+  held_thing : x.things party name ≡ Some (thing_in row)
+  held_thing = says_one (x.things party name) (thing_in row) (sym (holds.things party name) ∙ ap (map thing_in) one)
 
   held_listener : row.role ≡ role.Listener → x.things party name ≡ Some (listener row.event)
   held_listener e = held_thing ∙ ap (λ (y : EventThing). Some y) (listener_role row e)
@@ -189,4 +189,4 @@ same_calls x party name rows are = by (x.things party name)
 
     by : (o : Option EventThing) → AreCalls rows (event_let_go x party name o).asked (event_let_go x party name o).session.doing
     by None = are
-    by (Some t) = from t (event_of x.session.stands (number_of t))
+    by (Some t) = from t (event_of x.session.stands (event_number t))

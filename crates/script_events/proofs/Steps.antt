@@ -16,7 +16,7 @@ use Rattle.board_event_model.proofs.SoundLemmas.{after_kind}
 use Rattle.board_event.specs.EventTable.{EventTable, changed, event_at}
 use Rattle.script_model.specs.declared.reply.EventReply.{EventReply}
 use Rattle.script_model.specs.ScriptAnswers.{ScriptAnswer, of_ask, of_event}
-use Rattle.script_model.specs.ScriptEvents.{EventAsk, EventThing, IsEventAccess, IsStepOf, ScriptEvents, ask_made, end_told, is_for_all, listener, notifier, number_of, opened, opened_with, step_made, step_told, to_listen, to_notify, with_ask, with_listener, with_notifier}
+use Rattle.script_model.specs.ScriptEvents.{EventAsk, EventThing, IsEventAccess, IsStepOf, ScriptEvents, ask_made, end_told, is_for_all, listener, notifier, event_number, opened, opened_with, step_made, step_told, to_listen, to_notify, with_ask, with_listener, notifier_more}
 use Rattle.script_model.specs.SoundEvents.{AreSoundEvents, IsCallOfThing, IsHeldCall}
 use Rattle.script_events.specs.declared.party_events.PartyEvents.{PartyEvents}
 use Rattle.script_events.specs.declared.rows.Act.{Act}
@@ -107,7 +107,7 @@ made_same : (x : ScriptEvents) (party : List ℕ) (q : EventAsk) (P : (List ℕ 
 made_same x party (to_listen name k event max) P h = elim (is_some (x.names k event)) as (λ b. P (if b then x else with_listener x party name k event max).asked (if b then x else with_listener x party name k event max).session.doing) [ true ↦ h | false ↦ h ]
 made_same x party (to_notify name k event) P h = by (x.names k event)
   where
-    held : (n : ℕ) (e : Event) (b : Bool) → P (if b then with_notifier x party name n e else x).asked (if b then with_notifier x party name n e else x).session.doing
+    held : (n : ℕ) (e : Event) (b : Bool) → P (if b then notifier_more x party name n e else x).asked (if b then notifier_more x party name n e else x).session.doing
     held n e true = h
     held n e false = h
 
@@ -141,7 +141,7 @@ ask_stepped m new x count sound rep party row one q is told answers calls =
 -- ---- an access
 
 -- the event of a call is that of the thing that it uses
-thing_on : (t : EventThing) (on : ℕ) (c : EventCall) → IsCallOfThing t on c → number_of t ≡ on
+thing_on : (t : EventThing) (on : ℕ) (c : EventCall) → IsCallOfThing t on c → event_number t ≡ on
 thing_on (listener n) on (a_notify c) h = absurd h
 thing_on (listener n) on (a_wait w) h = h
 thing_on (notifier n) on (a_notify c) h = h

@@ -12,9 +12,9 @@ use Rattle.std.proofs.lemmas.Map.Lookups.{exact_unsigned, exact_bytes}
 use Rattle.board_names.specs.Table.{at, putting, without}
 use Rattle.board_event_model.specs.declared.kind.EventKind.{EventKind}
 use Rattle.board_event_model.specs.declared.kind.EventKind.TheVariants as kind
-use Rattle.board_event_model.specs.EventMemory.{Event, holds_name, is_held, new_event}
-use Rattle.board_event.specs.EventTable.{EventTable, changed, event_at, listened, named_with, names_of, settled, settled_with, with_event, with_names, without_event, without_name_of}
-use Rattle.script_model.specs.ScriptEvents.{names_left, with_name, without_name}
+use Rattle.board_event_model.specs.EventMemory.{Event, holds_name, has_holder, new_event}
+use Rattle.board_event.specs.EventTable.{EventTable, changed, event_at, table_listened, named_with, names_of, settled, settled_with, with_event, with_names, without_event, without_name_of}
+use Rattle.script_model.specs.ScriptEvents.{names_left, name_held, without_name}
 use Rattle.board_event_model.proofs.QuietLemmas.{eqb_true}
 use Rattle.script_events.specs.PartyEvents.{AreOnce, IsOnce}
 use Rattle.script_events.proofs.Lists.{either}
@@ -77,26 +77,26 @@ change t u n e f once here is = (let with_it : u ≡ with_event t n (f e) = (rw 
 -- event n is new, and holds its name
 pub record IsListened (t u : EventTable) (k : EventKind) (name : List ℕ) (max : ℕ) : Type 0 where
   pub events : (q : ℕ) → event_at u q ≡ (if q == t.drawn + 1 then Some (new_event k name max) else event_at t q)
-  pub names : (names : EventKind → List ℕ → Option ℕ) → HasNames t names → HasNames u (with_name names k name (Some (t.drawn + 1)))
+  pub names : (names : EventKind → List ℕ → Option ℕ) → HasNames t names → HasNames u (name_held names k name (Some (t.drawn + 1)))
   pub drawn : u.drawn ≡ t.drawn + 1
   pub once : IsOnce u
 
 put_name : (names : List (List ℕ × ℕ)) (name : List ℕ) (n : ℕ) (text : List ℕ) → at (putting names name n) text ≡ (if bytes_eq text name then Some n else at names text)
 put_name names name n text = lookup-put (slice_cmp nat_cmp) nat_list_cmp_total exact_bytes names name n text ∙ ap (λ (b : Bool). cond b (Some n) (at names text)) (at_name name text)
 
-put_names : (t : EventTable) (k : EventKind) (name : List ℕ) (max : ℕ) (held : EventKind → List ℕ → Option ℕ) → HasNames t held → HasNames (listened t k name max) (with_name held k name (Some (t.drawn + 1)))
+put_names : (t : EventTable) (k : EventKind) (name : List ℕ) (max : ℕ) (held : EventKind → List ℕ → Option ℕ) → HasNames t held → HasNames (table_listened t k name max) (name_held held k name (Some (t.drawn + 1)))
 put_names t kind.Bits name max held has kind.Bits text = put_name t.bits name (t.drawn + 1) text ∙ ap (λ (x : Option ℕ). if bytes_eq text name then Some (t.drawn + 1) else x) (has kind.Bits text)
 put_names t kind.Bits name max held has kind.Queue text = has kind.Queue text
 put_names t kind.Queue name max held has kind.Bits text = has kind.Bits text
 put_names t kind.Queue name max held has kind.Queue text = put_name t.queues name (t.drawn + 1) text ∙ ap (λ (x : Option ℕ). if bytes_eq text name then Some (t.drawn + 1) else x) (has kind.Queue text)
 
-put_once : (t : EventTable) (k : EventKind) (name : List ℕ) (max : ℕ) → IsOnce t → at (names_of k t) name ≡ None → (j : EventKind) → IsOnceNames (names_of j (listened t k name max))
+put_once : (t : EventTable) (k : EventKind) (name : List ℕ) (max : ℕ) → IsOnce t → at (names_of k t) name ≡ None → (j : EventKind) → IsOnceNames (names_of j (table_listened t k name max))
 put_once t kind.Bits name max once none kind.Bits = once-put (slice_cmp nat_cmp) nat_list_cmp_total exact_bytes t.bits name (t.drawn + 1) none (once.names kind.Bits)
 put_once t kind.Bits name max once none kind.Queue = once.names kind.Queue
 put_once t kind.Queue name max once none kind.Bits = once.names kind.Bits
 put_once t kind.Queue name max once none kind.Queue = once-put (slice_cmp nat_cmp) nat_list_cmp_total exact_bytes t.queues name (t.drawn + 1) none (once.names kind.Queue)
 
-pub listening : (t : EventTable) (k : EventKind) (name : List ℕ) (max : ℕ) → IsOnce t → event_at t (t.drawn + 1) ≡ None → at (names_of k t) name ≡ None → IsListened t (listened t k name max) k name max
+pub listening : (t : EventTable) (k : EventKind) (name : List ℕ) (max : ℕ) → IsOnce t → event_at t (t.drawn + 1) ≡ None → at (names_of k t) name ≡ None → IsListened t (table_listened t k name max) k name max
 listening t k name max once free unheld = record {
   events = λ q. lookup-put nat_cmp nat_cmp_total exact_unsigned t.events (t.drawn + 1) (new_event k name max) q ∙ ap (λ (b : Bool). cond b (Some (new_event k name max)) (event_at t q)) (at_number (t.drawn + 1) q);
   names = put_names t k name max;
@@ -111,7 +111,7 @@ listening t k name max once free unheld = record {
 
 -- an event that nobody holds is none
 pub record IsSettled (s u : EventTable) (n : ℕ) (e : Event) : Type 0 where
-  pub events : (q : ℕ) → event_at u q ≡ (if q == n then (if is_held e then Some e else None) else event_at s q)
+  pub events : (q : ℕ) → event_at u q ≡ (if q == n then (if has_holder e then Some e else None) else event_at s q)
   pub names : (names : EventKind → List ℕ → Option ℕ) → HasNames s names → HasNames u (names_left names n e)
   pub drawn : u.drawn ≡ s.drawn
   pub once : IsOnce u
@@ -121,7 +121,7 @@ without_one : (names : List (List ℕ × ℕ)) (name text : List ℕ) → IsOnce
 without_one names name text once = lookup-removed (slice_cmp nat_cmp) nat_list_cmp_total exact_bytes name text names once ∙ ap (λ (b : Bool). cond b None (at names text)) (at_name name text)
 
 -- one kind's names go, and the events stay
-without_kind : (s : EventTable) (k : EventKind) (name : List ℕ) (names : EventKind → List ℕ → Option ℕ) → IsOnce s → HasNames s names → HasNames (with_names k s (without (names_of k s) name)) (with_name names k name None)
+without_kind : (s : EventTable) (k : EventKind) (name : List ℕ) (names : EventKind → List ℕ → Option ℕ) → IsOnce s → HasNames s names → HasNames (with_names k s (without (names_of k s) name)) (name_held names k name None)
 without_kind s kind.Bits name names once has kind.Bits text = without_one s.bits name text (once.names kind.Bits) ∙ ap (λ (x : Option ℕ). if bytes_eq text name then None else x) (has kind.Bits text)
 without_kind s kind.Bits name names once has kind.Queue text = has kind.Queue text
 without_kind s kind.Queue name names once has kind.Bits text = has kind.Bits text
@@ -195,7 +195,7 @@ own_at s n e here q = elim (either (q == n)) [
   | inr f ↦ rw f refl
 ]
 
-settle_with : (s u : EventTable) (n : ℕ) (e : Event) → event_at s n ≡ Some e → IsNamed s u n e → (b : Bool) → is_held e ≡ b → IsSettled s (if b then u else without_event u n) n e
+settle_with : (s u : EventTable) (n : ℕ) (e : Event) → event_at s n ≡ Some e → IsNamed s u n e → (b : Bool) → has_holder e ≡ b → IsSettled s (if b then u else without_event u n) n e
 settle_with s u n e here named true f = record {
   events = λ q. rw f (same_at s u n e named q ∙ own_at s n e here q);
   names = named.names;
@@ -214,4 +214,4 @@ settle_with s u n e here named false f = record {
 }
 
 pub settle : (s u : EventTable) (n : ℕ) (e : Event) → IsOnce s → event_at s n ≡ Some e → u ≡ settled s n → IsSettled s u n e
-settle s u n e once here is = (let with_it : u ≡ settled_with s n e = (rw (here, settled) at is) in rw with_it (settle_with s (named_with s n e) n e here (naming s n e once (holds_name e) refl) (is_held e) refl))
+settle s u n e once here is = (let with_it : u ≡ settled_with s n e = (rw (here, settled) at is) in rw with_it (settle_with s (named_with s n e) n e here (naming s n e once (holds_name e) refl) (has_holder e) refl))

@@ -9,14 +9,14 @@ use Rattle.std.specs.Ordering.{nat_cmp}
 use Rattle.std.specs.Str.{bytes_eq}
 use Rattle.board_names.specs.Table.{at}
 use Rattle.board_event_model.specs.declared.kind.EventKind.{EventKind}
-use Rattle.board_event_model.specs.EventMemory.{Event, is_held}
+use Rattle.board_event_model.specs.EventMemory.{Event, has_holder}
 use Rattle.board_event_model.specs.EventCalls.{EventCall, a_notify, a_wait}
 use Rattle.board_event_model.specs.EventRuns.{call_of}
 use Rattle.board_event_model.specs.EventSessions.{PartyCall, event_of}
 use Rattle.board_event.specs.EventTable.{EventTable, event_at, names_of}
 use Rattle.board_model.specs.declared.answer.Reason.{Reason}
 use Rattle.board_model.specs.LawfulSession.{State}
-use Rattle.board_model.specs.Things.{is_held as holds_thing}
+use Rattle.board_model.specs.Things.{has_holder as holds_thing}
 use Rattle.script_model.specs.declared.line.EventRequest.{EventRequest}
 use Rattle.script_model.specs.ScriptAnswers.{ScriptAnswer, of_ask, of_event}
 use Rattle.script_model.specs.ScriptEvents.{EventAsk, EventThing, IsStepOf, ScriptEvents, event_let_go, listener, name_made, notifier, step_made, task_of, to_listen, to_notify}
@@ -40,7 +40,7 @@ use Rattle.script_events.specs.declared.step.Stepped.TheVariants as stepped
 -- an event, where a listener or a notifier of it is held
 abbrev pub where_held : Option Event → Option Event
 where_held None = None
-where_held (Some e) = if is_held e then Some e else None
+where_held (Some e) = if has_holder e then Some e else None
 
 -- how many notifiers an event has
 abbrev pub notifiers_in : Option Event → ℕ
@@ -64,8 +64,8 @@ thing_as role.Listener n = listener n
 thing_as role.Notifier n = notifier n
 
 -- what a row says that its party holds
-abbrev pub thing_of : EventRow → EventThing
-thing_of row = thing_as row.role row.event
+abbrev pub thing_in : EventRow → EventThing
+thing_in row = thing_as row.role row.event
 
 -- one thing or none, as a list
 abbrev pub as_list : {A : Type 0} → Option A → List A
@@ -84,11 +84,11 @@ notifies_on n (notifier m) = n == m
 
 -- how many rows are listeners of the event
 abbrev pub listener_rows : ℕ → List EventRow → ℕ
-listener_rows n rows = length (filter (λ (row : EventRow). listens_on n (thing_of row)) rows)
+listener_rows n rows = length (filter (λ (row : EventRow). listens_on n (thing_in row)) rows)
 
 -- how many rows are notifiers of the event
 abbrev pub notifier_rows : ℕ → List EventRow → ℕ
-notifier_rows n rows = length (filter (λ (row : EventRow). notifies_on n (thing_of row)) rows)
+notifier_rows n rows = length (filter (λ (row : EventRow). notifies_on n (thing_in row)) rows)
 
 -- ---- rows of calls
 
@@ -154,7 +154,7 @@ pub record Holds (t : EventTable) (rows : List EventRow) (x : ScriptEvents) : Ty
   pub events : (n : ℕ) → event_at t n ≡ where_held (event_of x.session.stands n)
   pub drawn : t.drawn ≡ x.session.count
   pub names : (k : EventKind) (text : List ℕ) → at (names_of k t) text ≡ x.names k text
-  pub things : (p n : List ℕ) → map thing_of (filter (is_thing_of p n) rows) ≡ as_list (x.things p n)
+  pub things : (p n : List ℕ) → map thing_in (filter (is_thing_of p n) rows) ≡ as_list (x.things p n)
   pub listeners : (n : ℕ) → listener_rows n rows ≡ listeners_in (event_of x.session.stands n)
   pub notifiers : (n : ℕ) → notifier_rows n rows ≡ notifiers_in (event_of x.session.stands n)
 

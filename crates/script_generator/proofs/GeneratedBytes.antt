@@ -20,7 +20,7 @@ use Rattle.script_model.specs.declared.line.ScriptLine.{ScriptLine}
 use Rattle.script_model.specs.declared.line.ScriptLine.TheVariants as script_line
 use Rattle.script_model.specs.ScriptGrammar.{SpellsLine}
 use Rattle.script_model.specs.ScriptOutput.{SpellsAll}
-use Rattle.script_model.specs.ScriptSession.{Session, lines_of}
+use Rattle.script_model.specs.ScriptSession.{Session, asked_lines}
 use Rattle.script_grammar.proofs.ReaderLemmas.{both}
 use Rattle.script_grammar.proofs.SplitLemmas.{IsFree, free_append, free_joined, free_lacks, free_name, free_number, lacks}
 use Rattle.board_model.proofs.ThingLemmas.{all_push}
@@ -321,13 +321,13 @@ drawn_spelled n (suc k) few =
 
 -- ---- the script
 
-spells_lines : (ls : List Line) → AllByRecursion IsSpelled ls → (session : Session) → lines_of session ≡ map script_line.Board ls → SpellsAll (text.lines_of (script_bytes ls)) session
+spells_lines : (ls : List Line) → AllByRecursion IsSpelled ls → (session : Session) → asked_lines session ≡ map script_line.Board ls → SpellsAll (text.lines_of (script_bytes ls)) session
 spells_lines [] h [] e = tt
 spells_lines [] h (p ∷ ps) e = absurd cc
 spells_lines (l ∷ ls) h [] e = absurd cc
 spells_lines (l ∷ ls) h (p ∷ ps) e =
     let same : p.0 ≡ script_line.Board l = cc e in
-    let rest : lines_of ps ≡ map script_line.Board ls = cc e in
+    let rest : asked_lines ps ≡ map script_line.Board ls = cc e in
     let bytes : script_bytes (l ∷ ls) ≡ spell l ++ 10 ∷ script_bytes ls =
     flat_map-cons (λ (x : Line). spell x ++ 10 ∷ []) l ls ∙ append_assoc (spell l) (10 ∷ []) (script_bytes ls) in
     let cut : text.lines_of (script_bytes (l ∷ ls)) ≡ spell l ∷ text.lines_of (script_bytes ls) =

@@ -15,7 +15,7 @@ use Rattle.script_model.specs.declared.line.ScriptLine.TheVariants as script_lin
 use Rattle.script_model.specs.ScriptAnswers.{of_boards}
 use Rattle.script_model.specs.ScriptEvents.{no_events}
 use Rattle.script_model.specs.ScriptGrammar.{SpellsLine}
-use Rattle.script_model.specs.ScriptSession.{IsLawful, Session, lines_of, start, state_after}
+use Rattle.script_model.specs.ScriptSession.{IsLawful, Session, asked_lines, start, state_after}
 use Rattle.script_loop.specs.Machines.{StandsFor}
 use Rattle.script_machine.specs.Counters.{EntryStands}
 use Rattle.script_machine.specs.ScriptMachine.{StandsAfter}
@@ -105,7 +105,7 @@ RunsPlain s = (party : List ℕ) (r : Running) → s.parties party ≡ running r
 -- these lines were run and counted: the machine stands for their lawful session, which has no events, and the counts are those of it
 pub record HasCounted (g : Generator) (lines : List Line) : Type 0 where
   pub session : Session
-  pub lines_are : lines_of session ≡ map script_line.Board lines
+  pub lines_are : asked_lines session ≡ map script_line.Board lines
   pub stands : StandsFor StandsAfter g.machine session
   pub quiet : (state_after start session).events ≡ no_events
   pub plain : RunsPlain (state_after start session).boards
@@ -126,5 +126,5 @@ pub record RanMore (old new : Generator) (more : List Line) : Type 0 where
 pub record IsSummaryOf (lines : List Line) (text : List ℕ) : Type 0 where
   pub session : Session
   pub lawful : IsLawful session
-  pub lines_are : lines_of session ≡ map script_line.Board lines
+  pub lines_are : asked_lines session ≡ map script_line.Board lines
   pub text_is : text ≡ summary session

@@ -8,7 +8,7 @@ use Rattle.board_model.specs.Requests.{Request, get, update}
 use Rattle.script_model.specs.declared.line.ScriptLine.{ScriptLine}
 use Rattle.script_model.specs.declared.line.ScriptLine.TheVariants as script_line
 use Rattle.script_model.specs.ScriptAnswers.{ScriptAnswer, of_ask, of_boards, of_event}
-use Rattle.script_model.specs.ScriptSession.{IsLawful, Session, after, lines_of, start, state_after}
+use Rattle.script_model.specs.ScriptSession.{IsLawful, Session, after, asked_lines, start, state_after}
 use Rattle.script_model.specs.ScriptTurns.{ScriptState}
 use Rattle.script_loop.specs.declared.error.ScriptError.{ScriptError}
 use Rattle.script_loop.specs.declared.error.ScriptError.TheVariants.{ReadFault, WriteFault, BadLine, TooLong, OutOfMemory}
@@ -88,14 +88,14 @@ summary session = summary_text (counts_of session) (generation_of session 0) (ge
 pub record IsSummed (n : ℕ) (sink : Stream) : Type 0 where
   pub session : Session
   pub lawful : IsLawful session
-  pub lines : lines_of session ≡ map script_line.Board (generated n)
+  pub lines : asked_lines session ≡ map script_line.Board (generated n)
   pub output : Gains sink (summary session)
 
 -- the sink gained a front of it
 pub record IsCut (n : ℕ) (sink : Stream) : Type 0 where
   pub session : Session
   pub lawful : IsLawful session
-  pub lines : lines_of session ≡ map script_line.Board (generated n)
+  pub lines : asked_lines session ≡ map script_line.Board (generated n)
   pub written : ℕ
   pub output : Gains sink (take written (summary session))
 

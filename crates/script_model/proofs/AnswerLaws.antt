@@ -17,7 +17,7 @@ use Rattle.script_model.specs.declared.line.ScriptLine.TheVariants as line
 use Rattle.script_model.specs.ScriptAnswers.{ScriptAnswer, of_boards, of_event}
 use Rattle.script_model.specs.ScriptEvents.{EventAsk, IsEventAccess, IsStepOf, ScriptEvents, step_told}
 use Rattle.script_model.specs.ScriptTurns.{EventTurn, IsTurnAnswer, ScriptState, begins, drops, expires, refused, steps, turn_of}
-use Rattle.script_model.specs.ScriptSession.{IsLawfulFrom, IsRight, IsRuled, Session, after, lines_of, start}
+use Rattle.script_model.specs.ScriptSession.{IsLawfulFrom, IsRight, IsRuled, Session, after, asked_lines, start}
 use Rattle.script_model.specs.LawsOfAnswers.{OneLawfulSession, OneRightAnswer}
 
 -- ---- the answer of an access
@@ -77,13 +77,13 @@ one_answer s l a b h k = same_ruled s l a b (turn_of s l) h.rule k.rule
 same_pair : (x y : ScriptLine × ScriptAnswer) → x.0 ≡ y.0 → x.1 ≡ y.1 → x ≡ y
 same_pair (l, a) (m, b) e f = cc (e, f)
 
-same_from : (xs ys : Session) (s : ScriptState) → IsLawfulFrom s xs → IsLawfulFrom s ys → lines_of xs ≡ lines_of ys → xs ≡ ys
+same_from : (xs ys : Session) (s : ScriptState) → IsLawfulFrom s xs → IsLawfulFrom s ys → asked_lines xs ≡ asked_lines ys → xs ≡ ys
 same_from [] [] s h k e = refl
 same_from [] (y ∷ ys) s h k e = absurd cc
 same_from (x ∷ xs) [] s h k e = absurd cc
 same_from (x ∷ xs) (y ∷ ys) s h k e =
     let l : x.0 ≡ y.0 = cc (e) in
-    let m : lines_of xs ≡ lines_of ys = cc (e) in
+    let m : asked_lines xs ≡ asked_lines ys = cc (e) in
     let a : x.1 ≡ y.1 = one_answer s x.0 x.1 y.1 h.0 (subst (λ (z : ScriptLine). IsRight s z y.1) (sym l) k.0) in
     let p : x ≡ y = same_pair x y l a in
     let r : IsLawfulFrom (after s x.0 x.1) ys = subst (λ (z : ScriptLine × ScriptAnswer). IsLawfulFrom (after s z.0 z.1) ys) (sym p) k.1 in

@@ -21,7 +21,7 @@ use Rattle.script_model.specs.ScriptGrammar.{IsScriptLine}
 use Rattle.script_model.specs.ScriptAnswers.{ScriptAnswer, expired, of_boards}
 use Rattle.script_model.specs.ScriptEvents.{EventAsk, EventTask, holds_event, name_made, runs_on_events, task_of}
 use Rattle.script_model.specs.ScriptTurns.{EventTurn, ScriptState, begin_turn, begins, board_turn, drop_turn, expire_of_call, expire_turn, free_turn, is_name_taken, may_expire, refused, request_turn, steps, takes_event_name, task_turn, turn_of}
-use Rattle.script_model.specs.ScriptSession.{IsLawful, IsLawfulFrom, IsRuled, Session, after, lines_of, start, state_after}
+use Rattle.script_model.specs.ScriptSession.{IsLawful, IsLawfulFrom, IsRuled, Session, after, asked_lines, start, state_after}
 use Rattle.script_model.specs.SoundEvents.{IsSoundScript}
 use Rattle.script_model.specs.LawsOfSound.{SessionsAreSound}
 use Rattle.script_model.specs.LawsOfForms.{EachLineHasAnAnswer, EachScriptHasASession}
@@ -136,7 +136,7 @@ lawful_join [] ys s h k = k
 lawful_join (x ∷ xs) ys s h k = (h.0, lawful_join xs ys (after s x.0 x.1) h.1 k)
 
 abbrev GoesOn : Session → List ScriptLine → Type 0
-GoesOn pairs lines = (more : Session) × IsLawful (pairs ++ more) × (lines_of more ≡ lines)
+GoesOn pairs lines = (more : Session) × IsLawful (pairs ++ more) × (asked_lines more ≡ lines)
 
 goes_on : EachLineHasAnAnswer → (lines : List ScriptLine) (pairs : Session) → IsLawful pairs → length pairs + length lines < 2 ^ 63 → AllByRecursion IsScriptLine lines → GoesOn pairs lines
 goes_on each [] pairs h lt a = ([], subst IsLawful (sym (append-nil pairs)) h, refl)

@@ -11,7 +11,7 @@ use Rattle.board_event_model.proofs.QuietLemmas.{eqb_self, eqb_true}
 use Rattle.board_event_model.proofs.SetLemmas.{and_split, either, is_false, or_right}
 use Rattle.board_event_model.proofs.SoundLemmas.{none_some, some_same}
 use Rattle.board_model.specs.Things.{with_at}
-use Rattle.script_model.specs.ScriptEvents.{EventThing, ScriptEvents, listener, names_left, notifier, same_event_kind, with_listener, with_name, with_notifier, without_name}
+use Rattle.script_model.specs.ScriptEvents.{EventThing, ScriptEvents, listener, names_left, notifier, same_event_kind, with_listener, name_held, notifier_more, without_name}
 use Rattle.script_model.specs.ScriptGrammar.{is_event_name}
 use Rattle.script_model.specs.SoundEvents.{AreSoundEvents, IsEventThing, IsFormedEvent, IsListening, IsNamed, name_asked}
 use Rattle.script_model.proofs.EachLemmas.{changed_holds, each, each_and, each_event, each_some, each_was, event_in, one_changed, same_event, same_formed}
@@ -159,15 +159,15 @@ thing_here x y n f p (listener k) is kept h =
 thing_here x y n f p (notifier k) is kept h =
     subst (λ (o : Option StandingEvent). IsSome o) (sym (is k)) (each_some (one_changed n f k) (x.session.stands k) h)
 
-pub notifier_made : (x : ScriptEvents) (n : ℕ) (party name : List ℕ) (k : ℕ) (e : Event) → event_of x.session.stands k ≡ Some e → x.asked party ≡ None → x.session.doing party ≡ None → AreSoundEvents x n → AreSoundEvents (with_notifier x party name k e) (n + 1)
+pub notifier_made : (x : ScriptEvents) (n : ℕ) (party name : List ℕ) (k : ℕ) (e : Event) → event_of x.session.stands k ≡ Some e → x.asked party ≡ None → x.session.doing party ≡ None → AreSoundEvents x n → AreSoundEvents (notifier_more x party name k e) (n + 1)
 notifier_made x n party name k e found free idle h =
     let f : Event → Event = λ y. record y { notifiers = e.notifiers + 1 } in
     record {
-      session = more_of x (with_notifier x party name k e) (notifiers_of k (e.notifiers + 1)) h.session tt refl;
+      session = more_of x (notifier_more x party name k e) (notifiers_of k (e.notifiers + 1)) h.session tt refl;
       numbered = λ m st g. (let w = each_was (one_changed k f m) (x.session.stands m) st g in h.numbered m w.old w.was);
       things = λ p m t g. elim (at_cases x.things party name (Some (notifier k)) p m (Some t) g) [
-        | inl is ↦ subst (λ (u : EventThing). IsEventThing (with_notifier x party name k e) p u) (some_same _ t is.2) (each_some (one_changed k f k) (x.session.stands k) (found_some (x.session.stands k) e found))
-        | inr is ↦ thing_here x (with_notifier x party name k e) k f p t (λ j. refl) (λ j same. inr (λ y. refl)) (h.things p m t is.1)
+        | inl is ↦ subst (λ (u : EventThing). IsEventThing (notifier_more x party name k e) p u) (some_same _ t is.2) (each_some (one_changed k f k) (x.session.stands k) (found_some (x.session.stands k) e found))
+        | inr is ↦ thing_here x (notifier_more x party name k e) k f p t (λ j. refl) (λ j same. inr (λ y. refl)) (h.things p m t is.1)
       ];
       single = λ p m l j a b. elim (at_cases x.things party name (Some (notifier k)) p m (Some (listener j)) a) [
         | inl is ↦ absurd (not_both k j (some_same _ _ is.2))
@@ -176,7 +176,7 @@ notifier_made x n party name k e found free idle h =
           | inr and ↦ h.single p m l j is.1 and.1
         ]
       ];
-      calls = λ p d g. held_call x (with_notifier x party name k e) p d d refl refl (λ m t w. at_other x.things party name _ p m (another x.session.doing p party d g idle) ∙ w) (h.calls p d g);
+      calls = λ p d g. held_call x (notifier_more x party name k e) p d d refl refl (λ m t w. at_other x.things party name _ p m (another x.session.doing p party d g idle) ∙ w) (h.calls p d g);
       names = λ j text m g. each_event (IsNamed j text) (IsNamed j text) (one_changed k f m) (x.session.stands m) (λ st l. changed_holds (λ s. IsNamed j text s.event) k m f st (λ at. more_notifiers j text st.event e.notifiers l) (λ apart. l)) (h.names j text m g);
       apart = h.apart;
       asked = h.asked;
@@ -209,7 +209,7 @@ left_was names n e j text m h =
     without_was : (names : EventKind → List ℕ → Option ℕ) (n : ℕ) (e : Event) (o : Option ℕ) (j : EventKind) (text : List ℕ) (m : ℕ) → without_name names n e o j text ≡ Some m → names j text ≡ Some m
     without_was names n e None j text m h = h
     without_was names n e (Some k) j text m h =
-        elim (if_cases2 (k == n) (with_name names e.kind e.name None) names j text (Some m) h) [
+        elim (if_cases2 (k == n) (name_held names e.kind e.name None) names j text (Some m) h) [
           | inl is ↦ elim (if_cases (same_event_kind j e.kind && bytes_eq text e.name) None (names j text) (Some m) is.1) [
             | inl none ↦ absurd (none_some m none.1)
             | inr kept ↦ kept.1

@@ -21,7 +21,7 @@ use Rattle.board_model.specs.LawfulSession as boards
 use Rattle.script_model.specs.declared.line.ScriptLine.{ScriptLine}
 use Rattle.script_model.specs.declared.line.ScriptLine.TheVariants as line
 use Rattle.script_model.specs.ScriptAnswers.{ScriptAnswer, of_event}
-use Rattle.script_model.specs.ScriptEvents.{EventAsk, EventTask, EventThing, IsEventAccess, IsStepOf, ScriptEvents, act, ask, ask_made, event_let_go, events_abandoned, let_go_from, listener, notifier, number_of, opened, opened_with, runs_on_events, step_made, to_listen, to_notify, with_ask, with_listener, with_notifier}
+use Rattle.script_model.specs.ScriptEvents.{EventAsk, EventTask, EventThing, IsEventAccess, IsStepOf, ScriptEvents, act, ask, ask_made, event_let_go, events_abandoned, let_go_from, listener, notifier, event_number, opened, opened_with, runs_on_events, step_made, to_listen, to_notify, with_ask, with_listener, notifier_more}
 use Rattle.script_model.specs.ScriptGrammar.{IsScriptLine}
 use Rattle.script_model.specs.ScriptTurns.{EventTurn, IsTurnAnswer, ScriptState, begins, board_turn, drops, expires, refused, steps, task_begun, turn_of, turned}
 use Rattle.script_model.specs.ScriptSession.{IsLawfulFrom, IsRight, IsRuled, Session, after, after_boards, after_turn, start, state_after}
@@ -44,7 +44,7 @@ asks_none x party = rw (text_itself party) refl
 opened_found : (x : ScriptEvents) (c : ℕ) (party name : List ℕ) (n : ℕ) (o : Option Event) → event_of x.session.stands n ≡ o → x.session.doing party ≡ None → AreSoundEvents x c → AreSoundEvents (asking_none (opened_with x party name n o) party) (c + 1)
 opened_found x c party name n None found idle h = grown (asking_none x party) c (asks_no_more x c party h)
 opened_found x c party name n (Some e) found idle h =
-    elim e.held as (λ b. AreSoundEvents (asking_none (if b then with_notifier x party name n e else x) party) (c + 1)) [
+    elim e.held as (λ b. AreSoundEvents (asking_none (if b then notifier_more x party name n e else x) party) (c + 1)) [
       | true ↦ notifier_made (asking_none x party) c party name n e found (asks_none x party) idle (asks_no_more x c party h)
       | false ↦ grown (asking_none x party) c (asks_no_more x c party h)
     ]
@@ -75,7 +75,7 @@ step_sound x c party None (Some d) a asked doing ok h = access_sound x c party d
 
 -- ---- a drop
 
-let_go_sound : (x : ScriptEvents) (c : ℕ) (party name : List ℕ) (t : EventThing) (o : Option Event) → event_of x.session.stands (number_of t) ≡ o → x.things party name ≡ Some t → x.session.doing party ≡ None → AreSoundEvents x c → AreSoundEvents (let_go_from x party name t o) (c + 1)
+let_go_sound : (x : ScriptEvents) (c : ℕ) (party name : List ℕ) (t : EventThing) (o : Option Event) → event_of x.session.stands (event_number t) ≡ o → x.things party name ≡ Some t → x.session.doing party ≡ None → AreSoundEvents x c → AreSoundEvents (let_go_from x party name t o) (c + 1)
 let_go_sound x c party name t None found holds idle h = grown x c h
 let_go_sound x c party name (listener k) (Some e) found holds idle h = listener_dropped x c party name k e found holds idle h
 let_go_sound x c party name (notifier k) (Some e) found holds idle h = notifier_dropped x c party name k e found idle h
@@ -116,7 +116,7 @@ step_doing s party a b (Some d) p apart = of (event_of s.stands d.on)
 opened_doing : (x : ScriptEvents) (party name : List ℕ) (n : ℕ) (o : Option Event) → ((opened_with x party name n o).session.doing ≡ x.session.doing) × ((opened_with x party name n o).asked ≡ x.asked)
 opened_doing x party name n None = (refl, refl)
 opened_doing x party name n (Some e) =
-    elim e.held as (λ b. ((if b then with_notifier x party name n e else x).session.doing ≡ x.session.doing) × ((if b then with_notifier x party name n e else x).asked ≡ x.asked)) [ true ↦ (refl, refl) | false ↦ (refl, refl) ]
+    elim e.held as (λ b. ((if b then notifier_more x party name n e else x).session.doing ≡ x.session.doing) × ((if b then notifier_more x party name n e else x).asked ≡ x.asked)) [ true ↦ (refl, refl) | false ↦ (refl, refl) ]
 
 ask_doing : (x : ScriptEvents) (party : List ℕ) (q : EventAsk) → ((ask_made x party q).session.doing ≡ x.session.doing) × ((ask_made x party q).asked ≡ x.asked)
 ask_doing x party (to_listen name k event max) =

@@ -3,7 +3,7 @@ use Rattle.std.specs.Prelude.{◌≡◌}
 use Rattle.script_model.specs.declared.line.ScriptLine.{ScriptLine}
 use Rattle.script_model.specs.ScriptAnswers.{ScriptAnswer}
 use Rattle.script_model.specs.ScriptTurns.{ScriptState}
-use Rattle.script_model.specs.ScriptSession.{IsLawful, IsRight, Session, lines_of}
+use Rattle.script_model.specs.ScriptSession.{IsLawful, IsRight, Session, asked_lines}
 
 -- after the same lines, a line has no two right answers
 abbrev pub OneRightAnswer : Type 0
@@ -11,4 +11,4 @@ OneRightAnswer = (s : ScriptState) (l : ScriptLine) (a b : ScriptAnswer) → IsR
 
 -- the lines of a lawful session settle all of its answers
 abbrev pub OneLawfulSession : Type 0
-OneLawfulSession = (xs ys : Session) → IsLawful xs → IsLawful ys → lines_of xs ≡ lines_of ys → xs ≡ ys
+OneLawfulSession = (xs ys : Session) → IsLawful xs → IsLawful ys → asked_lines xs ≡ asked_lines ys → xs ≡ ys

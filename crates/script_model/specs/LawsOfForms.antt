@@ -4,7 +4,7 @@ use Rattle.std.specs.List.{AllByRecursion}
 use Rattle.script_model.specs.declared.line.ScriptLine.{ScriptLine}
 use Rattle.script_model.specs.ScriptGrammar.{IsScriptLine}
 use Rattle.script_model.specs.ScriptAnswers.{ScriptAnswer}
-use Rattle.script_model.specs.ScriptSession.{IsLawful, IsRight, Session, lines_of, start, state_after}
+use Rattle.script_model.specs.ScriptSession.{IsLawful, IsRight, Session, asked_lines, start, state_after}
 
 -- after a session, each line of the grammar has a right answer: the rules never contradict each other
 abbrev pub EachLineHasAnAnswer : Type 0
@@ -12,4 +12,4 @@ EachLineHasAnAnswer = (pairs : Session) (l : ScriptLine) → IsLawful pairs → 
 
 -- and each list of such lines has a lawful session
 abbrev pub EachScriptHasASession : Type 0
-EachScriptHasASession = (lines : List ScriptLine) → AllByRecursion IsScriptLine lines → length lines < 2 ^ 63 → (pairs : Session) × IsLawful pairs × (lines_of pairs ≡ lines)
+EachScriptHasASession = (lines : List ScriptLine) → AllByRecursion IsScriptLine lines → length lines < 2 ^ 63 → (pairs : Session) × IsLawful pairs × (asked_lines pairs ≡ lines)

@@ -106,13 +106,13 @@ abbrev pub same_event_kind : EventKind → EventKind → Bool
 same_event_kind j k = if is_bits j then is_bits k else not (is_bits k)
 
 -- the names, where a name of a kind is held so
-abbrev pub with_name : (EventKind → List ℕ → Option ℕ) → EventKind → List ℕ → Option ℕ → EventKind → List ℕ → Option ℕ
-with_name names k name x j text = if same_event_kind j k && bytes_eq text name then x else names j text
+abbrev pub name_held : (EventKind → List ℕ → Option ℕ) → EventKind → List ℕ → Option ℕ → EventKind → List ℕ → Option ℕ
+name_held names k name x j text = if same_event_kind j k && bytes_eq text name then x else names j text
 
 -- the name of an event goes, where that event holds it
 abbrev pub without_name : (EventKind → List ℕ → Option ℕ) → ℕ → Event → Option ℕ → EventKind → List ℕ → Option ℕ
 without_name names n e None = names
-without_name names n e (Some m) = if m == n then with_name names e.kind e.name None else names
+without_name names n e (Some m) = if m == n then name_held names e.kind e.name None else names
 
 -- the names after a holder of event n was let go, which left it so: a bits name is held while the event has a listener or notifiers, a queue name while it has its listener
 abbrev pub names_left : (EventKind → List ℕ → Option ℕ) → ℕ → Event → EventKind → List ℕ → Option ℕ
@@ -128,13 +128,13 @@ with_ask asked party x p = if bytes_eq p party then x else asked p
 abbrev pub with_listener : ScriptEvents → List ℕ → List ℕ → EventKind → List ℕ → ℕ → ScriptEvents
 with_listener x party name k event max = record x {
   session = next_session x.session (listen party k event max);
-  names = with_name x.names k event (Some (x.session.count + 1));
+  names = name_held x.names k event (Some (x.session.count + 1));
   things = with_at x.things party name (Some (listener (x.session.count + 1)));
 }
 
 -- event n has a notifier more
-abbrev pub with_notifier : ScriptEvents → List ℕ → List ℕ → ℕ → Event → ScriptEvents
-with_notifier x party name n e = record x {
+abbrev pub notifier_more : ScriptEvents → List ℕ → List ℕ → ℕ → Event → ScriptEvents
+notifier_more x party name n e = record x {
   session = next_session x.session (notifiers_of n (e.notifiers + 1));
   things = with_at x.things party name (Some (notifier n));
 }
@@ -147,7 +147,7 @@ opened_told (Some e) = if e.held then reply.Done else reply.DoesNotExist
 -- and what follows
 abbrev pub opened_with : ScriptEvents → List ℕ → List ℕ → ℕ → Option Event → ScriptEvents
 opened_with x party name n None = x
-opened_with x party name n (Some e) = if e.held then with_notifier x party name n e else x
+opened_with x party name n (Some e) = if e.held then notifier_more x party name n e else x
 
 -- what a party is told that asks: a name that is held makes no new event, and one that isn't has no notifier
 abbrev pub ask_told : ScriptEvents → EventAsk → EventReply
@@ -179,14 +179,14 @@ let_go_from x party name (notifier n) (Some e) = record x {
 }
 
 -- the number of a thing's event
-abbrev pub number_of : EventThing → ℕ
-number_of (listener n) = n
-number_of (notifier n) = n
+abbrev pub event_number : EventThing → ℕ
+event_number (listener n) = n
+event_number (notifier n) = n
 
 -- what a party holds under a name goes
 abbrev pub event_let_go : ScriptEvents → List ℕ → List ℕ → Option EventThing → ScriptEvents
 event_let_go x party name None = x
-event_let_go x party name (Some t) = let_go_from x party name t (event_of x.session.stands (number_of t))
+event_let_go x party name (Some t) = let_go_from x party name t (event_of x.session.stands (event_number t))
 
 -- ---- notifies and waits
 

@@ -73,5 +73,5 @@ abbrev pub IsLawful : Session → Type 0
 IsLawful pairs = IsLawfulFrom start pairs
 
 -- what was asked in a session, without the answers
-abbrev pub lines_of : Session → List ScriptLine
-lines_of pairs = map (λ (pair : ScriptLine × ScriptAnswer). pair.0) pairs
+abbrev pub asked_lines : Session → List ScriptLine
+asked_lines pairs = map (λ (pair : ScriptLine × ScriptAnswer). pair.0) pairs

@@ -8,7 +8,7 @@ use Rattle.std.proofs.lemmas.Slice.Eq.{bytes_eq-Decides}
 use Rattle.board_model.specs.declared.tables.Thing.{Thing}
 use Rattle.board_model.specs.Tables.{rename}
 use Rattle.board_model.specs.Things.{Held}
-use Rattle.script_parties.specs.Named.{AreApart, AreParties, HasShortKeys, IsNamed, IsOfNode, nameless, node_number, node_place, nodes_or_more, node_or_next, nodes_with, number_of, own, party_at}
+use Rattle.script_parties.specs.Named.{AreApart, AreParties, HasShortKeys, IsNamed, IsOfNode, nameless, node_number, node_place, nodes_or_more, node_or_next, nodes_with, core_number, own, party_at}
 use Rattle.script_parties.proofs.Counts.{AreSame, turned}
 use Rattle.script_parties.proofs.Places.{chosen}
 use Rattle.board_service.specs.Domain.{Domain}
@@ -56,13 +56,13 @@ pub named_more : {C : Type 0} (nodes : List (List ℕ)) (numbers : List ℕ) (th
     → IsMore nodes d after t x → n ≡ d.last_thing + 1 → IsNamed nodes (numbers ++ n ∷ []) (things ++ x ∷ []) after
 named_more {C} nodes numbers things d after t x n h m e =
     let last : after.last_thing ≡ d.last_thing + 1 = m.last in
-    let number : number_of t ≡ n = m.number ∙ sym e in
+    let number : core_number t ≡ n = m.number ∙ sym e in
     record {
       same = subst (λ ts. AreSame (party_at nodes) ts (things ++ x ∷ [])) (sym m.things) (same_more (party_at nodes) t x d.tables.things things h.same (same_thing (party_at nodes) t x m.holder m.board m.kind));
       numbered =
-          ap (λ ts. map number_of ts) m.things
-          ∙ map-append number_of d.tables.things (t ∷ [])
-          ∙ ap (λ ns. ns ++ number_of t ∷ []) h.numbered
+          ap (λ ts. map core_number ts) m.things
+          ∙ map-append core_number d.tables.things (t ∷ [])
+          ∙ ap (λ ns. ns ++ core_number t ∷ []) h.numbered
           ∙ ap (λ k. numbers ++ k ∷ []) number;
       apart = apart_more d.last_thing n numbers e h.drawn h.apart;
       drawn = all_more (λ k. k ≤ after.last_thing) n numbers (all_from (λ k. k ≤ d.last_thing) (λ k. k ≤ after.last_thing) (λ k b. omega (arith, b, last)) numbers h.drawn) (omega (arith, e, last));

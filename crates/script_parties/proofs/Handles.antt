@@ -27,7 +27,7 @@ use Rattle.script_parties.proofs.Growth.{IsMore, named_more}
 use Rattle.script_parties.proofs.Places.{IsThing}
 use Rattle.script_parties.proofs.Ports.{from, one_left, shown}
 use Rattle.board_service.specs.declared.made.Found.{Found}
-use Rattle.board_service.specs.Domain.{Domain, after_entry, after_entry_mut, entry_answer, entry_for, entry_mut_answer, found, held, is_held, is_thing, spent, thing_or_none}
+use Rattle.board_service.specs.Domain.{Domain, after_entry, after_entry_mut, entry_answer, entry_for, entry_mut_answer, found, held, stands_as, is_thing, spent, thing_or_none}
 
 -- ---- what is asked of the thing
 
@@ -41,7 +41,7 @@ kind_so k s j b e h = subst (λ i. (same_kind i k && b) ≡ true) (sym e) (rw s 
 
 -- the core has a thing of this kind, of a board with keys of this type
 pub held_as : {C : Type 0} (nodes : List (List ℕ)) (d : Domain C) (x : Held) (number : ℕ) (k : ThingKind) (key : Key) → same_kind k k ≡ true → IsThing nodes d x number → kind_of x.kind ≡ k
-    → is_typed_key (board_at d.tables x.board) key ≡ true → is_held d (key_detail (type_of_key key)) number k ≡ true
+    → is_typed_key (board_at d.tables x.board) key ≡ true → stands_as d (key_detail (type_of_key key)) number k ≡ true
 held_as {C} nodes d x number k key s i e typed =
     let of = held d number in
     held_so (find (is_thing number) d.tables.things) (λ t. same_kind (kind_of t.kind) k && is_typed_key (board_at d.tables t.board) key) i.stands

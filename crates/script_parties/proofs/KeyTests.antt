@@ -104,12 +104,12 @@ word_again n h = let t : key.U64 (little (word_bytes n)) ≡ key.U64 n = told_as
 
 -- ---- the test of a key
 
-pub is_number : (n : ℕ) → n < 2 ^ 64 → (a : List ℕ) → IsShortKey a → is_key nat_eq first_word 8 1 n a ≡ replies.is_key (key.U64 n) a
+pub is_number : (n : ℕ) → n < 2 ^ 64 → (a : List ℕ) → IsShortKey a → is_key nat_eq first_word 8 1 n a ≡ replies.keeps_key (key.U64 n) a
 is_number n small a h =
     let e : little (take 8 (take 8 (key_bytes (key.U64 n)))) ≡ n = word_again n small in
     ap (λ (m : ℕ). nat_eq (little (take 8 (take 8 a))) m) (sym e) ∙ same_numbers a (key_bytes (key.U64 n)) h (number_is_short n)
 
-pub is_text : (text : List ℕ) (k : F8) → length text ≤ 8 → k.bytes ≡ padded 8 text → (a : List ℕ) → IsShortKey a → is_key (on lowered (pointwise nat_eq)) first_text 8 1 k a ≡ replies.is_key (key.F8 text) a
+pub is_text : (text : List ℕ) (k : F8) → length text ≤ 8 → k.bytes ≡ padded 8 text → (a : List ℕ) → IsShortKey a → is_key (on lowered (pointwise nat_eq)) first_text 8 1 k a ≡ replies.keeps_key (key.F8 text) a
 is_text text k most e a h =
     let x : is_key (on lowered (pointwise nat_eq)) first_text 8 1 k a ≡ bytes_eq (map to_ascii_lowercase (take 8 a)) (map to_ascii_lowercase (padded 8 text))
     = ap (λ (x : List ℕ). bytes_eq (map to_ascii_lowercase x) (map to_ascii_lowercase k.bytes)) (text_word a h)

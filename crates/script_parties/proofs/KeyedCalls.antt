@@ -63,14 +63,14 @@ entry_same t h p q agree number value = found_same p q agree t.boards h (is_numb
 
 -- with a key that is a number
 pub found_by_number : {C : Type 0} (d : Domain C) → AllByRecursion HasShortKeys d.tables.boards → (n : ℕ) → n < 2 ^ 64 → (k : Key) → k ≡ key.U64 n → (of : Thing ℕ ℕ) (value : TypeDetail)
-    → entry_for d of (is_key nat_eq first_word 8 1 n) value ≡ entry_for d of (replies.is_key k) value
+    → entry_for d of (is_key nat_eq first_word 8 1 n) value ≡ entry_for d of (replies.keeps_key k) value
 found_by_number d h n small k e of value =
-    entry_same d.tables h (is_key nat_eq first_word 8 1 n) (replies.is_key (key.U64 n)) (is_number n small) of.board value
-    ∙ ap (λ (x : Key). entry_for d of (replies.is_key x) value) (sym e)
+    entry_same d.tables h (is_key nat_eq first_word 8 1 n) (replies.keeps_key (key.U64 n)) (is_number n small) of.board value
+    ∙ ap (λ (x : Key). entry_for d of (replies.keeps_key x) value) (sym e)
 
 -- with a key that is a text
 pub found_by_text : {C : Type 0} (d : Domain C) → AllByRecursion HasShortKeys d.tables.boards → (text : List ℕ) (f : F8) → length text ≤ 8 → f.bytes ≡ padded 8 text → (k : Key) → k ≡ key.F8 text → (of : Thing ℕ ℕ) (value : TypeDetail)
-    → entry_for d of (is_key (on lowered (pointwise nat_eq)) first_text 8 1 f) value ≡ entry_for d of (replies.is_key k) value
+    → entry_for d of (is_key (on lowered (pointwise nat_eq)) first_text 8 1 f) value ≡ entry_for d of (replies.keeps_key k) value
 found_by_text d h text f most b k e of value =
-    entry_same d.tables h (is_key (on lowered (pointwise nat_eq)) first_text 8 1 f) (replies.is_key (key.F8 text)) (is_text text f most b) of.board value
-    ∙ ap (λ (x : Key). entry_for d of (replies.is_key x) value) (sym e)
+    entry_same d.tables h (is_key (on lowered (pointwise nat_eq)) first_text 8 1 f) (replies.keeps_key (key.F8 text)) (is_text text f most b) of.board value
+    ∙ ap (λ (x : Key). entry_for d of (replies.keeps_key x) value) (sym e)

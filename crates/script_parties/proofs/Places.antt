@@ -6,8 +6,8 @@ use Rattle.board_model.specs.declared.tables.Thing.{Thing}
 use Rattle.board_model.specs.Tables.{rename}
 use Rattle.board_model.specs.Things.{Held}
 use Rattle.board_model.specs.Things as named
-use Rattle.script_parties.specs.Named.{AreApart, IsNamed, IsNumberIn, IsOfNode, nameless, number_of, own, party_at}
-use Rattle.script_parties.specs.Parties.{Parties, Stands}
+use Rattle.script_parties.specs.Named.{AreApart, IsNamed, IsNumberIn, IsOfNode, nameless, core_number, own, party_at}
+use Rattle.script_parties.specs.Parties.{Parties, IsStandingThing}
 use Rattle.script_parties.proofs.Counts.{AreSame}
 use Rattle.board_service.specs.Domain.{Domain, held, is_thing, thing_or_none}
 use Rattle.std.proofs.lemmas.Bool.{ne_eqb}
@@ -52,8 +52,8 @@ pub record Looked (f : ℕ → List ℕ) (count : ℕ) (ts : List (Thing ℕ ℕ
   pub kind : of.kind ≡ x.kind
   pub node : IsOfNode count of
 
-pub looked : (f : ℕ → List ℕ) (count k n : ℕ) (x : Held) (ts : List (Thing ℕ ℕ)) (xs : List Held) → AreSame f ts xs → AreApart (map number_of ts) → AllByRecursion (IsOfNode count) ts
-    → slice_get xs k ≡ Some x → slice_get (map number_of ts) k ≡ Some n → Looked f count ts x n
+pub looked : (f : ℕ → List ℕ) (count k n : ℕ) (x : Held) (ts : List (Thing ℕ ℕ)) (xs : List Held) → AreSame f ts xs → AreApart (map core_number ts) → AllByRecursion (IsOfNode count) ts
+    → slice_get xs k ≡ Some x → slice_get (map core_number ts) k ≡ Some n → Looked f count ts x n
 looked f count k n x [] xs e a all at number = absurd cc
 looked f count k n x (t ∷ ts) [] e a all at number = absurd cc
 looked f count zero n x (t ∷ ts) (y ∷ ys) e a all at number =
@@ -71,7 +71,7 @@ looked f count zero n x (t ∷ ts) (y ∷ ys) e a all at number =
     }
 looked f count (suc k) n x (t ∷ ts) (y ∷ ys) e a all at number =
     let more = looked f count k n x ts ys (cc) a.1 all.1 at number in
-    let other : t.name ≢ n = all_at (λ m. t.name ≢ m) k n (map number_of ts) a.0 number in
+    let other : t.name ≢ n = all_at (λ m. t.name ≢ m) k n (map core_number ts) a.0 number in
     let s : (t.name == n) ≡ false = ne_eqb t.name n other in
     record { of = more.of; stands = rw s more.stands; holder = more.holder; board = more.board; kind = more.kind; node = more.node }
 
@@ -89,8 +89,8 @@ some_stands o t e = subst IsSome (sym e) refl
 pub thing_at : {C : Type 0} (nodes : List (List ℕ)) (numbers : List ℕ) (things : List Held) (d : Domain C) (x : Held) (number k : ℕ) → IsNamed nodes numbers things d
     → slice_get things k ≡ Some x → slice_get numbers k ≡ Some number → IsThing nodes d x number
 thing_at {C} nodes numbers things d x number k h at at_number =
-    let apart : AreApart (map number_of d.tables.things) = subst AreApart (sym h.numbered) h.apart in
-    let numbered : slice_get (map number_of d.tables.things) k ≡ Some number = subst (λ ns. slice_get ns k ≡ Some number) (sym h.numbered) at_number in
+    let apart : AreApart (map core_number d.tables.things) = subst AreApart (sym h.numbered) h.apart in
+    let numbered : slice_get (map core_number d.tables.things) k ≡ Some number = subst (λ ns. slice_get ns k ≡ Some number) (sym h.numbered) at_number in
     let l = looked (party_at nodes) (length nodes) k number x d.tables.things things h.same apart h.holders at numbered in
     let q : l.of ≡ held d number = sym (ap (λ (o : Option (Thing ℕ ℕ)). thing_or_none o) l.stands) in
     record {
@@ -113,5 +113,5 @@ thing_of_call nodes numbers ns things ts d x number h stands e f n =
     thing_in nodes numbers things d x number h stands (subst (λ ys. IsNumberIn things ys x number) f (subst (λ (xs : List Held). IsNumberIn xs ns x number) e n))
 
 -- what stands for the parties stands among the things
-pub stands_in : (before now : Parties) (x : Held) → before ≡ now → Stands now x → named.thing_of before.tables.things x.holder x.name ≡ Some x
-stands_in before now x e h = subst (λ p. Stands p x) (sym e) h
+pub stands_in : (before now : Parties) (x : Held) → before ≡ now → IsStandingThing now x → named.thing_of before.tables.things x.holder x.name ≡ Some x
+stands_in before now x e h = subst (λ p. IsStandingThing p x) (sym e) h

@@ -69,8 +69,8 @@ abbrev pub own : List ℕ → List ℕ
 own party = party
 
 -- the core's number of a thing
-abbrev pub number_of : Thing ℕ ℕ → ℕ
-number_of t = t.name
+abbrev pub core_number : Thing ℕ ℕ → ℕ
+core_number t = t.name
 
 -- the numbers differ
 abbrev pub AreApart : List ℕ → Type 0
@@ -84,7 +84,7 @@ IsNumberIn things numbers x number = (place : ℕ) × (position_from (is_held_as
 -- but for their names the things are the core's, with parties in place of nodes; each has its number
 pub record IsNamed {C : Type 0} (nodes : List (List ℕ)) (numbers : List ℕ) (things : List Held) (d : Domain C) : Type 0 where
   pub same : map (rename (party_at nodes) nameless) d.tables.things ≡ map (rename own nameless) things
-  pub numbered : map number_of d.tables.things ≡ numbers
+  pub numbered : map core_number d.tables.things ≡ numbers
   pub apart : AreApart numbers
   pub drawn : AllByRecursion (λ n. n ≤ d.last_thing) numbers
   pub holders : AllByRecursion (IsOfNode (length nodes)) d.tables.things

@@ -18,7 +18,7 @@ use Rattle.board_model.specs.TableCalls.{create_asked, entry_asked, entry_mut_as
 use Rattle.board_model.specs.Memory.{opening_of}
 use Rattle.board_model.specs.Things.{Held, thing_of}
 use Rattle.board_model.specs.TypeTable.{key_detail, same_key, value_detail}
-use Rattle.board_model.specs.Replies.{added_of, is_key, number_or, released_thing}
+use Rattle.board_model.specs.Replies.{added_of, keeps_key, number_or, released_thing}
 use Rattle.board_service.specs.Domain.{at}
 
 -- the tables, the words of each board in the order of the boards, and how many things were made
@@ -38,8 +38,8 @@ pub record IsFew (p : Parties) : Type 0 where
   pub things : p.drawn < 2 ^ 63
 
 -- the thing stands
-abbrev pub Stands : Parties → Held → Type 0
-Stands p x = thing_of p.tables.things x.holder x.name ≡ Some x
+abbrev pub IsStandingThing : Parties → Held → Type 0
+IsStandingThing p x = thing_of p.tables.things x.holder x.name ≡ Some x
 
 -- a call is told so, and leaves these tables; the words stay, and at most one thing more was made
 pub record IsAsked {E : Type 0} (old new : Parties) (error : E → Reply) (asked : Result ℕ E × Tables (List ℕ) (List ℕ)) (told : Reply) : Type 0 where
@@ -63,12 +63,12 @@ IsWriter old new name x told = IsAsked old new reply.WriterError (writer_asked o
 -- a read handle is made, or not, as the definitions say
 abbrev pub IsEntry : Parties → Parties → List ℕ → Held → Key → ValueType → Reply → Type 0
 IsEntry old new name x k type told =
-    IsAsked old new reply.EntryError (entry_asked old.tables x name (entry_found (board_at old.tables x.board) (is_key k) (value_detail type))) told
+    IsAsked old new reply.EntryError (entry_asked old.tables x name (entry_found (board_at old.tables x.board) (keeps_key k) (value_detail type))) told
 
 -- a write handle is made, or not, as the definitions say
 abbrev pub IsEntryMut : Parties → Parties → List ℕ → Held → Key → ValueType → Reply → Type 0
 IsEntryMut old new name x k type told =
-    IsAsked old new reply.EntryMutError (entry_mut_asked old.tables x name (entry_found (board_at old.tables x.board) (is_key k) (value_detail type))) told
+    IsAsked old new reply.EntryMutError (entry_mut_asked old.tables x name (entry_found (board_at old.tables x.board) (keeps_key k) (value_detail type))) told
 
 -- the words of the boards, with those of a board that was made
 abbrev pub words_with : List (List ℕ) → List AddedEntry → Reply → List (List ℕ)
@@ -83,14 +83,14 @@ pub record IsCreate (old new : Parties) (party factory name : List ℕ) (k : Key
   pub drawn : new.drawn ≤ old.drawn + 1
 
 -- the words of the boards, one after another
-abbrev pub words_of : (ℕ → List ℕ) → List Board → List (List ℕ)
-words_of memory boards = map (λ (b : Board). memory b.number) boards
+abbrev pub words_of_boards : (ℕ → List ℕ) → List Board → List (List ℕ)
+words_of_boards memory boards = map (λ (b : Board). memory b.number) boards
 
 -- the thing that a party held under a name is gone, and a board with its last thing
 pub record IsReleased (old new : Parties) (party name : List ℕ) : Type 0 where
   pub tables : new.tables ≡ released_thing old.tables party name (thing_of old.tables.things party name)
   -- the words of the boards that are left
-  pub words : (f : ℕ → List ℕ) → old.words ≡ words_of f old.tables.boards → new.words ≡ words_of f new.tables.boards
+  pub words : (f : ℕ → List ℕ) → old.words ≡ words_of_boards f old.tables.boards → new.words ≡ words_of_boards f new.tables.boards
   pub drawn : new.drawn ≡ old.drawn
 
 -- ---- words

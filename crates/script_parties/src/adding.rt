@@ -8,7 +8,7 @@ ghost use Rattle.board_model.specs.LineGrammar.{AreAttributes, AreRequirements};
 ghost use Rattle.board_model.specs.Replies as replies;
 ghost use Rattle.board_model.specs.Tables.{shapes_of};
 ghost use Rattle.script_parties.specs.Named.{HasShortKey};
-ghost use Rattle.board_service.specs.Entries.{added_of};
+ghost use Rattle.board_service.specs.Entries.{as_added};
 
 use board_concepts::{AttributeSet, AttributeVerifier};
 use board_layout::{F8, Text};
@@ -23,9 +23,9 @@ pub(crate) fn entries_for(
     alloc: Global,
     entries: &[AddedEntry],
 ) -> Result<Vec<NewEntry>, AllocError>
-    ensures entries { IfOk result (λ v. map added_of v.items ≡ map replies.added_of entries.now) }
-    ensures shapes { IfOk result (λ v. All IsShape (shapes_of (map added_of v.items))) }
-    ensures keys { IfOk result (λ v. AllByRecursion HasShortKey (map added_of v.items)) }
+    ensures entries { IfOk result (λ v. map as_added v.items ≡ map replies.added_of entries.now) }
+    ensures shapes { IfOk result (λ v. All IsShape (shapes_of (map as_added v.items))) }
+    ensures keys { IfOk result (λ v. AllByRecursion HasShortKey (map as_added v.items)) }
 {
     let mut new = Vec::with_capacity(alloc, entries.len())?;
     for entry in entries {

@@ -6,7 +6,7 @@ ghost use Rattle.board_model.specs.Replies as replies;
 ghost use Rattle.board_model.specs.Tables as tables;
 ghost use Rattle.board_model.specs.Things as held;
 ghost use Rattle.script_parties.specs.Overview.{keys_shown, standing_with};
-ghost use Rattle.script_parties.specs.Parties.{HasWord, IsCreate, IsEntry, IsEntryMut, IsFew, IsLoaded, IsOpen, IsReader, IsReleased, IsStored, IsWriter, Stands, board_words, no_parties};
+ghost use Rattle.script_parties.specs.Parties.{HasWord, IsCreate, IsEntry, IsEntryMut, IsFew, IsLoaded, IsOpen, IsReader, IsReleased, IsStored, IsWriter, IsStandingThing, board_words, no_parties};
 
 use crate::adding::{attributes_for, entries_for, needs_for};
 use crate::lists::{keys_of, nodes_at};
@@ -276,7 +276,7 @@ impl<C: BoardWords + Drop> PartyDomain<C> {
     /// `AllocError` where memory is refused. All stays as it was.
     pub fn reader(&mut self, name: Name, factory: &Held) -> Result<Reply, AllocError>
         requires few { IsFew self.old }
-        requires stands { Stands self.old factory.now }
+        requires stands { IsStandingThing self.old factory.now }
         ensures asked { IfOk result (IsReader self.old self.new name factory.now) }
         ensures err { OnErr result (self.new ≡ self.old) }
     {
@@ -305,7 +305,7 @@ impl<C: BoardWords + Drop> PartyDomain<C> {
     /// `AllocError` where memory is refused. All stays as it was.
     pub fn writer(&mut self, name: Name, factory: &Held) -> Result<Reply, AllocError>
         requires few { IsFew self.old }
-        requires stands { Stands self.old factory.now }
+        requires stands { IsStandingThing self.old factory.now }
         ensures asked { IfOk result (IsWriter self.old self.new name factory.now) }
         ensures err { OnErr result (self.new ≡ self.old) }
     {
@@ -340,7 +340,7 @@ impl<C: BoardWords + Drop> PartyDomain<C> {
         value_type: ValueType,
     ) -> Result<Reply, AllocError>
         requires few { IsFew self.old }
-        requires stands { Stands self.old reader.now }
+        requires stands { IsStandingThing self.old reader.now }
         requires kind { tables.kind_of reader.now.kind ≡ ThingKind.Reader }
         requires key { is_typed_key (tables.board_at self.old.tables reader.now.board) key.now ≡ true }
         ensures asked { IfOk result (IsEntry self.old self.new name reader.now key.now value_type) }
@@ -377,7 +377,7 @@ impl<C: BoardWords + Drop> PartyDomain<C> {
         value_type: ValueType,
     ) -> Result<Reply, AllocError>
         requires few { IsFew self.old }
-        requires stands { Stands self.old writer.now }
+        requires stands { IsStandingThing self.old writer.now }
         requires kind { tables.kind_of writer.now.kind ≡ ThingKind.Writer }
         requires key { is_typed_key (tables.board_at self.old.tables writer.now.board) key.now ≡ true }
         ensures asked { IfOk result (IsEntryMut self.old self.new name writer.now key.now value_type) }

@@ -3,12 +3,12 @@ ghost use Rattle.std.specs.Prelude.{◌≡◌, true, All, OnOk, OnErr, map};
 ghost use Rattle.std.specs.List.{AllByRecursion};
 ghost use Rattle.board_layout.specs.Answer.{Answers};
 ghost use Rattle.board_layout.specs.Layout.{IsShape, places_from};
-ghost use Rattle.board_model.specs.Replies.{is_key};
+ghost use Rattle.board_model.specs.Replies.{keeps_key};
 ghost use Rattle.board_model.specs.Tables.{shapes_of};
 ghost use Rattle.board_model.specs.TypeTable as types;
 ghost use Rattle.script_parties.specs.Named.{HasShortKey, HasShortKeys};
 ghost use Rattle.board_service.specs.Domain as domain;
-ghost use Rattle.board_service.specs.Entries.{IsOpening, added_of};
+ghost use Rattle.board_service.specs.Entries.{IsOpening, as_added};
 
 use crate::adding::f8_of;
 use board_concepts::{AttributeSet, AttributeVerifier};
@@ -29,10 +29,10 @@ pub(crate) fn create_in<C: Cells>(
     attributes: AttributeSet,
     entries: Vec<NewEntry>,
 ) -> Result<Made, BlackboardCreateError>
-    requires shapes { All IsShape (shapes_of (map added_of entries.items)) }
-    requires keys { AllByRecursion HasShortKey (map added_of entries.items) }
-    ensures answer { Answers result BlackboardCreateError.OutOfMemory (domain.create_answer core.old (types.same_key key_type) name.now (map added_of entries.items)) }
-    ensures ok { OnOk result ((c : C) × C.opened (places_from 0 (shapes_of (map added_of entries.items))) (map added_of entries.items) c × IsOpening (C.words c) (map added_of entries.items) × (core.new ≡ domain.after_create core.old node name.now (types.key_detail key_type) limits attributes (map added_of entries.items) c)) }
+    requires shapes { All IsShape (shapes_of (map as_added entries.items)) }
+    requires keys { AllByRecursion HasShortKey (map as_added entries.items) }
+    ensures answer { Answers result BlackboardCreateError.OutOfMemory (domain.create_answer core.old (types.same_key key_type) name.now (map as_added entries.items)) }
+    ensures ok { OnOk result ((c : C) × C.opened (places_from 0 (shapes_of (map as_added entries.items))) (map as_added entries.items) c × IsOpening (C.words c) (map as_added entries.items) × (core.new ≡ domain.after_create core.old node name.now (types.key_detail key_type) limits attributes (map as_added entries.items) c)) }
     ensures err { OnErr result (core.new ≡ core.old) }
 {
     match key_type {
@@ -67,10 +67,10 @@ pub(crate) fn entry_in<C: Cells>(
     key: &Key,
     value: &TypeDetail,
 ) -> Result<Found, EntryHandleError>
-    requires held { domain.is_held core.old (types.key_detail (types.type_of_key key.now)) reader ThingKind.Reader ≡ true }
+    requires held { domain.stands_as core.old (types.key_detail (types.type_of_key key.now)) reader ThingKind.Reader ≡ true }
     requires keys { AllByRecursion HasShortKeys core.old.tables.boards }
-    ensures answer { Answers result EntryHandleError.OutOfMemory (domain.entry_answer core.old (domain.entry_for core.old (domain.held core.old reader) (is_key key.now) value.now)) }
-    ensures ok { OnOk result (core.new ≡ domain.after_entry core.old (domain.held core.old reader) (domain.entry_for core.old (domain.held core.old reader) (is_key key.now) value.now)) }
+    ensures answer { Answers result EntryHandleError.OutOfMemory (domain.entry_answer core.old (domain.entry_for core.old (domain.held core.old reader) (keeps_key key.now) value.now)) }
+    ensures ok { OnOk result (core.new ≡ domain.after_entry core.old (domain.held core.old reader) (domain.entry_for core.old (domain.held core.old reader) (keeps_key key.now) value.now)) }
     ensures err { OnErr result (core.new ≡ core.old) }
 {
     match key {
@@ -92,10 +92,10 @@ pub(crate) fn entry_mut_in<C: Cells>(
     key: &Key,
     value: &TypeDetail,
 ) -> Result<Found, EntryHandleMutError>
-    requires held { domain.is_held core.old (types.key_detail (types.type_of_key key.now)) writer ThingKind.Writer ≡ true }
+    requires held { domain.stands_as core.old (types.key_detail (types.type_of_key key.now)) writer ThingKind.Writer ≡ true }
     requires keys { AllByRecursion HasShortKeys core.old.tables.boards }
-    ensures answer { Answers result EntryHandleMutError.OutOfMemory (domain.entry_mut_answer core.old (domain.held core.old writer) (domain.entry_for core.old (domain.held core.old writer) (is_key key.now) value.now)) }
-    ensures ok { OnOk result (core.new ≡ domain.after_entry_mut core.old (domain.held core.old writer) (domain.entry_for core.old (domain.held core.old writer) (is_key key.now) value.now)) }
+    ensures answer { Answers result EntryHandleMutError.OutOfMemory (domain.entry_mut_answer core.old (domain.held core.old writer) (domain.entry_for core.old (domain.held core.old writer) (keeps_key key.now) value.now)) }
+    ensures ok { OnOk result (core.new ≡ domain.after_entry_mut core.old (domain.held core.old writer) (domain.entry_for core.old (domain.held core.old writer) (keeps_key key.now) value.now)) }
     ensures err { OnErr result (core.new ≡ core.old) }
 {
     match key {

@@ -5,7 +5,7 @@ ghost use Rattle.board_layout.specs.Keys.{details, same_keys};
 ghost use Rattle.board_layout.specs.Layout.{IsShape, opening_words, payload, places_from};
 ghost use Rattle.board_model.specs.Tables.{shapes_of};
 ghost use Rattle.board_service.specs.Domain as domain;
-ghost use Rattle.board_service.specs.Entries.{IsOpening, added_of, first_words};
+ghost use Rattle.board_service.specs.Entries.{IsOpening, as_added, first_words};
 ghost use Rattle.board_names.specs.Table.{at, putting};
 ghost use Rattle.board_store.specs.declared.statics.Stored.TheVariants.{Final};
 
@@ -34,11 +34,11 @@ fn make_described<C: Cells>(
     path: &FilePath,
     bytes: &[u8],
 ) -> Result<C, AllocError>
-    requires plan { plan.now.cells.items ≡ places_from 0 (shapes_of (map added_of entries.now.items)) }
-    requires small { payload (shapes_of (map added_of entries.now.items)) < 2 ^ 32 }
+    requires plan { plan.now.cells.items ≡ places_from 0 (shapes_of (map as_added entries.now.items)) }
+    requires small { payload (shapes_of (map as_added entries.now.items)) < 2 ^ 32 }
     requires free { at descriptions.old path.now ≡ None }
-    ensures opened { IfOk result (λ c. C.opened plan.now.cells.items (map added_of entries.now.items) c) }
-    ensures words { IfOk result (λ c. IfSome (C.words c) (λ ws. ws ≡ opening_words 0 plan.now.cells.items (map first_words (map added_of entries.now.items)))) }
+    ensures opened { IfOk result (λ c. C.opened plan.now.cells.items (map as_added entries.now.items) c) }
+    ensures words { IfOk result (λ c. IfSome (C.words c) (λ ws. ws ≡ opening_words 0 plan.now.cells.items (map first_words (map as_added entries.now.items)))) }
     ensures ok { OnOk result (descriptions.new ≡ putting descriptions.old path.now (Final bytes.now)) }
     ensures err { OnErr result (descriptions.new ≡ descriptions.old) }
 {
@@ -68,10 +68,10 @@ impl<C: Cells> DomainCore<C> {
         entries: Vec<NewEntry>,
     ) -> Result<Made, BlackboardCreateError>
         requires size { 0 < length entries.items → K.SIZE ≤ 64 }
-        requires shapes { All IsShape (shapes_of (map added_of entries.items)) }
-        ensures answer { Answers result BlackboardCreateError.OutOfMemory (domain.create_answer self.old (same_keys K.eq K.value_of K.SIZE K.WORDS) name.now (map added_of entries.items)) }
-        ensures refused { Refuses result (domain.create_answer self.old (same_keys K.eq K.value_of K.SIZE K.WORDS) name.now (map added_of entries.items)) }
-        ensures ok { OnOk result (domain.IsCreated C.opened C.words self.old self.new node name.now (details K.type_bytes K.SIZE K.ALIGNMENT) limits attributes (map added_of entries.items)) }
+        requires shapes { All IsShape (shapes_of (map as_added entries.items)) }
+        ensures answer { Answers result BlackboardCreateError.OutOfMemory (domain.create_answer self.old (same_keys K.eq K.value_of K.SIZE K.WORDS) name.now (map as_added entries.items)) }
+        ensures refused { Refuses result (domain.create_answer self.old (same_keys K.eq K.value_of K.SIZE K.WORDS) name.now (map as_added entries.items)) }
+        ensures ok { OnOk result (domain.IsCreated C.opened C.words self.old self.new node name.now (details K.type_bytes K.SIZE K.ALIGNMENT) limits attributes (map as_added entries.items)) }
         ensures err { OnErr result (self.new ≡ self.old) }
     {
         let wanted = entries.as_slice();

@@ -37,7 +37,7 @@ impl<C: Cells> DomainCore<C> {
 
     /// Whether the thing stands, is of the kind, and its board's keys are of type `K`.
     pub fn is_held<K: BoardKey>(&self, thing: ThingId, kind: ThingKind) -> bool
-        ensures value { result ≡ domain.is_held self.now (details K.type_bytes K.SIZE K.ALIGNMENT) thing kind }
+        ensures value { result ≡ domain.stands_as self.now (details K.type_bytes K.SIZE K.ALIGNMENT) thing kind }
         ensures stands { OnTrue result (IsSome (find (domain.is_thing thing) self.now.tables.things)) }
     {
         let key = TypeDetail::new::<K>(TypeVariant::FixedSize);

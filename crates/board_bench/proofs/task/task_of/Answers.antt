@@ -1,6 +1,6 @@
 use Rattle.std.proofs.Common.{rules, arith, ℕ, ◌≡◌, ◌^◌, ◌<◌, map, Some, IfOk, IfSome, string_bytes, codes, ap, sym, ◌∙◌}
 use Rattle.std.specs.Fmt.{decimal}
-use Rattle.board_bench.specs.Task.{IsTask, spelling}
+use Rattle.board_bench.specs.Task.{IsBenchTask, spelling}
 use Rattle.board_bench.specs.declared.task.Task.TheVariants.{Get, Update, Shared}
 use Rattle.board_bench.proofs.Spelled.{word_at}
 use Rattle.board_bench.proofs.task.task_of.Goals.{then-readers-eq0-via-then-readers-eq0, then-readers-eq0-via-else-readers-eq0+then-readers-gt3}

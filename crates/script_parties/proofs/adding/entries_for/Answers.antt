@@ -5,7 +5,7 @@ use Rattle.std.proofs.lemmas.Grind.{common_steps}
 use Rattle.board_layout.specs.Layout.{IsShape}
 use Rattle.board_model.specs.Tables.{Added, shapes_of}
 use Rattle.board_service.specs.declared.new_entry.NewEntry.{NewEntry}
-use Rattle.board_service.specs.Entries.{added_of}
+use Rattle.board_service.specs.Entries.{as_added}
 use Rattle.script_parties.specs.Named.{HasShortKey}
 use Rattle.script_parties.proofs.NewEntries.{have_shapes, made_all, short_push}
 use Rattle.script_parties.proofs.adding.entries_for.Goals as goal
@@ -13,7 +13,7 @@ use Rattle.script_parties.proofs.adding.entries_for.Goals as goal
 pub loop-entry-preserved : goal.loop-entry-preserved
 loop-entry-preserved c = record {
   made = grind (arith, common_steps);
-  keys = subst (λ (es : List NewEntry). AllByRecursion HasShortKey (map added_of es)) (sym c.in_ok-push.ensures.items) (short_push c.loop-entry.new.items _ c.loop-entry.invariant.keys c.key_bytes.ensures.short);
+  keys = subst (λ (es : List NewEntry). AllByRecursion HasShortKey (map as_added es)) (sym c.in_ok-push.ensures.items) (short_push c.loop-entry.new.items _ c.loop-entry.invariant.keys c.key_bytes.ensures.short);
 }
 
 pub returns-clause-shapes : goal.returns-clause-shapes

@@ -2,12 +2,12 @@ use Rattle.std.proofs.Common.{◌≡◌, ◌++◌, drop, map}
 use Rattle.std.specs.List.{AllByRecursion}
 use Rattle.board_model.specs.Replies as replies
 use Rattle.script_parties.specs.Named.{HasShortKey}
-use Rattle.board_service.specs.Entries.{added_of}
+use Rattle.board_service.specs.Entries.{as_added}
 use Rattle.script_parties.proofs.adding.entries_for.Given as goal
 
 -- the entries so far are the first, and have short keys
 abbrev pub invariant-loop-entry : goal.invariant-loop-entry
 invariant-loop-entry l = record {
-  made : map added_of l.new.items ++ map replies.added_of (drop l.entry-index l.entries) ≡ map replies.added_of l.entries;
-  keys : AllByRecursion HasShortKey (map added_of l.new.items);
+  made : map as_added l.new.items ++ map replies.added_of (drop l.entry-index l.entries) ≡ map replies.added_of l.entries;
+  keys : AllByRecursion HasShortKey (map as_added l.new.items);
 }

@@ -12,8 +12,8 @@ invariant_of-self-in-Some g c =
     let number = c.take_thing-gone.result.board in
     let left = c.take_cells.new.cells.items in
     let rest = c.in-Some.ensures.rest in
-    let cells : length left ≡ length (tables.without (is_numbered number) c.self.inside.boards.items) =
+    let cells : length left ≡ length (tables.without_first (is_numbered number) c.self.inside.boards.items) =
     omega (arith, c.take_cells.ensures.shorter, c.in-Some.ensures.shorter, ap (λ (bs : List Board). length bs) rest, c.self.invariant.cells) in
     let less = core_less {left = left} number c.self.invariant c.let_go.ensures.range cells in
     subst (λ (bs : List Board). IsCore bs left c.self.inside.last_board c.let_go.new.statics) (sym rest)
-    (subst (λ (ds : Storages). IsCore (tables.without (is_numbered number) c.self.inside.boards.items) left c.self.inside.last_board ds) (sym c.let_go.ensures.after) less)
+    (subst (λ (ds : Storages). IsCore (tables.without_first (is_numbered number) c.self.inside.boards.items) left c.self.inside.last_board ds) (sym c.let_go.ensures.after) less)

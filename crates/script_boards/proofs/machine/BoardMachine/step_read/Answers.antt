@@ -3,7 +3,7 @@ use Rattle.std.specs.List.{remove}
 use Rattle.script_parties.specs.Parties.{Parties}
 use Rattle.script_boards.specs.declared.machine.PartyRow.{PartyRow}
 use Rattle.script_boards.specs.declared.step.OwedAccess.TheVariants as owed
-use Rattle.script_boards.specs.Steps.{CanGoOn, IsReadTold, is_last, ticked}
+use Rattle.script_boards.specs.Steps.{CanGoOn, IsReadTold, ends_call, ticked}
 use Rattle.script_boards.proofs.OwedRows.{done_is, more_is, owed_row, row_inside, row_is, row_owes, row_runs}
 use Rattle.script_boards.proofs.ReadSteps.{read_ends, read_goes_on, row_has_read}
 use Rattle.script_boards.proofs.Rows.{set-there}
@@ -58,11 +58,11 @@ returns-in-More-clause-serves g c =
     let word : c.args.read.word < 2 ^ 64 = search rules in
     let value : v < 2 ^ 64 = search rules in
     let y : PartyRow = record { name = x.name; task = c.took.new.self } in
-    let last = more_is (is_last x.task v) c.in-More.ensures.progress in
+    let last = more_is (ends_call x.task v) c.in-More.ensures.progress in
     λ s rep reached l.
     read_goes_on m s rep reached.sound party at row (row_runs m party at o owes s rep) c.args.read (row_owes m party at o owes) v c.read_word-value.ensures.value board word value l _
     (ap (λ (d : Parties). d.tables) same.domain) (ap (λ (d : Parties). d.words) same.domain) same.rest.values same.rest.loans y (ap (λ (z : PartyRow). z.name) is) (c.took.ensures.call ∙ ap (λ (z : PartyRow). ticked z.task v) is)
-    (ap (λ (z : PartyRow). is_last z.task v) (sym is) ∙ last) (ap (λ (xs : List PartyRow). set xs at y) same.rest.parties)
+    (ap (λ (z : PartyRow). ends_call z.task v) (sym is) ∙ last) (ap (λ (xs : List PartyRow). set xs at y) same.rest.parties)
 
 pub returns-in_ok-told-in-Done-clause-serves : goal.returns-in_ok-told-in-Done-clause-serves
 returns-in_ok-told-in-Done-clause-serves g c =
@@ -81,7 +81,7 @@ returns-in_ok-told-in-Done-clause-serves g c =
     let value : v < 2 ^ 64 = search rules in
     let y : PartyRow = record { name = x.name; task = c.took.new.self } in
     let ticks : y.task ≡ ticked row.task v = c.took.ensures.call ∙ ap (λ (z : PartyRow). ticked z.task v) is in
-    let last = done_is (is_last x.task v) c.in-Done.ensures.progress in
+    let last = done_is (ends_call x.task v) c.in-Done.ensures.progress in
     let inside = subst (λ (xs : List PartyRow). at < length xs) (sym same.rest.parties) (row_inside m party at o owes) in
     let gone = c.remove-name.result in
     let gone_is : gone ≡ y = c.remove-name.ensures.value ∙ set-there c.read_word-value.new.self.parties.items at y gone inside in
@@ -93,4 +93,4 @@ returns-in_ok-told-in-Done-clause-serves g c =
     let name : y.name ≡ party = ap (λ (z : PartyRow). z.name) is ∙ runs.name in
     let told = subst (λ (p : List ℕ). IsReadTold mid c.tell_read.new.self p (ticked row.task v) c.in_ok-told-in-Done.told) name (subst (λ z. IsReadTold mid c.tell_read.new.self y.name z c.in_ok-told-in-Done.told) ticks told_y) in
     read_ends m s rep reached.sound party at row runs c.args.read (row_owes m party at o owes) v c.read_word-value.ensures.value board word value l mid c.tell_read.new.self
-    y ticks (ap (λ (z : PartyRow). is_last z.task v) (sym is) ∙ last) (ap (λ (d : Parties). d.tables) same.domain) (ap (λ (d : Parties). d.words) same.domain) same.rest.values same.rest.loans rows c.in_ok-told-in-Done.told told c.in_ok-told-in-Done.ensures.is_reply
+    y ticks (ap (λ (z : PartyRow). ends_call z.task v) (sym is) ∙ last) (ap (λ (d : Parties). d.tables) same.domain) (ap (λ (d : Parties). d.words) same.domain) same.rest.values same.rest.loans rows c.in_ok-told-in-Done.told told c.in_ok-told-in-Done.ensures.is_reply

@@ -1,7 +1,7 @@
 use Rattle.std.proofs.Common.{◌≡◌, List, rules, subst, sym}
 use Rattle.script_events.specs.declared.rows.EventRow.{EventRow}
 use Rattle.script_events.specs.declared.rows.Role.TheVariants as role
-use Rattle.script_events.specs.PartyEvents.{Holds, is_thing_of, thing_of}
+use Rattle.script_events.specs.PartyEvents.{Holds, is_thing_of, thing_in}
 use Rattle.script_events.proofs.Lists.{one_of}
 use Rattle.script_events.proofs.Releases.{has_listener, has_notifier, listener_let_go, notifier_let_go, same_calls}
 use Rattle.script_model.specs.ScriptEvents.{event_let_go}
@@ -13,7 +13,7 @@ take_thing-row-requires c =
     let m = c.args.self.now in
     let led = c.requires.led in
     let p = is_thing_of c.args.party.now c.args.name.now in
-    one_of thing_of (led.state.things c.args.party.now c.args.name.now) (filter p m.things.items) (led.represents.held.things c.args.party.now c.args.name.now) (c.requires.held led.state led.count led.few led.sound led.represents)
+    one_of thing_in (led.state.things c.args.party.now c.args.name.now) (filter p m.things.items) (led.represents.held.things c.args.party.now c.args.name.now) (c.requires.held led.state led.count led.few led.sound led.represents)
 
 pub release_listener-requires : goal.release_listener-requires
 release_listener-requires c =

@@ -5,7 +5,7 @@ use Rattle.board_names.specs.declared.errors.boards.EntryHandleMutError.TheVaria
 use Rattle.board_model.specs.declared.tables.Kind.TheVariants as kind
 use Rattle.board_model.specs.declared.tables.ThingKind.TheVariants as thing_kind
 use Rattle.board_model.specs.LawfulSession.{is_typed_key}
-use Rattle.board_model.specs.Replies.{is_key}
+use Rattle.board_model.specs.Replies.{keeps_key}
 use Rattle.board_model.specs.Tables.{board_at}
 use Rattle.board_model.specs.Things.{Held}
 use Rattle.board_model.specs.TypeTable.{value_detail}
@@ -36,10 +36,10 @@ invariant_of-self-in-Ok g c =
     let x = c.args.writer.now in
     let i = thing_of_call s.nodes.items s.numbers.items c.deref-2.result.now s.things.items c.deref.result.now s.core x c.number_of-number.result c.self.invariant (stands_in (shown g.C.Words.list s.core s.things.items) _ x c.self.view_is c.requires.stands)
     (c.deref.ensures.value ∙ c.reserve.ensures.items) (c.deref-2.ensures.value ∙ c.reserve-2.ensures.items) c.number_of-number.ensures in
-    let answer = subst (λ v. Answers (ok_of c.in-Ok.found) entry_mut_error.OutOfMemory (entry_mut_answer s.core (held s.core c.number_of-number.result) (entry_for s.core (held s.core c.number_of-number.result) (is_key c.args.key.now) v))) c.value_detail.ensures c.in-Ok.ensures.answer in
-    let ok = subst (λ v. c.entry_mut_in.new.core ≡ after_entry_mut s.core (held s.core c.number_of-number.result) (entry_for s.core (held s.core c.number_of-number.result) (is_key c.args.key.now) v)) c.value_detail.ensures c.in-Ok.ensures.ok in
+    let answer = subst (λ v. Answers (ok_of c.in-Ok.found) entry_mut_error.OutOfMemory (entry_mut_answer s.core (held s.core c.number_of-number.result) (entry_for s.core (held s.core c.number_of-number.result) (keeps_key c.args.key.now) v))) c.value_detail.ensures c.in-Ok.ensures.answer in
+    let ok = subst (λ v. c.entry_mut_in.new.core ≡ after_entry_mut s.core (held s.core c.number_of-number.result) (entry_for s.core (held s.core c.number_of-number.result) (keeps_key c.args.key.now) v)) c.value_detail.ensures c.in-Ok.ensures.ok in
     let new = from x c.args.name (kind.WriteHandle c.in-Ok.found.entry c.port_of.result) in
-    let both = entry_mut_made g.C.Words.list s.nodes.items s.numbers.items s.things.items s.core c.entry_mut_in.new.core x c.number_of-number.result c.args.name (is_key c.args.key.now) (value_detail c.args.value_type) c.in-Ok.found c.port_of.result
+    let both = entry_mut_made g.C.Words.list s.nodes.items s.numbers.items s.things.items s.core c.entry_mut_in.new.core x c.number_of-number.result c.args.name (keeps_key c.args.key.now) (value_detail c.args.value_type) c.in-Ok.found c.port_of.result
     c.self.invariant i c.port_of.ensures answer ok in
     carried (λ ns xs. IsNamed s.nodes.items ns xs c.entry_mut_in.new.core) (s.numbers.items ++ c.in-Ok.found.thing ∷ []) c.push_reserved-in-Ok.new.self.items (s.things.items ++ new ∷ []) c.push_reserved.new.self.items
     (sym (c.push_reserved-in-Ok.ensures.items ∙ ap (λ ns. ns ++ c.in-Ok.found.thing ∷ []) c.reserve-2.ensures.items))
@@ -51,10 +51,10 @@ returns-in-Ok-clause-asked g c =
     let x = c.args.writer.now in
     let i = thing_of_call s.nodes.items s.numbers.items c.deref-2.result.now s.things.items c.deref.result.now s.core x c.number_of-number.result c.self.invariant (stands_in (shown g.C.Words.list s.core s.things.items) _ x c.self.view_is c.requires.stands)
     (c.deref.ensures.value ∙ c.reserve.ensures.items) (c.deref-2.ensures.value ∙ c.reserve-2.ensures.items) c.number_of-number.ensures in
-    let answer = subst (λ v. Answers (ok_of c.in-Ok.found) entry_mut_error.OutOfMemory (entry_mut_answer s.core (held s.core c.number_of-number.result) (entry_for s.core (held s.core c.number_of-number.result) (is_key c.args.key.now) v))) c.value_detail.ensures c.in-Ok.ensures.answer in
-    let ok = subst (λ v. c.entry_mut_in.new.core ≡ after_entry_mut s.core (held s.core c.number_of-number.result) (entry_for s.core (held s.core c.number_of-number.result) (is_key c.args.key.now) v)) c.value_detail.ensures c.in-Ok.ensures.ok in
+    let answer = subst (λ v. Answers (ok_of c.in-Ok.found) entry_mut_error.OutOfMemory (entry_mut_answer s.core (held s.core c.number_of-number.result) (entry_for s.core (held s.core c.number_of-number.result) (keeps_key c.args.key.now) v))) c.value_detail.ensures c.in-Ok.ensures.answer in
+    let ok = subst (λ v. c.entry_mut_in.new.core ≡ after_entry_mut s.core (held s.core c.number_of-number.result) (entry_for s.core (held s.core c.number_of-number.result) (keeps_key c.args.key.now) v)) c.value_detail.ensures c.in-Ok.ensures.ok in
     let new = from x c.args.name (kind.WriteHandle c.in-Ok.found.entry c.port_of.result) in
-    let both = entry_mut_made g.C.Words.list s.nodes.items s.numbers.items s.things.items s.core c.entry_mut_in.new.core x c.number_of-number.result c.args.name (is_key c.args.key.now) (value_detail c.args.value_type) c.in-Ok.found c.port_of.result
+    let both = entry_mut_made g.C.Words.list s.nodes.items s.numbers.items s.things.items s.core c.entry_mut_in.new.core x c.number_of-number.result c.args.name (keeps_key c.args.key.now) (value_detail c.args.value_type) c.in-Ok.found c.port_of.result
     c.self.invariant i c.port_of.ensures answer ok in
     carried (λ now xs. IsEntryMut now (shown g.C.Words.list c.entry_mut_in.new.core xs) c.args.name x c.args.key.now c.args.value_type (reply.Number c.in-Ok.found.place)) (shown g.C.Words.list s.core s.things.items) c.args.self.now (s.things.items ++ new ∷ []) c.push_reserved.new.self.items
     c.self.view_is (c.push_reserved.ensures.items ∙ ap (λ (xs : List Held). xs ++ new ∷ []) c.reserve.ensures.items) both.0
@@ -66,8 +66,8 @@ returns-in-Err-clause-asked g c =
     let i = thing_of_call s.nodes.items s.numbers.items c.deref-2.result.now s.things.items c.deref.result.now s.core x c.number_of-number.result c.self.invariant (stands_in (shown g.C.Words.list s.core s.things.items) _ x c.self.view_is c.requires.stands)
     (c.deref.ensures.value ∙ c.reserve.ensures.items) (c.deref-2.ensures.value ∙ c.reserve-2.ensures.items) c.number_of-number.ensures in
     let few = subst (λ p. IsFew p) (sym c.self.view_is) c.requires.few in
-    let answer = subst (λ v. Answers (err_of c.in-Err.why) entry_mut_error.OutOfMemory (entry_mut_answer s.core (held s.core c.number_of-number.result) (entry_for s.core (held s.core c.number_of-number.result) (is_key c.args.key.now) v))) c.value_detail.ensures c.in-Err.ensures.answer in
+    let answer = subst (λ v. Answers (err_of c.in-Err.why) entry_mut_error.OutOfMemory (entry_mut_answer s.core (held s.core c.number_of-number.result) (entry_for s.core (held s.core c.number_of-number.result) (keeps_key c.args.key.now) v))) c.value_detail.ensures c.in-Err.ensures.answer in
     let memory : c.in-Err.why ≢ entry_mut_error.OutOfMemory = search rules in
     carried (λ now xs. IsEntryMut now (shown g.C.Words.list c.entry_mut_in.new.core xs) c.args.name x c.args.key.now c.args.value_type (reply.EntryMutError c.in-Err.why)) (shown g.C.Words.list s.core s.things.items) c.args.self.now s.things.items c.reserve.new.self.items
     c.self.view_is c.reserve.ensures.items
-    (entry_mut_not_made g.C.Words.list s.nodes.items s.numbers.items s.things.items s.core c.entry_mut_in.new.core x c.number_of-number.result c.args.name (is_key c.args.key.now) (value_detail c.args.value_type) c.in-Err.why c.self.invariant i few.things memory answer c.in-Err.ensures.err)
+    (entry_mut_not_made g.C.Words.list s.nodes.items s.numbers.items s.things.items s.core c.entry_mut_in.new.core x c.number_of-number.result c.args.name (keeps_key c.args.key.now) (value_detail c.args.value_type) c.in-Err.why c.self.invariant i few.things memory answer c.in-Err.ensures.err)
