@@ -1,5 +1,5 @@
 use Rattle.std.proofs.Common.{arith, refl, [], None}
-use Rattle.script_loop.specs.Runs.{StandsFor}
+use Rattle.script_loop.specs.Machines.{StandsFor}
 use Rattle.script_loop.proofs.RunLemmas.{goes_on, starts}
 use Rattle.board_rows.proofs.row.answers_each_line.Goals as goal
 

@@ -1,5 +1,5 @@
 use Rattle.std.specs.Prelude.{None}
-use Rattle.script_loop.specs.Runs.{HasRun}
+use Rattle.script_loop.specs.Machines.{HasRun}
 use Rattle.board_rows.proofs.row.answers_each_line.Given as goal
 
 abbrev pub invariant-loop-n : goal.invariant-loop-n
