@@ -2,7 +2,7 @@
 use Rattle.std.proofs.Common.{◌≡◌, ◌≢◌, ◌⊎◌, inl, inr, ℕ, ◌+◌, ◌*◌, ◌%◌, ◌<◌, ◌≤◌, ap, ◌∙◌, ⊎_elim, arith}
 use mathlib.Core.Logic.{dite}
 use native.Mathlib.Decide.{ℕ_discrete}
-use Rattle.board_cell_model.specs.Copies.{copy_at}
+use Rattle.board_cell_model.specs.OwedAccesses.{copy_at}
 use Rattle.board_cell.specs.Passes.{threaded_shape}
 
 first_copy : (w g : ℕ) → g % 2 ≡ 0 → copy_at (threaded_shape w) g ≡ 2

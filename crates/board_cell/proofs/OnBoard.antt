@@ -2,7 +2,7 @@
 use Rattle.std.proofs.Common.{◌≡◌, ℕ, ◌+◌, ◌<◌, List, [], length, slice_index, sym, ap, ◌∙◌, arith}
 use Rattle.std.proofs.lemmas.Grind.{common_steps}
 use Rattle.board_layout.specs.declared.shape.CellShape.{CellShape}
-use Rattle.board_cell_model.specs.Copies.{spare_at, current_at}
+use Rattle.board_cell_model.specs.OwedAccesses.{spare_at, current_at}
 use Rattle.board_cell_model.specs.OwedAccesses.{Owed, to_table, to_read, to_write, opening, trying, owed_read, owed_write}
 use Rattle.board_cell.specs.Calls.{on_board, Getting, Updating, Asking}
 use Rattle.board_cell.specs.Passes.{threaded_shape}

@@ -8,7 +8,7 @@ use lib.ListN.{get_elem?}
 use mathlib.Core.Option.{none, some}
 use Rattle.atomic_table.specs.Table.{step, keeps, stepped, Allows}
 use Rattle.atomic_table.proofs.Lists.{set_else}
-use Rattle.board_cell_model.specs.Copies.{copy_at}
+use Rattle.board_cell_model.specs.OwedAccesses.{copy_at}
 use Rattle.board_cell.specs.Passes.{threaded_shape, note, Stands, NotesRise}
 use Rattle.board_cell.specs.Rule.{last_of, ReaderFits, Kept}
 use Rattle.board_cell.specs.Views.{reader_of, with_open, with_found, noted_if, with_close, with_load, opens, reads, closes, glances}

@@ -7,7 +7,7 @@ use lib.ListN.{get_elem?, get_or-append}
 use mathlib.Core.Option.{some, some-injective, some-ne-none}
 use Rattle.atomic_table.specs.Table.{opening, Splits, Joins}
 use Rattle.atomic_table.proofs.Lists.{at_snoc, at_longer, set_again, set_else}
-use Rattle.board_cell_model.specs.Copies.{current_at}
+use Rattle.board_cell_model.specs.OwedAccesses.{current_at}
 use Rattle.board_cell.specs.Passes.{threaded_shape, Stands}
 use Rattle.board_cell.specs.Rule.{ReaderFits, Fits, Kept, new_cell_words, opening_view}
 use Rattle.board_cell.specs.Views.{writer_of, reader_of, newcomer, writer_with, reader_with, joined_view}

@@ -9,7 +9,7 @@ use mathlib.Core.Option.{none, some}
 use native.Mathlib.Decide.{ℕ_discrete}
 use Rattle.atomic_table.specs.Table.{step, keeps, Allows}
 use Rattle.atomic_table.proofs.Lists.{set_again}
-use Rattle.board_cell_model.specs.Copies.{copy_at}
+use Rattle.board_cell_model.specs.OwedAccesses.{copy_at}
 use Rattle.board_cell.specs.Passes.{threaded_shape, Stands}
 use Rattle.board_cell.specs.Rule.{Fits, KeptBy, Kept}
 use Rattle.board_cell.specs.Views.{writer_of, with_pending, with_publish, puts, publishes, looks}

@@ -4,7 +4,7 @@ use Rattle.std.specs.List.{All}
 use mathlib.Core.Option.{some}
 use lib.ListN.{get_elem?}
 use Rattle.atomic_table.specs.Table.{State}
-use Rattle.board_cell_model.specs.Copies.{spare_at, current_at}
+use Rattle.board_cell_model.specs.OwedAccesses.{spare_at, current_at}
 use Rattle.board_cell.specs.Passes.{threaded_shape, Stands, NotesRise}
 use Rattle.board_cell.specs.declared.threaded.view.Note.{Note}
 use Rattle.board_cell.specs.declared.threaded.view.WriterView.{WriterView}

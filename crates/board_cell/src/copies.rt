@@ -1,5 +1,5 @@
 ghost use Rattle.std.specs.Prelude.{◌≡◌, ◌+◌, ◌^◌, ◌<◌};
-ghost use Rattle.board_cell_model.specs.Copies.{spare_at, current_at};
+ghost use Rattle.board_cell_model.specs.OwedAccesses.{spare_at, current_at};
 ghost use Rattle.board_layout.specs.Layout.{cell_end};
 
 use board_layout::CellShape;

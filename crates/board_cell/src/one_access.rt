@@ -1,7 +1,7 @@
 //! The calls of one access: a word of a loan is put, the counter is raised at a loan's end, and the counter is looked at.
 ghost use Rattle.std.specs.Prelude.{ℕ, ◌≡◌, ◌+◌, ◌^◌, ◌<◌, ◌==◌, true, false, None, Some, IsSome, IfSome};
 ghost use Rattle.board_layout.specs.Layout.{cell_end};
-ghost use Rattle.board_cell_model.specs.Copies.{spare_at};
+ghost use Rattle.board_cell_model.specs.OwedAccesses.{spare_at};
 ghost use Rattle.board_cell_model.specs.OwedAccesses.{to_read, to_write};
 ghost use Rattle.board_cell.specs.Calls.{on_board};
 ghost use Rattle.board_cell.specs.declared.access.Progress.TheVariants.{Done};

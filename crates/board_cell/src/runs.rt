@@ -1,6 +1,6 @@
 //! Whole runs of a call.
 ghost use Rattle.std.specs.Prelude.{ℕ, ◌≡◌, ◌≤◌, ◌+◌, ◌==◌, true, false, [], ◌∷◌, ◌++◌, List, length, map, slice_get, None, option_map, IfOk, OnOk};
-ghost use Rattle.board_cell_model.specs.Copies.{spare_at};
+ghost use Rattle.board_cell_model.specs.OwedAccesses.{spare_at};
 ghost use Rattle.board_cell_model.specs.OwedAccesses.{to_write, opening, is_finished, reading_from};
 ghost use Rattle.board_cell.specs.Calls.{on_board};
 ghost use Rattle.board_cell.specs.Runs.{AreNoted, owed_reads, owed_looks, owed_writes};

@@ -1,3 +1,2 @@
 -- where a cell's copies lie, and which accesses its calls owe
-pub mod Copies
 pub mod OwedAccesses

@@ -1,9 +1,24 @@
 -- The accesses that reads and publications of an entry owe, from the accesses that they have made so far.
-use Rattle.std.specs.Prelude.{ℕ, ◌+◌, Bool, true, false, ◌==◌, if◌then◌else◌, List, [], ◌∷◌, ◌++◌, length, slice_index}
+use Rattle.std.specs.Prelude.{ℕ, ◌+◌, ◌*◌, ◌%◌, Bool, true, false, ◌==◌, if◌then◌else◌, List, [], ◌∷◌, ◌++◌, length, slice_index}
 use Rattle.board_layout.specs.declared.shape.CellShape.{CellShape}
 use Rattle.board_cell_model.specs.declared.access.Access.{Access}
 use Rattle.board_cell_model.specs.declared.access.Access.TheVariants as access
-use Rattle.board_cell_model.specs.Copies.{spare_at, current_at}
+
+-- ---- the two copies of a cell: at counter g the spare copy is number g mod 2, and the current one is the other
+
+-- the first word of copy number g mod 2
+abbrev pub copy_at : CellShape → ℕ → ℕ
+copy_at c g = c.first + c.head + g % 2 * c.words
+
+-- the first word of the copy that is spare at counter g
+abbrev pub spare_at : CellShape → ℕ → ℕ
+spare_at c g = copy_at c g
+
+-- the first word of the copy that is current at counter g
+abbrev pub current_at : CellShape → ℕ → ℕ
+current_at c g = copy_at c (g + 1)
+
+-- ---- accesses
 
 -- an access as it is owed: which word is read is owed, and what is read there is the memory's to say
 pub data Owed : Type 0 where

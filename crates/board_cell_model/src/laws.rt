@@ -1,7 +1,7 @@
 //! Laws of one cell, over the definitions alone.
 ghost use Rattle.std.specs.Prelude.{ℕ, ◌≡◌, ◌≢◌, ◌+◌, ◌<◌, ◌≤◌, ◌⊎◌, List, [], ◌∷◌, ◌++◌, length, slice_index};
 ghost use Rattle.board_layout.specs.declared.shape.CellShape.{CellShape};
-ghost use Rattle.board_cell_model.specs.Copies.{current_at, spare_at};
+ghost use Rattle.board_cell_model.specs.OwedAccesses.{current_at, spare_at};
 ghost use Rattle.board_cell_model.specs.OwedAccesses.{Reading, finished, hear, opening, owed_write, reading_from, to_write, trying};
 
 /// What a get hears in a run is what it hears word by word.

@@ -17,8 +17,8 @@ use Rattle.board_event_model.specs.Ids.{Ids, IsWord, has}
 use Rattle.board_event_model.specs.EventMemory.{CanPerform, Event, IsRight, after, is_bits}
 use Rattle.board_event_model.specs.NotifyCalls.{Notify, is_yes, notify_owed}
 use Rattle.board_event_model.specs.WaitCalls.{Wait, first_word, is_try, least_id, nothing, scanned, swapped, wait_bits, wait_owed, wait_turn, word_in}
-use Rattle.board_event_model.specs.EventCalls.{EventCall, a_notify, a_wait, is_last, owed, turn}
-use Rattle.board_event_model.specs.EventRuns.{EventMove, IsAllowed, IsCallOf, IsReached, IsRun, Moment, PartyName, RunningCall, abandon, begin, call_of, elsewhere, expire, listened, moved, new_call, notifiers, put, release_listener, run_to, step, stepped}
+use Rattle.board_event_model.specs.EventCalls.{EventCall, a_notify, a_wait, is_last, owed, turn, PartyName, RunningCall, call_of, new_call}
+use Rattle.board_event_model.specs.EventRuns.{EventMove, IsAllowed, IsCallOf, IsReached, IsRun, Moment, abandon, begin, elsewhere, expire, listened, moved, notifiers, put, release_listener, run_to, step, stepped}
 use Rattle.board_event_model.specs.LawsOfAccesses.{PerformLaw}
 use Rattle.board_event_model.proofs.SetLemmas.{either}
 use Rattle.board_event_model.proofs.QuietLemmas.{StageFits, NotifyFits}

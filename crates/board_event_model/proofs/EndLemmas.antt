@@ -16,8 +16,8 @@ use Rattle.board_event_model.specs.declared.call.WaitStage.TheVariants as wait
 use Rattle.board_event_model.specs.EventMemory.{Event, IsRight, after, is_bits, is_pending, pop_answer, push_answer, taken}
 use Rattle.board_event_model.specs.NotifyCalls.{Notify, is_yes, notify_owed, notify_queue, notify_turn, pushed}
 use Rattle.board_event_model.specs.WaitCalls.{Wait, nothing, popped, swapped, wait_owed, wait_queue, wait_turn, word_in}
-use Rattle.board_event_model.specs.EventCalls.{EventCall, a_notify, a_wait, is_last, owed, reported, turn}
-use Rattle.board_event_model.specs.EventRuns.{EventMove, IsAllowed, IsCallOf, IsReached, IsRun, MetAccess, Moment, PartyName, RunningCall, Takes, abandon, begin, call_of, elsewhere, expire, listened, moved, new_call, notifiers, put, release_listener, run_to, step, stepped, went_on}
+use Rattle.board_event_model.specs.EventCalls.{EventCall, a_notify, a_wait, is_last, owed, reported, turn, MetAccess, PartyName, RunningCall, call_of, new_call, went_on}
+use Rattle.board_event_model.specs.EventRuns.{EventMove, IsAllowed, IsCallOf, IsReached, IsRun, Moment, Takes, abandon, begin, elsewhere, expire, listened, moved, notifiers, put, release_listener, run_to, step, stepped}
 use Rattle.board_event_model.specs.LawsOfCalls.{IsNotifyOk, IsOneOf, NoneLaw, NotifyLaw, QueueLaw, SeesEmptyWord, taken_by}
 use Rattle.board_event_model.proofs.SetLemmas.{or_left, or_right, either}
 use Rattle.board_event_model.proofs.QuietLemmas.{eqb_true, eqb_self, StageFits}

@@ -14,8 +14,8 @@ use Rattle.board_event_model.specs.Ids.{Ids, IsWord, ids_where}
 use Rattle.board_event_model.specs.EventMemory.{Event, IsRight, is_bits, pop_answer}
 use Rattle.board_event_model.specs.NotifyCalls.{is_yes}
 use Rattle.board_event_model.specs.WaitCalls.{Wait, first_word, is_try, nothing, popped, scanned, swapped, wait_bits, wait_owed, wait_queue, wait_turn, word_in}
-use Rattle.board_event_model.specs.EventCalls.{EventCall, a_notify, a_wait, is_last, owed, reported, turn}
-use Rattle.board_event_model.specs.EventRuns.{EventMove, IsAllowed, IsCallOf, IsReached, IsRun, Moment, PartyName, RunningCall, abandon, begin, call_of, elsewhere, expire, listened, moved, new_call, notifiers, put, release_listener, run_to, step, stepped}
+use Rattle.board_event_model.specs.EventCalls.{EventCall, a_notify, a_wait, is_last, owed, reported, turn, PartyName, RunningCall, call_of, new_call}
+use Rattle.board_event_model.specs.EventRuns.{EventMove, IsAllowed, IsCallOf, IsReached, IsRun, Moment, abandon, begin, elsewhere, expire, listened, moved, notifiers, put, release_listener, run_to, step, stepped}
 use Rattle.board_event_model.specs.LawsOfCalls.{NothingLaw}
 use Rattle.board_event_model.proofs.SetLemmas.{either}
 use Rattle.board_event_model.proofs.QuietLemmas.{eqb_self, eqb_true}

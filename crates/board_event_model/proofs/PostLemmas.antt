@@ -15,8 +15,8 @@ use Rattle.board_event_model.specs.declared.call.WaitStage.TheVariants as wait
 use Rattle.board_event_model.specs.EventMemory.{is_bits, IsRight}
 use Rattle.board_event_model.specs.NotifyCalls.{Notify, is_yes, notify_bits, notify_owed, notify_queue, notify_turn}
 use Rattle.board_event_model.specs.WaitCalls.{wait_owed}
-use Rattle.board_event_model.specs.EventCalls.{EventCall, a_notify, a_wait, is_last, owed, turn}
-use Rattle.board_event_model.specs.EventRuns.{EventMove, IsAllowed, IsCallOf, IsRun, Moment, PartyName, RunningCall, abandon, begin, call_of, elsewhere, expire, listened, moved, new_call, notifiers, put, release_listener, run_to, step, stepped}
+use Rattle.board_event_model.specs.EventCalls.{EventCall, a_notify, a_wait, is_last, owed, turn, PartyName, RunningCall, call_of, new_call}
+use Rattle.board_event_model.specs.EventRuns.{EventMove, IsAllowed, IsCallOf, IsRun, Moment, abandon, begin, elsewhere, expire, listened, moved, notifiers, put, release_listener, run_to, step, stepped}
 use Rattle.board_event_model.specs.LawsOfQuiet.{PostLaw, PostsFollowSets, has_set, is_a_set}
 use Rattle.board_event_model.proofs.SetLemmas.{and_join, either, or_left, or_right}
 use Rattle.board_event_model.proofs.QuietLemmas.{eqb_self, is_posting}

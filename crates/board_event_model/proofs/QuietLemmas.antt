@@ -18,8 +18,7 @@ use Rattle.board_event_model.specs.Ids.{Ids, IsWord, has, in_word}
 use Rattle.board_event_model.specs.EventMemory.{Event, IsRight, after, yes_or_no}
 use Rattle.board_event_model.specs.NotifyCalls.{Notify, is_yes, notify_owed, notify_turn}
 use Rattle.board_event_model.specs.WaitCalls.{Wait, first_word, is_try, nothing, scanned, swapped, wait_owed, wait_turn, word_in}
-use Rattle.board_event_model.specs.EventCalls.{is_last}
-use Rattle.board_event_model.specs.EventRuns.{TakenAccess}
+use Rattle.board_event_model.specs.EventCalls.{is_last, TakenAccess}
 use Rattle.board_event_model.specs.LawsOfQuiet.{IsOpen, IsQuiet, has_ended, sets, last_setter, words_seen}
 use Rattle.board_event_model.proofs.SetLemmas.{or_split, and_split, not_true, is_false, either, has_inserted, has_retained}
 

@@ -19,8 +19,8 @@ use Rattle.board_event_model.specs.Ids.{Ids, has, in_word}
 use Rattle.board_event_model.specs.EventMemory.{Event, IsRight, after, is_bits, yes_or_no}
 use Rattle.board_event_model.specs.NotifyCalls.{Notify, is_yes, notify_bits, notify_owed, notify_turn}
 use Rattle.board_event_model.specs.WaitCalls.{Wait, first_word, is_try, nothing, scanned, swapped, wait_bits, wait_owed, wait_turn, word_in}
-use Rattle.board_event_model.specs.EventCalls.{EventCall, a_notify, a_wait, is_last, owed, turn}
-use Rattle.board_event_model.specs.EventRuns.{EventMove, IsAllowed, IsCallOf, IsReached, IsRun, Moment, PartyName, RunningCall, TakenAccess, abandon, begin, call_of, elsewhere, expire, listened, moved, new_call, notifiers, put, release_listener, run_to, step, stepped, went_on}
+use Rattle.board_event_model.specs.EventCalls.{EventCall, a_notify, a_wait, is_last, owed, turn, PartyName, RunningCall, TakenAccess, call_of, new_call, went_on}
+use Rattle.board_event_model.specs.EventRuns.{EventMove, IsAllowed, IsCallOf, IsReached, IsRun, Moment, abandon, begin, elsewhere, expire, listened, moved, notifiers, put, release_listener, run_to, step, stepped}
 use Rattle.board_event_model.specs.LawsOfQuiet.{IsQuiet, QuietLaw, SeenLaw, has_ended, sets, last_setter, words_seen}
 use Rattle.board_event_model.proofs.SetLemmas.{or_split, and_split, is_false, either, has_inserted, has_removed, has_retained, has_empty}
 use Rattle.board_event_model.proofs.QuietLemmas.{is_posting, NotifyFits, StageFits, notify_keeps, wait_goes, eqb_true, eqb_self, ltb_false}

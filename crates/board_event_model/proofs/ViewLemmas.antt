@@ -8,8 +8,8 @@ use Rattle.board_event_model.specs.declared.kind.EventKind.{EventKind}
 use Rattle.board_event_model.specs.declared.access.EventAccess.{EventAccess}
 use Rattle.board_event_model.specs.declared.access.EventAnswer.{EventAnswer}
 use Rattle.board_event_model.specs.EventMemory.{Event, IsRight, after, new_event}
-use Rattle.board_event_model.specs.EventCalls.{EventCall, is_last, is_timed, owed, turn}
-use Rattle.board_event_model.specs.EventRuns.{EventMove, IsAllowed, IsCallOf, IsReached, Moment, PartyName, RunningCall, TakenAccess, abandon, begin, call_of, elsewhere, expire, listened, moved, new_call, notifiers, put, release_listener, step, stepped, went_on}
+use Rattle.board_event_model.specs.EventCalls.{EventCall, is_last, is_timed, owed, turn, PartyName, RunningCall, TakenAccess, call_of, new_call, went_on}
+use Rattle.board_event_model.specs.EventRuns.{EventMove, IsAllowed, IsCallOf, IsReached, Moment, abandon, begin, elsewhere, expire, listened, moved, notifiers, put, release_listener, step, stepped}
 use Rattle.board_event_model.specs.EventSessions.{EventLine, EventSession, IsEventLine, IsEventSession, MayTake, PartyCall, StandingEvent, abandon_of, begin_on, do_at, doing_on, event_of, expire_of, gone_with, history_on, listen, next_session, notifiers_of, release_of, running_on, session_of, step_of, stepped_on, took_step, view}
 use Rattle.board_event_model.specs.LawsOfSessions.{SessionLaw}
 use Rattle.board_event_model.proofs.SetLemmas.{either, is_false}

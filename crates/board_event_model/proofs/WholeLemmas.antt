@@ -16,8 +16,8 @@ use Rattle.board_event_model.specs.Ids.{Ids, IsWord, has, ids_where, in_word}
 use Rattle.board_event_model.specs.EventMemory.{Event, IsRight, after, is_bits}
 use Rattle.board_event_model.specs.NotifyCalls.{Notify, is_yes, notify_owed}
 use Rattle.board_event_model.specs.WaitCalls.{Wait, first_word, swapped, wait_bits, wait_owed, wait_turn, word_in}
-use Rattle.board_event_model.specs.EventCalls.{EventCall, a_notify, a_wait, is_last, owed, reported, turn}
-use Rattle.board_event_model.specs.EventRuns.{EventMove, IsAllowed, IsCallOf, IsReached, IsRun, MetAccess, Moment, PartyName, RunningCall, abandon, begin, call_of, elsewhere, expire, listened, moved, new_call, notifiers, put, release_listener, run_to, step, stepped, went_on}
+use Rattle.board_event_model.specs.EventCalls.{EventCall, a_notify, a_wait, is_last, owed, reported, turn, MetAccess, PartyName, RunningCall, call_of, new_call, went_on}
+use Rattle.board_event_model.specs.EventRuns.{EventMove, IsAllowed, IsCallOf, IsReached, IsRun, Moment, abandon, begin, elsewhere, expire, listened, moved, notifiers, put, release_listener, run_to, step, stepped}
 use Rattle.board_event_model.specs.LawsOfCalls.{AllLaw, first_step}
 use Rattle.board_event_model.proofs.SetLemmas.{or_split, or_left, or_right, either, has_kept, has_retain}
 use Rattle.board_event_model.proofs.QuietLemmas.{eqb_true, eqb_self, StageFits}

@@ -1,5 +1,5 @@
--- The calls on an event: the accesses that they owe, as a fold over the answers so far, and what they report.
-use Rattle.std.specs.Prelude.{ℕ, ◌-◌, Bool, true, false, ◌==◌, List, [], ◌∷◌}
+-- The calls on an event: the accesses that they owe, as a fold over the answers so far, what they report, and what is kept of one that runs.
+use Rattle.std.specs.Prelude.{ℕ, ◌-◌, Bool, true, false, ◌==◌, if◌then◌else◌, List, [], ◌∷◌, ◌++◌, Option, Some, None}
 use Rattle.std.specs.Int.{bit_at}
 use Rattle.board_event_model.specs.declared.access.EventAccess.{EventAccess}
 use Rattle.board_event_model.specs.declared.access.EventAnswer.{EventAnswer}
@@ -9,6 +9,7 @@ use Rattle.board_event_model.specs.declared.call.WaitMode.TheVariants as mode
 use Rattle.board_event_model.specs.Ids.{ids_where}
 use Rattle.board_event_model.specs.NotifyCalls.{Notify, notify_owed, notify_turn}
 use Rattle.board_event_model.specs.WaitCalls.{Wait, wait_owed, wait_turn}
+use Rattle.board_event_model.specs.EventMemory.{Event}
 
 -- a call
 pub data EventCall : Type 0 where
@@ -61,3 +62,51 @@ is_last progress.Nothing = true
 abbrev pub is_waiting : EventProgress → Bool
 is_waiting progress.Waiting = true
 is_waiting _ = false
+
+-- ---- calls that run
+
+-- a party is known by its name
+abbrev pub PartyName : Type 0
+PartyName = List ℕ
+
+-- an access of a call, and the memory that it met
+pub record MetAccess : Type 0 where
+  pub met : Event
+  pub access : EventAccess
+
+-- a call that runs: its number among the calls, how it began, its answers so far, the ids that it has reported, its accesses,
+-- and whether the last one was a waiting look that found nothing. Of answers and accesses the last one comes first
+pub record RunningCall : Type 0 where
+  pub number : ℕ
+  pub first : EventCall
+  pub answers : List EventAnswer
+  pub told : List ℕ
+  pub steps : List MetAccess
+  pub waited : Bool
+
+-- how a running call stands
+abbrev pub call_of : RunningCall → EventCall
+call_of r = answered r.first r.answers
+
+-- an access of the call with this number, and whether it was its last
+pub record TakenAccess : Type 0 where
+  pub call : ℕ
+  pub access : EventAccess
+  pub last : Bool
+
+-- a call that begins
+abbrev pub new_call : ℕ → EventCall → RunningCall
+new_call number call = record { number = number; first = call; answers = []; told = []; steps = []; waited = false }
+
+-- what is left of a call after an access: nothing, where it was its last
+abbrev pub went_on : RunningCall → Event → EventAccess → EventAnswer → Option RunningCall
+went_on r e a answer =
+    if is_last (turn (call_of r) answer).0 then None
+    else Some (record {
+      number = r.number;
+      first = r.first;
+      answers = answer ∷ r.answers;
+      told = r.told ++ reported (turn (call_of r) answer).0;
+      steps = record { met = e; access = a } ∷ r.steps;
+      waited = is_waiting (turn (call_of r) answer).0;
+    })

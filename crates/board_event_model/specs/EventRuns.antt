@@ -7,36 +7,7 @@ use Rattle.board_event_model.specs.declared.access.EventAnswer.{EventAnswer}
 use Rattle.board_event_model.specs.EventMemory.{Event, new_event, is_bits, IsRight, after}
 use Rattle.board_event_model.specs.NotifyCalls.{notify_bits, notify_queue}
 use Rattle.board_event_model.specs.WaitCalls.{wait_bits, wait_queue}
-use Rattle.board_event_model.specs.EventCalls.{EventCall, a_notify, a_wait, answered, owed, turn, reported, is_last, is_waiting, is_timed}
-
--- a party is known by its name
-abbrev pub PartyName : Type 0
-PartyName = List ℕ
-
--- an access of a call, and the memory that it met
-pub record MetAccess : Type 0 where
-  pub met : Event
-  pub access : EventAccess
-
--- a call that runs: its number among the calls, how it began, its answers so far, the ids that it has reported, its accesses,
--- and whether the last one was a waiting look that found nothing. Of answers and accesses the last one comes first
-pub record RunningCall : Type 0 where
-  pub number : ℕ
-  pub first : EventCall
-  pub answers : List EventAnswer
-  pub told : List ℕ
-  pub steps : List MetAccess
-  pub waited : Bool
-
--- how a running call stands
-abbrev pub call_of : RunningCall → EventCall
-call_of r = answered r.first r.answers
-
--- an access of the call with this number, and whether it was its last
-pub record TakenAccess : Type 0 where
-  pub call : ℕ
-  pub access : EventAccess
-  pub last : Bool
+use Rattle.board_event_model.specs.EventCalls.{EventCall, a_notify, a_wait, answered, owed, turn, reported, is_last, is_waiting, is_timed, PartyName, MetAccess, RunningCall, call_of, TakenAccess, new_call, went_on}
 
 -- where a run stands: the event, its listener's party, the calls that run, how many have begun, and all accesses so far, the last one first
 pub record Moment : Type 0 where
@@ -74,23 +45,6 @@ IsAllowed now (abandon p) = ⊤
 IsAllowed now release_listener = now.running now.listener ≡ None
 IsAllowed now (notifiers n) = ⊤
 IsAllowed now elsewhere = ⊤
-
--- a call that begins
-abbrev pub new_call : ℕ → EventCall → RunningCall
-new_call number call = record { number = number; first = call; answers = []; told = []; steps = []; waited = false }
-
--- what is left of a call after an access: nothing, where it was its last
-abbrev pub went_on : RunningCall → Event → EventAccess → EventAnswer → Option RunningCall
-went_on r e a answer =
-    if is_last (turn (call_of r) answer).0 then None
-    else Some (record {
-      number = r.number;
-      first = r.first;
-      answers = answer ∷ r.answers;
-      told = r.told ++ reported (turn (call_of r) answer).0;
-      steps = record { met = e; access = a } ∷ r.steps;
-      waited = is_waiting (turn (call_of r) answer).0;
-    })
 
 -- after an access of a party's call
 abbrev pub stepped : Moment → PartyName → EventAccess → EventAnswer → Option RunningCall → Moment

@@ -5,8 +5,8 @@ use Rattle.board_event_model.specs.declared.kind.EventKind.{EventKind}
 use Rattle.board_event_model.specs.declared.access.EventAccess.{EventAccess}
 use Rattle.board_event_model.specs.declared.access.EventAnswer.{EventAnswer}
 use Rattle.board_event_model.specs.EventMemory.{Event, new_event, IsRight, after}
-use Rattle.board_event_model.specs.EventCalls.{EventCall, owed, turn, is_last, is_timed}
-use Rattle.board_event_model.specs.EventRuns.{PartyName, RunningCall, TakenAccess, Moment, new_call, went_on, IsCallOf, call_of}
+use Rattle.board_event_model.specs.EventCalls.{EventCall, owed, turn, is_last, is_timed, PartyName, RunningCall, TakenAccess, new_call, went_on, call_of}
+use Rattle.board_event_model.specs.EventRuns.{Moment, IsCallOf}
 
 -- an event, and its listener's party
 pub record StandingEvent : Type 0 where

@@ -1,8 +1,8 @@
 -- A running call can take the access that it owes.
 use Rattle.std.specs.Prelude.{◌≡◌, ◌-◌, ◌<◌, ◌^◌, length, Some}
 use Rattle.board_event_model.specs.EventMemory.{CanPerform}
-use Rattle.board_event_model.specs.EventCalls.{owed}
-use Rattle.board_event_model.specs.EventRuns.{PartyName, RunningCall, Moment, IsReached, call_of}
+use Rattle.board_event_model.specs.EventCalls.{owed, PartyName, RunningCall, call_of}
+use Rattle.board_event_model.specs.EventRuns.{Moment, IsReached}
 
 -- the access that a running call owes can be made, while fewer than 2 ^ 64 - 1 accesses were taken
 abbrev pub PerformLaw : Type 0

@@ -11,8 +11,8 @@ use Rattle.board_event_model.specs.Ids.{has, in_word}
 use Rattle.board_event_model.specs.EventMemory.{is_bits, after, taken, is_pending}
 use Rattle.board_event_model.specs.NotifyCalls.{Notify}
 use Rattle.board_event_model.specs.WaitCalls.{Wait}
-use Rattle.board_event_model.specs.EventCalls.{a_notify, a_wait, turn, reported, is_last}
-use Rattle.board_event_model.specs.EventRuns.{PartyName, MetAccess, RunningCall, Moment, expire, IsAllowed, IsReached, Takes, call_of}
+use Rattle.board_event_model.specs.EventCalls.{a_notify, a_wait, turn, reported, is_last, PartyName, MetAccess, RunningCall, call_of}
+use Rattle.board_event_model.specs.EventRuns.{Moment, expire, IsAllowed, IsReached, Takes}
 
 -- the ids that a call's own accesses took, in order
 abbrev pub taken_by : List MetAccess → List ℕ

@@ -8,8 +8,8 @@ use Rattle.board_event_model.specs.declared.call.WaitStage.TheVariants as wait
 use Rattle.board_event_model.specs.Ids.{has}
 use Rattle.board_event_model.specs.EventMemory.{Event, is_bits}
 use Rattle.board_event_model.specs.WaitCalls.{Wait}
-use Rattle.board_event_model.specs.EventCalls.{a_wait}
-use Rattle.board_event_model.specs.EventRuns.{PartyName, RunningCall, TakenAccess, Moment, IsReached, Takes, call_of}
+use Rattle.board_event_model.specs.EventCalls.{a_wait, PartyName, RunningCall, TakenAccess, call_of}
+use Rattle.board_event_model.specs.EventRuns.{Moment, IsReached, Takes}
 
 -- whether an access sets this id
 abbrev pub sets : EventAccess → ℕ → Bool

@@ -7,8 +7,8 @@ use Rattle.board_event_model.specs.declared.call.WaitMode.TheVariants as mode
 use Rattle.board_event_model.specs.declared.kind.EventKind.TheVariants as kind
 use Rattle.board_event_model.specs.NotifyCalls.{notify_bits}
 use Rattle.board_event_model.specs.WaitCalls.{wait_bits}
-use Rattle.board_event_model.specs.EventCalls.{a_notify, a_wait}
-use Rattle.board_event_model.specs.EventRuns.{EventMove, IsRun, PartyName, begin, expire, listened, step}
+use Rattle.board_event_model.specs.EventCalls.{a_notify, a_wait, PartyName}
+use Rattle.board_event_model.specs.EventRuns.{EventMove, IsRun, begin, expire, listened, step}
 
 -- the two parties
 abbrev pub e : PartyName

@@ -6,8 +6,8 @@ use Rattle.std.proofs.lemmas.Nat.{pow-add}
 use Rattle.std.proofs.lemmas.Bool.{cases_lt}
 use Rattle.std.proofs.lemmas.List.{get_or-take, get_or-drop, get_or_past, length-take}
 use Rattle.std.proofs.lemmas.List.Elements.{All-head, All-tail}
-use Rattle.board_layout.specs.Bytes.{BeginsWithBytes, byte_at, byte_of}
-use Rattle.board_layout.specs.Keys.{little, words_in}
+use Rattle.board_layout.specs.Bytes.{BeginsWithBytes, byte_at, byte_of, little}
+use Rattle.board_layout.specs.Keys.{words_in}
 use Rattle.board_layout.specs.Words.{AreWordsOf}
 
 power_next : (n : ℕ) → 2 ^ (8 * suc n) ≡ 256 * 2 ^ (8 * n)

@@ -1,12 +1,6 @@
 -- Keys as values.
-use Rattle.std.specs.Prelude.{ℕ, zero, suc, ◌+◌, ◌*◌, Bool, List, [], ◌∷◌, take, drop}
-use Rattle.board_layout.specs.declared.type_detail.TypeDetail.{TypeDetail}
-use Rattle.board_layout.specs.declared.type_detail.TypeVariant.TheVariants.{FixedSize}
-
--- the number of these bytes, the low one first
-abbrev pub little : List ℕ → ℕ
-little [] = 0
-little (b ∷ bytes) = b + 256 * little bytes
+use Rattle.std.specs.Prelude.{ℕ, zero, suc, Bool, List, [], ◌∷◌, take, drop}
+use Rattle.board_layout.specs.Bytes.{little}
 
 -- this many words of bytes, the low byte first, with zeros behind
 abbrev pub words_in : ℕ → List ℕ → List ℕ
@@ -24,7 +18,3 @@ same_keys eq value_of size words a b = eq (key_value value_of size words a) (key
 -- whether a key is equal to a value
 abbrev pub is_key : {K : Type 0} → (K → K → Bool) → (List ℕ → K) → ℕ → ℕ → K → List ℕ → Bool
 is_key eq value_of size words key bytes = eq (key_value value_of size words bytes) key
-
--- what is told of a type whose values have one size
-abbrev pub details : List ℕ → ℕ → ℕ → TypeDetail
-details name size alignment = record { variant = FixedSize; type_name = name; size = size; alignment = alignment }

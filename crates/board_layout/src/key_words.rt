@@ -1,5 +1,6 @@
 //! Bytes as words, and words as bytes, the low byte first.
 ghost use Rattle.std.specs.Prelude.{◌≡◌, ◌+◌, ◌*◌, ◌^◌, ◌<◌, ◌≤◌, length};
+ghost use Rattle.board_layout.specs.Bytes as layout;
 ghost use Rattle.board_layout.specs.Bytes.{byte_of, BeginsWithBytes};
 ghost use Rattle.board_layout.specs.Keys as keys;
 
@@ -29,7 +30,7 @@ pub(crate) fn put_bytes<const CAPACITY: usize>(words: &[u64], size: usize) -> [u
 // The number of these bytes.
 fn little(bytes: &[u8]) -> u64
     requires { length bytes.now ≤ 8 }
-    ensures value { result ≡ keys.little bytes.now }
+    ensures value { result ≡ layout.little bytes.now }
     ensures bound { result < 2 ^ (8 * length bytes.now) }
 {
     match bytes {

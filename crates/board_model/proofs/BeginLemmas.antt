@@ -16,7 +16,7 @@ use Rattle.board_model.specs.declared.tables.ThingKind.TheVariants as thing_kind
 use Rattle.board_model.specs.declared.value.Value.{Value}
 use Rattle.board_model.specs.declared.value.ValueType.{ValueType}
 use Rattle.board_model.specs.declared.value.ValueType.TheVariants as type
-use Rattle.board_cell_model.specs.Copies.{spare_at}
+use Rattle.board_cell_model.specs.OwedAccesses.{spare_at}
 use Rattle.board_model.specs.TypeTable.{same_type, type_of, value_detail, value_words, word_count}
 use Rattle.board_model.specs.Tables.{entry_at, entry_of, is_write_handle, kind_of, same_kind, writes_entry}
 use Rattle.board_model.specs.Things.{Held, Standing, held_of_kind, of_kind, thing_of}

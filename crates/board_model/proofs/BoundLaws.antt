@@ -3,9 +3,8 @@ use Rattle.std.proofs.Common.{◌≡◌, ℕ, ◌+◌, ◌<◌, ◌≤◌, Bool,
 use Rattle.std.specs.Prelude.{◌==◌, if◌then◌else◌, slice_index}
 use Rattle.std.proofs.lemmas.Bool.{eqb-false}
 use Rattle.board_layout.specs.declared.shape.CellShape.{CellShape}
-use Rattle.board_cell_model.specs.Copies.{current_at, spare_at}
 use Rattle.board_layout.specs.Layout.{cell_end, cell_shape}
-use Rattle.board_cell_model.specs.OwedAccesses.{Reading, finished, opening, owed_read, owed_write, to_read, to_write, trying}
+use Rattle.board_cell_model.specs.OwedAccesses.{Reading, finished, opening, owed_read, owed_write, to_read, to_write, trying, current_at, spare_at}
 use Rattle.board_model.specs.TypeTable.{value_words}
 use Rattle.board_model.specs.Requests.{Request, fill, fresh, get, publish, put, table, update}
 use Rattle.board_model.specs.Parties.{Running, owed, reading}

@@ -5,7 +5,7 @@ use Rattle.std.proofs.lemmas.Bool.{cases_eq}
 use Rattle.std.specs.Prelude.{◌⊎◌}
 use Rattle.board_layout.specs.declared.shape.CellShape.{CellShape}
 use Rattle.board_model.specs.Replies.{latest}
-use Rattle.board_cell_model.specs.Copies.{copy_at, spare_at, current_at}
+use Rattle.board_cell_model.specs.OwedAccesses.{copy_at, spare_at, current_at}
 use Rattle.board_layout.specs.Layout.{cell_end}
 use Rattle.board_model.specs.Sound.{Stands, IsCell}
 

@@ -7,7 +7,7 @@ use Rattle.std.specs.Prelude.{◌⊎◌, ◌==◌, if◌then◌else◌}
 use Rattle.board_cell_model.specs.declared.access.Access.{Access}
 use Rattle.board_layout.specs.declared.shape.CellShape.{CellShape}
 use Rattle.board_model.specs.Replies.{latest}
-use Rattle.board_cell_model.specs.Copies.{current_at}
+use Rattle.board_cell_model.specs.OwedAccesses.{current_at}
 use Rattle.board_cell_model.specs.OwedAccesses.{Reading, opening, trying, finished, hear, heard, reading_from, owed_read, to_read, is_finished}
 use Rattle.board_model.specs.Parties.{reading}
 use Rattle.board_model.specs.Sound.{IsCell, IsTrying, IsReading}

@@ -3,8 +3,7 @@ use Rattle.std.proofs.Common.{◌≡◌, ℕ, zero, suc, ◌+◌, ◌-◌, ◌*�
 use Rattle.std.specs.Prelude.{◌==◌, ◌&&◌, nat_le, not}
 use Rattle.std.specs.List.{list_all}
 use Rattle.std.proofs.lemmas.Bool.{and_parts, leb-true, ne_eqb}
-use Rattle.board_layout.specs.Bytes.{byte_of}
-use Rattle.board_layout.specs.Keys.{little}
+use Rattle.board_layout.specs.Bytes.{byte_of, little}
 use Rattle.board_model.specs.declared.value.Key.{Key}
 use Rattle.board_model.specs.declared.value.Key.TheVariants as key
 use Rattle.board_model.specs.LineGrammar.{IsKey, is_visible, is_visible_byte}

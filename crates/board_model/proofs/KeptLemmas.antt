@@ -10,7 +10,7 @@ use Rattle.board_cell_model.specs.declared.access.Access.TheVariants as access
 use Rattle.board_model.specs.declared.tables.Board.{Board}
 use Rattle.board_model.specs.declared.tables.ThingKind.{ThingKind}
 use Rattle.board_model.specs.declared.value.Key.{Key}
-use Rattle.board_cell_model.specs.Copies.{spare_at}
+use Rattle.board_cell_model.specs.OwedAccesses.{spare_at}
 use Rattle.board_model.specs.TypeTable.{value_words}
 use Rattle.board_model.specs.Tables.{Tables, board_at, entry_at, entry_in, entry_of, is_write_handle}
 use Rattle.board_model.specs.Things.{Held, Standing, thing_of}

@@ -18,7 +18,7 @@ use Rattle.board_model.specs.declared.value.AddedEntry.{AddedEntry}
 use Rattle.board_model.specs.declared.value.KeyType.{KeyType}
 use Rattle.board_model.specs.declared.value.Value.{Value}
 use Rattle.board_model.specs.declared.value.Value.TheVariants as value
-use Rattle.board_cell_model.specs.Copies.{spare_at}
+use Rattle.board_cell_model.specs.OwedAccesses.{spare_at}
 use Rattle.board_cell_model.specs.OwedAccesses.{owed_of, owed_write, to_write}
 use Rattle.board_model.specs.LineGrammar.{IsAddedEntry, IsCall, IsNumber, IsValue}
 use Rattle.board_model.specs.TypeTable.{value_words}

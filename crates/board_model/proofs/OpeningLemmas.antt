@@ -14,7 +14,7 @@ use Rattle.board_model.specs.declared.value.Value.{Value}
 use Rattle.board_model.specs.declared.value.Value.TheVariants as value
 use Rattle.board_model.specs.declared.value.ValueType.{ValueType}
 use Rattle.board_model.specs.declared.value.ValueType.TheVariants as type
-use Rattle.board_cell_model.specs.Copies.{current_at}
+use Rattle.board_cell_model.specs.OwedAccesses.{current_at}
 use Rattle.board_model.specs.TypeTable.{type_of, value_detail, value_words, word_count}
 use Rattle.board_model.specs.Tables.{Added, entries_of, shape_of, shapes_of}
 use Rattle.board_model.specs.Replies.{added_of, first_list}

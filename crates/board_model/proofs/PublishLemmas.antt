@@ -7,7 +7,7 @@ use Rattle.std.proofs.lemmas.Option.{same_Some}
 use Rattle.std.proofs.Math.Nat.{mul-le-mul_right}
 use Rattle.board_layout.specs.declared.shape.CellShape.{CellShape}
 use Rattle.board_cell_model.specs.declared.access.Access.TheVariants as access
-use Rattle.board_cell_model.specs.Copies.{spare_at}
+use Rattle.board_cell_model.specs.OwedAccesses.{spare_at}
 use Rattle.board_cell_model.specs.OwedAccesses.{Reading, finished, opening, trying}
 use Rattle.board_model.specs.Tables.{entry_at, entry_of}
 use Rattle.board_model.specs.Things.{Standing, thing_of, with_at, with_name}

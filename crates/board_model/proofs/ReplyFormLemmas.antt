@@ -16,7 +16,7 @@ use Rattle.board_model.specs.declared.value.KeyType.{KeyType}
 use Rattle.board_model.specs.declared.value.ValueType.{ValueType}
 use Rattle.board_model.specs.LineGrammar.{IsKey, IsNumber, is_name}
 use Rattle.board_model.specs.AnswerGrammar.{IsReply, is_create_reply, is_entry_mut_reply, is_entry_reply, is_open_reply, is_reader_reply, is_writer_reply}
-use Rattle.board_cell_model.specs.Copies.{current_at}
+use Rattle.board_cell_model.specs.OwedAccesses.{current_at}
 use Rattle.board_model.specs.TypeTable.{key_bytes, key_detail, key_of, key_type_of, same_key, type_of_key, value_detail}
 use Rattle.board_model.specs.Tables.{board_at, board_named, entry_at, entry_found, entry_of, has_name, is_last_of_port, is_node, is_numbered, is_of_board, is_reader_of, nodes_taken, port_of, writer_slots}
 use Rattle.board_model.specs.TableCalls.{asked, create_refusals, created, entry_mut_refusals, entry_refusals, first_of, id_of, joined, number_of, open_refusals, reader_refusals, with_read_handle, with_reader, with_write_handle, with_writer, writer_refusals}

@@ -7,7 +7,7 @@ use Rattle.board_cell_model.specs.declared.access.Access.{Access}
 use Rattle.board_cell_model.specs.declared.access.Access.TheVariants as access
 use Rattle.board_model.specs.declared.tables.Board.{Board}
 use Rattle.board_model.specs.Tables.{board_at, entry_in}
-use Rattle.board_cell_model.specs.Copies.{current_at}
+use Rattle.board_cell_model.specs.OwedAccesses.{current_at}
 use Rattle.board_cell_model.specs.OwedAccesses.{Reading, finished, heard, hear, opening, owed_of, owed_read, to_read, to_table, to_write, trying}
 use Rattle.board_model.specs.Requests.{Fetch, Request, get}
 use Rattle.board_model.specs.Memory.{IsStanding}

@@ -3,8 +3,7 @@ use Rattle.std.proofs.Common.{◌≡◌, ℕ, zero, suc, ◌+◌, ◌-◌, ◌<�
 use Rattle.std.specs.List.{AllByRecursion}
 use Rattle.std.proofs.Math.Seq.{take-append_seam}
 use Rattle.std.proofs.lemmas.List.{length-append, length-replicate, replicate-append-replicate}
-use Rattle.board_layout.specs.Bytes.{byte_of}
-use Rattle.board_layout.specs.Text.{padded}
+use Rattle.board_layout.specs.Bytes.{byte_of, padded}
 use Rattle.board_model.specs.declared.value.Key.TheVariants as key
 use Rattle.board_model.specs.ShortKeys.{IsShortKey}
 use Rattle.board_model.specs.TypeTable.{key_bytes}

@@ -30,7 +30,7 @@ use Rattle.board_model.specs.declared.value.KeyType.{KeyType}
 use Rattle.board_model.specs.declared.value.Value.{Value}
 use Rattle.board_model.specs.declared.value.ValueType.{ValueType}
 use Rattle.board_model.specs.TypeTable.{key_detail, same_key, same_type, value_detail, value_words}
-use Rattle.board_cell_model.specs.Copies.{spare_at}
+use Rattle.board_cell_model.specs.OwedAccesses.{spare_at}
 use Rattle.board_cell_model.specs.OwedAccesses.{Reading, finished, hear, is_finished, opening, owed_of, owed_read, owed_write, to_read, to_table, to_write, trying}
 use Rattle.board_model.specs.Tables.{board_at, board_named, entry_at, entry_found, entry_from, entry_in, has_equal_keys, has_name, is_numbered, is_write_handle, of_type, port_of, shapes_of}
 use Rattle.board_model.specs.TableCalls.{asked, entry_mut_refusals, entry_refusals, id_of, create_refusals, created, first_of, is_corrupted, joined, number_of, open_refusals, place_of, with_thing}

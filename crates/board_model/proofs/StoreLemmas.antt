@@ -10,7 +10,7 @@ use Rattle.board_layout.specs.declared.shape.CellShape.{CellShape}
 use Rattle.board_cell_model.specs.declared.access.Access.TheVariants as access
 use Rattle.board_model.specs.declared.tables.Board.{Board}
 use Rattle.board_model.specs.declared.tables.Entry.{Entry}
-use Rattle.board_cell_model.specs.Copies.{spare_at}
+use Rattle.board_cell_model.specs.OwedAccesses.{spare_at}
 use Rattle.board_layout.specs.Layout.{cell_end, cell_shape}
 use Rattle.board_model.specs.Tables.{board_at, entry_at, entry_in, entry_of, is_write_handle}
 use Rattle.board_model.specs.Things.{Held, Standing, is_held_as, thing_of}

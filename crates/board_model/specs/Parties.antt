@@ -6,7 +6,7 @@ use Rattle.board_cell_model.specs.declared.access.Access.{Access}
 use Rattle.board_cell_model.specs.declared.access.Access.TheVariants as access
 use Rattle.board_model.specs.declared.answer.Reply.{Reply}
 use Rattle.board_model.specs.declared.answer.Reply.TheVariants as reply
-use Rattle.board_cell_model.specs.Copies.{spare_at}
+use Rattle.board_cell_model.specs.OwedAccesses.{spare_at}
 use Rattle.board_cell_model.specs.OwedAccesses.{Owed, Reading, finished, heard, is_finished, opening, owed_read, owed_write, reading_from, to_read, to_table, to_write, trying}
 use Rattle.board_model.specs.TypeTable.{value_type_of, value_words}
 use Rattle.board_model.specs.Requests.{Request, fill, fresh, get, publish, put, table, update}

@@ -12,9 +12,8 @@ use Rattle.board_model.specs.declared.tables.ThingKind.TheVariants as thing_kind
 use Rattle.board_model.specs.declared.value.Key.{Key}
 use Rattle.board_model.specs.declared.value.KeyType.{KeyType}
 use Rattle.board_model.specs.declared.value.ValueType.{ValueType}
-use Rattle.board_cell_model.specs.Copies.{current_at, spare_at}
 use Rattle.board_layout.specs.Layout.{cell_end, cell_shape}
-use Rattle.board_cell_model.specs.OwedAccesses.{Reading, finished, opening, trying}
+use Rattle.board_cell_model.specs.OwedAccesses.{Reading, finished, opening, trying, current_at, spare_at}
 use Rattle.board_model.specs.TypeTable.{key_detail, value_detail, value_words, word_count}
 use Rattle.board_model.specs.Tables.{Tables, board_at, entry_at, entry_of, is_numbered, is_write_handle, kind_of}
 use Rattle.board_model.specs.Things.{Held, Standing, thing_of}

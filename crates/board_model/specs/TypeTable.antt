@@ -5,9 +5,7 @@ use Rattle.std.specs.Char.{to_ascii_lowercase}
 use Rattle.board_layout.specs.declared.type_detail.TypeDetail.{TypeDetail}
 use Rattle.board_layout.specs.declared.type_detail.TypeVariant.{TypeVariant}
 use Rattle.board_layout.specs.declared.type_detail.TypeVariant.TheVariants.{FixedSize, Dynamic}
-use Rattle.board_layout.specs.Bytes.{byte_of}
-use Rattle.board_layout.specs.Keys.{details, little}
-use Rattle.board_layout.specs.Text.{padded}
+use Rattle.board_layout.specs.Bytes.{byte_of, padded, details, little}
 use Rattle.board_model.specs.declared.value.KeyType.{KeyType}
 use Rattle.board_model.specs.declared.value.KeyType.TheVariants as key_type
 use Rattle.board_model.specs.declared.value.ValueType.{ValueType}

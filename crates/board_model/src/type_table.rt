@@ -1,6 +1,6 @@
 //! The key types and value types of a script: their details, the words of a value, and the bytes of a key.
 ghost use Rattle.std.specs.Prelude.{◌≡◌, ◌≤◌, ◌++◌, ◌∷◌, [], IfOk, length, take};
-ghost use Rattle.board_layout.specs.Text.{padded};
+ghost use Rattle.board_layout.specs.Bytes.{padded};
 ghost use Rattle.board_model.specs.ShortKeys.{IsShortKey};
 ghost use Rattle.board_model.specs.TypeTable as types;
 

@@ -1,6 +1,7 @@
 //! What stands in the tables.
 ghost use Rattle.std.specs.Prelude.{◌≡◌, ◌≤◌, ◌<◌, ◌==◌, length, Option, option_map, find, slice_get, remove, Some, OnSome, ◌+◌, MatchOption, IfSome, IfNone, IsSome, nat_le, true};
 ghost use Rattle.std.specs.List.{list_any, position_from};
+ghost use Rattle.board_layout.specs.Bytes.{details};
 ghost use Rattle.board_layout.specs.Keys as keys;
 ghost use Rattle.board_model.specs.Tables as tables;
 ghost use Rattle.board_model.specs.TypeTable as types;
@@ -177,7 +178,7 @@ pub(crate) fn find_entry<'a, K: BoardKey>(
     value: &TypeDetail,
     boards: &'a [BoardRow],
 ) -> Option<(u64, &'a Entry)>
-    requires { tables.holds_at (find (tables.is_numbered number) boards.now) (λ b. types.same_type b.key (keys.details K.type_bytes K.SIZE K.ALIGNMENT)) ≡ true }
+    requires { tables.holds_at (find (tables.is_numbered number) boards.now) (λ b. types.same_type b.key (details K.type_bytes K.SIZE K.ALIGNMENT)) ≡ true }
     ensures { option_map (λ f. (f.0, f.1.now)) result ≡ tables.entry_found (find (tables.is_numbered number) boards.now) (keys.is_key K.eq K.value_of K.SIZE K.WORDS key.now) value.now }
 {
     match board_at(number, boards) {
@@ -188,7 +189,7 @@ pub(crate) fn find_entry<'a, K: BoardKey>(
 
 // The entry of a board with the key, with its place.
 fn entry_with<'a, K: BoardKey>(key: &K, board: &'a BoardRow) -> Option<(u64, &'a Entry)>
-    requires { types.same_type board.now.key (keys.details K.type_bytes K.SIZE K.ALIGNMENT) ≡ true }
+    requires { types.same_type board.now.key (details K.type_bytes K.SIZE K.ALIGNMENT) ≡ true }
     ensures { option_map (λ f. (f.0, f.1.now)) result ≡ tables.entry_from 0 (keys.is_key K.eq K.value_of K.SIZE K.WORDS key.now) board.now.entries }
 {
     entry_from::<K>(key, board.entries.as_slice())

@@ -2,7 +2,7 @@
 use Rattle.std.proofs.Common.{◌≡◌, ℕ, ◌+◌, ◌≤◌, Bool, true, false, cond, List, length, arith, refl, sym, Option}
 use Rattle.std.specs.Prelude.{◌==◌, not, nat_lt}
 use Rattle.std.proofs.lemmas.Bool.{eq-eqb, ltb-false, ltb-true, ne_eqb}
-use Rattle.board_cell_model.specs.Copies.{spare_at}
+use Rattle.board_cell_model.specs.OwedAccesses.{spare_at}
 use Rattle.board_cell_model.specs.OwedAccesses.{owed_read, owed_write, to_read, to_write}
 use Rattle.board_cell.specs.Calls.{Asking, Getting, Publishing, Putting, Updating, on_board}
 use Rattle.board_cell.specs.declared.access.Access.{Access}

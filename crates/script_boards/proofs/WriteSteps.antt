@@ -10,9 +10,8 @@ use Rattle.board_model.specs.declared.answer.Answer.TheVariants as answer
 use Rattle.board_model.specs.declared.answer.Reply.TheVariants as reply
 use Rattle.board_model.specs.declared.line.Line.TheVariants as line
 use Rattle.board_model.specs.declared.tables.Board.{Board}
-use Rattle.board_cell_model.specs.Copies.{spare_at}
 use Rattle.board_model.specs.LineGrammar.{IsNumber, IsLine}
-use Rattle.board_cell_model.specs.OwedAccesses.{owed_write, to_write}
+use Rattle.board_cell_model.specs.OwedAccesses.{owed_write, to_write, spare_at}
 use Rattle.board_model.specs.Memory.{memory_after, store}
 use Rattle.board_model.specs.Requests.{Lending, Request, fill, publish, put, update}
 use Rattle.board_model.specs.Replies.{ask}

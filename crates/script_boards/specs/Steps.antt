@@ -5,7 +5,7 @@ use Rattle.board_model.specs.declared.answer.Reply.{Reply}
 use Rattle.board_model.specs.declared.answer.Reply.TheVariants as reply
 use Rattle.board_model.specs.declared.tables.Entry.{Entry}
 use Rattle.board_model.specs.declared.value.ValueType.{ValueType}
-use Rattle.board_cell_model.specs.Copies.{spare_at}
+use Rattle.board_cell_model.specs.OwedAccesses.{spare_at}
 use Rattle.board_cell_model.specs.OwedAccesses.{Owed, hear, is_finished, owed_read, owed_write, to_read, to_write}
 use Rattle.board_model.specs.declared.tables.ThingKind.TheVariants as thing_kind
 use Rattle.board_model.specs.LawfulSession.{is_typed_key}

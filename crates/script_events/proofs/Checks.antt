@@ -5,8 +5,7 @@ use Rattle.board_model.proofs.ThingLemmas.{same_to_itself}
 use Rattle.board_model.specs.declared.answer.Reason.TheVariants as reason
 use Rattle.board_model.specs.LawfulSession.{State}
 use Rattle.board_event_model.specs.EventMemory.{Event}
-use Rattle.board_event_model.specs.EventCalls.{EventCall}
-use Rattle.board_event_model.specs.EventRuns.{new_call}
+use Rattle.board_event_model.specs.EventCalls.{EventCall, new_call}
 use Rattle.board_event_model.specs.EventSessions.{PartyCall, do_at}
 use Rattle.board_event.specs.EventTable.{EventTable, event_at}
 use Rattle.board_event_model.specs.declared.call.WaitMode.{WaitMode}

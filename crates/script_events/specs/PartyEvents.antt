@@ -10,8 +10,7 @@ use Rattle.std.specs.Str.{bytes_eq}
 use Rattle.board_names.specs.Table.{at}
 use Rattle.board_event_model.specs.declared.kind.EventKind.{EventKind}
 use Rattle.board_event_model.specs.EventMemory.{Event, has_holder}
-use Rattle.board_event_model.specs.EventCalls.{EventCall, a_notify, a_wait}
-use Rattle.board_event_model.specs.EventRuns.{call_of}
+use Rattle.board_event_model.specs.EventCalls.{EventCall, a_notify, a_wait, call_of}
 use Rattle.board_event_model.specs.EventSessions.{PartyCall, event_of}
 use Rattle.board_event.specs.EventTable.{EventTable, event_at, names_of}
 use Rattle.board_model.specs.declared.answer.Reason.{Reason}

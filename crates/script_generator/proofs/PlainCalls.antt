@@ -18,7 +18,7 @@ use Rattle.board_model.specs.declared.tables.Entry.{Entry}
 use Rattle.board_model.specs.declared.tables.ThingKind.TheVariants as thing_kind
 use Rattle.board_model.specs.Tables.{entry_of}
 use Rattle.board_model.specs.LawfulSession.{IsOwedStep, IsReasoned, IsRight, State, after, after_step, reason_of, step_reason, stepped}
-use Rattle.board_cell_model.specs.Copies.{spare_at}
+use Rattle.board_cell_model.specs.OwedAccesses.{spare_at}
 use Rattle.board_cell_model.specs.OwedAccesses.{Reading, finished, opening, owed_of, owed_read, owed_write, to_read, to_table, to_write, trying}
 use Rattle.board_model.specs.Parties.{Party, Running, begun, free, gone, notice, owed, reading, running, with_party}
 use Rattle.board_model.specs.Requests.{Published, Request, and_then, info, entry, entry_mut, fill, fresh, get, handle_of, handled, identified, id, keys, nodes, publish, put, reader, request_of, table, gen, update, writer}

@@ -9,8 +9,7 @@ use Rattle.board_names.specs.declared.errors.event.NotifierNotifyError.{Notifier
 use Rattle.board_names.specs.declared.errors.event.NotifierNotifyError.TheVariants as notify_error
 use Rattle.board_event_model.specs.declared.kind.EventKind.{EventKind}
 use Rattle.board_event_model.specs.declared.kind.EventKind.TheVariants as kind
-use Rattle.board_event_model.specs.EventCalls.{owed, turn}
-use Rattle.board_event_model.specs.EventRuns.{RunningCall, call_of}
+use Rattle.board_event_model.specs.EventCalls.{owed, turn, RunningCall, call_of}
 use Rattle.board_event_model.specs.EventSessions.{PartyCall, StandingEvent, event_of}
 use Rattle.board_event_model.specs.WaitCalls.{word_in}
 use Rattle.board_model.specs.declared.answer.Answer.{Answer}

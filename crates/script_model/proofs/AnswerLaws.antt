@@ -8,8 +8,7 @@ use Rattle.board_event_model.specs.declared.access.EventAnswer.TheVariants as ev
 use Rattle.board_event_model.specs.Ids.{Ids, IsWord}
 use Rattle.board_event_model.specs.EventMemory.{Event, IsWordAnswer}
 use Rattle.board_event_model.specs.EventMemory as memory
-use Rattle.board_event_model.specs.EventCalls.{owed, turn}
-use Rattle.board_event_model.specs.EventRuns.{RunningCall, call_of}
+use Rattle.board_event_model.specs.EventCalls.{owed, turn, RunningCall, call_of}
 use Rattle.board_event_model.specs.EventSessions.{PartyCall, event_of}
 use Rattle.board_model.proofs.AnswerLaws.{one_answer as one_board_answer}
 use Rattle.script_model.specs.declared.line.ScriptLine.{ScriptLine}

@@ -10,8 +10,8 @@ use Rattle.board_event_model.specs.declared.call.WaitStage.{WaitStage}
 use Rattle.board_event_model.specs.declared.call.WaitStage.TheVariants as wait
 use Rattle.board_event_model.specs.EventMemory.{CanPerform, IsRight}
 use Rattle.board_event_model.specs.WaitCalls.{Wait, wait_turn}
-use Rattle.board_event_model.specs.EventCalls.{EventCall, a_notify, a_wait, is_last, owed, reported, turn}
-use Rattle.board_event_model.specs.EventRuns.{IsReached, Moment, RunningCall, Takes, call_of}
+use Rattle.board_event_model.specs.EventCalls.{EventCall, a_notify, a_wait, is_last, owed, reported, turn, RunningCall, call_of}
+use Rattle.board_event_model.specs.EventRuns.{IsReached, Moment, Takes}
 use Rattle.board_event_model.specs.EventSessions.{SessionAccess, history_on, PartyCall, StandingEvent, running_on, view}
 use Rattle.board_event_model.specs.LawsOfCalls.{progress_with, taken_by}
 use Rattle.board_event_model.proofs.AccessLemmas.{perform_law_holds}

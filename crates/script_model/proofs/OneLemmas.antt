@@ -11,8 +11,8 @@ use Rattle.board_event_model.specs.declared.call.WaitStage.TheVariants as wait
 use Rattle.board_event_model.specs.EventMemory.{Event, is_bits}
 use Rattle.board_event_model.specs.NotifyCalls.{is_yes}
 use Rattle.board_event_model.specs.WaitCalls.{Wait, is_try, nothing, popped, scanned, swapped, wait_bits, wait_queue, wait_turn, word_in}
-use Rattle.board_event_model.specs.EventCalls.{EventCall, a_notify, a_wait, reported, turn}
-use Rattle.board_event_model.specs.EventRuns.{EventMove, IsAllowed, IsCallOf, IsReached, IsRun, Moment, PartyName, RunningCall, abandon, begin, call_of, elsewhere, expire, listened, moved, new_call, notifiers, put, release_listener, run_to, step, stepped, went_on}
+use Rattle.board_event_model.specs.EventCalls.{EventCall, a_notify, a_wait, reported, turn, PartyName, RunningCall, call_of, new_call, went_on}
+use Rattle.board_event_model.specs.EventRuns.{EventMove, IsAllowed, IsCallOf, IsReached, IsRun, Moment, abandon, begin, elsewhere, expire, listened, moved, notifiers, put, release_listener, run_to, step, stepped}
 use Rattle.board_event_model.proofs.SetLemmas.{either}
 use Rattle.board_event_model.proofs.SoundLemmas.{gone_on, none_some, put_each, some_same}
 

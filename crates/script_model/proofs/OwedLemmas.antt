@@ -9,8 +9,8 @@ use Rattle.board_event_model.specs.declared.access.EventAnswer.{EventAnswer}
 use Rattle.board_event_model.specs.declared.access.EventAnswer.TheVariants as event_answer
 use Rattle.board_event_model.specs.EventMemory.{CanPerform, Event}
 use Rattle.board_event_model.specs.EventMemory as memory
-use Rattle.board_event_model.specs.EventCalls.{EventCall, a_notify, a_wait, owed, turn}
-use Rattle.board_event_model.specs.EventRuns.{IsReached, call_of}
+use Rattle.board_event_model.specs.EventCalls.{EventCall, a_notify, a_wait, owed, turn, call_of}
+use Rattle.board_event_model.specs.EventRuns.{IsReached}
 use Rattle.board_event_model.specs.EventSessions.{EventSession, PartyCall, SessionAccess, StandingEvent, event_of, history_on, running_on, view}
 use Rattle.board_event_model.proofs.SetLemmas.{either}
 use Rattle.board_event_model.proofs.AccessLemmas.{perform_law_holds}

@@ -7,8 +7,8 @@ use Rattle.board_event_model.specs.declared.kind.EventKind.TheVariants as kind
 use Rattle.board_event_model.specs.EventMemory.{Event, is_bits}
 use Rattle.board_event_model.specs.NotifyCalls.{notify_bits, notify_queue}
 use Rattle.board_event_model.specs.WaitCalls.{wait_bits, wait_queue}
-use Rattle.board_event_model.specs.EventCalls.{EventCall, is_timed}
-use Rattle.board_event_model.specs.EventRuns.{IsCallOf, call_of, new_call}
+use Rattle.board_event_model.specs.EventCalls.{EventCall, is_timed, call_of, new_call}
+use Rattle.board_event_model.specs.EventRuns.{IsCallOf}
 use Rattle.board_event_model.specs.EventSessions.{IsEventLine, PartyCall, StandingEvent, begin_on, expire_of}
 use Rattle.board_event_model.proofs.SetLemmas.{and_split, either}
 use Rattle.board_event_model.proofs.SoundLemmas.{none_some, some_same}

@@ -7,8 +7,7 @@ use Rattle.std.proofs.lemmas.Slice.Eq.{bytes_eq-Decides}
 use Rattle.board_event_model.specs.declared.access.EventAccess.{EventAccess}
 use Rattle.board_event_model.specs.declared.access.EventAnswer.{EventAnswer}
 use Rattle.board_event_model.specs.EventMemory.{Event, IsRight, after}
-use Rattle.board_event_model.specs.EventCalls.{EventCall, is_last, owed, turn}
-use Rattle.board_event_model.specs.EventRuns.{RunningCall, call_of, new_call, went_on}
+use Rattle.board_event_model.specs.EventCalls.{EventCall, is_last, owed, turn, RunningCall, call_of, new_call, went_on}
 use Rattle.board_event_model.specs.EventSessions.{EventLine, EventSession, IsEventLine, MayTake, PartyCall, StandingEvent, abandon_of, begin_on, do_at, doing_on, expire_of, gone_with, next_session, step_of, stepped_on, took_step}
 use Rattle.board_event_model.proofs.SetLemmas.{and_join, and_split, is_false}
 use Rattle.board_event_model.proofs.SoundLemmas.{none_some, some_same}

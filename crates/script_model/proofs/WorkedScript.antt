@@ -8,8 +8,7 @@ use Rattle.board_event_model.specs.declared.call.WaitMode.TheVariants as mode
 use Rattle.board_event_model.specs.declared.kind.EventKind.TheVariants as kind
 use Rattle.board_event_model.specs.NotifyCalls.{notify_queue}
 use Rattle.board_event_model.specs.WaitCalls.{wait_queue}
-use Rattle.board_event_model.specs.EventCalls.{a_notify, a_wait}
-use Rattle.board_event_model.specs.EventRuns.{RunningCall, new_call}
+use Rattle.board_event_model.specs.EventCalls.{a_notify, a_wait, RunningCall, new_call}
 use Rattle.board_cell_model.specs.declared.access.Access.TheVariants as access
 use Rattle.board_model.specs.declared.answer.Reply.TheVariants as reply
 use Rattle.board_model.specs.declared.value.ValueType.TheVariants as type

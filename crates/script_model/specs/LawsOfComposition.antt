@@ -7,8 +7,7 @@ use Rattle.board_event_model.specs.declared.access.EventAnswer.{EventAnswer}
 use Rattle.board_event_model.specs.declared.access.EventAnswer.TheVariants as event_answer
 use Rattle.board_event_model.specs.EventMemory.{taken}
 use Rattle.board_event_model.specs.WaitCalls.{Wait}
-use Rattle.board_event_model.specs.EventCalls.{a_wait}
-use Rattle.board_event_model.specs.EventRuns.{RunningCall, call_of}
+use Rattle.board_event_model.specs.EventCalls.{a_wait, RunningCall, call_of}
 use Rattle.board_event_model.specs.EventSessions.{StandingEvent}
 use Rattle.board_model.specs.declared.answer.Answer.{Answer}
 use Rattle.board_model.specs.declared.answer.Answer.TheVariants as answer

@@ -9,8 +9,7 @@ use Rattle.board_event_model.specs.declared.kind.EventKind.{EventKind}
 use Rattle.board_event_model.specs.Ids.{has}
 use Rattle.board_event_model.specs.EventMemory.{CanPerform, is_bits}
 use Rattle.board_event_model.specs.WaitCalls.{Wait}
-use Rattle.board_event_model.specs.EventCalls.{a_wait, owed}
-use Rattle.board_event_model.specs.EventRuns.{RunningCall, call_of}
+use Rattle.board_event_model.specs.EventCalls.{a_wait, owed, RunningCall, call_of}
 use Rattle.board_event_model.specs.EventSessions.{PartyCall, StandingEvent, event_of, history_on}
 use Rattle.board_event_model.specs.LawsOfCalls.{taken_by}
 use Rattle.board_event_model.specs.LawsOfQuiet.{IsOpen}

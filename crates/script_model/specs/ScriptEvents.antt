@@ -10,8 +10,7 @@ use Rattle.board_event_model.specs.declared.kind.EventKind.TheVariants as kind
 use Rattle.board_event_model.specs.EventMemory.{Event, IsRight, holds_name, is_bits}
 use Rattle.board_event_model.specs.NotifyCalls.{notify_bits, notify_queue}
 use Rattle.board_event_model.specs.WaitCalls.{wait_bits, wait_queue}
-use Rattle.board_event_model.specs.EventCalls.{EventCall, a_notify, a_wait, is_last, owed, reported, turn}
-use Rattle.board_event_model.specs.EventRuns.{RunningCall, call_of}
+use Rattle.board_event_model.specs.EventCalls.{EventCall, a_notify, a_wait, is_last, owed, reported, turn, RunningCall, call_of}
 use Rattle.board_event_model.specs.EventSessions.{EventSession, PartyCall, abandon_of, event_of, listen, next_session, no_session, notifiers_of, release_of, step_of}
 use Rattle.board_model.specs.Things.{with_at}
 use Rattle.board_model.specs.Requests.{and_then}

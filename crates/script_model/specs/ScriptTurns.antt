@@ -1,7 +1,6 @@
 -- What a line of a script is on account of events: refused, or a call on them, a step, a drop, an expiry.
 use Rattle.std.specs.Prelude.{◌≡◌, ℕ, Bool, true, false, ◌&&◌, ◌||◌, if◌then◌else◌, List, Option, Some, None, is_some}
-use Rattle.board_event_model.specs.EventCalls.{is_timed}
-use Rattle.board_event_model.specs.EventRuns.{call_of}
+use Rattle.board_event_model.specs.EventCalls.{is_timed, call_of}
 use Rattle.board_event_model.specs.EventSessions.{PartyCall, begin_on, expire_of, next_session}
 use Rattle.board_cell_model.specs.declared.access.Access.TheVariants as access
 use Rattle.board_model.specs.declared.answer.Answer.TheVariants as answer

@@ -12,8 +12,9 @@ use Rattle.std.proofs.lemmas.List.{append_cancel_right, map-append, take_all}
 use Rattle.std.proofs.lemmas.Nat.{le_bytes_8}
 use Rattle.std.proofs.lemmas.Slice.Eq.{bytes_eq-Decides}
 use Rattle.board_layout.specs.declared.f8.F8.{F8}
-use Rattle.board_layout.specs.Keys.{is_key, little, same_keys}
-use Rattle.board_layout.specs.Text.{padded}
+use Rattle.board_layout.specs.Keys.{is_key, same_keys}
+use Rattle.board_layout.specs.Bytes.{little}
+use Rattle.board_layout.specs.Bytes.{padded}
 use Rattle.board_model.specs.declared.value.Key.TheVariants as key
 use Rattle.board_model.specs.declared.value.KeyType.TheVariants as key_type
 use Rattle.board_model.specs.TypeTable.{key_bytes, same_key, word_bytes}

@@ -6,7 +6,7 @@ use Rattle.std.specs.Ordering.{on}
 use Rattle.std.specs.List.{AllByRecursion}
 use Rattle.board_layout.specs.declared.f8.F8.{F8}
 use Rattle.board_layout.specs.Keys.{is_key}
-use Rattle.board_layout.specs.Text.{padded}
+use Rattle.board_layout.specs.Bytes.{padded}
 use Rattle.board_layout.specs.declared.type_detail.TypeDetail.{TypeDetail}
 use Rattle.board_model.specs.declared.tables.Board.{Board}
 use Rattle.board_model.specs.declared.tables.Entry.{Entry}

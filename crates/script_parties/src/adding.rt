@@ -3,7 +3,7 @@ ghost use Rattle.std.specs.Prelude.{◌≡◌, IfOk, All, map};
 ghost use Rattle.std.specs.List.{AllByRecursion};
 ghost use Rattle.board_concepts.specs.Attributes as concepts;
 ghost use Rattle.board_layout.specs.Layout.{IsShape};
-ghost use Rattle.board_layout.specs.Text.{padded};
+ghost use Rattle.board_layout.specs.Bytes.{padded};
 ghost use Rattle.board_model.specs.LineGrammar.{AreAttributes, AreRequirements};
 ghost use Rattle.board_model.specs.Replies as replies;
 ghost use Rattle.board_model.specs.Tables.{shapes_of};

@@ -1,7 +1,8 @@
 //! New boards.
 ghost use Rattle.std.specs.Prelude.{◌≡◌, ◌≤◌, ◌<◌, ◌^◌, None, length, map, All, IfOk, IfSome, OnOk, OnErr};
 ghost use Rattle.board_layout.specs.Answer.{Answers, Refuses};
-ghost use Rattle.board_layout.specs.Keys.{details, same_keys};
+ghost use Rattle.board_layout.specs.Keys.{same_keys};
+ghost use Rattle.board_layout.specs.Bytes.{details};
 ghost use Rattle.board_layout.specs.Layout.{IsShape, opening_words, payload, places_from};
 ghost use Rattle.board_model.specs.Tables.{shapes_of};
 ghost use Rattle.board_service.specs.Domain as domain;

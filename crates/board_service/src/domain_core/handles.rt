@@ -1,7 +1,8 @@
 //! Handles of entries.
 ghost use Rattle.std.specs.Prelude.{true, ◌≡◌, OnOk, OnErr};
 ghost use Rattle.board_layout.specs.Answer.{Answers, Refuses};
-ghost use Rattle.board_layout.specs.Keys.{details, is_key};
+ghost use Rattle.board_layout.specs.Keys.{is_key};
+ghost use Rattle.board_layout.specs.Bytes.{details};
 ghost use Rattle.board_service.specs.Domain as domain;
 
 use super::DomainCore;

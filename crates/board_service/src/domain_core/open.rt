@@ -1,7 +1,7 @@
 //! Further factories of a board.
 ghost use Rattle.std.specs.Prelude.{◌≡◌, OnOk, OnErr};
 ghost use Rattle.board_layout.specs.Answer.{Answers, Refuses};
-ghost use Rattle.board_layout.specs.Keys.{details};
+ghost use Rattle.board_layout.specs.Bytes.{details};
 ghost use Rattle.board_service.specs.Domain as domain;
 
 use super::DomainCore;

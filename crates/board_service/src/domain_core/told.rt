@@ -1,7 +1,7 @@
 //! What is told of things and boards.
 ghost use Rattle.std.specs.Prelude.{◌≡◌, find, option_map, is_some, IsSome};
 ghost use Rattle.std.specs.Bool.{OnTrue};
-ghost use Rattle.board_layout.specs.Keys.{details};
+ghost use Rattle.board_layout.specs.Bytes.{details};
 ghost use Rattle.board_model.specs.Tables.{board_at};
 ghost use Rattle.board_service.specs.Domain as domain;
 ghost use Rattle.board_service.specs.Descriptions.{ShowsDescription};

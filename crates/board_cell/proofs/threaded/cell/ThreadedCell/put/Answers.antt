@@ -1,5 +1,5 @@
 use Rattle.std.proofs.Common.{rules, ◌≡◌, ℕ, ◌+◌, ◌<◌, length, slice_index, sym, ap, ◌∙◌, arith}
-use Rattle.board_cell_model.specs.Copies.{spare_at}
+use Rattle.board_cell_model.specs.OwedAccesses.{spare_at}
 use Rattle.board_cell.specs.Passes.{threaded_shape}
 use Rattle.board_cell.specs.Views.{writer_of, with_pending}
 use Rattle.board_cell.specs.declared.threaded.view.View.TheVariants.{Writer}

@@ -1,5 +1,5 @@
 use Rattle.std.proofs.Common.{rules, ◌≡◌, ◌+◌, ◌<◌, length, sym, ap, ◌∙◌, arith}
-use Rattle.board_cell_model.specs.Copies.{current_at}
+use Rattle.board_cell_model.specs.OwedAccesses.{current_at}
 use Rattle.board_cell.specs.Passes.{threaded_shape}
 use Rattle.board_cell.specs.Views.{reader_of}
 use Rattle.board_cell.proofs.CopyPlaces.{copy_within}
