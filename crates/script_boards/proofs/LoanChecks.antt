@@ -2,6 +2,7 @@
 use Rattle.std.proofs.Common.{◌≡◌, ℕ, ◌<◌, Bool, true, false, cond, List, length, refl, sym, ap, subst, ◌∙◌, Option, Some, None, option_map}
 use Rattle.std.specs.Prelude.{Result, Ok, Err}
 use Rattle.std.proofs.lemmas.Bool.{lt-ltb}
+use Rattle.board_layout.specs.declared.shape.CellShape.{CellShape}
 use Rattle.board_model.specs.declared.answer.Reason.TheVariants as reason
 use Rattle.board_model.specs.declared.line.Call.{Call}
 use Rattle.board_model.specs.declared.line.Call.TheVariants as call
@@ -25,18 +26,19 @@ use Rattle.script_boards.specs.declared.machine.Task.TheVariants as task
 use Rattle.script_boards.specs.declared.not_begun.NotBegun.{NotBegun}
 use Rattle.script_boards.specs.declared.not_begun.NotBegun.TheVariants as not_begun
 use Rattle.board_model.specs.declared.line.Call.TheVariants as call
-use Rattle.script_boards.specs.Begins.{IsChecked, IsHandle, holds, loan_held, written_by}
+use Rattle.script_boards.specs.Begins.{HasNoRow, IsChecked, IsGenerationOf, IsHandle, holds, loan_held, written_by}
 use Rattle.script_boards.specs.Loans.{lent_words}
-use Rattle.script_boards.specs.Machine.{Represents, tables_of}
+use Rattle.script_boards.specs.Machine.{IsLed, Represents, tables_of}
 use Rattle.script_boards.specs.Steps.{IsCounter}
 use Rattle.script_boards.proofs.CallChecks.{entry_stands, taken_is, write_handle, unlent_handle}
+use Rattle.script_boards.proofs.PartyRows.{is_free}
 use Rattle.script_boards.proofs.TableSteps.{counter_at, some_entry}
 
 -- a call is looked at so in a state
 abbrev pub IsLookedAt : State → List ℕ → Call → Result Task NotBegun → Type 0
 IsLookedAt s party c x = IsChecked (call_reason s.standing party c (request_of s.standing s.published party c)) (request_of s.standing s.published party c) x
 
-abbrev a_loan : Held → List (Option ℕ) → Option (Held × List (Option ℕ))
+abbrev pub a_loan : Held → List (Option ℕ) → Option (Held × List (Option ℕ))
 a_loan x words = Some (x, words)
 
 -- the thing of a loan is a write handle
@@ -204,3 +206,16 @@ module _ {C : Type 0} (m : BoardMachine C) (s : State) (rep : Represents m s) (p
   -- the entry of a loan stands
   pub loan_entry : Sound s → (x : Held) (lent : List ℕ) (words : List (Option ℕ)) → loan_held m party lent ≡ Some (x, words) → (e : Entry) × (entry_at (tables_of m) x.board (entry_of x.kind) ≡ Some e)
   loan_entry sound x lent words held = some_entry (entry_at (tables_of m) x.board (entry_of x.kind)) (entry_stands m s rep sound x (loan_handle m party lent x words held))
+
+-- a loan of a party without a row has as many words as its entry's cell
+pub lent_width : {C : Type 0} (m : BoardMachine C) (party : List ℕ) → (led : IsLed m) → HasNoRow m party → (x : Held) (e : Entry) → entry_at (tables_of m) x.board (entry_of x.kind) ≡ Some e
+    → (lent : List ℕ) (words : List (Option ℕ)) → loan_held m party lent ≡ Some (x, words) → (shape : CellShape) → shape ≡ cell_shape e.cell → length words ≡ shape.words
+lent_width m party led idle x e found lent words held shape is =
+    loan_width m led.state led.represents party led.reached.sound (is_free m.parties.items led.state.parties led.represents.parties party idle) x e found lent words held
+    ∙ ap (λ (y : CellShape). y.words) (sym is)
+
+-- the number that was read for a loan is the counter of its entry
+pub loan_counter : {C : Type 0} (m : BoardMachine C) (party lent : List ℕ) (x : Held) (words : List (Option ℕ)) → loan_held m party lent ≡ Some (x, words)
+    → (g : ℕ) → IsGenerationOf m (option_map (λ l. l.0) (loan_held m party lent)) g → IsCounter m x.board (entry_of x.kind) g
+loan_counter m party lent x words held g h =
+    subst (λ (o : Option Held). IsGenerationOf m o g) (ap (λ (o : Option (Held × List (Option ℕ))). option_map (λ l. l.0) o) held) h

@@ -10,26 +10,19 @@ use Rattle.board_model.specs.TypeTable.{same_type, type_of, value_detail, value_
 use Rattle.script_boards.specs.Begins.{IsGenerationOf, holds, loan_held}
 use Rattle.script_boards.proofs.Bounds.{bounded}
 use Rattle.script_boards.proofs.CallChecks.{cell_is_low, counter_is_low, refused_for, value_fits}
-use Rattle.script_boards.proofs.LoanChecks.{fill_begins, fill_mistyped, loan_width}
+use Rattle.script_boards.proofs.LoanChecks.{a_loan, lent_width, loan_counter, fill_begins, fill_mistyped}
 use Rattle.board_ports.specs.Loans.{LoanSeen}
 use Rattle.script_boards.proofs.PartyRows.{is_free}
 use Rattle.script_boards.proofs.machine.BoardMachine.check_fill.Goals as goal
-
-abbrev a_loan : Held → List (Option ℕ) → Option (Held × List (Option ℕ))
-a_loan x words = Some (x, words)
 
 abbrev a_fill : CellShape → ℕ → List ℕ → Updating
 a_fill x g words = record { shape = x; generation = g; words = words; written = 0 }
 
 pub lent-core-requires : goal.lent-core-requires
 lent-core-requires g c =
-    let led = c.requires.led in
-    let words = c.in-Some.put.now.items in
-    let held : loan_held c.args.self.now c.args.party.now c.args.loan ≡ a_loan c.in-Some.found words = search rules in
-    let s = led.state in
-    loan_width c.args.self.now s led.represents c.args.party.now led.reached.sound (is_free c.args.self.now.parties.items s.parties led.represents.parties c.args.party.now c.requires.free)
-    c.in-Some.found c.entry_held-entry.result.now c.entry_held-entry.ensures c.args.loan words held
-    ∙ ap (λ (x : CellShape). x.words) (sym c.write_core.ensures.shape)
+    let held : loan_held c.args.self.now c.args.party.now c.args.loan ≡ a_loan c.in-Some.found c.in-Some.put.now.items = search rules in
+    lent_width c.args.self.now c.args.party.now c.requires.led c.requires.free c.in-Some.found c.entry_held-entry.result.now c.entry_held-entry.ensures c.args.loan c.in-Some.put.now.items held
+    _ c.write_core.ensures.shape
 
 pub fill-requires-clause-width : goal.fill-requires-clause-width
 fill-requires-clause-width g c =
@@ -51,7 +44,7 @@ fill-requires-clause-room g c =
     let led = c.requires.led in
     subst (λ (g : ℕ). g + 1 < 2 ^ 64) (sym (ap (λ (l : LoanSeen). l.handle.generation) c.lent-core.ensures ∙ c.write_core.ensures.generation))
     (counter_is_low c.args.self.now led.state led.represents led.reached.sound c.in-Some.found.board (entry_of c.in-Some.found.kind) c.entry_held-entry.result.now c.entry_held-entry.ensures c.args.generation (bounded led.state led.reached)
-    (subst (λ (o : Option Held). IsGenerationOf c.args.self.now o c.args.generation) (ap (λ (o : Option (Held × List (Option ℕ))). option_map (λ l. l.0) o) held) c.requires.generation))
+    (loan_counter c.args.self.now c.args.party.now c.args.loan c.in-Some.found c.in-Some.put.now.items held c.args.generation c.requires.generation))
 
 pub returns : goal.returns
 returns g c =
@@ -61,7 +54,7 @@ returns g c =
     let entry = c.entry_held-entry.result.now in
     let words = c.in-Some.put.now.items in
     let held : loan_held m party c.args.loan ≡ a_loan x words = search rules in
-    let counter = subst (λ (o : Option Held). IsGenerationOf m o c.args.generation) (ap (λ (o : Option (Held × List (Option ℕ))). option_map (λ l. l.0) o) held) c.requires.generation in
+    let counter = loan_counter m party c.args.loan x words held c.args.generation c.requires.generation in
     let untaken : holds m party c.args.handle ≡ false = search rules in
     let t : same_type (value_detail (type_of c.args.value)) entry.value ≡ true = search rules in
     let w : c.in_ok-words.words.items ≡ value_words c.args.value = search rules in

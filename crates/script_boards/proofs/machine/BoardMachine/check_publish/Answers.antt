@@ -8,26 +8,19 @@ use Rattle.board_model.specs.LawfulSession.{all_put}
 use Rattle.script_boards.specs.Begins.{IsGenerationOf, holds, loan_held}
 use Rattle.script_boards.proofs.Bounds.{bounded}
 use Rattle.script_boards.proofs.CallChecks.{counter_is_low}
-use Rattle.script_boards.proofs.LoanChecks.{loan_width, publish_begins}
+use Rattle.script_boards.proofs.LoanChecks.{a_loan, lent_width, loan_counter, publish_begins}
 use Rattle.board_ports.specs.Loans.{LoanSeen}
 use Rattle.script_boards.proofs.PartyRows.{is_free}
 use Rattle.script_boards.proofs.machine.BoardMachine.check_publish.Goals as goal
-
-abbrev a_loan : Held → List (Option ℕ) → Option (Held × List (Option ℕ))
-a_loan x words = Some (x, words)
 
 abbrev a_publish : CellShape → ℕ → Publishing
 a_publish x g = record { shape = x; generation = g; done = false }
 
 pub lent-core-requires : goal.lent-core-requires
 lent-core-requires g c =
-    let led = c.requires.led in
-    let words = c.in-Some.words.now.items in
-    let held : loan_held c.args.self.now c.args.party.now c.args.loan ≡ a_loan c.in-Some.found words = search rules in
-    let s = led.state in
-    loan_width c.args.self.now s led.represents c.args.party.now led.reached.sound (is_free c.args.self.now.parties.items s.parties led.represents.parties c.args.party.now c.requires.free)
-    c.in-Some.found c.entry_held-entry.result.now c.entry_held-entry.ensures c.args.loan words held
-    ∙ ap (λ (x : CellShape). x.words) (sym c.write_core.ensures.shape)
+    let held : loan_held c.args.self.now c.args.party.now c.args.loan ≡ a_loan c.in-Some.found c.in-Some.words.now.items = search rules in
+    lent_width c.args.self.now c.args.party.now c.requires.led c.requires.free c.in-Some.found c.entry_held-entry.result.now c.entry_held-entry.ensures c.args.loan c.in-Some.words.now.items held
+    _ c.write_core.ensures.shape
 
 pub publish-requires-clause-room : goal.publish-requires-clause-room
 publish-requires-clause-room g c =
@@ -35,7 +28,7 @@ publish-requires-clause-room g c =
     let led = c.requires.led in
     subst (λ (g : ℕ). g + 1 < 2 ^ 64) (sym (ap (λ (l : LoanSeen). l.handle.generation) c.lent-core.ensures ∙ c.write_core.ensures.generation))
     (counter_is_low c.args.self.now led.state led.represents led.reached.sound c.in-Some.found.board (entry_of c.in-Some.found.kind) c.entry_held-entry.result.now c.entry_held-entry.ensures c.args.generation (bounded led.state led.reached)
-    (subst (λ (o : Option Held). IsGenerationOf c.args.self.now o c.args.generation) (ap (λ (o : Option (Held × List (Option ℕ))). option_map (λ l. l.0) o) held) c.requires.generation))
+    (loan_counter c.args.self.now c.args.party.now c.args.loan c.in-Some.found c.in-Some.words.now.items held c.args.generation c.requires.generation))
 
 pub returns : goal.returns
 returns g c =
@@ -45,7 +38,7 @@ returns g c =
     let entry = c.entry_held-entry.result.now in
     let words = c.in-Some.words.now.items in
     let held : loan_held m party c.args.loan ≡ a_loan x words = search rules in
-    let counter = subst (λ (o : Option Held). IsGenerationOf m o c.args.generation) (ap (λ (o : Option (Held × List (Option ℕ))). option_map (λ l. l.0) o) held) c.requires.generation in
+    let counter = loan_counter m party c.args.loan x words held c.args.generation c.requires.generation in
     let untaken : holds m party c.args.handle ≡ false = search rules in
     let filled : all_put c.lent-core.result.words ≡ true = search rules in
     let all : all_put words ≡ true = subst (λ (ws : List (Option ℕ)). all_put ws ≡ true) (ap (λ (l : LoanSeen). l.words) c.lent-core.ensures) filled in

@@ -7,26 +7,19 @@ use Rattle.board_model.specs.Tables.{entry_of}
 use Rattle.board_model.specs.Things.{Held}
 use Rattle.script_boards.specs.Begins.{IsGenerationOf, loan_held}
 use Rattle.script_boards.proofs.CallChecks.{cell_is_low}
-use Rattle.script_boards.proofs.LoanChecks.{loan_width, put_begins}
+use Rattle.script_boards.proofs.LoanChecks.{a_loan, lent_width, loan_counter, put_begins}
 use Rattle.board_ports.specs.Loans.{LoanSeen}
 use Rattle.script_boards.proofs.PartyRows.{is_free}
 use Rattle.script_boards.proofs.machine.BoardMachine.check_put.Goals as goal
-
-abbrev a_loan : Held → List (Option ℕ) → Option (Held × List (Option ℕ))
-a_loan x words = Some (x, words)
 
 abbrev a_put : CellShape → ℕ → ℕ → ℕ → Putting
 a_put x g index word = record { shape = x; generation = g; index = index; word = word; done = false }
 
 pub lent-core-requires : goal.lent-core-requires
 lent-core-requires g c =
-    let led = c.requires.led in
-    let words = c.in-Some.words.now.items in
-    let held : loan_held c.args.self.now c.args.party.now c.args.loan ≡ a_loan c.in-Some.found words = search rules in
-    let s = led.state in
-    loan_width c.args.self.now s led.represents c.args.party.now led.reached.sound (is_free c.args.self.now.parties.items s.parties led.represents.parties c.args.party.now c.requires.free)
-    c.in-Some.found c.entry_held-entry.result.now c.entry_held-entry.ensures c.args.loan words held
-    ∙ ap (λ (x : CellShape). x.words) (sym c.write_core.ensures.shape)
+    let held : loan_held c.args.self.now c.args.party.now c.args.loan ≡ a_loan c.in-Some.found c.in-Some.words.now.items = search rules in
+    lent_width c.args.self.now c.args.party.now c.requires.led c.requires.free c.in-Some.found c.entry_held-entry.result.now c.entry_held-entry.ensures c.args.loan c.in-Some.words.now.items held
+    _ c.write_core.ensures.shape
 
 pub put-requires : goal.put-requires
 put-requires g c =
@@ -52,7 +45,7 @@ returns g c =
     let entry = c.entry_held-entry.result.now in
     let words = c.in-Some.words.now.items in
     let held : loan_held m party c.args.loan ≡ a_loan x words = search rules in
-    let counter = subst (λ (o : Option Held). IsGenerationOf m o c.args.generation) (ap (λ (o : Option (Held × List (Option ℕ))). option_map (λ l. l.0) o) held) c.requires.generation in
+    let counter = loan_counter m party c.args.loan x words held c.args.generation c.requires.generation in
     let inside = below_width c.args.index c.lent-core.result.handle.shape.words (λ le. some_call c.in-Some-put.call (c.in-Some-put.ensures.beyond.1 le)) in
     let below : c.args.index < entry.cell.words = subst (λ (y : CellShape). c.args.index < y.words) (ap (λ (l : LoanSeen). l.handle.shape) c.lent-core.ensures ∙ c.write_core.ensures.shape) inside in
     λ s rep sound.
