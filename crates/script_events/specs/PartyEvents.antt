@@ -15,7 +15,7 @@ use Rattle.board_event_model.specs.EventSessions.{PartyCall, event_of}
 use Rattle.board_event.specs.EventTable.{EventTable, event_at, names_of}
 use Rattle.board_model.specs.declared.answer.Reason.{Reason}
 use Rattle.board_model.specs.LawfulSession.{State}
-use Rattle.board_model.specs.Things.{has_holder as holds_thing}
+use Rattle.board_model.specs.Things.{is_held as holds_thing}
 use Rattle.script_model.specs.declared.line.EventRequest.{EventRequest}
 use Rattle.script_model.specs.ScriptAnswers.{ScriptAnswer, of_ask, of_event}
 use Rattle.script_model.specs.ScriptEvents.{EventAsk, EventThing, IsStepOf, ScriptEvents, event_let_go, listener, name_made, notifier, step_made, task_of, to_listen, to_notify}

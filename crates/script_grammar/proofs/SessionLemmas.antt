@@ -5,7 +5,7 @@ use Rattle.board_model.specs.Lines.{lines_of}
 use Rattle.script_model.specs.declared.line.ScriptLine.{ScriptLine}
 use Rattle.script_model.specs.ScriptGrammar.{IsScriptLine, SpellsLine}
 use Rattle.script_model.specs.ScriptSession.{Session}
-use Rattle.script_model.specs.ScriptSession.{lines_of as session_lines}
+use Rattle.script_model.specs.ScriptSession.{asked_lines as session_lines}
 use Rattle.script_model.specs.ScriptOutput.{SpellsAll, output_of}
 use Rattle.script_model.proofs.AnswerLaws.{one_session}
 use Rattle.script_model.proofs.EachLaws.{each_script_run}
