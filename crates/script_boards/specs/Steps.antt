@@ -61,7 +61,7 @@ CanGoOn task.Gone = ⊥
 -- an access to a cell, as one of the board; a write is its call's last one, or not
 abbrev pub owed_on : ℕ → Access → Bool → OwedAccess
 owed_on board (access.Read word) last = owed.Read (record { board = board; word = word })
-owed_on board (access.Write word value) last = owed.Write (record { board = board; word = word; value = value; ends_call = last })
+owed_on board (access.Write word value) last = owed.Write (record { board = board; word = word; value = value; is_last = last })
 
 -- the write is the one that a publication of words owes
 pub record IsOwedWrite (board : ℕ) (call : Updating) (w : OwedWrite) : Type 0 where
