@@ -11,7 +11,8 @@ use Rattle.board_names.specs.declared.errors.event.NotifierCreateError.{Notifier
 use Rattle.board_names.specs.declared.errors.event.NotifierCreateError.TheVariants as notifier_error
 use Rattle.board_event_model.specs.declared.kind.EventKind.{EventKind}
 use Rattle.board_event_model.specs.declared.kind.EventKind.TheVariants as kind
-use Rattle.board_event_model.specs.EventMemory.{Event, holds_name, has_holder, new_event}
+use Rattle.board_event_model.specs.declared.access.EventAccess.{EventAccess}
+use Rattle.board_event_model.specs.EventMemory.{CanPerform, Event, holds_name, has_holder, new_event}
 use Rattle.board_event.specs.Memories.{event_code}
 
 -- how many numbers were drawn, the events that stand by their numbers, and the held names of each kind with the number of the event that holds it
@@ -51,6 +52,14 @@ without_event t n = record t { events = remove_entry (is_at (nat_cmp n)) t.event
 abbrev pub changed : EventTable → ℕ → (Event → Event) → EventTable
 changed t n f = elim (event_at t n) [ None ↦ t | Some e ↦ with_event t n (f e) ]
 
+-- the table with this event under a new number
+abbrev pub with_new_event : EventTable → ℕ → Event → EventTable
+with_new_event t n e = record t { events = insert_entry nat_cmp t.events n e }
+
+-- the event under a number stands, and can take the access
+abbrev pub CanPerformAt : EventTable → ℕ → EventAccess → Type 0
+CanPerformAt t n access = IsSomeAnd (event_at t n) (λ e. CanPerform e access)
+
 -- ---- names
 
 -- the held names of a kind
@@ -62,6 +71,10 @@ names_of kind.Queue t = t.queues
 abbrev pub with_names : EventKind → EventTable → List (List ℕ × ℕ) → EventTable
 with_names kind.Bits t names = record t { bits = names }
 with_names kind.Queue t names = record t { queues = names }
+
+-- the table with a name of this kind under a number
+abbrev pub with_name : EventKind → EventTable → List ℕ → ℕ → EventTable
+with_name k t name n = with_names k t (putting (names_of k t) name n)
 
 -- the names without this one, where the event with this number holds it
 abbrev pub freed : List (List ℕ × ℕ) → List ℕ → ℕ → List (List ℕ × ℕ)
@@ -79,9 +92,13 @@ pub record HoldsName (k : EventKind) (full_name : List ℕ) (e : Event) : Type 0
   pub name : e.name ≡ full_name
   pub held : holds_name e ≡ true
 
+-- where the name is held, its number is that of an event that stands and holds it
+abbrev pub NameStands : EventTable → EventKind → List ℕ → Type 0
+NameStands t k name = (n : ℕ) → at (names_of k t) name ≡ Some n → IsSomeAnd (event_at t n) (HoldsName k name)
+
 -- what holds of every table that the calls make: a held name has the number of an event that stands and holds it, and no event has a number above the last one drawn
 pub record IsEventTable (t : EventTable) : Type 0 where
-  pub named : (k : EventKind) (name : List ℕ) (n : ℕ) → at (names_of k t) name ≡ Some n → IsSomeAnd (event_at t n) (HoldsName k name)
+  pub named : (k : EventKind) (name : List ℕ) → NameStands t k name
   pub numbered : (n : ℕ) → IsSome (event_at t n) → n ≤ t.drawn
 
 -- one notifier more
@@ -108,7 +125,7 @@ named_with t n e = if holds_name e then t else without_name_of t n e
 abbrev pub settled_with : EventTable → ℕ → Event → EventTable
 settled_with t n e = (if has_holder e then named_with t n e else without_event (named_with t n e) n)
 
--- the same, of the event that stands
+-- the table so settled for the event that stands under a number, where one does
 abbrev pub settled : EventTable → ℕ → EventTable
 settled t n = elim (event_at t n) [ None ↦ t | Some e ↦ settled_with t n e ]
 
@@ -119,9 +136,13 @@ abbrev pub listen_answer : EventTable → Option ℕ → Result ℕ ListenerCrea
 listen_answer t (Some n) = Err listener_error.AlreadyExists
 listen_answer t None = if nat_lt t.drawn (2 ^ 64 - 2) then Ok (t.drawn + 1) else Err listener_error.NumbersSpent
 
+-- what a listen under this name answers
+abbrev pub answer_to_listen : EventTable → EventKind → List ℕ → Result ℕ ListenerCreateError
+answer_to_listen t k name = listen_answer t (at (names_of k t) name)
+
 -- the table after a listen
 abbrev pub table_listened : EventTable → EventKind → List ℕ → ℕ → EventTable
-table_listened t k name max = record (with_names k t (putting (names_of k t) name (t.drawn + 1))) {
+table_listened t k name max = record (with_name k t name (t.drawn + 1)) {
   drawn = t.drawn + 1;
   events = insert_entry nat_cmp t.events (t.drawn + 1) (new_event k name max);
 }
@@ -130,7 +151,7 @@ table_listened t k name max = record (with_names k t (putting (names_of k t) nam
 abbrev pub notifier_of : ℕ → Event → Result ℕ NotifierCreateError
 notifier_of n e = if not e.held then Err notifier_error.DoesNotExist else if nat_lt e.notifiers (2 ^ 64 - 2) then Ok n else Err notifier_error.NumbersSpent
 
--- the same, by what stands under the name: the event of a held name stands
+-- by what stands under a name: the number of its event, which stands, or why there is no new notifier
 abbrev pub IsNotifierAnswer : EventTable → Result ℕ NotifierCreateError → Option ℕ → Type 0
 IsNotifierAnswer t result None = result ≡ Err notifier_error.DoesNotExist
 IsNotifierAnswer t result (Some n) = IsSomeAnd (event_at t n) (λ e. result ≡ notifier_of n e)

@@ -1,7 +1,7 @@
 -- What clauses see of a bit set: its greatest id and its ids; and the words that hold them.
 use Rattle.std.specs.Prelude.{◌≡◌, ℕ, ◌*◌, ◌/◌, ◌%◌, ◌<◌, ◌≤◌, Bool, true, false, Option, Some, None, [], ◌∷◌, ⊤, ◌==◌, List, length, slice_index, refl}
 use Rattle.std.specs.Int.{bit_at}
-use Rattle.std.specs.List.{list_any}
+use Rattle.std.specs.List.{FoldsTo, list_any}
 use Rattle.std.specs.Coded.{Coded, code_by, coded×, coded_ℕ}
 use Rattle.std.specs.FinSet as set
 use Rattle.board_event_model.specs.Ids.{Ids, has, ids_where}
@@ -10,6 +10,10 @@ use Rattle.board_event_model.specs.Ids.{Ids, has, ids_where}
 pub record IdSet : Type 0 where
   pub max : ℕ
   pub ids : Ids
+
+-- the set with one id more
+abbrev pub with_id : IdSet → ℕ → IdSet
+with_id s id = record s { ids = set.insert s.ids id }
 
 -- it is stored as a pair
 abbrev pub id_set_code : Coded IdSet
@@ -34,6 +38,10 @@ IsAscending (x ∷ xs) = ((y : ℕ) → list_any (λ z. z == y) xs ≡ true → 
 pub record IsListOf (xs : List ℕ) (ids : Ids) : Type 0 where
   pub ascending : IsAscending xs
   pub members : (i : ℕ) → list_any (λ z. z == i) xs ≡ has ids i
+
+-- a callback is called on each id of a set, the least first, where `step` tells a call of it
+abbrev pub IsCalledOnEach : {F : Type 0} → (F → ℕ → F → Type 0) → F → Ids → Type 0
+IsCalledOnEach {F} step callback all = (ids : List ℕ) × IsListOf ids all × (last : F) × FoldsTo step callback ids last
 
 -- ---- the words of a bit set. No clause of a public call cites what follows.
 

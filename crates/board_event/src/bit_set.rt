@@ -1,9 +1,8 @@
 //! Ids up to a greatest one, as words of 64 bits.
-ghost use Rattle.std.specs.Prelude.{◌≡◌, ◌≤◌, ◌<◌, ◌+◌, ◌*◌, ◌/◌, ◌^◌, not, ℕ, IfOk, IsOkUnless, true, false, length, List};
-ghost use Rattle.std.specs.List.{FoldsTo};
+ghost use Rattle.std.specs.Prelude.{◌≡◌, ◌≤◌, ◌<◌, ◌+◌, ◌*◌, ◌/◌, ◌^◌, not, ℕ, IfOk, IsOkUnless, true, false, length};
 ghost use Rattle.std.specs.FinSet as set;
 ghost use Rattle.board_event_model.specs.Ids.{has, IsWord, in_word};
-ghost use Rattle.board_event.specs.IdSets.{IdSet, IsAcquired, IsLeastIn, IsListOf};
+ghost use Rattle.board_event.specs.IdSets.{IdSet, IsAcquired, IsCalledOnEach, IsLeastIn, with_id};
 
 use crate::id_tracker::IdTracker;
 use board_names::{ListenerCreateError, NotifierNotifyError, TriggerId};
@@ -63,7 +62,7 @@ impl BitSet {
     /// Adds an id.
     pub fn set(&mut self, id: u64)
         requires { id ≤ self.old.max }
-        ensures { self.new ≡ record self.old { ids = set.insert self.old.ids id } }
+        ensures { self.new ≡ with_id self.old id }
     {
         self.words[(id / 64) as usize] |= 1 << (id % 64);
     }
@@ -132,7 +131,7 @@ impl BitSet {
     /// Takes all ids out, and hands them to the callback, the least first.
     fn take_all<F: FnMut(TriggerId)>(&mut self, mut callback: F)
         requires { F.IsAlwaysCallable callback }
-        ensures calls { (ids : List ℕ) × IsListOf ids self.old.ids × (last : F) × FoldsTo (λ p x q. F.step p x tt q) callback ids last }
+        ensures calls { IsCalledOnEach (λ p x q. F.step p x tt q) callback self.old.ids }
         ensures left { self.new ≡ record self.old { ids = set.empty } }
     {
         while let Some(id) = self.take_id() {

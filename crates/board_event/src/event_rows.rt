@@ -1,11 +1,9 @@
 //! The rows of the table of events: the events by their numbers, and the held names.
 ghost use Rattle.std.specs.Prelude.{◌≡◌, ◌≢◌, ℕ, List, ◌<◌, ◌+◌, ◌-◌, ◌^◌, true, false, is_some, option_copied, IfSome, IsSome, IsSomeAnd, Some, None};
-ghost use Rattle.std.specs.Ordering.{nat_cmp};
-ghost use Rattle.std.specs.BTreeMap.{insert_entry};
-ghost use Rattle.board_names.specs.Table.{at, putting, without};
+ghost use Rattle.board_names.specs.Table.{at, without};
 ghost use Rattle.board_event_model.specs.declared.kind.EventKind.{EventKind as Kind};
-ghost use Rattle.board_event_model.specs.EventMemory.{CanPerform, Event, IsRight, after};
-ghost use Rattle.board_event.specs.EventTable.{AreLeft, LosesName, changed, event_at, freed, table_listened, names_of, empty_table, named_with, settled, with_gone, with_names, with_notifier, without_event, without_listener, without_notifier};
+ghost use Rattle.board_event_model.specs.EventMemory.{Event, IsRight, after};
+ghost use Rattle.board_event.specs.EventTable.{AreLeft, CanPerformAt, LosesName, changed, event_at, freed, table_listened, names_of, empty_table, named_with, settled, with_gone, with_name, with_names, with_new_event, with_notifier, without_event, without_listener, without_notifier};
 
 use crate::event_memory::EventMemory;
 use board_event_model::{EventAccess, EventAnswer, EventKind};
@@ -109,7 +107,7 @@ impl EventRows {
 
     /// Puts an event under a number, and tells whether there was memory for it.
     fn add_event(&mut self, number: u64, memory: EventMemory) -> bool
-        ensures added { result ≡ true → self.new ≡ record self.old { events = insert_entry nat_cmp self.old.events number memory } }
+        ensures added { result ≡ true → self.new ≡ with_new_event self.old number memory }
         ensures refused { result ≡ false → self.new ≡ self.old }
     {
         self.events.insert(number, memory).is_ok()
@@ -117,7 +115,7 @@ impl EventRows {
 
     /// Puts a free name under a number, and tells whether there was memory for it.
     fn take_name(&mut self, kind: EventKind, name: &FilePath, number: u64) -> bool
-        ensures taken { result ≡ true → self.new ≡ with_names kind self.old (putting (names_of kind self.old) name.now number) }
+        ensures taken { result ≡ true → self.new ≡ with_name kind self.old name.now number }
         ensures refused { result ≡ false → self.new ≡ self.old }
     {
         match kind {
@@ -176,7 +174,7 @@ impl EventRows {
 
     /// Makes an access to an event.
     pub(crate) fn perform(&mut self, event: u64, access: EventAccess) -> EventAnswer
-        requires { IsSomeAnd (event_at self.old event) (λ e. CanPerform e access) }
+        requires { CanPerformAt self.old event access }
         ensures right { IsSomeAnd (event_at self.old event) (λ e. IsRight e access result) }
         ensures after { self.new ≡ changed self.old event (λ e. after e access) }
     {

@@ -2,8 +2,9 @@
 ghost use Rattle.std.specs.Prelude.{◌≡◌, ◌<◌, ◌^◌, ◌↔◌, ℕ, true, is_some, IfOk, IfSome, IsSome, IsSomeAnd, IsTrue, OnOk, OnErr, Some};
 ghost use Rattle.board_layout.specs.Answer.{Answers, Refuses};
 ghost use Rattle.board_names.specs.Table.{at, name_at, without};
-ghost use Rattle.board_event_model.specs.EventMemory.{CanPerform, Event, IsRight, after};
-ghost use Rattle.board_event.specs.EventTable.{HoldsName, IsEventTable, IsNotifierAnswer, changed, event_at, listen_answer, table_listened, names_of, empty_table, notifier_of, settled, with_gone, with_names, with_notifier, without_listener, without_notifier};
+ghost use Rattle.board_names.specs.declared.errors.event.ListenerCreateError.TheVariants as listener_error;
+ghost use Rattle.board_event_model.specs.EventMemory.{Event, IsRight, after};
+ghost use Rattle.board_event.specs.EventTable.{CanPerformAt, HoldsName, IsEventTable, IsNotifierAnswer, NameStands, answer_to_listen, changed, event_at, table_listened, names_of, empty_table, notifier_of, settled, with_gone, with_names, with_notifier, without_listener, without_notifier};
 
 use crate::event_rows::EventRows;
 use board_event_model::{EventAccess, EventAnswer, EventKind};
@@ -56,8 +57,8 @@ impl Events {
         name: &FilePath,
         max: u64,
     ) -> Result<u64, ListenerCreateError>
-        ensures answer { Answers result ListenerCreateError.OutOfMemory (listen_answer self.old (at (names_of kind self.old) name.now)) }
-        ensures refused { Refuses result (listen_answer self.old (at (names_of kind self.old) name.now)) }
+        ensures answer { Answers result listener_error.OutOfMemory (answer_to_listen self.old kind name.now) }
+        ensures refused { Refuses result (answer_to_listen self.old kind name.now) }
         ensures ok { OnOk result (self.new ≡ table_listened self.old kind name.now max) }
         ensures err { OnErr result (self.new ≡ self.old) }
     {
@@ -75,7 +76,7 @@ impl Events {
 
     /// Whether the name is held for this kind.
     pub fn holds(&self, kind: EventKind, name: &FilePath) -> bool
-        ensures stands { (n : ℕ) → at (names_of kind self.now) name.now ≡ Some n → IsSomeAnd (event_at self.now n) (HoldsName kind name.now) }
+        ensures stands { NameStands self.now kind name.now }
         ensures held { result ≡ is_some (at (names_of kind self.now) name.now) }
     {
         self.number_of(kind, name).is_some()
@@ -177,7 +178,7 @@ impl Events {
 
     /// Whether the event stands and can take an access.
     pub fn allows(&self, event: u64, access: EventAccess) -> bool
-        ensures { IsTrue result ↔ IsSomeAnd (event_at self.now event) (λ e. CanPerform e access) }
+        ensures { IsTrue result ↔ CanPerformAt self.now event access }
     {
         match self.rows.event(event) {
             None => false,
@@ -211,7 +212,7 @@ impl Events {
 
     /// Makes an access to an event.
     pub fn perform(&mut self, event: u64, access: EventAccess) -> EventAnswer
-        requires { IsSomeAnd (event_at self.old event) (λ e. CanPerform e access) }
+        requires { CanPerformAt self.old event access }
         ensures right { IsSomeAnd (event_at self.old event) (λ e. IsRight e access result) }
         ensures after { self.new ≡ changed self.old event (λ e. after e access) }
     {

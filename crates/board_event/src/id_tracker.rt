@@ -1,8 +1,7 @@
 //! What keeps ids until a listener takes them.
-ghost use Rattle.std.specs.Prelude.{◌≡◌, ◌<◌, ◌↔◌, ℕ, List, IsErrOf, OnOk, OnErr, IsOkUnless};
-ghost use Rattle.std.specs.List.{FoldsTo};
+ghost use Rattle.std.specs.Prelude.{◌≡◌, ◌<◌, ◌↔◌, IsErrOf, OnOk, OnErr, IsOkUnless};
 ghost use Rattle.std.specs.FinSet as set;
-ghost use Rattle.board_event.specs.IdSets.{IdSet, IsAcquired, IsListOf};
+ghost use Rattle.board_event.specs.IdSets.{IdSet, IsAcquired, IsCalledOnEach, with_id};
 
 use board_names::{NotifierNotifyError, TriggerId};
 
@@ -21,7 +20,7 @@ pub trait IdTracker {
     fn add(&mut self, id: TriggerId) -> Result<(), NotifierNotifyError>
         ensures out { IsErrOf result NotifierNotifyError.TriggerIdOutOfBounds ↔ ((set_of self.old).max < id) }
         ensures only { IsOkUnless result NotifierNotifyError.TriggerIdOutOfBounds }
-        ensures ok { OnOk result (set_of self.new ≡ record (set_of self.old) { ids = set.insert (set_of self.old).ids id }) }
+        ensures ok { OnOk result (set_of self.new ≡ with_id (set_of self.old) id) }
         ensures err { OnErr result (set_of self.new ≡ set_of self.old) };
 
     /// Takes the least id.
@@ -31,6 +30,6 @@ pub trait IdTracker {
     /// Takes all ids, and hands them to the callback, the least first.
     fn acquire_all<F: FnMut(TriggerId)>(&mut self, callback: F)
         requires { F.IsAlwaysCallable callback }
-        ensures calls { (ids : List ℕ) × IsListOf ids (set_of self.old).ids × (last : F) × FoldsTo (λ p x q. F.step p x tt q) callback ids last }
+        ensures calls { IsCalledOnEach (λ p x q. F.step p x tt q) callback (set_of self.old).ids }
         ensures left { set_of self.new ≡ record (set_of self.old) { ids = set.empty } };
 }

@@ -1,9 +1,8 @@
 //! One step of a call: the access that it owes, made on the events.
-ghost use Rattle.std.specs.Prelude.{◌≡◌, ◌≢◌, IsSomeAnd};
-ghost use Rattle.board_event_model.specs.EventMemory.{CanPerform};
+ghost use Rattle.std.specs.Prelude.{◌≡◌, ◌≢◌};
 ghost use Rattle.board_event_model.specs.NotifyCalls.{notify_owed};
 ghost use Rattle.board_event_model.specs.WaitCalls.{wait_owed};
-ghost use Rattle.board_event.specs.EventTable.{event_at};
+ghost use Rattle.board_event.specs.EventTable.{CanPerformAt};
 ghost use Rattle.board_event.specs.Steps.{IsNotifyStep, IsWaitStep};
 
 use crate::events::Events;
@@ -22,7 +21,7 @@ pub struct EventStep {
 /// Makes the access that a notify owes, and hands the call its answer.
 pub fn notify_step(events: &mut Events, event: u64, call: &mut NotifyCall) -> EventStep
     requires goes_on { call.old.stage ≢ NotifyStage.Finished }
-    requires can { IsSomeAnd (event_at events.old event) (λ e. CanPerform e (notify_owed call.old.id call.old.stage)) }
+    requires can { CanPerformAt events.old event (notify_owed call.old.id call.old.stage) }
     ensures { IsNotifyStep events.old events.new event call.old call.new result }
 {
     let access = call.next();
@@ -38,7 +37,7 @@ pub fn notify_step(events: &mut Events, event: u64, call: &mut NotifyCall) -> Ev
 /// Makes the access that a wait owes, and hands the call its answer.
 pub fn wait_step(events: &mut Events, event: u64, call: &mut WaitCall) -> EventStep
     requires goes_on { call.old.stage ≢ WaitStage.Finished }
-    requires can { IsSomeAnd (event_at events.old event) (λ e. CanPerform e (wait_owed call.old.stage)) }
+    requires can { CanPerformAt events.old event (wait_owed call.old.stage) }
     ensures { IsWaitStep events.old events.new event call.old call.new result }
 {
     let access = call.next();
