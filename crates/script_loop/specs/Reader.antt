@@ -14,6 +14,10 @@ between bytes from to = take (to - from) (drop from bytes)
 abbrev pub in_hand : LineReader → List ℕ
 in_hand r = between r.bytes.items r.start r.end
 
+-- how many bytes are in hand
+abbrev pub hand_length : LineReader → ℕ
+hand_length r = length (in_hand r)
+
 -- the bytes still to come: those in hand, and then those that the source has left
 abbrev pub to_come : LineReader → Option (List ℕ) → Option (List ℕ)
 to_come r left = prepend_known (in_hand r) left

@@ -1,7 +1,7 @@
 ghost use Rattle.std.specs.Prelude.{◌≡◌, ◌<◌, ◌≤◌, ◌+◌, [], IfErr, IfNone, IfOk, IfSome, IsTrue, OnErr, OnOk, drop, false, length, slice_index, take};
 ghost use Rattle.std.specs.Io.KnownBytes.{Consumes, Keeps, IsAtEnd};
 ghost use Rattle.board_model.specs.Lines.{HasCause, IsOneLine};
-ghost use Rattle.script_loop.specs.Reader.{source_ended, in_hand, line_given, to_come};
+ghost use Rattle.script_loop.specs.Reader.{source_ended, hand_length, in_hand, line_given, to_come};
 
 use super::LineReader;
 use crate::error::LineError;
@@ -14,7 +14,8 @@ fn read_behind<S: Source>(bytes: &mut [u8], from: usize, source: &mut S) -> Resu
     requires { from < length bytes.old }
     ensures bound { IfOk result (λ count. from + count ≤ length bytes.old) }
     ensures front { take from bytes.new ≡ take from bytes.old }
-    ensures ok { IfOk result (λ count. Consumes (S.left source.old) (S.left source.new) (take count (drop from bytes.new))) }
+    ensures ok { IfOk result (λ count. Consumes (S.left source.old) (S.left source.new)
+        (take count (drop from bytes.new))) }
     ensures end { IfOk result (λ count. count ≡ 0 → IsAtEnd (S.left source.new)) }
     ensures err { OnErr result (Keeps (S.left source.old) (S.left source.new)) }
     ensures cause { HasCause (S.faults source.old) (S.faults source.new) result }
@@ -52,7 +53,7 @@ impl LineReader {
 
     // How many bytes are in hand.
     pub(super) fn hand_len(&self) -> usize
-        ensures len { result ≡ length (in_hand self.now) }
+        ensures len { result ≡ hand_length self.now }
         ensures most { result ≤ 4097 }
     {
         self.end - self.start
@@ -60,10 +61,10 @@ impl LineReader {
 
     // Where the first newline in hand stands; it is looked for behind the first bytes, so many of them.
     pub(super) fn newline_from(&self, searched: usize) -> Option<usize>
-        requires inside { searched ≤ length (in_hand self.now) }
+        requires inside { searched ≤ hand_length self.now }
         requires none_before { IsOneLine (take searched (in_hand self.now)) }
         ensures none { IfNone result (IsOneLine (in_hand self.now)) }
-        ensures inside { IfSome result (λ at. at < length (in_hand self.now)) }
+        ensures inside { IfSome result (λ at. at < hand_length self.now) }
         ensures found { IfSome result (λ at. slice_index (in_hand self.now) at ≡ 10) }
         ensures first { IfSome result (λ at. IsOneLine (take at (in_hand self.now))) }
     {
@@ -71,9 +72,9 @@ impl LineReader {
         Some(searched + at)
     }
 
-    // Gives the first bytes in hand out as a line, and drops so many behind them.
+    // Gives out the first `len` bytes in hand as the line, and skips `dropped` more.
     pub(super) fn give(&mut self, len: usize, dropped: usize)
-        requires { len + dropped ≤ length (in_hand self.old) }
+        requires { len + dropped ≤ hand_length self.old }
         ensures line { line_given self.new ≡ take len (in_hand self.old) }
         ensures hand { in_hand self.new ≡ drop (len + dropped) (in_hand self.old) }
         ensures ended { source_ended self.new ≡ source_ended self.old }
@@ -100,11 +101,11 @@ impl LineReader {
 
     // Takes more bytes in hand, as many as the buffer has room for, and notes where none is left.
     pub(super) fn fill<S: Source>(&mut self, source: &mut S) -> Result<(), Failed>
-        requires room { length (in_hand self.old) < 4097 }
+        requires room { hand_length self.old < 4097 }
         requires open { source_ended self.old ≡ false }
         ensures kept { Keeps (to_come self.old (S.left source.old)) (to_come self.new (S.left source.new)) }
-        ensures front { take (length (in_hand self.old)) (in_hand self.new) ≡ in_hand self.old }
-        ensures grew { OnOk result (source_ended self.new ≡ false → length (in_hand self.old) < length (in_hand self.new)) }
+        ensures front { take (hand_length self.old) (in_hand self.new) ≡ in_hand self.old }
+        ensures grew { OnOk result (source_ended self.new ≡ false → hand_length self.old < hand_length self.new) }
         ensures same { IsTrue (source_ended self.new) → in_hand self.new ≡ in_hand self.old }
         ensures failed { OnErr result (in_hand self.new ≡ in_hand self.old) }
         ensures ended { IsTrue (source_ended self.new) → IsAtEnd (S.left source.new) }
