@@ -1,11 +1,14 @@
 -- What the parts of a call do. No clause of a public call cites what follows.
-use Rattle.std.specs.Prelude.{◌≡◌, ◌≢◌, ℕ, ◌*◌, ◌<◌, ◌^◌, Bool, true, false, ◌&&◌, if◌then◌else◌, List, [], ◌∷◌, ◌++◌, Option, Some, None, IsSomeAnd, IsSome, Result, Ok, Err, ⊤}
+use Rattle.std.specs.Prelude.{◌≡◌, ◌≢◌, ℕ, ◌+◌, ◌-◌, ◌*◌, ◌<◌, ◌^◌, Bool, true, false, not, ◌&&◌, ◌==◌, if◌then◌else◌, List, [], ◌∷◌, ◌++◌, Option, Some, None, IsSomeAnd, IsSome, Result, Ok, Err, ⊤}
+use Rattle.std.specs.Int.{bit_at}
+use Rattle.std.specs.List.{filter}
 use Rattle.std.specs.Str.{bytes_eq}
 use Rattle.board_event_model.specs.declared.call.EventProgress.{EventProgress}
 use Rattle.board_event_model.specs.declared.call.EventProgress.TheVariants as progress
 use Rattle.board_event_model.specs.declared.call.NotifyStage.TheVariants as notify
 use Rattle.board_event_model.specs.declared.call.WaitStage.TheVariants as wait
 use Rattle.board_event_model.specs.EventMemory.{Event, IsRight, after}
+use Rattle.board_event_model.specs.Ids.{ids_where}
 use Rattle.board_event_model.specs.EventCalls.{EventCall, a_notify, a_wait, is_last, is_timed, is_waiting, owed, reported, turn}
 use Rattle.board_event.specs.EventTable.{EventTable, changed, event_at, with_gone}
 use Rattle.board_event.specs.declared.steps.EventStep.{EventStep}
@@ -26,7 +29,7 @@ use Rattle.script_events.specs.declared.rows.Role.{Role}
 use Rattle.script_events.specs.declared.rows.Role.TheVariants as role
 use Rattle.script_events.specs.declared.step.Stepped.{Stepped}
 use Rattle.script_events.specs.declared.step.Stepped.TheVariants as stepped
-use Rattle.script_events.specs.PartyEvents.{Holds, IsAskedBy, event_call, takes_board_name}
+use Rattle.script_events.specs.PartyEvents.{Holds, IsAskedBy, event_call, is_row_of, is_thing_of, takes_board_name}
 
 -- ---- lookups
 
@@ -44,6 +47,14 @@ listened_in (Some row) = if is_listening row.role then Some row.event else None
 abbrev pub notified_in : Option EventRow → Option ℕ
 notified_in None = None
 notified_in (Some row) = if is_listening row.role then None else Some row.event
+
+-- the rows but those of calls of the party
+abbrev pub calls_without : List ℕ → List CallRow → List CallRow
+calls_without party rows = filter (λ row. not (is_row_of party row)) rows
+
+-- the rows but those of what the party holds under the name
+abbrev pub things_without : List ℕ → List ℕ → List EventRow → List EventRow
+things_without party name rows = filter (λ row. not (is_thing_of party name row)) rows
 
 -- ---- beginnings
 
@@ -82,6 +93,14 @@ pub record IsActStep (old new : EventTable) (event : ℕ) (call next : EventCall
   pub memory : new ≡ changed old event (λ e. after e s.access)
   pub progress : s.progress ≡ (turn call s.answer).0
   pub goes_on : next ≡ (turn call s.answer).1
+
+-- the id of a bit, where it is set
+abbrev pub id_of_bit : ℕ → ℕ → ℕ → List ℕ
+id_of_bit base bits i = if bit_at bits i == 1 then (base + i) ∷ [] else []
+
+-- the ids of so many bits from the first on, those that are set
+abbrev pub ids_of_bits : ℕ → ℕ → ℕ → List ℕ
+ids_of_bits base bits count = ids_where (λ i. bit_at bits (i - base) == 1) base count
 
 -- the first id of a word is a multiple of 64
 abbrev pub StartsWord : EventProgress → Type 0

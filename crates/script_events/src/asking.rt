@@ -30,7 +30,8 @@ pub(crate) fn listen(
     max: u64,
 ) -> Result<EventReply, AllocError>
     requires few { events.old.drawn < 2 ^ 63 }
-    ensures { IfOk result (AnswersAsk events.old things.old.items events.new things.new.items party (to_listen name kind event.now max)) }
+    ensures { IfOk result (AnswersAsk events.old things.old.items events.new things.new.items party
+        (to_listen name kind event.now max)) }
 {
     things.reserve(1)?;
     match events.listen(kind, &full_name(event), max) {
@@ -60,7 +61,8 @@ pub(crate) fn add_notifier(
     event: &EventName,
 ) -> Result<EventReply, AllocError>
     requires few { HasFewNotifiers events.old }
-    ensures { IfOk result (AnswersAsk events.old things.old.items events.new things.new.items party (to_notify name kind event.now)) }
+    ensures { IfOk result (AnswersAsk events.old things.old.items events.new things.new.items party
+        (to_notify name kind event.now)) }
 {
     things.reserve(1)?;
     match events.notifier(kind, &full_name(event)) {

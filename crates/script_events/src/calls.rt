@@ -1,12 +1,9 @@
 //! Calls on an event: their accesses, the ids that they report, and what they are told at their end.
-ghost use Rattle.std.specs.Prelude.{◌≡◌, ◌++◌, ◌≤◌, ◌-◌, ◌^◌, ◌+◌, ◌<◌, ◌==◌, ◌∷◌, [], if◌then◌else◌, IsSomeAnd, OnOk};
-ghost use Rattle.std.specs.Int.{bit_at};
-ghost use Rattle.board_event_model.specs.EventMemory.{CanPerform};
+ghost use Rattle.std.specs.Prelude.{◌≡◌, ◌++◌, ◌≤◌, ◌^◌, ◌+◌, ◌<◌, OnOk};
 ghost use Rattle.board_event_model.specs.EventCalls as calls;
-ghost use Rattle.board_event_model.specs.Ids.{ids_where};
-ghost use Rattle.board_event.specs.EventTable.{event_at};
+ghost use Rattle.board_event.specs.EventTable.{CanPerformAt};
 ghost use Rattle.script_model.specs.ScriptEvents as model;
-ghost use Rattle.script_events.specs.Calls.{GoesOn, IsActStep, IsEndTold, StartsWord, may_end};
+ghost use Rattle.script_events.specs.Calls.{GoesOn, IsActStep, IsEndTold, StartsWord, id_of_bit, ids_of_bits, may_end};
 ghost use Rattle.script_events.specs.PartyEvents.{event_call};
 
 use crate::rows::{ActiveCall, CallTask};
@@ -20,7 +17,7 @@ impl ActiveCall {
     /// Makes the access that the call owes, and hands it the answer.
     pub(crate) fn step(&mut self, events: &mut Events, event: u64) -> EventStep
         requires goes_on { GoesOn (event_call self.old) }
-        requires can { IsSomeAnd (event_at events.old event) (λ e. CanPerform e (calls.owed (event_call self.old))) }
+        requires can { CanPerformAt events.old event (calls.owed (event_call self.old)) }
         ensures { IsActStep events.old events.new event (event_call self.old) (event_call self.new) result }
     {
         match self {
@@ -102,11 +99,11 @@ pub(crate) fn is_waiting(progress: EventProgress) -> bool
     matches!(progress, EventProgress::Waiting)
 }
 
-/// Puts the id of a bit behind those that were told, where the bit is set.
+/// Appends the bit's id to the ids taken so far, if it is set.
 fn tell_bit(base: u64, bits: u64, i: u64, told: &mut Vec<u64>) -> Result<(), AllocError>
     requires word { i < 64 }
     requires room { base + i < 2 ^ 64 }
-    ensures { OnOk result (told.new.items ≡ told.old.items ++ (if bit_at bits i == 1 then (base + i) ∷ [] else [])) }
+    ensures { OnOk result (told.new.items ≡ told.old.items ++ id_of_bit base bits i) }
 {
     if (bits >> i) & 1 == 1 {
         told.push(base + i)?;
@@ -114,11 +111,11 @@ fn tell_bit(base: u64, bits: u64, i: u64, told: &mut Vec<u64>) -> Result<(), All
     Ok(())
 }
 
-/// Puts the ids of the first bits of a word behind those that were told: `base + i` for each set bit i.
+/// Appends the ids of the first `count` bits to the ids taken so far: `base + i` for each bit i that is set.
 fn tell_bits(base: u64, bits: u64, count: u64, told: &mut Vec<u64>) -> Result<(), AllocError>
     requires word { count ≤ 64 }
     requires room { base + count ≤ 2 ^ 64 }
-    ensures { OnOk result (told.new.items ≡ told.old.items ++ ids_where (λ i. bit_at bits (i - base) == 1) base count) }
+    ensures { OnOk result (told.new.items ≡ told.old.items ++ ids_of_bits base bits count) }
 {
     for i in 0..count {
         tell_bit(base, bits, i, told)?;
@@ -126,7 +123,7 @@ fn tell_bits(base: u64, bits: u64, count: u64, told: &mut Vec<u64>) -> Result<()
     Ok(())
 }
 
-/// Puts the ids that an access reports behind those that were told.
+/// Appends the ids that an access reports to the ids taken so far.
 pub(crate) fn tell(progress: EventProgress, told: &mut Vec<u64>) -> Result<(), AllocError>
     requires { StartsWord progress }
     ensures { OnOk result (told.new.items ≡ told.old.items ++ calls.reported progress) }

@@ -60,7 +60,7 @@ impl PartyEvents {
         None
     }
 
-    /// The call of a party runs no more, and its listeners count as gone. What it holds stands for good. Takes no memory.
+    /// The call of a party runs no more, its listeners count as gone, and its names are never freed. Takes no memory.
     pub fn abandon(&mut self, party: &Name)
         requires { IsLed self.old }
         ensures { OfEach self.old (λ x. Represents self.new (events_abandoned x party.now)) }

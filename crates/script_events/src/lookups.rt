@@ -1,7 +1,7 @@
 //! What stands among the rows.
-ghost use Rattle.std.specs.Prelude.{◌≡◌, ◌∷◌, [], find, length, not, option_map};
+ghost use Rattle.std.specs.Prelude.{◌≡◌, ◌∷◌, [], find, length, option_map};
 ghost use Rattle.std.specs.List.{filter, position_from};
-ghost use Rattle.script_events.specs.Calls.{listened_in, notified_in};
+ghost use Rattle.script_events.specs.Calls.{calls_without, listened_in, notified_in, things_without};
 ghost use Rattle.script_events.specs.PartyEvents.{is_row_of, is_thing_of};
 
 use crate::rows::{CallRow, EventRow, Role};
@@ -70,7 +70,7 @@ pub(crate) fn notified(party: &Name, name: &Name, things: &[EventRow]) -> Option
 pub(crate) fn take_call(party: &Name, calls: &mut Vec<CallRow>) -> CallRow
     requires { length (filter (is_row_of party.now) calls.old.items) ≡ 1 }
     ensures one { filter (is_row_of party.now) calls.old.items ≡ result ∷ [] }
-    ensures left { calls.new.items ≡ filter (λ row. not (is_row_of party.now row)) calls.old.items }
+    ensures left { calls.new.items ≡ calls_without party.now calls.old.items }
 {
     let Some(place) = place_of_call(party, calls) else {
         // The row stands.
@@ -81,7 +81,7 @@ pub(crate) fn take_call(party: &Name, calls: &mut Vec<CallRow>) -> CallRow
 
 /// Takes out the rows of a party's calls.
 pub(crate) fn end_calls(party: &Name, calls: &mut Vec<CallRow>)
-    ensures { calls.new.items ≡ filter (λ row. not (is_row_of party.now row)) calls.old.items }
+    ensures { calls.new.items ≡ calls_without party.now calls.old.items }
 {
     calls.retain(|row| !(*party == row.party));
 }
@@ -90,7 +90,7 @@ pub(crate) fn end_calls(party: &Name, calls: &mut Vec<CallRow>)
 pub(crate) fn take_thing(party: &Name, name: &Name, things: &mut Vec<EventRow>) -> EventRow
     requires { length (filter (is_thing_of party.now name.now) things.old.items) ≡ 1 }
     ensures one { filter (is_thing_of party.now name.now) things.old.items ≡ result ∷ [] }
-    ensures left { things.new.items ≡ filter (λ row. not (is_thing_of party.now name.now row)) things.old.items }
+    ensures left { things.new.items ≡ things_without party.now name.now things.old.items }
 {
     let Some(place) = place_of_thing(party, name, things) else {
         // The row stands.

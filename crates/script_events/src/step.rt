@@ -1,8 +1,7 @@
 //! Steps of calls on events.
-ghost use Rattle.std.specs.Prelude.{◌≡◌, true, IfOk, IsSomeAnd};
+ghost use Rattle.std.specs.Prelude.{◌≡◌, true, IfOk};
 ghost use Rattle.board_event_model.specs.EventCalls.{owed};
-ghost use Rattle.board_event_model.specs.EventMemory.{CanPerform};
-ghost use Rattle.board_event.specs.EventTable.{event_at};
+ghost use Rattle.board_event.specs.EventTable.{CanPerformAt};
 ghost use Rattle.script_model.specs.ScriptEvents.{runs_on_events};
 ghost use Rattle.script_events.specs.Calls.{GoesOn, IsWentOn};
 ghost use Rattle.script_events.specs.PartyEvents.{IsLed, IsStepped, OfEach, event_call};
@@ -82,7 +81,7 @@ impl PartyEvents {
     /// A call makes the access that it owes, and stands among the calls again unless that was its last.
     fn go_on(&mut self, party: Name, mut act: Act) -> Result<Stepped, AllocError>
         requires goes_on { GoesOn (event_call act.call) }
-        requires can { IsSomeAnd (event_at self.old.events act.event) (λ e. CanPerform e (owed (event_call act.call))) }
+        requires can { CanPerformAt self.old.events act.event (owed (event_call act.call)) }
         ensures { IfOk result (IsWentOn self.old self.new party act) }
     {
         let event = act.event;
