@@ -4,10 +4,12 @@ use Rattle.board_model.specs.declared.answer.Answer.{Answer}
 use Rattle.board_model.specs.declared.answer.Answer.TheVariants as answer
 use Rattle.board_model.specs.declared.answer.Reason.{Reason}
 use Rattle.board_model.specs.declared.answer.Reason.TheVariants as reason
+use Rattle.board_model.specs.declared.line.Line.{Line}
 use Rattle.script_boards.specs.Machine as boards
 use Rattle.script_boards.specs.Machine.{drawn_by}
 use Rattle.script_events.specs.PartyEvents as events
 use Rattle.script_model.specs.declared.line.ScriptLine.{ScriptLine}
+use Rattle.script_model.specs.declared.line.ScriptLine.TheVariants as line
 use Rattle.script_model.specs.ScriptAnswers.{ScriptAnswer, script_answer_line}
 use Rattle.script_model.specs.ScriptTurns.{ScriptState}
 use Rattle.script_model.specs.ScriptSession.{IsRight, after}
@@ -53,6 +55,10 @@ pub record IsTelling {C : Type 0} (new : Machine C) (l : ScriptLine) (text : Lis
 -- so the text is, after each reached state that the machine stood for
 abbrev pub Tells : {C : Type 0} → Machine C → Machine C → ScriptLine → List ℕ → Type 0
 Tells old new l text = OfEachState old (IsTelling new l text)
+
+-- so it is of a line of boards
+abbrev pub TellsOfBoards : {C : Type 0} → Machine C → Machine C → Line → List ℕ → Type 0
+TellsOfBoards old new l text = Tells old new (line.Board l) text
 
 -- ---- answers of the machine of boards
 

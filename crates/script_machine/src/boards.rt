@@ -6,12 +6,11 @@ ghost use Rattle.board_model.specs.declared.line.Line.TheVariants as board_line;
 ghost use Rattle.board_model.specs.AnswerGrammar.{answer_line};
 ghost use Rattle.board_model.specs.LineGrammar.{IsLine, IsNumber};
 ghost use Rattle.board_model.specs.Requests as requests;
-ghost use Rattle.script_model.specs.declared.line.ScriptLine.TheVariants as line;
 ghost use Rattle.script_model.specs.ScriptEvents.{runs_on_events};
 ghost use Rattle.script_model.specs.ScriptTurns.{takes_event_name};
 ghost use Rattle.script_boards.specs.Machine.{drawn_by};
 ghost use Rattle.script_events.specs.PartyEvents as events;
-ghost use Rattle.script_machine.specs.ScriptMachine.{IsLed, OfEachState, Tells, is_gone_answer};
+ghost use Rattle.script_machine.specs.ScriptMachine.{IsLed, OfEachState, TellsOfBoards, is_gone_answer};
 
 use crate::machine::Machine;
 use board_cell_model::Access;
@@ -59,7 +58,8 @@ fn new_name(call: &Call) -> Option<Name>
 impl<C: BoardWords + Drop> Machine<C> {
     // Whether the thing that a call makes would have the name of a listener or notifier of its party.
     fn takes_event_name(&self, party: &Name, call: &Call) -> bool
-        ensures { OfEachState self.now (λ s. result ≡ takes_event_name s.events party.now (requests.new_name call.now)) }
+        ensures { OfEachState self.now (λ s. result ≡ takes_event_name s.events party.now
+            (requests.new_name call.now)) }
     {
         match new_name(call) {
             Some(name) => self.events.holds(party, &name),
@@ -77,7 +77,7 @@ impl<C: BoardWords + Drop> Machine<C> {
         requires led { IsLed self.old }
         requires line { IsLine (board_line.Begin party call) }
         requires empty { out.old.items ≡ [] }
-        ensures tells { OnOk result (Tells self.old self.new (line.Board (board_line.Begin party call)) out.new.items) }
+        ensures tells { OnOk result (TellsOfBoards self.old self.new (board_line.Begin party call) out.new.items) }
         ensures drawn { OnOk result (drawn_by self.new.boards ≤ drawn_by self.old.boards + 1) }
     {
         if self.events.runs(&party) {
@@ -98,7 +98,7 @@ impl<C: BoardWords + Drop> Machine<C> {
         requires led { IsLed self.old }
         requires line { IsLine (board_line.Step party.now) }
         requires empty { out.old.items ≡ [] }
-        ensures tells { OnOk result (Tells self.old self.new (line.Board (board_line.Step party.now)) out.new.items) }
+        ensures tells { OnOk result (TellsOfBoards self.old self.new (board_line.Step party.now) out.new.items) }
         ensures drawn { OnOk result (drawn_by self.new.boards ≤ drawn_by self.old.boards + 1) }
     {
         if self.events.runs(party) {
@@ -114,7 +114,7 @@ impl<C: BoardWords + Drop> Machine<C> {
         requires line { IsLine (board_line.Step party.now) }
         requires runs { events.OfEach self.old.events (λ x. runs_on_events x party.now ≡ true) }
         requires empty { out.old.items ≡ [] }
-        ensures tells { OnOk result (Tells self.old self.new (line.Board (board_line.Step party.now)) out.new.items) }
+        ensures tells { OnOk result (TellsOfBoards self.old self.new (board_line.Step party.now) out.new.items) }
         ensures drawn { drawn_by self.new.boards ≡ drawn_by self.old.boards }
     {
         match self.events.step(party)? {
@@ -145,7 +145,8 @@ impl<C: BoardWords + Drop> Machine<C> {
         requires led { IsLed self.old }
         requires line { IsLine (board_line.Release party.now name.now) }
         requires empty { out.old.items ≡ [] }
-        ensures tells { OnOk result (Tells self.old self.new (line.Board (board_line.Release party.now name.now)) out.new.items) }
+        ensures tells { OnOk result (TellsOfBoards self.old self.new
+            (board_line.Release party.now name.now) out.new.items) }
         ensures drawn { OnOk result (drawn_by self.new.boards ≤ drawn_by self.old.boards + 1) }
     {
         if self.events.runs(party) {
@@ -170,7 +171,7 @@ impl<C: BoardWords + Drop> Machine<C> {
         requires led { IsLed self.old }
         requires line { IsLine (board_line.Abandon party) }
         requires empty { out.old.items ≡ [] }
-        ensures tells { OnOk result (Tells self.old self.new (line.Board (board_line.Abandon party)) out.new.items) }
+        ensures tells { OnOk result (TellsOfBoards self.old self.new (board_line.Abandon party) out.new.items) }
         ensures drawn { OnOk result (drawn_by self.new.boards ≤ drawn_by self.old.boards + 1) }
     {
         let answer = self.boards.abandon(party)?;
@@ -186,7 +187,7 @@ impl<C: BoardWords + Drop> Machine<C> {
         requires led { IsLed self.old }
         requires line { IsLine (board_line.Words board) }
         requires empty { out.old.items ≡ [] }
-        ensures tells { OnOk result (Tells self.old self.new (line.Board (board_line.Words board)) out.new.items) }
+        ensures tells { OnOk result (TellsOfBoards self.old self.new (board_line.Words board) out.new.items) }
         ensures drawn { OnOk result (drawn_by self.new.boards ≤ drawn_by self.old.boards + 1) }
     {
         match self.boards.words_of(board)? {

@@ -39,7 +39,8 @@ fn no_wait(why: Reason) -> Reason
 impl<C: BoardWords + Drop> Machine<C> {
     // Whether boards hold the name of what a call on events makes.
     fn takes_board_name(&self, party: &Name, request: &EventRequest) -> bool
-        ensures { OfEachState self.now (λ s. result ≡ takes_board_name s.boards party.now (name_made request.now)) }
+        ensures { OfEachState self.now (λ s. result ≡ takes_board_name s.boards party.now
+            (name_made request.now)) }
     {
         match name_made(request) {
             Some(name) => self.boards.is_held(party, &name),
