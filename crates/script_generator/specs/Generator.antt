@@ -1,6 +1,6 @@
 -- The script that the words `gen N` make.
-use Rattle.std.specs.Prelude.{ℕ, zero, suc, ◌+◌, ◌*◌, ◌/◌, ◌%◌, ◌^◌, ◌==◌, nat_le, if◌then◌else◌, List, [], ◌∷◌, ◌++◌, codes, None}
-use Rattle.std.specs.List.{flat_map}
+use Rattle.std.specs.Prelude.{ℕ, zero, suc, ◌+◌, ◌*◌, ◌/◌, ◌%◌, ◌^◌, ◌==◌, nat_le, if◌then◌else◌, List, [], ◌∷◌, ◌++◌, codes, decimal, None}
+use Rattle.std.specs.List.{flat_map, join_with_byte}
 use Rattle.board_model.specs.declared.line.Call.{Call}
 use Rattle.board_model.specs.declared.line.Call.TheVariants as call
 use Rattle.board_model.specs.declared.line.Line.{Line}
@@ -13,9 +13,13 @@ use Rattle.board_model.specs.WorkedSessions.{added, no_limits, no_needs}
 
 -- ---- the opening: a board of two entries, with one writer and two readers
 
--- the party begins each call, and takes its one step
+-- the party begins the call, and takes its one step
+abbrev pub asked_once : List ℕ → Call → List Line
+asked_once party c = line.Begin party c ∷ line.Step party ∷ []
+
+-- so it does with each call
 abbrev pub asked_by : List ℕ → List Call → List Line
-asked_by party calls = flat_map (λ c. line.Begin party c ∷ line.Step party ∷ []) calls
+asked_by party calls = flat_map (λ c. asked_once party c) calls
 
 -- the board `gen` is made, of one word and of four
 abbrev pub create_board : Call
@@ -61,6 +65,10 @@ number_drawn n (suc k) = number_after (number_drawn n k)
 -- the four bits of a number from bit 32 on
 abbrev pub choice : ℕ → ℕ
 choice x = (x / 2 ^ 32) % 16
+
+-- a number four times, with commas between
+abbrev pub four_times : ℕ → List ℕ
+four_times k = join_with_byte 44 (decimal k ∷ decimal k ∷ decimal k ∷ decimal k ∷ [])
 
 -- line k for a choice: an update, a get, or a step
 abbrev pub line_for : ℕ → ℕ → Line

@@ -1,13 +1,11 @@
 //! Runs of the script that is made from a number.
 ghost use Rattle.std.specs.Prelude.{◌≡◌, ◌+◌, ◌∷◌, ◌++◌, [], ◌≤◌, ◌<◌, List, codes, decimal, true, IfOk, IsErrOf, OnOk};
-ghost use Rattle.std.specs.List.{join_with_byte};
 ghost use Rattle.board_model.specs.declared.line.Call.{Call};
 ghost use Rattle.board_model.specs.declared.line.Line.{Line};
-ghost use Rattle.board_model.specs.declared.line.Line.TheVariants as a_line;
 ghost use Rattle.board_model.specs.LineGrammar.{is_name, spell};
 ghost use Rattle.script_generator.specs.Counting.{HasCounted, SpellsCall, IsRunning, IsSummaryOf, RanMore, SpellsPlain};
 ghost use Rattle.script_generator.specs.Generator as generator;
-ghost use Rattle.script_generator.specs.Generator.{asked_by, generated, line_for, opening, reader_calls, writer_calls};
+ghost use Rattle.script_generator.specs.Generator.{asked_by, asked_once, four_times, generated, line_for, opening, reader_calls, writer_calls};
 ghost use Rattle.script_generator.specs.Summary.{IsGenerated};
 ghost use Rattle.script_loop.specs.Runs.{stream_of};
 ghost use Rattle.script_machine.specs.Counters.{EntryStands};
@@ -68,7 +66,7 @@ fn write_update_of_one(k: u64, line: &mut Vec<u8>) -> Result<(), AllocError>
 
 // Writes the line by which the entry of four words is updated, each of them with this number.
 fn write_update_of_four(k: u64, line: &mut Vec<u8>) -> Result<(), AllocError>
-    ensures { OnOk result (line.new.items ≡ codes "begin w update m1 q4:" ++ join_with_byte 44 (decimal k ∷ decimal k ∷ decimal k ∷ decimal k ∷ [])) }
+    ensures { OnOk result (line.new.items ≡ codes "begin w update m1 q4:" ++ four_times k) }
 {
     let mut buffer = Buffer::new();
     let digits = buffer.format(k).as_bytes();
@@ -145,7 +143,8 @@ impl Generator {
     fn ask(&mut self, party: &[u8], call: &[u8], line: &mut Vec<u8>) -> Result<(), AllocError>
         requires room { IsRunning self.old 2 }
         requires asked { (c : Call) × SpellsCall party.now call.now c }
-        ensures { OnOk result ((c : Call) → SpellsCall party.now call.now c → RanMore self.old self.new (a_line.Begin party.now c ∷ a_line.Step party.now ∷ [])) }
+        ensures { OnOk result ((c : Call) → SpellsCall party.now call.now c
+            → RanMore self.old self.new (asked_once party.now c)) }
     {
         write_begin(party, call, line)?;
         self.run(line)?;
