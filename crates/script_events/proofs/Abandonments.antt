@@ -12,7 +12,7 @@ use Rattle.board_event_model.specs.EventMemory.{Event, has_holder}
 use Rattle.board_event_model.specs.EventSessions.{StandingEvent, event_of, gone_with}
 use Rattle.board_event_model.proofs.QuietLemmas.{eqb_true}
 use Rattle.board_event_model.proofs.SoundLemmas.{some_same}
-use Rattle.board_event.specs.EventTable.{EventTable, changed, event_at, names_of, with_gone}
+use Rattle.board_event_core.specs.EventTable.{EventTable, changed, event_at, names_of, with_gone}
 use Rattle.script_model.specs.ScriptEvents.{EventThing, ScriptEvents, events_abandoned, listener}
 use Rattle.script_model.specs.SoundEvents.{AreSoundEvents}
 use Rattle.script_events.specs.declared.rows.EventRow.{EventRow}

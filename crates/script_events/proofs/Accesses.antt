@@ -7,7 +7,7 @@ use Rattle.board_event_model.specs.declared.access.EventAccess.TheVariants as ac
 use Rattle.board_event_model.specs.EventMemory.{Event, after, has_holder}
 use Rattle.board_event_model.specs.EventSessions.{change_at, event_of}
 use Rattle.board_event_model.proofs.QuietLemmas.{eqb_self, eqb_true}
-use Rattle.board_event.specs.EventTable.{EventTable, changed, event_at}
+use Rattle.board_event_core.specs.EventTable.{EventTable, changed, event_at}
 use Rattle.script_model.specs.ScriptEvents.{ScriptEvents}
 use Rattle.script_events.specs.declared.rows.EventRow.{EventRow}
 use Rattle.script_events.specs.PartyEvents.{Holds, as_list, listeners_in, notifiers_in, where_held}

@@ -7,7 +7,7 @@ use Rattle.board_event_model.specs.EventMemory.{Event, has_holder, new_event}
 use Rattle.board_event_model.specs.EventSessions.{EventSession, StandingEvent, event_of, listen, next_session}
 use Rattle.board_event_model.proofs.QuietLemmas.{eqb_true}
 use Rattle.board_event_model.proofs.SoundLemmas.{some_same}
-use Rattle.board_event.specs.EventTable.{EventTable, IsNotifierAnswer, changed, event_at, listen_answer, table_listened, names_of, notifier_of, with_notifier}
+use Rattle.board_event_core.specs.EventTable.{EventTable, IsNotifierAnswer, changed, event_at, listen_answer, table_listened, names_of, notifier_of, with_notifier}
 use Rattle.board_names.specs.declared.errors.event.ListenerCreateError.{ListenerCreateError}
 use Rattle.board_names.specs.declared.errors.event.ListenerCreateError.TheVariants as listener_error
 use Rattle.board_names.specs.declared.errors.event.NotifierCreateError.{NotifierCreateError}

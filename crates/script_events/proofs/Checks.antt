@@ -7,7 +7,7 @@ use Rattle.board_model.specs.LawfulSession.{State}
 use Rattle.board_event_model.specs.EventMemory.{Event}
 use Rattle.board_event_model.specs.EventCalls.{EventCall, new_call}
 use Rattle.board_event_model.specs.EventSessions.{PartyCall, do_at}
-use Rattle.board_event.specs.EventTable.{EventTable, event_at}
+use Rattle.board_event_core.specs.EventTable.{EventTable, event_at}
 use Rattle.board_event_model.specs.declared.call.WaitMode.{WaitMode}
 use Rattle.board_model.specs.Requests.{and_then}
 use Rattle.script_model.specs.declared.line.EventRequest.{EventRequest}

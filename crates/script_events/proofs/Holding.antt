@@ -11,7 +11,7 @@ use Rattle.board_model.specs.Things.{with_at}
 use Rattle.board_event_model.specs.EventMemory.{Event, has_holder}
 use Rattle.board_event_model.specs.EventSessions.{StandingEvent, change_at, event_of}
 use Rattle.board_event_model.proofs.QuietLemmas.{eqb_self, eqb_true}
-use Rattle.board_event.specs.EventTable.{EventTable, event_at}
+use Rattle.board_event_core.specs.EventTable.{EventTable, event_at}
 use Rattle.script_model.specs.ScriptEvents.{EventThing, ScriptEvents, listener, notifier, event_number}
 use Rattle.script_model.specs.SoundEvents.{AreSoundEvents, IsListening}
 use Rattle.script_events.specs.declared.rows.EventRow.{EventRow}

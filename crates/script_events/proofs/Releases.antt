@@ -6,7 +6,7 @@ use Rattle.board_names.specs.Table.{at}
 use Rattle.board_event_model.specs.EventMemory.{Event, has_holder}
 use Rattle.board_event_model.specs.EventSessions.{change_at, event_of}
 use Rattle.board_event_model.proofs.QuietLemmas.{eqb_self, eqb_true}
-use Rattle.board_event.specs.EventTable.{EventTable, changed, event_at, settled, without_listener, without_notifier}
+use Rattle.board_event_core.specs.EventTable.{EventTable, changed, event_at, settled, without_listener, without_notifier}
 use Rattle.script_model.specs.ScriptEvents.{EventThing, ScriptEvents, event_let_go, let_go_from, listener, names_left, notifier, event_number}
 use Rattle.script_model.specs.SoundEvents.{AreSoundEvents}
 use Rattle.script_events.specs.declared.rows.CallRow.{CallRow}

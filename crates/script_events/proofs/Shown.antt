@@ -5,7 +5,7 @@ use Rattle.board_event_model.specs.declared.access.EventAccess.{EventAccess}
 use Rattle.board_event_model.specs.declared.access.EventAnswer.{EventAnswer}
 use Rattle.board_event_model.specs.declared.kind.EventKind.{EventKind}
 use Rattle.board_event_model.specs.EventMemory.{Event}
-use Rattle.board_event.specs.EventTable.{event_at}
+use Rattle.board_event_core.specs.EventTable.{event_at}
 use Rattle.script_model.specs.declared.reply.EventReply.{EventReply}
 use Rattle.script_model.specs.ScriptAnswers.{ScriptAnswer, of_ask, of_event}
 use Rattle.script_model.specs.ScriptEvents.{IsStepOf, ScriptEvents, step_made}

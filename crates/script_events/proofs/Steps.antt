@@ -12,7 +12,7 @@ use Rattle.board_event_model.specs.EventMemory.{CanPerform, Event, IsRight, afte
 use Rattle.board_event_model.specs.EventCalls.{EventCall, a_notify, a_wait, is_last, is_waiting, owed, reported, turn, RunningCall, call_of, went_on}
 use Rattle.board_event_model.specs.EventSessions.{EventSession, PartyCall, change_at, do_at, doing_on, event_of, next_session, step_of, stepped_on, took_step}
 use Rattle.board_event_model.proofs.SoundLemmas.{after_kind}
-use Rattle.board_event.specs.EventTable.{EventTable, changed, event_at}
+use Rattle.board_event_core.specs.EventTable.{EventTable, changed, event_at}
 use Rattle.script_model.specs.declared.reply.EventReply.{EventReply}
 use Rattle.script_model.specs.ScriptAnswers.{ScriptAnswer, of_ask, of_event}
 use Rattle.script_model.specs.ScriptEvents.{EventAsk, EventThing, IsEventAccess, IsStepOf, ScriptEvents, ask_made, end_told, is_for_all, listener, notifier, event_number, opened, opened_with, step_made, step_told, to_listen, to_notify, with_ask, with_listener, notifier_more}

@@ -13,7 +13,7 @@ use Rattle.board_names.specs.Table.{at, putting, without}
 use Rattle.board_event_model.specs.declared.kind.EventKind.{EventKind}
 use Rattle.board_event_model.specs.declared.kind.EventKind.TheVariants as kind
 use Rattle.board_event_model.specs.EventMemory.{Event, holds_name, has_holder, new_event}
-use Rattle.board_event.specs.EventTable.{EventTable, changed, event_at, table_listened, named_with, names_of, settled, settled_with, with_event, with_names, without_event, without_name_of}
+use Rattle.board_event_core.specs.EventTable.{EventTable, changed, event_at, table_listened, named_with, names_of, settled, settled_with, with_event, with_names, without_event, without_name_of}
 use Rattle.script_model.specs.ScriptEvents.{names_left, name_held, without_name}
 use Rattle.board_event_model.proofs.QuietLemmas.{eqb_true}
 use Rattle.script_events.specs.PartyEvents.{AreOnce, IsOnce}

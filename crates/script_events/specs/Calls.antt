@@ -10,8 +10,8 @@ use Rattle.board_event_model.specs.declared.call.WaitStage.TheVariants as wait
 use Rattle.board_event_model.specs.EventMemory.{Event, IsRight, after}
 use Rattle.board_event_model.specs.Ids.{ids_where}
 use Rattle.board_event_model.specs.EventCalls.{EventCall, a_notify, a_wait, is_last, is_timed, is_waiting, owed, reported, turn}
-use Rattle.board_event.specs.EventTable.{EventTable, changed, event_at, with_gone}
-use Rattle.board_event.specs.declared.steps.EventStep.{EventStep}
+use Rattle.board_event_core.specs.EventTable.{EventTable, changed, event_at, with_gone}
+use Rattle.board_event_core.specs.declared.steps.EventStep.{EventStep}
 use Rattle.board_model.specs.declared.answer.Reason.{Reason}
 use Rattle.board_model.specs.LawfulSession.{State}
 use Rattle.script_model.specs.declared.line.EventRequest.{EventRequest}

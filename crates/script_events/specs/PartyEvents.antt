@@ -12,7 +12,7 @@ use Rattle.board_event_model.specs.declared.kind.EventKind.{EventKind}
 use Rattle.board_event_model.specs.EventMemory.{Event, has_holder}
 use Rattle.board_event_model.specs.EventCalls.{EventCall, a_notify, a_wait, call_of}
 use Rattle.board_event_model.specs.EventSessions.{PartyCall, event_of}
-use Rattle.board_event.specs.EventTable.{EventTable, event_at, names_of}
+use Rattle.board_event_core.specs.EventTable.{EventTable, event_at, names_of}
 use Rattle.board_model.specs.declared.answer.Reason.{Reason}
 use Rattle.board_model.specs.LawfulSession.{State}
 use Rattle.board_model.specs.Things.{is_held as holds_thing}

@@ -4,7 +4,7 @@ ghost use Rattle.script_model.specs.ScriptEvents.{to_listen, to_notify};
 ghost use Rattle.script_events.specs.Calls.{AnswersAsk, HasFewNotifiers};
 
 use crate::rows::{EventRow, Role};
-use board_event::{Events, ListenerCreateError, NotifierCreateError};
+use board_event_core::{Events, ListenerCreateError, NotifierCreateError};
 use board_event_model::EventKind;
 use board_layout::Text;
 use board_model::Name;

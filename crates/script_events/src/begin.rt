@@ -1,6 +1,6 @@
 //! Calls on events begin.
 ghost use Rattle.std.specs.Prelude.{◌≡◌, ◌||◌, false, IfOk, IsSome, IsSomeAnd};
-ghost use Rattle.board_event.specs.EventTable.{event_at};
+ghost use Rattle.board_event_core.specs.EventTable.{event_at};
 ghost use Rattle.script_model.specs.ScriptEvents.{holds_event, notify_call, runs_on_events, wait_call};
 ghost use Rattle.script_events.specs.Calls.{IsCheckedBy, IsNewAct};
 ghost use Rattle.script_events.specs.PartyEvents.{IsBegun, IsLed, OfEach, event_call};
@@ -8,7 +8,7 @@ ghost use Rattle.script_events.specs.PartyEvents.{IsBegun, IsLed, OfEach, event_
 use crate::lookups::{listened, notified};
 use crate::party_events::PartyEvents;
 use crate::rows::{Act, ActiveCall, CallRow, CallTask};
-use board_event::{NotifyCall, WaitCall};
+use board_event_core::{NotifyCall, WaitCall};
 use board_event_model::{EventKind, WaitMode};
 use board_model::{Name, Reason};
 use script_model::EventRequest;

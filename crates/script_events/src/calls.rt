@@ -1,13 +1,13 @@
 //! Calls on an event: their accesses, the ids that they report, and what they are told at their end.
 ghost use Rattle.std.specs.Prelude.{◌≡◌, ◌++◌, ◌≤◌, ◌^◌, ◌+◌, ◌<◌, OnOk};
 ghost use Rattle.board_event_model.specs.EventCalls as calls;
-ghost use Rattle.board_event.specs.EventTable.{CanPerformAt};
+ghost use Rattle.board_event_core.specs.EventTable.{CanPerformAt};
 ghost use Rattle.script_model.specs.ScriptEvents as model;
 ghost use Rattle.script_events.specs.Calls.{GoesOn, IsActStep, IsEndTold, StartsWord, id_of_bit, ids_of_bits, may_end};
 ghost use Rattle.script_events.specs.PartyEvents.{event_call};
 
 use crate::rows::{ActiveCall, CallTask};
-use board_event::{EventStep, Events, notify_step, wait_step};
+use board_event_core::{EventStep, Events, notify_step, wait_step};
 use board_event_model::{EventProgress, WaitMode};
 use board_model::Words;
 use script_model::EventReply;

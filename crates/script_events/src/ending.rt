@@ -8,7 +8,7 @@ ghost use Rattle.script_events.specs.PartyEvents.{IsLed, IsTurned, OfEach, Repre
 use crate::lookups::{end_calls, place_of_call, take_thing};
 use crate::party_events::PartyEvents;
 use crate::rows::{EventRow, Role};
-use board_event::Events;
+use board_event_core::Events;
 use board_model::{Name, Reason};
 
 /// Counts a listener as gone, where its row is of the party.

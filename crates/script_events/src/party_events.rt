@@ -1,12 +1,12 @@
 //! The events of a script, as its parties see them.
 ghost use Rattle.std.specs.Prelude.{◌≡◌, true, IsSome, IsSomeAnd};
-ghost use Rattle.board_event.specs.EventTable.{event_at};
+ghost use Rattle.board_event_core.specs.EventTable.{event_at};
 ghost use Rattle.script_model.specs.ScriptEvents.{holds_event, no_events, runs_on_events};
 ghost use Rattle.script_events.specs.PartyEvents.{OfEach, Represents};
 
 use crate::lookups::{place_of_call, place_of_thing};
 use crate::rows::{CallRow, EventRow};
-use board_event::Events;
+use board_event_core::Events;
 use board_event_model::EventKind;
 use board_model::Name;
 use board_names::FilePath;

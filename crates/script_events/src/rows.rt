@@ -1,5 +1,5 @@
 //! What parties hold of events, and the calls that they run.
-use board_event::{NotifyCall, WaitCall};
+use board_event_core::{NotifyCall, WaitCall};
 use board_event_model::EventKind;
 use board_model::Name;
 use script_model::EventName;

@@ -1,7 +1,7 @@
 //! Steps of calls on events.
 ghost use Rattle.std.specs.Prelude.{◌≡◌, true, IfOk};
 ghost use Rattle.board_event_model.specs.EventCalls.{owed};
-ghost use Rattle.board_event.specs.EventTable.{CanPerformAt};
+ghost use Rattle.board_event_core.specs.EventTable.{CanPerformAt};
 ghost use Rattle.script_model.specs.ScriptEvents.{runs_on_events};
 ghost use Rattle.script_events.specs.Calls.{GoesOn, IsWentOn};
 ghost use Rattle.script_events.specs.PartyEvents.{IsLed, IsStepped, OfEach, event_call};

@@ -1,7 +1,7 @@
 use Rattle.std.proofs.Common.{rules}
 use Rattle.std.specs.Prelude.{Ok}
 use Rattle.board_names.specs.Table.{at}
-use Rattle.board_event.specs.EventTable.{IsNotifierAnswer, names_of}
+use Rattle.board_event_core.specs.EventTable.{IsNotifierAnswer, names_of}
 use Rattle.script_events.proofs.Asks.{notifier_done}
 use Rattle.script_events.proofs.asking.add_notifier.Goals as goal
 

@@ -1,7 +1,7 @@
 use Rattle.std.proofs.Common.{◌≡◌, rules}
 use Rattle.std.specs.Prelude.{Ok}
 use Rattle.board_names.specs.Table.{at}
-use Rattle.board_event.specs.EventTable.{listen_answer, table_listened, names_of}
+use Rattle.board_event_core.specs.EventTable.{listen_answer, table_listened, names_of}
 use Rattle.script_events.proofs.Asks.{listen_done}
 use Rattle.script_events.proofs.asking.listen.Goals as goal
 

@@ -1,6 +1,6 @@
 use Rattle.std.proofs.Common.{◌≡◌, ◌+◌, ◌<◌, ◌∷◌, List, add-one, ap, drop, drop-cons, get_or, length, refl, rules, subst, sym, ◌∙◌}
 use Rattle.std.specs.List.{AllByRecursion}
-use Rattle.board_event.specs.EventTable.{EventTable}
+use Rattle.board_event_core.specs.EventTable.{EventTable}
 use Rattle.script_events.specs.declared.rows.EventRow.{EventRow}
 use Rattle.script_events.specs.Calls.{IsMarkable, marked_gone}
 use Rattle.script_events.proofs.Abandonments.{still_markable}

@@ -1,5 +1,0 @@
-use Rattle.board_event.proofs.RowLemmas.{found_before}
-use Rattle.board_event.proofs.event_rows.remove.Goals as goal
-
-pub returns-clause-left : goal.returns-clause-left
-returns-clause-left c = λ q n h. found_before _ _ _ _ (c.remove.ensures.updates.0 q) h

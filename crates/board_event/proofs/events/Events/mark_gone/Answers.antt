@@ -1,6 +1,0 @@
-use Rattle.board_event.specs.EventTable.{with_gone}
-use Rattle.board_event.proofs.StandingLemmas.{Keeps-gone, kept_changed}
-use Rattle.board_event.proofs.events.Events.mark_gone.Goals as goal
-
-pub invariant_of-self : goal.invariant_of-self
-invariant_of-self c = kept_changed _ _ _ with_gone Keeps-gone c.mark_gone.ensures c.self.invariant

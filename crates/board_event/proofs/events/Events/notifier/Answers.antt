@@ -1,6 +1,0 @@
-use Rattle.board_event.specs.EventTable.{with_notifier}
-use Rattle.board_event.proofs.StandingLemmas.{Keeps-notifier, kept_changed}
-use Rattle.board_event.proofs.events.Events.notifier.Goals as goal
-
-pub invariant_of-self : goal.invariant_of-self
-invariant_of-self c = kept_changed _ _ _ with_notifier Keeps-notifier c.add_notifier.ensures c.self.invariant

@@ -1,0 +1,13 @@
+use Rattle.std.specs.Prelude.{◌≡◌, true, refl}
+use Rattle.board_event_core.specs.EventTable.{without_listener}
+use Rattle.board_event_core.proofs.StandingLemmas.{changed_stands, kept_settled, stands_in}
+use Rattle.board_event_core.proofs.events.Events.release_listener.Goals as goal
+
+pub settle-requires : goal.settle-requires
+settle-requires c = changed_stands c.self.inside.rows c.drop_listener.new.self c.args.event without_listener
+    (stands_in c.self.inside.rows c.args.self.now c.args.event (λ e. e.held ≡ true) c.self.view_is c.requires) c.drop_listener.ensures
+
+pub invariant_of-self : goal.invariant_of-self
+invariant_of-self c = kept_settled c.self.inside.rows c.drop_listener.new.self c.settle.new.self c.args.event without_listener (λ e. (refl, refl)) c.self.invariant
+    (stands_in c.self.inside.rows c.args.self.now c.args.event (λ e. e.held ≡ true) c.self.view_is c.requires)
+    c.drop_listener.ensures c.settle.ensures.settled c.settle.ensures.left c.settle.ensures.gone
