@@ -16,9 +16,9 @@ use Rattle.board_event_model.specs.declared.call.WaitStage.TheVariants as wait
 use Rattle.board_event_model.specs.EventMemory.{Event, IsRight, after, is_bits, is_pending, pop_answer, push_answer, taken}
 use Rattle.board_event_model.specs.NotifyCalls.{Notify, is_yes, notify_owed, notify_queue, notify_turn, pushed}
 use Rattle.board_event_model.specs.WaitCalls.{Wait, nothing, popped, swapped, wait_owed, wait_queue, wait_turn, word_in}
-use Rattle.board_event_model.specs.EventCalls.{EventCall, a_notify, a_wait, is_last, owed, reported, turn, MetAccess, PartyName, RunningCall, call_of, new_call, went_on}
+use Rattle.board_event_model.specs.EventCalls.{EventCall, a_notify, a_wait, is_last, is_waiting, owed, reported, turn, MetAccess, PartyName, RunningCall, call_of, new_call, went_on}
 use Rattle.board_event_model.specs.EventRuns.{EventMove, IsAllowed, IsCallOf, IsReached, IsRun, Moment, Takes, abandon, begin, elsewhere, expire, listened, moved, notifiers, put, release_listener, run_to, step, stepped}
-use Rattle.board_event_model.specs.LawsOfCalls.{IsNotifyOk, IsOneOf, NoneLaw, NotifyLaw, QueueLaw, SeesEmptyWord, taken_by}
+use Rattle.board_event_model.specs.LawsOfCalls.{FoundListEmpty, IsNotifyOk, IsOneOf, NoneLaw, NotifyLaw, QueueLaw, SeesEmptyWord, taken_by}
 use Rattle.board_event_model.proofs.SetLemmas.{or_left, or_right, either}
 use Rattle.board_event_model.proofs.QuietLemmas.{eqb_true, eqb_self, StageFits}
 use Rattle.board_event_model.proofs.SoundLemmas.{put_each, some_same, none_some, sound_reached, run_kind, CallFits}
@@ -99,10 +99,32 @@ new_queue e l p (a_wait w) bits is =
     let same : w ≡ wait_queue w.many w.mode = rw bits at is.1 in
     (0, ap (λ (x : Wait). x.stage) same)
 
+abbrev StillWaits : EventProgress × WaitStage → Type 0
+StillWaits t = is_waiting t.0 ≡ true
+
+-- a pop after which a call waits found the list empty
+pop_found : (w : Wait) (k : ℕ) (queue : List ℕ) → is_waiting (popped w k (pop_answer queue)).0 ≡ true → queue ≡ []
+pop_found w k [] h = refl
+pop_found w k (x ∷ xs) h = absurd (of (w.many && not (k + 1 == 513)) h)
+  where
+    of : (b : Bool) → StillWaits (if b then (progress.Id x false, wait.Pop (k + 1)) else (progress.Id x true, wait.Finished)) → ⊥
+    of true f = false≢true f
+    of false f = false≢true f
+
+wait_found : (e : Event) (w : Wait) (k : ℕ) (stage : WaitStage) (a : EventAnswer) → stage ≡ wait.Pop k → IsRight e (wait_owed stage) a → is_waiting (wait_turn w stage a).0 ≡ true → (wait_owed stage ≡ access.Pop) × (e.queue ≡ [])
+wait_found e w k stage a is =
+    subst (λ (x : WaitStage). IsRight e (wait_owed x) a → is_waiting (wait_turn w x a).0 ≡ true → (wait_owed x ≡ access.Pop) × (e.queue ≡ [])) (sym is)
+    (λ right h. (refl, pop_found w k e.queue (subst (λ (b : EventAnswer). is_waiting (popped w k b).0 ≡ true) right h)))
+
+queue_found : (e : Event) (c : EventCall) (a : EventAnswer) → QueueCall c → IsRight e (owed c) a → is_last (turn c a).0 ≡ false → is_waiting (turn c a).0 ≡ true → (owed c ≡ access.Pop) × (e.queue ≡ [])
+queue_found e (a_notify n) a q right goes h = absurd (notify_on n n.stage a q goes)
+queue_found e (a_wait w) a q right goes h = wait_found e w q.0 w.stage a q.1 right h
+
 -- on a queue, every running call is of a queue
 pub record QueueTracked (r : RunningCall) : Type 0 where
   pub own : CallTracked r.told r.waited r.steps (call_of r)
   pub queue : QueueCall (call_of r)
+  pub found : r.waited ≡ true → FoundListEmpty r.steps
 
 abbrev pub AllQueue : (PartyName → Option RunningCall) → Type 0
 AllQueue running = (p : PartyName) (r : RunningCall) → running p ≡ Some r → QueueTracked r
@@ -115,6 +137,7 @@ step_queue now p r a all runs right =
       | inr f ↦ subst QueueTracked (some_same _ s (rw f at g)) (record {
         own = call_tracked now.event r.told r.waited r.steps (call_of r) a (all p r runs).own right f;
         queue = queue_goes now.event r.told r.waited r.steps (call_of r) a (all p r runs).own (all p r runs).queue right f;
+        found = queue_found now.event (call_of r) a (all p r runs).queue right f;
       })
     ])
     (λ q s d g. all q s g)
@@ -128,7 +151,7 @@ gone_queue running p all = put_each running p None (λ q s. QueueTracked s) (λ 
 
 queue_move : (now : Moment) (m : EventMove) → is_bits now.event.kind ≡ false → AllQueue now.running → IsAllowed now m → AllQueue (moved now m).running
 queue_move now (begin p c) bits all ok = put_each now.running p (Some (new_call now.begun c)) (λ q s. QueueTracked s)
-    (λ s n. subst QueueTracked (some_same _ _ n) (record { own = new_tracked now.event now.listener p c ok.1; queue = new_queue now.event now.listener p c bits ok.1 }))
+    (λ s n. subst QueueTracked (some_same _ _ n) (record { own = new_tracked now.event now.listener p c ok.1; queue = new_queue now.event now.listener p c bits ok.1; found = λ f. absurd (false≢true f) }))
     (λ q s d g. all q s g)
 queue_move now (step p a b) bits all ok = some_queue now p a b all (now.running p) refl ok
 queue_move now (expire p) bits all ok = gone_queue now.running p all

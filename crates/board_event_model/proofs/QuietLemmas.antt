@@ -1,10 +1,10 @@
 -- The step-invariants on which the quiet law rests, over plain variables.
-use Rattle.std.proofs.Common.{◌≡◌, ℕ, ◌+◌, ◌*◌, ◌/◌, ◌%◌, ◌<◌, ◌≤◌, Bool, true, false, eqb, ltb, refl, sym, ◌∙◌, ap, inl, inr, arith, subst, Some, List, ◌∷◌}
+use Rattle.std.proofs.Common.{◌≡◌, ℕ, ◌+◌, ◌*◌, ◌/◌, ◌%◌, ◌<◌, ◌≤◌, ◌^◌, Bool, true, false, eqb, ltb, refl, sym, ◌∙◌, ap, inl, inr, arith, subst, Some, List, ◌∷◌}
 use Rattle.std.specs.Prelude.{◌||◌, not, if◌then◌else◌, ◌==◌}
 use Rattle.std.proofs.lemmas.Bool.{false≢true}
 use Rattle.std.proofs.lemmas.Bool.Decides.{Decides-eqb, Decides-ltb}
-use Rattle.std.proofs.lemmas.Nat.Bits.{bit_at-zero}
-use Rattle.std.specs.Int.{bit_at}
+use Rattle.std.proofs.lemmas.Nat.Bits.{bit_at-trailing_zeros, bit_at-zero}
+use Rattle.std.specs.Int.{bit_at, trailing_zeros, w64}
 use Rattle.board_event_model.specs.declared.access.EventAccess.{EventAccess}
 use Rattle.board_event_model.specs.declared.access.EventAccess.TheVariants as access
 use Rattle.board_event_model.specs.declared.access.EventAnswer.{EventAnswer}
@@ -17,7 +17,7 @@ use Rattle.board_event_model.specs.declared.call.WaitStage.TheVariants as wait
 use Rattle.board_event_model.specs.Ids.{Ids, IsWord, has, in_word}
 use Rattle.board_event_model.specs.EventMemory.{Event, IsRight, after, yes_or_no}
 use Rattle.board_event_model.specs.NotifyCalls.{Notify, is_yes, notify_owed, notify_turn}
-use Rattle.board_event_model.specs.WaitCalls.{Wait, first_word, is_try, nothing, scanned, swapped, wait_owed, wait_turn, word_in}
+use Rattle.board_event_model.specs.WaitCalls.{Wait, first_word, is_try, least_id, nothing, scanned, swapped, wait_owed, wait_turn, word_in}
 use Rattle.board_event_model.specs.EventCalls.{is_last, TakenAccess}
 use Rattle.board_event_model.specs.LawsOfQuiet.{IsOpen, IsQuiet, has_ended, sets, last_setter, words_seen}
 use Rattle.board_event_model.proofs.SetLemmas.{or_split, and_split, not_true, is_false, either, has_inserted, has_retained}
@@ -130,6 +130,14 @@ nothing_goes e h m w a q =
       | false ↦ λ _. q
     ]
 
+-- the least id of a word is one of its own
+least_word : (k v : ℕ) → v < 2 ^ 64 → eqb v 0 ≡ false → least_id k v / 64 ≡ k
+least_word k v low some =
+    let apart : (v ≡ 0 → ⊥) = (λ e. false≢true (sym some ∙ (Decides-eqb v 0).1 e)) in
+    let t = bit_at-trailing_zeros w64 v (omega arith) low in
+    let inside : trailing_zeros w64 v < 64 = t.0 in
+    omega arith
+
 scan_goes : (e : Event) (h : List TakenAccess) (m : ℕ) (w : Wait) (k v : ℕ) → IsWord e.pending k v → k < w.words → IsQuiet e h k → Goes e h m w.words (access.Scan k) (scanned w k v)
 scan_goes e h m w k v is low q =
     elim (either (eqb v 0)) [
@@ -141,7 +149,8 @@ scan_goes e h m w k v is low q =
             | inl end ↦ rw end (nothing_goes e h m w _ (subst (IsQuiet e (record { call = m; access = access.Scan k; last = false } ∷ h)) (eqb_true _ _ end) more))
             | inr on ↦ rw on (λ _. more)
           ]))
-      | inr some ↦ rw some (λ _ z i p b. absurd (omega arith))
+      | inr some ↦ rw some (λ _ z i p b. wait_open i m _ h refl (q z i p (
+          let found = least_word k v is.small some in omega arith)))
     ]
 
 swap_goes : (e : Event) (h : List TakenAccess) (m : ℕ) (w : Wait) (k : ℕ) (some : Bool) (v : ℕ) → IsWord e.pending k v → k < w.words → IsQuiet e h k → Goes e h m w.words (access.Swap k) (swapped w k some v)

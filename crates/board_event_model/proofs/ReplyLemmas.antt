@@ -16,9 +16,9 @@ use Rattle.board_event_model.specs.Ids.{IsWord}
 use Rattle.board_event_model.specs.EventMemory.{Event, IsRight, is_bits, pop_answer, taken}
 use Rattle.board_event_model.specs.NotifyCalls.{Notify, is_yes, notify_bits, notify_owed, notify_queue, notify_turn}
 use Rattle.board_event_model.specs.WaitCalls.{Wait, first_word, is_try, nothing, popped, scanned, swapped, wait_bits, wait_owed, wait_queue, wait_turn, word_in}
-use Rattle.board_event_model.specs.EventCalls.{EventCall, a_notify, a_wait, is_last, is_timed, is_waiting, owed, reported, turn, MetAccess, PartyName, RunningCall, call_of, new_call, went_on}
+use Rattle.board_event_model.specs.EventCalls.{EventCall, a_notify, a_wait, is_last, is_waiting, owed, reported, turn, MetAccess, PartyName, RunningCall, call_of, new_call, went_on}
 use Rattle.board_event_model.specs.EventRuns.{EventMove, IsAllowed, IsCallOf, IsReached, IsRun, Moment, abandon, begin, elsewhere, expire, listened, moved, notifiers, put, release_listener, run_to, step, stepped}
-use Rattle.board_event_model.specs.LawsOfCalls.{ExpireLaw, IsNotifyOk, IsOneOf, ReplyLaw, SeesEmptyWord, taken_by}
+use Rattle.board_event_model.specs.LawsOfCalls.{IsNotifyOk, IsOneOf, ReplyLaw, SeesEmptyWord, taken_by}
 use Rattle.board_event_model.proofs.SetLemmas.{or_left, is_false, either, has_itself}
 use Rattle.board_event_model.proofs.QuietLemmas.{eqb_true, eqb_self, word_empty}
 use Rattle.board_event_model.proofs.SoundLemmas.{put_each, some_same, none_some}
@@ -136,6 +136,57 @@ wait_waits e told w (wait.Swap k some) a right h = swap_waits told w k some (wor
 wait_waits e told w wait.Look a right h = rw h (elim (is_yes a) as (λ b. Waits [] (if b then (progress.More, wait.Drain) else (progress.Waiting, wait.Look))) [ true ↦ λ f. absurd (false≢true f) | false ↦ λ f. refl ])
 wait_waits e told w (wait.Pop n) a right h = subst (λ (b : EventAnswer). Waits told (popped w n b)) (sym right) (pop_waits told w n e.queue h)
 wait_waits e told w wait.Finished a right h = λ f. absurd (false≢true f)
+
+-- a waiting look is made where a wait looks or pops
+abbrev pub WaitsAt : WaitStage → Type 0
+WaitsAt wait.Drain = ⊥
+WaitsAt (wait.Scan k) = ⊥
+WaitsAt (wait.Clear id) = ⊥
+WaitsAt (wait.Swap k some) = ⊥
+WaitsAt wait.Look = Unit {0}
+WaitsAt (wait.Pop n) = Unit {0}
+WaitsAt wait.Finished = ⊥
+
+abbrev Looks : EventProgress × WaitStage → Type 0
+Looks t = is_waiting t.0 ≡ true → WaitsAt t.1
+
+looks_if : (b : Bool) (x y : EventProgress × WaitStage) → Looks x → Looks y → Looks (if b then x else y)
+looks_if true x y h k = h
+looks_if false x y h k = k
+
+nothing_looks : (w : Wait) → Looks (nothing w)
+nothing_looks w = looks_if (is_try w.mode) (progress.Nothing, wait.Finished) (progress.More, wait.Look) (λ f. absurd (false≢true f)) (λ f. tt)
+
+scan_looks : (w : Wait) (k v : ℕ) → Looks (scanned w k v)
+scan_looks w k v =
+    looks_if (v == 0) (if k + 1 == w.words then nothing w else (progress.More, wait.Scan (k + 1))) _
+    (looks_if (k + 1 == w.words) (nothing w) (progress.More, wait.Scan (k + 1)) (nothing_looks w) (λ f. absurd (false≢true f))) (λ f. absurd (false≢true f))
+
+swap_looks : (w : Wait) (k : ℕ) (some : Bool) (v : ℕ) → Looks (swapped w k some v)
+swap_looks w k some v =
+    looks_if (k + 1 == w.words) (if some || not (v == 0) then (progress.Took (64 * k) v true, wait.Finished) else nothing w) ((if v == 0 then progress.More else progress.Took (64 * k) v false), wait.Swap (k + 1) (some || not (v == 0)))
+    (looks_if (some || not (v == 0)) (progress.Took (64 * k) v true, wait.Finished) (nothing w) (λ f. absurd (false≢true f)) (nothing_looks w))
+    (goes_on (v == 0))
+  where
+    goes_on : (b : Bool) → is_waiting (if b then progress.More else progress.Took (64 * k) v false) ≡ true → ⊥
+    goes_on true f = false≢true f
+    goes_on false f = false≢true f
+
+pop_looks : (w : Wait) (n : ℕ) (queue : List ℕ) → Looks (popped w n (pop_answer queue))
+pop_looks w n (x ∷ xs) = looks_if (w.many && not (n + 1 == 513)) (progress.Id x false, wait.Pop (n + 1)) (progress.Id x true, wait.Finished) (λ f. tt) (λ f. absurd (false≢true f))
+pop_looks w n [] =
+    looks_if (n == 0) (if is_try w.mode then (progress.Nothing, wait.Finished) else (progress.Waiting, wait.Pop 0)) (progress.Took 0 0 true, wait.Finished)
+    (looks_if (is_try w.mode) (progress.Nothing, wait.Finished) (progress.Waiting, wait.Pop 0) (λ f. absurd (false≢true f)) (λ f. tt))
+    (λ f. absurd (false≢true f))
+
+wait_looks : (e : Event) (w : Wait) (stage : WaitStage) (a : EventAnswer) → IsRight e (wait_owed stage) a → Looks (wait_turn w stage a)
+wait_looks e w wait.Drain a right = λ f. absurd (false≢true f)
+wait_looks e w (wait.Scan k) a right = scan_looks w k (word_in a)
+wait_looks e w (wait.Clear id) a right = λ f. absurd (false≢true f)
+wait_looks e w (wait.Swap k some) a right = swap_looks w k some (word_in a)
+wait_looks e w wait.Look a right = looks_if (is_yes a) (progress.More, wait.Drain) (progress.Waiting, wait.Look) (λ f. absurd (false≢true f)) (λ f. tt)
+wait_looks e w (wait.Pop n) a right = subst (λ (b : EventAnswer). Looks (popped w n b)) (sym right) (pop_looks w n e.queue)
+wait_looks e w wait.Finished a right = λ f. absurd (false≢true f)
 
 -- ---- the words that a wait has seen empty since its drain
 
@@ -315,6 +366,7 @@ NotifyTracked id steps notify.Finished = Unit {0}
 pub record WaitTracked (told : List ℕ) (waited : Bool) (steps : List MetAccess) (w : Wait) : Type 0 where
   pub reply : told ≡ taken_by steps
   pub none : waited ≡ true → told ≡ []
+  pub looks : waited ≡ true → WaitsAt w.stage
   pub stage : StageTold told w.stage
   pub seen : StageSeen steps w.stage
 
@@ -341,6 +393,7 @@ call_tracked e told waited steps (a_notify n) a h right goes = notify_tracked e 
 call_tracked e told waited steps (a_wait w) a h right goes = record {
   reply = told_more e told steps w a right h.reply;
   none = wait_waits e told w w.stage a right h.stage;
+  looks = wait_looks e w w.stage a right;
   stage = wait_tells e told w w.stage a right h.stage goes;
   seen = wait_seen e told steps w w.stage a right h.stage h.seen;
 }
@@ -348,8 +401,8 @@ call_tracked e told waited steps (a_wait w) a h right goes = record {
 pub new_tracked : (e : Event) (l p : PartyName) (c : EventCall) → IsCallOf e l p c → CallTracked [] false [] c
 new_tracked e l p (a_notify n) is = subst (λ (x : Notify). NotifyTracked n.id [] x.stage) (sym is) (elim (is_bits e.kind) as (λ b. NotifyTracked n.id [] (if b then notify_bits n.id e.max else notify_queue n.id).stage) [ true ↦ tt | false ↦ tt ])
 new_tracked e l p (a_wait w) is = subst (WaitTracked [] false []) (sym is.1) (elim (is_bits e.kind) as (λ b. WaitTracked [] false [] (if b then wait_bits (e.max / 64 + 1) w.many w.mode else wait_queue w.many w.mode)) [
-  | true ↦ record { reply = refl; none = λ f. refl; stage = refl; seen = tt }
-  | false ↦ record { reply = refl; none = λ f. refl; stage = refl; seen = tt }
+  | true ↦ record { reply = refl; none = λ f. refl; looks = λ f. absurd (false≢true f); stage = refl; seen = tt }
+  | false ↦ record { reply = refl; none = λ f. refl; looks = λ f. absurd (false≢true f); stage = refl; seen = tt }
 ])
 
 abbrev pub AllTracked : (PartyName → Option RunningCall) → Type 0
@@ -403,12 +456,3 @@ reply_law_holds now reached p r w a b takes call last =
     ap (λ (c : EventCall). r.told ++ reported (turn c b).0) call
     ∙ told_more now.event r.told r.steps w b right t.reply
     ∙ ap (λ (x : EventAccess). taken_by r.steps ++ taken now.event x) (sym own)
-
-expired : (told : List ℕ) (waited : Bool) (steps : List MetAccess) (c : EventCall) → CallTracked told waited steps c → is_timed c ≡ true → waited ≡ true → taken_by steps ≡ []
-expired told waited steps (a_notify n) h timed w = absurd (false≢true timed)
-expired told waited steps (a_wait v) h timed w = sym h.reply ∙ h.none w
-
-pub expire_law_holds : ExpireLaw
-expire_law_holds now reached p r runs ok =
-    let e : IsSomeAnd (Some r) (λ r. (is_timed (call_of r) ≡ true) × (r.waited ≡ true)) = subst (λ (x : Option RunningCall). IsSomeAnd x (λ r. (is_timed (call_of r) ≡ true) × (r.waited ≡ true))) runs ok in
-    expired r.told r.waited r.steps (call_of r) (tracked_reached now reached p r runs) e.0 e.1

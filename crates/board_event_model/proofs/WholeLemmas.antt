@@ -16,12 +16,14 @@ use Rattle.board_event_model.specs.Ids.{Ids, IsWord, has, ids_where, in_word}
 use Rattle.board_event_model.specs.EventMemory.{Event, IsRight, after, is_bits}
 use Rattle.board_event_model.specs.NotifyCalls.{Notify, is_yes, notify_owed}
 use Rattle.board_event_model.specs.WaitCalls.{Wait, first_word, swapped, wait_bits, wait_owed, wait_turn, word_in}
-use Rattle.board_event_model.specs.EventCalls.{EventCall, a_notify, a_wait, is_last, owed, reported, turn, MetAccess, PartyName, RunningCall, call_of, new_call, went_on}
+use Rattle.board_event_model.specs.EventCalls.{EventCall, a_notify, a_wait, is_last, is_timed, owed, reported, turn, MetAccess, PartyName, RunningCall, call_of, new_call, went_on}
 use Rattle.board_event_model.specs.EventRuns.{EventMove, IsAllowed, IsCallOf, IsReached, IsRun, Moment, abandon, begin, elsewhere, expire, listened, moved, notifiers, put, release_listener, run_to, step, stepped}
-use Rattle.board_event_model.specs.LawsOfCalls.{AllLaw, first_step}
-use Rattle.board_event_model.proofs.SetLemmas.{or_split, or_left, or_right, either, has_kept, has_retain}
+use Rattle.board_event_model.specs.LawsOfCalls.{AllLaw, ExpireLaw, FoundListEmpty, MetNonePending, first_step, taken_by}
+use Rattle.board_event_model.proofs.SetLemmas.{or_split, or_left, or_right, either, has_kept, has_retain, is_false}
 use Rattle.board_event_model.proofs.QuietLemmas.{eqb_true, eqb_self, StageFits}
 use Rattle.board_event_model.proofs.SoundLemmas.{put_each, some_same, none_some, Sound, sound_reached, sound_run, sound_start, run_kind, CallFits}
+use Rattle.board_event_model.proofs.EndLemmas.{queue_reached}
+use Rattle.board_event_model.proofs.ReplyLemmas.{CallTracked, WaitsAt, tracked_reached, wait_of}
 use Rattle.board_event_model.proofs.TrackLemmas.{swap_told}
 
 abbrev pub Told : List ℕ → ℕ → Type 0
@@ -260,3 +262,47 @@ all_law_holds now reached bits p r w a b takes call many last s first id pending
     let done : is_last (wait_turn w w.stage b).0 ≡ true = ap (λ (c : EventCall). is_last (turn c b).0) (sym call) ∙ last in
     ap (λ (c : EventCall). list_any (λ x. x == id) (r.told ++ reported (turn c b).0)) call
     ∙ (wait_keeps now.event r.told w w.stage b id right f.2 many (λ y. wait_bound now.event w id f.1 (sound.bounded id y)) (h.kept many id start)).ends done
+
+-- ---- a wait that expires
+
+-- the first of some accesses
+first_there : (e : Event) (s : MetAccess) (ss : List MetAccess) → IsSomeAnd (first_step (s ∷ ss)) (λ x. x.met ≡ first_met e (s ∷ ss))
+first_there e s [] = refl
+first_there e s (t ∷ ts) = first_there s.met t ts
+
+met_none : (o : Option MetAccess) (f : Event) → IsSomeAnd o (λ x. x.met ≡ f) → ((id : ℕ) → has f.pending id ≡ false) → IsSomeAnd o MetNonePending
+met_none None f h none = absurd h
+met_none (Some s) f h none = λ id. ap (λ (x : Event). has x.pending id) h ∙ none id
+
+-- a wait that looks has told each id that was pending at its first access, and where it has told nothing there was none
+none_pending : (e : Event) (told : List ℕ) (w : Wait) (steps : List MetAccess) (stage : WaitStage) → StageFits w stage → WaitsAt stage → StartsAt steps stage → told ≡ [] → FirstKept e told steps stage → IsSomeAnd (first_step steps) MetNonePending
+none_pending e told w steps wait.Drain fits at starts none kept = absurd at
+none_pending e told w steps (wait.Scan k) fits at starts none kept = absurd at
+none_pending e told w steps (wait.Clear id) fits at starts none kept = absurd at
+none_pending e told w steps (wait.Swap k some) fits at starts none kept = absurd at
+none_pending e told w [] wait.Look fits at starts none kept = absurd (let x = starts in cc)
+none_pending e told w (s ∷ ss) wait.Look fits at starts none kept =
+    met_none (first_step (s ∷ ss)) (first_met e (s ∷ ss)) (first_there e s ss)
+    (λ id. is_false _ (λ h. false≢true (subst (λ (x : List ℕ). Told x id) none (kept id h))))
+none_pending e told w steps (wait.Pop n) fits at starts none kept = absurd fits
+none_pending e told w steps wait.Finished fits at starts none kept = absurd fits
+
+expired_none : (told : List ℕ) (waited : Bool) (steps : List MetAccess) (c : EventCall) → CallTracked told waited steps c → is_timed c ≡ true → waited ≡ true → taken_by steps ≡ []
+expired_none told waited steps (a_notify n) h timed w = absurd (false≢true timed)
+expired_none told waited steps (a_wait v) h timed w = sym h.reply ∙ h.none w
+
+expired_all : (now : Moment) (p : PartyName) (r : RunningCall) (w : Wait) → IsReached now → is_bits now.event.kind ≡ true → now.running p ≡ Some r → r.waited ≡ true → call_of r ≡ a_wait w → w.many ≡ true → IsSomeAnd (first_step r.steps) MetNonePending
+expired_all now p r w reached bits runs waited call many =
+    let t = wait_of r.told r.waited r.steps (call_of r) w call (tracked_reached now reached p r runs) in
+    let f : CallFits now.event now.listener p (a_wait w) = subst (CallFits now.event now.listener p) call ((sound_reached now reached bits).each p r runs).fits in
+    let h : CallWhole now.event r.told r.steps (a_wait w) = subst (CallWhole now.event r.told r.steps) call (whole_reached now reached bits p r runs) in
+    none_pending now.event r.told w r.steps w.stage f.2 (t.looks waited) h.starts (t.none waited) (h.kept many)
+
+pub expire_law_holds : ExpireLaw
+expire_law_holds now reached p r runs ok =
+    let e : IsSomeAnd (Some r) (λ r. (is_timed (call_of r) ≡ true) × (r.waited ≡ true)) = subst (λ (x : Option RunningCall). IsSomeAnd x (λ r. (is_timed (call_of r) ≡ true) × (r.waited ≡ true))) runs ok in
+    record {
+      none = expired_none r.told r.waited r.steps (call_of r) (tracked_reached now reached p r runs) e.0 e.1;
+      all = λ bits w call many. expired_all now p r w reached bits runs e.1 call many;
+      list = λ bits. (queue_reached now reached bits p r runs).found e.1;
+    }

@@ -1,5 +1,5 @@
 -- The event law: what the ends of notifies and waits say of their own steps.
-use Rattle.std.specs.Prelude.{◌≡◌, ℕ, ◌+◌, ◌/◌, ◌<◌, true, false, ◌==◌, List, [], ◌∷◌, ◌++◌, length, Option, Some, None, ◌⊎◌}
+use Rattle.std.specs.Prelude.{◌≡◌, ℕ, ◌+◌, ◌/◌, ◌<◌, true, false, ◌==◌, List, [], ◌∷◌, ◌++◌, length, Option, Some, None, IsSomeAnd, ◌⊎◌}
 use Rattle.std.specs.List.{list_any}
 use Rattle.board_event_model.specs.declared.access.EventAccess.{EventAccess}
 use Rattle.board_event_model.specs.declared.access.EventAccess.TheVariants as access
@@ -63,10 +63,27 @@ ReplyLaw =
     (p : PartyName) (r : RunningCall) (w : Wait) (a : EventAccess) (answer : EventAnswer) → Takes now p r a answer → call_of r ≡ a_wait w →
     is_last (progress_with r answer) ≡ true → r.told ++ reported (progress_with r answer) ≡ taken_by (with_step now r a)
 
--- an expired wait has taken nothing
+-- no id was pending at this access
+abbrev pub MetNonePending : MetAccess → Type 0
+MetNonePending s = (id : ℕ) → has s.met.pending id ≡ false
+
+-- the last of these accesses was a pop that found the list empty
+abbrev pub FoundListEmpty : List MetAccess → Type 0
+FoundListEmpty [] = ⊥
+FoundListEmpty (s ∷ ss) = (s.access ≡ access.Pop) × (s.met.queue ≡ [])
+
+-- a wait that may expire has taken nothing
+pub record IsExpired (now : Moment) (r : RunningCall) : Type 0 where
+  pub none : taken_by r.steps ≡ []
+  -- one for all on bits loses no id that was pending at its first step: none was
+  pub all : is_bits now.event.kind ≡ true → (w : Wait) → call_of r ≡ a_wait w → w.many ≡ true → IsSomeAnd (first_step r.steps) MetNonePending
+  -- on the queue it saw the list empty at its last step
+  pub list : is_bits now.event.kind ≡ false → FoundListEmpty r.steps
+
+-- so an expired wait is a finished one
 abbrev pub ExpireLaw : Type 0
 ExpireLaw =
-    (now : Moment) → IsReached now → (p : PartyName) (r : RunningCall) → now.running p ≡ Some r → IsAllowed now (expire p) → taken_by r.steps ≡ []
+    (now : Moment) → IsReached now → (p : PartyName) (r : RunningCall) → now.running p ≡ Some r → IsAllowed now (expire p) → IsExpired now r
 
 -- none comes only to mode try, and only where nothing was taken
 pub record IsNoneOfTry (now : Moment) (r : RunningCall) (w : Wait) (a : EventAccess) : Type 0 where

@@ -60,11 +60,11 @@ PostsFollowSets (t ∷ ts) = (t.access ≡ access.Post → has_set t.call ts ≡
 abbrev pub PostLaw : Type 0
 PostLaw = (now : Moment) → IsReached now → PostsFollowSets now.history
 
--- how many words a wait has found empty or has swapped since its drain
+-- how many words a wait has found empty or has swapped since its drain: one that is about to clear found those before the id's word empty
 abbrev pub words_seen : ℕ → WaitStage → ℕ
 words_seen words wait.Drain = 0
 words_seen words (wait.Scan k) = k
-words_seen words (wait.Clear id) = 0
+words_seen words (wait.Clear id) = id / 64
 words_seen words (wait.Swap k some) = k
 words_seen words wait.Look = words
 words_seen words (wait.Pop n) = 0

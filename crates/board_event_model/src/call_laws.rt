@@ -11,7 +11,7 @@ pub fn waits_report_what_they_took()
     ensures { ReplyLaw }
 {}
 
-/// An expired wait has taken nothing.
+/// An expired wait has taken nothing: one for all on bits met no pending id at its first step, and one on a queue saw it empty at its last.
 pub fn expired_waits_took_nothing()
     ensures { ExpireLaw }
 {}

@@ -6,7 +6,7 @@ pub fn posts_follow_sets()
     ensures { PostLaw }
 {}
 
-/// Of a wait past its drain, while no signal stands, each pending id of a word that it has found empty or has swapped was last set by a notify that hasn't finished.
+/// Of a wait past its drain, one that is about to clear an id included: while no signal stands, each pending id of a word that it has found empty or has swapped was last set by a notify that hasn't finished.
 pub fn seen_words_are_quiet()
     ensures { SeenLaw }
 {}
