@@ -22,7 +22,7 @@ trying_count list w n p (finished c ws) h = absurd h
 pub running_get : RunningGetsAreShort
 running_get s party r f sound run rq = trying_count (s.published f.board f.entry) f.shape.words (length r.so_far) r.passed (reading f.shape.words r.so_far) (runs s party r (get f) sound run rq).try
 
-finished_is : (x : Reading) → is_finished x ≡ true → (c : ℕ) × (ws : List ℕ) × (x ≡ finished c ws)
+pub finished_is : (x : Reading) → is_finished x ≡ true → (c : ℕ) × (ws : List ℕ) × (x ≡ finished c ws)
 finished_is opening e = absurd cc
 finished_is (trying c ws) e = absurd cc
 finished_is (finished c ws) e = (c, ws, refl)

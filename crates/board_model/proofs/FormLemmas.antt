@@ -38,7 +38,7 @@ same_type_of key_type.U64 key_type.F8 e = absurd cc
 same_type_of key_type.F8 key_type.U64 e = absurd cc
 same_type_of key_type.F8 key_type.F8 e = refl
 
-detail_again : (k : KeyType) → key_type_of (key_detail k) ≡ k
+pub detail_again : (k : KeyType) → key_type_of (key_detail k) ≡ k
 detail_again key_type.U64 = refl
 detail_again key_type.F8 = refl
 

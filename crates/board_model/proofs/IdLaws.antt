@@ -1,6 +1,6 @@
 -- Entry ids.
 use Rattle.std.proofs.Common.{◌≡◌, ℕ, zero, suc, ◌+◌, ◌<◌, ◌≤◌, Bool, true, false, cond, List, [], ◌∷◌, arith, refl, sym, ap, subst, ◌∙◌, Option, Some, None, inl, inr}
-use Rattle.std.specs.Prelude.{slice_get, ◌⊎◌, if◌then◌else◌}
+use Rattle.std.specs.Prelude.{slice_get, ◌⊎◌, if◌then◌else◌, is_some}
 use Rattle.std.specs.List.{list_any}
 use Rattle.board_layout.specs.declared.type_detail.TypeDetail.{TypeDetail}
 use Rattle.board_model.specs.declared.answer.Reply.TheVariants as reply
@@ -9,21 +9,25 @@ use Rattle.board_model.specs.declared.line.Line.{Line}
 use Rattle.board_model.specs.declared.answer.Answer.{Answer}
 use Rattle.board_model.specs.declared.tables.Board.{Board}
 use Rattle.board_model.specs.declared.tables.Entry.{Entry}
+use Rattle.board_model.specs.declared.tables.Kind.{Kind}
+use Rattle.board_model.specs.declared.tables.Kind.TheVariants as kind
 use Rattle.board_model.specs.declared.value.Key.{Key}
 use Rattle.board_model.specs.declared.value.ValueType.{ValueType}
 use Rattle.board_layout.specs.Layout.{cell_end, cell_shape}
 use Rattle.board_model.specs.TypeTable.{same_type, value_detail}
-use Rattle.board_model.specs.Tables.{board_at, entry_at, entry_found, entry_from, entry_in, is_write_handle, of_type}
+use Rattle.board_model.specs.Tables.{board_at, entry_at, entry_found, entry_from, entry_in, entry_of, is_write_handle, of_type}
 use Rattle.board_model.specs.TableCalls.{asked, entry_asked, entry_mut_asked, first_of, place_of, with_write_handle}
-use Rattle.board_model.specs.Things.{Held, Standing}
+use Rattle.board_model.specs.Things.{Held, Standing, is_held_as}
 use Rattle.board_model.specs.Requests.{Request, create, info, entry, entry_mut, fill, fresh, get, discard, id, open_, loan, keys, nodes, publish, put, reader, table, gen, update, writer}
-use Rattle.board_model.specs.Replies.{ask, keeps_key, number_or}
+use Rattle.board_model.specs.Replies.{ask, id_number, keeps_key, number_or, place_in}
 use Rattle.board_model.specs.LawfulSession.{IsRight, State, state_after}
-use Rattle.board_model.specs.Sound.{BoardTables}
+use Rattle.board_model.specs.Sound.{BoardTables, HasBoard, Sound}
 use Rattle.board_model.specs.LawsOfSessions.{Pairs, at_one, at_two}
-use Rattle.board_model.specs.LawsOfIds.{AsksForHandle, EntriesHaveOtherPlaces, IsMade, OneKeyOneId, OtherEntriesOtherIds}
+use Rattle.board_model.specs.LawsOfIds.{AsksForHandle, EntriesHaveOtherPlaces, HandlesTellAlike, HandlesTellTheirIds, IsHandleAt, IsMade, IsToldId, OneKeyOneId, OtherEntriesOtherIds}
 use Rattle.board_model.proofs.SessionLaws.{apart, pair_step}
 use Rattle.board_model.proofs.BoardLemmas.{session_boards}
+use Rattle.board_model.proofs.RunningLemmas.{runs}
+use Rattle.board_model.proofs.ThingLemmas.{all_found}
 
 -- ---- places
 
@@ -197,3 +201,68 @@ other_ids p n i j number k l t u x y =
     let a = apart p in
     other_places (at_one p) n i j f.item f.other a.sound (placed_at (at_one p).standing.tables n i f.board (keeps_key k) f.item f.stands f.first) (placed_at (at_one p).standing.tables n j f.board (keeps_key l) f.other f.stands f.second)
     (sym f.told ∙ f.later)
+
+-- ---- ids that are told
+
+id_is : (x y : ℕ) → reply.Id x ≡ reply.Id y → x ≡ y
+id_is x y e = cc
+
+told_of_kind : (s : Standing) (x : Held) (n place number : ℕ) (k : Kind) → x.kind ≡ k → x.board ≡ n → IsHandleAt k place → number ≡ id_number s x k → number ≡ place_in (entry_at s.tables n place)
+told_of_kind s x n place number (kind.ReadHandle i) is board at told =
+    told ∙ ap place_in (ap (λ (k : Kind). entry_at s.tables x.board (entry_of k)) is ∙ ap (λ (b : ℕ). entry_at s.tables b i) board ∙ ap (entry_at s.tables n) at)
+told_of_kind s x n place number (kind.WriteHandle i port) is board at told =
+    told ∙ ap place_in (ap (λ (k : Kind). entry_at s.tables x.board (entry_of k)) is ∙ ap (λ (b : ℕ). entry_at s.tables b i) board ∙ ap (entry_at s.tables n) at)
+told_of_kind s x n place number kind.Factory is board at told = absurd at
+told_of_kind s x n place number (kind.Reader port) is board at told = absurd at
+told_of_kind s x n place number (kind.Writer port) is board at told = absurd at
+
+-- the board of a thing that stands
+record Stands (t : BoardTables) (n : ℕ) : Type 0 where
+  board : Board
+  is : board_at t n ≡ Some board
+
+some_board : (t : BoardTables) (n : ℕ) (o : Option Board) → board_at t n ≡ o → is_some o ≡ true → Stands t n
+some_board t n None e h = absurd cc
+some_board t n (Some b) e h = record { board = b; is = e }
+
+-- a handle that was asked for its id tells where its entry's cell is, and its board stands
+record IsToldPlace (t : BoardTables) (n place number : ℕ) : Type 0 where
+  told : number ≡ place_in (entry_at t n place)
+  stands : Stands t n
+
+told_place : (s : State) (pair : Line × Answer) (n place number : ℕ) → Sound s → IsRight s pair.0 pair.1 → IsToldId s pair n place number → IsToldPlace s.standing.tables n place number
+told_place s pair n place number sound h m =
+    let st = pair_step s pair m.party m.call m.access (Some (reply.Id number)) m.runs m.line m.answer h in
+    let told : number ≡ id_number s.standing m.handle m.handle.kind = id_is number _ (st.reply.reply ∙ ap (λ (q : Request). (ask s.standing s.published m.party q).reply) m.request) in
+    let calls = runs s m.party m.call (table (id m.handle)) sound m.runs m.request in
+    let thing_stands = all_found (HasBoard s.standing.tables) (is_held_as m.party m.handle.name) s.standing.tables.things calls.1.thing sound.things.standing calls.1.found in
+    let stands : is_some (board_at s.standing.tables n) ≡ true = ap (λ (b : ℕ). is_some (board_at s.standing.tables b)) (sym (calls.1.is_of ∙ m.board)) ∙ thing_stands in
+    record {
+      told = told_of_kind s.standing m.handle n place number m.handle.kind refl m.board m.of_entry told;
+      stands = some_board s.standing.tables n (board_at s.standing.tables n) refl stands;
+    }
+
+-- a board that stands at the second moment stood at the first
+stood : (p : Pairs) (n : ℕ) (b : Board) → n ≤ (at_one p).standing.tables.last_board → board_at (at_two p).standing.tables n ≡ Some b → board_at (at_one p).standing.tables n ≡ Some b
+stood p n b drawn stands =
+    let a = apart p in
+    session_boards (p.one ∷ p.between) (at_one p) (a.one, a.between) a.sound n b drawn (subst (λ (s : State). board_at s.standing.tables n ≡ Some b) a.state stands)
+
+pub handles_tell : HandlesTellTheirIds
+handles_tell p n place one two k t x y =
+    let a = apart p in
+    let f = made (at_one p) p.one n place one k t a.one x in
+    let g = told_place (at_two p) p.two n place two a.last a.two y in
+    let drawn : n ≤ (at_one p).standing.tables.last_board = a.sound.boards.numbered n f.board f.stands in
+    let same : g.stands.board ≡ f.board = same_board g.stands.board f.board (sym (stood p n g.stands.board drawn g.stands.is) ∙ f.stands) in
+    let here : entry_at (at_two p).standing.tables n place ≡ Some f.item = placed_at (at_two p).standing.tables n place f.board (keeps_key k) f.item (g.stands.is ∙ ap Some same) f.first in
+    f.told ∙ ap place_in (sym here) ∙ sym g.told
+
+pub tell_alike : HandlesTellAlike
+tell_alike p n place one two x y =
+    let a = apart p in
+    let f = told_place (at_one p) p.one n place one a.sound a.one x in
+    let g = told_place (at_two p) p.two n place two a.last a.two y in
+    let drawn : n ≤ (at_one p).standing.tables.last_board = a.sound.boards.numbered n f.stands.board f.stands.is in
+    let same : board_at (at_one p).standing.tables n ≡ board_at (at_two p).standing.tables n = stood p n g.stands.board drawn g.stands.is ∙ sym g.stands.is in
+    f.told ∙ ap (λ (o : Option Board). place_in (entry_in o place)) same ∙ sym g.told

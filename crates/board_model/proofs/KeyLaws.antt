@@ -1,5 +1,5 @@
 -- When keys are equal, and what a lookup takes.
-use Rattle.std.proofs.Common.{◌≡◌, ℕ, zero, suc, ◌+◌, ◌<◌, Bool, true, false, cond, List, [], ◌∷◌, map, arith, refl, sym, ap, subst, ◌∙◌, Some}
+use Rattle.std.proofs.Common.{◌≡◌, ℕ, zero, suc, ◌+◌, ◌<◌, Bool, true, false, cond, List, [], ◌∷◌, map, arith, refl, sym, ap, subst, ◌∙◌, Some, None}
 use Rattle.std.specs.Prelude.{slice_get}
 use Rattle.std.specs.Str.{bytes_eq}
 use Rattle.std.specs.Char.{to_ascii_lowercase}
@@ -7,7 +7,7 @@ use Rattle.std.proofs.lemmas.Slice.Eq.{bytes_eq-Decides}
 use Rattle.board_model.specs.declared.tables.Entry.{Entry}
 use Rattle.board_model.specs.declared.value.KeyType.TheVariants as key_type
 use Rattle.board_model.specs.Tables.{entry_from}
-use Rattle.board_model.specs.LawsOfKeys.{EqualKeysAreAnEquivalence, IsFirst, LookupsTakeTheFirst}
+use Rattle.board_model.specs.LawsOfKeys.{EqualKeysAreAnEquivalence, IsFirst, LookupsTakeNone, LookupsTakeTheFirst}
 use Rattle.board_model.proofs.ListLemmas.{same_bytes}
 
 -- ---- equal keys
@@ -71,3 +71,27 @@ first_taken is_key entries place e h =
     let r = first_from is_key entries 0 place e h in
     let p : r.at ≡ place = omega (arith, r.sum) in
     subst (λ (i : ℕ). IsFirst is_key entries i e) p r.first
+
+no_item : (i : ℕ) (e : Entry) → slice_get [] i ≡ Some e → ⊥
+no_item i e g = absurd cc
+
+none_from : (is_key : List ℕ → Bool) (entries : List Entry) (from : ℕ) → entry_from from is_key entries ≡ None → (i : ℕ) (e : Entry) → slice_get entries i ≡ Some e → is_key e.key.bytes ≡ false
+none_from is_key [] from h = λ i e g. absurd (no_item i e g)
+none_from is_key (x ∷ xs) from h = at (is_key x.key.bytes) refl h (none_from is_key xs (from + 1))
+  where
+    same_entry : (y z : Entry) → Some y ≡ Some z → y ≡ z
+    same_entry y z u = cc
+
+    at : (z : Bool) → is_key x.key.bytes ≡ z → cond z (Some (from, x)) (entry_from (from + 1) is_key xs) ≡ None
+        → (entry_from (from + 1) is_key xs ≡ None → (i : ℕ) (e : Entry) → slice_get xs i ≡ Some e → is_key e.key.bytes ≡ false)
+        → (i : ℕ) (e : Entry) → slice_get (x ∷ xs) i ≡ Some e → is_key e.key.bytes ≡ false
+    at true t k more i e g = absurd cc
+    at false t k more zero e g = subst (λ (y : Entry). is_key y.key.bytes ≡ false) (same_entry x e g) t
+    at false t k more (suc i) e g = more k i e g
+
+all_from : (is_key : List ℕ → Bool) (entries : List Entry) (from : ℕ) → ((i : ℕ) (e : Entry) → slice_get entries i ≡ Some e → is_key e.key.bytes ≡ false) → entry_from from is_key entries ≡ None
+all_from is_key [] from h = refl
+all_from is_key (x ∷ xs) from h = rw (h 0 x refl) (all_from is_key xs (from + 1) (λ i e g. h (suc i) e g))
+
+pub none_taken : LookupsTakeNone
+none_taken = record { none = λ is_key entries h. none_from is_key entries 0 h; all = λ is_key entries h. all_from is_key entries 0 h }

@@ -33,3 +33,6 @@ pub mod KeptFormLemmas
 pub mod ReplyFormLemmas
 pub mod FormLaws
 pub mod KeyLaws
+pub mod OtherLemmas
+pub mod SlowLemmas
+pub mod ListingLaws

@@ -1,8 +1,9 @@
 -- Laws of how many steps a call takes.
-use Rattle.std.specs.Prelude.{◌≡◌, ℕ, ◌+◌, ◌*◌, ◌<◌, ◌≤◌, ◌==◌, ◌&&◌, ◌||◌, Bool, true, false, if◌then◌else◌, List, [], ◌∷◌, ◌++◌, length}
+use Rattle.std.specs.Prelude.{◌≡◌, ℕ, ◌+◌, ◌-◌, ◌*◌, ◌<◌, ◌≤◌, ◌==◌, ◌&&◌, ◌||◌, Bool, true, false, if◌then◌else◌, List, [], ◌∷◌, ◌++◌, length, Option, Some, None}
 use Rattle.std.specs.Str.{bytes_eq}
 use Rattle.board_cell_model.specs.declared.access.Access.{Access}
 use Rattle.board_cell_model.specs.declared.access.Access.TheVariants as access
+use Rattle.board_cell_model.specs.OwedAccesses.{heard}
 use Rattle.board_model.specs.declared.answer.Answer.{Answer}
 use Rattle.board_model.specs.declared.answer.Answer.TheVariants as answer
 use Rattle.board_model.specs.declared.line.Line.{Line}
@@ -91,3 +92,27 @@ is_long request = false
 abbrev pub OtherCallsTakeOneStep : Type 0
 OtherCallsTakeOneStep = (s : State) (party : List ℕ) (r : Running) (a : Access) → IsTaking s party r a → is_long r.request ≡ false
     → (is_done r.request (r.so_far ++ a ∷ []) ≡ true) × (length (r.so_far ++ a ∷ []) ≡ 1)
+
+-- ---- the steps of a get, by how far its list grew
+
+-- the counter that a get has read first
+abbrev pub first_counter : List Access → Option ℕ
+first_counter [] = None
+first_counter (a ∷ more) = Some (heard a)
+
+-- it is the length of its list at its first step
+abbrev pub FirstCountersAreLengths : Type 0
+FirstCountersAreLengths = (s : State) (party : List ℕ) (r : Running) (a : Access) (f : Fetch) → IsTaking s party r a → r.request ≡ get f → length r.so_far ≡ 0
+    → first_counter (r.so_far ++ a ∷ []) ≡ Some (length (s.published f.board f.entry))
+
+-- a get whose list had this length at its first step, and has this one at its last: w + 2 steps, and w + 1 more for each value that was published meanwhile
+pub record IsShortFor (low high words steps : ℕ) : Type 0 where
+  pub grown : low ≤ high
+  pub least : words + 2 ≤ steps
+  pub most : steps ≤ words + 2 + (high - low) * (words + 1)
+
+-- so many steps take the gets of a lawful session
+abbrev pub GetsAreShortByGrowth : Type 0
+GetsAreShortByGrowth = (pairs : Session) (party : List ℕ) (r : Running) (a : Access) (f : Fetch) (low : ℕ) → IsLawful pairs
+    → IsLast (state_after start pairs) party r a → r.request ≡ get f → first_counter (r.so_far ++ a ∷ []) ≡ Some low
+    → IsShortFor low (length ((state_after start pairs).published f.board f.entry)) f.shape.words (length (r.so_far ++ a ∷ []))

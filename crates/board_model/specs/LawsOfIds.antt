@@ -7,12 +7,16 @@ use Rattle.board_model.specs.declared.answer.Reply.TheVariants as reply
 use Rattle.board_model.specs.declared.line.Line.{Line}
 use Rattle.board_model.specs.declared.line.Line.TheVariants as line
 use Rattle.board_model.specs.declared.tables.Entry.{Entry}
+use Rattle.board_model.specs.declared.tables.Kind.{Kind}
+use Rattle.board_model.specs.declared.tables.Kind.TheVariants as kind
 use Rattle.board_model.specs.declared.value.Key.{Key}
 use Rattle.board_model.specs.declared.value.ValueType.{ValueType}
 use Rattle.board_model.specs.TypeTable.{value_detail}
 use Rattle.board_model.specs.Tables.{board_at, entry_at, entry_found}
 use Rattle.board_model.specs.TableCalls.{place_of}
+use Rattle.board_model.specs.Things.{Held}
 use Rattle.board_model.specs.Requests.{Request, TableCall, entry, entry_mut, table}
+use Rattle.board_model.specs.Requests as requests
 use Rattle.board_model.specs.Replies.{keeps_key}
 use Rattle.board_model.specs.Parties.{Running, running}
 use Rattle.board_model.specs.LawfulSession.{State}
@@ -55,3 +59,33 @@ OneKeyOneId = (p : Pairs) (n i j one two : ℕ) (k : Key) (t u : ValueType) → 
 abbrev pub OtherEntriesOtherIds : Type 0
 OtherEntriesOtherIds = (p : Pairs) (n i j id : ℕ) (k l : Key) (t u : ValueType) → IsMade (at_one p) p.one n i k t id → IsMade (at_two p) p.two n j l u id
     → i ≡ j
+
+-- ---- the ids that `id` tells
+
+-- a handle of the entry at this place
+abbrev pub IsHandleAt : Kind → ℕ → Type 0
+IsHandleAt (kind.ReadHandle i) place = i ≡ place
+IsHandleAt (kind.WriteHandle i port) place = i ≡ place
+IsHandleAt k place = ⊥
+
+-- the pair ends a call that asks for the id of a handle of the entry at this place of the board, and tells this id
+pub record IsToldId (s : State) (pair : Line × Answer) (n place id : ℕ) : Type 0 where
+  pub party : List ℕ
+  pub call : Running
+  pub access : Access
+  pub handle : Held
+  pub runs : s.parties party ≡ running call
+  pub request : call.request ≡ table (requests.id handle)
+  pub board : handle.board ≡ n
+  pub of_entry : IsHandleAt handle.kind place
+  pub line : pair.0 ≡ line.Step party
+  pub answer : pair.1 ≡ answer.Step access (Some (reply.Id id))
+
+-- a handle tells the id that was told when a handle of its entry was made
+abbrev pub HandlesTellTheirIds : Type 0
+HandlesTellTheirIds = (p : Pairs) (n place one two : ℕ) (k : Key) (t : ValueType) → IsMade (at_one p) p.one n place k t one → IsToldId (at_two p) p.two n place two
+    → one ≡ two
+
+-- and so does each handle of the entry, at any two moments of a session
+abbrev pub HandlesTellAlike : Type 0
+HandlesTellAlike = (p : Pairs) (n place one two : ℕ) → IsToldId (at_one p) p.one n place one → IsToldId (at_two p) p.two n place two → one ≡ two

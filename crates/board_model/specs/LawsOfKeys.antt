@@ -1,5 +1,5 @@
 -- Laws of keys: when they are equal, what a lookup takes, and how they are told.
-use Rattle.std.specs.Prelude.{◌≡◌, ℕ, ◌<◌, Bool, true, false, List, slice_get, Some}
+use Rattle.std.specs.Prelude.{◌≡◌, ℕ, ◌<◌, Bool, true, false, List, slice_get, Some, None}
 use Rattle.board_model.specs.declared.tables.Entry.{Entry}
 use Rattle.board_model.specs.declared.value.Key.{Key}
 use Rattle.board_model.specs.declared.value.KeyType.{KeyType}
@@ -30,3 +30,10 @@ pub record IsFirst (is_key : List ℕ → Bool) (entries : List Entry) (place : 
 -- a lookup takes the first entry, in the order of adding, whose key is equal
 abbrev pub LookupsTakeTheFirst : Type 0
 LookupsTakeTheFirst = (is_key : List ℕ → Bool) (entries : List Entry) (place : ℕ) (e : Entry) → entry_from 0 is_key entries ≡ Some (place, e) → IsFirst is_key entries place e
+
+-- where a lookup takes none, no entry's key is equal, and the other way round
+pub record LookupsTakeNone : Type 0 where
+  pub none : (is_key : List ℕ → Bool) (entries : List Entry) → entry_from 0 is_key entries ≡ None
+      → (i : ℕ) (e : Entry) → slice_get entries i ≡ Some e → is_key e.key.bytes ≡ false
+  pub all : (is_key : List ℕ → Bool) (entries : List Entry) → ((i : ℕ) (e : Entry) → slice_get entries i ≡ Some e → is_key e.key.bytes ≡ false)
+      → entry_from 0 is_key entries ≡ None

@@ -24,3 +24,5 @@ pub mod WorkedSessions
 pub mod LawsOfForms
 pub mod LawsOfKeys
 pub mod WorkedUpdates
+pub mod LawsOfOthers
+pub mod LawsOfListings

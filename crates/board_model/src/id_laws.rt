@@ -1,5 +1,5 @@
 //! Laws of entry ids. Each function's contract is a theorem over the definitions alone.
-ghost use Rattle.board_model.specs.LawsOfIds.{EntriesHaveOtherPlaces, OneKeyOneId, OtherEntriesOtherIds};
+ghost use Rattle.board_model.specs.LawsOfIds.{EntriesHaveOtherPlaces, HandlesTellAlike, HandlesTellTheirIds, OneKeyOneId, OtherEntriesOtherIds};
 
 /// Two entries of a board have two places.
 pub fn entries_have_other_places()
@@ -14,4 +14,14 @@ pub fn one_key_one_id()
 /// The ids of two entries of a board differ.
 pub fn other_entries_other_ids()
     ensures { OtherEntriesOtherIds }
+{}
+
+/// A handle that is asked for its id tells the one that was told when a handle of its entry was made.
+pub fn handles_tell_their_ids()
+    ensures { HandlesTellTheirIds }
+{}
+
+/// Two handles of one entry tell the same id, at any two moments of a session.
+pub fn handles_tell_alike()
+    ensures { HandlesTellAlike }
 {}

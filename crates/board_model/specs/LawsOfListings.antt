@@ -1,0 +1,49 @@
+-- Laws of what is told of a board: its nodes ascend and differ, ports are counted once, and its keys are told in the order of adding.
+use Rattle.std.specs.Prelude.{◌≡◌, ℕ, true, ◌==◌, List, [], ◌∷◌, length, map, Some}
+use Rattle.std.specs.List.{AllByRecursion, list_any}
+use Rattle.std.specs.Str.{bytes_eq}
+use Rattle.board_model.specs.declared.attributes.Attribute.{Attribute}
+use Rattle.board_model.specs.declared.tables.Limits.{Limits}
+use Rattle.board_model.specs.declared.value.AddedEntry.{AddedEntry}
+use Rattle.board_model.specs.declared.value.Key.{Key}
+use Rattle.board_model.specs.declared.value.KeyType.{KeyType}
+use Rattle.board_model.specs.LineGrammar.{IsKey}
+use Rattle.board_model.specs.TypeTable.{key_detail, type_of_key}
+use Rattle.board_model.specs.Tables.{is_node, is_of_port, new_board, nodes_taken, writer_slots}
+use Rattle.board_model.specs.Things.{Held}
+use Rattle.board_model.specs.Replies.{added_of, is_before, keys_in, nodes_of}
+
+-- each text comes before all that follow it, so they differ
+abbrev pub Ascend : List (List ℕ) → Type 0
+Ascend [] = Unit {0}
+Ascend (x ∷ xs) = AllByRecursion (λ y. is_before x y ≡ true) xs × Ascend xs
+
+-- the nodes that are told ascend, are the parties with a thing of the board, and are as many as are counted
+pub record NodesAscend : Type 0 where
+  pub ascend : (board : ℕ) (things : List Held) → Ascend (nodes_of board things)
+  pub are : (board : ℕ) (things : List Held) (party : List ℕ) → list_any (λ x. bytes_eq x party) (nodes_of board things) ≡ is_node bytes_eq board party things
+  pub counted : (board : ℕ) (things : List Held) → length (nodes_of board things) ≡ nodes_taken bytes_eq board things
+
+-- each number once
+abbrev pub AllDiffer : List ℕ → Type 0
+AllDiffer [] = Unit {0}
+AllDiffer (p ∷ ps) = AllByRecursion (λ q. p ≡ q → ⊥) ps × AllDiffer ps
+
+-- the different ports of the board's writers, and of the handles made from them
+pub record AreWriterPorts (board : ℕ) (things : List Held) (ports : List ℕ) : Type 0 where
+  pub differ : AllDiffer ports
+  pub are : (p : ℕ) → list_any (λ q. q == p) ports ≡ list_any (is_of_port board p) things
+
+-- the writer slots that are taken are as many as these
+abbrev pub PortsAreCountedOnce : Type 0
+PortsAreCountedOnce = (board : ℕ) (things : List Held) → (ports : List ℕ) × AreWriterPorts board things ports × (length ports ≡ writer_slots board things)
+
+-- a key of the grammar, of this type
+pub record IsKeyOf (k : KeyType) (key : Key) : Type 0 where
+  pub line : IsKey key
+  pub type : type_of_key key ≡ k
+
+-- a board tells its keys as they were added, in that order
+abbrev pub KeysAreToldInOrder : Type 0
+KeysAreToldInOrder = (number : ℕ) (name : List ℕ) (k : KeyType) (limits : Limits) (attributes : List Attribute) (entries : List AddedEntry) → AllByRecursion (λ (e : AddedEntry). IsKeyOf k e.key) entries
+    → keys_in (Some (new_board number name (key_detail k) limits attributes (map added_of entries))) ≡ map (λ (e : AddedEntry). e.key) entries
