@@ -16,8 +16,10 @@ use Rattle.script_model.specs.declared.line.ScriptLine.TheVariants as line
 use Rattle.script_model.specs.ScriptAnswers.{ScriptAnswer, of_boards, of_event}
 use Rattle.script_model.specs.ScriptEvents.{EventAsk, IsEventAccess, IsStepOf, ScriptEvents, step_told}
 use Rattle.script_model.specs.ScriptTurns.{EventTurn, IsTurnAnswer, ScriptState, begins, drops, expires, refused, steps, turn_of}
-use Rattle.script_model.specs.ScriptSession.{IsLawfulFrom, IsRight, IsRuled, Session, after, asked_lines, start}
+use Rattle.script_model.specs.LawsOfRules.{IsRuled}
+use Rattle.script_model.specs.ScriptSession.{IsLawfulFrom, IsRight, Session, after, asked_lines, start}
 use Rattle.script_model.specs.LawsOfAnswers.{OneLawfulSession, OneRightAnswer}
+use Rattle.script_model.proofs.RuleLemmas.{ruled}
 
 -- ---- the answer of an access
 
@@ -69,7 +71,7 @@ same_ruled s (line.Event party q) a b None h k = absurd h
 same_ruled s (line.Expire party) a b None h k = absurd h
 
 pub one_answer : OneRightAnswer
-one_answer s l a b h k = same_ruled s l a b (turn_of s l) h.rule k.rule
+one_answer s l a b h k = same_ruled s l a b (turn_of s l) (ruled s l a h) (ruled s l b k)
 
 -- ---- one session
 

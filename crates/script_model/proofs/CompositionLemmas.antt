@@ -38,7 +38,7 @@ pub sound_at : (pairs : Session) → IsLawful pairs → IsSoundScript (state_met
 sound_at pairs ok = script_from start 0 pairs script_start ok
 
 -- a step of a party whose call on boards runs is the boards' alone
-alone_step : (s : ScriptState) (c : ℕ) (party : List ℕ) (r : Running) → IsSoundScript s c → s.boards.parties party ≡ running r → turn_of s (line.Board (board_line.Step party)) ≡ None
+pub alone_step : (s : ScriptState) (c : ℕ) (party : List ℕ) (r : Running) → IsSoundScript s c → s.boards.parties party ≡ running r → turn_of s (line.Board (board_line.Step party)) ≡ None
 alone_step s c party r sound runs =
     elim (either (runs_on_events s.events party)) [
       | inl busy ↦ absurd (not_free (sym (sound.free party busy) ∙ runs))

@@ -6,7 +6,7 @@ use Rattle.board_event_model.specs.declared.access.EventAccess.{EventAccess}
 use Rattle.board_event_model.specs.declared.access.EventAccess.TheVariants as access
 use Rattle.board_event_model.specs.declared.kind.EventKind.{EventKind}
 use Rattle.board_event_model.specs.declared.kind.EventKind.TheVariants as kind
-use Rattle.board_event_model.specs.EventMemory.{Event, after}
+use Rattle.board_event_model.specs.EventMemory.{Event, after, holds_name}
 use Rattle.board_event_model.specs.EventSessions.{StandingEvent, gone_with}
 use Rattle.board_event_model.proofs.QuietLemmas.{eqb_self, eqb_true}
 use Rattle.board_event_model.proofs.SetLemmas.{either}
@@ -88,6 +88,9 @@ same_named k name e f s h = record {
   name_is = s.name ∙ h.name_is;
   held = ap (λ (x : EventKind). held_by x f.held f.notifiers) s.kind ∙ ap (λ (x : Bool). held_by e.kind x f.notifiers) s.held ∙ ap (λ (x : ℕ). held_by e.kind e.held x) s.notifiers ∙ h.held;
 }
+
+pub same_holds : (e f : Event) → IsSameEvent e f → holds_name f ≡ holds_name e
+same_holds e f s = ap (λ (x : EventKind). held_by x f.held f.notifiers) s.kind ∙ ap (λ (x : Bool). held_by e.kind x f.notifiers) s.held ∙ ap (λ (x : ℕ). held_by e.kind e.held x) s.notifiers
 
 pub same_formed : (n : ℕ) (e f : Event) → IsSameEvent e f → IsFormedEvent n e → IsFormedEvent (n + 1) f
 same_formed n e f s h = record {

@@ -16,6 +16,7 @@ use Rattle.board_event_model.specs.EventSessions.{SessionAccess, history_on, Par
 use Rattle.board_event_model.specs.LawsOfCalls.{progress_with, taken_by}
 use Rattle.board_event_model.proofs.AccessLemmas.{perform_law_holds}
 use Rattle.board_event_model.proofs.EndLemmas.{none_law_holds}
+use Rattle.board_event_model.proofs.NothingLemmas.{nothing_law_holds}
 use Rattle.board_event_model.proofs.QuietLemmas.{eqb_self}
 use Rattle.board_event_model.proofs.ReplyLemmas.{StageTold, no_length, reply_law_holds, tracked_reached, wait_of}
 use Rattle.board_event_model.proofs.SetLemmas.{or_right}
@@ -27,7 +28,8 @@ use Rattle.script_model.specs.declared.reply.EventReply.{EventReply}
 use Rattle.script_model.specs.ScriptAnswers.{ScriptAnswer, of_event}
 use Rattle.script_model.specs.ScriptEvents.{EventAsk, EventThing, IsEventAccess, IsStepOf, ScriptEvents, listener, notifier, end_told, ids_told, is_for_all, runs_on_events, step_told}
 use Rattle.script_model.specs.ScriptTurns.{EventTurn, ScriptState, steps, turn_of}
-use Rattle.script_model.specs.ScriptSession.{IsRuled, start}
+use Rattle.script_model.specs.LawsOfRules.{IsRuled}
+use Rattle.script_model.specs.ScriptSession.{start}
 use Rattle.script_model.specs.ScriptSession as session
 use Rattle.script_model.specs.SoundEvents.{AreSoundEvents, IsCallOfThing, IsEventThing, IsListening, IsSoundScript}
 use Rattle.script_model.specs.LawsOfEvents.{Last, OwedAccesses, QuietLooks, TakesAccess, TellsIds, WaitReplies, at_last}
@@ -35,6 +37,7 @@ use Rattle.script_model.proofs.CompositionLemmas.{lawful_split, sound_at}
 use Rattle.script_model.proofs.EachLemmas.{event_in}
 use Rattle.script_model.proofs.OneLemmas.{CallOne, IsWaitProgress, OneStage, one_reached, one_turn, turn_waits}
 use Rattle.script_model.proofs.PartLemmas.{events_law_holds, sound_reached}
+use Rattle.script_model.proofs.RuleLemmas.{ruled}
 
 -- ---- the step of a pair, as a step of a run
 
@@ -63,7 +66,7 @@ taken_is l n st party call a b told stands t =
     let s : ScriptState = at_last l in
     let whole = lawful_split l.before (l.pair ∷ []) start l.lawful in
     let right : session.IsRight s (line.Board (board_line.Step party)) l.pair.1 = subst (λ (x : ScriptLine). session.IsRight s x l.pair.1) t.steps whole.1.0 in
-    let access = step_access s _ party (record { on = n; call = call }) st l.pair.1 (sound_at l.before whole.0) t.runs stands right.rule in
+    let access = step_access s _ party (record { on = n; call = call }) st l.pair.1 (sound_at l.before whole.0) t.runs stands (ruled s (line.Board (board_line.Step party)) l.pair.1 right) in
     let same : of_event t.kind t.name a b told ≡ of_event st.event.kind st.event.name (owed (call_of call)) access.answer (step_told call (turn (call_of call) access.answer).0) = sym t.prints ∙ access.printed in
     let owes : a ≡ owed (call_of call) = cc in
     let answer_is : access.answer ≡ b = cc in
@@ -86,28 +89,31 @@ quiet_looks l n st stands bits party call w told t is at_look id has =
     quiet_law_holds (view (at_last l).events.session n st) k.reached bits party call w k.takes is at_look id has
 
 -- a step that tells something is the last one
-last_told : (r : RunningCall) (p : EventProgress) (x : EventReply) → Some x ≡ step_told r p → (is_last p ≡ true) × (x ≡ end_told (is_for_all (call_of r)) r.told p)
+pub last_told : (r : RunningCall) (p : EventProgress) (x : EventReply) → Some x ≡ step_told r p → (is_last p ≡ true) × (x ≡ end_told (is_for_all (call_of r)) r.told p)
 last_told r p x = of (is_last p)
   where
     of : (b : Bool) → Some x ≡ (if b then Some (end_told (is_for_all (call_of r)) r.told p) else None) → (b ≡ true) × (x ≡ end_told (is_for_all (call_of r)) r.told p)
     of true e = (refl, some_same _ _ e)
     of false e = absurd (none_some x (sym e))
 
--- the ids of a wait for one are at most one
-tells_taken : (many : Bool) (ids : List ℕ) → (many ≡ false → length ids ≤ 1) → TellsIds many (ids_told many ids) ids
-tells_taken true ids few = (refl, refl)
-tells_taken false [] few = refl
-tells_taken false (id ∷ []) few = (refl, refl)
-tells_taken false (id ∷ next ∷ ids) few = absurd (let l = few refl in omega arith)
+-- the ids of a wait for one are at most one, and those of a wait for all some
+tells_taken : (many : Bool) (ids : List ℕ) → (many ≡ false → length ids ≤ 1) → (ids ≡ [] → ⊥) → TellsIds many (ids_told many ids) ids
+tells_taken true ids few some = (refl, refl, some)
+tells_taken false [] few some = refl
+tells_taken false (id ∷ []) few some = (refl, refl)
+tells_taken false (id ∷ next ∷ ids) few some = absurd (let l = few refl in omega arith)
 
-end_tells : (many : Bool) (told ids : List ℕ) (p : EventProgress) → IsWaitProgress p → (p ≡ progress.Nothing → ids ≡ []) → told ++ reported p ≡ ids → (many ≡ false → length ids ≤ 1) → TellsIds many (end_told many told p) ids
-end_tells many told ids progress.More is none same few = subst (λ (xs : List ℕ). TellsIds many (ids_told many xs) ids) (sym same) (tells_taken many ids few)
-end_tells many told ids progress.Waiting is none same few = subst (λ (xs : List ℕ). TellsIds many (ids_told many xs) ids) (sym same) (tells_taken many ids few)
-end_tells many told ids (progress.Took base bits last) is none same few = subst (λ (xs : List ℕ). TellsIds many (ids_told many xs) ids) (sym same) (tells_taken many ids few)
-end_tells many told ids (progress.Id id last) is none same few = subst (λ (xs : List ℕ). TellsIds many (ids_told many xs) ids) (sym same) (tells_taken many ids few)
-end_tells many told ids progress.Notified is none same few = absurd is
-end_tells many told ids (progress.Refused why) is none same few = absurd is
-end_tells many told ids progress.Nothing is none same few = none refl
+taken_tells : (many : Bool) (xs ids : List ℕ) → xs ≡ ids → (many ≡ false → length ids ≤ 1) → (ids ≡ [] → ⊥) → TellsIds many (ids_told many xs) ids
+taken_tells many xs ids same few some = subst (λ (ys : List ℕ). TellsIds many (ids_told many ys) ids) (sym same) (tells_taken many ids few some)
+
+end_tells : (many : Bool) (told ids : List ℕ) (p : EventProgress) → IsWaitProgress p → (p ≡ progress.Nothing → ids ≡ []) → (ids ≡ [] → p ≡ progress.Nothing) → told ++ reported p ≡ ids → (many ≡ false → length ids ≤ 1) → TellsIds many (end_told many told p) ids
+end_tells many told ids progress.More is none some same few = taken_tells many _ ids same few (λ e. let f = some e in cc)
+end_tells many told ids progress.Waiting is none some same few = taken_tells many _ ids same few (λ e. let f = some e in cc)
+end_tells many told ids (progress.Took base bits last) is none some same few = taken_tells many _ ids same few (λ e. let f = some e in cc)
+end_tells many told ids (progress.Id id last) is none some same few = taken_tells many _ ids same few (λ e. let f = some e in cc)
+end_tells many told ids progress.Notified is none some same few = absurd is
+end_tells many told ids (progress.Refused why) is none some same few = absurd is
+end_tells many told ids progress.Nothing is none some same few = none refl
 
 -- a wait for one has told nothing before its last step
 told_nothing : (told : List ℕ) (stage : WaitStage) → OneStage stage → StageTold told stage → (stage ≡ wait.Finished → ⊥) → told ≡ []
@@ -144,7 +150,7 @@ wait_replies l n st stands party call w a b told t is =
     let few : w.many ≡ false → length ids ≤ 1 = λ one. subst (λ (xs : List ℕ). length xs ≤ 1) same (few_taken now party call w b k.reached k.takes.runs is last.0 one) in
     let many_is : is_for_all (call_of call) ≡ w.many = ap is_for_all is in
     subst (λ (x : EventReply). TellsIds w.many x ids) (sym (last.1 ∙ ap (λ (m : Bool). end_told m call.told (progress_with call b)) many_is))
-    (end_tells w.many call.told ids (progress_with call b) waits (λ e. (none_law_holds now k.reached party call w a b k.takes is e).none) same few)
+    (end_tells w.many call.told ids (progress_with call b) waits (λ e. (none_law_holds now k.reached party call w a b k.takes is e).none) (λ e. nothing_law_holds now k.reached party call w a b k.takes is last.0 e) same few)
 
 -- ---- accesses that can be made
 

@@ -21,10 +21,12 @@ use Rattle.script_model.specs.ScriptGrammar.{IsScriptLine}
 use Rattle.script_model.specs.ScriptAnswers.{ScriptAnswer, expired, of_boards}
 use Rattle.script_model.specs.ScriptEvents.{EventAsk, EventTask, holds_event, name_made, runs_on_events, task_of}
 use Rattle.script_model.specs.ScriptTurns.{EventTurn, ScriptState, begin_turn, begins, board_turn, drop_turn, expire_of_call, expire_turn, free_turn, is_name_taken, may_expire, refused, request_turn, steps, takes_event_name, task_turn, turn_of}
-use Rattle.script_model.specs.ScriptSession.{IsLawful, IsLawfulFrom, IsRuled, Session, after, asked_lines, start, state_after}
+use Rattle.script_model.specs.LawsOfRules.{IsRuled}
+use Rattle.script_model.specs.ScriptSession.{IsLawful, IsLawfulFrom, Session, after, asked_lines, start, state_after}
 use Rattle.script_model.specs.SoundEvents.{IsSoundScript}
 use Rattle.script_model.specs.LawsOfSound.{SessionsAreSound}
 use Rattle.script_model.specs.LawsOfForms.{EachLineHasAnAnswer, EachScriptHasASession}
+use Rattle.script_model.proofs.FormedLemmas.{turns_right}
 use Rattle.script_model.proofs.OwedLemmas.{step_answer}
 
 -- ---- answers by the rules
@@ -127,7 +129,7 @@ board_answer law pairs h few l is k e =
 pub each_line : SessionsAreSound → BoardsAreLawful → EachLineHasAnAnswer
 each_line sound law pairs l h few is =
     let a = each_rule (state_after start pairs) (length pairs) (sound pairs h) few l is (board_answer law pairs h few l is) in
-    (a.0, record { line = is; rule = a.1 })
+    (a.0, turns_right (state_after start pairs) l a.0 (length pairs) (sound pairs h) few (record { line = is; rule = a.1 }))
 
 -- ---- a session
 

@@ -1,8 +1,9 @@
 -- Listeners and notifiers that come and go keep the facts on events.
-use Rattle.std.proofs.Common.{◌≡◌, ℕ, ◌+◌, ◌-◌, ◌≤◌, Bool, true, false, eqb, refl, sym, ◌∙◌, ap, ◌⊎◌, inl, inr, arith, subst, Some, None, Option, List}
+use Rattle.std.proofs.Common.{◌≡◌, ℕ, ◌+◌, ◌-◌, ◌<◌, ◌≤◌, Bool, true, false, eqb, refl, sym, ◌∙◌, ap, ◌⊎◌, inl, inr, arith, subst, Some, None, Option, List}
 use Rattle.std.specs.Prelude.{if◌then◌else◌, ◌==◌, ◌&&◌, ◌||◌, IsSome, IsSomeAnd, nat_lt}
 use Rattle.std.specs.Str.{bytes_eq}
 use Rattle.std.proofs.lemmas.Bool.{false≢true, lt-ltb}
+use Rattle.std.proofs.lemmas.Bool.Decides.{Decides-ltb}
 use Rattle.board_event_model.specs.declared.kind.EventKind.{EventKind}
 use Rattle.board_event_model.specs.declared.kind.EventKind.TheVariants as kind
 use Rattle.board_event_model.specs.EventMemory.{Event, holds_name, new_event}
@@ -74,8 +75,18 @@ no_listener_yet x n h p m k e f =
     let some = thing_some x p k (h.things p m (listener k) f) in
     false≢true (sym (not_next x.session h.numbered k (x.session.stands k) refl some) ∙ ap (eqb k) same ∙ eqb_self k)
 
-pub listener_made : (x : ScriptEvents) (n : ℕ) (party name : List ℕ) (k : EventKind) (event : List ℕ) (max : ℕ) → is_event_name event ≡ true → max ≤ 65535 → x.asked party ≡ None → x.session.doing party ≡ None → AreSoundEvents x n → AreSoundEvents (with_listener x party name k event max) (n + 1)
-listener_made x n party name k event max text low free idle h =
+-- a name is as it was, where another one is given
+named_beside : (names : EventKind → List ℕ → Option ℕ) (k : EventKind) (name : List ℕ) (next : ℕ) (j : EventKind) (text : List ℕ) (m : ℕ) → names k name ≡ None → names j text ≡ Some m → name_held names k name (Some next) j text ≡ Some m
+named_beside names k name next j text m none old =
+    elim (either (same_event_kind j k && bytes_eq text name)) [
+      | inl same ↦ absurd (
+          let both = and_split _ _ same in
+          none_some m (sym none ∙ ap (λ (i : EventKind). names i name) (sym (kind_is j k both.0)) ∙ ap (names j) (sym (same_text text name both.1)) ∙ old))
+      | inr apart ↦ rw apart old
+    ]
+
+pub listener_made : (x : ScriptEvents) (n : ℕ) (party name : List ℕ) (k : EventKind) (event : List ℕ) (max : ℕ) → is_event_name event ≡ true → max ≤ 65535 → x.names k event ≡ None → x.asked party ≡ None → x.session.doing party ≡ None → AreSoundEvents x n → AreSoundEvents (with_listener x party name k event max) (n + 1)
+listener_made x n party name k event max text low unnamed free idle h =
     let new : StandingEvent = record { event = new_event k event max; listener = party } in
     let next : ℕ = x.session.count + 1 in
     record {
@@ -112,6 +123,10 @@ listener_made x n party name k event max text low free idle h =
         | inr is ↦ (
             let old = h.names j name2 m is.1 in
             next_there x.session new h.numbered (λ o. IsSomeAnd (event_in o) (IsNamed j name2)) m (event_some (IsNamed j name2) (x.session.stands m) old) old)
+      ];
+      holders = λ m st e held. elim (if_cases (m == next) (Some new) (x.session.stands m) (Some st) e) [
+        | inl is ↦ subst (λ (z : StandingEvent). name_held x.names k event (Some next) z.event.kind z.event.name ≡ Some m) (some_same _ st is.1) (rw (kind_itself k, text_itself event) (ap Some (sym (eqb_true m next is.0))))
+        | inr is ↦ named_beside x.names k event next st.event.kind st.event.name m unnamed (h.holders m st is.1 held)
       ];
       apart = h.apart;
       asked = h.asked;
@@ -159,8 +174,8 @@ thing_here x y n f p (listener k) is kept h =
 thing_here x y n f p (notifier k) is kept h =
     subst (λ (o : Option StandingEvent). IsSome o) (sym (is k)) (each_some (one_changed n f k) (x.session.stands k) h)
 
-pub notifier_made : (x : ScriptEvents) (n : ℕ) (party name : List ℕ) (k : ℕ) (e : Event) → event_of x.session.stands k ≡ Some e → x.asked party ≡ None → x.session.doing party ≡ None → AreSoundEvents x n → AreSoundEvents (notifier_more x party name k e) (n + 1)
-notifier_made x n party name k e found free idle h =
+pub notifier_made : (x : ScriptEvents) (n : ℕ) (party name : List ℕ) (k : ℕ) (e : Event) → event_of x.session.stands k ≡ Some e → x.names e.kind e.name ≡ Some k → x.asked party ≡ None → x.session.doing party ≡ None → AreSoundEvents x n → AreSoundEvents (notifier_more x party name k e) (n + 1)
+notifier_made x n party name k e found named free idle h =
     let f : Event → Event = λ y. record y { notifiers = e.notifiers + 1 } in
     record {
       session = more_of x (notifier_more x party name k e) (notifiers_of k (e.notifiers + 1)) h.session tt refl;
@@ -178,6 +193,13 @@ notifier_made x n party name k e found free idle h =
       ];
       calls = λ p d g. held_call x (notifier_more x party name k e) p d d refl refl (λ m t w. at_other x.things party name _ p m (another x.session.doing p party d g idle) ∙ w) (h.calls p d g);
       names = λ j text m g. each_event (IsNamed j text) (IsNamed j text) (one_changed k f m) (x.session.stands m) (λ st l. changed_holds (λ s. IsNamed j text s.event) k m f st (λ at. more_notifiers j text st.event e.notifiers l) (λ apart. l)) (h.names j text m g);
+      holders = λ m st g held. (
+          let w = each_was (one_changed k f m) (x.session.stands m) st g in
+          subst (λ (z : StandingEvent). holds_name z.event ≡ true → x.names z.event.kind z.event.name ≡ Some m) (sym w.is) (changed_holds (λ s. holds_name s.event ≡ true → x.names s.event.kind s.event.name ≡ Some m) k m f w.old
+          (λ at. λ new.
+          let same : w.old.event ≡ e = some_same _ e (ap event_in (sym w.was) ∙ ap (λ (j : ℕ). event_in (x.session.stands j)) at ∙ found) in
+          ap (λ (y : Event). x.names y.kind y.name) same ∙ named ∙ ap Some (sym at))
+          (λ apart. h.holders m w.old w.was)) held);
       apart = h.apart;
       asked = h.asked;
       unheld = λ p q g. at_other x.things party name _ p (name_asked q) (another x.asked p party q g free) ∙ h.unheld p q g;
@@ -256,6 +278,63 @@ dropped_named x c n e f found kinds texts h j text m left =
     (λ apart. old.holds) in
     subst (λ (o : Option StandingEvent). IsSomeAnd (event_in (each (one_changed n f m) o)) (IsNamed j text)) (sym old.is) new
 
+-- a name that another event holds is as it was
+left_stays : (names : EventKind → List ℕ → Option ℕ) (n : ℕ) (e : Event) (j : EventKind) (text : List ℕ) (m : ℕ) → (m ≡ n → ⊥) → names j text ≡ Some m → names_left names n e j text ≡ Some m
+left_stays names n e j text m apart old =
+    elim (either (holds_name e)) [
+      | inl is ↦ rw is old
+      | inr is ↦ rw is (without (names e.kind e.name) refl)
+    ]
+  where
+    held : (k : ℕ) → names e.kind e.name ≡ Some k → k ≡ n → name_held names e.kind e.name None j text ≡ Some m
+    held k named same =
+        elim (either (same_event_kind j e.kind && bytes_eq text e.name)) [
+          | inl here ↦ absurd (
+              let both = and_split _ _ here in
+              let k_is : Some k ≡ Some m = sym named ∙ ap (λ (i : EventKind). names i e.name) (sym (kind_is j e.kind both.0)) ∙ ap (names j) (sym (same_text text e.name both.1)) ∙ old in
+              apart (sym (some_same k m k_is) ∙ same))
+          | inr there ↦ rw there old
+        ]
+
+    without : (o : Option ℕ) → names e.kind e.name ≡ o → without_name names n e o j text ≡ Some m
+    without None named = old
+    without (Some k) named =
+        elim (either (k == n)) [
+          | inl same ↦ rw same (held k named (eqb_true k n same))
+          | inr other ↦ rw other old
+        ]
+
+-- the events that hold their names after a holder of event n went
+dropped_holders : (x : ScriptEvents) (c n : ℕ) (e : Event) (f : Event → Event) → event_of x.session.stands n ≡ Some e → (f e).kind ≡ e.kind → (f e).name ≡ e.name → (holds_name (f e) ≡ true → holds_name e ≡ true) → AreSoundEvents x c
+    → (m : ℕ) (st : StandingEvent) → change_at x.session.stands n f m ≡ Some st → holds_name st.event ≡ true → names_left x.names n (f e) st.event.kind st.event.name ≡ Some m
+dropped_holders x c n e f found kind_is name_is held_before h m st g held =
+    let w = each_was (one_changed n f m) (x.session.stands m) st g in
+    subst (λ (z : StandingEvent). holds_name z.event ≡ true → names_left x.names n (f e) z.event.kind z.event.name ≡ Some m) (sym w.is)
+    (changed_holds (λ s. holds_name s.event ≡ true → names_left x.names n (f e) s.event.kind s.event.name ≡ Some m) n m f w.old
+    (λ at.
+    let same : w.old.event ≡ e = some_same _ e (ap event_in (sym w.was) ∙ ap (λ (j : ℕ). event_in (x.session.stands j)) at ∙ found) in
+    let old : holds_name e ≡ true → x.names e.kind e.name ≡ Some m = subst (λ (y : Event). holds_name y ≡ true → x.names y.kind y.name ≡ Some m) same (h.holders m w.old w.was) in
+    let new : holds_name (f e) ≡ true → names_left x.names n (f e) (f e).kind (f e).name ≡ Some m =
+    λ holds. rw holds (ap (λ (k : EventKind). x.names k (f e).name) kind_is ∙ ap (x.names e.kind) name_is ∙ old (held_before holds)) in
+    subst (λ (y : Event). holds_name (f y) ≡ true → names_left x.names n (f e) (f y).kind (f y).name ≡ Some m) (sym same) new)
+    (λ apart. λ holds. left_stays x.names n (f e) w.old.event.kind w.old.event.name m apart (h.holders m w.old w.was holds))) held
+
+-- whether a name is held, by the parts of its event
+abbrev name_held_by : EventKind → Bool → ℕ → Bool
+name_held_by k held notifiers = elim k [ kind.Bits ↦ held || nat_lt 0 notifiers | kind.Queue ↦ held ]
+
+held_without : (k : EventKind) (held : Bool) (notifiers : ℕ) → name_held_by k false notifiers ≡ true → name_held_by k held notifiers ≡ true
+held_without kind.Bits held notifiers h = or_right held _ h
+held_without kind.Queue held notifiers h = absurd (false≢true h)
+
+fewer_positive : (c : ℕ) → nat_lt 0 (c - 1) ≡ true → nat_lt 0 c ≡ true
+fewer_positive c h = let l : 0 < c - 1 = (Decides-ltb 0 (c - 1)).0 h in lt-ltb 0 c (omega arith)
+
+held_with_fewer : (k : EventKind) (held : Bool) (c : ℕ) → name_held_by k held (c - 1) ≡ true → name_held_by k held c ≡ true
+held_with_fewer kind.Bits true c h = refl
+held_with_fewer kind.Bits false c h = fewer_positive c h
+held_with_fewer kind.Queue held c h = h
+
 -- the listener's party is the holder
 owner_is : (o : Option StandingEvent) (p q : List ℕ) → IsSomeAnd o (IsListening p) → IsSomeAnd o (IsListening q) → p ≡ q
 owner_is None p q h g = absurd h
@@ -295,6 +374,7 @@ listener_dropped x c party name n e found holds idle h =
       ];
       calls = λ p d g. held_call x y p d d refl refl (λ m t w. at_other x.things party name None p m (another x.session.doing p party d g idle) ∙ w) (h.calls p d g);
       names = dropped_named x c n e f found (λ y. refl) (λ y. refl) h;
+      holders = dropped_holders x c n e f found refl refl (held_without e.kind e.held e.notifiers) h;
       apart = h.apart;
       asked = h.asked;
       unheld = λ p q g. at_none x.things party name p (name_asked q) (h.unheld p q g);
@@ -328,6 +408,7 @@ notifier_dropped x c party name n e found idle h =
       ];
       calls = λ p d g. held_call x y p d d refl refl (λ m t w. at_other x.things party name None p m (another x.session.doing p party d g idle) ∙ w) (h.calls p d g);
       names = dropped_named x c n e f found (λ y. refl) (λ y. refl) h;
+      holders = dropped_holders x c n e f found refl refl (held_with_fewer e.kind e.held e.notifiers) h;
       apart = h.apart;
       asked = h.asked;
       unheld = λ p q g. at_none x.things party name p (name_asked q) (h.unheld p q g);

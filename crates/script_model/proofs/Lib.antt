@@ -4,10 +4,16 @@ pub mod EachLaws
 pub mod EachLemmas
 pub mod EventLemmas
 pub mod FormLaws
+pub mod FormedLemmas
 pub mod HolderLemmas
+pub mod LineLaws
+pub mod NumberLemmas
+pub mod NumberedLemmas
 pub mod OneLemmas
 pub mod OwedLemmas
 pub mod PartLemmas
+pub mod ReplyLaws
+pub mod RuleLemmas
 pub mod ScriptSoundLemmas
 pub mod TaskLemmas
 pub mod TurnLemmas

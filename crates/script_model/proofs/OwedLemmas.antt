@@ -38,7 +38,7 @@ owed_answer e access.Pop h = (_, refl)
 
 -- ---- the event of a running call
 
-abbrev Stands : (ℕ → Option StandingEvent) → ℕ → Type 0
+abbrev pub Stands : (ℕ → Option StandingEvent) → ℕ → Type 0
 Stands stands n = (st : StandingEvent) × (stands n ≡ Some st)
 
 some_holds : (o : Option StandingEvent) (P : StandingEvent → Type 0) → IsSomeAnd o P → (st : StandingEvent) × (o ≡ Some st)
@@ -55,7 +55,7 @@ thing_stands x p (listener n) on (a_wait w) h used = subst (Stands x.session.sta
 thing_stands x p (notifier n) on (a_notify c) h used = subst (Stands x.session.stands) used (some_is (x.session.stands n) h)
 thing_stands x p (notifier n) on (a_wait w) h used = absurd used
 
-call_stands : (x : ScriptEvents) (n : ℕ) → AreSoundEvents x n → (p : List ℕ) (d : PartyCall) → x.session.doing p ≡ Some d → Stands x.session.stands d.on
+pub call_stands : (x : ScriptEvents) (n : ℕ) → AreSoundEvents x n → (p : List ℕ) (d : PartyCall) → x.session.doing p ≡ Some d → Stands x.session.stands d.on
 call_stands x n sound p d e =
     let c = sound.calls p d e in
     thing_stands x p c.thing d.on d.call.first (sound.things p c.name c.thing c.found) c.uses
@@ -70,15 +70,15 @@ history_fewer n (a ∷ rest) =
       | inr apart ↦ (let k = history_fewer n rest in rw apart (omega (arith, k)))
     ]
 
-reached : (x : ScriptEvents) (n : ℕ) → AreSoundEvents x n → (on : ℕ) (st : StandingEvent) → x.session.stands on ≡ Some st → IsReached (view x.session on st)
+pub reached : (x : ScriptEvents) (n : ℕ) → AreSoundEvents x n → (on : ℕ) (st : StandingEvent) → x.session.stands on ≡ Some st → IsReached (view x.session on st)
 reached x n sound on st e =
     let o = sound.session in
     subst (λ (s : EventSession). IsReached (view s on st)) (sym o.is) (session_law_holds o.lines o.allowed on st (ap (λ (s : EventSession). s.stands on) (sym o.is) ∙ e))
 
-runs_here : (d : PartyCall) → running_on d.on (Some d) ≡ Some d.call
+pub runs_here : (d : PartyCall) → running_on d.on (Some d) ≡ Some d.call
 runs_here d = rw ((Decides-eqb d.on d.on).1 refl) refl
 
-can_perform : (x : ScriptEvents) (n : ℕ) → AreSoundEvents x n → n < 2 ^ 63 → (p : List ℕ) (d : PartyCall) (st : StandingEvent) → x.session.doing p ≡ Some d → x.session.stands d.on ≡ Some st
+pub can_perform : (x : ScriptEvents) (n : ℕ) → AreSoundEvents x n → n < 2 ^ 63 → (p : List ℕ) (d : PartyCall) (st : StandingEvent) → x.session.doing p ≡ Some d → x.session.stands d.on ≡ Some st
     → CanPerform st.event (owed (call_of d.call))
 can_perform x n sound few p d st e is =
     let t = sound.taken in

@@ -10,9 +10,11 @@ use Rattle.script_model.specs.ScriptAnswers.{ScriptAnswer, expired, of_ask, of_b
 use Rattle.script_model.specs.ScriptEvents.{ScriptEvents}
 use Rattle.script_model.specs.SoundEvents.{AreSoundEvents}
 use Rattle.script_model.specs.ScriptTurns.{EventTurn, ScriptState, turn_of}
-use Rattle.script_model.specs.ScriptSession.{IsLawfulFrom, IsRuled, Session, after, after_turn, start, state_after}
+use Rattle.script_model.specs.LawsOfRules.{IsRuled}
+use Rattle.script_model.specs.ScriptSession.{IsLawfulFrom, Session, after, after_turn, start, state_after}
 use Rattle.script_model.specs.Parts.{board_part, part_of}
 use Rattle.script_model.specs.LawsOfParts.{BoardsLaw, EventsLaw}
+use Rattle.script_model.proofs.RuleLemmas.{ruled}
 use Rattle.script_model.proofs.ScriptSoundLemmas.{sessions_sound}
 
 -- ---- the boards' part
@@ -34,7 +36,7 @@ part_leads s (line.Expire party) a None to rest ok h = absurd ok
 
 pub board_part_leads : (s : ScriptState) (pairs : Session) → IsLawfulFrom s pairs → Leads s.boards (state_after s pairs).boards (board_part s pairs)
 board_part_leads s [] ok = record { lawful = tt; state = refl }
-board_part_leads s (pair ∷ pairs) ok = part_leads s pair.0 pair.1 (turn_of s pair.0) _ (board_part (after s pair.0 pair.1) pairs) ok.0.rule (board_part_leads (after s pair.0 pair.1) pairs ok.1)
+board_part_leads s (pair ∷ pairs) ok = part_leads s pair.0 pair.1 (turn_of s pair.0) _ (board_part (after s pair.0 pair.1) pairs) (ruled s pair.0 pair.1 ok.0) (board_part_leads (after s pair.0 pair.1) pairs ok.1)
 
 part_short : (o : Option EventTurn) (l : ScriptLine) (a : ScriptAnswer) → length (part_of o l a) ≤ 1
 part_short (Some t) l a = omega arith

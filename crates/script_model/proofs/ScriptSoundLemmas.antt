@@ -1,10 +1,11 @@
 -- Each right line of a script keeps the facts on events.
-use Rattle.std.proofs.Common.{arith, ◌≡◌, ℕ, ◌+◌, Bool, true, false, refl, sym, ◌∙◌, ap, inl, inr, subst, Some, None, Option, List, [], ◌∷◌, length}
+use Rattle.std.proofs.Common.{arith, ◌≡◌, ℕ, ◌+◌, ◌<◌, ◌^◌, Bool, true, false, refl, sym, ◌∙◌, ap, inl, inr, subst, Some, None, Option, List, [], ◌∷◌, length}
 use Rattle.std.specs.Prelude.{if◌then◌else◌, ◌||◌, IsSomeAnd, is_some, ⊤}
 use Rattle.std.specs.Str.{bytes_eq}
 use Rattle.std.proofs.lemmas.Bool.{false≢true}
 use Rattle.board_event_model.specs.declared.access.EventAccess.{EventAccess}
 use Rattle.board_event_model.specs.declared.access.EventAnswer.{EventAnswer}
+use Rattle.board_event_model.specs.declared.kind.EventKind.{EventKind}
 use Rattle.board_event_model.specs.EventMemory.{Event}
 use Rattle.board_event_model.specs.EventSessions.{EventSession, PartyCall, StandingEvent, do_at, event_of, stepped_on, took_step}
 use Rattle.board_event_model.proofs.SetLemmas.{either}
@@ -20,16 +21,19 @@ use Rattle.board_model.specs.Parties.{Party, free, gone, notice, running, with_p
 use Rattle.board_model.specs.LawfulSession as boards
 use Rattle.script_model.specs.declared.line.ScriptLine.{ScriptLine}
 use Rattle.script_model.specs.declared.line.ScriptLine.TheVariants as line
-use Rattle.script_model.specs.ScriptAnswers.{ScriptAnswer, of_event}
+use Rattle.script_model.specs.ScriptAnswers.{ScriptAnswer, of_boards, of_event}
 use Rattle.script_model.specs.ScriptEvents.{EventAsk, EventTask, EventThing, IsEventAccess, IsStepOf, ScriptEvents, act, ask, ask_made, event_let_go, events_abandoned, let_go_from, listener, notifier, event_number, opened, opened_with, runs_on_events, step_made, to_listen, to_notify, with_ask, with_listener, notifier_more}
 use Rattle.script_model.specs.ScriptGrammar.{IsScriptLine}
 use Rattle.script_model.specs.ScriptTurns.{EventTurn, IsTurnAnswer, ScriptState, begins, board_turn, drops, expires, refused, steps, task_begun, turn_of, turned}
-use Rattle.script_model.specs.ScriptSession.{IsLawfulFrom, IsRight, IsRuled, Session, after, after_boards, after_turn, start, state_after}
-use Rattle.script_model.specs.SoundEvents.{AreSoundEvents, IsFormedAsk, IsSoundScript, name_asked}
-use Rattle.script_model.specs.LawsOfSound.{SessionsAreSound, StaysSound}
+use Rattle.script_model.specs.LawsOfRules.{IsRuled}
+use Rattle.script_model.specs.ScriptSession.{IsLawfulFrom, IsRight, Session, after, after_boards, after_turn, start, state_after}
+use Rattle.script_model.specs.SoundEvents.{AreNumbered, AreSoundEvents, IsFormedAsk, IsNamed, IsSoundScript, name_asked}
+use Rattle.script_model.specs.LawsOfSound.{NamesAgree, SessionsAreSound, StaysSound}
 use Rattle.script_model.proofs.EachLemmas.{event_in}
 use Rattle.script_model.proofs.TurnLemmas.{asks, asks_no_more, call_begun, call_ended, call_stepped, grown, if_cases, other_text, party_abandoned, put_other, same_text, text_itself}
 use Rattle.script_model.proofs.HolderLemmas.{listener_dropped, listener_made, notifier_dropped, notifier_made}
+use Rattle.script_model.proofs.NumberedLemmas.{line_keeps}
+use Rattle.script_model.proofs.RuleLemmas.{ruled}
 use Rattle.script_model.proofs.TaskLemmas.{IsIdle, IsTask, IsTurn, turn_is}
 
 -- ---- a listener or notifier that was asked for
@@ -41,25 +45,35 @@ asking_none x party = record x { asked = with_ask x.asked party None }
 asks_none : (x : ScriptEvents) (party : List ℕ) → (asking_none x party).asked party ≡ None
 asks_none x party = rw (text_itself party) refl
 
-opened_found : (x : ScriptEvents) (c : ℕ) (party name : List ℕ) (n : ℕ) (o : Option Event) → event_of x.session.stands n ≡ o → x.session.doing party ≡ None → AreSoundEvents x c → AreSoundEvents (asking_none (opened_with x party name n o) party) (c + 1)
-opened_found x c party name n None found idle h = grown (asking_none x party) c (asks_no_more x c party h)
-opened_found x c party name n (Some e) found idle h =
+opened_found : (x : ScriptEvents) (c : ℕ) (party name : List ℕ) (n : ℕ) (o : Option Event) → event_of x.session.stands n ≡ o → IsSomeAnd o (λ e. x.names e.kind e.name ≡ Some n) → x.session.doing party ≡ None → AreSoundEvents x c → AreSoundEvents (asking_none (opened_with x party name n o) party) (c + 1)
+opened_found x c party name n None found named idle h = absurd named
+opened_found x c party name n (Some e) found named idle h =
     elim e.held as (λ b. AreSoundEvents (asking_none (if b then notifier_more x party name n e else x) party) (c + 1)) [
-      | true ↦ notifier_made (asking_none x party) c party name n e found (asks_none x party) idle (asks_no_more x c party h)
+      | true ↦ notifier_made (asking_none x party) c party name n e found named (asks_none x party) idle (asks_no_more x c party h)
       | false ↦ grown (asking_none x party) c (asks_no_more x c party h)
     ]
 
-opened_sound : (x : ScriptEvents) (c : ℕ) (party name : List ℕ) (o : Option ℕ) → x.session.doing party ≡ None → AreSoundEvents x c → AreSoundEvents (asking_none (opened x party name o) party) (c + 1)
-opened_sound x c party name None idle h = grown (asking_none x party) c (asks_no_more x c party h)
-opened_sound x c party name (Some n) idle h = opened_found x c party name n (event_of x.session.stands n) refl idle h
+-- the event that has a name is the one of its name
+named_so : (x : ScriptEvents) (k : EventKind) (text : List ℕ) (n : ℕ) (o : Option Event) → x.names k text ≡ Some n → IsSomeAnd o (IsNamed k text) → IsSomeAnd o (λ e. x.names e.kind e.name ≡ Some n)
+named_so x k text n None is h = absurd h
+named_so x k text n (Some e) is h = ap (λ (j : EventKind). x.names j e.name) h.kind ∙ ap (x.names k) h.name_is ∙ is
+
+opened_sound : (x : ScriptEvents) (c : ℕ) (party name : List ℕ) (k : EventKind) (event : List ℕ) (o : Option ℕ) → x.names k event ≡ o → x.session.doing party ≡ None → AreSoundEvents x c → AreSoundEvents (asking_none (opened x party name o) party) (c + 1)
+opened_sound x c party name k event None is idle h = grown (asking_none x party) c (asks_no_more x c party h)
+opened_sound x c party name k event (Some n) is idle h =
+    opened_found x c party name n (event_of x.session.stands n) refl (named_so x k event n (event_of x.session.stands n) is (h.names k event n is)) idle h
+
+none_of : (o : Option ℕ) → is_some o ≡ false → o ≡ None
+none_of None e = refl
+none_of (Some n) e = absurd cc
 
 ask_sound : (x : ScriptEvents) (c : ℕ) (party : List ℕ) (q : EventAsk) → IsFormedAsk q → x.session.doing party ≡ None → AreSoundEvents x c → AreSoundEvents (asking_none (ask_made x party q) party) (c + 1)
 ask_sound x c party (to_listen name k event max) formed idle h =
-    elim (is_some (x.names k event)) as (λ b. AreSoundEvents (asking_none (if b then x else with_listener x party name k event max) party) (c + 1)) [
-      | true ↦ grown (asking_none x party) c (asks_no_more x c party h)
-      | false ↦ listener_made (asking_none x party) c party name k event max formed.0 formed.1 (asks_none x party) idle (asks_no_more x c party h)
-    ]
-ask_sound x c party (to_notify name k event) formed idle h = opened_sound x c party name (x.names k event) idle h
+    elim (is_some (x.names k event)) as (λ b. is_some (x.names k event) ≡ b → AreSoundEvents (asking_none (if b then x else with_listener x party name k event max) party) (c + 1)) [
+      | true ↦ λ taken. grown (asking_none x party) c (asks_no_more x c party h)
+      | false ↦ λ unnamed. listener_made (asking_none x party) c party name k event max formed.0 formed.1 (none_of (x.names k event) unnamed) (asks_none x party) idle (asks_no_more x c party h)
+    ] refl
+ask_sound x c party (to_notify name k event) formed idle h = opened_sound x c party name k event (x.names k event) refl idle h
 
 -- ---- a step
 
@@ -105,7 +119,7 @@ others_are x y party asked doing p apart = ap (λ (o : Option EventAsk). is_some
 others_doing : (s : EventSession) (party : List ℕ) (x : Option PartyCall) (p : List ℕ) → (p ≡ party → ⊥) → do_at s.doing party x p ≡ s.doing p
 others_doing s party x p apart = put_other s.doing party x p apart
 
-step_doing : (s : EventSession) (party : List ℕ) (a : EventAccess) (b : EventAnswer) (o : Option PartyCall) (p : List ℕ) → (p ≡ party → ⊥) → (stepped_on s party a b o).doing p ≡ s.doing p
+pub step_doing : (s : EventSession) (party : List ℕ) (a : EventAccess) (b : EventAnswer) (o : Option PartyCall) (p : List ℕ) → (p ≡ party → ⊥) → (stepped_on s party a b o).doing p ≡ s.doing p
 step_doing s party a b None p apart = refl
 step_doing s party a b (Some d) p apart = of (event_of s.stands d.on)
   where
@@ -118,7 +132,7 @@ opened_doing x party name n None = (refl, refl)
 opened_doing x party name n (Some e) =
     elim e.held as (λ b. ((if b then notifier_more x party name n e else x).session.doing ≡ x.session.doing) × ((if b then notifier_more x party name n e else x).asked ≡ x.asked)) [ true ↦ (refl, refl) | false ↦ (refl, refl) ]
 
-ask_doing : (x : ScriptEvents) (party : List ℕ) (q : EventAsk) → ((ask_made x party q).session.doing ≡ x.session.doing) × ((ask_made x party q).asked ≡ x.asked)
+pub ask_doing : (x : ScriptEvents) (party : List ℕ) (q : EventAsk) → ((ask_made x party q).session.doing ≡ x.session.doing) × ((ask_made x party q).asked ≡ x.asked)
 ask_doing x party (to_listen name k event max) =
     elim (is_some (x.names k event)) as (λ b. ((if b then x else with_listener x party name k event max).session.doing ≡ x.session.doing) × ((if b then x else with_listener x party name k event max).asked ≡ x.asked)) [ true ↦ (refl, refl) | false ↦ (refl, refl) ]
 ask_doing x party (to_notify name k event) = of (x.names k event)
@@ -252,20 +266,28 @@ boards_free s x (board_line.Words board) (answer.Words ws) not old = old
 
 -- ---- a line
 
+numbered : (s : ScriptState) (l : ScriptLine) (a : ScriptAnswer) (c : ℕ) (o : Option EventTurn) → turn_of s l ≡ o → IsScriptLine l → IsRuled s l a o → IsSoundScript s c → c + 1 < 2 ^ 63 → AreNumbered (after_turn s l a o).events.session
+numbered s l a c o e formed ok h few = let less : c < 2 ^ 63 = omega arith in line_keeps s l a c o e formed ok h.events less (h.numbers less)
+
 ruled_sound : (s : ScriptState) (l : ScriptLine) (a : ScriptAnswer) (c : ℕ) (o : Option EventTurn) → turn_of s l ≡ o → IsScriptLine l → IsRuled s l a o → IsSoundScript s c → IsSoundScript (after_turn s l a o) (c + 1)
 ruled_sound s l a c (Some t) e formed ok h =
     let is = turn_is s c l t formed h.events e in
-    record { events = turn_sound s c t a is ok h.events; free = turn_free s t a is h.free }
+    record {
+      events = turn_sound s c t a is ok h.events;
+      numbers = numbered s l a c (Some t) e formed ok h;
+      free = turn_free s t a is h.free;
+    }
 ruled_sound s (line.Board l) a c None e formed ok h =
     subst (λ (b : ScriptAnswer). IsSoundScript (after_turn s (line.Board l) b None) (c + 1)) (sym ok.is) (record {
       events = boards_sound s.events c l ok.answer h.events;
+      numbers = numbered s (line.Board l) (of_boards ok.answer) c None e formed (record { answer = ok.answer; right = ok.right; is = refl }) h;
       free = boards_free s.boards s.events l ok.answer (alone_is s l e) h.free;
     })
 ruled_sound s (line.Event party q) a c None e formed ok h = absurd ok
 ruled_sound s (line.Expire party) a c None e formed ok h = absurd ok
 
 pub script_after : (s : ScriptState) (l : ScriptLine) (a : ScriptAnswer) (n : ℕ) → IsRight s l a → IsSoundScript s n → IsSoundScript (after s l a) (n + 1)
-script_after s l a n right h = ruled_sound s l a n (turn_of s l) refl right.line right.rule h
+script_after s l a n right h = ruled_sound s l a n (turn_of s l) refl right.line (ruled s l a right) h
 
 pub script_start : IsSoundScript start 0
 script_start = record {
@@ -276,6 +298,7 @@ script_start = record {
     single = λ p m n k e f. absurd (none_some _ e);
     calls = λ p d e. absurd (none_some _ e);
     names = λ k text n e. absurd (none_some _ e);
+    holders = λ n st e. absurd (none_some _ e);
     apart = λ p q e. absurd (none_some _ e);
     asked = λ p q e. absurd (none_some _ e);
     unheld = λ p q e. absurd (none_some _ e);
@@ -283,6 +306,7 @@ script_start = record {
     made = omega arith;
     taken = omega arith;
   };
+  numbers = λ few. record { queues = λ n st e. absurd (none_some _ e); calls = λ p d e. absurd (none_some _ e) };
   free = λ p e. absurd (false≢true e);
 }
 
@@ -295,3 +319,6 @@ stays_sound = record { at_start = script_start; after = script_after }
 
 pub sessions_sound : SessionsAreSound
 sessions_sound pairs ok = subst (IsSoundScript (state_after start pairs)) (omega arith) (script_from start 0 pairs script_start ok)
+
+pub names_agree : NamesAgree
+names_agree = record { by_name = λ s count h. h.events.names; by_event = λ s count h. h.events.holders }

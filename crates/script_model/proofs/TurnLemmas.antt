@@ -6,15 +6,16 @@ use Rattle.std.proofs.lemmas.Bool.{false≢true}
 use Rattle.std.proofs.lemmas.Slice.Eq.{bytes_eq-Decides}
 use Rattle.board_event_model.specs.declared.access.EventAccess.{EventAccess}
 use Rattle.board_event_model.specs.declared.access.EventAnswer.{EventAnswer}
-use Rattle.board_event_model.specs.EventMemory.{Event, IsRight, after}
+use Rattle.board_event_model.specs.declared.kind.EventKind.{EventKind}
+use Rattle.board_event_model.specs.EventMemory.{Event, IsRight, after, holds_name}
 use Rattle.board_event_model.specs.EventCalls.{EventCall, is_last, owed, turn, RunningCall, call_of, new_call, went_on}
 use Rattle.board_event_model.specs.EventSessions.{EventLine, EventSession, IsEventLine, MayTake, PartyCall, StandingEvent, abandon_of, begin_on, do_at, doing_on, expire_of, gone_with, next_session, step_of, stepped_on, took_step}
 use Rattle.board_event_model.proofs.SetLemmas.{and_join, and_split, is_false}
 use Rattle.board_event_model.proofs.SoundLemmas.{none_some, some_same}
 use Rattle.board_model.specs.Things.{with_at}
 use Rattle.script_model.specs.ScriptEvents.{EventAsk, EventThing, ScriptEvents, events_abandoned, listener, notifier, with_ask}
-use Rattle.script_model.specs.SoundEvents.{AreSoundEvents, IsCallOfThing, IsEventThing, IsFormedAsk, IsFormedEvent, IsHeldCall, IsListening, IsNamed, IsOfSession, name_asked}
-use Rattle.script_model.proofs.EachLemmas.{after_same, changed_same, each, each_and, each_event, each_some, each_was, event_in, gone_same, one_changed, same_event, same_formed, same_listening, same_named}
+use Rattle.script_model.specs.SoundEvents.{AreSoundEvents, HoldersAreNamed, IsCallOfThing, IsEventThing, IsFormedAsk, IsFormedEvent, IsHeldCall, IsListening, IsNamed, IsOfSession, name_asked}
+use Rattle.script_model.proofs.EachLemmas.{IsSameEvent, after_same, changed_same, each, each_and, each_event, each_some, each_was, event_in, gone_same, one_changed, same_event, same_formed, same_holds, same_listening, same_named}
 
 -- ---- tables of functions
 
@@ -86,6 +87,7 @@ grown x n h = record {
   single = h.single;
   calls = h.calls;
   names = h.names;
+  holders = h.holders;
   apart = h.apart;
   asked = h.asked;
   unheld = h.unheld;
@@ -105,6 +107,7 @@ asks x n party o ok h = record {
   single = h.single;
   calls = λ p d e. held_call x _ p d d refl refl (λ m t f. f) (h.calls p d e);
   names = h.names;
+  holders = h.holders;
   apart = λ p q e. elim (put_cases x.asked party o p (Some q) e) [
     | inl is ↦ ap x.session.doing is.0 ∙ (ok q is.1).0
     | inr is ↦ h.apart p q is.1
@@ -143,6 +146,7 @@ call_begun x n party on c free held ok h = record {
     | inr is ↦ held_call x _ p d d refl refl (λ m t f. f) (h.calls p d is.1)
   ];
   names = h.names;
+  holders = h.holders;
   apart = λ p q e. put_other x.session.doing party _ p (another x.asked p party q e free) ∙ h.apart p q e;
   asked = h.asked;
   unheld = h.unheld;
@@ -166,6 +170,7 @@ call_ended x n party ok h = record {
     | inr is ↦ held_call x _ p d d refl refl (λ m t f. f) (h.calls p d is.1)
   ];
   names = h.names;
+  holders = h.holders;
   apart = λ p q e. none_other x.session.doing party p (h.apart p q e);
   asked = h.asked;
   unheld = h.unheld;
@@ -175,6 +180,16 @@ call_ended x n party ok h = record {
 }
 
 -- ---- changes of events that keep what they are
+
+-- an event that holds its name is still named, where each event is as it was to its holders
+holders_kept : (x y : ScriptEvents) (g : ℕ → StandingEvent → StandingEvent) → ((m : ℕ) → y.session.stands m ≡ each (g m) (x.session.stands m)) → ((m : ℕ) (st : StandingEvent) → IsSameEvent st.event (g m st).event) → y.names ≡ x.names → HoldersAreNamed x → HoldersAreNamed y
+holders_kept x y g is same names old n st e held =
+    let w = each_was (g n) (x.session.stands n) st (sym (is n) ∙ e) in
+    let s = same n w.old in
+    let new : holds_name (g n w.old).event ≡ true → x.names (g n w.old).event.kind (g n w.old).event.name ≡ Some n =
+    λ h. ap (λ (k : EventKind). x.names k (g n w.old).event.name) s.kind ∙ ap (x.names w.old.event.kind) s.name ∙ old n w.old w.was (sym (same_holds w.old.event (g n w.old).event s) ∙ h) in
+    ap (λ (f : EventKind → List ℕ → Option ℕ). f st.event.kind st.event.name) names
+    ∙ subst (λ (z : StandingEvent). holds_name z.event ≡ true → x.names z.event.kind z.event.name ≡ Some n) (sym w.is) new held
 
 -- the thing still stands, where each event is as it was to its holders
 thing_kept : (x y : ScriptEvents) (g : ℕ → StandingEvent → StandingEvent) → ((m : ℕ) → y.session.stands m ≡ each (g m) (x.session.stands m)) → ((m : ℕ) (p : List ℕ) (st : StandingEvent) → IsListening p st → IsListening p (g m st)) → (p : List ℕ) (t : EventThing) → IsEventThing x p t → IsEventThing y p t
@@ -194,6 +209,7 @@ party_abandoned x n party old =
         | inr is ↦ held_call x _ p d d refl refl (λ m t f. f) (old.calls p d is.1)
       ];
       names = λ k text m e. each_event (IsNamed k text) (IsNamed k text) (gone_with party) (x.session.stands m) (λ st l. same_named k text st.event (gone_with party st).event (gone_same party st).event l) (old.names k text m e);
+      holders = holders_kept x (events_abandoned x party) (λ k. gone_with party) (λ k. refl) (λ k st. (gone_same party st).event) refl old.holders;
       apart = λ p q e. none_other x.session.doing party p (h.apart p q e);
       asked = h.asked;
       unheld = h.unheld;
@@ -234,6 +250,7 @@ call_stepped x n party a b d st runs stands owes right h =
         | inr w ↦ held_call x _ p f f refl refl (λ m t g. g) (h.calls p f w.1)
       ];
       names = λ k text m e. each_event (IsNamed k text) (IsNamed k text) (one_changed d.on (λ y. after y a) m) (x.session.stands m) (λ s l. same_named k text s.event _ (changed_same d.on m (λ y. after y a) s (λ y. after_same y a)).event l) (h.names k text m e);
+      holders = holders_kept x (record x { session = took_step x.session party a b d (Some st.event) }) (one_changed d.on (λ y. after y a)) (λ k. refl) (λ k s. (changed_same d.on k (λ y. after y a) s (λ y. after_same y a)).event) refl h.holders;
       apart = λ p q e. put_other x.session.doing party _ p (λ same. none_some d (sym (h.apart p q e) ∙ ap x.session.doing same ∙ runs)) ∙ h.apart p q e;
       asked = h.asked;
       unheld = h.unheld;

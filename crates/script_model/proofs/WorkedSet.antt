@@ -38,6 +38,7 @@ use Rattle.script_model.specs.ScriptSession.{IsLawful, IsLawfulFrom, IsRight, Se
 use Rattle.script_model.specs.ScriptTurns.{ScriptState}
 use Rattle.script_model.specs.LawsOfComposition.{EndsGet, EndsPublication, IsIdOf, IsNotifiedGet, IsUntaken, Notifies, Pair, TakesId, state_met, of_pair, past, to_asked, to_begun, to_got, to_notified, to_published, to_taken}
 use Rattle.script_model.specs.WorkedScripts.{a_reader_told_by_a_set, asks, set_access}
+use Rattle.script_model.proofs.RuleLemmas.{right_by}
 use Rattle.script_model.proofs.WorkedScript.{found, get_runs, runs, the_get}
 
 -- ---- the word of the set in which 0 is pending
@@ -101,32 +102,32 @@ begun_lawful : IsLawful to_look
 begun_lawful = search rules
 
 look_right : Right to_look the_look
-look_right = record { line = refl; rule = record { answer = event_answer.Yes; right = refl; printed = refl } }
+look_right = right_by _ _ _ refl (record { answer = event_answer.Yes; right = refl; printed = refl }) (search rules)
 
 set_right : Right (to_look ++ the_look ∷ []) a_reader_told_by_a_set.notified
-set_right = record { line = refl; rule = record { answer = event_answer.Done; right = refl; printed = refl } }
+set_right = right_by _ _ _ refl (record { answer = event_answer.Done; right = refl; printed = refl }) (search rules)
 
 post_right : Right to_post the_post
-post_right = record { line = refl; rule = record { answer = event_answer.Done; right = refl; printed = refl } }
+post_right = right_by _ _ _ refl (record { answer = event_answer.Done; right = refl; printed = refl }) (search rules)
 
 begin_right : Right (to_post ++ the_post ∷ []) the_wait_begins
-begin_right = record { line = (refl, refl); rule = refl }
+begin_right = right_by _ _ _ (refl, refl) refl tt
 
 drain_right : Right to_drain (a_signal event_answer.Yes)
-drain_right = record { line = refl; rule = record { answer = event_answer.Yes; right = refl; printed = refl } }
+drain_right = right_by _ _ _ refl (record { answer = event_answer.Yes; right = refl; printed = refl }) (search rules)
 
 drained_right : Right (to_drain ++ a_signal event_answer.Yes ∷ []) (a_signal event_answer.No)
-drained_right = record { line = refl; rule = record { answer = event_answer.No; right = refl; printed = refl } }
+drained_right = right_by _ _ _ refl (record { answer = event_answer.No; right = refl; printed = refl }) (search rules)
 
 scan_right : Right to_scan the_scan
-scan_right = record { line = refl; rule = record { answer = event_answer.Word 1; right = zero_word; printed = refl } }
+scan_right = right_by _ _ _ refl (record { answer = event_answer.Word 1; right = zero_word; printed = refl }) (search rules)
 
 clear_right : Right (to_scan ++ the_scan ∷ []) a_reader_told_by_a_set.taken
 unfolding count_trailing_zeros
-clear_right = record { line = refl; rule = record { answer = event_answer.Done; right = (refl, has_itself set.empty 0); printed = refl } }
+clear_right = right_by _ _ _ refl (record { answer = event_answer.Done; right = (refl, has_itself set.empty 0); printed = refl }) (search rules)
 
 get_begins : Right (to_asked a_reader_told_by_a_set) a_reader_told_by_a_set.asked
-get_begins = record { line = (refl, (refl, tt)); rule = record { answer = answer.Begun; right = record { line = (refl, (refl, tt)); answer = tt; reason = tt; owed = λ e. refl; word = λ e. tt; reply = λ e. tt }; is = refl } }
+get_begins = right_by _ _ _ (refl, (refl, tt)) (record { answer = answer.Begun; right = record { line = (refl, (refl, tt)); answer = tt; reason = tt; owed = λ e. refl; word = λ e. tt; reply = λ e. tt }; is = refl }) tt
 
 -- the reads of the get
 abbrev a_read : ℕ → ℕ → Option Reply → Line × Answer
@@ -145,13 +146,13 @@ abbrev to_read : Session
 to_read = to_asked a_reader_told_by_a_set ++ a_reader_told_by_a_set.asked ∷ []
 
 first_read : Right to_read (of_pair (a_read 0 2 None))
-first_read = record { line = refl; rule = record { answer = answer.Step (access.Read 1 0 2) None; right = record { line = refl; answer = first_answer; reason = tt; owed = λ e. refl; word = λ e. refl; reply = λ e. record { last = refl; reply = tt } }; is = refl } }
+first_read = right_by _ _ _ refl (record { answer = answer.Step (access.Read 1 0 2) None; right = record { line = refl; answer = first_answer; reason = tt; owed = λ e. refl; word = λ e. refl; reply = λ e. record { last = refl; reply = tt } }; is = refl }) first_answer
 
 second_read : Right (to_read ++ of_pair (a_read 0 2 None) ∷ []) (of_pair (a_read 3 9 None))
-second_read = record { line = refl; rule = record { answer = answer.Step (access.Read 1 3 9) None; right = record { line = refl; answer = second_answer; reason = tt; owed = λ e. refl; word = λ e. refl; reply = λ e. record { last = refl; reply = tt } }; is = refl } }
+second_read = right_by _ _ _ refl (record { answer = answer.Step (access.Read 1 3 9) None; right = record { line = refl; answer = second_answer; reason = tt; owed = λ e. refl; word = λ e. refl; reply = λ e. record { last = refl; reply = tt } }; is = refl }) second_answer
 
 last_read : Right (to_got a_reader_told_by_a_set) a_reader_told_by_a_set.got
-last_read = record { line = refl; rule = record { answer = answer.Step (access.Read 1 0 2) (Some (reply.Got type.U64 (9 ∷ []) 2)); right = record { line = refl; answer = last_answer; reason = tt; owed = λ e. refl; word = λ e. refl; reply = λ e. record { last = refl; reply = refl } }; is = refl } }
+last_read = right_by _ _ _ refl (record { answer = answer.Step (access.Read 1 0 2) (Some (reply.Got type.U64 (9 ∷ []) 2)); right = record { line = refl; answer = last_answer; reason = tt; owed = λ e. refl; word = λ e. refl; reply = λ e. record { last = refl; reply = refl } }; is = refl }) last_answer
 
 lawful : IsLawful (to_got a_reader_told_by_a_set ++ a_reader_told_by_a_set.got ∷ [])
 lawful =

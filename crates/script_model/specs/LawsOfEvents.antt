@@ -49,11 +49,11 @@ QuietLooks =
     call_of call ≡ a_wait w → w.stage ≡ stage.Look →
     (id : ℕ) → has st.event.pending id ≡ true → IsOpen id (history_on n (at_last l).events.session.history)
 
--- the ids that a wait is told are these: for one it is a single id
+-- the ids that a wait is told are these: for one it is a single id, for all there is some
 abbrev pub TellsIds : Bool → EventReply → List ℕ → Type 0
 TellsIds many reply.Nothing ids = ids ≡ []
 TellsIds many (reply.Id id) ids = (many ≡ false) × (ids ≡ id ∷ [])
-TellsIds many (reply.Ids told) ids = (many ≡ true) × (ids ≡ told)
+TellsIds many (reply.Ids told) ids = (many ≡ true) × (ids ≡ told) × (told ≡ [] → ⊥)
 TellsIds many r ids = ⊥
 
 -- what a finished wait is told is what its own steps took, in order

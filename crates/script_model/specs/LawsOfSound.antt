@@ -1,10 +1,12 @@
 -- A script begins with the facts of `IsSoundScript`, and each line with a right answer keeps them.
-use Rattle.std.specs.Prelude.{ℕ, ◌+◌, length}
+use Rattle.std.specs.Prelude.{◌≡◌, ℕ, ◌+◌, List, length, IsSomeAnd, Some}
+use Rattle.board_event_model.specs.declared.kind.EventKind.{EventKind}
+use Rattle.board_event_model.specs.EventSessions.{event_of}
 use Rattle.script_model.specs.declared.line.ScriptLine.{ScriptLine}
 use Rattle.script_model.specs.ScriptAnswers.{ScriptAnswer}
 use Rattle.script_model.specs.ScriptTurns.{ScriptState}
 use Rattle.script_model.specs.ScriptSession.{IsLawful, IsRight, Session, after, start, state_after}
-use Rattle.script_model.specs.SoundEvents.{IsSoundScript}
+use Rattle.script_model.specs.SoundEvents.{HoldersAreNamed, IsNamed, IsSoundScript}
 
 -- no lawful session ever leaves the sound states
 pub record StaysSound : Type 0 where
@@ -14,3 +16,9 @@ pub record StaysSound : Type 0 where
 -- so what holds after a session speaks of no more than its lines
 abbrev pub SessionsAreSound : Type 0
 SessionsAreSound = (pairs : Session) → IsLawful pairs → IsSoundScript (state_after start pairs) (length pairs)
+
+-- who holds a name and the names agree both ways: a name is that of an event which has it and a holder, and such an event is the one of its name
+pub record NamesAgree : Type 0 where
+  pub by_name : (s : ScriptState) (count : ℕ) → IsSoundScript s count
+      → (k : EventKind) (text : List ℕ) (n : ℕ) → s.events.names k text ≡ Some n → IsSomeAnd (event_of s.events.session.stands n) (IsNamed k text)
+  pub by_event : (s : ScriptState) (count : ℕ) → IsSoundScript s count → HoldersAreNamed s.events

@@ -2,13 +2,17 @@ pub mod ScriptGrammar
 pub mod ScriptAnswers
 pub mod ScriptEvents
 pub mod ScriptTurns
+pub mod ScriptRules
 pub mod ScriptSession
 pub mod SoundEvents
+pub mod LawsOfRules
 pub mod LawsOfSound
 pub mod Parts
 pub mod LawsOfParts
 pub mod LawsOfEvents
+pub mod LawsOfReplies
 pub mod LawsOfComposition
+pub mod LawsOfLines
 pub mod WorkedScripts
 pub mod WorkedEvents
 pub mod ScriptOutput

@@ -1,6 +1,6 @@
--- The answers to the lines of a script and their bytes, those of events included.
-use Rattle.std.specs.Prelude.{ℕ, List, [], ◌∷◌, ◌++◌, codes, Option, Some, None}
-use Rattle.std.specs.List.{flat_map}
+-- The answers to the lines of a script and their bytes, those of events included, and which of them some line may be given.
+use Rattle.std.specs.Prelude.{◌≡◌, ℕ, true, List, [], ◌∷◌, ◌++◌, codes, IfSome, Option, Some, None}
+use Rattle.std.specs.List.{AllByRecursion, flat_map}
 use Rattle.board_event_model.specs.declared.access.EventAccess.{EventAccess}
 use Rattle.board_event_model.specs.declared.access.EventAccess.TheVariants as access
 use Rattle.board_event_model.specs.declared.access.EventAnswer.{EventAnswer}
@@ -8,12 +8,14 @@ use Rattle.board_event_model.specs.declared.access.EventAnswer.TheVariants as ev
 use Rattle.board_names.specs.declared.errors.event.NotifierNotifyError.{NotifierNotifyError}
 use Rattle.board_names.specs.declared.errors.event.NotifierNotifyError.TheVariants as notify_error
 use Rattle.board_event_model.specs.declared.kind.EventKind.{EventKind}
+use Rattle.board_event_model.specs.EventMemory.{kind_of_access}
 use Rattle.board_event_model.specs.WaitCalls.{word_in}
 use Rattle.board_model.specs.declared.answer.Answer.{Answer}
-use Rattle.board_model.specs.AnswerGrammar.{answer_text, number_text}
+use Rattle.board_model.specs.AnswerGrammar.{IsAnswer, answer_text, number_text}
+use Rattle.board_model.specs.LineGrammar.{IsNumber}
 use Rattle.script_model.specs.declared.reply.EventReply.{EventReply}
 use Rattle.script_model.specs.declared.reply.EventReply.TheVariants as reply
-use Rattle.script_model.specs.ScriptGrammar.{kind_text}
+use Rattle.script_model.specs.ScriptGrammar.{is_event_name, kind_text}
 
 -- an answer: one of boards, or one that boards and events share; a listener or notifier asked for; an access to an event; a wait that expired
 pub data ScriptAnswer : Type 0 where
@@ -83,3 +85,51 @@ script_answer_text expired = codes "= none"
 -- with its newline
 abbrev pub script_answer_line : ScriptAnswer → List ℕ
 script_answer_line a = script_answer_text a ++ 10 ∷ []
+
+-- ---- the grammar of answers
+
+-- the ids and words that an access prints are numbers
+abbrev pub PrintsNumbers : EventAccess → Type 0
+PrintsNumbers (access.Set id) = IsNumber id
+PrintsNumbers (access.Scan word) = IsNumber word
+PrintsNumbers (access.Clear id) = IsNumber id
+PrintsNumbers (access.Swap word) = IsNumber word
+PrintsNumbers a = Unit {0}
+
+-- the answer is one of those that the access may have
+abbrev pub IsAnswerTo : EventAccess → EventAnswer → Type 0
+IsAnswerTo access.Listener event_answer.Yes = Unit {0}
+IsAnswerTo access.Listener event_answer.No = Unit {0}
+IsAnswerTo access.Signal event_answer.Yes = Unit {0}
+IsAnswerTo access.Signal event_answer.No = Unit {0}
+IsAnswerTo (access.Set id) event_answer.Done = Unit {0}
+IsAnswerTo access.Post event_answer.Done = Unit {0}
+IsAnswerTo (access.Clear id) event_answer.Done = Unit {0}
+IsAnswerTo (access.Push id) event_answer.Done = Unit {0}
+IsAnswerTo (access.Push id) event_answer.Full = Unit {0}
+IsAnswerTo (access.Push id) event_answer.Gone = Unit {0}
+IsAnswerTo (access.Scan word) (event_answer.Word v) = IsNumber v
+IsAnswerTo (access.Swap word) (event_answer.Word v) = IsNumber v
+IsAnswerTo access.Pop (event_answer.Id id) = IsNumber id
+IsAnswerTo access.Pop event_answer.Empty = Unit {0}
+IsAnswerTo a b = ⊥
+
+-- the ids of a reply are numbers
+abbrev pub IsFormedReply : EventReply → Type 0
+IsFormedReply (reply.Id id) = IsNumber id
+IsFormedReply (reply.Ids ids) = AllByRecursion IsNumber ids
+IsFormedReply r = Unit {0}
+
+-- an access to an event of this name, as a step prints it
+pub record IsFormedAccess (name : List ℕ) (a : EventAccess) (b : EventAnswer) (told : Option EventReply) : Type 0 where
+  pub text : is_event_name name ≡ true
+  pub numbers : PrintsNumbers a
+  pub answers : IsAnswerTo a b
+  pub reply : IfSome told IsFormedReply
+
+-- an answer that some line may be given
+abbrev pub IsScriptAnswer : ScriptAnswer → Type 0
+IsScriptAnswer (of_boards a) = IsAnswer a
+IsScriptAnswer (of_ask r) = IsFormedReply r
+IsScriptAnswer (of_event k name a b told) = (k ≡ kind_of_access a) × IsFormedAccess name a b told
+IsScriptAnswer expired = Unit {0}

@@ -8,33 +8,24 @@ use Rattle.board_model.specs.LawfulSession as boards
 use Rattle.script_model.specs.declared.line.ScriptLine.{ScriptLine}
 use Rattle.script_model.specs.declared.line.ScriptLine.TheVariants as line
 use Rattle.script_model.specs.ScriptGrammar.{IsScriptLine}
-use Rattle.script_model.specs.ScriptAnswers.{ScriptAnswer, of_boards}
+use Rattle.script_model.specs.ScriptAnswers.{IsScriptAnswer, ScriptAnswer, of_boards}
 use Rattle.script_model.specs.ScriptEvents.{ScriptEvents, events_abandoned, no_events}
-use Rattle.script_model.specs.ScriptTurns.{EventTurn, IsTurnAnswer, ScriptState, turn_of, turned}
+use Rattle.script_model.specs.ScriptRules.{IsEvent, IsOwed, IsReasoned, IsReplied, IsWord, script_reason}
+use Rattle.script_model.specs.ScriptTurns.{EventTurn, ScriptState, turn_of, turned}
 
 -- before the first line
 abbrev pub start : ScriptState
 start = record { boards = boards.start; events = no_events }
 
--- ---- the rules of an answer
-
--- the answer is right by the rules of boards
-pub record IsBoardAnswer (s : ScriptState) (l : Line) (a : ScriptAnswer) : Type 0 where
-  pub answer : Answer
-  pub right : boards.IsRight s.boards l answer
-  pub is : a ≡ of_boards answer
-
--- a line that is the boards' alone is answered by their rules, and any other by those of events
-abbrev pub IsRuled : ScriptState → ScriptLine → ScriptAnswer → Option EventTurn → Type 0
-IsRuled s l a (Some t) = IsTurnAnswer s.events t a
-IsRuled s (line.Board l) a None = IsBoardAnswer s l a
-IsRuled s (line.Event party q) a None = ⊥
-IsRuled s (line.Expire party) a None = ⊥
-
--- the answer is right where the session so far has led to this state
+-- the answer is right where the session so far has led to this state; the first rule that fails is the one that is broken
 pub record IsRight (s : ScriptState) (l : ScriptLine) (a : ScriptAnswer) : Type 0 where
   pub line : IsScriptLine l
-  pub rule : IsRuled s l a (turn_of s l)
+  pub answer : IsScriptAnswer a
+  pub reason : IsReasoned (script_reason s l) a
+  pub owed : script_reason s l ≡ None → IsOwed s l (turn_of s l) a
+  pub word : script_reason s l ≡ None → IsWord s l (turn_of s l) a
+  pub event : script_reason s l ≡ None → IsEvent s (turn_of s l) a
+  pub reply : script_reason s l ≡ None → IsReplied s l (turn_of s l) a
 
 -- ---- what follows
 

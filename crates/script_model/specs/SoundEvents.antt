@@ -1,9 +1,11 @@
 -- The facts on events that each line of a lawful script keeps.
-use Rattle.std.specs.Prelude.{◌≡◌, ℕ, ◌≤◌, true, List, length, Some, None, IsSome, IsSomeAnd}
+use Rattle.std.specs.Prelude.{◌≡◌, ℕ, ◌<◌, ◌≤◌, ◌^◌, true, List, length, Some, None, IsSome, IsSomeAnd}
+use Rattle.std.specs.List.{AllByRecursion}
 use Rattle.board_event_model.specs.declared.kind.EventKind.{EventKind}
 use Rattle.board_event_model.specs.EventMemory.{Event, holds_name}
-use Rattle.board_event_model.specs.EventCalls.{EventCall, a_notify, a_wait}
-use Rattle.board_event_model.specs.EventSessions.{EventLine, IsEventSession, PartyCall, StandingEvent, event_of, session_of}
+use Rattle.board_event_model.specs.EventCalls.{EventCall, RunningCall, a_notify, a_wait, call_of}
+use Rattle.board_event_model.specs.EventSessions.{EventLine, EventSession, IsEventSession, PartyCall, StandingEvent, event_of, session_of}
+use Rattle.board_model.specs.LineGrammar.{IsNumber}
 use Rattle.board_model.specs.Parties.{free}
 use Rattle.script_model.specs.ScriptGrammar.{is_event_name}
 use Rattle.script_model.specs.ScriptEvents.{EventAsk, EventThing, ScriptEvents, listener, notifier, runs_on_events, to_listen, to_notify}
@@ -45,6 +47,10 @@ pub record IsNamed (k : EventKind) (name : List ℕ) (e : Event) : Type 0 where
   pub name_is : e.name ≡ name
   pub held : holds_name e ≡ true
 
+-- an event that holds its name is the one of that name
+abbrev pub HoldersAreNamed : ScriptEvents → Type 0
+HoldersAreNamed x = (n : ℕ) (st : StandingEvent) → x.session.stands n ≡ Some st → holds_name st.event ≡ true → x.names st.event.kind st.event.name ≡ Some n
+
 -- a name and a greatest id of the grammar, and no more notifiers than lines
 pub record IsFormedEvent (count : ℕ) (e : Event) : Type 0 where
   pub text : is_event_name e.name ≡ true
@@ -71,6 +77,7 @@ pub record AreSoundEvents (x : ScriptEvents) (count : ℕ) : Type 0 where
   pub single : (p m n : List ℕ) (k : ℕ) → x.things p m ≡ Some (listener k) → x.things p n ≡ Some (listener k) → m ≡ n
   pub calls : (p : List ℕ) (d : PartyCall) → x.session.doing p ≡ Some d → IsHeldCall x p d
   pub names : (k : EventKind) (text : List ℕ) (n : ℕ) → x.names k text ≡ Some n → IsSomeAnd (event_of x.session.stands n) (IsNamed k text)
+  pub holders : HoldersAreNamed x
   -- a party that asks runs no other call on events
   pub apart : (p : List ℕ) (q : EventAsk) → x.asked p ≡ Some q → x.session.doing p ≡ None
   pub asked : (p : List ℕ) (q : EventAsk) → x.asked p ≡ Some q → IsFormedAsk q
@@ -81,7 +88,28 @@ pub record AreSoundEvents (x : ScriptEvents) (count : ℕ) : Type 0 where
   pub made : x.session.count ≤ count
   pub taken : length x.session.history ≤ count
 
--- and a party whose call on events runs has no call on boards
+-- all are numbers of 64 bits
+abbrev pub AreNumbers : List ℕ → Type 0
+AreNumbers ids = AllByRecursion IsNumber ids
+
+-- the id of a notify is a number
+abbrev pub IsNumberedCall : EventCall → Type 0
+IsNumberedCall (a_notify n) = IsNumber n.id
+IsNumberedCall (a_wait w) = Unit {0}
+
+-- and so are the ids that a running call has told
+pub record IsNumbered (r : RunningCall) : Type 0 where
+  pub call : IsNumberedCall (call_of r)
+  pub told : AreNumbers r.told
+
+-- the ids in queues and those of running calls are numbers
+pub record AreNumbered (s : EventSession) : Type 0 where
+  pub queues : (n : ℕ) (st : StandingEvent) → s.stands n ≡ Some st → AreNumbers st.event.queue
+  pub calls : (p : List ℕ) (d : PartyCall) → s.doing p ≡ Some d → IsNumbered d.call
+
+-- what is true of a script after so many lines
 pub record IsSoundScript (s : ScriptState) (count : ℕ) : Type 0 where
   pub events : AreSoundEvents s.events count
+  pub numbers : count < 2 ^ 63 → AreNumbered s.events.session
+  -- a party whose call on events runs has no call on boards
   pub free : (p : List ℕ) → runs_on_events s.events p ≡ true → s.boards.parties p ≡ free

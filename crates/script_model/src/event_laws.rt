@@ -1,5 +1,6 @@
 //! The laws of calls on events in a script. Each function's contract is a theorem over the definitions alone.
 ghost use Rattle.script_model.specs.LawsOfEvents.{OwedAccesses, QuietLooks, WaitReplies};
+ghost use Rattle.script_model.specs.LawsOfReplies.{ExpiriesAreTrue, PrintedStepsAreTaken, RepliesAreTrue};
 
 /// Where a wait makes a waiting look that finds no signal, every pending id was last set by a notify that hasn't finished.
 pub fn quiet_looks_miss_nothing()
@@ -14,4 +15,19 @@ pub fn waits_are_told_what_they_took()
 /// The access that a running call owes can be made, after fewer than 2^64 - 1 lines.
 pub fn owed_accesses_can_be_made()
     ensures { OwedAccesses }
+{}
+
+/// An access that a right answer prints is a step of its event's run, and what is told with it is what the call has come to.
+pub fn printed_steps_are_taken()
+    ensures { PrintedStepsAreTaken }
+{}
+
+/// What is told behind an access is true: of a notify that it made its id pending, of a wait that it took exactly these ids, and which it may have missed.
+pub fn replies_are_true()
+    ensures { RepliesAreTrue }
+{}
+
+/// A wait that expires is a timed one that has taken nothing, and missed nothing.
+pub fn expiries_are_true()
+    ensures { ExpiriesAreTrue }
 {}

@@ -1,0 +1,27 @@
+//! Laws for programs that stand on scripts. Each function's contract is a theorem over the definitions alone.
+ghost use Rattle.script_model.specs.LawsOfLines.{BoardStepsAreAlone, LinesLeaveParties, LinesLengthenLists, PairsAreOfBoards, PartsJoin};
+
+/// A party that a line doesn't name holds what it held, and what it runs is where it was.
+pub fn lines_leave_parties()
+    ensures { LinesLeaveParties }
+{}
+
+/// A line makes a published list longer by one exactly where it ends a publication of the entry, and leaves what stands in it.
+pub fn lines_lengthen_lists()
+    ensures { LinesLengthenLists }
+{}
+
+/// The boards' part of two sessions, one after the other, is that of both.
+pub fn parts_join()
+    ensures { PartsJoin }
+{}
+
+/// A step of a party whose call on boards runs is the boards' alone.
+pub fn board_steps_are_alone()
+    ensures { BoardStepsAreAlone }
+{}
+
+/// Two pairs of boards in a script are two pairs of a lawful session of boards, so that session's laws hold of them.
+pub fn pairs_are_of_boards()
+    ensures { PairsAreOfBoards }
+{}
