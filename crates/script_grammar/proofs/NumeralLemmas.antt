@@ -6,6 +6,7 @@ use Rattle.std.proofs.lemmas.Bool.{ltb-true, lt-ltb}
 use Rattle.std.proofs.lemmas.Str.Parse.{IsNumeralModel, numerals_by_fold}
 use Rattle.std.proofs.lemmas.Fmt.{digits_decimal, digits_value-decimal, decimal-digits_value, decimal_nonempty, first_decimal, decimal_digit}
 use Rattle.script_grammar.specs.TokenReading.{read_on, is_plain_numeral, read_digits, read_number}
+use Rattle.script_grammar.specs.LawsOfNumbers.{NumbersAreSpelledOnce}
 use Rattle.script_grammar.proofs.ReaderLemmas.{some_is, guard_some, both}
 
 pub own : IsNumeralModel (λ ds. all_ascii_digits ds ≡ true) (read_on 0)
@@ -44,3 +45,6 @@ number_takes text n e =
     let lt : read_on 0 text < 2 ^ 64 = ltb-true _ _ b.1 in
     let s : decimal (read_on 0 text) ≡ text = decimal-digits_value own text b.0 p.0 p.1 lt in
     (sym s ∙ ap decimal v, omega (arith, v, lt))
+
+pub spelled_once : NumbersAreSpelledOnce
+spelled_once = record { spelled = number_takes; read = number_again }

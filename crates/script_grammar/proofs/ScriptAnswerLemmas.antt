@@ -28,7 +28,8 @@ use Rattle.script_model.specs.ScriptGrammar.{is_event_name}
 use Rattle.script_model.specs.ScriptAnswers.{ScriptAnswer, event_access_text, event_reply_text, event_text, event_told_text, found_text, notify_error_text, of_ask, of_boards, of_event, popped_text, script_answer_text}
 use Rattle.script_model.specs.ScriptEvents.{EventAsk, IsEventAccess, IsStepOf, ScriptEvents, ask_told, step_told}
 use Rattle.script_model.specs.ScriptTurns.{EventTurn, IsTurnAnswer, ScriptState, begins, drops, expires, refused, steps, turn_of}
-use Rattle.script_model.specs.ScriptSession.{IsRuled}
+use Rattle.script_model.specs.LawsOfRules.{IsRuled}
+use Rattle.script_model.proofs.RuleLemmas.{ruled}
 use Rattle.script_model.specs.SoundEvents.{AreSoundEvents, IsFormedEvent}
 use Rattle.script_grammar.specs.LawsOfScriptLines.{RightAnswersHoldNoNewline}
 
@@ -129,4 +130,4 @@ ruled_line s n sound (line.Event party q) a None h = absurd h
 ruled_line s n sound (line.Expire party) a None h = absurd h
 
 pub right_is_one_line : RightAnswersHoldNoNewline
-right_is_one_line s l a n sound h = ruled_line s n sound.events l a (turn_of s l) h.rule
+right_is_one_line s l a n sound h = ruled_line s n sound.events l a (turn_of s l) (ruled s l a h)

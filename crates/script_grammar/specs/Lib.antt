@@ -5,3 +5,4 @@ pub mod EventReading
 pub mod LawsOfBoardLines
 pub mod LawsOfScriptLines
 pub mod LawsOfOutputs
+pub mod LawsOfNumbers

@@ -6,5 +6,6 @@
 #![tactic(auto)]
 
 pub mod board_line_laws;
+pub mod number_laws;
 pub mod output_laws;
 pub mod script_line_laws;
