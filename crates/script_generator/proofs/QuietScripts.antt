@@ -13,8 +13,10 @@ use Rattle.script_grammar.proofs.ReaderLemmas.{both}
 use Rattle.script_model.specs.declared.line.ScriptLine.TheVariants as script_line
 use Rattle.script_model.specs.ScriptAnswers.{ScriptAnswer, of_boards}
 use Rattle.script_model.specs.ScriptEvents.{ScriptEvents, no_events}
-use Rattle.script_model.specs.ScriptSession.{IsBoardAnswer, IsLawfulFrom, IsRight, IsRuled, after, after_boards, after_turn, state_after}
+use Rattle.script_model.specs.LawsOfRules.{IsBoardAnswer, IsRuled}
+use Rattle.script_model.specs.ScriptSession.{IsLawfulFrom, IsRight, after, after_boards, after_turn, state_after}
 use Rattle.script_model.specs.ScriptTurns.{EventTurn, ScriptState, begin_turn, takes_event_name, turn_of}
+use Rattle.script_model.proofs.RuleLemmas.{right_on_boards, ruled}
 use Rattle.script_generator.specs.Counting.{is_plain_line}
 use Rattle.script_generator.specs.WorkedGenerator.{on_boards}
 
@@ -60,7 +62,7 @@ after_quiet b l a h =
 pub board_answer : (s : ScriptState) → s.events ≡ no_events → (l : Line) (a : ScriptAnswer) → is_plain_line l ≡ true → IsRight s (script_line.Board l) a → IsBoardAnswer s l a
 board_answer s e l a h r =
     let none : turn_of s (script_line.Board l) ≡ None = subst (λ (x : ScriptState). turn_of x (script_line.Board l) ≡ None) (sym (is_quiet s e)) (no_turn s.boards l h) in
-    subst (λ (o : Option EventTurn). IsRuled s (script_line.Board l) a o) none r.rule
+    subst (λ (o : Option EventTurn). IsRuled s (script_line.Board l) a o) none (ruled s (script_line.Board l) a r)
 
 -- what follows has no event either
 pub quiet_after : (s : ScriptState) → s.events ≡ no_events → (l : Line) (a : Answer) → is_plain_line l ≡ true → after s (script_line.Board l) (of_boards a) ≡ quiet (boards.after s.boards l a)
@@ -70,10 +72,7 @@ quiet_after s e l a h =
 -- ---- sessions
 
 right_again : (b : State) (l : Line) (a : Answer) → is_plain_line l ≡ true → boards.IsRight b l a → IsRight (quiet b) (script_line.Board l) (of_boards a)
-right_again b l a h r = record {
-  line = r.line;
-  rule = subst (λ (o : Option EventTurn). IsRuled (quiet b) (script_line.Board l) (of_boards a) o) (sym (no_turn b l h)) (record { answer = a; right = r; is = refl });
-}
+right_again b l a h r = right_on_boards (quiet b) l a (no_turn b l h) r
 
 abbrev pub are_plain : boards.Session → Bool
 are_plain ps = list_all (λ (p : Line × Answer). is_plain_line p.0) ps

@@ -13,6 +13,7 @@ use Rattle.script_model.specs.ScriptAnswers.{ScriptAnswer, of_boards, script_ans
 use Rattle.script_model.specs.ScriptGrammar.{IsScriptLine, SpellsLine}
 use Rattle.script_model.specs.ScriptSession.{Session, start, after, IsRight}
 use Rattle.script_model.specs.ScriptTurns.{ScriptState}
+use Rattle.script_model.proofs.RuleLemmas.{right_by}
 use Rattle.script_loop.specs.Machines.{HasAnswered, StandsFor}
 use Rattle.script_loop.specs.IdleMachine.{idle_reason}
 
@@ -45,16 +46,16 @@ right_on_boards l why e h = record {
 
 is_idle : (l : ScriptLine) (why : Reason) → there why ≡ idle_reason l → IsIdle l why
 is_idle (line.Board (board_line.Step p)) why e = record {
-  right = λ h. record { line = h; rule = record { answer = answer.Refused why; right = right_on_boards (board_line.Step p) why e h; is = refl } };
+  right = λ h. right_by _ _ _ h (record { answer = answer.Refused why; right = right_on_boards (board_line.Step p) why e h; is = refl }) tt;
   same = refl;
 }
 is_idle (line.Board (board_line.Words b)) why e = record {
-  right = λ h. record { line = h; rule = record { answer = answer.Refused why; right = right_on_boards (board_line.Words b) why e h; is = refl } };
+  right = λ h. right_by _ _ _ h (record { answer = answer.Refused why; right = right_on_boards (board_line.Words b) why e h; is = refl }) tt;
   same = refl;
 }
-is_idle (line.Event p (request.Notify n id)) why e = record { right = λ h. record { line = h; rule = refused_so why _ e }; same = refl }
-is_idle (line.Event p (request.Wait n many m)) why e = record { right = λ h. record { line = h; rule = refused_so why _ e }; same = refl }
-is_idle (line.Expire p) why e = record { right = λ h. record { line = h; rule = refused_so why _ e }; same = refl }
+is_idle (line.Event p (request.Notify n id)) why e = record { right = λ h. right_by _ _ _ h (refused_so why _ e) tt; same = refl }
+is_idle (line.Event p (request.Wait n many m)) why e = record { right = λ h. right_by _ _ _ h (refused_so why _ e) tt; same = refl }
+is_idle (line.Expire p) why e = record { right = λ h. right_by _ _ _ h (refused_so why _ e) tt; same = refl }
 is_idle l why e = absurd cc
 
 pub answered : {M : Type 0} (m : M) (session : Session) (bytes text : List ℕ) (l : ScriptLine) (why : Reason) → StandsFor {M = M} (λ machine n s. s ≡ start) m session → SpellsLine bytes l → there why ≡ idle_reason l → text ≡ script_answer_line (refused why) → HasAnswered {M = M} (λ machine n s. s ≡ start) m session bytes text

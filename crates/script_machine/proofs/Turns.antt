@@ -24,11 +24,12 @@ use Rattle.board_event_model.specs.EventSessions.{PartyCall}
 use Rattle.script_model.specs.declared.line.EventRequest.{EventRequest}
 use Rattle.script_model.specs.declared.line.ScriptLine.{ScriptLine}
 use Rattle.script_model.specs.declared.line.ScriptLine.TheVariants as line
-use Rattle.script_model.specs.ScriptAnswers.{ScriptAnswer, expired, of_boards, script_answer_line}
+use Rattle.script_model.specs.ScriptAnswers.{IsScriptAnswer, ScriptAnswer, expired, of_boards, script_answer_line}
 use Rattle.script_model.specs.ScriptEvents.{EventAsk, EventTask, ScriptEvents, events_abandoned, holds_event, name_made, runs_on_events, task_of}
 use Rattle.script_model.specs.ScriptGrammar.{IsScriptLine}
-use Rattle.script_model.specs.ScriptSession.{IsRight, IsRuled, after, after_boards, after_turn}
+use Rattle.script_model.specs.ScriptSession.{after, after_boards, after_turn}
 use Rattle.script_model.specs.ScriptTurns.{EventTurn, IsTurnAnswer, ScriptState, begin_turn, begins, board_turn, drop_turn, drops, expire_of_call, expires, free_turn, is_name_taken, may_expire, refused, steps, takes_event_name, task_turn, turn_of, turned}
+use Rattle.script_model.proofs.RuleLemmas.{right_on_boards, right_on_events}
 use Rattle.script_machine.specs.declared.machine.Machine.{Machine}
 use Rattle.script_machine.specs.ScriptMachine.{IsTelling, Represents, is_gone_answer, no_wait}
 
@@ -43,17 +44,17 @@ pub told_alone : {C : Type 0} (new : Machine C) (s : ScriptState) (l : Line) (a 
     → Represents new (record { boards = rules.after s.boards l a; events = after_boards s.events l a }) → text ≡ answer_line a → IsTelling new (line.Board l) text s
 told_alone new s l a text turn formed right represents told = record {
   answer = of_boards a;
-  right = record { line = formed; rule = subst (λ (t : Option EventTurn). IsRuled s (line.Board l) (of_boards a) t) (sym turn) (record { answer = a; right = right; is = refl }) };
+  right = right_on_boards s l a turn right;
   represents = subst (λ (t : Option EventTurn). Represents new (after_turn s (line.Board l) (of_boards a) t)) (sym turn) represents;
   told = told;
 }
 
 -- a line that events have to do with was answered by theirs
-pub told_turn : {C : Type 0} (new : Machine C) (s : ScriptState) (l : ScriptLine) (t : EventTurn) (a : ScriptAnswer) (text : List ℕ) → turn_of s l ≡ Some t → IsScriptLine l → IsTurnAnswer s.events t a
+pub told_turn : {C : Type 0} (new : Machine C) (s : ScriptState) (l : ScriptLine) (t : EventTurn) (a : ScriptAnswer) (text : List ℕ) → turn_of s l ≡ Some t → IsScriptLine l → IsTurnAnswer s.events t a → IsScriptAnswer a
     → Represents new (record s { events = turned s.events t a }) → text ≡ script_answer_line a → IsTelling new l text s
-told_turn new s l t a text turn formed right represents told = record {
+told_turn new s l t a text turn formed right grammar represents told = record {
   answer = a;
-  right = record { line = formed; rule = subst (λ (x : Option EventTurn). IsRuled s l a x) (sym turn) right };
+  right = right_on_events s l t a turn formed right grammar;
   represents = subst (λ (x : Option EventTurn). Represents new (after_turn s l a x)) (sym turn) represents;
   told = told;
 }
@@ -61,7 +62,7 @@ told_turn new s l t a text turn formed right represents told = record {
 -- a line was refused on their account
 pub told_refused : {C : Type 0} (m : Machine C) (s : ScriptState) (l : ScriptLine) (why : Reason) (text : List ℕ) → turn_of s l ≡ Some (refused why) → IsScriptLine l
     → Represents m s → text ≡ answer_line (answer.Refused why) → IsTelling m l text s
-told_refused m s l why text turn formed represents told = told_turn m s l (refused why) (of_boards (answer.Refused why)) text turn formed refl represents told
+told_refused m s l why text turn formed represents told = told_turn m s l (refused why) (of_boards (answer.Refused why)) text turn formed refl tt represents told
 
 -- where there is none
 pub none_is : {A : Type 0} (o : Option A) → is_some o ≡ false → None ≡ o
@@ -238,7 +239,7 @@ unlisted_right s n missing l = record {
 -- a line that events refused
 pub refusal_told : {C : Type 0} (new : Machine C) (s : ScriptState) (l : ScriptLine) (t : EventTurn) (why : Reason) (text : List ℕ) → turn_of s l ≡ Some t → IsScriptLine l → Some why ≡ events.refusal_of t
     → ((a : ScriptAnswer) → Represents new (record s { events = turned s.events t a })) → text ≡ answer_line (answer.Refused why) → IsTelling new l text s
-refusal_told new s l (refused other) why text turn formed told represents text_is = (let w : other ≡ why = cc in told_turn new s l (refused other) (of_boards (answer.Refused why)) text turn formed (ap (λ (x : Reason). of_boards (answer.Refused x)) (sym w)) (represents (of_boards (answer.Refused why))) text_is)
+refusal_told new s l (refused other) why text turn formed told represents text_is = (let w : other ≡ why = cc in told_turn new s l (refused other) (of_boards (answer.Refused why)) text turn formed (ap (λ (x : Reason). of_boards (answer.Refused x)) (sym w)) tt (represents (of_boards (answer.Refused why))) text_is)
 refusal_told new s l (begins p t) why text turn formed told represents text_is = absurd cc
 refusal_told new s l (steps p) why text turn formed told represents text_is = absurd cc
 refusal_told new s l (drops p n) why text turn formed told represents text_is = absurd cc
@@ -259,7 +260,7 @@ begun_told new s l party q text turn formed told represents text_is = at (task_t
     begun_turn (Some t) = elim (is_name_taken s party (name_made q)) as (λ b. BeginsOr (if b then refused reason.Taken else begins party t)) [ true ↦ tt | false ↦ tt ]
 
     at : (t : EventTurn) → BeginsOr t → turn_of s l ≡ Some t → None ≡ events.refusal_of t → ((a : ScriptAnswer) → Represents new (record s { events = turned s.events t a })) → IsTelling new l text s
-    at (begins p t) k turn told represents = told_turn new s l (begins p t) (of_boards answer.Begun) text turn formed refl (represents (of_boards answer.Begun)) text_is
+    at (begins p t) k turn told represents = told_turn new s l (begins p t) (of_boards answer.Begun) text turn formed refl tt (represents (of_boards answer.Begun)) text_is
     at (refused why) k turn told represents = absurd cc
     at (steps p) k turn told represents = absurd k
     at (drops p n) k turn told represents = absurd k
@@ -281,7 +282,7 @@ expired_told new s party text turn formed told represents text_is = at (expire_o
     expiry None (Some d) = elim (may_expire d) as (λ b. ExpiresOr (if b then expires party else refused reason.NotWaiting)) [ true ↦ tt | false ↦ tt ]
 
     at : (t : EventTurn) → ExpiresOr t → turn_of s (line.Expire party) ≡ Some t → None ≡ events.refusal_of t → ((a : ScriptAnswer) → Represents new (record s { events = turned s.events t a })) → IsTelling new (line.Expire party) text s
-    at (expires p) k turn told represents = told_turn new s (line.Expire party) (expires p) expired text turn formed refl (represents expired) text_is
+    at (expires p) k turn told represents = told_turn new s (line.Expire party) (expires p) expired text turn formed refl tt (represents expired) text_is
     at (refused why) k turn told represents = absurd cc
     at (begins p t) k turn told represents = absurd k
     at (steps p) k turn told represents = absurd k

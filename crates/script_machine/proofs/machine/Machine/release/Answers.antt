@@ -28,7 +28,7 @@ returns-then-holds-clause-tells g c = on_ok (λ e s count rep reached.
     let runs : runs_on_events s.events c.args.party.now ≡ false = sym (c.runs.ensures s.events count reached.few reached.sound.events rep.events) ∙ c.if-runs.false in
     let free : None ≡ free_reason (s.boards.parties c.args.party.now) None = none_is c.refusal_of_party.result (c.is_none.ensures ∙ ap not c.if-is_none.true) ∙ c.refusal_of_party.ensures.reason s.boards rep.boards in
     let held : holds_event s.events c.args.party.now c.args.name.now ≡ true = sym (c.holds.ensures s.events count reached.few reached.sound.events rep.events) ∙ c.if-holds.true in
-    told_turn _ s (line.Board (board_line.Release c.args.party.now c.args.name.now)) (drops c.args.party.now c.args.name.now) (of_boards (answer.Step access.Table (Some reply.Done))) _ (release_held s c.args.party.now c.args.name.now runs free held) c.requires.line refl
+    told_turn _ s (line.Board (board_line.Release c.args.party.now c.args.name.now)) (drops c.args.party.now c.args.name.now) (of_boards (answer.Step access.Table (Some reply.Done))) _ (release_held s c.args.party.now c.args.name.now runs free held) c.requires.line refl (tt, tt)
     (record { alive = rep.alive; boards = rep.boards; events = c.release.ensures s.events count reached.few reached.sound.events rep.events }) (from_nothing _ _ _ c.requires.empty e)) c.push_answer.result c.push_answer.ensures.ok
 
 pub returns-clause-tells : goal.returns-clause-tells
