@@ -19,5 +19,6 @@ pub mod TaskLemmas
 pub mod TurnLemmas
 pub mod WordLemmas
 pub mod WorkedEvent
+pub mod WorkedLost
 pub mod WorkedScript
 pub mod WorkedSet

@@ -56,10 +56,10 @@ zero_bit i =
           rw none (bit_at-pow_other 0 i (λ e. false≢true (sym apart ∙ ap (λ (k : ℕ). eqb k 0) e ∙ eqb_self 0))))
     ]
 
-zero_word : IsWordAnswer (set.insert set.empty 0) 0 (event_answer.Word 1)
+pub zero_word : IsWordAnswer (set.insert set.empty 0) 0 (event_answer.Word 1)
 zero_word = (1, refl, record { small = lit< tt; bits = λ i low. zero_bit i })
 
-lawful_join : (xs ys : Session) (s : ScriptState) → IsLawfulFrom s xs → IsLawfulFrom (state_after s xs) ys → IsLawfulFrom s (xs ++ ys)
+pub lawful_join : (xs ys : Session) (s : ScriptState) → IsLawfulFrom s xs → IsLawfulFrom (state_after s xs) ys → IsLawfulFrom s (xs ++ ys)
 lawful_join [] ys s h k = k
 lawful_join (x ∷ xs) ys s h k = (h.0, lawful_join xs ys (after s x.0 x.1) h.1 k)
 
@@ -189,13 +189,13 @@ notified =
     }
 
 -- an access that takes nothing
-takes_nothing : (s : ScriptState) (party : List ℕ) (a : EventAccess) (b : EventAnswer) (r : Option EventReply) → ((e : Event) → taken e a ≡ []) → TakesId s (set_access party a b r) 1 0 → ⊥
+pub takes_nothing : (s : ScriptState) (party : List ℕ) (a : EventAccess) (b : EventAnswer) (r : Option EventReply) → ((e : Event) → taken e a ≡ []) → TakesId s (set_access party a b r) 1 0 → ⊥
 takes_nothing s party a b r none t =
     let prints = t.step.prints in
     let same : t.access ≡ a = cc in
     false≢true (ap (λ (xs : List ℕ). list_any (λ x. x == 0) xs) (sym (none t.event.event)) ∙ ap (λ (z : EventAccess). list_any (λ x. x == 0) (taken t.event.event z)) (sym same) ∙ t.takes)
 
-begins_only : (s : ScriptState) (party : List ℕ) (q : EventRequest) → TakesId s (asks party q) 1 0 → ⊥
+pub begins_only : (s : ScriptState) (party : List ℕ) (q : EventRequest) → TakesId s (asks party q) 1 0 → ⊥
 begins_only s party q t = let e = t.step.steps in cc
 
 untaken : IsUntaken (past (to_notified a_reader_told_by_a_set) a_reader_told_by_a_set.notified) a_reader_told_by_a_set.before_taken 1 0

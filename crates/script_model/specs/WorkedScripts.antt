@@ -110,3 +110,28 @@ a_reader_told_by_a_set = record {
       ∷ []);
   got = of_pair (boards.last_step (codes "b") (access.Read 1 0 2) (reply.Got type.U64 (9 ∷ []) 2));
 }
+
+-- the same, where a is abandoned after it has set the id: no signal is posted, and b still finds the id
+abbrev pub a_reader_told_by_a_lost_notifier : Cuts
+a_reader_told_by_a_lost_notifier = record {
+  before_published = an_update a_set;
+  published = of_pair (boards.last_step (codes "a") (access.Write 1 0 2) reply.Done);
+  before_begun = [];
+  begun = asks (codes "a") (request.Notify (codes "n") 0);
+  before_notified = set_access (codes "a") event_access.Listener event_answer.Yes None ∷ [];
+  notified = set_access (codes "a") (event_access.Set 0) event_answer.Done None;
+  before_taken =
+      of_pair (board_line.Abandon (codes "a"), answer.Gone)
+      ∷ asks (codes "b") (request.Wait (codes "e") false mode.Try)
+      ∷ set_access (codes "b") event_access.Signal event_answer.No None
+      ∷ set_access (codes "b") (event_access.Scan 0) (event_answer.Word 1) None
+      ∷ [];
+  taken = set_access (codes "b") (event_access.Clear 0) event_answer.Done (Some (event_reply.Id 0));
+  before_asked = [];
+  asked = of_pair (boards.accepted (codes "b") (call.Get (codes "h") None));
+  before_got = map of_pair (
+      boards.one_step (codes "b") (access.Read 1 0 2)
+      ∷ boards.one_step (codes "b") (access.Read 1 3 9)
+      ∷ []);
+  got = of_pair (boards.last_step (codes "b") (access.Read 1 0 2) (reply.Got type.U64 (9 ∷ []) 2));
+}
