@@ -20,5 +20,6 @@ pub mod TurnLemmas
 pub mod WordLemmas
 pub mod WorkedEvent
 pub mod WorkedLost
+pub mod WorkedOlder
 pub mod WorkedScript
 pub mod WorkedSet

@@ -135,3 +135,44 @@ a_reader_told_by_a_lost_notifier = record {
       ∷ []);
   got = of_pair (boards.last_step (codes "b") (access.Read 1 0 2) (reply.Got type.U64 (9 ∷ []) 2));
 }
+
+-- ---- an older take
+
+-- before b takes the id that an older notify of a's pushed
+abbrev pub to_older_take : Session
+to_older_take =
+    map of_pair (boards.set_up type.U64 (value.U64 7)) ++ (a_queue ++ (
+    asks (codes "a") (request.Notify (codes "n") 0)
+    ∷ queued (codes "a") (event_access.Push 0) event_answer.Done event_reply.Done
+    ∷ asks (codes "b") (request.Wait (codes "e") false mode.Try)
+    ∷ []))
+
+abbrev pub the_older_take : Pair
+the_older_take = queued (codes "b") event_access.Pop (event_answer.Id 0) (event_reply.Id 0)
+
+-- then b gets the entry, while a's update of it runs
+abbrev pub to_old_value : Session
+to_old_value = to_older_take ++ (the_older_take ∷ map of_pair (
+    boards.accepted (codes "b") (call.Get (codes "h") None)
+    ∷ boards.accepted (codes "a") (call.Update (codes "m") (value.U64 9))
+    ∷ boards.one_step (codes "a") (access.Write 1 3 9)
+    ∷ boards.one_step (codes "b") (access.Read 1 0 1)
+    ∷ boards.one_step (codes "b") (access.Read 1 2 7)
+    ∷ []))
+
+abbrev pub the_old_value : Pair
+the_old_value = of_pair (boards.last_step (codes "b") (access.Read 1 0 1) (reply.Got type.U64 (7 ∷ []) 1))
+
+-- then the update ends
+abbrev pub to_new_value : Session
+to_new_value = to_old_value ++ the_old_value ∷ []
+
+abbrev pub the_new_value : Pair
+the_new_value = of_pair (boards.last_step (codes "a") (access.Write 1 0 2) reply.Done)
+
+-- and a notifies b of it
+abbrev pub to_newer_notify : Session
+to_newer_notify = to_new_value ++ (the_new_value ∷ asks (codes "a") (request.Notify (codes "n") 0) ∷ [])
+
+abbrev pub the_newer_notify : Pair
+the_newer_notify = queued (codes "a") (event_access.Push 0) event_answer.Done event_reply.Done
