@@ -1,2 +1,3 @@
 -- where a cell's copies lie, and which accesses its calls owe
 pub mod OwedAccesses
+pub mod LawsOfCells
