@@ -5,9 +5,9 @@ use Rattle.board_cell.proofs.Climbs.{got_within, seen}
 use Rattle.board_cell.proofs.threaded.cell.ThreadedCell.try_get.Goals as goal
 
 pub returns-clause-ok : goal.returns-clause-ok
-returns-clause-ok c = IfOk-weaker c.first_tries-answer.result _ _
+returns-clause-ok c = IfOk-weaker c.first_tries.result _ _
     (λ g a.
-    let words : List ℕ = c.first_tries-answer.new.out.items in
-    let gets = got_within c.max.result c.open_try-opened.result g words c.pass.inside.seat.table_id c.first_tries-answer.new.seat.table_id c.pass.inside.seat.me.0 c.open_try-opened.new.seat.me.0 c.first_tries-answer.new.seat.me.0 (c.first_tries-answer.ensures.cell.0 ∙ c.open_try-opened.ensures.cell) (ap (λ m. m.0) c.open_try-opened.ensures.seat) c.open_try-opened.ensures.reached a in
-    subst (λ (z : ℕ × ReaderSeen). GetsWithin z.0 g words z.1 (seen c.first_tries-answer.new.seat.table_id c.first_tries-answer.new.seat.me.0)) (λ i. (c.max.ensures i, c.pass.view_is i)) gets)
-    c.first_tries-answer.ensures.ok
+    let words : List ℕ = c.first_tries.new.out.items in
+    let gets = got_within c.max.result c.open_try-opened.result g words c.pass.inside.seat.table_id c.first_tries.new.seat.table_id c.pass.inside.seat.me.0 c.open_try-opened.new.seat.me.0 c.first_tries.new.seat.me.0 (c.first_tries.ensures.cell.0 ∙ c.open_try-opened.ensures.cell) (ap (λ m. m.0) c.open_try-opened.ensures.seat) c.open_try-opened.ensures.reached a in
+    subst (λ (z : ℕ × ReaderSeen). GetsWithin z.0 g words z.1 (seen c.first_tries.new.seat.table_id c.first_tries.new.seat.me.0)) (λ i. (c.max.ensures i, c.pass.view_is i)) gets)
+    c.first_tries.ensures.ok
