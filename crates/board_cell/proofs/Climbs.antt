@@ -1,8 +1,8 @@
 -- The counters of tries climb.
-use Rattle.std.proofs.Common.{◌≡◌, ℕ, ◌<◌, ◌≤◌, List, [], ◌∷◌, ◌++◌, refl, ap, ◌∙◌, append_assoc}
+use Rattle.std.proofs.Common.{◌≡◌, ℕ, ◌+◌, ◌<◌, ◌≤◌, List, [], ◌∷◌, ◌++◌, refl, ap, ◌∙◌, append_assoc, arith}
 use Rattle.atomic_table.specs.Seated.{TableId}
-use Rattle.board_cell.specs.Passes.{note, ClimbsFrom, last_from, ReaderSeen, GetsWithin}
-use Rattle.board_cell.specs.Views.{AfterTriesWithin, with_open, reader_of}
+use Rattle.board_cell.specs.Passes.{note, ClimbsFrom, last_from, ReaderSeen, Gets, GetsWithin}
+use Rattle.board_cell.specs.Views.{AfterTries, AfterTriesWithin, with_open, reader_of}
 use Rattle.board_cell.specs.declared.threaded.view.ReaderView.{ReaderView}
 use Rattle.board_cell.specs.declared.threaded.view.View.{View}
 use Rattle.board_cell.specs.declared.threaded.view.View.TheVariants.{Reader}
@@ -20,23 +20,48 @@ abbrev pub seen : TableId → View → ReaderSeen
 seen cell v = let y = reader_of v in record { cell = cell; notes = y.notes; loads = y.loads; reached = y.reached }
 
 -- what a pass gains by a try that is opened and by those after it
-pub got_within : (tries opened g : ℕ) (words : List ℕ) (cell cell' : TableId) (u v w : View) → cell' ≡ cell → v ≡ Reader (with_open (reader_of u) opened) → (reader_of u).reached ≤ opened → AfterTriesWithin tries (reader_of v) w opened g words → GetsWithin tries g words (seen cell u) (seen cell' w)
-got_within tries opened g words cell cell' u v w same begins low a =
+pub got : (opened g : ℕ) (words : List ℕ) (cell cell' : TableId) (u v w : View) → cell' ≡ cell → v ≡ Reader (with_open (reader_of u) opened) → (reader_of u).reached ≤ opened → AfterTries (reader_of v) w opened g words → Gets g words (seen cell u) (seen cell' w)
+got opened g words cell cell' u v w same begins low a =
     let x = reader_of u in
-    let is : reader_of w ≡ a.after.y = ap reader_of a.after.is in
+    let is : reader_of w ≡ a.y = ap reader_of a.is in
     let begun : reader_of v ≡ with_open x opened = ap reader_of begins in record {
-      gets = record {
-        cell = same;
-        notes = ap (λ (r : ReaderView). r.notes) is ∙ a.after.notes ∙ ap (λ (r : ReaderView). r.notes ++ note g words ∷ []) begun;
-        reached = ap (λ (r : ReaderView). r.reached) is ∙ a.after.reached;
-        loads = record {
-          first = opened;
-          rest = a.after.rest;
-          begins = low;
-          climbs = a.after.climbs;
-          ends = a.after.ends;
-          gained = ap (λ (r : ReaderView). r.loads) is ∙ a.after.loads ∙ ap (λ (r : ReaderView). (r.loads ++ a.after.rest) ++ g ∷ []) begun ∙ append_assoc (x.loads ++ opened ∷ []) a.after.rest (g ∷ []) ∙ append_assoc x.loads (opened ∷ []) (a.after.rest ++ g ∷ []);
-        };
+      cell = same;
+      notes = ap (λ (r : ReaderView). r.notes) is ∙ a.notes ∙ ap (λ (r : ReaderView). r.notes ++ note g words ∷ []) begun;
+      reached = ap (λ (r : ReaderView). r.reached) is ∙ a.reached;
+      loads = record {
+        first = opened;
+        rest = a.rest;
+        begins = low;
+        climbs = a.climbs;
+        ends = a.ends;
+        gained = ap (λ (r : ReaderView). r.loads) is ∙ a.loads ∙ ap (λ (r : ReaderView). (r.loads ++ a.rest) ++ g ∷ []) begun ∙ append_assoc (x.loads ++ opened ∷ []) a.rest (g ∷ []) ∙ append_assoc x.loads (opened ∷ []) (a.rest ++ g ∷ []);
       };
-      few = a.few;
     }
+
+pub got_within : (tries opened g : ℕ) (words : List ℕ) (cell cell' : TableId) (u v w : View) → cell' ≡ cell → v ≡ Reader (with_open (reader_of u) opened) → (reader_of u).reached ≤ opened → AfterTriesWithin tries (reader_of v) w opened g words → GetsWithin tries g words (seen cell u) (seen cell' w)
+unfolding got
+got_within tries opened g words cell cell' u v w same begins low a = record {
+  gets = got opened g words cell cell' u v w same begins low a.after;
+  few = a.few;
+}
+
+-- tries after one that met a greater counter
+pub tried_again : (x : ReaderView) (m v : View) (opened after g : ℕ) (words : List ℕ) → m ≡ Reader (with_open x after) → opened < after → AfterTries (reader_of m) v after g words → AfterTries x v opened g words
+tried_again x m v opened after g words begins more a =
+    let is : reader_of m ≡ with_open x after = ap reader_of begins in record {
+      y = a.y;
+      is = a.is;
+      notes = a.notes ∙ ap (λ (r : ReaderView). r.notes ++ note g words ∷ []) is;
+      reached = a.reached;
+      rest = after ∷ a.rest;
+      climbs = (more, a.climbs);
+      ends = a.ends;
+      loads = a.loads ∙ ap (λ (r : ReaderView). (r.loads ++ a.rest) ++ g ∷ []) is ∙ ap (λ (l : List ℕ). l ++ g ∷ []) (append_assoc x.loads (after ∷ []) a.rest);
+    }
+
+pub tried_again_within : (tries left : ℕ) (x : ReaderView) (m v : View) (opened after g : ℕ) (words : List ℕ) → m ≡ Reader (with_open x after) → opened < after → left + 1 ≡ tries → AfterTriesWithin left (reader_of m) v after g words → AfterTriesWithin tries x v opened g words
+unfolding tried_again
+tried_again_within tries left x m v opened after g words begins more one a = record {
+  after = tried_again x m v opened after g words begins more a.after;
+  few = let few = a.few in omega arith;
+}

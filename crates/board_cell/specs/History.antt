@@ -1,5 +1,7 @@
 -- One history of a cell: the publications in order, and behind each one the reads of its generation, reader by reader.
-use Rattle.std.specs.Prelude.{◌≡◌, ℕ, suc, Bool, true, false, eqb, List, [], ◌∷◌, ◌++◌}
+use Rattle.std.specs.Prelude.{◌≡◌, ℕ, suc, Bool, true, false, eqb, List, [], ◌∷◌, ◌++◌, map, slice_get, Some}
+use Rattle.std.specs.List.{All}
+use Rattle.board_cell.specs.Passes.{NotesRise, ReaderSeen, Stands, WriterSeen, notes_of}
 use Rattle.board_cell.specs.declared.threaded.view.Note.{Note}
 
 pub data Event : Type 0 where
@@ -47,3 +49,25 @@ abbrev pub reads_in : ℕ → List Event → List Note
 reads_in k [] = []
 reads_in k (publish item ∷ events) = reads_in k events
 reads_in k (read reader n ∷ events) = kept_if (eqb reader k) n (reads_in k events)
+
+-- the history of what a writer's pass published and what readers' passes noted
+abbrev pub history_of : WriterSeen → List ReaderSeen → List Event
+history_of writer readers = history writer.published (map notes_of readers)
+
+-- each reader's notes are in it once, in the reader's order
+abbrev pub TellsReadsOf : List ReaderSeen → List Event → Type 0
+TellsReadsOf readers events = (k : ℕ) (r : ReaderSeen) → slice_get readers k ≡ Some r → reads_in k events ≡ r.notes
+
+-- ---- what holds of every history
+
+-- notes that stand make a legal one
+abbrev pub HistoriesAreLegal : Type 0
+HistoriesAreLegal = (published : List (List ℕ)) (readers : List (List Note)) → All (All (Stands published)) readers → IsLegal (history published readers)
+
+-- it has each publication once, in order
+abbrev pub HistoriesTellPublications : Type 0
+HistoriesTellPublications = (published : List (List ℕ)) (readers : List (List Note)) → publishes_in (history published readers) ≡ published
+
+-- it has the notes of each reader once, in the reader's order, where they stand and don't fall
+abbrev pub HistoriesTellReads : Type 0
+HistoriesTellReads = (published : List (List ℕ)) (readers : List (List Note)) (k : ℕ) (notes : List Note) → slice_get readers k ≡ Some notes → NotesRise notes → All (Stands published) notes → reads_in k (history published readers) ≡ notes

@@ -1,5 +1,5 @@
 -- What callers see of a cell between threads and of its passes.
-use Rattle.std.specs.Prelude.{◌≡◌, ℕ, ◌+◌, ◌-◌, ◌<◌, ◌≤◌, List, [], ◌∷◌, ◌++◌, length, slice_get, Some}
+use Rattle.std.specs.Prelude.{◌≡◌, ℕ, ◌+◌, ◌-◌, ◌<◌, ◌≤◌, List, [], ◌∷◌, ◌++◌, length, max, slice_get, Some}
 use Rattle.std.specs.List.{All}
 use Rattle.atomic_table.specs.Seated.{TableId}
 use Rattle.board_layout.specs.declared.shape.CellShape.{CellShape}
@@ -101,3 +101,19 @@ pub record GivesUp (tries before after : ℕ) (old new : ReaderSeen) : Type 0 wh
 pub record Looks (counter : ℕ) (old new : ReaderSeen) : Type 0 where
   pub begins : old.reached ≤ counter
   pub pass : new ≡ record old { loads = old.loads ++ counter ∷ []; reached = counter }
+
+-- the pass published these words
+abbrev pub publishing : WriterSeen → List ℕ → WriterSeen
+publishing pass words = record pass { published = pass.published ++ words ∷ [] }
+
+-- the pass of a reader that got to know a generation
+abbrev pub reaching : ReaderSeen → ℕ → ReaderSeen
+reaching pass generation = record pass { reached = max pass.reached generation }
+
+-- names the last publication
+abbrev pub receipt_of : WriterSeen → ReceiptSeen
+receipt_of pass = record { cell = pass.cell; generation = length pass.published }
+
+-- the passes are of this cell
+abbrev pub AreOf : TableId → List ReaderSeen → Type 0
+AreOf cell readers = All (λ (r : ReaderSeen). r.cell ≡ cell) readers

@@ -2,7 +2,7 @@
 use Rattle.std.specs.Prelude.{◌≡◌, ℕ, zero, suc, ◌+◌, ◌-◌, List, [], ◌∷◌, ◌++◌, length, map}
 use Rattle.board_layout.specs.declared.shape.CellShape.{CellShape}
 use Rattle.board_cell_model.specs.OwedAccesses.{Owed, to_read, Reading, finished, hear, owed_read, owed_write}
-use Rattle.board_cell.specs.Calls.{on_board}
+use Rattle.board_cell.specs.Calls.{on_board, Asking, Getting, Publishing, Putting, Updating, next_put, next_raise}
 use Rattle.board_cell.specs.declared.access.Access.{Access}
 
 -- what a get owes before each of these words, until it is finished
@@ -28,3 +28,20 @@ owed_looks board c (v ∷ vs) = to_read board c.first ∷ []
 -- the accesses that are owed were noted behind the old ones, whichever board they are made on
 abbrev pub AreNoted : List Access → List Access → (ℕ → List Owed) → Type 0
 AreNoted old new owed = (board : ℕ) → map (on_board board) new ≡ map (on_board board) old ++ owed board
+
+-- ---- what whole runs owe, on the board with this number
+
+abbrev pub reads_owed : Getting → List ℕ → ℕ → List Owed
+reads_owed call words board = owed_reads board call.shape call.reading words
+
+abbrev pub writes_owed : Updating → ℕ → List Owed
+writes_owed call board = owed_writes board call.shape call.generation call.words call.written
+
+abbrev pub looks_owed : Asking → List ℕ → ℕ → List Owed
+looks_owed call words board = owed_looks board call.shape words
+
+abbrev pub put_owed : Putting → ℕ → List Owed
+put_owed call board = next_put call board ∷ []
+
+abbrev pub raise_owed : Publishing → ℕ → List Owed
+raise_owed call board = next_raise call board ∷ []

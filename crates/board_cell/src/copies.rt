@@ -1,4 +1,4 @@
-ghost use Rattle.std.specs.Prelude.{◌≡◌, ◌+◌, ◌^◌, ◌<◌};
+ghost use Rattle.std.specs.Prelude.{◌≡◌, ◌+◌, ◌^◌, ◌<◌, ◌≤◌};
 ghost use Rattle.board_cell_model.specs.OwedAccesses.{spare_at, current_at};
 ghost use Rattle.board_layout.specs.Layout.{cell_end};
 
@@ -17,15 +17,16 @@ pub(crate) fn spare_word(shape: CellShape, generation: u64, index: u64) -> u64
     }
 }
 
-// The word with this index of the copy that is current at this counter.
+// Where the copy that is current at this counter begins.
 #[inline(always)]
-pub(crate) fn current_word(shape: CellShape, counter: u64, index: u64) -> u64
-    requires { (cell_end shape < 2 ^ 64) × (index < shape.words) }
-    ensures { result ≡ current_at shape counter + index }
+pub(crate) fn current_copy(shape: CellShape, counter: u64) -> u64
+    requires { cell_end shape < 2 ^ 64 }
+    ensures is { result ≡ current_at shape counter }
+    ensures fits { result + shape.words ≤ cell_end shape }
 {
     if counter % 2 == 0 {
-        shape.first + shape.head + shape.words + index
+        shape.first + shape.head + shape.words
     } else {
-        shape.first + shape.head + index
+        shape.first + shape.head
     }
 }

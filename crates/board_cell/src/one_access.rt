@@ -1,9 +1,8 @@
 //! The calls of one access: a word of a loan is put, the counter is raised at a loan's end, and the counter is looked at.
 ghost use Rattle.std.specs.Prelude.{ℕ, ◌≡◌, ◌+◌, ◌^◌, ◌<◌, ◌==◌, true, false, None, Some, IsSome, IfSome};
 ghost use Rattle.board_layout.specs.Layout.{cell_end};
-ghost use Rattle.board_cell_model.specs.OwedAccesses.{spare_at};
-ghost use Rattle.board_cell_model.specs.OwedAccesses.{to_read, to_write};
-ghost use Rattle.board_cell.specs.Calls.{on_board};
+ghost use Rattle.board_cell_model.specs.OwedAccesses.{to_read};
+ghost use Rattle.board_cell.specs.Calls.{Owes, next_put, next_raise, on_board, put_at};
 ghost use Rattle.board_cell.specs.declared.access.Progress.TheVariants.{Done};
 
 use crate::access::{Access, Progress};
@@ -39,7 +38,7 @@ impl PutCall {
     pub fn new(shape: CellShape, generation: u64, index: u64, word: u64) -> PutCall
         requires index { index < shape.words }
         requires shape { cell_end shape < 2 ^ 64 }
-        ensures { result ≡ record { shape = shape; generation = generation; index = index; word = word; done = false } }
+        ensures { result ≡ put_at shape generation index word }
     {
         PutCall {
             shape,
@@ -54,7 +53,7 @@ impl PutCall {
     #[inline(always)]
     pub fn next(&self) -> Access
         requires { self.now.done ≡ false }
-        ensures { (board : ℕ) → on_board board result ≡ to_write board (spare_at self.now.shape self.now.generation + self.now.index) self.now.word }
+        ensures { Owes result (next_put self.now) }
     {
         Access::Write {
             word: spare_word(self.shape, self.generation, self.index),
@@ -111,7 +110,7 @@ impl PublishCall {
     #[inline(always)]
     pub fn next(&self) -> Access
         requires { self.now.done ≡ false }
-        ensures { (board : ℕ) → on_board board result ≡ to_write board self.now.shape.first (self.now.generation + 1) }
+        ensures { Owes result (next_raise self.now) }
     {
         Access::Write {
             word: self.shape.first,

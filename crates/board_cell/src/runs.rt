@@ -1,9 +1,8 @@
 //! Whole runs of a call.
-ghost use Rattle.std.specs.Prelude.{ℕ, ◌≡◌, ◌≤◌, ◌+◌, ◌==◌, true, false, [], ◌∷◌, ◌++◌, List, length, map, slice_get, None, option_map, IfOk, OnOk};
-ghost use Rattle.board_cell_model.specs.OwedAccesses.{spare_at};
-ghost use Rattle.board_cell_model.specs.OwedAccesses.{to_write, opening, is_finished, reading_from};
-ghost use Rattle.board_cell.specs.Calls.{on_board};
-ghost use Rattle.board_cell.specs.Runs.{AreNoted, owed_reads, owed_looks, owed_writes};
+ghost use Rattle.std.specs.Prelude.{◌≡◌, ◌≤◌, true, false, length, slice_get, None, IfOk, OnOk};
+ghost use Rattle.board_cell_model.specs.OwedAccesses.{is_finished};
+ghost use Rattle.board_cell.specs.Calls.{hearing_all, look_answer, written_out};
+ghost use Rattle.board_cell.specs.Runs.{AreNoted, looks_owed, put_owed, raise_owed, reads_owed, writes_owed};
 
 use crate::access::{Access, Progress};
 use crate::get_call::GetCall;
@@ -22,8 +21,8 @@ pub fn run_get(
     accesses: &mut Vec<Access>,
 ) -> Result<(), AllocError>
     requires { is_finished call.old.reading ≡ false }
-    ensures call { OnOk result (call.new ≡ record call.old { reading = reading_from call.old.shape.words call.old.reading words.now }) }
-    ensures accesses { OnOk result (AreNoted accesses.old.items accesses.new.items (λ board. owed_reads board call.old.shape call.old.reading words.now)) }
+    ensures call { OnOk result (call.new ≡ hearing_all call.old words.now) }
+    ensures accesses { OnOk result (AreNoted accesses.old.items accesses.new.items (reads_owed call.old words.now)) }
 {
     for word in words {
         accesses.push(call.next())?;
@@ -41,8 +40,8 @@ pub fn run_get(
 #[tactic(auto, using(crate::proofs::Writing::owed_writes_step, crate::proofs::Writing::owed_writes_end))]
 pub fn run_update(call: &mut UpdateCall, accesses: &mut Vec<Access>) -> Result<(), AllocError>
     requires { call.old.written ≤ length call.old.words }
-    ensures call { OnOk result (call.new ≡ record call.old { written = length call.old.words + 1 }) }
-    ensures accesses { OnOk result (AreNoted accesses.old.items accesses.new.items (λ board. owed_writes board call.old.shape call.old.generation call.old.words call.old.written)) }
+    ensures call { OnOk result (call.new ≡ written_out call.old) }
+    ensures accesses { OnOk result (AreNoted accesses.old.items accesses.new.items (writes_owed call.old)) }
 {
     loop {
         accesses.push(call.next())?;
@@ -64,8 +63,8 @@ pub fn run_fresh(
 ) -> Result<Option<bool>, AllocError>
     requires { call.old.counter ≡ None }
     ensures call { OnOk result (call.new ≡ record call.old { counter = slice_get words.now 0 }) }
-    ensures accesses { OnOk result (AreNoted accesses.old.items accesses.new.items (λ board. owed_looks board call.old.shape words.now)) }
-    ensures answer { IfOk result (λ answer. answer ≡ option_map (λ counter. counter == call.old.generation) (slice_get words.now 0)) }
+    ensures accesses { OnOk result (AreNoted accesses.old.items accesses.new.items (looks_owed call.old words.now)) }
+    ensures answer { IfOk result (λ answer. answer ≡ look_answer call.old words.now) }
 {
     let Some(word) = words.first() else {
         return Ok(None);
@@ -82,7 +81,7 @@ pub fn run_fresh(
 pub fn run_put(call: &mut PutCall, accesses: &mut Vec<Access>) -> Result<(), AllocError>
     requires { call.old.done ≡ false }
     ensures call { OnOk result (call.new ≡ record call.old { done = true }) }
-    ensures accesses { OnOk result (AreNoted accesses.old.items accesses.new.items (λ board. to_write board (spare_at call.old.shape call.old.generation + call.old.index) call.old.word ∷ [])) }
+    ensures accesses { OnOk result (AreNoted accesses.old.items accesses.new.items (put_owed call.old)) }
 {
     accesses.push(call.next())?;
     call.took(0);
@@ -96,7 +95,7 @@ pub fn run_put(call: &mut PutCall, accesses: &mut Vec<Access>) -> Result<(), All
 pub fn run_publish(call: &mut PublishCall, accesses: &mut Vec<Access>) -> Result<(), AllocError>
     requires { call.old.done ≡ false }
     ensures call { OnOk result (call.new ≡ record call.old { done = true }) }
-    ensures accesses { OnOk result (AreNoted accesses.old.items accesses.new.items (λ board. to_write board call.old.shape.first (call.old.generation + 1) ∷ [])) }
+    ensures accesses { OnOk result (AreNoted accesses.old.items accesses.new.items (raise_owed call.old)) }
 {
     accesses.push(call.next())?;
     call.took(0);

@@ -1,7 +1,6 @@
 ghost use Rattle.std.specs.Prelude.{ℕ, ◌≡◌, ◌+◌, ◌^◌, ◌<◌, ◌≤◌, ◌==◌, nat_lt, List, length, slice_index};
 ghost use Rattle.board_layout.specs.Layout.{cell_end};
-ghost use Rattle.board_cell_model.specs.OwedAccesses.{owed_write};
-ghost use Rattle.board_cell.specs.Calls.{on_board, progress_of};
+ghost use Rattle.board_cell.specs.Calls.{Owes, next_write, progress_of, publication};
 
 use crate::access::{Access, Progress};
 use crate::copies::spare_word;
@@ -64,7 +63,7 @@ impl UpdateCall<Vec<u64>> {
         requires words { length words.items ≡ shape.words }
         requires shape { cell_end shape < 2 ^ 64 }
         requires room { generation + 1 < 2 ^ 64 }
-        ensures { result ≡ record { shape = shape; generation = generation; words = words.items; written = 0 } }
+        ensures { result ≡ publication shape generation words.items }
     {
         UpdateCall {
             shape,
@@ -90,7 +89,7 @@ impl<'a> UpdateCall<&'a Vec<u64>> {
         requires words { length words.now.items ≡ shape.words }
         requires shape { cell_end shape < 2 ^ 64 }
         requires room { generation + 1 < 2 ^ 64 }
-        ensures { result ≡ record { shape = shape; generation = generation; words = words.now.items; written = 0 } }
+        ensures { result ≡ publication shape generation words.now.items }
     {
         UpdateCall {
             shape,
@@ -106,7 +105,7 @@ impl<W: ValueWords> UpdateCall<W> {
     #[inline(always)]
     pub fn next(&self) -> Access
         requires { self.now.written ≤ length self.now.words }
-        ensures { (board : ℕ) → on_board board result ≡ owed_write board self.now.shape self.now.generation self.now.words self.now.written }
+        ensures { Owes result (next_write self.now) }
     {
         if self.written < self.shape.words {
             Access::Write {

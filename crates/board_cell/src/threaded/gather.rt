@@ -1,7 +1,7 @@
-ghost use Rattle.std.specs.Prelude.{ℕ, ◌≡◌, ◌≤◌, length, map, slice_get, Some};
+ghost use Rattle.std.specs.Prelude.{◌≡◌, ◌≤◌, length};
 ghost use Rattle.std.specs.List.{All};
-ghost use Rattle.board_cell.specs.Passes.{ReaderSeen, notes_of, Stands, NotesRise};
-ghost use Rattle.board_cell.specs.History.{IsLegal, history, publishes_in, reads_in};
+ghost use Rattle.board_cell.specs.Passes.{AreOf, NotesRise, Stands};
+ghost use Rattle.board_cell.specs.History.{IsLegal, TellsReadsOf, history_of, publishes_in};
 
 use crate::threaded::cell::ThreadedCell;
 use crate::threaded::reader::ReaderPass;
@@ -31,12 +31,12 @@ impl ThreadedCell {
 
     /// The writer meets each reader: the publications and the readers' notes make one legal history.
     pub fn gather(&self, writer: &mut WriterPass, readers: &mut Vec<ReaderPass>) -> Gathered
-        requires cell { (writer.old.cell ≡ self.now.cell) × All (λ (r : ReaderSeen). r.cell ≡ self.now.cell) readers.old.items }
+        requires cell { (writer.old.cell ≡ self.now.cell) × AreOf self.now.cell readers.old.items }
         ensures kept { (writer.new ≡ writer.old) × (readers.new.items ≡ readers.old.items) }
         ensures generation { result.generation ≡ length writer.old.published }
-        ensures legal { IsLegal (history writer.old.published (map notes_of readers.old.items)) }
-        ensures publishes { publishes_in (history writer.old.published (map notes_of readers.old.items)) ≡ writer.old.published }
-        ensures reads { (k : ℕ) (r : ReaderSeen) → slice_get readers.old.items k ≡ Some r → reads_in k (history writer.old.published (map notes_of readers.old.items)) ≡ r.notes }
+        ensures legal { IsLegal (history_of writer.old readers.old.items) }
+        ensures publishes { publishes_in (history_of writer.old readers.old.items) ≡ writer.old.published }
+        ensures reads { TellsReadsOf readers.old.items (history_of writer.old readers.old.items) }
     {
         for i in 0..readers.len() {
             self.meet(writer, &mut readers[i]);

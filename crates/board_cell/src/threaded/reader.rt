@@ -1,7 +1,7 @@
 ghost use Rattle.std.specs.Prelude.{ℕ, ◌≡◌, ◌==◌, ◌<◌, [], max, length, IfOk, IfErr};
 ghost use Rattle.board_cell_model.specs.OwedAccesses.{finished};
 ghost use Rattle.board_cell.specs.Calls.{words_of};
-ghost use Rattle.board_cell.specs.Passes.{threaded_shape, new_reader, NotesRise, Gets, GetsWithin, GivesUp, Looks};
+ghost use Rattle.board_cell.specs.Passes.{threaded_shape, new_reader, reaching, NotesRise, Gets, GetsWithin, GivesUp, Looks};
 ghost use Rattle.board_cell.specs.Views.{reader_of, IsTrying, AfterTries, AfterTriesWithin, AfterFailures};
 ghost use Rattle.board_cell.specs.declared.threaded.view.View.TheVariants.{Reader};
 
@@ -75,11 +75,73 @@ impl ThreadedCell {
         }
     }
 
+    // The tries of a `try_get` after the first one, which is mostly accepted: they stay out of its way.
+    #[cold]
+    #[inline(never)]
+    fn try_later(
+        &self,
+        seat: &mut Seat<(), View>,
+        out: &mut Vec<u64>,
+        opened: u64,
+        tries: u32,
+    ) -> Result<u64, GetAgain>
+        requires cell { seat.old.table_id ≡ self.now.cell }
+        requires seat { (seat.old.me.0 ≡ Reader (reader_of seat.old.me.0)) × ((reader_of seat.old.me.0).found ≡ []) × ((reader_of seat.old.me.0).opened ≡ opened) }
+        requires width { length out.old.items ≡ self.now.width }
+        requires some { 0 < tries }
+        ensures cell { (seat.new.table_id ≡ seat.old.table_id) × (seat.new.me.1 ≡ seat.old.me.1) }
+        ensures width { length out.new.items ≡ self.now.width }
+        ensures rises { NotesRise (reader_of seat.new.me.0).notes }
+        ensures ok { IfOk result (λ g. AfterTriesWithin tries (reader_of seat.old.me.0) seat.new.me.0 opened g out.new.items) }
+        ensures again { IfErr result (λ e. AfterFailures tries (reader_of seat.old.me.0) seat.new.me.0 opened e.before e.after) }
+    {
+        let shape = self.shape();
+        let buffer = mem::replace(out, Vec::new(*out.allocator()));
+        let mut call = GetCall::in_try(shape, buffer, opened);
+        let answer = self.run_tries(seat, &mut call, opened, tries);
+        mem::forget(mem::replace(out, call.into_buffer()));
+        answer
+    }
+
+    // The first try stands apart, since it is mostly accepted: the later ones stay out of its way.
+    #[inline(always)]
+    fn first_tries(
+        &self,
+        seat: &mut Seat<(), View>,
+        out: &mut Vec<u64>,
+        mut call: GetCall,
+        opened: u64,
+        tries: u32,
+    ) -> Result<u64, GetAgain>
+        requires cell { seat.old.table_id ≡ self.now.cell }
+        requires seat { (seat.old.me.0 ≡ Reader (reader_of seat.old.me.0)) × ((reader_of seat.old.me.0).found ≡ []) × ((reader_of seat.old.me.0).opened ≡ opened) }
+        requires call { IsTrying self.now.width call (reader_of seat.old.me.0) }
+        requires some { 0 < tries }
+        ensures cell { (seat.new.table_id ≡ seat.old.table_id) × (seat.new.me.1 ≡ seat.old.me.1) }
+        ensures width { length out.new.items ≡ self.now.width }
+        ensures rises { NotesRise (reader_of seat.new.me.0).notes }
+        ensures ok { IfOk result (λ g. AfterTriesWithin tries (reader_of seat.old.me.0) seat.new.me.0 opened g out.new.items) }
+        ensures again { IfErr result (λ e. AfterFailures tries (reader_of seat.old.me.0) seat.new.me.0 opened e.before e.after) }
+    {
+        let after = self.try_once(seat, &mut call);
+        mem::forget(mem::replace(out, call.into_buffer()));
+        if after == opened {
+            return Ok(after);
+        }
+        if tries == 1 {
+            return Err(GetAgain {
+                before: opened,
+                after,
+            });
+        }
+        self.try_later(seat, out, after, tries - 1)
+    }
+
     /// Reads the value in at most this many tries, 0 counted as 1. Gives its generation, and its words in `out`, which has as many words as a value.
     ///
     /// # Errors
     /// `GetAgain` where the counter rose in each of the tries; `out` then holds words of no use.
-    #[inline]
+    #[inline(always)]
     pub fn try_get(
         &self,
         pass: &mut ReaderPass,
@@ -89,6 +151,7 @@ impl ThreadedCell {
         requires cell { pass.old.cell ≡ self.now.cell }
         requires width { length out.old.items ≡ self.now.width }
         ensures width { length out.new.items ≡ self.now.width }
+        ensures rises { NotesRise pass.new.notes }
         ensures ok { IfOk result (λ g. GetsWithin (max tries 1) g out.new.items pass.old pass.new) }
         ensures again { IfErr result (λ e. GivesUp (max tries 1) e.before e.after pass.old pass.new) }
     {
@@ -96,14 +159,11 @@ impl ThreadedCell {
         let buffer = mem::replace(out, Vec::new(*out.allocator()));
         let mut call = GetCall::new(shape, buffer);
         let opened = self.open_try(&mut pass.seat, &mut call);
-        let answer = self.run_tries(&mut pass.seat, &mut call, opened, tries.max(1));
-        mem::forget(mem::replace(out, call.into_buffer()));
-        answer
+        self.first_tries(&mut pass.seat, out, call, opened, tries.max(1))
     }
 
     // Tries until one is accepted.
-    #[cold]
-    #[inline(never)]
+    #[inline(always)]
     fn run_all<R: Wait>(
         &self,
         rt: &R,
@@ -130,47 +190,51 @@ impl ThreadedCell {
         unreachable!()
     }
 
-    // The first try stands apart, since it is mostly accepted: the loop stays out of its way.
-    #[inline(always)]
-    fn run_first<R: Wait>(
+    // The tries of a `get` after the first one.
+    #[cold]
+    #[inline(never)]
+    fn get_later<R: Wait>(
         &self,
         rt: &R,
         seat: &mut Seat<(), View>,
-        mut call: GetCall,
+        out: &mut Vec<u64>,
         opened: u64,
-    ) -> (u64, GetCall)
+    ) -> u64
         requires cell { seat.old.table_id ≡ self.now.cell }
         requires seat { (seat.old.me.0 ≡ Reader (reader_of seat.old.me.0)) × ((reader_of seat.old.me.0).found ≡ []) × ((reader_of seat.old.me.0).opened ≡ opened) }
-        requires call { IsTrying self.now.width call (reader_of seat.old.me.0) }
-        ensures cell { (seat.new.table_id ≡ seat.old.table_id) × (seat.new.me.1 ≡ seat.old.me.1) × (result.1.shape ≡ call.shape) }
+        requires width { length out.old.items ≡ self.now.width }
+        ensures cell { (seat.new.table_id ≡ seat.old.table_id) × (seat.new.me.1 ≡ seat.old.me.1) }
+        ensures width { length out.new.items ≡ self.now.width }
         ensures rises { NotesRise (reader_of seat.new.me.0).notes }
-        ensures ok { AfterTries (reader_of seat.old.me.0) seat.new.me.0 opened result.0 (words_of result.1.reading) × (result.1.reading ≡ finished result.0 (words_of result.1.reading)) }
+        ensures ok { AfterTries (reader_of seat.old.me.0) seat.new.me.0 opened result out.new.items }
     {
-        let after = self.try_once(seat, &mut call);
-        if after == opened {
-            return (after, call);
-        }
-        // The loop gets the call for itself, so that it stays in registers above.
-        let mut slow = call;
-        let generation = self.run_all(rt, seat, &mut slow, after);
-        (generation, slow)
+        let shape = self.shape();
+        let buffer = mem::replace(out, Vec::new(*out.allocator()));
+        let mut call = GetCall::in_try(shape, buffer, opened);
+        let generation = self.run_all(rt, seat, &mut call, opened);
+        mem::forget(mem::replace(out, call.into_buffer()));
+        generation
     }
 
     /// Reads the value, in as many tries as it takes. Gives its generation, and its words in `out`, which has as many words as a value.
-    #[inline]
+    #[inline(always)]
     pub fn get<R: Wait>(&self, rt: &R, pass: &mut ReaderPass, out: &mut Vec<u64>) -> u64
         requires cell { pass.old.cell ≡ self.now.cell }
         requires width { length out.old.items ≡ self.now.width }
         ensures width { length out.new.items ≡ self.now.width }
+        ensures rises { NotesRise pass.new.notes }
         ensures got { Gets result out.new.items pass.old pass.new }
     {
         let shape = self.shape();
         let buffer = mem::replace(out, Vec::new(*out.allocator()));
         let mut call = GetCall::new(shape, buffer);
         let first = self.open_try(&mut pass.seat, &mut call);
-        let (generation, call) = self.run_first(rt, &mut pass.seat, call, first);
+        let after = self.try_once(&mut pass.seat, &mut call);
         mem::forget(mem::replace(out, call.into_buffer()));
-        generation
+        if after == first {
+            return after;
+        }
+        self.get_later(rt, &mut pass.seat, out, after)
     }
 
     /// Whether one load of the counter gave this generation.
@@ -199,7 +263,7 @@ impl ThreadedCell {
     /// Lets the pass know what the other one knows to be reached, and gives the other up.
     pub fn join(&self, pass: &mut ReaderPass, other: ReaderPass)
         requires cell { (pass.old.cell ≡ self.now.cell) × (other.cell ≡ self.now.cell) }
-        ensures { pass.new ≡ record pass.old { reached = max pass.old.reached other.reached } }
+        ensures { pass.new ≡ reaching pass.old other.reached }
     {
         let table = &self.table;
         let ReaderPass { seat } = other;

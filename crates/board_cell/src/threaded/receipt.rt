@@ -1,4 +1,5 @@
-ghost use Rattle.std.specs.Prelude.{◌≡◌, max};
+ghost use Rattle.std.specs.Prelude.{◌≡◌};
+ghost use Rattle.board_cell.specs.Passes.{reaching};
 
 use crate::threaded::cell::ThreadedCell;
 use crate::threaded::reader::ReaderPass;
@@ -41,7 +42,7 @@ impl ThreadedCell {
     /// Tells a reader of the publication: its next gets give that value or a later one.
     pub fn learn(&self, pass: &mut ReaderPass, receipt: Receipt)
         requires cell { (pass.old.cell ≡ self.now.cell) × (receipt.cell ≡ self.now.cell) }
-        ensures { pass.new ≡ record pass.old { reached = max pass.old.reached receipt.generation } }
+        ensures { pass.new ≡ reaching pass.old receipt.generation }
     {
         let table = &self.table;
         let Receipt {

@@ -136,7 +136,43 @@ impl ThreadedCell {
         found
     }
 
-    // All words of a try.
+    // Four words of the open try, without a loop: their steps stand in one line, and no test is left between them.
+    #[inline(always)]
+    fn read_four(&self, seat: &mut Seat<(), View>, call: &mut GetCall)
+        requires cell { seat.old.table_id ≡ self.now.cell }
+        requires seat { seat.old.me.0 ≡ Reader (reader_of seat.old.me.0) }
+        requires call { IsTrying self.now.width call.old (reader_of seat.old.me.0) }
+        requires more { length (reader_of seat.old.me.0).found + 4 ≤ self.now.width }
+        ensures cell { seat.new.table_id ≡ seat.old.table_id }
+        ensures seat { seat.new.me ≡ (Reader (with_words (reader_of seat.old.me.0) (reader_of seat.new.me.0).found), seat.old.me.1) }
+        ensures call { IsTrying self.now.width call.new (reader_of seat.new.me.0) }
+        ensures count { length (reader_of seat.new.me.0).found ≡ length (reader_of seat.old.me.0).found + 4 }
+    {
+        self.read_word(seat, call);
+        self.read_word(seat, call);
+        self.read_word(seat, call);
+        self.read_word(seat, call);
+    }
+
+    // Sixteen words of the open try.
+    #[inline(always)]
+    fn read_sixteen(&self, seat: &mut Seat<(), View>, call: &mut GetCall)
+        requires cell { seat.old.table_id ≡ self.now.cell }
+        requires seat { seat.old.me.0 ≡ Reader (reader_of seat.old.me.0) }
+        requires call { IsTrying self.now.width call.old (reader_of seat.old.me.0) }
+        requires more { length (reader_of seat.old.me.0).found + 16 ≤ self.now.width }
+        ensures cell { seat.new.table_id ≡ seat.old.table_id }
+        ensures seat { seat.new.me ≡ (Reader (with_words (reader_of seat.old.me.0) (reader_of seat.new.me.0).found), seat.old.me.1) }
+        ensures call { IsTrying self.now.width call.new (reader_of seat.new.me.0) }
+        ensures count { length (reader_of seat.new.me.0).found ≡ length (reader_of seat.old.me.0).found + 16 }
+    {
+        self.read_four(seat, call);
+        self.read_four(seat, call);
+        self.read_four(seat, call);
+        self.read_four(seat, call);
+    }
+
+    // All words of a try. Values of one word, of four and of 32 are read without a loop. (`inline(always)` is lost where a function has many more steps than these.)
     #[inline(always)]
     fn read_words(&self, seat: &mut Seat<(), View>, call: &mut GetCall)
         requires cell { seat.old.table_id ≡ self.now.cell }
@@ -147,8 +183,20 @@ impl ThreadedCell {
         ensures call { IsTrying self.now.width call.new (reader_of seat.new.me.0) }
         ensures all { length (reader_of seat.new.me.0).found ≡ self.now.width }
     {
-        'words: while call.owes_word() {
-            self.read_word(seat, call);
+        if call.owes_words(2) {
+            if call.owes_words(32) {
+                self.read_sixteen(seat, call);
+                self.read_sixteen(seat, call);
+            } else if call.owes_words(4) {
+                self.read_four(seat, call);
+            }
+            'words: while call.owes_word() {
+                self.read_word(seat, call);
+            }
+        } else {
+            'word: while call.owes_word() {
+                self.read_word(seat, call);
+            }
         }
     }
 

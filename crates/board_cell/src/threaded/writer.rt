@@ -1,4 +1,5 @@
-ghost use Rattle.std.specs.Prelude.{◌≡◌, ◌+◌, ◌^◌, ◌<◌, [], ◌∷◌, ◌++◌, length};
+ghost use Rattle.std.specs.Prelude.{◌≡◌, ◌+◌, ◌^◌, ◌<◌, length};
+ghost use Rattle.board_cell.specs.Passes.{publishing, receipt_of};
 
 use crate::threaded::cell::ThreadedCell;
 use crate::threaded::receipt::Receipt;
@@ -45,7 +46,7 @@ impl ThreadedCell {
         requires cell { pass.old.cell ≡ self.now.cell }
         requires width { length words.now.items ≡ self.now.width }
         requires room { length pass.old.published + 1 < 2 ^ 64 }
-        ensures { pass.new ≡ record pass.old { published = pass.old.published ++ words.now.items ∷ [] } }
+        ensures { pass.new ≡ publishing pass.old words.now.items }
     {
         let mut call = UpdateCall::lent(self.shape(), pass.generation, words);
         self.run_update(&mut pass.seat, &mut call);
@@ -56,7 +57,7 @@ impl ThreadedCell {
     pub fn receipt(&self, pass: &mut WriterPass) -> Receipt
         requires { pass.old.cell ≡ self.now.cell }
         ensures kept { pass.new ≡ pass.old }
-        ensures given { result ≡ record { cell = pass.old.cell; generation = length pass.old.published } }
+        ensures given { result ≡ receipt_of pass.old }
     {
         let table = &self.table;
         let generation = pass.generation;

@@ -9,4 +9,10 @@ decreases-words l = l.call.shape.words - length (words_of l.call.reading)
 
 -- the words found so far are the try's
 abbrev pub invariant-words : goal.invariant-words
-invariant-words l = (l.seat.table_id ≡ l.initial.seat.table_id) × (l.seat.me ≡ (Reader (with_words (reader_of l.initial.seat.me.0) (reader_of l.seat.me.0).found), l.initial.seat.me.1)) × IsTrying l.initial.call.shape.words l.call (reader_of l.seat.me.0) × (length (reader_of l.seat.me.0).found ≤ l.initial.call.shape.words)
+invariant-words l = (l.seat.table_id ≡ l.fn.seat.table_id) × (l.seat.me ≡ (Reader (with_words (reader_of l.fn.seat.me.0) (reader_of l.seat.me.0).found), l.fn.seat.me.1)) × IsTrying l.fn.call.shape.words l.call (reader_of l.seat.me.0) × (length (reader_of l.seat.me.0).found ≤ l.fn.call.shape.words)
+
+abbrev pub decreases-word : goal.decreases-word
+decreases-word l = l.call.shape.words - length (words_of l.call.reading)
+
+abbrev pub invariant-word : goal.invariant-word
+invariant-word l = (l.seat.table_id ≡ l.fn.seat.table_id) × (l.seat.me ≡ (Reader (with_words (reader_of l.fn.seat.me.0) (reader_of l.seat.me.0).found), l.fn.seat.me.1)) × IsTrying l.fn.call.shape.words l.call (reader_of l.seat.me.0) × (length (reader_of l.seat.me.0).found ≤ l.fn.call.shape.words)
