@@ -1,6 +1,6 @@
 -- Channels by full names, what clauses see of their ends, and what their calls answer.
-use Rattle.std.specs.Prelude.{ℕ, List, Bool, true, false, Option, Some, None, Result, Ok, Err, max}
-use Rattle.board_names.specs.Concept.{Named, Placed, path_of, placed}
+use Rattle.std.specs.Prelude.{ℕ, ◌∷◌, List, Bool, true, false, Option, Some, None, Result, Ok, Err, max, codes}
+use Rattle.board_names.specs.Concept.{Named, Placed, path_of, placed, starting}
 use Rattle.board_names.specs.Table.{at, taking}
 use Rattle.board_layout.specs.Answer.{with_value}
 use Rattle.board_names.specs.declared.errors.communication_channel.CommunicationChannelCreateError.{CommunicationChannelCreateError}
@@ -31,6 +31,10 @@ pub record CreatorView : Type 0 where
   pub named : Named
   pub capacity : ℕ
   pub overflow : Bool
+
+-- a creator that starts with this name
+abbrev pub started_creator : List ℕ → CreatorView
+started_creator name = record { named = starting name (codes ".com"); capacity = 8; overflow = false }
 
 -- one end of a channel, and whether it made the channel
 pub record DuplexView : Type 0 where

@@ -87,6 +87,8 @@ impl SharedQueue {
 }
 
 /// Channels by full names. Clauses see the pairs of name and size, in the order of the names.
+///
+/// The names ascend and differ, as in each `NameTable`: `name_count` says it.
 #[derive(Drop)]
 pub struct Channels {
     names: Table<SharedQueue>,
@@ -114,9 +116,12 @@ impl Channels {
         overflow: bool,
     ) -> Result<SharedQueue, CommunicationChannelCreateError>
         ensures value { IfOk result (λ shared. shared ≡ size_of capacity overflow) }
-        ensures answer { Answers result CommunicationChannelCreateError.OutOfMemory (create_answer (size_of capacity overflow) (at self.old name.now)) }
-        ensures refused { Refuses result (create_answer (size_of capacity overflow) (at self.old name.now)) }
-        ensures ok { OnOk result (self.new ≡ putting self.old name.now (size_of capacity overflow)) }
+        ensures answer { let size = size_of capacity overflow in let held = at self.old name.now in
+            Answers result CommunicationChannelCreateError.OutOfMemory (create_answer size held) }
+        ensures refused { let size = size_of capacity overflow in
+            Refuses result (create_answer size (at self.old name.now)) }
+        ensures ok { let size = size_of capacity overflow in
+            OnOk result (self.new ≡ putting self.old name.now size) }
         ensures err { OnErr result (self.new ≡ self.old) }
     {
         if self.names.contains_key(name) {
@@ -137,7 +142,8 @@ impl Channels {
     /// # Errors
     /// `DoesNotExist` where the name isn't held; `OutOfMemory`.
     pub fn open(&self, name: &FilePath) -> Result<SharedQueue, CommunicationChannelOpenError>
-        ensures answer { Answers result CommunicationChannelOpenError.OutOfMemory (open_answer (at self.now name.now)) }
+        ensures answer { let held = at self.now name.now in
+            Answers result CommunicationChannelOpenError.OutOfMemory (open_answer held) }
         ensures refused { Refuses result (open_answer (at self.now name.now)) }
     {
         match self.names.get(name) {

@@ -1,5 +1,5 @@
 //! What a channel does: senders add numbers to a queue under a name, and a receiver takes them in their order.
-ghost use Rattle.std.specs.Prelude.{◌≡◌, ℕ, List, Bool, true, codes, IsOk, IsOkUnless};
+ghost use Rattle.std.specs.Prelude.{◌≡◌, ℕ, List, Bool, true, codes, max, IfOk, IsOk, IsOkUnless};
 ghost use Rattle.board_names.specs.declared.errors.communication_channel.CommunicationChannelSendError.TheVariants.{ReceiverCacheIsFull};
 
 use board_names::{
@@ -18,15 +18,17 @@ pub type Local = crate::channel::Channel;
 
 /// Channels of one kind.
 pub trait CommunicationChannel: NamedConceptMgmt + Sized {
-    type Sender;
+    /// The end that sends.
+    type Sender: CommunicationChannelSender;
 
-    type Receiver;
+    /// The end that receives.
+    type Receiver: CommunicationChannelReceiver;
 
     /// What makes a receiver, and with it the channel.
-    type Creator;
+    type Creator: CommunicationChannelCreator<Receiver = Self::Receiver, Registry = Self::Registry>;
 
     /// What opens a sender.
-    type Connector;
+    type Connector: CommunicationChannelConnector<Sender = Self::Sender, Registry = Self::Registry>;
 
     /// The suffix that a builder starts with.
     fn default_suffix() -> FileName
@@ -98,6 +100,7 @@ pub trait CommunicationChannelReceiver: CommunicationChannelParticipant + NamedC
 
 /// A builder of a receiver and its channel.
 pub trait CommunicationChannelCreator: NamedConceptBuilder {
+    /// What it makes.
     type Receiver: CommunicationChannelReceiver;
 
     ghost asked_capacity: { Self → ℕ };
@@ -122,25 +125,28 @@ pub trait CommunicationChannelCreator: NamedConceptBuilder {
         self,
         rt: &R,
         alloc: Global,
-    ) -> Result<Self::Receiver, CommunicationChannelCreateError>;
+    ) -> Result<Self::Receiver, CommunicationChannelCreateError>
+        ensures name { IfOk result (λ r. Self.Receiver.name_of r ≡ (Self.named self).name) }
+        ensures capacity { IfOk result (λ r. Self.Receiver.holds r ≡ max 1 (asked_capacity self)) }
+        ensures overflow { IfOk result (λ r. Self.Receiver.overflows r ≡ asked_overflow self) };
 }
 
 /// A builder of a sender.
 pub trait CommunicationChannelConnector: NamedConceptBuilder {
+    /// What it opens.
     type Sender: CommunicationChannelSender;
 
     /// A sender of the channel under the name.
     ///
     /// # Errors
     /// `DoesNotExist` where the name isn't held; `OutOfMemory`.
-    fn open_sender<R: Wait>(self, rt: &R) -> Result<Self::Sender, CommunicationChannelOpenError>;
+    fn open_sender<R: Wait>(self, rt: &R) -> Result<Self::Sender, CommunicationChannelOpenError>
+        ensures { IfOk result (λ s. Self.Sender.name_of s ≡ (Self.named self).name) };
 
     /// The same as `open_sender`.
     ///
     /// # Errors
     /// `DoesNotExist` where the name isn't held; `OutOfMemory`.
-    fn try_open_sender<R: Wait>(
-        self,
-        rt: &R,
-    ) -> Result<Self::Sender, CommunicationChannelOpenError>;
+    fn try_open_sender<R: Wait>(self, rt: &R) -> Result<Self::Sender, CommunicationChannelOpenError>
+        ensures { IfOk result (λ s. Self.Sender.name_of s ≡ (Self.named self).name) };
 }

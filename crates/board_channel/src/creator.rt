@@ -1,10 +1,10 @@
 //! How a channel is made.
-ghost use Rattle.std.specs.Prelude.{◌≡◌, ℕ, List, true, false, codes, IfOk, OnOk, OnErr};
+ghost use Rattle.std.specs.Prelude.{◌≡◌, ℕ, List, true, false, IfOk, OnOk, OnErr};
 ghost use Rattle.board_layout.specs.Answer.{Answers, Refuses};
-ghost use Rattle.board_names.specs.Concept.{path_of, starting};
+ghost use Rattle.board_names.specs.Concept.{path_of};
 ghost use Rattle.board_names.specs.Table.{putting};
 ghost use Rattle.board_names.specs.declared.errors.communication_channel.CommunicationChannelCreateError.TheVariants.{OutOfMemory};
-ghost use Rattle.board_channel.specs.Channels.{asked_size, asked_receiver, create_receiver_answer};
+ghost use Rattle.board_channel.specs.Channels.{asked_size, asked_receiver, started_creator, create_receiver_answer};
 
 use crate::channel::Channel;
 use crate::channels::{ChannelRegistry, Channels, SharedQueue};
@@ -49,7 +49,8 @@ impl Creator {
     ) -> Result<Duplex, CommunicationChannelCreateError>
         ensures answer { Answers result OutOfMemory (create_receiver_answer self state.old) }
         ensures refused { Refuses result (create_receiver_answer self state.old) }
-        ensures ok { OnOk result (state.new ≡ putting state.old (path_of self.named) (asked_size self)) }
+        ensures ok { let path = path_of self.named in
+            OnOk result (state.new ≡ putting state.old path (asked_size self)) }
         ensures err { OnErr result (state.new ≡ state.old) }
     {
         let shared = state.create(&self.request.path(), self.capacity, self.overflow)?;
@@ -70,7 +71,7 @@ impl NamedConceptBuilder for Creator {
     ghost named = { λ c. c.named };
 
     fn new(name: &FileName, registry: &ChannelRegistry) -> Result<Creator, RegistryError>
-        ensures { IfOk result (λ c. c ≡ record { named = starting name.now (codes ".com"); capacity = 8; overflow = false }) }
+        ensures { IfOk result (λ c. c ≡ started_creator name.now) }
     {
         Ok(Creator {
             request: NameRequest::new(name, &Channel::default_suffix(), registry)?,

@@ -1,6 +1,6 @@
 //! One end of a channel.
-ghost use Rattle.std.specs.Prelude.{◌≡◌, ℕ, List, Bool, Ok, slice_get};
-ghost use Rattle.board_names.specs.Table.{let_go};
+ghost use Rattle.std.specs.Prelude.{◌≡◌, ℕ, List, Bool, Ok, IsTrue, slice_get};
+ghost use Rattle.board_names.specs.Table.{let_go, IsFree};
 ghost use Rattle.board_channel.specs.Queue.{sent, send_answer, received};
 
 use crate::channels::{Channels, SharedQueue};
@@ -88,14 +88,18 @@ impl Duplex {
         Ok(state.receive())
     }
 
-    /// `release` over the channels themselves.
+    /// `release` over the channels themselves: those in which it was made or opened.
     pub fn release_in(self, state: &mut Channels)
-        ensures { state.new ≡ let_go state.old self.made self.place.path }
+        ensures after { state.new ≡ let_go state.old self.made self.place.path }
+        ensures gone { IsTrue self.made → IsFree state.new self.place.path }
     {
         self.place.let_go(state, self.made);
     }
 
     /// Gives this end up, and the name where it made the channel.
+    ///
+    /// The name is that of its builder's registry. What a lent form made stands in the table that was lent, and is given
+    /// up by `release_in` of that table.
     pub fn release<R: Wait>(self, rt: &R) {
         let mut state = self.place.lock(rt);
         self.place.let_go(&mut state, self.made);

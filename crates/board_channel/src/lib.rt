@@ -17,7 +17,12 @@ mod queue;
 #[cfg(test)]
 mod tests;
 
-pub use board_names::NameTable;
+pub use board_names::{
+    CommunicationChannelCreateError, CommunicationChannelOpenError,
+    CommunicationChannelReceiveError, CommunicationChannelSendError, Configuration, FileName,
+    FilePath, NameTable, NamedConcept, NamedConceptBuilder, NamedConceptConfiguration,
+    NamedConceptMgmt, Path, RegistryError,
+};
 pub use channel::Channel;
 pub use channels::{ChannelRegistry, Channels, SharedQueue};
 pub use communication_channel::{

@@ -26,7 +26,9 @@ impl Model for Queue {
 
     ghost view = { λ q. record { items = q.items.items; capacity = q.capacity; overflow = q.overflow } };
 
-    ghost invariant = { λ q. (0 < q.capacity) × (q.capacity ≤ deque_capacity q.items) × (deque_len q.items ≤ q.capacity) };
+    ghost invariant = { λ q. (0 < q.capacity)
+        × (q.capacity ≤ deque_capacity q.items)
+        × (deque_len q.items ≤ q.capacity) };
 }
 
 impl Queue {

@@ -1,5 +1,6 @@
 -- Keys as values.
-use Rattle.std.specs.Prelude.{ℕ, zero, suc, Bool, List, [], ◌∷◌, take, drop}
+use Rattle.std.specs.Prelude.{◌≡◌, ℕ, zero, suc, ◌<◌, ◌≤◌, Bool, List, [], ◌∷◌, take, drop}
+use denote.Bor.{Bor}
 use Rattle.board_layout.specs.Bytes.{little}
 
 -- this many words of bytes, the low byte first, with zeros behind
@@ -10,6 +11,18 @@ words_in (suc count) bytes = little (take 8 bytes) ∷ words_in count (drop 8 by
 -- the value of a type of this size and so many words that begins these bytes
 abbrev pub key_value : {K : Type 0} → (List ℕ → K) → ℕ → ℕ → List ℕ → K
 key_value value_of size words bytes = value_of (words_in words (take size bytes))
+
+-- a value of this size and alignment, in bytes, fits, and its alignment is above 8
+abbrev pub IsMisaligned : ℕ → ℕ → ℕ → Type 0
+IsMisaligned capacity size alignment = (size ≤ capacity) × (8 < alignment)
+
+-- the value of a type of this size and so many words that begins these bytes is this one
+abbrev pub ReadsAs : {K : Type 0} → (List ℕ → K) → ℕ → ℕ → List ℕ → K → Type 0
+ReadsAs value_of size words bytes value = key_value value_of size words bytes ≡ value
+
+-- what holds of a call is said of a call on these bytes
+abbrev pub CalledOn : (Bor (List ℕ) → Bor (List ℕ) → Type 0) → List ℕ → List ℕ → Type 0
+CalledOn says left right = (l r : Bor (List ℕ)) × (l.now ≡ left) × (r.now ≡ right) × says l r
 
 -- whether two keys are equal by their type
 abbrev pub same_keys : {K : Type 0} → (K → K → Bool) → (List ℕ → K) → ℕ → ℕ → List ℕ → List ℕ → Bool

@@ -18,6 +18,7 @@ use std::hash::{Hash, Hasher};
 /// Eight bytes. Two are equal where they are equal up to ASCII case, and equal ones hash alike.
 #[derive(Clone, Copy, Debug)]
 pub struct F8 {
+    /// The bytes, letters as they were written.
     pub bytes: [u8; 8],
 }
 

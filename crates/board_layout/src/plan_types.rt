@@ -14,11 +14,14 @@ pub enum PlanError {
     OutOfMemory,
 }
 
-/// The cells of a board in the order of their shapes, the number of the word behind the last one, and the bytes asked for.
+/// Where the cells of a board lie.
 #[derive(Drop, Debug)]
 pub struct Plan {
+    /// The cells, in the order of their shapes.
     pub cells: Vec<CellPlace>,
+    /// The number of the word behind the last cell: so many words are needed.
     pub end: u64,
+    /// The bytes that are asked for.
     pub payload: u64,
 }
 

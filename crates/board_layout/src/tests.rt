@@ -141,6 +141,11 @@ fn keys_are_compared_by_their_type(rt: HostRuntime) -> Result<(), Fail> {
         )
     );
     assert_eq!(rt; key_of::<F8>(&upper).bytes, *b"Temp\0\0\0\0");
+    let yes = KeyMemory::<64>::try_from(&true)?;
+    let no = KeyMemory::<64>::try_from(&false)?;
+    assert!(rt; same_keys::<bool>(&yes, &yes) && !same_keys::<bool>(&yes, &no));
+    let four = KeyMemory::<64>::try_from(&[3u64, 1, 4, 1])?;
+    assert!(rt; is_key(&[3u64, 1, 4, 1], &four) && !is_key(&[3u64, 1, 4, 2], &four));
     let same = |a: &[u8], b: &[u8]| a == b;
     assert!(rt; !KeyMemory::key_eq_comparison(&upper, &lower, &same));
     assert!(rt; KeyMemory::key_eq_comparison(&upper, &upper, &same));

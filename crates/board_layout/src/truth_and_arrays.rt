@@ -3,7 +3,7 @@ ghost use Rattle.std.specs.Prelude.{◌≡◌, ℕ, ◌*◌, ◌%◌, ◌^◌, �
 ghost use Rattle.std.proofs.Common.{rules};
 ghost use Rattle.board_layout.specs.Values.{bool_word, four_words, four_again};
 
-use crate::zero_copy_send::ZeroCopySend;
+use crate::zero_copy_send::{BoardKey, ZeroCopySend};
 
 impl ZeroCopySend for bool {
     const TYPE_NAME: &'static str = "bool";
@@ -103,3 +103,7 @@ impl ZeroCopySend for [u64; 4] {
 
     ghost undoes = { four_again };
 }
+
+impl BoardKey for bool {}
+
+impl BoardKey for [u64; 4] {}

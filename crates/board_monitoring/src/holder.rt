@@ -1,6 +1,6 @@
 //! One who holds a monitored name: what a token and a cleaner have in common.
 ghost use Rattle.std.specs.Prelude.{◌≡◌, ℕ, List};
-ghost use Rattle.board_names.specs.Table.{without};
+ghost use Rattle.board_names.specs.Table.{without, IsFree};
 ghost use Rattle.board_monitoring.specs.Monitors.{marked};
 
 use crate::monitors::Monitors;
@@ -44,7 +44,8 @@ impl Holder {
 
     /// Lets the name go.
     pub(crate) fn release_in(&self, state: &mut Monitors)
-        ensures { state.new ≡ without state.old self.now.path }
+        ensures after { state.new ≡ without state.old self.now.path }
+        ensures gone { IsFree state.new self.now.path }
     {
         let _ = state.remove(self.place.path());
     }

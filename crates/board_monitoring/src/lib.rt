@@ -18,7 +18,11 @@ mod process_local_monitoring;
 mod tests;
 mod token;
 
-pub use board_names::NameTable;
+pub use board_names::{
+    Configuration, FileName, FilePath, MonitoringCreateCleanerError, MonitoringCreateMonitorError,
+    MonitoringCreateTokenError, MonitoringStateError, NameTable, NamedConcept, NamedConceptBuilder,
+    NamedConceptConfiguration, NamedConceptMgmt, Path, RegistryError,
+};
 pub use cleaner::Cleaner;
 pub use monitor::Monitor;
 pub use monitoring::{

@@ -1,5 +1,5 @@
 //! What monitoring does: who takes a name holds its token, others see whether the token lives, and one of them may clean up.
-ghost use Rattle.std.specs.Prelude.{◌≡◌, ℕ, List, codes, IsOk};
+ghost use Rattle.std.specs.Prelude.{◌≡◌, ℕ, List, codes, IfOk, IsOk};
 
 use board_names::{
     FileName, MonitoringCreateCleanerError, MonitoringCreateMonitorError,
@@ -25,14 +25,22 @@ pub enum State {
 
 /// The monitoring of names.
 pub trait Monitoring: NamedConceptMgmt + Sized {
-    type Token;
+    /// The holder of a name.
+    type Token: MonitoringToken;
 
-    type Monitor;
+    /// One who watches a name.
+    type Monitor: MonitoringMonitor;
 
-    type Cleaner;
+    /// One who cleans up after a dead name.
+    type Cleaner: MonitoringCleaner;
 
     /// What makes them.
-    type Builder;
+    type Builder: MonitoringBuilder<
+        Token = Self::Token,
+        Monitor = Self::Monitor,
+        Cleaner = Self::Cleaner,
+        Registry = Self::Registry,
+    >;
 
     /// The suffix that a builder starts with.
     fn default_suffix() -> FileName
@@ -41,10 +49,13 @@ pub trait Monitoring: NamedConceptMgmt + Sized {
 
 /// A builder of a token, a monitor or a cleaner of a name.
 pub trait MonitoringBuilder: NamedConceptBuilder {
+    /// The holder of the name.
     type Token: MonitoringToken;
 
+    /// One who watches the name.
     type Monitor: MonitoringMonitor;
 
+    /// One who cleans up after the name.
     type Cleaner: MonitoringCleaner;
 
     /// Takes the name.
@@ -55,21 +66,24 @@ pub trait MonitoringBuilder: NamedConceptBuilder {
         self,
         rt: &R,
         alloc: Global,
-    ) -> Result<Self::Token, MonitoringCreateTokenError>;
+    ) -> Result<Self::Token, MonitoringCreateTokenError>
+        ensures { IfOk result (λ t. Self.Token.name_of t ≡ (Self.named self).name) };
 
     /// Watches the name, whether or not it is held.
     ///
     /// # Errors
     /// None: it is never refused.
     fn monitor(self) -> Result<Self::Monitor, MonitoringCreateMonitorError>
-        ensures { IsOk result };
+        ensures accepted { IsOk result }
+        ensures name { IfOk result (λ m. Self.Monitor.name_of m ≡ (Self.named self).name) };
 
     /// Takes a dead name, to clean up after it.
     ///
     /// # Errors
     /// `InstanceStillAlive` where its token is held; `AlreadyOwnedByAnotherInstance` where it has a cleaner;
     /// `DoesNotExist` where it isn't held.
-    fn cleaner<R: Wait>(self, rt: &R) -> Result<Self::Cleaner, MonitoringCreateCleanerError>;
+    fn cleaner<R: Wait>(self, rt: &R) -> Result<Self::Cleaner, MonitoringCreateCleanerError>
+        ensures { IfOk result (λ c. Self.Cleaner.name_of c ≡ (Self.named self).name) };
 }
 
 /// The holder of a name.
@@ -77,7 +91,8 @@ pub trait MonitoringToken: NamedConcept + Sized {
     /// Leaves the name dead, where it is still held.
     fn abandon<R: Wait>(self, rt: &R);
 
-    /// Lets the name go.
+    /// Lets the name go in its builder's registry, also where a lent form took it in another table: there it is let go by
+    /// `release_in`.
     fn release<R: Wait>(self, rt: &R);
 }
 
@@ -96,6 +111,7 @@ pub trait MonitoringCleaner: NamedConcept + Sized {
     /// Leaves the name dead, where it is still held, for another cleaner.
     fn relinquish<R: Wait>(self, rt: &R);
 
-    /// Lets the name go.
+    /// Lets the name go in its builder's registry, also where a lent form took it in another table: there it is let go by
+    /// `release_in`.
     fn release<R: Wait>(self, rt: &R);
 }

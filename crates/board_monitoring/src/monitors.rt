@@ -26,6 +26,8 @@ pub enum Life {
 }
 
 /// Monitored names. Clauses see the pairs of name and life, in the order of the names.
+///
+/// The names ascend and differ, as in each `NameTable`: `name_count` says it.
 #[derive(Drop)]
 pub struct Monitors {
     names: Table<Life>,

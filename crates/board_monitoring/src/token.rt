@@ -1,6 +1,6 @@
 //! The holder of a monitored name.
 ghost use Rattle.std.specs.Prelude.{◌≡◌, ℕ, List};
-ghost use Rattle.board_names.specs.Table.{without};
+ghost use Rattle.board_names.specs.Table.{without, IsFree};
 ghost use Rattle.board_monitoring.specs.Monitors.{marked};
 
 use crate::holder::Holder;
@@ -40,9 +40,10 @@ impl Token {
         self.holder.leave_in(state);
     }
 
-    /// `release` over the names themselves.
+    /// `release` over the names themselves: those in which the name was taken.
     pub fn release_in(self, state: &mut Monitors)
-        ensures { state.new ≡ without state.old self.path }
+        ensures after { state.new ≡ without state.old self.path }
+        ensures gone { IsFree state.new self.path }
     {
         self.holder.release_in(state);
     }

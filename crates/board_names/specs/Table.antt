@@ -1,13 +1,22 @@
 -- Tables by full names: pairs of a name's bytes and a value, in the order of the names.
-use Rattle.std.specs.Prelude.{ℕ, List, Option, Some, None, Result, Ok, Err, Bool, if◌then◌else◌, slice_get}
+use Rattle.std.specs.Prelude.{◌≡◌, ℕ, List, Option, Some, None, Result, Ok, Err, Bool, if◌then◌else◌, slice_get}
 use Rattle.std.specs.Ordering.{nat_cmp}
 use Rattle.std.specs.Cmp.Lexicographic.{slice_cmp}
+use Rattle.std.specs.List.Sorted.{IsStrictlySortedBy}
 use Rattle.std.specs.Map.{lookup, remove_entry, keys_of}
 use Rattle.std.specs.BTreeMap.{insert_entry, is_at}
+
+-- the names ascend by their bytes, so each is held once
+abbrev pub NamesAscend : {X : Type 0} → List (List ℕ × X) → Type 0
+NamesAscend table = IsStrictlySortedBy (slice_cmp nat_cmp) (keys_of table)
 
 -- what stands under a name
 abbrev pub at : {X : Type 0} → List (List ℕ × X) → List ℕ → Option X
 at table name = lookup (is_at (slice_cmp nat_cmp name)) table
+
+-- nothing stands under a name
+abbrev pub IsFree : {X : Type 0} → List (List ℕ × X) → List ℕ → Type 0
+IsFree table name = at table name ≡ None
 
 -- the table with this under the name
 abbrev pub putting : {X : Type 0} → List (List ℕ × X) → List ℕ → X → List (List ℕ × X)

@@ -1,7 +1,7 @@
 //! How the names of one kind of things are spelled as files.
 ghost use Rattle.std.specs.Prelude.{◌≡◌, ◌≢◌, ℕ, ◌+◌, ◌-◌, ◌<◌, ◌≤◌, List, [], ◌∷◌, ◌++◌, length, Some, None, IfSome, IfNone, codes};
-ghost use Rattle.board_names.specs.Names.{IsFileName};
 ghost use Rattle.board_names.specs.Configuration.{full_name, file_name, started};
+ghost use Rattle.board_names.specs.Extraction.{IsSpelled, IsEach};
 
 use crate::file_name::FileName;
 use crate::file_path::FilePath;
@@ -11,8 +11,11 @@ use board_layout::Text;
 /// The parts that are put round a name: `path_hint`, a slash, `prefix`, the name, `suffix`.
 #[derive(Clone, Copy, Debug, PartialEq, Eq)]
 pub struct Configuration {
+    /// What stands before the name.
     pub prefix: FileName,
+    /// What stands behind the name. It tells the kind of things.
     pub suffix: FileName,
+    /// The folder in which the files would lie.
     pub path_hint: Path,
 }
 
@@ -29,8 +32,8 @@ impl Configuration {
     }
 
     fn name_in(&self, value: &[u8]) -> Option<FileName>
-        ensures found { IfSome result (λ n. IsFileName n × (value.now ≡ file_name self.now n)) }
-        ensures every { (n : List ℕ) → IsFileName n → value.now ≡ file_name self.now n → result ≡ Some n }
+        ensures found { IfSome result (IsSpelled (file_name self.now) value.now) }
+        ensures every { IsEach (file_name self.now) value.now result }
     {
         let rest = after(value, self.prefix.as_bytes())?;
         let name = before(rest, self.suffix.as_bytes())?;
@@ -74,13 +77,13 @@ pub trait NamedConceptConfiguration: Sized {
 
     /// The name that `value` is the full name of.
     fn extract_name_from_path(&self, value: &FilePath) -> Option<FileName>
-        ensures found { IfSome result (λ n. IsFileName n × (value.now ≡ full_name (parts self.now) n)) }
-        ensures every { (n : List ℕ) → IsFileName n → value.now ≡ full_name (parts self.now) n → result ≡ Some n };
+        ensures found { IfSome result (IsSpelled (full_name (parts self.now)) value.now) }
+        ensures every { IsEach (full_name (parts self.now)) value.now result };
 
     /// The name that `value` has between the prefix and the suffix.
     fn extract_name_from_file(&self, value: &FileName) -> Option<FileName>
-        ensures found { IfSome result (λ n. IsFileName n × (value.now ≡ file_name (parts self.now) n)) }
-        ensures every { (n : List ℕ) → IsFileName n → value.now ≡ file_name (parts self.now) n → result ≡ Some n };
+        ensures found { IfSome result (IsSpelled (file_name (parts self.now)) value.now) }
+        ensures every { IsEach (file_name (parts self.now)) value.now result };
 }
 
 impl NamedConceptConfiguration for Configuration {

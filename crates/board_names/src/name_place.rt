@@ -1,7 +1,7 @@
 //! A name in a registry, as a builder is told of it and as what was made keeps it.
-ghost use Rattle.std.specs.Prelude.{◌≡◌, ℕ, List, Bool, IfOk};
+ghost use Rattle.std.specs.Prelude.{◌≡◌, ℕ, List, Bool, IfOk, IsTrue};
 ghost use Rattle.board_names.specs.Concept.{path_of, placed, starting};
-ghost use Rattle.board_names.specs.Table.{let_go};
+ghost use Rattle.board_names.specs.Table.{let_go, IsFree};
 
 use crate::configuration::{Configuration, NamedConceptConfiguration};
 use crate::errors::concept::RegistryError;
@@ -119,7 +119,8 @@ impl<T: NameTable + Drop> NamePlace<T> {
 
     /// Lets the name go where it is owned.
     pub fn let_go(&self, names: &mut T, owns: bool)
-        ensures { T.entries names.new ≡ let_go (T.entries names.old) owns self.now.path }
+        ensures after { T.entries names.new ≡ let_go (T.entries names.old) owns self.now.path }
+        ensures gone { IsTrue owns → IsFree (T.entries names.new) self.now.path }
     {
         if owns {
             let _ = names.remove(&self.path);

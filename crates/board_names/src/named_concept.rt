@@ -1,10 +1,10 @@
 //! What all named things share: a name, a builder, and the calls on all things of one kind.
 ghost use Rattle.std.specs.Prelude.{◌≡◌, ℕ, List, Option, Ok, is_some, IfOk, IsOk, IsOkUnless, codes};
 ghost use Rattle.std.specs.Map.{keys_of};
-ghost use Rattle.board_names.specs.Concept.{Named};
+ghost use Rattle.board_names.specs.Concept.{Named, under};
 ghost use Rattle.board_names.specs.Configuration.{full_name};
-ghost use Rattle.board_names.specs.Extraction.{Lists};
-ghost use Rattle.board_names.specs.Table.{at, without};
+ghost use Rattle.board_names.specs.Extraction.{Lists, FullNamesAscend};
+ghost use Rattle.board_names.specs.Table.{without, IsFree};
 
 use crate::configuration::{Configuration, NamedConceptConfiguration};
 use crate::errors::concept::{
@@ -28,6 +28,7 @@ pub trait NamedConcept {
 
 /// A builder of named values, which lie in a registry.
 pub trait NamedConceptBuilder: Sized {
+    /// What shares the names.
     type Registry;
 
     ghost named: { Self → Named };
@@ -67,13 +68,14 @@ pub trait NamedConceptMgmt {
         name: &FileName,
         cfg: &Configuration,
     ) -> Result<bool, NamedConceptDoesExistError>
-        ensures answer { result ≡ Self.Names.existence (at (Self.Names.entries state.old) (full_name cfg.now name.now)) }
+        ensures answer { let held = Self.Names.entries state.old in
+            result ≡ Self.Names.existence (under held cfg.now name.now) }
         ensures stays { state.new ≡ state.old }
     {
         state.does_exist(&cfg.path_for(name))
     }
 
-    /// `list_cfg` over the names themselves.
+    /// `list_cfg` over the names themselves. Each name is there once.
     ///
     /// # Errors
     /// `OutOfMemory`.
@@ -82,7 +84,9 @@ pub trait NamedConceptMgmt {
         alloc: Global,
         cfg: &Configuration,
     ) -> Result<Vec<FileName>, NamedConceptListError>
-        ensures names { IfOk result (λ names. Lists cfg.now (keys_of (Self.Names.entries state.old)) names.items) }
+        ensures names { let held = keys_of (Self.Names.entries state.old) in
+            IfOk result (λ names. Lists cfg.now held names.items) }
+        ensures ascend { IfOk result (λ names. FullNamesAscend cfg.now names.items) }
         ensures memory { IsOkUnless result NamedConceptListError.OutOfMemory }
         ensures stays { state.new ≡ state.old }
     {
@@ -98,8 +102,11 @@ pub trait NamedConceptMgmt {
         name: &FileName,
         cfg: &Configuration,
     ) -> Result<bool, NamedConceptRemoveError>
-        ensures answer { result ≡ Ok (is_some (at (Self.Names.entries state.old) (full_name cfg.now name.now))) }
-        ensures after { Self.Names.entries state.new ≡ without (Self.Names.entries state.old) (full_name cfg.now name.now) }
+        ensures answer { let held = Self.Names.entries state.old in
+            result ≡ Ok (is_some (under held cfg.now name.now)) }
+        ensures after { let held = Self.Names.entries state.old in
+            Self.Names.entries state.new ≡ without held (full_name cfg.now name.now) }
+        ensures gone { IsFree (Self.Names.entries state.new) (full_name cfg.now name.now) }
     {
         Ok(state.remove(&cfg.path_for(name)))
     }
@@ -120,7 +127,7 @@ pub trait NamedConceptMgmt {
         Self::does_exist_cfg_in(&mut state, name, cfg)
     }
 
-    /// The names that are held under this configuration, in the order of full names.
+    /// The names that are held under this configuration, each once, in the order of full names.
     ///
     /// # Errors
     /// `OutOfMemory`.
@@ -130,7 +137,8 @@ pub trait NamedConceptMgmt {
         registry: &Self::Registry,
         cfg: &Configuration,
     ) -> Result<Vec<FileName>, NamedConceptListError>
-        ensures { IsOkUnless result NamedConceptListError.OutOfMemory }
+        ensures ascend { IfOk result (λ names. FullNamesAscend cfg.now names.items) }
+        ensures memory { IsOkUnless result NamedConceptListError.OutOfMemory }
     {
         let mut state = Self::lock(rt, registry);
         Self::list_cfg_in(&mut state, alloc, cfg)

@@ -41,7 +41,8 @@ impl ServiceName {
     /// `ExceedsMaximumLength` where it has more than 255 bytes; else `InvalidContent` where it breaks the rule.
     pub fn new(value: &str) -> Result<ServiceName, SemanticStringError>
         ensures long { IsErrOf result ExceedsMaximumLength ↔ (255 < length value.now) }
-        ensures content { IsErrOf result InvalidContent ↔ FitsAndBreaks 255 IsServiceName value.now }
+        ensures content { IsErrOf result InvalidContent
+            ↔ FitsAndBreaks 255 IsServiceName value.now }
         ensures accepted { IsServiceName value.now → result ≡ Ok value.now }
         ensures ok { IfOk result (λ n. (n ≡ value.now) × IsServiceName value.now) }
     {

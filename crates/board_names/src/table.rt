@@ -1,8 +1,8 @@
 //! Tables of values by full names.
-ghost use Rattle.std.specs.Prelude.{◌≡◌, ℕ, List, [], ◌∷◌, ◌++◌, Option, Result, Bool, is_some, IfOk, IsOkUnless};
+ghost use Rattle.std.specs.Prelude.{◌≡◌, ℕ, List, [], ◌∷◌, ◌++◌, Option, Result, Bool, is_some, length, IfOk, IsOkUnless};
 ghost use Rattle.std.specs.Map.{keys_of};
-ghost use Rattle.board_names.specs.Extraction.{Lists};
-ghost use Rattle.board_names.specs.Table.{at, without, name_at};
+ghost use Rattle.board_names.specs.Extraction.{Lists, FullNamesAscend};
+ghost use Rattle.board_names.specs.Table.{at, without, name_at, NamesAscend, IsFree};
 ghost use Rattle.board_names.specs.declared.errors.concept.NamedConceptDoesExistError.{NamedConceptDoesExistError};
 
 use crate::configuration::{Configuration, NamedConceptConfiguration};
@@ -16,7 +16,11 @@ use std::collections::BTreeMap;
 pub type Table<V> = BTreeMap<FilePath, V>;
 
 /// What stands under the names of one kind of things.
+///
+/// The names of every table ascend by their bytes, and so differ: `name_count` and `name_at` say it of any table that
+/// they are asked of, also of one from behind a lock.
 pub trait NameTable: Sized {
+    /// What stands under a name.
     type Value;
 
     ghost entries: { Self → List (List ℕ × Self.Value) };
@@ -41,17 +45,27 @@ pub trait NameTable: Sized {
     /// Lets a name go, and tells whether it was held. Who shares what it stood for goes on without the name.
     fn remove(&mut self, name: &FilePath) -> bool
         ensures value { result ≡ is_some (at (entries self.old) name.now) }
-        ensures after { entries self.new ≡ without (entries self.old) name.now };
+        ensures after { entries self.new ≡ without (entries self.old) name.now }
+        ensures gone { IsFree (entries self.new) name.now };
+
+    /// How many names are held. Takes no memory.
+    fn name_count(&self) -> usize
+        ensures count { result ≡ length (entries self.now) }
+        ensures ascend { NamesAscend (entries self.now) }
+    {
+        self.table().len()
+    }
 
     /// The name at an index, counted from 0 in the order of the names.
     fn name_at(&self, index: usize) -> Option<FilePath>
-        ensures { result ≡ name_at (entries self.now) index }
+        ensures value { result ≡ name_at (entries self.now) index }
+        ensures ascend { NamesAscend (entries self.now) }
     {
         self.table().keys().nth(index).copied()
     }
 }
 
-/// The names that this configuration reads from a table's full names, in the order of full names.
+/// The names that this configuration reads from a table's full names, each once, in the order of full names.
 ///
 /// # Errors
 /// `OutOfMemory`.
@@ -61,6 +75,7 @@ pub fn list_names<V>(
     cfg: &Configuration,
 ) -> Result<Vec<FileName>, NamedConceptListError>
     ensures names { IfOk result (λ names. Lists cfg.now (keys_of table.now.entries) names.items) }
+    ensures ascend { IfOk result (λ names. FullNamesAscend cfg.now names.items) }
     ensures memory { IsOkUnless result NamedConceptListError.OutOfMemory }
 {
     let mut names = Vec::new(alloc);

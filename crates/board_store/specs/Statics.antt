@@ -1,6 +1,6 @@
 -- Static storages, and what their calls answer.
 use Rattle.std.specs.Prelude.{ℕ, List, Option, Some, None, Result, Ok, Err, Bool, true, false, option_map}
-use Rattle.board_names.specs.Table.{at, taking}
+use Rattle.board_names.specs.Table.{at, putting, taking}
 use Rattle.board_store.specs.declared.statics.Stored.{Stored}
 use Rattle.board_store.specs.declared.statics.Stored.TheVariants.{Locked, Final}
 use Rattle.board_names.specs.declared.errors.static_storage.StaticStorageCreateError.{StaticStorageCreateError}
@@ -32,6 +32,10 @@ locked_of storages name = option_map is_locked (at storages name)
 -- the bytes of a name, where it has some
 abbrev pub bytes_of : Storages → List ℕ → Option (List ℕ)
 bytes_of storages name = final_bytes (at storages name)
+
+-- the storages with these bytes under a name
+abbrev pub with_bytes : Storages → List ℕ → List ℕ → Storages
+with_bytes storages name bytes = putting storages name (Final bytes)
 
 -- what `create_locked` answers, by what stands under the name
 abbrev pub create_answer : Option Stored → Result (Unit {0}) StaticStorageCreateError

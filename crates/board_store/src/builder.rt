@@ -1,11 +1,9 @@
 //! How a static storage is made or opened.
-ghost use Rattle.std.specs.Prelude.{◌≡◌, ℕ, ◌∷◌, ◌++◌, List, Some, None, true, codes, IfOk, OnOk, OnErr, IsErrOf};
+ghost use Rattle.std.specs.Prelude.{◌≡◌, ℕ, ◌∷◌, ◌++◌, List, Some, None, true, IfOk, OnOk, OnErr, IsErrOf};
 ghost use Rattle.board_layout.specs.Answer.{Answers, Refuses};
-ghost use Rattle.board_names.specs.Concept.{path_of, starting};
-ghost use Rattle.board_names.specs.Table.{at, putting};
 ghost use Rattle.board_names.specs.declared.errors.static_storage.StaticStorageCreateError.TheVariants.{AlreadyExists, OutOfMemory};
-ghost use Rattle.board_store.specs.Statics.{open_answer};
-ghost use Rattle.board_store.specs.Storage.{storage_of, create_storage_answer, create_content_answer, locked_of_builder, StaysOrIsLocked, create_locked_answer, open_storage_answer};
+ghost use Rattle.board_names.specs.declared.errors.static_storage.StaticStorageOpenError.TheVariants.{OutOfMemory as NoMemory};
+ghost use Rattle.board_store.specs.Storage.{storage_of, started_builder, storing, look_answer, create_of, bytes_made, locked_of_builder, StaysOrLocks, lock_of, open_of};
 ghost use Rattle.board_store.specs.declared.statics.Stored.TheVariants.{Locked as Stood, Final};
 
 use crate::content::Content;
@@ -47,11 +45,11 @@ impl Builder {
         alloc: Global,
         contents: &[u8],
     ) -> Result<Storage, StaticStorageCreateError>
-        ensures answer { Answers result OutOfMemory (create_storage_answer self contents.now state.old) }
-        ensures refused { Refuses result (create_storage_answer self contents.now state.old) }
-        ensures ok { OnOk result (state.new ≡ putting state.old (path_of self.named) (Final contents.now)) }
+        ensures answer { Answers result OutOfMemory (create_of self contents.now state.old) }
+        ensures refused { Refuses result (create_of self contents.now state.old) }
+        ensures ok { OnOk result (state.new ≡ storing state.old self (Final contents.now)) }
         ensures already { IsErrOf result AlreadyExists → state.new ≡ state.old }
-        ensures memory { IsErrOf result OutOfMemory → StaysOrIsLocked state.old state.new (path_of self.named) }
+        ensures memory { IsErrOf result OutOfMemory → StaysOrLocks self state.old state.new }
     {
         let content = self.create_content(state, contents)?;
         Ok(self.into_storage(content))
@@ -66,9 +64,9 @@ impl Builder {
         state: &mut Statics,
         alloc: Global,
     ) -> Result<Locked, StaticStorageCreateError>
-        ensures answer { Answers result OutOfMemory (create_locked_answer self state.old) }
-        ensures refused { Refuses result (create_locked_answer self state.old) }
-        ensures ok { OnOk result (state.new ≡ putting state.old (path_of self.named) Stood) }
+        ensures answer { Answers result OutOfMemory (lock_of self state.old) }
+        ensures refused { Refuses result (lock_of self state.old) }
+        ensures ok { OnOk result (state.new ≡ storing state.old self Stood) }
         ensures err { OnErr result (state.new ≡ state.old) }
     {
         let place = self.request.place();
@@ -81,8 +79,8 @@ impl Builder {
     /// # Errors
     /// `DoesNotExist` where the name isn't held; `InitializationNotYetFinalized` where it is locked; `OutOfMemory`.
     pub fn open_in(self, state: &mut Statics) -> Result<Storage, StaticStorageOpenError>
-        ensures answer { Answers result StaticStorageOpenError.OutOfMemory (open_storage_answer self state.old) }
-        ensures refused { Refuses result (open_storage_answer self state.old) }
+        ensures answer { Answers result NoMemory (open_of self state.old) }
+        ensures refused { Refuses result (open_of self state.old) }
         ensures stays { state.new ≡ state.old }
     {
         let content = self.look_in(state)?;
@@ -106,11 +104,11 @@ impl Builder {
         contents: &[u8],
     ) -> Result<Content, StaticStorageCreateError>
         ensures value { IfOk result (λ content. content ≡ contents.now) }
-        ensures answer { Answers result OutOfMemory (create_content_answer self.now contents.now state.old) }
-        ensures refused { Refuses result (create_content_answer self.now contents.now state.old) }
-        ensures ok { OnOk result (state.new ≡ putting state.old (path_of self.now.named) (Final contents.now)) }
+        ensures answer { Answers result OutOfMemory (bytes_made self.now contents.now state.old) }
+        ensures refused { Refuses result (bytes_made self.now contents.now state.old) }
+        ensures ok { OnOk result (state.new ≡ storing state.old self.now (Final contents.now)) }
         ensures already { IsErrOf result AlreadyExists → state.new ≡ state.old }
-        ensures memory { IsErrOf result OutOfMemory → StaysOrIsLocked state.old state.new (path_of self.now.named) }
+        ensures memory { IsErrOf result OutOfMemory → StaysOrLocks self.now state.old state.new }
     {
         let path = self.request.path();
         state.create_locked(&path)?;
@@ -121,8 +119,8 @@ impl Builder {
     }
 
     fn look_in(&self, state: &mut Statics) -> Result<Content, StaticStorageOpenError>
-        ensures answer { Answers result StaticStorageOpenError.OutOfMemory (open_answer (at state.old (path_of self.now.named))) }
-        ensures refused { Refuses result (open_answer (at state.old (path_of self.now.named))) }
+        ensures answer { Answers result NoMemory (look_answer self.now state.old) }
+        ensures refused { Refuses result (look_answer self.now state.old) }
         ensures stays { state.new ≡ state.old }
     {
         state.try_open(&self.request.path())
@@ -162,7 +160,7 @@ impl NamedConceptBuilder for Builder {
     ghost named = { λ b. b.named };
 
     fn new(name: &FileName, registry: &StaticRegistry) -> Result<Builder, RegistryError>
-        ensures { IfOk result (λ b. b ≡ record { named = starting name.now (codes ".static_storage"); owns = true }) }
+        ensures { IfOk result (λ b. b ≡ started_builder name.now) }
     {
         let request = NameRequest::new(name, &Storage::default_suffix(), registry)?;
         Ok(Builder {

@@ -16,7 +16,11 @@ mod storage;
 #[cfg(test)]
 mod tests;
 
-pub use board_names::{NameTable, Table, list_names};
+pub use board_names::{
+    Configuration, FileName, FilePath, NameTable, NamedConcept, NamedConceptBuilder,
+    NamedConceptConfiguration, NamedConceptMgmt, Path, RegistryError, StaticStorageCreateError,
+    StaticStorageOpenError, StaticStorageReadError, StaticStorageUnlockError, Table, list_names,
+};
 pub use builder::Builder;
 pub use content::Content;
 pub use locked::Locked;

@@ -1,9 +1,9 @@
 //! A static storage that is still to be filled.
-ghost use Rattle.std.specs.Prelude.{◌≡◌, ℕ, List, Bool, IfOk, OnOk, OnErr, IsErrOf};
+ghost use Rattle.std.specs.Prelude.{◌≡◌, ℕ, List, Bool, IfOk, IsTrue, OnOk, OnErr, IsErrOf};
 ghost use Rattle.board_layout.specs.Answer.{Answers, Refuses};
-ghost use Rattle.board_names.specs.Table.{let_go, putting};
+ghost use Rattle.board_names.specs.Table.{let_go, putting, IsFree};
 ghost use Rattle.board_names.specs.declared.errors.static_storage.StaticStorageUnlockError.TheVariants.{OutOfMemory};
-ghost use Rattle.board_store.specs.Storage.{filled, unlock_storage_answer};
+ghost use Rattle.board_store.specs.Storage.{filled, unlock_of};
 ghost use Rattle.board_store.specs.declared.statics.Stored.TheVariants.{Final};
 
 use crate::content::Content;
@@ -47,9 +47,10 @@ impl Locked {
         alloc: Global,
         contents: &[u8],
     ) -> Result<Storage, StaticStorageUnlockError>
-        ensures answer { Answers result OutOfMemory (unlock_storage_answer self contents.now state.old) }
-        ensures refused { Refuses result (unlock_storage_answer self contents.now state.old) }
-        ensures ok { OnOk result (state.new ≡ putting state.old self.place.path (Final contents.now)) }
+        ensures answer { Answers result OutOfMemory (unlock_of self contents.now state.old) }
+        ensures refused { Refuses result (unlock_of self contents.now state.old) }
+        ensures ok { let path = self.place.path in
+            OnOk result (state.new ≡ putting state.old path (Final contents.now)) }
         ensures err { OnErr result (state.new ≡ state.old) }
     {
         let content = state.unlock(self.place.path(), contents)?;
@@ -69,9 +70,10 @@ impl Locked {
         Storage::at(self.place, self.owns, content)
     }
 
-    /// `release` over the storages themselves.
+    /// `release` over the storages themselves: those in which it was made.
     pub fn release_in(self, state: &mut Statics)
-        ensures { state.new ≡ let_go state.old self.owns self.place.path }
+        ensures after { state.new ≡ let_go state.old self.owns self.place.path }
+        ensures gone { IsTrue self.owns → IsFree state.new self.place.path }
     {
         self.place.let_go(state, self.owns);
     }

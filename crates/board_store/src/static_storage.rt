@@ -1,5 +1,5 @@
 //! What a static storage does: bytes are written once under a name, and then read by whoever opens it.
-ghost use Rattle.std.specs.Prelude.{◌≡◌, ℕ, ◌==◌, ◌<◌, ◌++◌, ◌↔◌, List, Bool, true, false, length, drop, codes, IsErrOf, OnOk, OnErr};
+ghost use Rattle.std.specs.Prelude.{◌≡◌, ℕ, ◌==◌, ◌<◌, ◌++◌, ◌↔◌, List, Bool, true, false, length, drop, codes, IfOk, IsErrOf, OnOk, OnErr};
 ghost use Rattle.board_store.specs.Reading.{ReadsInto};
 
 use board_names::{
@@ -50,6 +50,9 @@ pub trait StaticStorage: NamedConceptMgmt + NamedConcept + Sized {
         ensures owns { is_owner self.new ≡ true };
 
     /// Gives the storage up, and its name where it owns it.
+    ///
+    /// The name is that of its builder's registry. What a lent form made or opened stands in the table that was lent, and
+    /// is given up by `release_in` of that table: `release` would let the name go in the registry, whoever holds it there.
     fn release<R: Wait>(self, rt: &R);
 
     /// The suffix that a builder starts with.
@@ -59,8 +62,10 @@ pub trait StaticStorage: NamedConceptMgmt + NamedConcept + Sized {
 
 /// A builder of a static storage, which owns its name unless told otherwise.
 pub trait StaticStorageBuilder: NamedConceptBuilder {
+    /// What it makes.
     type Storage: StaticStorage;
 
+    /// What it makes that is still to be filled.
     type Locked: StaticStorageLocked<Storage = Self::Storage>;
 
     ghost owns_it: { Self → Bool };
@@ -78,7 +83,10 @@ pub trait StaticStorageBuilder: NamedConceptBuilder {
         rt: &R,
         alloc: Global,
         contents: &[u8],
-    ) -> Result<Self::Storage, StaticStorageCreateError>;
+    ) -> Result<Self::Storage, StaticStorageCreateError>
+        ensures name { IfOk result (λ s. Self.Storage.name_of s ≡ (Self.named self).name) }
+        ensures content { IfOk result (λ s. Self.Storage.content_of s ≡ contents.now) }
+        ensures owner { IfOk result (λ s. Self.Storage.is_owner s ≡ owns_it self) };
 
     /// A storage that is still to be filled.
     ///
@@ -88,18 +96,22 @@ pub trait StaticStorageBuilder: NamedConceptBuilder {
         self,
         rt: &R,
         alloc: Global,
-    ) -> Result<Self::Locked, StaticStorageCreateError>;
+    ) -> Result<Self::Locked, StaticStorageCreateError>
+        ensures { IfOk result (λ l. Self.Locked.name_of l ≡ (Self.named self).name) };
 
     /// The storage that stands under the name. Looks `polls + 1` times at most, and gives the lock back in between.
     ///
     /// # Errors
     /// `DoesNotExist` where the name isn't held; `InitializationNotYetFinalized` where each look found it locked;
     /// `OutOfMemory`.
-    fn open<R: Wait>(self, rt: &R, polls: u32) -> Result<Self::Storage, StaticStorageOpenError>;
+    fn open<R: Wait>(self, rt: &R, polls: u32) -> Result<Self::Storage, StaticStorageOpenError>
+        ensures name { IfOk result (λ s. Self.Storage.name_of s ≡ (Self.named self).name) }
+        ensures owner { IfOk result (λ s. Self.Storage.is_owner s ≡ owns_it self) };
 }
 
 /// A static storage that is still to be filled.
 pub trait StaticStorageLocked: NamedConcept + Sized {
+    /// What it becomes.
     type Storage: StaticStorage;
 
     /// The storage with these bytes.
@@ -111,8 +123,12 @@ pub trait StaticStorageLocked: NamedConcept + Sized {
         rt: &R,
         alloc: Global,
         contents: &[u8],
-    ) -> Result<Self::Storage, StaticStorageUnlockError>;
+    ) -> Result<Self::Storage, StaticStorageUnlockError>
+        ensures name { IfOk result (λ s. Self.Storage.name_of s ≡ Self.name_of self) }
+        ensures content { IfOk result (λ s. Self.Storage.content_of s ≡ contents.now) };
 
     /// Gives the storage up, and its name where it owns it.
+    ///
+    /// The name is that of its builder's registry, also where a lent form made it in another table: see `release_in`.
     fn release<R: Wait>(self, rt: &R);
 }

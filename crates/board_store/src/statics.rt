@@ -2,7 +2,7 @@
 ghost use Rattle.std.specs.Prelude.{◌≡◌, ◌≢◌, ℕ, ◌+◌, ◌-◌, ◌<◌, ◌≤◌, ◌==◌, ◌↔◌, List, [], ◌∷◌, ◌++◌, length, Some, None, true, is_some, IfOk, IsErrOf, OnOk, OnErr, IsTrue, IsSome, IfSome, option_map};
 ghost use Rattle.board_layout.specs.Answer.{Answers, Refuses};
 ghost use Rattle.board_names.specs.Table.{at, putting, without, name_at};
-ghost use Rattle.board_store.specs.Statics.{bytes_of, locked_of, create_answer, open_answer, unlock_answer};
+ghost use Rattle.board_store.specs.Statics.{bytes_of, locked_of, with_bytes, create_answer, open_answer, unlock_answer};
 ghost use Rattle.board_store.specs.Storage.{exists_answer};
 
 use crate::content::Content;
@@ -17,11 +17,15 @@ use std::marker::Model;
 /// What stands under a name: a storage that is still to be filled, or one with its bytes.
 #[derive(Drop)]
 pub enum Stored {
+    /// The name is held, and the bytes are still to come.
     Locked,
+    /// The bytes, which stay.
     Final(Content),
 }
 
 /// Static storages by full names. Clauses see the pairs of name and storage, in the order of the names.
+///
+/// The names ascend and differ, as in each `NameTable`: `name_count` says it.
 #[derive(Drop)]
 pub struct Statics {
     names: Table<Stored>,
@@ -43,7 +47,8 @@ impl Statics {
     /// # Errors
     /// `AlreadyExists` where the name is held; `OutOfMemory`. The storages stay as they were.
     pub fn create_locked(&mut self, name: &FilePath) -> Result<(), StaticStorageCreateError>
-        ensures answer { Answers result StaticStorageCreateError.OutOfMemory (create_answer (at self.old name.now)) }
+        ensures answer { let held = at self.old name.now in
+            Answers result StaticStorageCreateError.OutOfMemory (create_answer held) }
         ensures refused { Refuses result (create_answer (at self.old name.now)) }
         ensures ok { OnOk result (self.new ≡ putting self.old name.now Stored.Locked) }
         ensures err { OnErr result (self.new ≡ self.old) }
@@ -67,9 +72,11 @@ impl Statics {
         contents: &[u8],
     ) -> Result<Content, StaticStorageUnlockError>
         ensures value { IfOk result (λ content. content ≡ contents.now) }
-        ensures answer { Answers result StaticStorageUnlockError.OutOfMemory (unlock_answer contents.now (locked_of self.old name.now)) }
-        ensures refused { Refuses result (unlock_answer contents.now (locked_of self.old name.now)) }
-        ensures ok { OnOk result (self.new ≡ putting self.old name.now (Stored.Final contents.now)) }
+        ensures answer { let locked = locked_of self.old name.now in
+            Answers result StaticStorageUnlockError.OutOfMemory (unlock_answer contents.now locked) }
+        ensures refused { let locked = locked_of self.old name.now in
+            Refuses result (unlock_answer contents.now locked) }
+        ensures ok { OnOk result (self.new ≡ with_bytes self.old name.now contents.now) }
         ensures err { OnErr result (self.new ≡ self.old) }
     {
         if self.is_locked(name) != Some(true) {
@@ -85,7 +92,7 @@ impl Statics {
     pub(crate) fn fill(&mut self, name: &FilePath, contents: &[u8]) -> Result<Content, AllocError>
         requires { locked_of self.old name.now ≡ Some true }
         ensures value { IfOk result (λ content. content ≡ contents.now) }
-        ensures ok { OnOk result (self.new ≡ putting self.old name.now (Stored.Final contents.now)) }
+        ensures ok { OnOk result (self.new ≡ with_bytes self.old name.now contents.now) }
         ensures err { OnErr result (self.new ≡ self.old) }
     {
         let content = Content::of(self.alloc, contents)?;
@@ -102,7 +109,8 @@ impl Statics {
     /// # Errors
     /// `DoesNotExist` where the name isn't held; `InitializationNotYetFinalized` where it is locked; `OutOfMemory`.
     pub fn try_open(&self, name: &FilePath) -> Result<Content, StaticStorageOpenError>
-        ensures answer { Answers result StaticStorageOpenError.OutOfMemory (open_answer (at self.now name.now)) }
+        ensures answer { let held = at self.now name.now in
+            Answers result StaticStorageOpenError.OutOfMemory (open_answer held) }
         ensures refused { Refuses result (open_answer (at self.now name.now)) }
     {
         match self.names.get(name) {

@@ -1,6 +1,6 @@
 //! A static storage that has its bytes.
-ghost use Rattle.std.specs.Prelude.{◌≡◌, ℕ, ◌==◌, ◌<◌, ◌++◌, ◌↔◌, List, Bool, true, false, length, drop, codes, OnOk, OnErr, IsErrOf};
-ghost use Rattle.board_names.specs.Table.{let_go};
+ghost use Rattle.std.specs.Prelude.{◌≡◌, ℕ, ◌==◌, ◌<◌, ◌++◌, ◌↔◌, List, Bool, true, false, length, drop, codes, IsTrue, OnOk, OnErr, IsErrOf};
+ghost use Rattle.board_names.specs.Table.{let_go, IsFree};
 
 use crate::builder::Builder;
 use crate::content::Content;
@@ -40,9 +40,10 @@ impl Storage {
         }
     }
 
-    /// `release` over the storages themselves.
+    /// `release` over the storages themselves: those in which it was made or opened.
     pub fn release_in(self, state: &mut Statics)
-        ensures { state.new ≡ let_go state.old self.owns self.place.path }
+        ensures after { state.new ≡ let_go state.old self.owns self.place.path }
+        ensures gone { IsTrue self.owns → IsFree state.new self.place.path }
     {
         self.place.let_go(state, self.owns);
     }

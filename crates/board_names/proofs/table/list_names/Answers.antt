@@ -3,7 +3,7 @@ use Rattle.std.specs.Prelude.{option_to_list}
 use Rattle.std.specs.Map.{keys_of}
 use Rattle.std.proofs.lemmas.List.{append-nil}
 use Rattle.board_names.specs.Extraction.{Lists}
-use Rattle.board_names.proofs.Listing.{ListsBehind, ListsBehind-next, Extracts-from}
+use Rattle.board_names.proofs.Listing.{ListsBehind, ListsBehind-next, Extracts-from, Lists-ascend}
 use Rattle.board_names.proofs.table.list_names.Goals as goal
 
 pub loop-path-preserved-else-is_err : goal.loop-path-preserved-else-is_err
@@ -23,3 +23,11 @@ returns-clause-names g c =
     let none : Lists c.args.cfg.now c.loop-path.path-iterator [] =
     subst (λ paths. Lists c.args.cfg.now paths []) (sym c.in-None.ensures.steps.0) refl in
     subst (λ ns. Lists c.args.cfg.now all ns) (append-nil c.loop-path.names.items) (c.loop-path.invariant [] none)
+
+pub returns-clause-ascend : goal.returns-clause-ascend
+returns-clause-ascend g c =
+    let all = keys_of c.args.table.now.entries in
+    let none : Lists c.args.cfg.now c.loop-path.path-iterator [] =
+    subst (λ paths. Lists c.args.cfg.now paths []) (sym c.in-None.ensures.steps.0) refl in
+    let lists = subst (λ ns. Lists c.args.cfg.now all ns) (append-nil c.loop-path.names.items) (c.loop-path.invariant [] none) in
+    Lists-ascend c.args.cfg.now all c.loop-path.names.items lists c.keys-path-items.ensures.ordered
