@@ -1,4 +1,5 @@
 mod BitLemmas
 mod TableLemmas
 mod RowLemmas
+mod EventLemmas
 mod StandingLemmas

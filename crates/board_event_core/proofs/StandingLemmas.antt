@@ -1,16 +1,18 @@
--- Each call keeps that a held name leads to an event that stands and holds it.
-use Rattle.std.specs.Prelude.{◌≡◌, ◌≤◌, ◌+◌, ℕ, Bool, true, false, cond, not, List, [], ◌∷◌, Option, Some, None, IsSome, IsSomeAnd, if◌then◌else◌, ◌||◌, nat_lt, length, ◌++◌, refl}
+-- What each call on a table keeps.
+use Rattle.std.specs.Prelude.{◌≡◌, ◌≤◌, ◌+◌, ℕ, Bool, true, false, cond, not, List, [], ◌∷◌, Option, Some, None, IfSome, IsSome, IsSomeAnd, if◌then◌else◌, ◌||◌, nat_lt, length, ◌++◌, refl}
 use Rattle.std.proofs.Common.{ap, arith, sym}
 use Rattle.std.specs.declared.cmp.Ordering.{Ordering}
 use Rattle.std.specs.declared.cmp.Ordering.TheVariants.{Less, Equal, Greater}
 use Rattle.std.specs.Ordering.{nat_cmp, is_eq, match_ordering}
 use Rattle.std.specs.Cmp.{Equal-is}
 use Rattle.std.specs.Cmp.Lexicographic.{slice_cmp, nat_list_cmp_total}
-use Rattle.std.specs.Map.{lookup, remove_entry}
+use Rattle.std.specs.List.{All}
+use Rattle.std.specs.Map.{lookup, remove_entry, values_of}
 use Rattle.std.specs.BTreeMap.{insert_entry, is_at}
 use Rattle.std.specs.Cmp.{IsTotalOrder}
 use Rattle.std.proofs.lemmas.Cmp.{eq_by_cmp_equiv, nat_cmp_total}
 use Rattle.std.proofs.lemmas.Map.{lookup-set_value}
+use Rattle.std.proofs.lemmas.Map.Views.{All-map-remove_entry, All-values-insert_entry, All-values-set_value, IfSome-lookup_from_All}
 use Rattle.std.proofs.lemmas.Map.Lookups.{CmpEqualImpliesEq, exact_unsigned, exact_bytes}
 use Rattle.board_names.specs.Table.{at, putting}
 use Rattle.board_event_model.specs.declared.kind.EventKind.{EventKind}
@@ -18,7 +20,8 @@ use Rattle.board_event_model.specs.declared.kind.EventKind.TheVariants as kind
 use Rattle.board_event_model.specs.declared.access.EventAccess.{EventAccess}
 use Rattle.board_event_model.specs.declared.access.EventAccess.TheVariants as access
 use Rattle.board_event_model.specs.EventMemory.{Event, after, holds_name, has_holder, new_event}
-use Rattle.board_event_core.specs.EventTable.{AreLeft, EventTable, freed, HoldsName, IsEventTable, LosesName, changed, event_at, table_listened, named_with, names_of, settled, settled_with, with_event, with_gone, with_names, with_notifier, without_event}
+use Rattle.board_event_core.specs.EventTable.{AreLeft, EventTable, FreesName, FreesNameOf, freed, HoldsName, IsEvent, IsKept, LosesName, changed, event_at, table_listened, named_with, names_of, settled, settled_with, with_event, with_gone, with_names, with_notifier, without_event, without_name}
+use Rattle.board_event_core.proofs.EventLemmas.{IsEvent-new_event}
 
 -- ---- equal keys
 
@@ -103,8 +106,8 @@ abbrev pub Keeps : Event → Event → Type 0
 Keeps e next = (k : EventKind) (name : List ℕ) → HoldsName k name e → HoldsName k name next
 
 -- one event is another that holds what it held
-kept_with : (t : EventTable) (n : ℕ) (e next : Event) → event_at t n ≡ Some e → Keeps e next → IsEventTable t → IsEventTable (with_event t n next)
-kept_with t n e next is keeps table = record { named = named; numbered = numbered }
+kept_with : (t : EventTable) (n : ℕ) (e next : Event) → event_at t n ≡ Some e → Keeps e next → IsEvent next → IsKept t → IsKept (with_event t n next)
+kept_with t n e next is keeps good table = record { named = named; numbered = numbered; sound = All-values-set_value (is_at (nat_cmp n)) IsEvent t.events next table.sound good }
   where
     found : IsSome (event_at t n)
     found = rw is refl
@@ -121,13 +124,20 @@ kept_with t n e next is keeps table = record { named = named; numbered = numbere
         (λ same. rw (sym (same_number n m same)) (table.numbered n found))
         (λ _ before. table.numbered m before)
 
+-- an event of a table is as it may be
+pub sound_at : (t : EventTable) (n : ℕ) (e : Event) → event_at t n ≡ Some e → IsKept t → IsEvent e
+sound_at t n e is table =
+    let sound : IfSome (event_at t n) IsEvent = IfSome-lookup_from_All IsEvent (is_at (nat_cmp n)) t.events table.sound in
+    (rw is at sound)
+
 -- so it is for each call that changes one event
-pub kept_changed : (t u : EventTable) (n : ℕ) (f : Event → Event) → ((e : Event) → Keeps e (f e)) → u ≡ changed t n f → IsEventTable t → IsEventTable u
-kept_changed t u n f keeps is table = rw is (by (event_at t n) refl)
+pub kept_changed : (t u : EventTable) (n : ℕ) (f : Event → Event) → ((e : Event) → Keeps e (f e)) → ((e : Event) → event_at t n ≡ Some e → IsEvent e → IsEvent (f e)) →
+    u ≡ changed t n f → IsKept t → IsKept u
+kept_changed t u n f keeps good is table = rw is (by (event_at t n) refl)
   where
-    by : (o : Option Event) → event_at t n ≡ o → IsEventTable (elim o [ None ↦ t | Some e ↦ with_event t n (f e) ])
+    by : (o : Option Event) → event_at t n ≡ o → IsKept (elim o [ None ↦ t | Some e ↦ with_event t n (f e) ])
     by None h = table
-    by (Some e) h = kept_with t n e (f e) h (keeps e) table
+    by (Some e) h = kept_with t n e (f e) h (keeps e) (good e h (sound_at t n e h table)) table
 
 -- ---- what a call leaves to its event
 
@@ -194,8 +204,12 @@ new_holds kind.Bits name max = record { kind = refl; name = refl; held = refl }
 new_holds kind.Queue name max = record { kind = refl; name = refl; held = refl }
 
 -- a listen
-pub kept_listened : (t : EventTable) (k : EventKind) (name : List ℕ) (max : ℕ) → IsEventTable t → IsEventTable (table_listened t k name max)
-kept_listened t k name max table = record { named = named; numbered = numbered }
+pub kept_listened : (t : EventTable) (k : EventKind) (name : List ℕ) (max : ℕ) → IsKept t → IsKept (table_listened t k name max)
+kept_listened t k name max table = record {
+  named = named;
+  numbered = numbered;
+  sound = All-values-insert_entry nat_cmp (t.drawn + 1) (new_event k name max) IsEvent t.events table.sound (IsEvent-new_event k name max);
+}
   where
     fresh : HoldsName k name (new_event k name max)
     fresh = new_holds k name max
@@ -282,16 +296,39 @@ event_at-held t n e holds = let held : has_holder e ≡ true = held_by_name e.ki
 abbrev pub IsSameEvent : Event → Event → Type 0
 IsSameEvent e next = (next.kind ≡ e.kind) × (next.name ≡ e.name)
 
+-- where the name goes, the events are the same
+events-named_with : (t : EventTable) (n : ℕ) (e : Event) → (named_with t n e).events ≡ t.events
+events-named_with t n e = by (holds_name e) e.kind
+  where
+    by : (b : Bool) (k : EventKind) → (if b then t else with_names k t (freed (names_of k t) e.name n)).events ≡ t.events
+    by true k = refl
+    by false kind.Bits = refl
+    by false kind.Queue = refl
+
+-- the events that are left are as they may be
+sound-settled : (t : EventTable) (n : ℕ) (e : Event) → All IsEvent (values_of t.events) → All IsEvent (values_of (settled_with t n e).events)
+sound-settled t n e sound = by (has_holder e)
+  where
+    named : All IsEvent (values_of (named_with t n e).events)
+    named = rw (events-named_with t n e) sound
+
+    by : (b : Bool) → All IsEvent (values_of (if b then named_with t n e else without_event (named_with t n e) n).events)
+    by true = named
+    by false = All-map-remove_entry (is_at (nat_cmp n)) (λ x. x.1) IsEvent (named_with t n e).events named
+
 -- where the event is known
-kept_settled_with : (t u : EventTable) (n : ℕ) (e next : Event) → event_at t n ≡ Some e → IsSameEvent e next → IsEventTable t →
-    u ≡ settled_with (with_event t n next) n next → AreLeft (with_event t n next) u → LosesName next u n → IsEventTable u
-kept_settled_with t u n e next is same table done left gone = record { named = named; numbered = numbered }
+kept_settled_with : (t u : EventTable) (n : ℕ) (e next : Event) → event_at t n ≡ Some e → IsSameEvent e next → IsEvent next → IsKept t →
+    u ≡ settled_with (with_event t n next) n next → AreLeft (with_event t n next) u → LosesName next u n → IsKept u
+kept_settled_with t u n e next is same good table done left gone = record { named = named; numbered = numbered; sound = sound }
   where
     found : IsSome (event_at t n)
     found = rw is refl
 
     there : event_at (with_event t n next) n ≡ Some next
     there = here-with_event t n e next is
+
+    sound : All IsEvent (values_of u.events)
+    sound = rw done (sound-settled (with_event t n next) n next (All-values-set_value (is_at (nat_cmp n)) IsEvent t.events next table.sound good))
 
     others : (m : ℕ) → is_at (nat_cmp n) m ≡ false → event_at u m ≡ event_at t m
     others m apart = rw done (rw (event_at-settled (with_event t n next) n next m apart) (rw (event_at-with_event t n next m found) (rw apart refl)))
@@ -324,15 +361,68 @@ kept_settled_with t u n e next is same table done left gone = record { named = n
         by false apart = table.numbered m (rw (sym (others m apart)) some)
 
 -- a release
-pub kept_settled : (t s u : EventTable) (n : ℕ) (f : Event → Event) → ((e : Event) → IsSameEvent e (f e)) → IsEventTable t → IsSome (event_at t n) →
-    s ≡ changed t n f → u ≡ settled s n → AreLeft s u → IsSomeAnd (event_at s n) (λ e. LosesName e u n) → IsEventTable u
-kept_settled t s u n f same table some changed_is settled_is left gone = by (event_at t n) refl
+pub kept_settled : (t s u : EventTable) (n : ℕ) (f : Event → Event) → ((e : Event) → IsSameEvent e (f e)) → ((e : Event) → IsEvent e → IsEvent (f e)) → IsKept t → IsSome (event_at t n) →
+    s ≡ changed t n f → u ≡ settled s n → AreLeft s u → IsSomeAnd (event_at s n) (λ e. LosesName e u n) → IsKept u
+kept_settled t s u n f same good table some changed_is settled_is left gone = by (event_at t n) refl
   where
-    by : (o : Option Event) → event_at t n ≡ o → IsEventTable u
+    by : (o : Option Event) → event_at t n ≡ o → IsKept u
     by None h = absurd (let none = (rw h at some) in cc none)
     by (Some e) h =
         let s_is : s ≡ with_event t n (f e) = (rw (h, changed) at changed_is) in
         let there : event_at s n ≡ Some (f e) = rw s_is (here-with_event t n e (f e) h) in
         let u_is : u ≡ settled_with s n (f e) = (rw (there, settled) at settled_is) in
         let lost : LosesName (f e) u n = (rw there at gone) in
-        kept_settled_with t u n e (f e) h (same e) table (rw (sym s_is) u_is) (rw (sym s_is) left) lost
+        kept_settled_with t u n e (f e) h (same e) (good e (sound_at t n e h table)) table (rw (sym s_is) u_is) (rw (sym s_is) left) lost
+
+-- ---- a name that goes
+
+-- where a name goes, the events stay
+event_at-without_name : (t : EventTable) (k : EventKind) (name : List ℕ) (m : ℕ) → event_at (without_name k t name) m ≡ event_at t m
+event_at-without_name t kind.Bits name m = refl
+event_at-without_name t kind.Queue name m = refl
+
+-- and no number is drawn
+drawn-without_name : (t : EventTable) (k : EventKind) (name : List ℕ) → (without_name k t name).drawn ≡ t.drawn
+drawn-without_name t kind.Bits name = refl
+drawn-without_name t kind.Queue name = refl
+
+events-without_name : (t : EventTable) (k : EventKind) (name : List ℕ) → (without_name k t name).events ≡ t.events
+events-without_name t kind.Bits name = refl
+events-without_name t kind.Queue name = refl
+
+-- a name that is removed
+pub kept_removed : (t u : EventTable) (k : EventKind) (name : List ℕ) → u ≡ without_name k t name → AreLeft t u → IsKept t → IsKept u
+kept_removed t u k name is left table = record { named = named; numbered = numbered; sound = sound }
+  where
+    same : (m : ℕ) → event_at u m ≡ event_at t m
+    same m = rw is (event_at-without_name t k name m)
+
+    named : (j : EventKind) (other : List ℕ) (m : ℕ) → at (names_of j u) other ≡ Some m → IsSomeAnd (event_at u m) (HoldsName j other)
+    named j other m h = rw (same m) (table.named j other m (left j other m h))
+
+    numbered : (m : ℕ) → IsSome (event_at u m) → m ≤ u.drawn
+    numbered m some = let drawn : u.drawn ≡ t.drawn = rw is (drawn-without_name t k name) in rw drawn (table.numbered m (rw (sym (same m)) some))
+
+    sound : All IsEvent (values_of u.events)
+    sound = let events : u.events ≡ t.events = rw is (events-without_name t k name) in rw events table.sound
+
+-- names that a name is one of, or none of
+is_none : (o : Option ℕ) → ((m : ℕ) → o ≡ Some m → ⊥) → o ≡ None
+is_none None none = refl
+is_none (Some m) none = absurd (none m refl)
+
+-- who lets go of a name that nobody holds any more frees it
+pub frees_name : (t s u : EventTable) (n : ℕ) (f : Event → Event) → ((e : Event) → IsSameEvent e (f e)) → IsSome (event_at t n) → s ≡ changed t n f →
+    AreLeft s u → IsSomeAnd (event_at s n) (λ e. LosesName e u n) → FreesNameOf t u n f
+frees_name t s u n f same some changed_is left gone = by (event_at t n) refl
+  where
+    by : (o : Option Event) → event_at t n ≡ o → IsSomeAnd o (λ e. FreesName t u n (f e))
+    by None h = absurd (let none = (rw h at some) in cc none)
+    by (Some e) h =
+        let s_is : s ≡ with_event t n (f e) = (rw (h, changed) at changed_is) in
+        let there : event_at s n ≡ Some (f e) = rw s_is (here-with_event t n e (f e) h) in
+        let lost : LosesName (f e) u n = (rw there at gone) in
+        λ nobody held. is_none _ (λ m is. (
+        let before : at (names_of (f e).kind t) (f e).name ≡ Some m = rw (sym (names_of-with_event t n (f e) (f e).kind)) (rw (sym s_is) (left (f e).kind (f e).name m is)) in
+        let number : n ≡ m = (let both = (rw held at before) in cc both) in
+        lost nobody (rw number is)))

@@ -1,8 +1,12 @@
 -- The table of events: what stands under a number and a name, and what the calls on it answer and leave.
-use Rattle.std.specs.Prelude.{◌≡◌, ◌≢◌, ◌≤◌, IsSome, IsSomeAnd, ℕ, ◌+◌, ◌-◌, ◌^◌, Bool, true, false, ◌||◌, ◌==◌, not, nat_lt, if◌then◌else◌, List, [], Option, Some, None, Result, Ok, Err, refl}
+use Rattle.std.specs.Prelude.{◌≡◌, ◌≢◌, ◌≤◌, ◌<◌, IsSome, IsSomeAnd, ℕ, ◌+◌, ◌-◌, ◌*◌, ◌/◌, ◌^◌, Bool, true, false, ◌||◌, ◌==◌, not, nat_lt, if◌then◌else◌, List, [], length, Option, Some, None, Result, Ok, Err, refl}
 use Rattle.std.specs.Coded.{Coded, code_by, coded×, coded_ℕ, coded_list}
 use Rattle.std.specs.Ordering.{nat_cmp}
-use Rattle.std.specs.Map.{lookup, remove_entry, set_value}
+use Rattle.std.specs.Cmp.Lexicographic.{slice_cmp}
+use Rattle.std.specs.FinSet as set
+use Rattle.std.specs.List.{All}
+use Rattle.std.specs.List.Sorted.{IsStrictlySortedBy}
+use Rattle.std.specs.Map.{keys_of, lookup, remove_entry, set_value, values_of}
 use Rattle.std.specs.BTreeMap.{insert_entry, is_at}
 use Rattle.board_names.specs.Table.{at, putting, without}
 use Rattle.board_names.specs.declared.errors.event.ListenerCreateError.{ListenerCreateError}
@@ -12,6 +16,7 @@ use Rattle.board_names.specs.declared.errors.event.NotifierCreateError.TheVarian
 use Rattle.board_event_model.specs.declared.kind.EventKind.{EventKind}
 use Rattle.board_event_model.specs.declared.kind.EventKind.TheVariants as kind
 use Rattle.board_event_model.specs.declared.access.EventAccess.{EventAccess}
+use Rattle.board_event_model.specs.Ids.{has}
 use Rattle.board_event_model.specs.EventMemory.{CanPerform, Event, holds_name, has_holder, new_event}
 use Rattle.board_event_core.specs.Memories.{event_code}
 
@@ -25,6 +30,10 @@ pub record EventTable : Type 0 where
 -- no events
 abbrev pub empty_table : EventTable
 empty_table = record { drawn = 0; events = []; bits = []; queues = [] }
+
+-- the table of these parts
+abbrev pub table_of : ℕ → List (ℕ × Event) → List (List ℕ × ℕ) → List (List ℕ × ℕ) → EventTable
+table_of drawn events bits queues = record { drawn = drawn; events = events; bits = bits; queues = queues }
 
 -- the code of a table
 abbrev pub table_code : Coded EventTable
@@ -76,13 +85,21 @@ with_names kind.Queue t names = record t { queues = names }
 abbrev pub with_name : EventKind → EventTable → List ℕ → ℕ → EventTable
 with_name k t name n = with_names k t (putting (names_of k t) name n)
 
+-- the table without a name of this kind
+abbrev pub without_name : EventKind → EventTable → List ℕ → EventTable
+without_name k t name = with_names k t (without (names_of k t) name)
+
 -- the names without this one, where the event with this number holds it
 abbrev pub freed : List (List ℕ × ℕ) → List ℕ → ℕ → List (List ℕ × ℕ)
 freed names name n = elim (at names name) [ None ↦ names | Some m ↦ if m == n then without names name else names ]
 
+-- the table without a name of this kind, where the event with this number holds it
+abbrev pub with_name_freed : EventKind → EventTable → List ℕ → ℕ → EventTable
+with_name_freed k t name n = with_names k t (freed (names_of k t) name n)
+
 -- the table without the name of an event, where that event holds it
 abbrev pub without_name_of : EventTable → ℕ → Event → EventTable
-without_name_of t n e = with_names e.kind t (freed (names_of e.kind t) e.name n)
+without_name_of t n e = with_name_freed e.kind t e.name n
 
 -- ---- holders
 
@@ -92,14 +109,38 @@ pub record HoldsName (k : EventKind) (full_name : List ℕ) (e : Event) : Type 0
   pub name : e.name ≡ full_name
   pub held : holds_name e ≡ true
 
+-- the event under this number stands and holds the name
+abbrev pub HoldsNameAt : EventTable → EventKind → List ℕ → ℕ → Type 0
+HoldsNameAt t k name n = IsSomeAnd (event_at t n) (HoldsName k name)
+
 -- where the name is held, its number is that of an event that stands and holds it
 abbrev pub NameStands : EventTable → EventKind → List ℕ → Type 0
-NameStands t k name = (n : ℕ) → at (names_of k t) name ≡ Some n → IsSomeAnd (event_at t n) (HoldsName k name)
+NameStands t k name = (n : ℕ) → at (names_of k t) name ≡ Some n → HoldsNameAt t k name n
 
--- what holds of every table that the calls make: a held name has the number of an event that stands and holds it, and no event has a number above the last one drawn
-pub record IsEventTable (t : EventTable) : Type 0 where
+-- the ids of every event: those of a set lie below 64 times its words, a queue has 512 at most, and a kind has none of the other's
+pub record IsEvent (e : Event) : Type 0 where
+  pub low : (id : ℕ) → has e.pending id ≡ true → id < 64 * (e.max / 64 + 1)
+  pub few : length e.queue ≤ 512
+  pub set_alone : e.kind ≡ kind.Bits → e.queue ≡ []
+  pub queue_alone : e.kind ≡ kind.Queue → e.pending ≡ set.empty
+
+-- the names ascend, so each stands once
+abbrev pub NamesAscend : List (List ℕ × ℕ) → Type 0
+NamesAscend names = IsStrictlySortedBy (slice_cmp nat_cmp) (keys_of names)
+
+-- what each call keeps: a held name has the number of an event that stands and holds it, no event has a number above the
+-- last one drawn, and the ids of each event are as they may be
+pub record IsKept (t : EventTable) : Type 0 where
   pub named : (k : EventKind) (name : List ℕ) → NameStands t k name
   pub numbered : (n : ℕ) → IsSome (event_at t n) → n ≤ t.drawn
+  pub sound : All IsEvent (values_of t.events)
+
+-- what holds of every table of events: what each call keeps, and the numbers ascend, and the names of each kind, so each
+-- stands once
+pub record IsEventTable (t : EventTable) : Type 0 where
+  pub kept : IsKept t
+  pub numbers : IsStrictlySortedBy nat_cmp (keys_of t.events)
+  pub names : (k : EventKind) → NamesAscend (names_of k t)
 
 -- one notifier more
 abbrev pub with_notifier : Event → Event
@@ -156,12 +197,28 @@ abbrev pub IsNotifierAnswer : EventTable → Result ℕ NotifierCreateError → 
 IsNotifierAnswer t result None = result ≡ Err notifier_error.DoesNotExist
 IsNotifierAnswer t result (Some n) = IsSomeAnd (event_at t n) (λ e. result ≡ notifier_of n e)
 
+-- where the name had its event's number and nobody holds it any more, it is free
+abbrev pub FreesName : EventTable → EventTable → ℕ → Event → Type 0
+FreesName old new n e = holds_name e ≡ false → at (names_of e.kind old) e.name ≡ Some n → at (names_of e.kind new) e.name ≡ None
+
+-- the event under this number is left so, and where nobody holds its name any more, the name is free
+abbrev pub FreesNameOf : EventTable → EventTable → ℕ → (Event → Event) → Type 0
+FreesNameOf old new n f = IsSomeAnd (event_at old n) (λ e. FreesName old new n (f e))
+
 -- ---- what the steps on the rows leave. No clause of a public call cites what follows
 
--- no name is new, and none has a new number
+-- no name of these is new, and none has a new number
+abbrev pub NamesAreLeft : List (List ℕ × ℕ) → List (List ℕ × ℕ) → Type 0
+NamesAreLeft old new = (name : List ℕ) (n : ℕ) → at new name ≡ Some n → at old name ≡ Some n
+
+-- so it is for both kinds
 abbrev pub AreLeft : EventTable → EventTable → Type 0
-AreLeft old new = (k : EventKind) (name : List ℕ) (n : ℕ) → at (names_of k new) name ≡ Some n → at (names_of k old) name ≡ Some n
+AreLeft old new = (k : EventKind) → NamesAreLeft (names_of k old) (names_of k new)
 
 -- where nobody holds its name, its name hasn't its number
 abbrev pub LosesName : Event → EventTable → ℕ → Type 0
 LosesName e t n = holds_name e ≡ false → at (names_of e.kind t) e.name ≢ Some n
+
+-- the name of the event under this number goes where nobody holds it
+abbrev pub SettlesName : EventTable → EventTable → ℕ → Type 0
+SettlesName old new n = IsSomeAnd (event_at old n) (λ e. new ≡ named_with old n e)

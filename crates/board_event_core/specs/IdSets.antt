@@ -1,10 +1,10 @@
 -- What clauses see of a bit set: its greatest id and its ids; and the words that hold them.
-use Rattle.std.specs.Prelude.{◌≡◌, ℕ, ◌*◌, ◌/◌, ◌%◌, ◌<◌, ◌≤◌, Bool, true, false, Option, Some, None, [], ◌∷◌, ⊤, ◌==◌, List, length, slice_index, refl}
+use Rattle.std.specs.Prelude.{◌≡◌, not, ℕ, ◌*◌, ◌/◌, ◌%◌, ◌<◌, ◌≤◌, Bool, true, false, Option, Some, None, [], ◌∷◌, ⊤, ◌==◌, List, length, slice_index, refl}
 use Rattle.std.specs.Int.{bit_at}
 use Rattle.std.specs.List.{FoldsTo, list_any}
 use Rattle.std.specs.Coded.{Coded, code_by, coded×, coded_ℕ}
 use Rattle.std.specs.FinSet as set
-use Rattle.board_event_model.specs.Ids.{Ids, has, ids_where}
+use Rattle.board_event_model.specs.Ids.{Ids, has, in_word, ids_where}
 
 -- a bit set: its greatest id, and the ids in it
 pub record IdSet : Type 0 where
@@ -14,6 +14,10 @@ pub record IdSet : Type 0 where
 -- the set with one id more
 abbrev pub with_id : IdSet → ℕ → IdSet
 with_id s id = record s { ids = set.insert s.ids id }
+
+-- the set without the ids of a word
+abbrev pub without_word : IdSet → ℕ → IdSet
+without_word s word = record s { ids = set.retain s.ids (λ i. not (in_word word i)) }
 
 -- it is stored as a pair
 abbrev pub id_set_code : Coded IdSet

@@ -1,5 +1,6 @@
 pub mod IdSets
 pub mod Waits
+pub mod Turns
 pub mod Memories
 pub mod EventTable
 pub mod Steps

@@ -4,6 +4,7 @@ use Rattle.board_event_model.specs.EventMemory.{IsRight, after}
 use Rattle.board_event_model.specs.NotifyCalls.{Notify, notify_owed, notify_turn}
 use Rattle.board_event_model.specs.WaitCalls.{Wait, wait_owed, wait_turn}
 use Rattle.board_event_core.specs.EventTable.{EventTable, changed, event_at}
+use Rattle.board_event_core.specs.Turns.{notify_went_on, wait_went_on}
 use Rattle.board_event_core.specs.declared.steps.EventStep.{EventStep}
 
 -- a notify takes the access that it owes, is answered right, and goes on by the answer
@@ -12,7 +13,7 @@ pub record IsNotifyStep (old new : EventTable) (event : ℕ) (call next : Notify
   pub right : IsSomeAnd (event_at old event) (λ e. IsRight e s.access s.answer)
   pub memory : new ≡ changed old event (λ e. after e s.access)
   pub progress : s.progress ≡ (notify_turn call call.stage s.answer).0
-  pub goes_on : next ≡ record call { stage = (notify_turn call call.stage s.answer).1 }
+  pub goes_on : next ≡ notify_went_on call s.answer
 
 -- a wait takes the access that it owes, is answered right, and goes on by the answer
 pub record IsWaitStep (old new : EventTable) (event : ℕ) (call next : Wait) (s : EventStep) : Type 0 where
@@ -20,4 +21,4 @@ pub record IsWaitStep (old new : EventTable) (event : ℕ) (call next : Wait) (s
   pub right : IsSomeAnd (event_at old event) (λ e. IsRight e s.access s.answer)
   pub memory : new ≡ changed old event (λ e. after e s.access)
   pub progress : s.progress ≡ (wait_turn call call.stage s.answer).0
-  pub goes_on : next ≡ record call { stage = (wait_turn call call.stage s.answer).1 }
+  pub goes_on : next ≡ wait_went_on call s.answer

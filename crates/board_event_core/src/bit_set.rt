@@ -1,8 +1,8 @@
 //! Ids up to a greatest one, as words of 64 bits.
-ghost use Rattle.std.specs.Prelude.{◌≡◌, ◌≤◌, ◌<◌, ◌+◌, ◌*◌, ◌/◌, ◌^◌, not, ℕ, IfOk, IsOkUnless, true, false, length};
+ghost use Rattle.std.specs.Prelude.{◌≡◌, ◌≤◌, ◌<◌, ◌+◌, ◌*◌, ◌/◌, ◌^◌, ℕ, IfOk, IsOkUnless, true, false, length};
 ghost use Rattle.std.specs.FinSet as set;
-ghost use Rattle.board_event_model.specs.Ids.{has, IsWord, in_word};
-ghost use Rattle.board_event_core.specs.IdSets.{IdSet, IsAcquired, IsCalledOnEach, IsLeastIn, with_id};
+ghost use Rattle.board_event_model.specs.Ids.{has, IsWord};
+ghost use Rattle.board_event_core.specs.IdSets.{IdSet, IsAcquired, IsCalledOnEach, IsLeastIn, with_id, without_word};
 
 use crate::id_tracker::IdTracker;
 use board_names::{ListenerCreateError, NotifierNotifyError, TriggerId};
@@ -87,7 +87,7 @@ impl BitSet {
     pub fn swap(&mut self, word: u64) -> u64
         requires { word < self.old.max / 64 + 1 }
         ensures taken { IsWord self.old.ids word result }
-        ensures left { self.new ≡ record self.old { ids = set.retain self.old.ids (λ i. not (in_word word i)) } }
+        ensures left { self.new ≡ without_word self.old word }
     {
         let bits = self.words[word as usize];
         self.words[word as usize] = 0;

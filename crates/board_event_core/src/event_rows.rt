@@ -1,9 +1,12 @@
 //! The rows of the table of events: the events by their numbers, and the held names.
 ghost use Rattle.std.specs.Prelude.{◌≡◌, ◌≢◌, ℕ, List, ◌<◌, ◌+◌, ◌-◌, ◌^◌, true, false, is_some, option_copied, IfSome, IsSome, IsSomeAnd, Some, None};
 ghost use Rattle.board_names.specs.Table.{at, without};
+ghost use Rattle.std.specs.List.Sorted.{IsStrictlySortedBy};
+ghost use Rattle.std.specs.Map.{keys_of};
+ghost use Rattle.std.specs.Ordering.{nat_cmp};
 ghost use Rattle.board_event_model.specs.declared.kind.EventKind.{EventKind as Kind};
 ghost use Rattle.board_event_model.specs.EventMemory.{Event, IsRight, after};
-ghost use Rattle.board_event_core.specs.EventTable.{AreLeft, CanPerformAt, LosesName, changed, event_at, freed, table_listened, names_of, empty_table, named_with, settled, with_gone, with_name, with_names, with_new_event, with_notifier, without_event, without_listener, without_notifier};
+ghost use Rattle.board_event_core.specs.EventTable.{AreLeft, CanPerformAt, LosesName, NamesAreLeft, NamesAscend, SettlesName, changed, event_at, freed, table_listened, names_of, empty_table, settled, with_gone, with_name, with_name_freed, with_new_event, with_notifier, without_event, without_listener, without_name, without_notifier};
 
 use crate::event_memory::EventMemory;
 use board_event_model::{EventAccess, EventAnswer, EventKind};
@@ -23,13 +26,13 @@ pub(crate) struct EventRows {
 }
 
 impl Model for EventRows {
-    ghost use Rattle.board_event_core.specs.EventTable.{EventTable, table_code};
+    ghost use Rattle.board_event_core.specs.EventTable.{EventTable, table_code, table_of};
 
     ghost Value = { EventTable };
 
     ghost coded = { table_code };
 
-    ghost view = { λ t. record { drawn = t.drawn; events = t.events.entries; bits = t.bits.entries; queues = t.queues.entries } };
+    ghost view = { λ t. table_of t.drawn t.events.entries t.bits.entries t.queues.entries };
 }
 
 impl EventRows {
@@ -61,6 +64,15 @@ impl EventRows {
             EventKind::Bits => &self.bits,
             EventKind::Queue => &self.queues,
         }
+    }
+
+    /// The numbers ascend, and so do the names of each kind.
+    pub(crate) fn ascend(&self)
+        ensures numbers { IsStrictlySortedBy nat_cmp (keys_of self.now.events) }
+        ensures bits { NamesAscend self.now.bits }
+        ensures queues { NamesAscend self.now.queues }
+    {
+        let _ = (self.events.len(), self.bits.len(), self.queues.len());
     }
 
     /// The event that stands under a number.
@@ -128,7 +140,8 @@ impl EventRows {
     pub(crate) fn remove(&mut self, kind: EventKind, name: &FilePath) -> bool
         ensures value { result ≡ is_some (at (names_of kind self.old) name.now) }
         ensures left { AreLeft self.old self.new }
-        ensures after { self.new ≡ with_names kind self.old (without (names_of kind self.old) name.now) }
+        ensures gone { at (names_of kind self.new) name.now ≡ None }
+        ensures after { self.new ≡ without_name kind self.old name.now }
     {
         match kind {
             EventKind::Bits => remove(&mut self.bits, name),
@@ -214,7 +227,7 @@ impl EventRows {
     /// Frees the name of an event that nobody holds by it.
     fn settle_name(&mut self, event: u64)
         requires { IsSome (event_at self.old event) }
-        ensures settled { IsSomeAnd (event_at self.old event) (λ e. self.new ≡ named_with self.old event e) }
+        ensures settled { SettlesName self.old self.new event }
         ensures left { AreLeft self.old self.new }
         ensures gone { IsSomeAnd (event_at self.old event) (λ e. LosesName e self.new event) }
     {
@@ -236,7 +249,7 @@ impl EventRows {
     fn free_name(&mut self, kind: EventKind, name: &FilePath, number: u64)
         ensures left { AreLeft self.old self.new }
         ensures gone { at (names_of kind self.new) name.now ≢ Some number }
-        ensures freed { self.new ≡ with_names kind self.old (freed (names_of kind self.old) name.now number) }
+        ensures freed { self.new ≡ with_name_freed kind self.old name.now number }
     {
         match kind {
             EventKind::Bits => free(&mut self.bits, name, number),
@@ -248,7 +261,7 @@ impl EventRows {
 /// Takes a name out, and tells whether it was held.
 fn remove(names: &mut Table<u64>, name: &FilePath) -> bool
     ensures value { result ≡ is_some (at names.old.entries name.now) }
-    ensures left { (q : List ℕ) (n : ℕ) → at names.new.entries q ≡ Some n → at names.old.entries q ≡ Some n }
+    ensures left { NamesAreLeft names.old.entries names.new.entries }
     ensures gone { at names.new.entries name.now ≡ None }
     ensures after { names.new.entries ≡ without names.old.entries name.now }
 {
@@ -257,7 +270,7 @@ fn remove(names: &mut Table<u64>, name: &FilePath) -> bool
 
 /// Frees a name where it stands for this number.
 fn free(names: &mut Table<u64>, name: &FilePath, number: u64)
-    ensures left { (q : List ℕ) (n : ℕ) → at names.new.entries q ≡ Some n → at names.old.entries q ≡ Some n }
+    ensures left { NamesAreLeft names.old.entries names.new.entries }
     ensures gone { at names.new.entries name.now ≢ Some number }
     ensures freed { names.new.entries ≡ freed names.old.entries name.now number }
 {

@@ -1,14 +1,14 @@
 //! Events by their numbers and names.
-ghost use Rattle.std.specs.Prelude.{◌≡◌, ◌<◌, ◌^◌, ◌↔◌, ℕ, true, is_some, IfOk, IfSome, IsSome, IsSomeAnd, IsTrue, OnOk, OnErr, Some};
+ghost use Rattle.std.specs.Prelude.{◌≡◌, ◌<◌, ◌^◌, ◌↔◌, ℕ, true, is_some, IfOk, IfSome, IsSome, IsSomeAnd, IsTrue, None, OnOk, OnErr, Some};
 ghost use Rattle.board_layout.specs.Answer.{Answers, Refuses};
-ghost use Rattle.board_names.specs.Table.{at, name_at, without};
-ghost use Rattle.board_names.specs.declared.errors.event.ListenerCreateError.TheVariants as listener_error;
+ghost use Rattle.board_names.specs.Table.{at, name_at};
+ghost use Rattle.board_names.specs.declared.errors.event.ListenerCreateError.TheVariants.{OutOfMemory};
 ghost use Rattle.board_event_model.specs.EventMemory.{Event, IsRight, after};
-ghost use Rattle.board_event_core.specs.EventTable.{CanPerformAt, HoldsName, IsEventTable, IsNotifierAnswer, NameStands, answer_to_listen, changed, event_at, table_listened, names_of, empty_table, notifier_of, settled, with_gone, with_names, with_notifier, without_listener, without_notifier};
+ghost use Rattle.board_event_core.specs.EventTable.{CanPerformAt, FreesNameOf, HoldsNameAt, IsEventTable, IsNotifierAnswer, NameStands, answer_to_listen, changed, event_at, table_listened, names_of, empty_table, notifier_of, settled, with_gone, with_notifier, without_listener, without_name, without_notifier};
 
 use crate::event_rows::EventRows;
 use board_event_model::{EventAccess, EventAnswer, EventKind};
-use board_names::{FilePath, ListenerCreateError, NotifierCreateError};
+use board_names::{FilePath, ListenerCreateError, NotifierCreateError, Table};
 use std::alloc::Global;
 use std::marker::Model;
 
@@ -17,7 +17,7 @@ const LAST_NUMBER: u64 = u64::MAX - 1;
 
 /// Events by their numbers, and the names that they hold. Clauses see a table of both.
 ///
-/// A held name has the number of an event that stands and holds it (`held_names_stand`).
+/// What holds of every table, for whoever is lent one, tells `table_stands`.
 /// One call is one step. No call but `listen` takes memory.
 #[derive(Drop)]
 pub struct Events {
@@ -25,7 +25,7 @@ pub struct Events {
 }
 
 impl Model for Events {
-    ghost use Rattle.board_event_core.specs.EventTable.{EventTable, IsEventTable, table_code};
+    ghost use Rattle.board_event_core.specs.EventTable.{EventTable, IsKept, table_code};
 
     ghost Value = { EventTable };
 
@@ -33,7 +33,7 @@ impl Model for Events {
 
     ghost view = { λ t. t.rows };
 
-    ghost invariant = { λ t. IsEventTable t.rows };
+    ghost invariant = { λ t. IsKept t.rows };
 }
 
 impl Events {
@@ -57,7 +57,7 @@ impl Events {
         name: &FilePath,
         max: u64,
     ) -> Result<u64, ListenerCreateError>
-        ensures answer { Answers result listener_error.OutOfMemory (answer_to_listen self.old kind name.now) }
+        ensures answer { Answers result OutOfMemory (answer_to_listen self.old kind name.now) }
         ensures refused { Refuses result (answer_to_listen self.old kind name.now) }
         ensures ok { OnOk result (self.new ≡ table_listened self.old kind name.now max) }
         ensures err { OnErr result (self.new ≡ self.old) }
@@ -85,9 +85,16 @@ impl Events {
     /// The number of the event that holds a name of this kind.
     fn number_of(&self, kind: EventKind, name: &FilePath) -> Option<u64>
         ensures number { result ≡ at (names_of kind self.now) name.now }
-        ensures stands { IfSome result (λ n. IsSomeAnd (event_at self.now n) (HoldsName kind name.now)) }
+        ensures stands { IfSome result (HoldsNameAt self.now kind name.now) }
     {
         self.rows.names(kind).get(name).copied()
+    }
+
+    /// The held names of this kind, in their order, each with the number of its event.
+    pub fn names(&self, kind: EventKind) -> &Table<u64>
+        ensures { result.now.entries ≡ names_of kind self.now }
+    {
+        self.rows.names(kind)
     }
 
     /// The held name of this kind at an index, counted from 0 in the order of the names.
@@ -100,7 +107,8 @@ impl Events {
     /// Lets a name of this kind go, and tells whether it was held. Its event goes on without the name.
     pub fn remove(&mut self, kind: EventKind, name: &FilePath) -> bool
         ensures value { result ≡ is_some (at (names_of kind self.old) name.now) }
-        ensures after { self.new ≡ with_names kind self.old (without (names_of kind self.old) name.now) }
+        ensures free { at (names_of kind self.new) name.now ≡ None }
+        ensures after { self.new ≡ without_name kind self.old name.now }
     {
         self.rows.remove(kind, name)
     }
@@ -141,7 +149,8 @@ impl Events {
     /// Lets the listener of an event go. A queue's name is free at once, a bits name with the last notifier; the event goes with its last holder.
     pub fn release_listener(&mut self, event: u64)
         requires { IsSomeAnd (event_at self.old event) (λ e. e.held ≡ true) }
-        ensures { self.new ≡ settled (changed self.old event without_listener) event }
+        ensures after { self.new ≡ settled (changed self.old event without_listener) event }
+        ensures free { FreesNameOf self.old self.new event without_listener }
     {
         self.rows.drop_listener(event);
         self.rows.settle(event)
@@ -150,7 +159,8 @@ impl Events {
     /// Lets a notifier of an event go. A bits name is free with the last holder, and the event goes with it.
     pub fn release_notifier(&mut self, event: u64)
         requires { IsSomeAnd (event_at self.old event) (λ e. 0 < e.notifiers) }
-        ensures { self.new ≡ settled (changed self.old event without_notifier) event }
+        ensures after { self.new ≡ settled (changed self.old event without_notifier) event }
+        ensures free { FreesNameOf self.old self.new event without_notifier }
     {
         self.rows.drop_notifier(event);
         self.rows.settle(event)
@@ -228,9 +238,10 @@ impl Events {
     }
 }
 
-/// A held name has the number of an event that stands, is of its kind and holds it; no event has a number above the last one drawn.
-pub fn held_names_stand(events: &Events)
+/// What holds of every table of events: numbers and names ascend and stand once, a held name leads to the event that holds
+/// it, and the ids of each event are as they may be.
+pub fn table_stands(events: &Events)
     ensures { IsEventTable events.now }
 {
-    let _rows = &events.rows;
+    events.rows.ascend();
 }

@@ -1,6 +1,7 @@
 //! What keeps ids until a listener takes them.
 ghost use Rattle.std.specs.Prelude.{◌≡◌, ◌<◌, ◌↔◌, IsErrOf, OnOk, OnErr, IsOkUnless};
 ghost use Rattle.std.specs.FinSet as set;
+ghost use Rattle.board_names.specs.declared.errors.event.NotifierNotifyError.TheVariants.{TriggerIdOutOfBounds};
 ghost use Rattle.board_event_core.specs.IdSets.{IdSet, IsAcquired, IsCalledOnEach, with_id};
 
 use board_names::{NotifierNotifyError, TriggerId};
@@ -18,8 +19,8 @@ pub trait IdTracker {
     /// # Errors
     /// `TriggerIdOutOfBounds` where it is above the greatest.
     fn add(&mut self, id: TriggerId) -> Result<(), NotifierNotifyError>
-        ensures out { IsErrOf result NotifierNotifyError.TriggerIdOutOfBounds ↔ ((set_of self.old).max < id) }
-        ensures only { IsOkUnless result NotifierNotifyError.TriggerIdOutOfBounds }
+        ensures out { IsErrOf result TriggerIdOutOfBounds ↔ ((set_of self.old).max < id) }
+        ensures only { IsOkUnless result TriggerIdOutOfBounds }
         ensures ok { OnOk result (set_of self.new ≡ with_id (set_of self.old) id) }
         ensures err { OnErr result (set_of self.new ≡ set_of self.old) };
 

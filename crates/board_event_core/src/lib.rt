@@ -3,7 +3,7 @@
 //! `BitSet` and `Semaphore` hold ids and signals. `NotifyCall` and `WaitCall` are the calls as step machines, whose
 //! model is the definitions' own record; `notify_step` and `wait_step` drive them by one access. `Events` is the table:
 //! events by number, and for each kind the held names with the number of the event that holds each. `specs/EventTable`
-//! says what each call on the table answers and leaves, and in `IsEventTable` what holds of every table.
+//! says what each call on the table answers and leaves, and in `IsEventTable` what holds of every table, which `table_stands` tells of any.
 #![tactic(auto)]
 
 mod bit_set;
@@ -26,7 +26,7 @@ pub use board_names::{
     TriggerId,
 };
 pub use event_memory::QUEUE_CAPACITY;
-pub use events::{Events, held_names_stand};
+pub use events::{Events, table_stands};
 pub use id_tracker::IdTracker;
 pub use notify_call::NotifyCall;
 pub use semaphore::Semaphore;

@@ -1,6 +1,7 @@
 //! A notify as a step machine.
 ghost use Rattle.std.specs.Prelude.{◌≡◌, ◌≢◌, IsTrue, ◌↔◌};
 ghost use Rattle.board_event_model.specs.NotifyCalls.{notify_bits, notify_owed, notify_queue, notify_turn, pushed};
+ghost use Rattle.board_event_core.specs.Turns.{notify_went_on};
 
 use board_event_model::{EventAccess, EventAnswer, EventProgress, NotifyStage};
 use board_names::NotifierNotifyError;
@@ -70,7 +71,7 @@ impl NotifyCall {
     pub fn took(&mut self, answer: EventAnswer) -> EventProgress
         requires { self.old.stage ≢ NotifyStage.Finished }
         ensures progress { result ≡ (notify_turn self.old self.old.stage answer).0 }
-        ensures after { self.new ≡ record self.old { stage = (notify_turn self.old self.old.stage answer).1 } }
+        ensures after { self.new ≡ notify_went_on self.old answer }
     {
         let (progress, stage) = self.turn(answer);
         self.stage = stage;

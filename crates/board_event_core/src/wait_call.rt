@@ -2,6 +2,7 @@
 ghost use Rattle.std.specs.Prelude.{◌≡◌, ◌≢◌, ◌≤◌, ◌<◌, ◌^◌, IsTrue, ◌↔◌};
 ghost use Rattle.board_event_model.specs.NotifyCalls.{is_yes};
 ghost use Rattle.board_event_model.specs.WaitCalls.{word_in, wait_bits, wait_queue, wait_owed, wait_turn, nothing, scanned, swapped, popped, least_id, first_word};
+ghost use Rattle.board_event_core.specs.Turns.{wait_went_on};
 
 use board_event_model::{EventAccess, EventAnswer, EventProgress, WaitMode, WaitStage};
 use std::marker::Model;
@@ -17,13 +18,13 @@ pub struct WaitCall {
 
 impl Model for WaitCall {
     ghost use Rattle.board_event_model.specs.WaitCalls.{Wait};
-    ghost use Rattle.board_event_core.specs.Waits.{IsWait};
+    ghost use Rattle.board_event_core.specs.Waits.{IsWait, wait_of};
 
     ghost Value = { Wait };
 
-    ghost view = { λ c. record { words = c.words; many = c.many; mode = c.mode; stage = c.stage } };
+    ghost view = { λ c. wait_of c.words c.many c.mode c.stage };
 
-    ghost invariant = { λ c. IsWait (record { words = c.words; many = c.many; mode = c.mode; stage = c.stage }) };
+    ghost invariant = { λ c. IsWait (wait_of c.words c.many c.mode c.stage) };
 }
 
 impl WaitCall {
@@ -94,7 +95,7 @@ impl WaitCall {
     pub fn took(&mut self, answer: EventAnswer) -> EventProgress
         requires { self.old.stage ≢ WaitStage.Finished }
         ensures progress { result ≡ (wait_turn self.old self.old.stage answer).0 }
-        ensures after { self.new ≡ record self.old { stage = (wait_turn self.old self.old.stage answer).1 } }
+        ensures after { self.new ≡ wait_went_on self.old answer }
     {
         let (progress, stage) = self.turn(answer);
         self.stage = stage;

@@ -2,7 +2,7 @@
 use super::{Deed, Told, deeds_are, full_name, notify_is, tell, wait_is};
 use crate::{
     EventAccess as A, EventAnswer as B, EventKind, EventProgress as P, Events, ListenerCreateError,
-    NotifierCreateError, NotifierNotifyError, NotifyCall, WaitCall, WaitMode, held_names_stand,
+    NotifierCreateError, NotifierNotifyError, NotifyCall, WaitCall, WaitMode, table_stands,
 };
 use std::process::Abort;
 
@@ -59,7 +59,7 @@ fn names_are_listed_in_order(rt: HostRuntime) {
     let mut events = Events::new(rt.alloc());
     assert_eq!(rt; events.listen(EventKind::Queue, &b, 0), Ok(1));
     assert_eq!(rt; events.listen(EventKind::Queue, &a, 0), Ok(2));
-    held_names_stand(&events);
+    table_stands(&events);
     assert_eq!(rt; events.name_at(EventKind::Queue, 0), Some(a));
     assert_eq!(rt; events.name_at(EventKind::Queue, 1), Some(b));
     assert_eq!(rt; events.name_at(EventKind::Queue, 2), None);

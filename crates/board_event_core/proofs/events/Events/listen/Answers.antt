@@ -1,10 +1,10 @@
 use Rattle.std.specs.Prelude.{◌≡◌, ℕ, Option, Some, None, IsSome, refl}
-use Rattle.board_event_core.specs.EventTable.{EventTable, IsEventTable}
+use Rattle.board_event_core.specs.EventTable.{EventTable, IsKept}
 use Rattle.board_event_core.proofs.StandingLemmas.{kept_listened}
 use Rattle.board_event_core.proofs.events.Events.listen.Goals as goal
 
 -- an event more, or the table as it was
-added_or_not : (t u v : EventTable) (made : Option ℕ) → IsEventTable t → IsEventTable v → (IsSome made → u ≡ v) → (made ≡ None → u ≡ t) → IsEventTable u
+added_or_not : (t u v : EventTable) (made : Option ℕ) → IsKept t → IsKept v → (IsSome made → u ≡ v) → (made ≡ None → u ≡ t) → IsKept u
 added_or_not t u v (Some n) before after added none = rw (added refl) after
 added_or_not t u v None before after added none = rw (none refl) before
 

@@ -37,7 +37,7 @@ returns-in-Listener c =
     let is : c.take_thing-row.result.role ≡ role.Listener = search rules in
     λ x count few sound rep. record {
       held = subst (λ (rows : List EventRow). Holds c.release_listener.new.self rows (event_let_go x party name (x.things party name))) (sym c.take_thing-row.ensures.left)
-          (listener_let_go m.events m.things.items x count sound rep.held party name c.take_thing-row.result c.take_thing-row.ensures.one c.release_listener.new.self is c.release_listener.ensures);
+          (listener_let_go m.events m.things.items x count sound rep.held party name c.take_thing-row.result c.take_thing-row.ensures.one c.release_listener.new.self is c.release_listener.ensures.after);
       calls = same_calls x party name m.calls.items rep.calls;
     }
 
@@ -49,6 +49,6 @@ returns-in-Notifier c =
     let is : c.take_thing-row.result.role ≡ role.Notifier = search rules in
     λ x count few sound rep. record {
       held = subst (λ (rows : List EventRow). Holds c.release_notifier.new.self rows (event_let_go x party name (x.things party name))) (sym c.take_thing-row.ensures.left)
-          (notifier_let_go m.events m.things.items x count sound rep.held party name c.take_thing-row.result c.take_thing-row.ensures.one c.release_notifier.new.self is c.release_notifier.ensures);
+          (notifier_let_go m.events m.things.items x count sound rep.held party name c.take_thing-row.result c.take_thing-row.ensures.one c.release_notifier.new.self is c.release_notifier.ensures.after);
       calls = same_calls x party name m.calls.items rep.calls;
     }
