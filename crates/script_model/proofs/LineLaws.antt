@@ -13,19 +13,18 @@ use Rattle.board_model.specs.declared.line.Line.TheVariants as board_line
 use Rattle.board_model.specs.LawfulSession as boards
 use Rattle.board_model.specs.LawsOfOthers.{IsLeft}
 use Rattle.board_model.specs.Parties.{Party, free, gone, running}
-use Rattle.board_model.specs.Sound.{Sound}
 use Rattle.board_model.proofs.GrowthLemmas.{line_growth}
 use Rattle.board_model.proofs.OtherLemmas.{left_same, line_left}
 use Rattle.script_model.specs.declared.line.EventRequest.{EventRequest}
 use Rattle.script_model.specs.declared.line.ScriptLine.{ScriptLine}
 use Rattle.script_model.specs.declared.line.ScriptLine.TheVariants as line
 use Rattle.script_model.specs.ScriptAnswers.{ScriptAnswer, expired, of_ask, of_boards, of_event}
-use Rattle.script_model.specs.ScriptEvents.{EventAsk, EventTask, EventThing, IsEventAccess, IsStepOf, ScriptEvents, act, ask, ask_made, ask_told, event_let_go, event_number, events_abandoned, let_go_from, listener, name_made, notifier, notifier_more, opened, opened_with, runs_on_events, step_made, task_of, to_listen, to_notify, with_listener}
-use Rattle.script_model.specs.ScriptTurns.{EventTurn, IsTurnAnswer, ScriptState, begin_turn, begins, drop_turn, drops, expire_of_call, expire_turn, expires, free_turn, is_name_taken, may_expire, refused, request_turn, steps, task_begun, task_turn, turn_of, turned}
-use Rattle.script_model.specs.ScriptSession.{IsRight, Session, after, after_boards, after_turn, start, state_after}
+use Rattle.script_model.specs.ScriptEvents.{EventAsk, EventTask, EventThing, IsEventAccess, IsStepOf, ScriptEvents, act, ask, ask_made, event_let_go, event_number, events_abandoned, let_go_from, listener, name_made, notifier, notifier_more, opened, opened_with, runs_on_events, step_made, task_of, to_listen, to_notify, with_listener}
+use Rattle.script_model.specs.ScriptTurns.{EventTurn, IsTurnAnswer, ScriptState, begin_turn, begins, drop_turn, drops, expire_of_call, expire_turn, expires, free_turn, is_name_taken, may_expire, refused, steps, task_begun, task_turn, turn_of, turned}
+use Rattle.script_model.specs.ScriptSession.{IsRight, Session, after, after_boards, after_turn, start}
 use Rattle.script_model.specs.LawsOfRules.{IsRuled}
-use Rattle.script_model.specs.LawsOfComposition.{Pair, of_pair, state_met}
-use Rattle.script_model.specs.LawsOfLines.{ArePairsOfBoards, BoardStepsAreAlone, IsLeftAlone, LinesLeaveParties, LinesLengthenLists, PairsAreOfBoards, PartsJoin, ScriptPairs, at_one, at_two, names, publishes}
+use Rattle.script_model.specs.LawsOfComposition.{of_pair}
+use Rattle.script_model.specs.LawsOfLines.{BoardStepsAreAlone, IsLeftAlone, LinesLeaveParties, LinesLengthenLists, PairsAreOfBoards, PartsJoin, at_one, at_two, names, publishes}
 use Rattle.script_model.specs.Parts.{board_part, part_of}
 use Rattle.script_model.proofs.CompositionLemmas.{alone_step, lawful_split, part_append}
 use Rattle.script_model.proofs.PartLemmas.{board_part_leads, boards_law_holds}

@@ -1,10 +1,9 @@
 -- Laws for programs that stand on scripts: what a line leaves of other parties, where it lengthens a list, and how the laws of boards are used.
-use Rattle.std.specs.Prelude.{◌≡◌, ℕ, ◌≤◌, Bool, false, if◌then◌else◌, List, [], ◌∷◌, ◌++◌, length, Option, None}
+use Rattle.std.specs.Prelude.{◌≡◌, ℕ, ◌≤◌, Bool, false, if◌then◌else◌, List, [], ◌∷◌, ◌++◌, length, None}
 use Rattle.std.specs.Str.{bytes_eq}
 use Rattle.board_model.specs.declared.answer.Answer.{Answer}
 use Rattle.board_model.specs.declared.line.Line.{Line}
 use Rattle.board_model.specs.declared.line.Line.TheVariants as board_line
-use Rattle.board_model.specs.LawfulSession as boards
 use Rattle.board_model.specs.LawsOfOthers.{IsLeft, names_party}
 use Rattle.board_model.specs.LawsOfSessions.{Pairs, publishes_entry}
 use Rattle.board_model.specs.LawsOfSessions as board_pairs
@@ -14,7 +13,7 @@ use Rattle.script_model.specs.declared.line.ScriptLine.{ScriptLine}
 use Rattle.script_model.specs.declared.line.ScriptLine.TheVariants as line
 use Rattle.script_model.specs.ScriptAnswers.{ScriptAnswer, of_boards}
 use Rattle.script_model.specs.ScriptTurns.{ScriptState, turn_of}
-use Rattle.script_model.specs.ScriptSession.{IsLawful, IsRight, Session, after, start, state_after}
+use Rattle.script_model.specs.ScriptSession.{IsLawful, IsRight, Session, after, state_after}
 use Rattle.script_model.specs.SoundEvents.{IsSoundScript}
 use Rattle.script_model.specs.Parts.{board_part}
 use Rattle.script_model.specs.LawsOfComposition.{of_pair, state_met}
