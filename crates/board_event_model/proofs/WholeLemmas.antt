@@ -18,7 +18,7 @@ use Rattle.board_event_model.specs.NotifyCalls.{Notify, is_yes, notify_owed}
 use Rattle.board_event_model.specs.WaitCalls.{Wait, first_word, swapped, wait_bits, wait_owed, wait_turn, word_in}
 use Rattle.board_event_model.specs.EventCalls.{EventCall, a_notify, a_wait, is_last, is_timed, owed, reported, turn, MetAccess, PartyName, RunningCall, call_of, new_call, went_on}
 use Rattle.board_event_model.specs.EventRuns.{EventMove, IsAllowed, IsCallOf, IsReached, IsRun, Moment, abandon, begin, elsewhere, expire, listened, moved, notifiers, put, release_listener, run_to, step, stepped}
-use Rattle.board_event_model.specs.LawsOfCalls.{AllLaw, ExpireLaw, FoundListEmpty, MetNonePending, first_step, taken_by}
+use Rattle.board_event_model.specs.LawsOfCalls.{AllLaw, ExpireLaw, MetNonePending, first_step, taken_by}
 use Rattle.board_event_model.proofs.SetLemmas.{or_split, or_left, or_right, either, has_kept, has_retain, is_false}
 use Rattle.board_event_model.proofs.QuietLemmas.{eqb_true, eqb_self, StageFits}
 use Rattle.board_event_model.proofs.SoundLemmas.{put_each, some_same, none_some, Sound, sound_reached, sound_run, sound_start, run_kind, CallFits}

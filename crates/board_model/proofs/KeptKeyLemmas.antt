@@ -43,7 +43,7 @@ text_front (b ∷ text) m h =
     let z : (b == 0) ≡ false = ne_eqb b 0 (λ e. absurd (omega arith)) in
     ap (λ (y : Bool). cond y [] (b ∷ up_to_zero (text ++ replicate m 0))) z ∙ ap (λ (t : List ℕ). b ∷ t) (text_front text m p.1)
 
-visible_bytes : (most : ℕ) (text : List ℕ) → is_visible most text ≡ true → list_all is_visible_byte text ≡ true
+pub visible_bytes : (most : ℕ) (text : List ℕ) → is_visible most text ≡ true → list_all is_visible_byte text ≡ true
 visible_bytes most text h = (and_parts (not (length text == 0) && nat_le (length text) most) (list_all is_visible_byte text) h).1
 
 -- a key is told as it was added

@@ -1,5 +1,5 @@
 -- Nodes ascend, ports are counted once, and keys are told in the order of adding.
-use Rattle.std.proofs.Common.{◌≡◌, ℕ, ◌+◌, Bool, true, false, cond, List, [], ◌∷◌, length, map, arith, refl, sym, ap, subst, ◌∙◌, Option, Some, None}
+use Rattle.std.proofs.Common.{◌≡◌, ℕ, ◌+◌, Bool, true, false, List, [], ◌∷◌, length, map, arith, refl, sym, ap, ◌∙◌, Option, Some, None}
 use Rattle.std.specs.Prelude.{◌&&◌, ◌||◌, ◌==◌, not, if◌then◌else◌}
 use Rattle.std.specs.List.{AllByRecursion, list_any}
 use Rattle.std.specs.Str.{bytes_eq}
@@ -15,11 +15,11 @@ use Rattle.board_layout.specs.Layout.{cell_bytes, places_from, start_of}
 use Rattle.board_model.specs.declared.value.AddedEntry.{AddedEntry}
 use Rattle.board_model.specs.declared.value.Key.{Key}
 use Rattle.board_model.specs.declared.value.KeyType.{KeyType}
-use Rattle.board_model.specs.TypeTable.{key_bytes, key_of, type_of_key}
+use Rattle.board_model.specs.TypeTable.{key_bytes, key_of}
 use Rattle.board_model.specs.Tables.{entries_of, holds_at, is_node, is_of_board, is_of_port, nodes_taken, shape_of, shapes_of, writer_port, writer_slots}
 use Rattle.board_model.specs.Things.{Held}
 use Rattle.board_model.specs.Replies.{added_of, is_before, keys_of, nodes_of, placed_once}
-use Rattle.board_model.specs.LawsOfListings.{AllDiffer, AreWriterPorts, Ascend, IsKeyOf, KeysAreToldInOrder, NodesAscend, PortsAreCountedOnce}
+use Rattle.board_model.specs.LawsOfListings.{AllDiffer, Ascend, IsKeyOf, KeysAreToldInOrder, NodesAscend, PortsAreCountedOnce}
 use Rattle.board_model.proofs.FormLemmas.{detail_again}
 use Rattle.board_model.proofs.KeptKeyLemmas.{told_as_added}
 use Rattle.board_model.proofs.ListLemmas.{other_bytes, same_bytes}

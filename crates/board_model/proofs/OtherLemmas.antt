@@ -1,12 +1,10 @@
 -- What a line leaves of the parties that it doesn't name.
-use Rattle.std.proofs.Common.{◌≡◌, ℕ, ◌+◌, false, List, [], ◌∷◌, ◌++◌, map, refl, ap, ◌∙◌, Option, Some, None}
+use Rattle.std.proofs.Common.{◌≡◌, ℕ, ◌+◌, List, [], ◌∷◌, ◌++◌, map, refl, ap, ◌∙◌, Option, Some, None}
 use Rattle.std.specs.Str.{bytes_eq}
 use Rattle.board_cell_model.specs.declared.access.Access.{Access}
 use Rattle.board_cell_model.specs.declared.access.Access.TheVariants as access
-use Rattle.board_model.specs.declared.answer.Answer.{Answer}
 use Rattle.board_model.specs.declared.answer.Answer.TheVariants as answer
 use Rattle.board_model.specs.declared.answer.Reply.{Reply}
-use Rattle.board_model.specs.declared.line.Line.{Line}
 use Rattle.board_model.specs.declared.line.Line.TheVariants as line
 use Rattle.board_model.specs.declared.tables.ThingKind.{ThingKind}
 use Rattle.board_model.specs.TypeTable.{key_detail, same_key, value_detail}
@@ -18,7 +16,7 @@ use Rattle.board_model.specs.Replies.{added_of, ask, ask_tables, keeps_key, late
 use Rattle.board_model.specs.Parties.{Party, Running, begun, count_write, free, gone, notice, running, with_party}
 use Rattle.board_model.specs.LawfulSession.{State, after, after_step}
 use Rattle.board_model.specs.Sound.{BoardTables, IsCalling, IsHeldThing, IsTableCall, Sound}
-use Rattle.board_model.specs.LawsOfOthers.{HoldsTheSame, IsLeft, LinesLeaveOthers, names_party}
+use Rattle.board_model.specs.LawsOfOthers.{HoldsTheSame, IsLeft, LinesLeaveOthers}
 use Rattle.board_model.proofs.ListLemmas.{other_bytes}
 use Rattle.board_model.proofs.ThingLemmas.{anew_found_other, different_bytes, find_push_other, found_as, held_by_other}
 use Rattle.board_model.proofs.DropLemmas.{others_found}

@@ -32,7 +32,7 @@ lawful_split (x ∷ xs) ys s h =
     let k = lawful_split xs ys (after s x.0 x.1) h.1 in
     ((h.0, k.0), k.1)
 
-state_append : (xs ys : Session) (s : State) → state_after s (xs ++ ys) ≡ state_after (state_after s xs) ys
+pub state_append : (xs ys : Session) (s : State) → state_after s (xs ++ ys) ≡ state_after (state_after s xs) ys
 state_append [] ys s = refl
 state_append (x ∷ xs) ys s = state_append xs ys (after s x.0 x.1)
 

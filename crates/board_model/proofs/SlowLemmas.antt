@@ -13,7 +13,7 @@ use Rattle.board_model.specs.declared.answer.Answer.{Answer}
 use Rattle.board_model.specs.declared.line.Line.{Line}
 use Rattle.board_model.specs.Requests.{Fetch, Request, fill, fresh, get, publish, put, request_of, table, update}
 use Rattle.board_model.specs.Parties.{Party, Running, begun, free, gone, is_done, notice, owed, reading, running, with_party}
-use Rattle.board_model.specs.LawfulSession.{IsLawfulFrom, IsRight, Session, State, after, start, state_after, stepped}
+use Rattle.board_model.specs.LawfulSession.{IsLawfulFrom, IsRight, Session, State, after, start, state_after}
 use Rattle.board_model.specs.Sound.{IsCell, IsReading, Sound}
 use Rattle.board_model.specs.LawsOfCounts.{FirstCountersAreLengths, GetsAreShortByGrowth, first_counter}
 use Rattle.board_model.proofs.GetLemmas.{IsRead, is_counter, reading_push}

@@ -56,11 +56,11 @@ step_part s c pair x party r rest sound is by runs =
     ap (λ (p : Pair). part_of (turn_of s p.0) p.0 p.1 ++ board_part (after s pair.0 pair.1) rest) is ∙ ap (λ (zs : boards.Session). zs ++ board_part (after s pair.0 pair.1) rest) part
 
 -- a session that goes on past a pair
-record GoesPast (xs : Session) (x : Pair) (zs : Session) : Type 0 where
-  rest : Session
-  is : zs ≡ xs ++ x ∷ rest
+pub record GoesPast (xs : Session) (x : Pair) (zs : Session) : Type 0 where
+  pub rest : Session
+  pub is : zs ≡ xs ++ x ∷ rest
 
-past_more : (xs : Session) (x : Pair) (zs ys : Session) → GoesPast xs x zs → GoesPast xs x (zs ++ ys)
+pub past_more : (xs : Session) (x : Pair) (zs ys : Session) → GoesPast xs x zs → GoesPast xs x (zs ++ ys)
 past_more xs x zs ys h = record { rest = h.rest ++ ys; is = ap (λ (w : Session). w ++ ys) h.is ∙ append_assoc xs (x ∷ h.rest) ys }
 
 -- ---- no get of a script is stale

@@ -1,5 +1,5 @@
 -- What a line leaves of other parties, where it lengthens a list, and two pairs of boards in a script.
-use Rattle.std.proofs.Common.{◌≡◌, ℕ, ◌≤◌, Bool, true, false, List, [], ◌∷◌, ◌++◌, length, refl, sym, ap, subst, ◌∙◌, append_assoc, Option, Some, None}
+use Rattle.std.proofs.Common.{◌≡◌, ℕ, ◌≤◌, Bool, true, false, List, [], ◌∷◌, ◌++◌, length, refl, sym, ap, subst, ◌∙◌, append_assoc, Option, Some, None, ◌+◌, arith, length-append}
 use Rattle.std.specs.Prelude.{if◌then◌else◌, is_some, IsSomeAnd}
 use Rattle.std.specs.Str.{bytes_eq}
 use Rattle.std.proofs.lemmas.Bool.{false≢true}
@@ -13,19 +13,18 @@ use Rattle.board_model.specs.declared.line.Line.TheVariants as board_line
 use Rattle.board_model.specs.LawfulSession as boards
 use Rattle.board_model.specs.LawsOfOthers.{IsLeft}
 use Rattle.board_model.specs.Parties.{Party, free, gone, running}
-use Rattle.board_model.specs.Sound.{Sound}
 use Rattle.board_model.proofs.GrowthLemmas.{line_growth}
 use Rattle.board_model.proofs.OtherLemmas.{left_same, line_left}
 use Rattle.script_model.specs.declared.line.EventRequest.{EventRequest}
 use Rattle.script_model.specs.declared.line.ScriptLine.{ScriptLine}
 use Rattle.script_model.specs.declared.line.ScriptLine.TheVariants as line
 use Rattle.script_model.specs.ScriptAnswers.{ScriptAnswer, expired, of_ask, of_boards, of_event}
-use Rattle.script_model.specs.ScriptEvents.{EventAsk, EventTask, EventThing, IsEventAccess, IsStepOf, ScriptEvents, act, ask, ask_made, ask_told, event_let_go, event_number, events_abandoned, let_go_from, listener, name_made, notifier, notifier_more, opened, opened_with, runs_on_events, step_made, task_of, to_listen, to_notify, with_listener}
-use Rattle.script_model.specs.ScriptTurns.{EventTurn, IsTurnAnswer, ScriptState, begin_turn, begins, drop_turn, drops, expire_of_call, expire_turn, expires, free_turn, is_name_taken, may_expire, refused, request_turn, steps, task_begun, task_turn, turn_of, turned}
-use Rattle.script_model.specs.ScriptSession.{IsRight, Session, after, after_boards, after_turn, start, state_after}
+use Rattle.script_model.specs.ScriptEvents.{EventAsk, EventTask, EventThing, IsEventAccess, IsStepOf, ScriptEvents, act, ask, ask_made, event_let_go, event_number, events_abandoned, let_go_from, listener, name_made, notifier, notifier_more, opened, opened_with, runs_on_events, step_made, task_of, to_listen, to_notify, with_listener}
+use Rattle.script_model.specs.ScriptTurns.{EventTurn, IsTurnAnswer, ScriptState, begin_turn, begins, drop_turn, drops, expire_of_call, expire_turn, expires, free_turn, is_name_taken, may_expire, refused, steps, task_begun, task_turn, turn_of, turned}
+use Rattle.script_model.specs.ScriptSession.{IsRight, Session, after, after_boards, after_turn, start, IsLawfulFrom, state_after}
 use Rattle.script_model.specs.LawsOfRules.{IsRuled}
-use Rattle.script_model.specs.LawsOfComposition.{Pair, of_pair, state_met}
-use Rattle.script_model.specs.LawsOfLines.{ArePairsOfBoards, BoardStepsAreAlone, IsLeftAlone, LinesLeaveParties, LinesLengthenLists, PairsAreOfBoards, PartsJoin, ScriptPairs, at_one, at_two, names, publishes}
+use Rattle.script_model.specs.LawsOfComposition.{of_pair}
+use Rattle.script_model.specs.LawsOfLines.{BoardStepsAreAlone, IsLeftAlone, LinesLeaveParties, LinesLengthenLists, PairsAreOfBoards, PartsJoin, at_one, at_two, names, publishes, SessionsLengthenLists, publications}
 use Rattle.script_model.specs.Parts.{board_part, part_of}
 use Rattle.script_model.proofs.CompositionLemmas.{alone_step, lawful_split, part_append}
 use Rattle.script_model.proofs.PartLemmas.{board_part_leads, boards_law_holds}
@@ -185,6 +184,7 @@ lines_leave s l a party sound ok off = at l a (turn_of s l) (other_turn s l part
 -- ---- published lists
 
 record Longer (s : ScriptState) (new : ScriptState) (b i n : ℕ) : Type 0 where
+  drawn : s.boards.standing.tables.last_board ≤ new.boards.standing.tables.last_board
   more : List (List ℕ)
   list : new.boards.published b i ≡ s.boards.published b i ++ more
   count : length more ≡ n
@@ -237,16 +237,31 @@ longer : (s : ScriptState) (l : ScriptLine) (a : ScriptAnswer) (b i : ℕ) → b
 longer s l a b i le ok = at l a (turn_of s l) (turn_publishes s l a b i) (ruled s l a ok)
   where
     at : (l : ScriptLine) (a : ScriptAnswer) (o : Option EventTurn) → ((t : EventTurn) → o ≡ Some t → IsTurnAnswer s.events t a → publishes s l a b i ≡ false) → IsRuled s l a o → Longer s (after_turn s l a o) b i (counted (publishes s l a b i))
-    at l a (Some t) none r = record { more = []; list = sym (append-nil (s.boards.published b i)); count = ap counted (sym (none t refl r)) }
+    at l a (Some t) none r = record { drawn = omega arith; more = []; list = sym (append-nil (s.boards.published b i)); count = ap counted (sym (none t refl r)) }
     at (line.Board l) a None none r =
         subst (λ (x : ScriptAnswer). Longer s (after_turn s (line.Board l) x None) b i (counted (publishes s (line.Board l) x b i))) (sym r.is) (
         let g = line_growth s.boards l r.answer b i le r.right in
-        record { more = g.more; list = g.list; count = g.count })
+        record { drawn = g.drawn; more = g.more; list = g.list; count = g.count })
     at (line.Event p q) a None none r = absurd r
     at (line.Expire p) a None none r = absurd r
 
 pub lines_lengthen : LinesLengthenLists
 lines_lengthen s l a b i le ok = let k = longer s l a b i le ok in (k.more, k.list, k.count)
+
+session_longer : (pairs : Session) (s : ScriptState) (b i : ℕ) → b ≤ s.boards.standing.tables.last_board → IsLawfulFrom s pairs → Longer s (state_after s pairs) b i (publications s pairs b i)
+session_longer [] s b i le ok = record { drawn = omega arith; more = []; list = sym (append-nil (s.boards.published b i)); count = refl }
+session_longer (x ∷ xs) s b i le ok =
+    let one = longer s x.0 x.1 b i le ok.0 in
+    let rest = session_longer xs (after s x.0 x.1) b i (omega (arith, one.drawn)) ok.1 in
+    record {
+      drawn = omega (arith, one.drawn, rest.drawn);
+      more = one.more ++ rest.more;
+      list = rest.list ∙ ap (λ (l : List (List ℕ)). l ++ rest.more) one.list ∙ append_assoc (s.boards.published b i) one.more rest.more;
+      count = length-append one.more rest.more ∙ ap (λ (n : ℕ). n + length rest.more) one.count ∙ ap (λ (n : ℕ). counted (publishes s x.0 x.1 b i) + n) rest.count;
+    }
+
+pub sessions_lengthen : SessionsLengthenLists
+sessions_lengthen s pairs b i le ok = let k = session_longer pairs s b i le ok in (k.more, k.list, k.count)
 
 -- ---- sessions of boards in a script
 

@@ -2,7 +2,6 @@
 use Rattle.std.proofs.Common.{◌≡◌, ℕ, zero, suc, ◌+◌, ◌-◌, ◌*◌, ◌/◌, ◌<◌, ◌≤◌, ◌^◌, Bool, true, false, List, [], ◌∷◌, ◌++◌, drop, length, arith, sym, ap, subst, Option, Some, None}
 use Rattle.std.specs.Prelude.{if◌then◌else◌, ◌==◌, ◌&&◌, ◌||◌, not, nat_lt}
 use Rattle.std.specs.Int.{bit_at}
-use Rattle.std.specs.List.{AllByRecursion}
 use Rattle.std.specs.Str.{bytes_eq}
 use Rattle.board_event_model.specs.declared.access.EventAccess.{EventAccess}
 use Rattle.board_event_model.specs.declared.access.EventAccess.TheVariants as access
@@ -20,9 +19,9 @@ use Rattle.board_names.specs.declared.errors.event.NotifierNotifyError.TheVarian
 use Rattle.board_event_model.specs.NotifyCalls.{Notify, is_yes, notify_owed, notify_turn, pushed}
 use Rattle.board_event_model.specs.WaitCalls.{Wait, is_try, nothing, popped, scanned, swapped, wait_owed, wait_turn, word_in}
 use Rattle.board_event_model.specs.EventCalls.{EventCall, RunningCall, a_notify, a_wait, call_of, is_last, is_waiting, owed, reported, turn, went_on}
-use Rattle.board_event_model.specs.EventSessions.{EventSession, PartyCall, StandingEvent, change_at, do_at, doing_on}
+use Rattle.board_event_model.specs.EventSessions.{PartyCall, StandingEvent, change_at, do_at, doing_on}
 use Rattle.board_model.specs.LineGrammar.{IsNumber}
-use Rattle.script_model.specs.SoundEvents.{AreNumbered, AreNumbers, IsNumbered, IsNumberedCall}
+use Rattle.script_model.specs.SoundEvents.{AreNumbers, IsNumbered, IsNumberedCall}
 use Rattle.script_model.proofs.EachLemmas.{each_was, one_changed}
 
 pub numbers_both : (xs ys : List ℕ) → AreNumbers xs → AreNumbers ys → AreNumbers (xs ++ ys)

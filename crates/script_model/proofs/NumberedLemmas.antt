@@ -1,18 +1,13 @@
 -- Each line keeps that the ids in queues and those of running calls are numbers.
-use Rattle.std.proofs.Common.{◌≡◌, ℕ, ◌+◌, ◌-◌, ◌<◌, ◌≤◌, ◌^◌, Bool, true, false, List, [], ◌∷◌, length, arith, refl, sym, subst, Option, Some, None}
-use Rattle.std.specs.Prelude.{if◌then◌else◌, ◌==◌, ◌||◌, not, nat_lt, IfSome, IsSomeAnd, is_some}
-use Rattle.board_event_model.specs.declared.access.EventAccess.{EventAccess}
-use Rattle.board_event_model.specs.declared.access.EventAccess.TheVariants as access
+use Rattle.std.proofs.Common.{◌≡◌, ℕ, ◌+◌, ◌-◌, ◌<◌, ◌≤◌, ◌^◌, Bool, true, false, List, refl, sym, subst, Option, Some, None}
+use Rattle.std.specs.Prelude.{if◌then◌else◌, ◌==◌, IsSomeAnd, is_some}
 use Rattle.board_event_model.specs.declared.access.EventAnswer.{EventAnswer}
-use Rattle.board_event_model.specs.declared.access.EventAnswer.TheVariants as event_answer
-use Rattle.board_event_model.specs.declared.call.EventProgress.{EventProgress}
-use Rattle.board_event_model.specs.declared.call.EventProgress.TheVariants as progress
 use Rattle.board_event_model.specs.declared.kind.EventKind.{EventKind}
 use Rattle.board_event_model.specs.Ids.{has}
 use Rattle.board_event_model.specs.EventMemory as memory
-use Rattle.board_event_model.specs.EventMemory.{CanPerform, Event, is_bits, kind_of_access, pop_answer, push_answer, yes_or_no}
+use Rattle.board_event_model.specs.EventMemory.{CanPerform, Event, is_bits}
 use Rattle.board_event_model.specs.NotifyCalls.{notify_bits, notify_queue}
-use Rattle.board_event_model.specs.EventCalls.{EventCall, RunningCall, a_notify, call_of, is_last, owed, reported, turn, went_on}
+use Rattle.board_event_model.specs.EventCalls.{EventCall, a_notify, call_of, owed, turn, went_on}
 use Rattle.board_event_model.specs.EventSessions.{EventSession, PartyCall, StandingEvent, abandon_of, begin_on, doing_on, event_of, expire_of, gone_with, listen, next_session, notifiers_of, release_of, step_of, stepped_on, took_step, view}
 use Rattle.board_event_model.proofs.SoundLemmas as events
 use Rattle.board_model.specs.declared.answer.Answer.{Answer}
@@ -27,10 +22,9 @@ use Rattle.script_model.specs.declared.line.EventRequest.{EventRequest}
 use Rattle.script_model.specs.declared.line.EventRequest.TheVariants as request
 use Rattle.script_model.specs.declared.line.ScriptLine.{ScriptLine}
 use Rattle.script_model.specs.declared.line.ScriptLine.TheVariants as line
-use Rattle.script_model.specs.declared.reply.EventReply.TheVariants as reply
 use Rattle.script_model.specs.ScriptGrammar.{IsEventRequest, IsScriptLine, is_event_name}
 use Rattle.script_model.specs.ScriptAnswers.{ScriptAnswer}
-use Rattle.script_model.specs.ScriptEvents.{EventAsk, EventTask, EventThing, IsEventAccess, IsStepOf, ScriptEvents, act, ask, ask_made, ask_told, end_told, event_let_go, name_made, runs_on_events, ids_told, is_for_all, let_go_from, listened_event, listener, notified, notifier, notify_call, on_event, opened, opened_told, opened_with, step_made, step_told, task_of, to_listen, to_notify, with_listener, notifier_more}
+use Rattle.script_model.specs.ScriptEvents.{EventAsk, EventTask, EventThing, IsEventAccess, IsStepOf, ScriptEvents, act, ask, ask_made, event_let_go, name_made, runs_on_events, let_go_from, listened_event, listener, notified, notifier, notify_call, on_event, opened, opened_with, step_made, task_of, to_listen, to_notify, with_listener, notifier_more}
 use Rattle.script_model.specs.ScriptTurns.{EventTurn, IsTurnAnswer, ScriptState, begin_turn, begins, drop_turn, drops, expire_of_call, expire_turn, expires, free_turn, is_name_taken, may_expire, refused, request_turn, steps, task_turn, turn_of, turned}
 use Rattle.script_model.specs.ScriptSession.{after_boards, after_turn}
 use Rattle.script_model.specs.LawsOfRules.{IsRuled}

@@ -1,6 +1,6 @@
 -- What a step on an event tells, or an expiry, is true of the run of its event.
 use Rattle.std.proofs.Common.{◌≡◌, ℕ, Bool, true, false, List, [], ◌∷◌, ◌++◌, ◌+◌, length, refl, sym, ap, subst, ◌∙◌, ◌⊎◌, inl, inr, ltb, Option, Some, None}
-use Rattle.std.specs.Prelude.{if◌then◌else◌, ◌||◌, ◌&&◌, ◌==◌, IsSomeAnd, is_some}
+use Rattle.std.specs.Prelude.{if◌then◌else◌, ◌==◌, IsSomeAnd}
 use Rattle.std.specs.List.{list_any}
 use Rattle.std.proofs.lemmas.Bool.{false≢true}
 use Rattle.board_names.specs.declared.errors.event.NotifierNotifyError.{NotifierNotifyError}
@@ -13,16 +13,15 @@ use Rattle.board_event_model.specs.declared.call.NotifyStage.{NotifyStage}
 use Rattle.board_event_model.specs.declared.call.NotifyStage.TheVariants as notify
 use Rattle.board_event_model.specs.declared.call.WaitMode.{WaitMode}
 use Rattle.board_event_model.specs.declared.call.WaitMode.TheVariants as mode
-use Rattle.board_event_model.specs.EventMemory.{Event, IsRight}
+use Rattle.board_event_model.specs.EventMemory.{IsRight}
 use Rattle.board_event_model.specs.NotifyCalls.{Notify, is_yes, notify_turn, pushed}
 use Rattle.board_event_model.specs.WaitCalls.{Wait}
 use Rattle.board_event_model.specs.EventCalls.{EventCall, RunningCall, a_notify, a_wait, call_of, is_last, is_timed, owed, reported, turn}
 use Rattle.board_event_model.specs.EventRuns.{IsReached, Moment, Takes}
-use Rattle.board_event_model.specs.EventSessions.{PartyCall, StandingEvent, event_of, running_on, view}
+use Rattle.board_event_model.specs.EventSessions.{PartyCall, StandingEvent, running_on, view}
 use Rattle.board_event_model.specs.LawsOfCalls.{progress_with, taken_by, with_step}
 use Rattle.board_event_model.proofs.EndLemmas.{none_law_holds, notify_law_holds, queue_law_holds}
 use Rattle.board_event_model.proofs.NothingLemmas.{nothing_law_holds}
-use Rattle.board_event_model.proofs.QuietLemmas.{eqb_self}
 use Rattle.board_event_model.proofs.ReplyLemmas.{reply_law_holds}
 use Rattle.board_event_model.proofs.SetLemmas.{and_split, either}
 use Rattle.board_event_model.proofs.WholeLemmas.{all_law_holds, expire_law_holds}
@@ -38,11 +37,11 @@ use Rattle.script_model.specs.declared.reply.EventReply.{EventReply}
 use Rattle.script_model.specs.declared.reply.EventReply.TheVariants as reply
 use Rattle.script_model.specs.ScriptAnswers.{ScriptAnswer, expired, of_ask, of_boards, of_event}
 use Rattle.script_model.specs.ScriptEvents.{EventAsk, IsEventAccess, IsStepOf, end_told, is_for_all, runs_on_events, step_told}
-use Rattle.script_model.specs.ScriptTurns.{EventTurn, IsTurnAnswer, ScriptState, expire_of_call, expire_turn, expires, may_expire, refused, steps, turn_of}
+use Rattle.script_model.specs.ScriptTurns.{IsTurnAnswer, ScriptState, expire_of_call, expire_turn, expires, may_expire, refused, steps}
 use Rattle.script_model.specs.ScriptSession.{IsRight as IsRightAnswer, start}
 use Rattle.script_model.specs.SoundEvents.{IsSoundScript}
 use Rattle.script_model.specs.LawsOfEvents.{Last, TellsIds, at_last}
-use Rattle.script_model.specs.LawsOfReplies.{ExpiriesAreTrue, IsEventStep, IsExpiredWait, IsTrue, MissesNone, PrintedStepsAreTaken, PrintsAccess, RepliesAreTrue, RunsOnEvent, TellsTruth, moment_of}
+use Rattle.script_model.specs.LawsOfReplies.{ExpiriesAreTrue, IsEventStep, IsTrue, MissesNone, PrintedStepsAreTaken, PrintsAccess, RepliesAreTrue, RunsOnEvent, moment_of}
 use Rattle.script_model.specs.LawsOfRules.{IsRuled}
 use Rattle.script_model.proofs.CompositionLemmas.{lawful_split, sound_at}
 use Rattle.script_model.proofs.EachLemmas.{event_in}

@@ -1,7 +1,6 @@
 -- The rules by name ask for the answer of the line's turn.
 use Rattle.std.proofs.Common.{◌≡◌, ℕ, List, refl, sym, ap, subst, ◌∙◌, Option, Some, None}
 use Rattle.std.specs.Prelude.{IsSomeAnd}
-use Rattle.board_event_model.specs.declared.access.EventAnswer.{EventAnswer}
 use Rattle.board_event_model.specs.EventMemory.{Event}
 use Rattle.board_event_model.specs.EventMemory as event
 use Rattle.board_event_model.specs.EventCalls.{call_of, owed, turn}
@@ -20,7 +19,7 @@ use Rattle.script_model.specs.ScriptEvents.{EventAsk, IsEventAccess, IsStepOf, S
 use Rattle.script_model.specs.ScriptRules.{IsDueReply, IsEvent, IsOfEvent, IsOwed, IsOwedAccess, IsOwedStep, IsReasoned, IsReplied, IsWord, reason_in_turn}
 use Rattle.script_model.specs.ScriptSession.{IsRight}
 use Rattle.script_model.specs.ScriptTurns.{EventTurn, IsTurnAnswer, ScriptState, begins, drops, expires, refused, steps, turn_of}
-use Rattle.script_model.specs.LawsOfRules.{IsInTurn, IsRuled, RulesAreTurns}
+use Rattle.script_model.specs.LawsOfRules.{IsRuled, RulesAreTurns}
 
 -- ---- one turn
 

@@ -1,24 +1,16 @@
 -- The session that was worked out by hand, with a notifier that is abandoned after its set.
-use Rattle.std.proofs.Common.{rules, ◌≡◌, ℕ, ◌+◌, ◌*◌, false, eqb, refl, sym, ◌∙◌, ap, inl, inr, arith, lit<, Some, None, Option, List, [], ◌∷◌, ◌++◌}
-use Rattle.std.specs.Prelude.{codes, if◌then◌else◌, ◌==◌}
+use Rattle.std.proofs.Common.{rules, ℕ, ◌+◌, false, refl, inl, lit<, Some, None, Option, [], ◌∷◌, ◌++◌}
+use Rattle.std.specs.Prelude.{codes}
 use lib.Count.{count_trailing_zeros}
-use Rattle.std.specs.List.{list_any}
 use Rattle.std.specs.FinSet as set
-use Rattle.std.specs.Int.{bit_at}
-use Rattle.std.proofs.lemmas.Bool.{false≢true}
-use Rattle.std.proofs.lemmas.Nat.Bits.{bit_at-pow_other}
-use Rattle.board_event_model.specs.declared.access.EventAccess.{EventAccess}
 use Rattle.board_event_model.specs.declared.access.EventAccess.TheVariants as event_access
-use Rattle.board_event_model.specs.declared.access.EventAnswer.{EventAnswer}
 use Rattle.board_event_model.specs.declared.access.EventAnswer.TheVariants as event_answer
 use Rattle.board_event_model.specs.declared.call.WaitMode.TheVariants as mode
 use Rattle.board_event_model.specs.declared.call.WaitStage.TheVariants as stage
 use Rattle.board_event_model.specs.declared.kind.EventKind.TheVariants as kind
-use Rattle.board_event_model.specs.Ids.{has}
-use Rattle.board_event_model.specs.EventMemory.{Event, IsWordAnswer, taken}
+use Rattle.board_event_model.specs.EventMemory.{taken}
 use Rattle.board_event_model.specs.WaitCalls.{Wait}
-use Rattle.board_event_model.proofs.SetLemmas.{either, has_empty, has_inserted, has_itself, is_false}
-use Rattle.board_event_model.proofs.QuietLemmas.{eqb_self, eqb_true}
+use Rattle.board_event_model.proofs.SetLemmas.{has_itself}
 use Rattle.board_cell_model.specs.declared.access.Access.TheVariants as access
 use Rattle.board_model.specs.declared.answer.Answer.TheVariants as answer
 use Rattle.board_model.specs.declared.answer.Answer.{Answer}
@@ -30,11 +22,9 @@ use Rattle.board_model.specs.AnswerGrammar.{IsAnswer}
 use Rattle.board_model.specs.declared.value.ValueType.TheVariants as type
 use Rattle.board_model.specs.Tables.{entry_at}
 use Rattle.board_model.specs.WorkedSessions as boards
-use Rattle.script_model.specs.declared.line.EventRequest.{EventRequest}
 use Rattle.script_model.specs.declared.line.EventRequest.TheVariants as request
-use Rattle.script_model.specs.declared.reply.EventReply.{EventReply}
 use Rattle.script_model.specs.declared.reply.EventReply.TheVariants as event_reply
-use Rattle.script_model.specs.ScriptSession.{IsLawful, IsLawfulFrom, IsRight, Session, after, start, state_after}
+use Rattle.script_model.specs.ScriptSession.{IsLawful, IsRight, Session, start}
 use Rattle.script_model.specs.ScriptTurns.{ScriptState}
 use Rattle.script_model.specs.LawsOfComposition.{EndsGet, EndsPublication, IsIdOf, IsNotifiedGet, IsUntaken, Notifies, Pair, TakesId, state_met, of_pair, past, to_asked, to_begun, to_got, to_notified, to_published, to_taken}
 use Rattle.script_model.specs.WorkedScripts.{a_reader_told_by_a_lost_notifier, asks, set_access}

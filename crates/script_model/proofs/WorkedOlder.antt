@@ -1,5 +1,5 @@
 -- The session that was worked out by hand, with an older take.
-use Rattle.std.proofs.Common.{rules, ◌≡◌, refl, inr, Some, None, [], ◌∷◌, ◌++◌}
+use Rattle.std.proofs.Common.{rules, refl, inr, Some, [], ◌∷◌, ◌++◌}
 use Rattle.std.specs.Prelude.{codes, false}
 use Rattle.board_event_model.specs.declared.access.EventAccess.TheVariants as event_access
 use Rattle.board_event_model.specs.declared.access.EventAnswer.TheVariants as event_answer

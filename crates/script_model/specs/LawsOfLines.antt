@@ -1,10 +1,9 @@
 -- Laws for programs that stand on scripts: what a line leaves of other parties, where it lengthens a list, and how the laws of boards are used.
-use Rattle.std.specs.Prelude.{◌≡◌, ℕ, ◌≤◌, Bool, false, if◌then◌else◌, List, [], ◌∷◌, ◌++◌, length, Option, None}
+use Rattle.std.specs.Prelude.{◌≡◌, ℕ, ◌+◌, ◌≤◌, Bool, false, if◌then◌else◌, List, [], ◌∷◌, ◌++◌, length, None}
 use Rattle.std.specs.Str.{bytes_eq}
 use Rattle.board_model.specs.declared.answer.Answer.{Answer}
 use Rattle.board_model.specs.declared.line.Line.{Line}
 use Rattle.board_model.specs.declared.line.Line.TheVariants as board_line
-use Rattle.board_model.specs.LawfulSession as boards
 use Rattle.board_model.specs.LawsOfOthers.{IsLeft, names_party}
 use Rattle.board_model.specs.LawsOfSessions.{Pairs, publishes_entry}
 use Rattle.board_model.specs.LawsOfSessions as board_pairs
@@ -14,7 +13,7 @@ use Rattle.script_model.specs.declared.line.ScriptLine.{ScriptLine}
 use Rattle.script_model.specs.declared.line.ScriptLine.TheVariants as line
 use Rattle.script_model.specs.ScriptAnswers.{ScriptAnswer, of_boards}
 use Rattle.script_model.specs.ScriptTurns.{ScriptState, turn_of}
-use Rattle.script_model.specs.ScriptSession.{IsLawful, IsRight, Session, after, start, state_after}
+use Rattle.script_model.specs.ScriptSession.{IsLawful, IsLawfulFrom, IsRight, Session, after, state_after}
 use Rattle.script_model.specs.SoundEvents.{IsSoundScript}
 use Rattle.script_model.specs.Parts.{board_part}
 use Rattle.script_model.specs.LawsOfComposition.{of_pair, state_met}
@@ -50,6 +49,16 @@ publishes s l a b i = false
 abbrev pub LinesLengthenLists : Type 0
 LinesLengthenLists = (s : ScriptState) (l : ScriptLine) (a : ScriptAnswer) (b i : ℕ) → b ≤ s.boards.standing.tables.last_board → IsRight s l a
     → (more : List (List ℕ)) × ((after s l a).boards.published b i ≡ s.boards.published b i ++ more) × (length more ≡ (if publishes s l a b i then 1 else 0))
+
+-- how many values of the entry a session publishes from this state on
+abbrev pub publications : ScriptState → Session → ℕ → ℕ → ℕ
+publications s [] b i = 0
+publications s (pair ∷ pairs) b i = (if publishes s pair.0 pair.1 b i then 1 else 0) + publications (after s pair.0 pair.1) pairs b i
+
+-- so many items longer is its list afterwards
+abbrev pub SessionsLengthenLists : Type 0
+SessionsLengthenLists = (s : ScriptState) (pairs : Session) (b i : ℕ) → b ≤ s.boards.standing.tables.last_board → IsLawfulFrom s pairs
+    → (more : List (List ℕ)) × ((state_after s pairs).boards.published b i ≡ s.boards.published b i ++ more) × (length more ≡ publications s pairs b i)
 
 -- ---- sessions of boards in a script
 

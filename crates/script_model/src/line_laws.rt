@@ -1,5 +1,5 @@
 //! Laws for programs that stand on scripts. Each function's contract is a theorem over the definitions alone.
-ghost use Rattle.script_model.specs.LawsOfLines.{BoardStepsAreAlone, LinesLeaveParties, LinesLengthenLists, PairsAreOfBoards, PartsJoin};
+ghost use Rattle.script_model.specs.LawsOfLines.{BoardStepsAreAlone, LinesLeaveParties, LinesLengthenLists, PairsAreOfBoards, PartsJoin, SessionsLengthenLists};
 
 /// A party that a line doesn't name holds what it held, and what it runs is where it was.
 pub fn lines_leave_parties()
@@ -24,4 +24,9 @@ pub fn board_steps_are_alone()
 /// Two pairs of boards in a script are two pairs of a lawful session of boards, so that session's laws hold of them.
 pub fn pairs_are_of_boards()
     ensures { PairsAreOfBoards }
+{}
+
+/// After a session a published list is longer by as many items as publications of the entry ended in it.
+pub fn sessions_lengthen_lists()
+    ensures { SessionsLengthenLists }
 {}
