@@ -1,2 +1,3 @@
 pub mod Task
 pub mod Watchers
+pub mod Done

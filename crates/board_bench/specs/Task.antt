@@ -1,5 +1,5 @@
 -- The tasks, and how they are spelled, word by word.
-use Rattle.std.specs.Prelude.{ℕ, ◌≤◌, ◌<◌, ◌^◌, Bool, true, false, ◌==◌, ◌||◌, IsTrue, List, [], ◌∷◌, codes}
+use Rattle.std.specs.Prelude.{◌≡◌, ℕ, ◌≤◌, ◌<◌, ◌^◌, Bool, ◌==◌, ◌||◌, IsTrue, List, [], ◌∷◌, codes}
 use Rattle.std.specs.Fmt.{decimal}
 use Rattle.board_bench.specs.declared.task.Task.{Task}
 use Rattle.board_bench.specs.declared.task.Task.TheVariants.{Get, Update, Shared}
@@ -17,8 +17,6 @@ spelling (Get width count) = codes "solo" ∷ decimal width ∷ codes "get" ∷ 
 spelling (Update width count) = codes "solo" ∷ decimal width ∷ codes "update" ∷ decimal count ∷ []
 spelling (Shared width readers updates) = codes "shared" ∷ decimal width ∷ decimal readers ∷ decimal updates ∷ []
 
--- it has readers beside the writer
-abbrev pub is_shared : Task → Bool
-is_shared (Get width count) = false
-is_shared (Update width count) = false
-is_shared (Shared width readers updates) = true
+-- the words spell this task
+abbrev pub IsTaskOf : List (List ℕ) → Task → Type 0
+IsTaskOf words task = IsBenchTask task × (words ≡ spelling task)

@@ -26,6 +26,10 @@ gets_of passes = capped (sum_by (λ (p : ReaderSeen). length p.notes) passes)
 abbrev pub AreWide : ℕ → List (List ℕ) → Type 0
 AreWide width values = All (λ (value : List ℕ). length value ≡ width) values
 
+-- they stay so
+abbrev pub StayWide : ℕ → List (List ℕ) → List (List ℕ) → Type 0
+StayWide width old new = AreWide width old → AreWide width new
+
 -- the writer is of this cell, the words are as many as a value has, and so many updates can be counted
 abbrev pub CanUpdate : CellSeen → WriterSeen → List ℕ → ℕ → Type 0
 CanUpdate cell w words updates = (w.cell ≡ cell.cell) × (length words ≡ cell.width) × (length w.published + updates < 2 ^ 64)
@@ -38,3 +42,15 @@ HasUpdated cell old new updates =
 -- each value that these gets copied has so many words
 abbrev pub AreCopiedWide : ℕ → List Note → Type 0
 AreCopiedWide width notes = All (λ (n : Note). length n.words ≡ width) notes
+
+-- they stay so
+abbrev pub StayCopiedWide : ℕ → List Note → List Note → Type 0
+StayCopiedWide width old new = AreCopiedWide width old → AreCopiedWide width new
+
+-- readers of this cell that have all seen the last update, as many as before
+abbrev pub HaveWatched : CellSeen → ℕ → List Watcher → List Watcher → Type 0
+HaveWatched cell last old new = (length new ≡ length old) × All (IsOf cell) new × All (HasSeen last) new
+
+-- these readers are of this cell, and so many
+abbrev pub AreReaders : CellSeen → ℕ → List Watcher → Type 0
+AreReaders cell many watchers = All (IsOf cell) watchers × (length watchers ≡ many)

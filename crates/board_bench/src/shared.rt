@@ -2,7 +2,7 @@ ghost use Rattle.std.specs.Prelude.{ℕ, ◌≡◌, ◌+◌, ◌^◌, ◌<◌, �
 ghost use denote.Param.Send.{IsSync};
 ghost use Rattle.board_cell.specs.Passes.{ReaderSeen, notes_of};
 ghost use Rattle.board_cell.specs.History.{IsLegal, history};
-ghost use Rattle.board_bench.specs.Watchers.{AreWide, CanUpdate, HasSeen, HasUpdated, IsOf, gets_of};
+ghost use Rattle.board_bench.specs.Watchers.{AreReaders, AreWide, CanUpdate, HasSeen, HasUpdated, HaveWatched, IsOf, gets_of};
 
 use board_cell::{CellError, ReaderPass, ThreadedCell, WriterPass};
 use std::alloc::Global;
@@ -90,7 +90,7 @@ pub fn watchers_of(
     requires cell { first.old.cell ≡ cell.now.cell }
     requires width { length words.now.items ≡ cell.now.width }
     ensures first { OnOk result (first.new.cell ≡ cell.now.cell) }
-    ensures watchers { IfOk result (λ v. All (IsOf cell.now) v.items × (length v.items ≡ readers)) }
+    ensures watchers { IfOk result (λ v. AreReaders cell.now readers v.items) }
 {
     let mut watchers = Vec::new(alloc);
     for _ in 0..readers {
@@ -155,7 +155,7 @@ pub fn race<R: Threads + Wait + Sync>(
         { write(cell, writer, words, last) },
         move || -> Vec<Watcher>
             requires { IsSync R.row × All (IsOf cell.now) watchers.items }
-            ensures { (length result.items ≡ length watchers.items) × All (IsOf cell.entry.now) result.items × All (HasSeen last) result.items }
+            ensures { HaveWatched cell.entry.now last watchers.items result.items }
         { watch_all(rt, cell, watchers, last) },
     )
 }
@@ -205,7 +205,8 @@ pub fn run_shared<R: Threads + Wait + Sync>(
     ensures wide { IfOk result (λ r. AreWide width r.writer.published) }
     ensures readers { IfOk result (λ r. length r.readers.items ≡ readers) }
     ensures gets { IfOk result (λ r. r.gets ≡ gets_of r.readers.items) }
-    ensures legal { IfOk result (λ r. IsLegal (history r.writer.published (map notes_of r.readers.items))) }
+    ensures legal { IfOk result (λ r.
+        IsLegal (history r.writer.published (map notes_of r.readers.items))) }
 {
     let words = vec![in alloc; 0u64; width as usize]?;
     let (cell, writer, mut first) = ThreadedCell::new(alloc, &words)?;

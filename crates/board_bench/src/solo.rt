@@ -1,5 +1,5 @@
 ghost use Rattle.std.specs.Prelude.{◌≡◌, ◌+◌, ◌^◌, ◌<◌, length, IfOk};
-ghost use Rattle.board_bench.specs.Watchers.{AreCopiedWide, AreWide};
+ghost use Rattle.board_bench.specs.Watchers.{AreCopiedWide, AreWide, StayCopiedWide, StayWide};
 
 use board_cell::{CellError, ReaderPass, ThreadedCell, WriterPass};
 use std::alloc::Global;
@@ -16,7 +16,7 @@ pub fn gets<R: Wait>(
     requires cell { reader.old.cell ≡ cell.now.cell }
     requires width { length out.old.items ≡ cell.now.width }
     ensures count { length reader.new.notes ≡ length reader.old.notes + count }
-    ensures wide { AreCopiedWide cell.now.width reader.old.notes → AreCopiedWide cell.now.width reader.new.notes }
+    ensures wide { StayCopiedWide cell.now.width reader.old.notes reader.new.notes }
 {
     for _ in 0..count {
         cell.get(rt, reader, out);
@@ -32,10 +32,11 @@ pub fn updates(
     count: u64,
 )
     requires cell { writer.old.cell ≡ cell.now.cell }
-    requires width { (length one.now.items ≡ cell.now.width) × (length two.now.items ≡ cell.now.width) }
+    requires width { length one.now.items ≡ cell.now.width }
+    requires second_width { length two.now.items ≡ cell.now.width }
     requires room { length writer.old.published + count < 2 ^ 64 }
     ensures count { length writer.new.published ≡ length writer.old.published + count }
-    ensures wide { AreWide cell.now.width writer.old.published → AreWide cell.now.width writer.new.published }
+    ensures wide { StayWide cell.now.width writer.old.published writer.new.published }
 {
     for i in 0..count {
         cell.update(writer, if i % 2 == 0 { one } else { two });

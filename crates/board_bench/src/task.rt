@@ -1,6 +1,6 @@
 ghost use Rattle.std.specs.Prelude.{ℕ, ◌≡◌, ◌^◌, ◌<◌, map, Some, IsSome, IfOk, IfSome, string_bytes};
 ghost use Rattle.std.specs.Fmt.{decimal};
-ghost use Rattle.board_bench.specs.Task.{IsBenchTask, spelling};
+ghost use Rattle.board_bench.specs.Task.{IsBenchTask, IsTaskOf, spelling};
 
 use std::alloc::{AllocError, Global};
 
@@ -48,8 +48,9 @@ pub fn number(alloc: Global, word: &str) -> Result<Option<u64>, AllocError>
 /// # Errors
 /// `AllocError` where memory is refused.
 pub fn task_of(alloc: Global, words: &[String]) -> Result<Option<Task>, AllocError>
-    ensures spelled { IfOk result (λ o. IfSome o (λ t. IsBenchTask t × (map string_bytes words.now ≡ spelling t))) }
-    ensures found { (t : Task) → IsBenchTask t → map string_bytes words.now ≡ spelling t → IfOk result IsSome }
+    ensures spelled { IfOk result (λ o. IfSome o (IsTaskOf (map string_bytes words.now))) }
+    ensures found { (t : Task) → IsBenchTask t → map string_bytes words.now ≡ spelling t
+        → IfOk result IsSome }
 {
     if words.len() != 4 {
         return Ok(None);

@@ -1,15 +1,15 @@
+use crate::done::measure;
 use crate::shared::run_shared;
-use crate::solo::{run_gets, run_updates};
 use crate::task::{Task, task_of};
 use std::alloc::{AllocError, Global};
 use std::test::*;
 
-fn spelled(alloc: Global, text: &str) -> Result<Option<Task>, AllocError> {
+fn words_of(alloc: Global, text: &str) -> Result<Vec<String>, AllocError> {
     let mut words: Vec<String> = Vec::new(alloc);
     for word in text.split(' ') {
         words.push(String::from_str(alloc, word)?)?;
     }
-    task_of(alloc, words.as_slice())
+    Ok(words)
 }
 
 #[test]
@@ -47,15 +47,24 @@ fn a_task_is_read_from_its_words(rt: HostRuntime) -> Result<(), Fail> {
         ("solo 4 get 1 2", None),
     ];
     for (text, task) in cases {
-        assert_eq!(rt; spelled(rt.alloc(), text)?, task, "{text}");
+        let words = words_of(rt.alloc(), text)?;
+        assert_eq!(rt; task_of(rt.alloc(), words.as_slice())?, task, "{text}");
     }
     Ok(())
 }
 
 #[test]
-fn each_task_is_done(rt: HostRuntime) {
-    assert!(rt; run_gets(&rt, rt.alloc(), 1, 10).is_ok());
-    assert!(rt; run_updates(rt.alloc(), 4, 10).is_ok());
+fn each_task_is_done(rt: HostRuntime) -> Result<(), Fail> {
+    for (text, is_done) in [
+        ("solo 1 get 10", true),
+        ("solo 4 update 10", true),
+        ("shared 4 1 10", true),
+        ("solo 4 put 10", false),
+    ] {
+        let words = words_of(rt.alloc(), text)?;
+        assert_eq!(rt; measure(&rt, rt.alloc(), &words)?.is_some(), is_done, "{text}");
+    }
+    Ok(())
 }
 
 #[test]

@@ -1,18 +1,30 @@
 //! Runs a board script: from standard input to standard output, with notes on standard error.
 #![tactic(auto)]
 
+ghost use Rattle.std.specs.Prelude.{◌≡◌, drop, IfOk};
+ghost use Rattle.std.specs.Vec.Iter.{into_iter_items};
+
 mod adapters;
 
 use crate::adapters::{StderrSink, StdinSource, StdoutSink};
-use board_script::{Sink, run_words};
-use std::alloc::AllocError;
+use board_script::run_program;
+use std::alloc::{AllocError, Global};
+use std::env::Args;
 use std::process::ExitCode;
 use std::{env, io};
 
-// The words of the command line without the program's name. One that isn't text is an empty word.
+// The words behind the program's name.
+fn behind_name(alloc: Global, mut args: Args) -> Result<Vec<String>, AllocError>
+    ensures { IfOk result (λ words. words.items ≡ drop 1 (into_iter_items args)) }
+{
+    let _name = args.next();
+    args.collect(alloc)
+}
+
+// The words of the command line without the program's name. One that isn't text makes all of them one empty word.
 fn words(rt: &HostRuntime) -> Result<Vec<String>, AllocError> {
     match env::args(rt) {
-        Ok(args) => args.skip(1).collect(rt.alloc()),
+        Ok(args) => behind_name(rt.alloc(), args),
         Err(error) => {
             if error.kind() == io::ErrorKind::OutOfMemory {
                 return Err(AllocError);
@@ -25,13 +37,11 @@ fn words(rt: &HostRuntime) -> Result<Vec<String>, AllocError> {
 }
 
 fn main(rt: HostRuntime) -> ExitCode {
-    let mut notes = StderrSink::new(rt.stderr());
-    let Ok(words) = words(&rt) else {
-        let _ = notes.write(b"out of memory\n");
-        return ExitCode::from(7);
-    };
-    let mut source = StdinSource::new(rt.stdin());
-    let mut sink = StdoutSink::new(rt.stdout());
-    let status = run_words(rt.alloc(), &words, &mut source, &mut sink, &mut notes);
-    ExitCode::from(status)
+    run_program(
+        rt.alloc(),
+        words(&rt),
+        &mut StdinSource::new(rt.stdin()),
+        &mut StdoutSink::new(rt.stdout()),
+        &mut StderrSink::new(rt.stderr()),
+    )
 }

@@ -1,6 +1,6 @@
 -- The words of the command line.
 use Rattle.std.proofs.Common.{◌≡◌, ℕ, ◌<◌, ◌≤◌, Bool, true, false, List, [], ◌∷◌, length, map, get_or, arith, refl, sym, ap, subst, ◌∙◌, Option, Some, None, inl, inr}
-use Rattle.std.specs.Prelude.{codes, decimal, ◌⊎◌, not, IfNone, OnOk, Result, Ok, Err}
+use Rattle.std.specs.Prelude.{codes, decimal, ◌⊎◌, not, IfErr, IfNone, OnOk, Result, Ok, Err}
 use Rattle.std.specs.Str.{bytes_eq}
 use Rattle.std.proofs.lemmas.Slice.Eq.{bytes_eq-Decides}
 use Rattle.script_grammar.specs.TokenReading.{read_number}
@@ -83,3 +83,8 @@ summed_at (Err error.OutOfMemory) n status sink ok is zero = absurd cc
 
 pub summed : (answer : Result (Unit {0}) ScriptError) (k n status : ℕ) (sink : Stream) → k ≡ n → IsGenerated k sink answer → status ≡ status_of answer → status ≡ 0 → IsSummed n sink
 summed answer k n status sink same run is zero = subst (λ (j : ℕ). IsSummed j sink) same (summed_at answer k status sink run.ok is zero)
+
+-- without a fault and outside no grammar the status is 0 or 7
+pub run_through : (answer : Result (Unit {0}) ScriptError) (status : ℕ) → status ≡ status_of answer → IfErr answer (λ e. e ≡ error.OutOfMemory) → (status ≡ 0) ⊎ (status ≡ 7)
+run_through (Ok x) status is h = inl is
+run_through (Err e) status is h = inr (is ∙ ap (λ (w : ScriptError). status_of (Err w)) h)

@@ -61,3 +61,13 @@ pub record IsSummedUp (status n : ℕ) (sink notes : Stream) : Type 0 where
   pub run : IsGenerated n sink answer
   pub is : status ≡ status_of answer
   pub note : IsNoted notes (note_of answer)
+
+-- the status and the note are those that the words of the command line ask for
+pub record HasEnded (words : List (List ℕ)) (status : ℕ) (source sink notes : Stream) : Type 0 where
+  -- without words the script of the source was run
+  pub ran : words ≡ [] → IsAnswered status source sink notes
+  -- with `gen N` that of N
+  pub generated : (n : ℕ) → AreGenWords words n → IsSummedUp status n sink notes
+  -- and with any other nothing
+  pub usage : IsUsage words → status ≡ 2
+  pub usage_note : IsUsage words → IsNoted notes usage_note

@@ -5,18 +5,18 @@
 //!
 //! ```text
 //! let script = Vec::from_slice(alloc, b"begin a create f b u64 add u64:1 u64:5\nstep a\n")?;
-//! let mut source = MemorySource::new(script, 0, Vec::new(alloc));      // pieces of any length, and no call fails
-//! let mut sink = MemorySink::new(alloc, 4096, 0, Vec::new(alloc))?;    // room for 4096 bytes
-//! run_script(alloc, &mut source, &mut sink)?;
+//! let sink = run_in_memory(alloc, script, 4096)?;    // with room for an output of 4096 bytes
 //! assert_eq!(sink.held(), b"ok\ntable = ok 1\n");
 //! ```
 #![tactic(auto)]
 
 mod script;
+#[cfg(test)]
+mod tests;
 mod top;
 
 pub use board_model::worked_updates::{an_update_at_once_is_wrong, an_update_writes_a_word_a_step};
-pub use script::{run_script, run_script_within};
+pub use script::{run_in_memory, run_script, run_script_within};
 pub use script_generator::{
     generated_scripts_are_scripts, run_generated, the_run_for_one_is_lawful,
 };
@@ -25,4 +25,4 @@ pub use script_loop::{
     SinkError, Source,
 };
 pub use script_machine::Machine;
-pub use top::run_words;
+pub use top::{run_program, run_words};

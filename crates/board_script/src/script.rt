@@ -1,9 +1,14 @@
 //! Scripts, from their source to their sink.
-ghost use Rattle.std.specs.Prelude.{◌≤◌};
-ghost use Rattle.script_loop.specs.Runs.{Runs, stream_of};
+ghost use Rattle.std.specs.Prelude.{◌≡◌, ◌≢◌, ◌≤◌, ℕ, IfErr, IfOk};
+ghost use Rattle.script_model.specs.ScriptOutput.{IsOutputOf};
+ghost use Rattle.script_loop.specs.Memory.{sink_holds};
+ghost use Rattle.board_script.specs.Whole.{FitsRoom};
+ghost use Rattle.script_loop.specs.Runs.{FitsInto, IsRunnable, Runs, stream_of};
 
 use board_cell::PlainWords;
-use script_loop::{RunsLines, ScriptError, Sink, Source, run_lines};
+use script_loop::{
+    MemorySink, MemorySource, RunsLines, ScriptError, Sink, SinkError, Source, run_lines,
+};
 use script_machine::Machine;
 use std::alloc::Global;
 
@@ -23,10 +28,18 @@ pub fn run_script_within<S: Source, K: Sink>(
     requires { limit ≤ 4294967295 }
 
     // The sink gained the output of the lawful session of the input's lines, or the error says what stands.
-    ensures { Runs limit
+    ensures runs { Runs limit
         (stream_of S.left S.faults source.old source.new)
         (stream_of K.held K.faults sink.old sink.new)
         result }
+
+    // A known script is run to its end where no read fails, and no write within its output.
+    ensures reads { S.never_fails source.old → result ≢ Err ScriptError.ReadFault }
+    ensures writes { (room : ℕ) → K.never_fails_within sink.old room
+        → FitsInto room limit (S.left source.old) → result ≢ Err ScriptError.WriteFault }
+    ensures complete { S.never_fails source.old → (room : ℕ) → K.never_fails_within sink.old room
+        → IsRunnable room limit (S.left source.old)
+        → IfErr result (λ e. e ≡ ScriptError.OutOfMemory) }
 {
     let mut machine = Machine::<PlainWords>::new(alloc);
     run_lines(alloc, limit, &mut machine, source, sink)
@@ -41,10 +54,41 @@ pub fn run_script<S: Source, K: Sink>(
     source: &mut S,
     sink: &mut K,
 ) -> Result<(), ScriptError>
-    ensures { Runs 4294967295
+    ensures runs { Runs 4294967295
         (stream_of S.left S.faults source.old source.new)
         (stream_of K.held K.faults sink.old sink.new)
         result }
+    ensures reads { S.never_fails source.old → result ≢ Err ScriptError.ReadFault }
+    ensures writes { (room : ℕ) → K.never_fails_within sink.old room
+        → FitsInto room 4294967295 (S.left source.old) → result ≢ Err ScriptError.WriteFault }
+    ensures complete { S.never_fails source.old → (room : ℕ) → K.never_fails_within sink.old room
+        → IsRunnable room 4294967295 (S.left source.old)
+        → IfErr result (λ e. e ≡ ScriptError.OutOfMemory) }
 {
     run_script_within(alloc, MAX_LINES, source, sink)
+}
+
+/// Runs a script in memory, and gives the sink of so much room that has its output.
+///
+/// # Errors
+/// As `run_script`, and `WriteFault` where the output has more bytes than the room. After an error no output is given.
+pub fn run_in_memory(
+    alloc: Global,
+    script: Vec<u8>,
+    room: usize,
+) -> Result<MemorySink, ScriptError>
+    // The sink holds the output of the lawful session of the script's lines.
+    ensures output { IfOk result (λ sink. IsOutputOf script.items (sink_holds sink)) }
+
+    // A script of the grammar whose output fits is run to its end, or memory is refused.
+    ensures complete { FitsRoom room script.items
+        → IfErr result (λ e. e ≡ ScriptError.OutOfMemory) }
+{
+    let mut source = MemorySource::new(script, 0, Vec::new(alloc));
+    let mut sink = match MemorySink::new(alloc, room, 0, Vec::new(alloc)) {
+        Ok(sink) => sink,
+        Err(SinkError::OutOfMemory) => return Err(ScriptError::OutOfMemory),
+    };
+    run_script(alloc, &mut source, &mut sink)?;
+    Ok(sink)
 }

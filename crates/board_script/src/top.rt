@@ -1,10 +1,11 @@
 //! The program's top call, its statuses and its notes.
-ghost use Rattle.std.specs.Prelude.{◌≡◌, ℕ, ◌<◌, length, map, Err, IfNone, IfSome};
+ghost use Rattle.std.specs.Prelude.{◌≡◌, ◌⊎◌, ℕ, ◌<◌, length, map, Err, IfNone, IfOk, IfSome, OnErr};
+ghost use Rattle.std.specs.Process.{exit_status};
 ghost use Rattle.std.specs.String.{string_bytes};
 ghost use Rattle.std.specs.Io.KnownBytes.{IsAtEnd};
-ghost use Rattle.script_loop.specs.Runs.{IsRunOf, stream_of};
+ghost use Rattle.script_loop.specs.Runs.{IsRunOf, IsRunnable, stream_of};
 ghost use Rattle.script_generator.specs.Summary.{IsSummed};
-ghost use Rattle.board_script.specs.Top.{IsAnswered, AreGenWords, IsNoted, IsSummedUp, IsUsage, note_of, status_of, usage_note};
+ghost use Rattle.board_script.specs.Top.{IsAnswered, AreGenWords, HasEnded, IsNoted, IsSummedUp, IsUsage, note_of, status_of, usage_note};
 
 use crate::script::run_script;
 use board_layout::Text;
@@ -12,7 +13,8 @@ use itoa::Buffer;
 use script_generator::run_generated;
 use script_loop::{ScriptError, Sink, Source, write_whole};
 use script_parse::number_of;
-use std::alloc::Global;
+use std::alloc::{AllocError, Global};
+use std::process::ExitCode;
 
 // Writes a note. That it fails changes nothing else.
 fn note<N: Sink>(notes: &mut N, text: &[u8])
@@ -114,6 +116,11 @@ pub fn run_words<S: Source, K: Sink, N: Sink>(
         (stream_of K.held K.faults sink.old sink.new)
         (stream_of N.held N.faults notes.old notes.new) }
 
+    // A known script of the grammar whose output the sink takes ends with status 0, or 7 where memory is refused.
+    ensures complete { length words.now.items ≡ 0
+        → S.never_fails source.old → (room : ℕ) → K.never_fails_within sink.old room
+        → IsRunnable room 4294967295 (S.left source.old) → (result ≡ 0) ⊎ (result ≡ 7) }
+
     // With `gen N`, and with status 0, the sink gained the summary of the lawful session whose lines are the generated script.
     ensures summed { (n : ℕ) → AreGenWords (map string_bytes words.now.items) n → result ≡ 0
         → IsSummed n (stream_of K.held K.faults sink.old sink.new) }
@@ -142,4 +149,34 @@ pub fn run_words<S: Source, K: Sink, N: Sink>(
         return 2;
     };
     report(run_generated(alloc, n, sink), notes)
+}
+
+/// The same for the words of a process, or for none where memory was refused for them. Gives the process's exit code.
+///
+/// The code is the status of `run_words`, and 7, with the note of it, where there are no words.
+pub fn run_program<S: Source, K: Sink, N: Sink>(
+    alloc: Global,
+    words: Result<Vec<String>, AllocError>,
+    source: &mut S,
+    sink: &mut K,
+    notes: &mut N,
+) -> ExitCode
+    // The process ends with the status of what the words ask for, and with its note.
+    ensures ended { IfOk words (λ all. HasEnded (map string_bytes all.items) (exit_status result)
+        (stream_of S.left S.faults source.old source.new)
+        (stream_of K.held K.faults sink.old sink.new)
+        (stream_of N.held N.faults notes.old notes.new)) }
+
+    // Nothing is run where memory was refused for the words.
+    ensures refused { OnErr words (exit_status result ≡ 7) }
+    ensures note { OnErr words (IsNoted (stream_of N.held N.faults notes.old notes.new)
+        (note_of (Err ScriptError.OutOfMemory))) }
+    ensures unread { OnErr words (source.new ≡ source.old) }
+    ensures unwritten { OnErr words (sink.new ≡ sink.old) }
+{
+    let status = match words {
+        Ok(words) => run_words(alloc, &words, source, sink, notes),
+        Err(_) => report(Err(ScriptError::OutOfMemory), notes),
+    };
+    ExitCode::from(status)
 }

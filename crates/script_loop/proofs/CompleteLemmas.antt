@@ -1,6 +1,6 @@
 -- What a run comes to; a script of the grammar is neither outside it nor too long.
 use Rattle.std.proofs.Common.{◌≡◌, ℕ, suc, List, [], ◌∷◌, ◌++◌, length, arith, refl, ap, subst, Option, Some, None}
-use Rattle.std.specs.Prelude.{IsSomeAnd, Ok, Err}
+use Rattle.std.specs.Prelude.{◌≢◌, IfErr, IsSomeAnd, Result, Ok, Err}
 use Rattle.std.specs.Io.KnownBytes.{IsAtEnd}
 use Rattle.std.specs.List.{AllByRecursion}
 use Rattle.std.proofs.lemmas.List.{length-append}
@@ -9,8 +9,9 @@ use Rattle.script_model.specs.declared.line.ScriptLine.{ScriptLine}
 use Rattle.script_model.specs.ScriptGrammar.{SpellsLine}
 use Rattle.script_model.specs.ScriptSession.{Session}
 use Rattle.script_model.specs.ScriptOutput.{FollowedBy, GoesOnAfter, IsScript, LeavesGrammarAfter, SpellsAll}
+use Rattle.script_loop.specs.declared.error.ScriptError.{ScriptError}
 use Rattle.script_loop.specs.declared.error.ScriptError.TheVariants.{ReadFault, WriteFault, BadLine, TooLong, OutOfMemory}
-use Rattle.script_loop.specs.Runs.{CountsOn, HasFailed, Stream}
+use Rattle.script_loop.specs.Runs.{CountStays, CountsOn, HasFailed, Stream}
 use Rattle.script_loop.specs.Runs.{IsBadAt, IsPast, IsReadCut, IsRunOf, IsSpent, IsWriteCut, Runs}
 
 abbrev IsSpelled : List ℕ → Type 0
@@ -48,21 +49,30 @@ not_past limit source sink b s = more source.before b.session b.lines b.full s
 
 -- ---- runs that end so
 
-module _ (limit : ℕ) (source sink : Stream) (reads : CountsOn source) (writes : CountsOn sink) where
-  pub ran : IsRunOf limit source sink → IsAtEnd source.after → Runs limit source sink (Ok tt)
-  ran run end = record { ok = run; end = end; err = tt; complete = λ u. tt; read = λ e. absurd cc; write = λ e. absurd cc; read_later = reads; write_later = writes }
+module _ (limit : ℕ) (source sink : Stream) where
+  pub ran : CountStays source → CountStays sink → IsRunOf limit source sink → IsAtEnd source.after → Runs limit source sink (Ok tt)
+  ran reads writes run end = record { ok = run; end = end; err = tt; complete = λ u. tt; read = λ e. absurd cc; write = λ e. absurd cc; read_told = λ n. reads; write_told = λ n. writes; read_later = omega (arith, reads); write_later = omega (arith, writes) }
 
-  pub unread : IsReadCut source sink → HasFailed source → Runs limit source sink (Err ReadFault)
-  unread cut fault = record { ok = tt; end = tt; err = cut; complete = λ u. absurd (u.read fault); read = λ e. fault; write = λ e. absurd cc; read_later = reads; write_later = writes }
+  pub unread : CountsOn source → CountStays sink → IsReadCut limit source sink → HasFailed source → Runs limit source sink (Err ReadFault)
+  unread reads writes cut fault = record { ok = tt; end = tt; err = cut; complete = λ u. absurd (u.read fault); read = λ e. fault; write = λ e. absurd cc; read_told = λ n. absurd (n refl); write_told = λ n. writes; read_later = reads; write_later = omega (arith, writes) }
 
-  pub unwritten : IsWriteCut source sink → HasFailed sink → Runs limit source sink (Err WriteFault)
-  unwritten cut fault = record { ok = tt; end = tt; err = cut; complete = λ u. absurd (u.written fault); read = λ e. absurd cc; write = λ e. fault; read_later = reads; write_later = writes }
+  pub unwritten : CountStays source → CountsOn sink → IsWriteCut limit source sink → HasFailed sink → Runs limit source sink (Err WriteFault)
+  unwritten reads writes cut fault = record { ok = tt; end = tt; err = cut; complete = λ u. absurd (u.written fault); read = λ e. absurd cc; write = λ e. fault; read_told = λ n. reads; write_told = λ n. absurd (n refl); read_later = omega (arith, reads); write_later = writes }
 
-  pub left_grammar : (n : ℕ) → IsBadAt n limit source sink → Runs limit source sink (Err (BadLine n))
-  left_grammar n bad = record { ok = tt; end = tt; err = bad; complete = λ u. absurd (not_bad n limit source sink bad u.script); read = λ e. absurd cc; write = λ e. absurd cc; read_later = reads; write_later = writes }
+  pub left_grammar : CountStays source → CountStays sink → (n : ℕ) → IsBadAt n limit source sink → Runs limit source sink (Err (BadLine n))
+  left_grammar reads writes n bad = record { ok = tt; end = tt; err = bad; complete = λ u. absurd (not_bad n limit source sink bad u.script); read = λ e. absurd cc; write = λ e. absurd cc; read_told = λ n. reads; write_told = λ n. writes; read_later = omega (arith, reads); write_later = omega (arith, writes) }
 
-  pub was_long : IsPast limit source sink → Runs limit source sink (Err TooLong)
-  was_long past = record { ok = tt; end = tt; err = past; complete = λ u. absurd (not_past limit source sink past u.script); read = λ e. absurd cc; write = λ e. absurd cc; read_later = reads; write_later = writes }
+  pub was_long : CountStays source → CountStays sink → IsPast limit source sink → Runs limit source sink (Err TooLong)
+  was_long reads writes past = record { ok = tt; end = tt; err = past; complete = λ u. absurd (not_past limit source sink past u.script); read = λ e. absurd cc; write = λ e. absurd cc; read_told = λ n. reads; write_told = λ n. writes; read_later = omega (arith, reads); write_later = omega (arith, writes) }
 
-  pub gave_up : IsSpent source sink → Runs limit source sink (Err OutOfMemory)
-  gave_up spent = record { ok = tt; end = tt; err = spent; complete = λ u. refl; read = λ e. absurd cc; write = λ e. absurd cc; read_later = reads; write_later = writes }
+  pub gave_up : CountStays source → CountStays sink → IsSpent limit source sink → Runs limit source sink (Err OutOfMemory)
+  gave_up reads writes spent = record { ok = tt; end = tt; err = spent; complete = λ u. refl; read = λ e. absurd cc; write = λ e. absurd cc; read_told = λ n. reads; write_told = λ n. writes; read_later = omega (arith, reads); write_later = omega (arith, writes) }
+
+  -- where no fault comes, a script of the grammar is run to its end
+  pub complete : (result : Result (Unit {0}) ScriptError) → Runs limit source sink result → result ≢ Err ReadFault → result ≢ Err WriteFault → IsSomeAnd source.before (IsScript limit) → IfErr result (λ e. e ≡ OutOfMemory)
+  complete (Ok x) runs read write script = tt
+  complete (Err ReadFault) runs read write script = absurd (read refl)
+  complete (Err WriteFault) runs read write script = absurd (write refl)
+  complete (Err (BadLine n)) runs read write script = absurd (not_bad n limit source sink runs.err script)
+  complete (Err TooLong) runs read write script = absurd (not_past limit source sink runs.err script)
+  complete (Err OutOfMemory) runs read write script = refl

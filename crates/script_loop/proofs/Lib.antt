@@ -1,6 +1,9 @@
 pub mod Pieces
+pub mod MemoryLemmas
 pub mod HandLemmas
 pub mod LineLemmas
+pub mod WholeLemmas
 pub mod RunLemmas
+pub mod GoingOn
 pub mod CompleteLemmas
 pub mod IdleLemmas

@@ -1,12 +1,13 @@
 -- The lines of bytes, from the front.
-use Rattle.std.proofs.Common.{add-one, drop-cons, take-append-drop, take, drop, get_or, ◌≡◌, ℕ, suc, ◌+◌, ◌<◌, ◌≤◌, Bool, true, false, cond, eqb, List, [], ◌∷◌, ◌++◌, length, arith, refl, sym, ap, subst, ◌∙◌, append_assoc, Option, Some, None}
+use Rattle.std.proofs.Common.{add-one, drop-cons, take-append-drop, take, drop, get_or, ◌≡◌, ℕ, suc, ◌+◌, ◌<◌, ◌≤◌, Bool, true, false, cond, eqb, List, [], ◌∷◌, ◌++◌, length, arith, refl, sym, ap, subst, ◌∙◌, append_assoc, inl, inr, IsTrue, Option, Some, None}
 use Rattle.std.specs.List.{slice_split, onto_first, AllByRecursion}
-use Rattle.std.proofs.lemmas.List.{append-nil, drop_all, length-append, take_all}
+use Rattle.std.proofs.lemmas.List.{append-nil, drop_all, length-append, length-take, take_all}
 use Rattle.std.proofs.lemmas.List.Splits.{slice_split_at, slice_split_none, slice_split-cons_no, length-slice_split}
 use Rattle.std.proofs.lemmas.List.Elements.{recursion_from_All}
 use Rattle.std.specs.Io.KnownBytes.{prepend_known, Keeps, IsAtEnd}
 use Rattle.board_model.specs.Lines.{IsOneLine, lines_of, whole_parts, TakesLine}
-use Rattle.script_loop.specs.Reader.{HasLongLine}
+use Rattle.script_loop.specs.Reader.{HasLongLine, IsShortLine}
+use Rattle.script_loop.specs.WholeLines.{LosesLine}
 
 abbrev is_newline : ℕ → Bool
 is_newline b = eqb b 10
@@ -63,12 +64,10 @@ long_line l rest h lt =
     rw b.2 (omega (arith, b.3))
 
 -- a line with its newline was in hand
-pub took_line : (s left : Option (List ℕ)) (hand line rest : List ℕ) → Keeps s (prepend_known hand left) → hand ≡ line ++ 10 ∷ rest → IsOneLine line → TakesLine s (prepend_known rest left) line
-took_line None left hand line rest k e h = tt
-took_line (Some bs) None hand line rest k e h = absurd k
-took_line (Some bs) (Some ys) hand line rest k e h =
-    let moved : bs ≡ line ++ 10 ∷ (rest ++ ys) = sym k ∙ ap (λ (x : List ℕ). x ++ ys) e ∙ append_assoc line (10 ∷ rest) ys in
-    ap lines_of moved ∙ lines_more line (rest ++ ys) h
+took_line : (ended : Bool) (s left : Option (List ℕ)) (hand line rest : List ℕ) → Keeps s (prepend_known hand left) → hand ≡ line ++ 10 ∷ rest → LosesLine ended s (prepend_known rest left) line
+took_line ended None left hand line rest k e = tt
+took_line ended (Some bs) None hand line rest k e = absurd k
+took_line ended (Some bs) (Some ys) hand line rest k e = inl (sym k ∙ ap (λ (x : List ℕ). x ++ ys) e ∙ append_assoc line (10 ∷ rest) ys)
 
 -- more than 4096 bytes without a newline were in hand
 pub is_long : (s left : Option (List ℕ)) (hand : List ℕ) → Keeps s (prepend_known hand left) → IsOneLine hand → 4096 < length hand → HasLongLine s
@@ -77,12 +76,22 @@ is_long (Some bs) None hand k h lt = absurd k
 is_long (Some bs) (Some ys) hand k h lt = subst (λ (b : List ℕ). HasLongLine (Some b)) k (long_line hand ys h lt)
 
 -- what was in hand when the source had ended
-pub took_last : (s left : Option (List ℕ)) (hand : List ℕ) → Keeps s (prepend_known hand left) → IsAtEnd left → IsOneLine hand → 0 < length hand → TakesLine s (prepend_known [] left) hand
-took_last None left hand k e h lt = tt
-took_last (Some bs) None hand k e h lt = absurd k
-took_last (Some bs) (Some ys) hand k e h lt =
-    let all : bs ≡ hand = sym k ∙ ap (λ (x : List ℕ). hand ++ x) e ∙ append-nil hand in
-    ap lines_of all ∙ lines_last hand h lt ∙ ap (λ (x : List ℕ). hand ∷ lines_of x) (sym e)
+took_last : (ended : Bool) (s left : Option (List ℕ)) (hand : List ℕ) → IsTrue ended → Keeps s (prepend_known hand left) → IsAtEnd left → 0 < length hand → LosesLine ended s (prepend_known [] left) hand
+took_last ended None left hand told k e lt = tt
+took_last ended (Some bs) None hand told k e lt = absurd k
+took_last ended (Some bs) (Some ys) hand told k e lt = inr (record {
+  told = told;
+  some = lt;
+  all = sym k ∙ ap (λ (x : List ℕ). hand ++ x) e ∙ append-nil hand;
+  none = e;
+})
+
+-- a line that is lost is the first of the lines
+pub takes_line : (ended : Bool) (s rest : Option (List ℕ)) (line : List ℕ) → IsOneLine line → LosesLine ended s rest line → TakesLine s rest line
+takes_line ended None rest line one t = tt
+takes_line ended (Some bs) None line one t = absurd t
+takes_line ended (Some bs) (Some ys) line one (inl e) = ap lines_of e ∙ lines_more line ys one
+takes_line ended (Some bs) (Some ys) line one (inr l) = ap lines_of l.all ∙ lines_last line one l.some ∙ ap (λ (x : List ℕ). line ∷ lines_of x) (sym l.none)
 
 -- nothing is left where nothing is in hand and the source is at its end
 pub none_left : (s left : Option (List ℕ)) (hand : List ℕ) → Keeps s (prepend_known hand left) → IsAtEnd left → length hand ≡ 0 → IsAtEnd s
@@ -118,12 +127,21 @@ parts_at c xs i lt e =
     sym (take-append-drop i xs) ∙ ap (λ (t : List ℕ). take i xs ++ t) d
 
 -- the bytes before a newline are the line, and the rest stands behind it
-pub gave_line : (s left : Option (List ℕ)) (hand line rest : List ℕ) (at : ℕ) → Keeps s (prepend_known hand left) → at < length hand → get_or hand at 0 ≡ 10 → IsOneLine (take at hand) → line ≡ take at hand → rest ≡ drop (at + 1) hand → TakesLine s (prepend_known rest left) line
-gave_line s left hand line rest at k lt newline one is behind =
-    took_line s left hand line rest k (parts_at 10 hand at lt newline ∙ rw (is, behind) refl) (subst IsOneLine (sym is) one)
+pub gave_line : (ended : Bool) (s left : Option (List ℕ)) (hand line rest : List ℕ) (at : ℕ) → Keeps s (prepend_known hand left) → at < length hand → get_or hand at 0 ≡ 10 → line ≡ take at hand → rest ≡ drop (at + 1) hand → LosesLine ended s (prepend_known rest left) line
+gave_line ended s left hand line rest at k lt newline is behind =
+    took_line ended s left hand line rest k (parts_at 10 hand at lt newline ∙ rw (is, behind) refl)
 
-pub gave_last : (s left : Option (List ℕ)) (hand line rest : List ℕ) (n : ℕ) → Keeps s (prepend_known hand left) → IsAtEnd left → IsOneLine hand → n ≡ length hand → 0 < n → line ≡ take n hand → rest ≡ drop (n + 0) hand → TakesLine s (prepend_known rest left) line
-gave_last s left hand line rest n k e one whole some is behind =
+pub gave_last : (ended : Bool) (s left : Option (List ℕ)) (hand line rest : List ℕ) (n : ℕ) → IsTrue ended → Keeps s (prepend_known hand left) → IsAtEnd left → n ≡ length hand → 0 < n → line ≡ take n hand → rest ≡ drop (n + 0) hand → LosesLine ended s (prepend_known rest left) line
+gave_last ended s left hand line rest n told k e whole some is behind =
     let line_is : line ≡ hand = is ∙ take_all n hand (omega (arith, whole)) in
     let rest_is : rest ≡ [] = behind ∙ drop_all (n + 0) hand (omega (arith, whole)) in
-    rw (line_is, rest_is) (took_last s left hand k e one (omega (arith, whole, some)))
+    rw (line_is, rest_is) (took_last ended s left hand told k e (omega (arith, whole, some)))
+
+-- ---- what is given out is short, and the hand isn't full behind it
+
+pub short_line : (hand line : List ℕ) (at : ℕ) → at ≤ 4096 → IsOneLine (take at hand) → line ≡ take at hand → IsShortLine line
+short_line hand line at most one is =
+    (subst IsOneLine (sym is) one, omega (arith, ap length is, length-take at hand, most))
+
+pub short_last : (hand line : List ℕ) (n : ℕ) → n ≤ 4096 → IsOneLine hand → n ≡ length hand → line ≡ take n hand → IsShortLine line
+short_last hand line n most one whole is = short_line hand line n most (subst IsOneLine (sym (take_all n hand (omega (arith, whole)))) one) is

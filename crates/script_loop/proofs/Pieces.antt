@@ -1,5 +1,5 @@
 -- Bytes that are read and written in pieces.
-use Rattle.std.proofs.Common.{◌≡◌, ℕ, ◌+◌, ◌-◌, ◌≤◌, List, ◌++◌, length, take, drop, arith, sym, ap, ◌∙◌, append_assoc, Option, Some, None}
+use Rattle.std.proofs.Common.{◌≡◌, ℕ, ◌+◌, ◌-◌, ◌≤◌, List, ◌++◌, length, take, drop, arith, sym, ap, subst, ◌∙◌, append_assoc, Option, Some, None}
 use Rattle.std.proofs.Math.Seq.{take-add}
 use Rattle.std.proofs.lemmas.List.{take_rest, take-append-drop, drop-drop, length-take, length-drop, take-append-le, take_all}
 use Rattle.std.specs.Io.KnownBytes.{Appends, Consumes, Keeps, prepend_known}
@@ -25,3 +25,18 @@ pub moved : (a b : Option (List ℕ)) (hand more : List ℕ) → Consumes a b mo
 moved None b hand more h = tt
 moved (Some xs) None hand more h = absurd h
 moved (Some xs) (Some ys) hand more h = rw h (append_assoc hand more ys)
+
+-- ---- what a sink takes within a room
+
+pub none_gone : (P : ℕ → Type 0) (n : ℕ) → P n → P (n - 0)
+none_gone P n h = let e : n - 0 ≡ n = omega arith in rw e h
+
+pub more_gone : (P : ℕ → Type 0) (n a b : ℕ) → P (n - a - b) → P (n - (a + b))
+more_gone P n a b h = let e : n - a - b ≡ n - (a + b) = omega arith in subst P e h
+
+pub all_gone : (P : ℕ → Type 0) (n a b : ℕ) → a ≡ b → P (n - a) → P (n - b)
+all_gone P n a b e h = subst (λ (x : ℕ). P (n - x)) e h
+
+-- what is left of the bytes fits into what is left of the room
+pub rest_fits : (bytes : List ℕ) (at n : ℕ) → length bytes ≤ n → length (take (length bytes - at) (drop at bytes)) ≤ n - at
+rest_fits bytes at n le = omega (arith, length-take (length bytes - at) (drop at bytes), length-drop at bytes, le)

@@ -14,33 +14,33 @@ use Rattle.script_model.specs.ScriptTurns.{ScriptState}
 use Rattle.script_model.specs.ScriptOutput.{AreLinesOf, BeginsWith, Fed, FollowedBy, GoesOnAfter, LeavesGrammarAfter, SpellsAll, output_of}
 use Rattle.script_loop.specs.Reader.{HasLongLine, HasMore}
 use Rattle.script_loop.proofs.LineLemmas.{some_lines}
-use Rattle.script_loop.specs.Runs.{IsBadAt, IsPast, IsReadCut, IsRunOf, IsSpent, IsWriteCut, Stream}
+use Rattle.script_loop.specs.Runs.{IsBadAt, IsPast, IsRunOf, IsSpent, IsWriteCut, Stream}
 use Rattle.script_loop.specs.Machines.{HasAnswered, HasRun, SpellsNone, StandsFor}
 
 -- ---- a session with one more pair
 
-lawful_more : (s : ScriptState) (ps : Session) (p : ScriptLine × ScriptAnswer) → IsLawfulFrom s ps → IsRight (state_after s ps) p.0 p.1 → IsLawfulFrom s (ps ++ p ∷ [])
+pub lawful_more : (s : ScriptState) (ps : Session) (p : ScriptLine × ScriptAnswer) → IsLawfulFrom s ps → IsRight (state_after s ps) p.0 p.1 → IsLawfulFrom s (ps ++ p ∷ [])
 lawful_more s [] p h r = (r, tt)
 lawful_more s (q ∷ ps) p h r = (h.0, lawful_more (after s q.0 q.1) ps p h.1 r)
 
-state_more : (s : ScriptState) (ps : Session) (p : ScriptLine × ScriptAnswer) → state_after s (ps ++ p ∷ []) ≡ after (state_after s ps) p.0 p.1
+pub state_more : (s : ScriptState) (ps : Session) (p : ScriptLine × ScriptAnswer) → state_after s (ps ++ p ∷ []) ≡ after (state_after s ps) p.0 p.1
 state_more s [] p = refl
 state_more s (q ∷ ps) p = state_more (after s q.0 q.1) ps p
 
-spells_more : (ls : List (List ℕ)) (ps : Session) (b : List ℕ) (p : ScriptLine × ScriptAnswer) → SpellsAll ls ps → SpellsLine b p.0 → SpellsAll (ls ++ b ∷ []) (ps ++ p ∷ [])
+pub spells_more : (ls : List (List ℕ)) (ps : Session) (b : List ℕ) (p : ScriptLine × ScriptAnswer) → SpellsAll ls ps → SpellsLine b p.0 → SpellsAll (ls ++ b ∷ []) (ps ++ p ∷ [])
 spells_more [] [] b p h s = (s, tt)
 spells_more (l ∷ ls) (q ∷ ps) b p h s = (h.0, spells_more ls ps b p h.1 s)
 spells_more [] (q ∷ ps) b p h s = absurd h
 spells_more (l ∷ ls) [] b p h s = absurd h
 
-output_more : (ps : Session) (p : ScriptLine × ScriptAnswer) → output_of (ps ++ p ∷ []) ≡ output_of ps ++ script_answer_line p.1
+pub output_more : (ps : Session) (p : ScriptLine × ScriptAnswer) → output_of (ps ++ p ∷ []) ≡ output_of ps ++ script_answer_line p.1
 output_more [] p = append-nil (script_answer_line p.1)
 output_more (q ∷ ps) p = ap (λ (x : List ℕ). script_answer_line q.1 ++ x) (output_more ps p) ∙ sym (append_assoc (script_answer_line q.1) (output_of ps) (script_answer_line p.1))
 
-length_more : (ps : Session) (p : ScriptLine × ScriptAnswer) → length (ps ++ p ∷ []) ≡ length ps + 1
+pub length_more : (ps : Session) (p : ScriptLine × ScriptAnswer) → length (ps ++ p ∷ []) ≡ length ps + 1
 length_more ps p = length-append ps (p ∷ [])
 
-fed_more : (input left rest : Option (List ℕ)) (ps : Session) (b : List ℕ) (p : ScriptLine × ScriptAnswer) → Fed input left ps → TakesLine left rest b → SpellsLine b p.0 → Fed input rest (ps ++ p ∷ [])
+pub fed_more : (input left rest : Option (List ℕ)) (ps : Session) (b : List ℕ) (p : ScriptLine × ScriptAnswer) → Fed input left ps → TakesLine left rest b → SpellsLine b p.0 → Fed input rest (ps ++ p ∷ [])
 fed_more None left rest ps b p f t s = tt
 fed_more (Some i) None rest ps b p f t s = absurd f
 fed_more (Some i) (Some l) None ps b p f t s = absurd t
@@ -52,7 +52,7 @@ fed_more (Some i) (Some l) (Some r) ps b p f t s = record {
 
 -- ---- where the input is known, what is left says what follows
 
-fed_begins : (input left : Option (List ℕ)) (ps : Session) → Fed input left ps → BeginsWith input ps
+pub fed_begins : (input left : Option (List ℕ)) (ps : Session) → Fed input left ps → BeginsWith input ps
 fed_begins None left ps f = tt
 fed_begins (Some i) None ps f = absurd f
 fed_begins (Some i) (Some l) ps f = (lines_of l, f)
@@ -105,7 +105,7 @@ fed_goes_on (Some i) (Some l) ps f h = some_first i ps (lines_of l) f (some_line
 
 -- ---- runs
 
-pub starts : {M : Type 0} (stands : M → ℕ → ScriptState → Type 0) (m : M) (input before : Option (List ℕ)) (hand : List ℕ) → hand ≡ [] → stands m 0 start → HasRun stands m 0 input (prepend_known hand input) before before
+unfoldable pub starts : {M : Type 0} (stands : M → ℕ → ScriptState → Type 0) (m : M) (input before : Option (List ℕ)) (hand : List ℕ) → hand ≡ [] → stands m 0 start → HasRun stands m 0 input (prepend_known hand input) before before
 starts stands m None before hand e h = record { session = []; lawful = tt; state = h; counted = refl; fed = tt; output = Appends-nil before }
 starts stands m (Some i) before hand e h =
     let same : hand ++ i ≡ i = rw e refl in
@@ -115,7 +115,7 @@ starts stands m (Some i) before hand e h =
 pub stands_for : {M : Type 0} (stands : M → ℕ → ScriptState → Type 0) (m : M) (count limit : ℕ) (input left before held : Option (List ℕ)) → count < limit → limit ≤ 4294967295 → (r : HasRun stands m count input left before held) → StandsFor stands m r.session
 stands_for stands m count limit input left before held lt few r = record { lawful = r.lawful; few = omega (arith, r.counted, lt, few); state = r.state }
 
-pub goes_on : {M : Type 0} (stands : M → ℕ → ScriptState → Type 0) (m new : M) (count : ℕ) (input left rest before held now : Option (List ℕ)) (b text : List ℕ) → (r : HasRun stands m count input left before held) → TakesLine left rest b → HasAnswered stands new r.session b text → Appends held now text → HasRun stands new (count + 1) input rest before now
+unfoldable pub goes_on : {M : Type 0} (stands : M → ℕ → ScriptState → Type 0) (m new : M) (count : ℕ) (input left rest before held now : Option (List ℕ)) (b text : List ℕ) → (r : HasRun stands m count input left before held) → TakesLine left rest b → HasAnswered stands new r.session b text → Appends held now text → HasRun stands new (count + 1) input rest before now
 goes_on stands m new count input left rest before held now b text r t a w =
     let p : ScriptLine × ScriptAnswer = (a.line, a.answer) in
     let w2 : Appends held now (script_answer_line a.answer) = subst (Appends held now) a.told w in
@@ -137,16 +137,6 @@ module _ {M : Type 0} (stands : M → ℕ → ScriptState → Type 0) (m : M) (c
     lawful = r.lawful;
     lines = fed_all source.before left r.session r.fed e;
     few = omega (arith, r.counted, few);
-    output = r.output;
-  }
-
-  pub read_cut : (part : List ℕ) → Keeps left (prepend_known part source.after) → IsOneLine part → IsReadCut source sink
-  read_cut part k one = record {
-    session = r.session;
-    lawful = r.lawful;
-    part = part;
-    cut = one;
-    lines = fed_kept source.before left (prepend_known part source.after) r.session r.fed k;
     output = r.output;
   }
 
@@ -179,19 +169,26 @@ module _ {M : Type 0} (stands : M → ℕ → ScriptState → Type 0) (m : M) (c
     output = r.output;
   }
 
-  pub is_spent : IsSpent source sink
-  is_spent = record { session = r.session; lawful = r.lawful; lines = fed_begins source.before left r.session r.fed; output = r.output }
+  pub is_spent : count ≤ limit → IsSpent limit source sink
+  is_spent few = record {
+    session = r.session;
+    lawful = r.lawful;
+    lines = fed_begins source.before left r.session r.fed;
+    few = omega (arith, r.counted, few);
+    output = r.output;
+  }
 
 -- nothing was run
 spent_on : (input : Option (List ℕ)) → BeginsWith input []
 spent_on None = tt
 spent_on (Some i) = (lines_of i, record { lines = []; all = refl; spelled = tt })
 
-pub spent_at_once : (source sink : Stream) → sink.after ≡ sink.before → IsSpent source sink
-spent_at_once source sink same = record {
+pub spent_at_once : (limit : ℕ) (source sink : Stream) → sink.after ≡ sink.before → IsSpent limit source sink
+spent_at_once limit source sink same = record {
   session = [];
   lawful = tt;
   lines = spent_on source.before;
+  few = omega arith;
   output = subst (λ (x : Option (List ℕ)). Appends sink.before x []) (sym same) (Appends-nil sink.before);
 }
 
@@ -199,8 +196,8 @@ spent_at_once source sink same = record {
 fronts : (all text : List ℕ) (n : ℕ) → all ++ take n text ≡ take (length all + n) (all ++ text)
 fronts all text n = sym (take-append-add all text n)
 
-pub write_cut : {M : Type 0} (stands : M → ℕ → ScriptState → Type 0) (m new : M) (count : ℕ) (source sink : Stream) (left rest held : Option (List ℕ)) (b text : List ℕ) (n : ℕ) → (r : HasRun stands m count source.before left sink.before held) → TakesLine left rest b → HasAnswered stands new r.session b text → Appends held sink.after (take n text) → IsWriteCut source sink
-write_cut stands m new count source sink left rest held b text n r t a w =
+pub write_cut : {M : Type 0} (stands : M → ℕ → ScriptState → Type 0) (m new : M) (count limit : ℕ) (source sink : Stream) (left rest held : Option (List ℕ)) (b text : List ℕ) (n : ℕ) → (r : HasRun stands m count source.before left sink.before held) → count < limit → TakesLine left rest b → HasAnswered stands new r.session b text → Appends held sink.after (take n text) → IsWriteCut limit source sink
+write_cut stands m new count limit source sink left rest held b text n r lt t a w =
     let p : ScriptLine × ScriptAnswer = (a.line, a.answer) in
     let w2 : Appends held sink.after (take n (script_answer_line a.answer)) = subst (λ (x : List ℕ). Appends held sink.after (take n x)) a.told w in
     let all : Appends sink.before sink.after (output_of r.session ++ take n (script_answer_line a.answer)) = Appends-trans sink.before held sink.after (output_of r.session) (take n (script_answer_line a.answer)) r.output w2 in
@@ -208,6 +205,7 @@ write_cut stands m new count source sink left rest held b text n r t a w =
       session = r.session ++ p ∷ [];
       lawful = lawful_more start r.session p r.lawful a.right;
       lines = fed_begins source.before rest (r.session ++ p ∷ []) (fed_more source.before left rest r.session b p r.fed t a.spelled);
+      few = omega (arith, length_more r.session p, r.counted, lt);
       written = length (output_of r.session) + n;
       output = subst (λ (x : List ℕ). Appends sink.before sink.after (take (length (output_of r.session) + n) x)) (sym (output_more r.session p)) (subst (Appends sink.before sink.after) (fronts (output_of r.session) (script_answer_line a.answer) n) all);
     }

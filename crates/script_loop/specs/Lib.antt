@@ -1,4 +1,5 @@
 pub mod Streams
+pub mod WholeLines
 pub mod Memory
 pub mod Reader
 pub mod Machines

@@ -1,10 +1,13 @@
 -- What a line reader has in hand.
-use Rattle.std.specs.Prelude.{ℕ, ◌-◌, ◌<◌, Bool, List, length, take, drop, slice_get, IsSomeAnd, Option, Some, None, ⊤}
+use Rattle.std.specs.Prelude.{◌≡◌, ℕ, ◌-◌, ◌<◌, ◌≤◌, Bool, false, List, length, take, drop, slice_get, IsSomeAnd, Option, Some, None, ⊤}
 use Rattle.std.specs.Io.KnownBytes.{IsAtEnd, prepend_known}
 use Rattle.script_loop.specs.declared.line_reader.LineReader.{LineReader}
 use Rattle.script_loop.specs.declared.line_reader.Fetched.{Fetched}
 use Rattle.script_loop.specs.declared.line_reader.Fetched.TheVariants.{Line, Long, End}
-use Rattle.board_model.specs.Lines.{TakesLine, lines_of}
+use Rattle.board_model.specs.Lines.{IsOneLine, lines_of}
+use Rattle.script_loop.specs.WholeLines.{LosesLine}
+
+-- ---- the reader
 
 -- the bytes from one place to another
 abbrev pub between : List ℕ → ℕ → ℕ → List ℕ
@@ -30,6 +33,22 @@ line_given r = between r.bytes.items r.line_start r.line_end
 abbrev pub source_ended : LineReader → Bool
 source_ended r = r.ended
 
+-- the next line can't be told without the source: neither a newline nor 4097 bytes are in hand, and its end isn't told
+pub record NeedsBytes (r : LineReader) : Type 0 where
+  pub lacks : IsOneLine (in_hand r)
+  pub room : hand_length r ≤ 4096
+  pub unended : source_ended r ≡ false
+
+-- ---- what it finds
+
+-- a line as a reader gives it out
+abbrev pub IsShortLine : List ℕ → Type 0
+IsShortLine line = IsOneLine line × (length line ≤ 4096)
+
+-- as many bytes as a reader holds, and no newline among them
+abbrev pub IsFull : List ℕ → Type 0
+IsFull hand = IsOneLine hand × (length hand ≡ 4097)
+
 -- the first line has more than 4096 bytes, where the bytes are known
 abbrev pub HasLongLine : Option (List ℕ) → Type 0
 HasLongLine None = ⊤
@@ -40,11 +59,23 @@ abbrev pub HasMore : Option (List ℕ) → Type 0
 HasMore None = ⊤
 HasMore (Some bytes) = 0 < length bytes
 
--- what a look for the next line found: before it these bytes were to come, and now those are
-abbrev pub IsFetched : Fetched → List ℕ → Option (List ℕ) → Option (List ℕ) → Type 0
-IsFetched Line line old new = TakesLine old new line
-IsFetched Long line old new = HasLongLine old
-IsFetched End line old new = IsAtEnd old
+-- what a look for the next line found, with the source's end told or not: before it these bytes were to come, and now those are
+abbrev pub IsFetched : Fetched → Bool → List ℕ → Option (List ℕ) → Option (List ℕ) → Type 0
+IsFetched Line ended line old new = LosesLine ended old new line
+IsFetched Long ended line old new = HasLongLine old
+IsFetched End ended line old new = IsAtEnd old
+
+-- where a line was found, it is short
+abbrev pub FoundShort : Fetched → List ℕ → Type 0
+FoundShort Line line = IsShortLine line
+FoundShort Long line = ⊤
+FoundShort End line = ⊤
+
+-- where the line was too long, the hand is full
+abbrev pub FoundFull : Fetched → List ℕ → Type 0
+FoundFull Line hand = ⊤
+FoundFull Long hand = IsFull hand
+FoundFull End hand = ⊤
 
 abbrev pub IsEnd : Fetched → Type 0
 IsEnd Line = ⊥

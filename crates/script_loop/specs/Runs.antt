@@ -1,9 +1,10 @@
 -- What a run of a script comes to, from its source to its sink.
-use Rattle.std.specs.Prelude.{◌≡◌, ℕ, ◌+◌, ◌≤◌, List, length, take, IsSomeAnd, Option, Result, IfErr, IsErrOf, OnOk}
+use Rattle.std.specs.Prelude.{◌≡◌, ◌≢◌, ℕ, ◌+◌, ◌≤◌, List, length, take, IsSomeAnd, Option, Result, Err, IfErr, IsErrOf, OnOk}
 use Rattle.std.specs.Io.KnownBytes.{Appends, IsAtEnd, prepend_known}
 use Rattle.board_model.specs.Lines.{IsOneLine, Rose}
 use Rattle.script_model.specs.ScriptSession.{Session, IsLawful}
-use Rattle.script_model.specs.ScriptOutput.{AreLinesOf, BeginsWith, Fed, GoesOnAfter, IsScript, LeavesGrammarAfter, output_of}
+use Rattle.script_model.specs.ScriptOutput.{AreLinesOf, BeginsWith, GoesOnAfter, IsScript, LeavesGrammarAfter, output_of}
+use Rattle.script_loop.specs.WholeLines.{HasWholeLines}
 use Rattle.script_loop.specs.declared.error.ScriptError.{ScriptError}
 use Rattle.script_loop.specs.declared.error.ScriptError.TheVariants.{ReadFault, WriteFault, BadLine, TooLong, OutOfMemory}
 
@@ -32,6 +33,10 @@ HasFailed stream = Rose stream.faults_before stream.faults_after
 abbrev pub CountsOn : Stream → Type 0
 CountsOn stream = stream.faults_before ≤ stream.faults_after
 
+-- its count of faults is as it was: no call failed, or it stands at its last value
+abbrev pub CountStays : Stream → Type 0
+CountStays stream = stream.faults_after ≡ stream.faults_before
+
 -- ---- runs
 
 -- all lines of the input were answered
@@ -42,20 +47,22 @@ pub record IsRunOf (limit : ℕ) (source sink : Stream) : Type 0 where
   pub few : length session ≤ limit
   pub output : Gains sink (output_of session)
 
--- the source failed: the lines that were whole were answered, and a part of the next was read
-pub record IsReadCut (source sink : Stream) : Type 0 where
+-- the source failed: the input is the whole lines, each with its newline, then a part of a line, then what is left; the whole lines were answered, and the part wasn't
+pub record IsReadCut (limit : ℕ) (source sink : Stream) : Type 0 where
   pub session : Session
   pub lawful : IsLawful session
   pub part : List ℕ
   pub cut : IsOneLine part
-  pub lines : Fed source.before (prepend_known part source.after) session
+  pub lines : HasWholeLines source.before (prepend_known part source.after) session
+  pub few : length session ≤ limit
   pub output : Gains sink (output_of session)
 
 -- the sink failed: of the answers to the first lines a front was written
-pub record IsWriteCut (source sink : Stream) : Type 0 where
+pub record IsWriteCut (limit : ℕ) (source sink : Stream) : Type 0 where
   pub session : Session
   pub lawful : IsLawful session
   pub lines : BeginsWith source.before session
+  pub few : length session ≤ limit
   pub written : ℕ
   pub output : Gains sink (take written (output_of session))
 
@@ -77,19 +84,31 @@ pub record IsPast (limit : ℕ) (source sink : Stream) : Type 0 where
   pub output : Gains sink (output_of session)
 
 -- memory was refused: the lines before were answered
-pub record IsSpent (source sink : Stream) : Type 0 where
+pub record IsSpent (limit : ℕ) (source sink : Stream) : Type 0 where
   pub session : Session
   pub lawful : IsLawful session
   pub lines : BeginsWith source.before session
+  pub few : length session ≤ limit
   pub output : Gains sink (output_of session)
 
 -- what stands after each error
 abbrev pub IsStopped : ScriptError → ℕ → Stream → Stream → Type 0
-IsStopped ReadFault limit source sink = IsReadCut source sink
-IsStopped WriteFault limit source sink = IsWriteCut source sink
+IsStopped ReadFault limit source sink = IsReadCut limit source sink
+IsStopped WriteFault limit source sink = IsWriteCut limit source sink
 IsStopped (BadLine n) limit source sink = IsBadAt n limit source sink
 IsStopped TooLong limit source sink = IsPast limit source sink
-IsStopped OutOfMemory limit source sink = IsSpent source sink
+IsStopped OutOfMemory limit source sink = IsSpent limit source sink
+
+-- ---- runs that are run to their end
+
+-- right answers to the first lines of the input, at most so many, have at most so many bytes
+abbrev pub FitsInto : ℕ → ℕ → Option (List ℕ) → Type 0
+FitsInto room limit input = (session : Session) → IsLawful session → BeginsWith input session → length session ≤ limit → length (output_of session) ≤ room
+
+-- the input is known to be a script of at most so many lines, and its output has at most so many bytes
+pub record IsRunnable (room limit : ℕ) (input : Option (List ℕ)) : Type 0 where
+  pub script : IsSomeAnd input (IsScript limit)
+  pub output : FitsInto room limit input
 
 -- the source is known to be a script of at most so many lines, and neither it nor the sink failed
 pub record IsUndisturbed (limit : ℕ) (source sink : Stream) : Type 0 where
@@ -109,5 +128,8 @@ pub record Runs (limit : ℕ) (source sink : Stream) (result : Result (Unit {0})
   -- the faults are those of the source and of the sink
   pub read : IsErrOf result ReadFault → HasFailed source
   pub write : IsErrOf result WriteFault → HasFailed sink
+  -- a fault is told: with any other answer the count of faults stays
+  pub read_told : result ≢ Err ReadFault → CountStays source
+  pub write_told : result ≢ Err WriteFault → CountStays sink
   pub read_later : CountsOn source
   pub write_later : CountsOn sink

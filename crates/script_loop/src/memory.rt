@@ -16,7 +16,7 @@ pub struct MemorySource {
     ghost inside: { at ≤ vec_len bytes },
 }
 
-/// A room in memory, which takes bytes in pieces. Some of its calls fail, and those that find no room left.
+/// A room in memory, which takes bytes in pieces. Some of its calls fail, and those with a byte that find no room left.
 #[derive(Drop, Debug)]
 pub struct MemorySink {
     bytes: Vec<u8>,

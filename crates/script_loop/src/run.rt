@@ -1,8 +1,9 @@
 //! Lines that are run one after another.
-ghost use Rattle.std.specs.Prelude.{◌≡◌, ◌≤◌, [], IsErrOf, OnErr, OnOk, ℕ};
+ghost use Rattle.std.specs.Prelude.{◌≡◌, ◌≢◌, ◌≤◌, [], IfSome, IsErrOf, OnErr, OnOk, false, ℕ};
 ghost use Rattle.script_model.specs.ScriptSession.{Session, start};
 ghost use Rattle.script_model.specs.ScriptTurns.{ScriptState};
-ghost use Rattle.script_loop.specs.Runs.{Runs, stream_of};
+ghost use Rattle.script_loop.specs.Reader.{in_hand, source_ended};
+ghost use Rattle.script_loop.specs.Runs.{FitsInto, Runs, stream_of};
 ghost use Rattle.script_loop.specs.Machines.{AnswersEach, SpellsNone, StandsFor, StandsStill};
 
 use crate::error::{LineError, ScriptError};
@@ -35,6 +36,19 @@ pub trait RunsLines {
         ensures err { OnErr result (answer.new.items ≡ []) };
 }
 
+// A reader with nothing in hand, or none where memory is refused.
+fn new_reader(alloc: Global) -> Option<LineReader>
+    ensures hand { IfSome result (λ reader. in_hand reader ≡ []) }
+    ensures ended { IfSome result (λ reader. source_ended reader ≡ false) }
+{
+    match LineReader::new(alloc) {
+        Ok(reader) => Some(reader),
+        Err(LineError::OutOfMemory) => None,
+        // No line was looked at yet.
+        Err(LineError::Bad) => unreachable!(),
+    }
+}
+
 /// Answers the lines of the source, at most `limit` of them, and writes each answer before the next line is looked at.
 ///
 /// Line n is counted from 1. `TooLong` is looked at when a byte follows the last line that is allowed.
@@ -52,12 +66,17 @@ pub fn run_lines<M: RunsLines, S: Source, K: Sink>(
     requires machine { M.stands machine.old 0 start }
 
     // The sink gained the output of the lawful session of the input's lines, or the error says what stands.
-    ensures { Runs limit
+    ensures runs { Runs limit
         (stream_of S.left S.faults source.old source.new)
         (stream_of K.held K.faults sink.old sink.new)
         result }
+
+    // Where no read fails there is no read fault, and where no write fails within the output no write fault.
+    ensures reads { S.never_fails source.old → result ≢ Err ScriptError.ReadFault }
+    ensures writes { (room : ℕ) → K.never_fails_within sink.old room
+        → FitsInto room limit (S.left source.old) → result ≢ Err ScriptError.WriteFault }
 {
-    let Ok(mut reader) = LineReader::new(alloc) else {
+    let Some(mut reader) = new_reader(alloc) else {
         return Err(ScriptError::OutOfMemory);
     };
     let mut answer = Vec::new(alloc);

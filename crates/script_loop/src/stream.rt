@@ -1,5 +1,5 @@
 //! Where a script's bytes come from, and where its output goes.
-ghost use Rattle.std.specs.Prelude.{List, ℕ, Option};
+ghost use Rattle.std.specs.Prelude.{List, ℕ, Option, ◌≡◌, ◌-◌, ◌≤◌, IsOk, IsOkAnd, OnOk, length};
 ghost use Rattle.std.specs.Io.{ReadsAtMost};
 ghost use Rattle.std.specs.Io.KnownBytes.{ReadConsumes, WriteAppends};
 ghost use Rattle.board_model.specs.Lines.{HasCause};
@@ -15,10 +15,13 @@ pub struct Failed;
 /// Where bytes come from.
 ///
 /// Contracts see the bytes that are `left` to read, where they are known, and a count of `faults` that never falls.
+/// A source may be known to be one that `never_fails` from now on.
 pub trait Source {
     ghost left: { Self → Option (List ℕ) };
 
     ghost faults: { Self → ℕ };
+
+    ghost never_fails: { Self → Type 0 };
 
     /// Fills a front of `buf` with the next bytes, and gives how many. 0 for a `buf` that isn't empty means the end.
     ///
@@ -30,17 +33,24 @@ pub trait Source {
         // The next bytes are given, and lost to the source. None comes only where none is left. A failed read takes none.
         ensures bytes { ReadConsumes (left self.old) (left self.new) result buf.new }
 
-        // It fails only where the count of faults rises.
-        ensures cause { HasCause (faults self.old) (faults self.new) result };
+        // It fails only where the count of faults rises, and the count rises only there.
+        ensures cause { HasCause (faults self.old) (faults self.new) result }
+        ensures told { OnOk result (faults self.new ≡ faults self.old) }
+
+        ensures unfailing { never_fails self.old → IsOk result }
+        ensures never_later { never_fails self.old → never_fails self.new };
 }
 
 /// Where bytes go.
 ///
 /// Contracts see the bytes that are `held`, where they are known, and a count of `faults` that never falls.
+/// A sink may be known to be one that `never_fails_within` so many more bytes.
 pub trait Sink {
     ghost held: { Self → Option (List ℕ) };
 
     ghost faults: { Self → ℕ };
+
+    ghost never_fails_within: { Self → ℕ → Type 0 };
 
     /// Takes a front of `bytes`, at least one byte where there is one, and gives how many.
     ///
@@ -52,6 +62,11 @@ pub trait Sink {
         // The sink holds the bytes that it took. A failed write takes none.
         ensures bytes { WriteAppends (held self.old) (held self.new) result bytes.now }
 
-        // It fails only where the count of faults rises.
-        ensures cause { HasCause (faults self.old) (faults self.new) result };
+        // It fails only where the count of faults rises, and the count rises only there.
+        ensures cause { HasCause (faults self.old) (faults self.new) result }
+        ensures told { OnOk result (faults self.new ≡ faults self.old) }
+
+        // Where no write fails within so many bytes, this one doesn't, and none does within those that are left of them.
+        ensures unfailing { (n : ℕ) → never_fails_within self.old n → length bytes.now ≤ n
+            → IsOkAnd result (λ count. never_fails_within self.new (n - count)) };
 }

@@ -1,5 +1,5 @@
 //! Whole lines to a sink.
-ghost use Rattle.std.specs.Prelude.{OnOk, OnErr, ℕ, take};
+ghost use Rattle.std.specs.Prelude.{◌≡◌, ◌-◌, ◌≤◌, IsOk, OnOk, OnErr, ℕ, length, take};
 ghost use Rattle.std.specs.Io.KnownBytes.{Appends};
 ghost use Rattle.board_model.specs.Lines.{HasCause};
 
@@ -13,8 +13,16 @@ pub fn write_whole<K: Sink>(sink: &mut K, bytes: &[u8]) -> Result<(), Failed>
     ensures ok { OnOk result (Appends (K.held sink.old) (K.held sink.new) bytes.now) }
 
     // A front of the bytes was written before a fault.
-    ensures err { OnErr result ((n : ℕ) × Appends (K.held sink.old) (K.held sink.new) (take n bytes.now)) }
+    ensures err { OnErr result ((n : ℕ)
+        × Appends (K.held sink.old) (K.held sink.new) (take n bytes.now)) }
     ensures cause { HasCause (K.faults sink.old) (K.faults sink.new) result }
+    ensures told { OnOk result (K.faults sink.new ≡ K.faults sink.old) }
+
+    // It doesn't fail where the sink is known to take so many bytes, and the sink then takes the others of them.
+    ensures unfailing { (n : ℕ) → K.never_fails_within sink.old n → length bytes.now ≤ n
+        → IsOk result }
+    ensures never_later { (n : ℕ) → K.never_fails_within sink.old n → length bytes.now ≤ n
+        → K.never_fails_within sink.new (n - length bytes.now) }
 {
     let mut at = 0;
     while at < bytes.len() {

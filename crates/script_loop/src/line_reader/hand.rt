@@ -1,7 +1,7 @@
-ghost use Rattle.std.specs.Prelude.{◌≡◌, ◌<◌, ◌≤◌, ◌+◌, [], IfErr, IfNone, IfOk, IfSome, IsTrue, OnErr, OnOk, drop, false, length, slice_index, take};
+ghost use Rattle.std.specs.Prelude.{◌≡◌, ◌<◌, ◌≤◌, ◌+◌, [], IfErr, IfNone, IfOk, IfSome, IsOk, IsTrue, OnErr, OnOk, drop, false, length, slice_index, take};
 ghost use Rattle.std.specs.Io.KnownBytes.{Consumes, Keeps, IsAtEnd};
 ghost use Rattle.board_model.specs.Lines.{HasCause, IsOneLine};
-ghost use Rattle.script_loop.specs.Reader.{source_ended, hand_length, in_hand, line_given, to_come};
+ghost use Rattle.script_loop.specs.Reader.{NeedsBytes, source_ended, hand_length, in_hand, line_given, to_come};
 
 use super::LineReader;
 use crate::error::LineError;
@@ -19,6 +19,9 @@ fn read_behind<S: Source>(bytes: &mut [u8], from: usize, source: &mut S) -> Resu
     ensures end { IfOk result (λ count. count ≡ 0 → IsAtEnd (S.left source.new)) }
     ensures err { OnErr result (Keeps (S.left source.old) (S.left source.new)) }
     ensures cause { HasCause (S.faults source.old) (S.faults source.new) result }
+    ensures told { OnOk result (S.faults source.new ≡ S.faults source.old) }
+    ensures unfailing { S.never_fails source.old → IsOk result }
+    ensures never_later { S.never_fails source.old → S.never_fails source.new }
 {
     source.read(&mut bytes[from..])
 }
@@ -101,15 +104,20 @@ impl LineReader {
 
     // Takes more bytes in hand, as many as the buffer has room for, and notes where none is left.
     pub(super) fn fill<S: Source>(&mut self, source: &mut S) -> Result<(), Failed>
-        requires room { hand_length self.old < 4097 }
-        requires open { source_ended self.old ≡ false }
-        ensures kept { Keeps (to_come self.old (S.left source.old)) (to_come self.new (S.left source.new)) }
+        requires { NeedsBytes self.old }
+        ensures kept { Keeps (to_come self.old (S.left source.old))
+            (to_come self.new (S.left source.new)) }
         ensures front { take (hand_length self.old) (in_hand self.new) ≡ in_hand self.old }
-        ensures grew { OnOk result (source_ended self.new ≡ false → hand_length self.old < hand_length self.new) }
+        ensures grew { OnOk result (source_ended self.new ≡ false
+            → hand_length self.old < hand_length self.new) }
         ensures same { IsTrue (source_ended self.new) → in_hand self.new ≡ in_hand self.old }
         ensures failed { OnErr result (in_hand self.new ≡ in_hand self.old) }
         ensures ended { IsTrue (source_ended self.new) → IsAtEnd (S.left source.new) }
+        ensures unended { OnErr result (source_ended self.new ≡ false) }
         ensures cause { HasCause (S.faults source.old) (S.faults source.new) result }
+        ensures told { OnOk result (S.faults source.new ≡ S.faults source.old) }
+        ensures unfailing { S.never_fails source.old → IsOk result }
+        ensures never_later { S.never_fails source.old → S.never_fails source.new }
     {
         self.to_front();
         let count = read_behind(&mut self.bytes, self.end, source)?;

@@ -1,8 +1,8 @@
-ghost use Rattle.std.specs.Prelude.{◌≡◌, IfOk, IsTrue, OnErr, false};
+ghost use Rattle.std.specs.Prelude.{◌≡◌, IfOk, IsOk, IsTrue, OnErr, OnOk, false};
 ghost use Rattle.std.specs.Io.KnownBytes.{IsAtEnd, Keeps};
 ghost use Rattle.board_model.specs.Lines.{HasCause, IsOneLine};
-ghost use Rattle.script_loop.specs.Reader.{HasMore};
-ghost use Rattle.script_loop.specs.Reader.{IsEnd, IsFetched, source_ended, in_hand, line_given, to_come};
+ghost use Rattle.script_loop.specs.Reader.{HasMore, NeedsBytes, source_ended, in_hand, line_given, to_come};
+ghost use Rattle.script_loop.specs.Reader.{FoundFull, FoundShort, IsEnd, IsFetched, IsFull};
 
 use super::{Fetched, LineReader};
 use crate::stream::{Failed, Source};
@@ -19,16 +19,33 @@ impl LineReader {
         requires one_source { IsTrue (source_ended self.old) → IsAtEnd (S.left source.old) }
 
         // The bytes in hand and those that are left lose the line, and nothing else.
-        ensures fetched { IfOk result (λ f. IsFetched f (line_given self.new)
+        ensures fetched { IfOk result (λ f.
+            IsFetched f (source_ended self.new) (line_given self.new)
             (to_come self.old (S.left source.old)) (to_come self.new (S.left source.new))) }
+
+        // A line has at most 4096 bytes, and none is found where 4097 bytes without a newline are in hand, and only there.
+        ensures short { IfOk result (λ f. FoundShort f (line_given self.new)) }
+        ensures long { IfOk result (λ f. FoundFull f (in_hand self.new)) }
+        ensures full { IsFull (in_hand self.new) → result ≡ Ok Fetched.Long }
+
+        // The source isn't read where the line can be told without it.
+        ensures unread { (NeedsBytes self.old → ⊥) → source.new ≡ source.old }
+
         ensures one_source { IsTrue (source_ended self.new) → IsAtEnd (S.left source.new) }
         ensures at_end { IfOk result (λ f. IsEnd f → IsAtEnd (S.left source.new)) }
+        ensures unended { source_ended self.new ≡ false → source_ended self.old ≡ false }
 
         // It fails only where the source's count of faults rises. Then no byte is lost, and no newline is in hand.
         ensures kept { OnErr result
             (Keeps (to_come self.old (S.left source.old)) (to_come self.new (S.left source.new))) }
         ensures cut { OnErr result (IsOneLine (in_hand self.new)) }
+        ensures more { OnErr result (source_ended self.new ≡ false) }
         ensures cause { HasCause (S.faults source.old) (S.faults source.new) result }
+
+        // A fault is told.
+        ensures told { OnOk result (S.faults source.new ≡ S.faults source.old) }
+        ensures unfailing { S.never_fails source.old → IsOk result }
+        ensures never_later { S.never_fails source.old → S.never_fails source.new }
     {
         let mut searched = 0;
         loop {
@@ -54,13 +71,18 @@ impl LineReader {
     // Whether no byte is left. The source is read only where nothing is in hand.
     pub(crate) fn is_at_end<S: Source>(&mut self, source: &mut S) -> Result<bool, Failed>
         requires one_source { IsTrue (source_ended self.old) → IsAtEnd (S.left source.old) }
-        ensures end { IfOk result (λ end. IsTrue end → IsAtEnd (to_come self.old (S.left source.old))) }
+        ensures end { IfOk result (λ end. IsTrue end
+            → IsAtEnd (to_come self.old (S.left source.old))) }
         ensures left { IfOk result (λ end. IsTrue end → IsAtEnd (S.left source.new)) }
-        ensures more { IfOk result (λ end. end ≡ false → HasMore (to_come self.old (S.left source.old))) }
+        ensures more { IfOk result (λ end. end ≡ false
+            → HasMore (to_come self.old (S.left source.old))) }
         ensures kept { OnErr result
             (Keeps (to_come self.old (S.left source.old)) (to_come self.new (S.left source.new))) }
         ensures cut { OnErr result (IsOneLine (in_hand self.new)) }
+        ensures unended { OnErr result (source_ended self.old ≡ false) }
         ensures cause { HasCause (S.faults source.old) (S.faults source.new) result }
+        ensures told { OnOk result (S.faults source.new ≡ S.faults source.old) }
+        ensures unfailing { S.never_fails source.old → IsOk result }
     {
         if self.hand_len() > 0 {
             return Ok(false);

@@ -1,5 +1,5 @@
 ghost use Rattle.std.specs.Prelude.{◌≡◌, IfOk, Some, []};
-ghost use Rattle.script_loop.specs.Memory.{sink_holds, source_left};
+ghost use Rattle.script_loop.specs.Memory.{fresh_calls, sink_calls, sink_holds, sink_room, source_calls, source_left};
 
 use super::{MemorySink, MemorySource};
 use crate::error::SinkError;
@@ -12,6 +12,7 @@ impl MemorySource {
     pub fn new(bytes: Vec<u8>, piece: usize, fails: Vec<u64>) -> MemorySource
         ensures left { source_left result ≡ Some bytes.items }
         ensures faults { result.faults ≡ 0 }
+        ensures calls { source_calls result ≡ fresh_calls piece fails.items }
     {
         MemorySource {
             bytes,
@@ -38,7 +39,9 @@ impl MemorySink {
         fails: Vec<u64>,
     ) -> Result<MemorySink, SinkError>
         ensures held { IfOk result (λ sink. sink_holds sink ≡ []) }
+        ensures room { IfOk result (λ sink. sink_room sink ≡ room) }
         ensures faults { IfOk result (λ sink. sink.faults ≡ 0) }
+        ensures calls { IfOk result (λ sink. sink_calls sink ≡ fresh_calls piece fails.items) }
     {
         let bytes = vec![in alloc; 0; room]?;
         Ok(MemorySink {

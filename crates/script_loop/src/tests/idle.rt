@@ -40,7 +40,8 @@ fn reason_of(line: &ScriptLine) -> Option<Reason>
 
 // Why the line of these bytes is refused.
 fn refusal(alloc: Global, bytes: &[u8]) -> Result<Reason, LineError>
-    ensures ok { IfOk result (λ why. (l : ScriptLine) × SpellsLine bytes.now l × (Some why ≡ idle_reason l)) }
+    ensures ok { IfOk result (λ why.
+        (l : ScriptLine) × SpellsLine bytes.now l × (Some why ≡ idle_reason l)) }
     ensures bad { IsErrOf result LineError.Bad → SpellsNone bytes.now }
 {
     let Some(line) = parse_line(alloc, bytes)? else {

@@ -1,10 +1,34 @@
-use Rattle.std.proofs.Common.{rules}
-use Rattle.script_loop.proofs.Pieces.{more_written}
+use Rattle.std.proofs.Common.{◌-◌, ◌≡◌, length, arith, rules}
+use Rattle.script_loop.proofs.Pieces.{all_gone, more_gone, more_written, none_gone, rest_fits}
 use Rattle.script_loop.proofs.writer.write_whole.Goals as goal
+
+pub loop-at-init : goal.loop-at-init
+loop-at-init g c = record {
+  inside = search rules;
+  written = search rules;
+  same = search rules;
+  room = λ n h le. none_gone (g.K.Sink.never_fails_within _) n h;
+}
 
 pub loop-at-preserved : goal.loop-at-preserved
 loop-at-preserved g c = record {
   inside = search rules;
   written = more_written _ _ _ c.args.bytes.now c.loop-at.at c.in_ok-taken.taken c.loop-at.invariant.written c.in_ok-taken.ensures.bytes;
-  later = search rules;
+  same = search rules;
+  room = λ n h le.
+      more_gone (g.K.Sink.never_fails_within _) n c.loop-at.at c.in_ok-taken.taken
+      (c.in_ok-taken.ensures.unfailing (n - c.loop-at.at) (c.loop-at.invariant.room n h le) (rest_fits c.args.bytes.now c.loop-at.at n le));
 }
+
+pub returns-in_err-taken-clause-unfailing : goal.returns-in_err-taken-clause-unfailing
+returns-in_err-taken-clause-unfailing g c = λ n h le.
+    absurd (c.in_err-taken.ensures.unfailing (n - c.loop-at.at) (c.loop-at.invariant.room n h le) (rest_fits c.args.bytes.now c.loop-at.at n le))
+
+pub returns-in_err-taken-clause-never_later : goal.returns-in_err-taken-clause-never_later
+returns-in_err-taken-clause-never_later g c = λ n h le.
+    absurd (c.in_err-taken.ensures.unfailing (n - c.loop-at.at) (c.loop-at.invariant.room n h le) (rest_fits c.args.bytes.now c.loop-at.at n le))
+
+pub returns-clause-never_later : goal.returns-clause-never_later
+returns-clause-never_later g c = λ n h le.
+    let whole : c.loop-at.at ≡ length c.args.bytes.now = omega arith in
+    all_gone (g.K.Sink.never_fails_within _) n c.loop-at.at (length c.args.bytes.now) whole (c.loop-at.invariant.room n h le)

@@ -1,0 +1,28 @@
+-- Calls that are listed to fail.
+use Rattle.std.proofs.Common.{◌≡◌, ℕ, ◌+◌, ◌-◌, ◌<◌, ◌≤◌, ◌^◌, min, Bool, true, false, eqb, eq-eqb, List, [], length, get_or, arith, refl, sym, ap, subst, ◌∙◌, All, Contains}
+use Rattle.std.specs.List.{IsAnyAnswer}
+use Rattle.std.proofs.lemmas.Bool.{eqb-true}
+use Rattle.script_loop.specs.declared.memory.MemorySink.{MemorySink}
+use Rattle.script_loop.specs.Memory.{Calls, IsListed, NoneIsListed, SinkNeverFails, fresh_calls, one_more, sink_calls, sink_room}
+
+pub is_listed : (fails : List ℕ) (call : ℕ) → IsAnyAnswer (λ y b. eqb y call ≡ b) fails true → Contains fails call
+is_listed fails call h = (h.0, h.1, eqb-true (get_or fails h.0 call) call (h.2 call))
+
+pub not_listed : (fails : List ℕ) (call : ℕ) → IsAnyAnswer (λ y b. eqb y call ≡ b) fails false → Contains fails call → ⊥
+not_listed fails call h k =
+    let no : eqb (get_or fails k.0 call) call ≡ false = h k.0 call (omega arith) k.1 in
+    let yes : eqb (get_or fails k.0 call) call ≡ true = eq-eqb (get_or fails k.0 call) call k.2 in
+    absurd cc
+
+pub all_over : (calls : Calls) → NoneIsListed calls → IsListed calls → ⊥
+all_over calls h k = let lt = h k.0 calls.made k.1 in omega (arith, lt, k.2)
+
+pub still_over : (calls : Calls) → calls.made < 2 ^ 64 → NoneIsListed calls → NoneIsListed (one_more calls)
+still_over calls few h = λ k d lt. let l = h k d lt in omega (arith, l, few)
+
+-- no call is to fail where the list is empty
+pub none_listed : (calls : Calls) (piece : ℕ) → calls ≡ fresh_calls piece [] → NoneIsListed calls
+none_listed calls piece e = subst NoneIsListed (sym e) (λ k d lt. absurd (omega (arith, lt)))
+
+pub sink_has_room : (k : MemorySink) (piece room : ℕ) → sink_calls k ≡ fresh_calls piece [] → sink_room k ≡ room → SinkNeverFails k room
+sink_has_room k piece room e f = (none_listed (sink_calls k) piece e, omega (arith, f))

@@ -1,0 +1,88 @@
+#!/bin/bash
+# Runs the built programs from outside, on real files and pipes, and compares what they write, what they note and their
+# status. It ends with status 1 where one of them does otherwise. `make test` leaves the programs where this looks.
+cd "$(dirname "${BASH_SOURCE[0]}")" || exit 1
+run=$PWD/crates/board_run/out/board_run
+bench=$PWD/crates/board_bench/out/board_bench
+for program in "$run" "$bench"; do
+    [ -x "$program" ] || { echo "$program is not there: make test leaves it" >&2; exit 1; }
+done
+folder=$(mktemp -d) && trap 'rm -r "$folder"' EXIT
+bad=0
+
+# tells NAME GOOD: what came of one trial
+tells() {
+    if [ "$2" = yes ]; then echo "well: $1"; else echo "WRONG: $1" >&2; bad=1; fi
+}
+
+# gives NAME STATUS OUTPUT NOTE COMMAND..: the command ends so, after these bytes on standard output and error
+gives() {
+    local name=$1 wanted=$2 output=$3 note=$4 status good=yes
+    shift 4
+    timeout 60 "$@" > "$folder/output" 2> "$folder/note"
+    status=$?
+    [ "$status" = "$wanted" ] || { echo "status $status, not $wanted" >&2; good=no; }
+    printf "$output" | cmp - "$folder/output" >&2 || good=no
+    printf "$note" | cmp - "$folder/note" >&2 || good=no
+    tells "$name" "$good"
+}
+
+script=crates/board_run/stdin
+answers=$(sed 's/%/%%/g' crates/board_run/stdout)
+usage='usage: board_run [gen N]\n'
+bench_usage='usage: board_bench solo 1|4|32 get|update COUNT, or board_bench shared 1|4|32 1|2|3 UPDATES\n'
+
+# the script of standard input
+gives 'the stored script' 0 "$answers\n" '' "$run" < "$script"
+gives 'no lines' 0 '' '' "$run" < /dev/null
+gives 'a last line without a newline' 0 'gone\n' '' "$run" < <(printf 'abandon a')
+
+# lines outside the grammar
+gives 'two spaces' 5 'gone\n' 'line 2: not in the grammar\n' "$run" < <(printf 'abandon a\nabandon  b\nabandon c\n')
+gives 'a carriage return' 5 '' 'line 1: not in the grammar\n' "$run" < <(printf 'abandon a\r\n')
+gives 'an empty line' 5 'gone\n' 'line 2: not in the grammar\n' "$run" < <(printf 'abandon a\n\n')
+gives 'a line of 4097 bytes' 5 '' 'line 1: not in the grammar\n' "$run" < <(printf 'words %04091d\n' 1)
+
+# the words of the command line
+gives 'the script of 1' 0 'lines 25\nrefused 1\nsteps 12\nupdates 0\ngets 0\ngenerations 1 1\n' '' "$run" gen 1
+gives 'the script of 1000' 0 'lines 1024\nrefused 433\nsteps 489\nupdates 47\ngets 41\ngenerations 27 22\n' '' "$run" gen 1000
+for words in 'x' 'gen' 'gen 0' 'gen 01' 'gen +1' 'gen 1000001' 'gen 1 2' '1' 'gen gen' $'\xff'; do
+    gives "usage: $words" 2 '' "$usage" "$run" $words < "$script"
+done
+
+# faults
+gives 'a closed input' 3 '' 'read fault\n' "$run" <&-
+gives 'a folder as the input' 3 '' 'read fault\n' "$run" < .
+gives 'a full device' 4 '' 'write fault\n' bash -c '"$0" > /dev/full' "$run" < "$script"
+gives 'a full device for a summary' 4 '' 'write fault\n' bash -c '"$0" gen 1 > /dev/full' "$run"
+gives 'a closed output' 4 '' 'write fault\n' bash -c '"$0" >&-' "$run" < "$script"
+gives 'no room for the note' 5 'gone\n' '' bash -c '"$0" 2> /dev/full' "$run" < <(printf 'abandon a\n\n')
+yes 'abandon a' | head -n 200000 > "$folder/many"
+{ timeout 60 "$run" < "$folder/many" 2> "$folder/note"; echo $? > "$folder/status"; } | head -c 5 > "$folder/output"
+[ "$(cat "$folder/status" "$folder/output" "$folder/note")" = $'4\ngone\nwrite fault' ] && good=yes || good=no
+tells 'a closed pipe' "$good"
+
+# pipes
+by_bytes() { local text; text=$(cat "$1"; echo .); text=${text%.}; local i; for ((i = 0; i < ${#text}; i++)); do printf '%s' "${text:i:1}"; done; }
+gives 'a byte at a time' 0 "$answers\n" '' "$run" < <(by_bytes "$script")
+coproc talk { timeout 60 "$run" 2>&1; }
+good=yes
+for party in a b c; do
+    echo "abandon $party" >&"${talk[1]}"
+    read -r -t 20 answer <&"${talk[0]}" && [ "$answer" = gone ] || good=no
+done
+exec {end}>&"${talk[1]}"
+eval "exec ${talk[1]}>&-" && exec {end}>&-
+wait "$talk_PID" || good=no
+tells 'answers before the next line' "$good"
+
+# the bench
+gives 'gets of one thread' 0 '' '' "$bench" solo 4 get 1000
+gives 'updates of one thread' 0 '' '' "$bench" solo 32 update 1000
+for words in '' 'solo' 'solo 4 get' 'solo 2 get 1' 'solo 4 put 1' 'solo 4 get 01' 'shared 1 4 1' 'shared 1 0 1'; do
+    gives "the bench's usage: $words" 2 '' "$bench_usage" "$bench" $words
+done
+gets=$("$bench" shared 1 2 1000) && [[ $gets =~ ^gets\ [1-9][0-9]*$ ]] && good=yes || good=no
+tells 'readers beside a writer' "$good"
+
+exit $bad
