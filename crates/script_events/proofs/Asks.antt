@@ -1,6 +1,7 @@
 -- What parties hold after a listener or a notifier was asked for.
 use Rattle.std.proofs.Common.{◌≡◌, ℕ, ◌+◌, ◌<◌, ◌≤◌, true, false, List, [], ◌∷◌, ◌++◌, refl, sym, ap, subst, ◌∙◌, Option, Some, None, inl, inr, arith}
 use Rattle.std.specs.Prelude.{if◌then◌else◌, ◌==◌, ◌^◌, ◌-◌, nat_lt, Result, Ok, Err, IsSomeAnd}
+use Rattle.board_layout.specs.Answer.{Refuses}
 use Rattle.board_names.specs.Table.{at}
 use Rattle.board_event_model.specs.declared.kind.EventKind.{EventKind}
 use Rattle.board_event_model.specs.EventMemory.{Event, has_holder, new_event}
@@ -18,7 +19,7 @@ use Rattle.script_model.specs.SoundEvents.{AreSoundEvents}
 use Rattle.script_model.specs.declared.reply.EventReply.TheVariants as reply
 use Rattle.script_events.specs.declared.rows.EventRow.{EventRow}
 use Rattle.script_events.specs.declared.rows.Role.TheVariants as role
-use Rattle.script_events.specs.Calls.{AnswersAsk, HasFewNotifiers, IsAsked}
+use Rattle.script_events.specs.Calls.{AnswersAsk, HasFewNotifiers, IsAsked, Makes}
 use Rattle.script_events.specs.PartyEvents.{Holds, listener_rows, listeners_in, listens_on, notifier_rows, notifiers_in, notifies_on, thing_in, where_held}
 use Rattle.script_events.proofs.Lists.{either}
 use Rattle.script_events.proofs.TableCalls.{HasNames, IsChange, IsListened, change, listening}
@@ -138,7 +139,7 @@ module _ (t u : EventTable) (rows : List EventRow) (x : ScriptEvents) (holds : H
 
 -- ---- what the table answers
 
-abbrev no_listener : ListenerCreateError → Result ℕ ListenerCreateError
+abbrev pub no_listener : ListenerCreateError → Result ℕ ListenerCreateError
 no_listener e = Err e
 
 abbrev no_notifier : NotifierCreateError → Result ℕ NotifierCreateError
@@ -173,6 +174,17 @@ listen_done t u rows rows' party name k event max n answer is more x count sound
       told_is = rw unheld refl;
       held = rw unheld after;
     }
+
+-- a free name makes a listener
+pub listen_makes : (t : EventTable) (rows : List EventRow) (party name : List ℕ) (k : EventKind) (event : List ℕ) (max : ℕ) → at (names_of k t) event ≡ None → Makes t rows party (to_listen name k event max)
+listen_makes t rows party name k event max none x count sound asked holds =
+    let unheld : x.names k event ≡ None = sym (holds.names k event) ∙ none in
+    rw unheld refl
+
+-- so is the name where the table wants memory
+pub listen_wanted : (t : EventTable) (o : Option ℕ) → Refuses (no_listener listener_error.OutOfMemory) (listen_answer t o) → o ≡ None
+listen_wanted t None h = refl
+listen_wanted t (Some m) h = absurd (let e : no_listener listener_error.OutOfMemory ≡ no_listener listener_error.AlreadyExists = h listener_error.AlreadyExists refl in cc)
 
 pub listen_refused : (t u : EventTable) (rows rows' : List EventRow) (party name : List ℕ) (k : EventKind) (event : List ℕ) (max : ℕ) → no_listener listener_error.AlreadyExists ≡ listen_answer t (at (names_of k t) event) → u ≡ t → rows' ≡ rows
     → AnswersAsk t rows u rows' party (to_listen name k event max) reply.AlreadyExists
@@ -229,6 +241,11 @@ notifier_done t u rows rows' party name k event n answer is more x count sound a
     by : (o : Option ℕ) → at (names_of k t) event ≡ o → IsNotifierAnswer t (Ok n) o → IsAsked u rows' x party (to_notify name k event) reply.Done
     by None f h = absurd cc
     by (Some m) f h = there m f (event_at t m) refl h
+
+-- where the table makes a notifier, so does the ask
+pub notifier_makes : (t : EventTable) (rows : List EventRow) (party name : List ℕ) (k : EventKind) (event : List ℕ) (n : ℕ) → IsNotifierAnswer t (Ok n) (at (names_of k t) event) → Makes t rows party (to_notify name k event)
+notifier_makes t rows party name k event n answer x count sound asked holds =
+    sym (notifier_done t (changed t n with_notifier) rows _ party name k event n answer refl refl x count sound asked holds).told_is
 
 -- a refusal that is told
 refused_by : (m : ℕ) (e : Event) → no_notifier notifier_error.DoesNotExist ≡ notifier_of m e → e.held ≡ false

@@ -1,6 +1,6 @@
 -- Steps of calls.
 use Rattle.std.proofs.Common.{◌≡◌, ℕ, ◌<◌, Bool, true, false, List, [], ◌∷◌, ◌++◌, length, refl, sym, ap, subst, ◌∙◌, Option, Some, None, inl, inr, ◌⊎◌}
-use Rattle.std.specs.Prelude.{if◌then◌else◌, ◌||◌, ◌^◌, not, is_some, IfOk, IsSomeAnd, Result, Ok, Err}
+use Rattle.std.specs.Prelude.{if◌then◌else◌, ◌||◌, ◌^◌, not, is_some, IfOk, IsSomeAnd, OnErr, Result, Ok, Err}
 use Rattle.std.specs.List.{filter}
 use Rattle.board_model.proofs.ListLemmas.{same_bytes}
 use Rattle.board_model.proofs.ThingLemmas.{same_to_itself}
@@ -14,8 +14,9 @@ use Rattle.board_event_model.specs.EventSessions.{EventSession, PartyCall, chang
 use Rattle.board_event_model.proofs.SoundLemmas.{after_kind}
 use Rattle.board_event_core.specs.EventTable.{EventTable, changed, event_at}
 use Rattle.script_model.specs.declared.reply.EventReply.{EventReply}
+use Rattle.script_model.specs.declared.reply.EventReply.TheVariants as event_reply
 use Rattle.script_model.specs.ScriptAnswers.{ScriptAnswer, of_ask, of_event}
-use Rattle.script_model.specs.ScriptEvents.{EventAsk, EventThing, IsEventAccess, IsStepOf, ScriptEvents, ask_made, end_told, is_for_all, listener, notifier, event_number, opened, opened_with, step_made, step_told, to_listen, to_notify, with_ask, with_listener, notifier_more}
+use Rattle.script_model.specs.ScriptEvents.{EventAsk, EventThing, IsEventAccess, IsStepOf, ScriptEvents, ask_made, ask_told, end_told, is_for_all, listener, notifier, event_number, opened, opened_with, step_made, step_told, to_listen, to_notify, with_ask, with_listener, notifier_more}
 use Rattle.script_model.specs.SoundEvents.{AreSoundEvents, IsCallOfThing, IsHeldCall}
 use Rattle.script_events.specs.declared.party_events.PartyEvents.{PartyEvents}
 use Rattle.script_events.specs.declared.rows.Act.{Act}
@@ -25,8 +26,8 @@ use Rattle.script_events.specs.declared.rows.CallTask.TheVariants as task
 use Rattle.script_events.specs.declared.rows.EventRow.{EventRow}
 use Rattle.script_events.specs.declared.step.Stepped.{Stepped}
 use Rattle.script_events.specs.declared.step.Stepped.TheVariants as stepped
-use Rattle.script_events.specs.Calls.{AnswersAsk, AreRowsAfter, GoesOn, IsAsked, IsLeftTask, IsWentOn}
-use Rattle.script_events.specs.PartyEvents.{AreCallRows, AreCalls, Holds, IsAnswerOf, IsAskedBy, IsOneCall, IsStepped, IsTaskOf, Represents, event_call, is_row_of}
+use Rattle.script_events.specs.Calls.{AnswersAsk, AreRowsAfter, GoesOn, IsAsked, IsLeftTask, IsWentOn, Makes}
+use Rattle.script_events.specs.PartyEvents.{AreCallRows, AreCalls, Holds, IsAnswerOf, IsAskedBy, IsOneCall, IsStepped, IsTaskOf, Represents, StepTakes, event_call, is_row_of, may_give}
 use Rattle.script_events.proofs.Lists.{passes_one}
 use Rattle.script_events.proofs.CallRows.{begun}
 use Rattle.script_events.proofs.Holding.{IsThere, event_of-some, thing_there}
@@ -38,6 +39,16 @@ use Rattle.script_events.proofs.Running.{can, goes_on}
 pub if_ok : {T E : Type 0} (r : Result T E) (P Q : T → Type 0) → ((a : T) → P a → Q a) → IfOk r P → IfOk r Q
 if_ok (Ok a) P Q f h = f a h
 if_ok (Err e) P Q f h = h
+
+-- and so of what is known of an error
+pub on_err : {T E : Type 0} (r : Result T E) (P Q : Type 0) → (P → Q) → OnErr r P → OnErr r Q
+on_err (Ok a) P Q f h = h
+on_err (Err e) P Q f h = f h
+
+-- what holds anyway
+pub anyway : {T E : Type 0} (r : Result T E) (X : Type 0) → X → OnErr r X
+anyway (Ok a) X x = tt
+anyway (Err e) X x = x
 
 -- ---- the row of a call that runs
 
@@ -137,6 +148,15 @@ ask_stepped m new x count sound rep party row one q is told answers calls =
       });
     }
 
+-- what is made takes memory
+pub ask_takes : (m : PartyEvents) (x : ScriptEvents) (count : ℕ) (sound : AreSoundEvents x count) (rep : Represents m x) (party : List ℕ) (row : CallRow) (one : filter (is_row_of party) m.calls.items ≡ row ∷ []) (q : EventAsk) (is : IsAskedBy row.task q)
+    → Makes m.events m.things.items row.party q → StepTakes x (x.asked party) (x.session.doing party)
+ask_takes m x count sound rep party row one q is makes =
+    let asked : x.asked party ≡ Some q = asking (filter (is_row_of party) m.calls.items) row q (x.asked party) (x.session.doing party) one is (rep.calls party) in
+    let own : row.party ≡ party = own_row party m.calls.items row one in
+    let done : ask_told x q ≡ event_reply.Done = makes x count sound (subst (λ (p : List ℕ). x.asked p ≡ Some q) (sym own) asked) rep.held in
+    rw asked done
+
 -- ---- an access
 
 -- the event of a call is that of the thing that it uses
@@ -164,6 +184,10 @@ module _ (m : PartyEvents) (x : ScriptEvents) (count : ℕ) (few : count < 2 ^ 6
 
   pub act_can : IsSomeAnd (event_at m.events a.event) (λ e. CanPerform e (owed (event_call a.call)))
   act_can = rw (acts.is.event, acts.is.call, there.found) (can x count few sound party acts.call acts.doing there.st there.stands)
+
+  -- it takes memory where its access may give ids
+  pub act_takes : may_give (owed (event_call a.call)) ≡ true → StepTakes x (x.asked party) (x.session.doing party)
+  act_takes h = rw (acts.idle, acts.doing) (subst (λ (c : EventCall). may_give (owed c) ≡ true) acts.is.call h)
 
 -- the session after the access
 abbrev session_after : EventSession → List ℕ → PartyCall → Event → EventAccess → EventAnswer → EventSession

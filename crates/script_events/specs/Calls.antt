@@ -16,6 +16,7 @@ use Rattle.board_model.specs.declared.answer.Reason.{Reason}
 use Rattle.board_model.specs.LawfulSession.{State}
 use Rattle.script_model.specs.declared.line.EventRequest.{EventRequest}
 use Rattle.script_model.specs.declared.reply.EventReply.{EventReply}
+use Rattle.script_model.specs.declared.reply.EventReply.TheVariants as reply
 use Rattle.script_model.specs.ScriptEvents.{EventAsk, EventTask, ScriptEvents, act, ask, ask_made, ask_told, end_told, is_for_all, name_made, task_of}
 use Rattle.script_model.specs.ScriptTurns.{EventTurn, begins, refused, task_turn}
 use Rattle.script_model.specs.SoundEvents.{AreSoundEvents}
@@ -112,6 +113,16 @@ StartsWord progress.Notified = ⊤
 StartsWord (progress.Refused why) = ⊤
 StartsWord progress.Nothing = ⊤
 
+-- a step reports ids
+abbrev pub reports : EventProgress → Bool
+reports progress.More = false
+reports progress.Waiting = false
+reports (progress.Took base bits last) = true
+reports (progress.Id id last) = true
+reports progress.Notified = false
+reports (progress.Refused why) = false
+reports progress.Nothing = false
+
 -- the call is told so, where the ids that it has reported with its last access are these
 abbrev pub IsEndTold : Bool → EventProgress → List ℕ → EventReply → Type 0
 IsEndTold many p ids told = (before : List ℕ) → ids ≡ before ++ reported p → told ≡ end_told many before p
@@ -159,6 +170,11 @@ pub record IsAsked (t : EventTable) (rows : List EventRow) (x : ScriptEvents) (p
 abbrev pub AnswersAsk : EventTable → List EventRow → EventTable → List EventRow → List ℕ → EventAsk → EventReply → Type 0
 AnswersAsk t rows t' rows' party q told =
     (x : ScriptEvents) (count : ℕ) → AreSoundEvents x count → x.asked party ≡ Some q → Holds t rows x → IsAsked t' rows' x party q told
+
+-- what is asked for is made, for each script that the table and the rows stand for
+abbrev pub Makes : EventTable → List EventRow → List ℕ → EventAsk → Type 0
+Makes t rows party q =
+    (x : ScriptEvents) (count : ℕ) → AreSoundEvents x count → x.asked party ≡ Some q → Holds t rows x → ask_told x q ≡ reply.Done
 
 -- no event has so many notifiers that there can be no more
 abbrev pub HasFewNotifiers : EventTable → Type 0

@@ -1,5 +1,5 @@
 -- The events of a script that rows of parties stand for.
-use Rattle.std.specs.Prelude.{◌≡◌, ℕ, ◌<◌, ◌^◌, Bool, false, ◌&&◌, ◌==◌, if◌then◌else◌, List, [], ◌∷◌, length, map, Option, Some, None, IsSomeAnd, ⊤}
+use Rattle.std.specs.Prelude.{◌≡◌, ℕ, ◌<◌, ◌^◌, Bool, true, false, ◌&&◌, ◌==◌, if◌then◌else◌, List, [], ◌∷◌, length, map, Option, Some, None, IsSomeAnd, ⊤}
 use Rattle.std.specs.declared.cmp.Ordering.{Ordering}
 use Rattle.std.specs.BTreeMap.{is_at}
 use Rattle.std.specs.Cmp.Lexicographic.{slice_cmp}
@@ -10,15 +10,18 @@ use Rattle.std.specs.Str.{bytes_eq}
 use Rattle.board_names.specs.Table.{at}
 use Rattle.board_event_model.specs.declared.kind.EventKind.{EventKind}
 use Rattle.board_event_model.specs.EventMemory.{Event, has_holder}
-use Rattle.board_event_model.specs.EventCalls.{EventCall, a_notify, a_wait, call_of}
+use Rattle.board_event_model.specs.declared.access.EventAccess.{EventAccess}
+use Rattle.board_event_model.specs.declared.access.EventAccess.TheVariants as access
+use Rattle.board_event_model.specs.EventCalls.{EventCall, a_notify, a_wait, call_of, owed}
 use Rattle.board_event_model.specs.EventSessions.{PartyCall, event_of}
 use Rattle.board_event_core.specs.EventTable.{EventTable, event_at, names_of}
 use Rattle.board_model.specs.declared.answer.Reason.{Reason}
 use Rattle.board_model.specs.LawfulSession.{State}
 use Rattle.board_model.specs.Things.{is_held as holds_thing}
 use Rattle.script_model.specs.declared.line.EventRequest.{EventRequest}
+use Rattle.script_model.specs.declared.reply.EventReply.TheVariants as reply
 use Rattle.script_model.specs.ScriptAnswers.{ScriptAnswer, of_ask, of_event}
-use Rattle.script_model.specs.ScriptEvents.{EventAsk, EventThing, IsStepOf, ScriptEvents, event_let_go, listener, name_made, notifier, step_made, task_of, to_listen, to_notify}
+use Rattle.script_model.specs.ScriptEvents.{EventAsk, EventThing, IsStepOf, ScriptEvents, ask_told, event_let_go, listener, name_made, notifier, step_made, task_of, to_listen, to_notify}
 use Rattle.script_model.specs.ScriptTurns.{EventTurn, begins, drops, expire_of_call, expires, refused, steps, task_turn, turned}
 use Rattle.script_model.specs.SoundEvents.{AreSoundEvents}
 use Rattle.script_events.specs.declared.party_events.PartyEvents.{PartyEvents}
@@ -222,3 +225,44 @@ pub record IsStepped (new : PartyEvents) (x : ScriptEvents) (party : List ℕ) (
   pub told_is : IsAnswerOf new.events told answer
   pub right : IsStepOf x (x.asked party) (x.session.doing party) answer
   pub represents : Represents new (step_made x party (x.asked party) answer)
+
+-- a call of a party begins or is refused by the rules, for each such events
+abbrev pub Begins : PartyEvents → PartyEvents → List ℕ → EventRequest → Bool → Option Reason → Type 0
+Begins old new party q taken told = OfEach old (λ x. IsBegun new x party q taken told)
+
+-- a step is told right, for each such events
+abbrev pub Steps : PartyEvents → PartyEvents → List ℕ → Stepped → Type 0
+Steps old new party told = OfEach old (λ x. IsStepped new x party told)
+
+-- ---- where memory is wanted
+
+-- no rule refuses a call of a party on events
+abbrev pub IsUnrefused : ScriptEvents → List ℕ → EventRequest → Bool → Type 0
+IsUnrefused x party q taken =
+    (boards : State) → taken ≡ takes_board_name boards party (name_made q) → refusal_of (task_turn (record { boards = boards; events = x }) party q (task_of x party q)) ≡ None
+
+-- a call that begins wants memory only where no rule refuses it
+abbrev pub BeginMayWant : PartyEvents → List ℕ → EventRequest → Bool → Type 0
+BeginMayWant m party q taken = OfEach m (λ x. IsUnrefused x party q taken)
+
+-- an access that may give ids: a bit is cleared, a word is taken, or an id is popped
+abbrev pub may_give : EventAccess → Bool
+may_give access.Listener = false
+may_give (access.Set id) = false
+may_give access.Post = false
+may_give (access.Push id) = false
+may_give access.Signal = false
+may_give (access.Scan k) = false
+may_give (access.Clear id) = true
+may_give (access.Swap k) = true
+may_give access.Pop = true
+
+-- the step of what a party runs takes memory: for a listener or a notifier that it makes, or for ids that it may be given
+abbrev pub StepTakes : ScriptEvents → Option EventAsk → Option PartyCall → Type 0
+StepTakes x (Some q) d = ask_told x q ≡ reply.Done
+StepTakes x None None = ⊥
+StepTakes x None (Some d) = may_give (owed (call_of d.call)) ≡ true
+
+-- a step wants memory only where it takes some
+abbrev pub StepMayWant : PartyEvents → List ℕ → Type 0
+StepMayWant m party = OfEach m (λ x. StepTakes x (x.asked party) (x.session.doing party))

@@ -1,7 +1,7 @@
-//! Listeners and notifiers are asked for.
-ghost use Rattle.std.specs.Prelude.{◌≡◌, ◌<◌, ◌^◌, IfOk};
+//! Listeners and notifiers are asked for. A row for one is made only where the table has made it, so that a refusal wants no memory.
+ghost use Rattle.std.specs.Prelude.{◌≡◌, ◌<◌, ◌^◌, IfOk, OnErr};
 ghost use Rattle.script_model.specs.ScriptEvents.{to_listen, to_notify};
-ghost use Rattle.script_events.specs.Calls.{AnswersAsk, HasFewNotifiers};
+ghost use Rattle.script_events.specs.Calls.{AnswersAsk, HasFewNotifiers, Makes};
 
 use crate::rows::{EventRow, Role};
 use board_event_core::{Events, ListenerCreateError, NotifierCreateError};
@@ -30,18 +30,19 @@ pub(crate) fn listen(
     max: u64,
 ) -> Result<EventReply, AllocError>
     requires few { events.old.drawn < 2 ^ 63 }
-    ensures { IfOk result (AnswersAsk events.old things.old.items events.new things.new.items party
+    ensures told { IfOk result (AnswersAsk events.old things.old.items events.new things.new.items
+        party (to_listen name kind event.now max)) }
+    ensures memory { OnErr result (Makes events.old things.old.items party
         (to_listen name kind event.now max)) }
 {
-    things.reserve(1)?;
     match events.listen(kind, &full_name(event), max) {
         Ok(number) => {
-            things.push_reserved(EventRow {
+            things.push(EventRow {
                 party,
                 name,
                 role: Role::Listener,
                 event: number,
-            });
+            })?;
             Ok(EventReply::Done)
         }
         Err(ListenerCreateError::AlreadyExists) => Ok(EventReply::AlreadyExists),
@@ -61,18 +62,19 @@ pub(crate) fn add_notifier(
     event: &EventName,
 ) -> Result<EventReply, AllocError>
     requires few { HasFewNotifiers events.old }
-    ensures { IfOk result (AnswersAsk events.old things.old.items events.new things.new.items party
+    ensures told { IfOk result (AnswersAsk events.old things.old.items events.new things.new.items
+        party (to_notify name kind event.now)) }
+    ensures memory { OnErr result (Makes events.old things.old.items party
         (to_notify name kind event.now)) }
 {
-    things.reserve(1)?;
     match events.notifier(kind, &full_name(event)) {
         Ok(number) => {
-            things.push_reserved(EventRow {
+            things.push(EventRow {
                 party,
                 name,
                 role: Role::Notifier,
                 event: number,
-            });
+            })?;
             Ok(EventReply::Done)
         }
         Err(NotifierCreateError::DoesNotExist) => Ok(EventReply::DoesNotExist),

@@ -1,9 +1,9 @@
 //! Calls on events begin.
-ghost use Rattle.std.specs.Prelude.{◌≡◌, ◌||◌, false, IfOk, IsSome, IsSomeAnd};
+ghost use Rattle.std.specs.Prelude.{◌≡◌, ◌||◌, false, IfOk, IsSome, IsSomeAnd, OnErr};
 ghost use Rattle.board_event_core.specs.EventTable.{event_at};
 ghost use Rattle.script_model.specs.ScriptEvents.{holds_event, notify_call, runs_on_events, wait_call};
 ghost use Rattle.script_events.specs.Calls.{IsCheckedBy, IsNewAct};
-ghost use Rattle.script_events.specs.PartyEvents.{IsBegun, IsLed, OfEach, event_call};
+ghost use Rattle.script_events.specs.PartyEvents.{BeginMayWant, Begins, IsLed, OfEach, event_call};
 
 use crate::lookups::{listened, notified};
 use crate::party_events::PartyEvents;
@@ -18,7 +18,7 @@ impl PartyEvents {
     /// A call of a party that runs none begins, or is refused. `taken`: boards hold the name of what it makes for the party.
     ///
     /// # Errors
-    /// `AllocError` where memory is refused.
+    /// `AllocError` where memory is refused, and no rule refuses the call.
     pub fn begin(
         &mut self,
         party: Name,
@@ -27,7 +27,8 @@ impl PartyEvents {
     ) -> Result<Option<Reason>, AllocError>
         requires led { IsLed self.old }
         requires free { OfEach self.old (λ x. runs_on_events x party ≡ false) }
-        ensures { IfOk result (λ told. OfEach self.old (λ x. IsBegun self.new x party request taken told)) }
+        ensures told { IfOk result (Begins self.old self.new party request taken) }
+        ensures memory { OnErr result (BeginMayWant self.old party request taken) }
     {
         match self.check(&party, request, taken) {
             Ok(task) => {
@@ -120,7 +121,8 @@ impl PartyEvents {
     /// A notify of an event.
     fn notify_call(&self, event: u64, id: u64) -> ActiveCall
         requires { IsSome (event_at self.now.events event) }
-        ensures { IsSomeAnd (event_at self.now.events event) (λ e. event_call result ≡ notify_call e id) }
+        ensures { IsSomeAnd (event_at self.now.events event)
+            (λ e. event_call result ≡ notify_call e id) }
     {
         match self.events.kind_of(event) {
             EventKind::Bits => ActiveCall::Notify(NotifyCall::bits(id, self.events.max_of(event))),
@@ -131,7 +133,8 @@ impl PartyEvents {
     /// A wait on an event.
     fn wait_call(&self, event: u64, many: bool, mode: WaitMode) -> ActiveCall
         requires { IsSome (event_at self.now.events event) }
-        ensures { IsSomeAnd (event_at self.now.events event) (λ e. event_call result ≡ wait_call e many mode) }
+        ensures { IsSomeAnd (event_at self.now.events event)
+            (λ e. event_call result ≡ wait_call e many mode) }
     {
         match self.events.kind_of(event) {
             EventKind::Bits => {

@@ -1,9 +1,9 @@
 //! Calls on an event: their accesses, the ids that they report, and what they are told at their end.
-ghost use Rattle.std.specs.Prelude.{◌≡◌, ◌++◌, ◌≤◌, ◌^◌, ◌+◌, ◌<◌, OnOk};
+ghost use Rattle.std.specs.Prelude.{◌≡◌, ◌++◌, ◌≤◌, ◌^◌, ◌+◌, ◌<◌, true, OnErr, OnOk};
 ghost use Rattle.board_event_model.specs.EventCalls as calls;
 ghost use Rattle.board_event_core.specs.EventTable.{CanPerformAt};
 ghost use Rattle.script_model.specs.ScriptEvents as model;
-ghost use Rattle.script_events.specs.Calls.{GoesOn, IsActStep, IsEndTold, StartsWord, id_of_bit, ids_of_bits, may_end};
+ghost use Rattle.script_events.specs.Calls.{GoesOn, IsActStep, IsEndTold, StartsWord, id_of_bit, ids_of_bits, may_end, reports};
 ghost use Rattle.script_events.specs.PartyEvents.{event_call};
 
 use crate::rows::{ActiveCall, CallTask};
@@ -18,7 +18,8 @@ impl ActiveCall {
     pub(crate) fn step(&mut self, events: &mut Events, event: u64) -> EventStep
         requires goes_on { GoesOn (event_call self.old) }
         requires can { CanPerformAt events.old event (calls.owed (event_call self.old)) }
-        ensures { IsActStep events.old events.new event (event_call self.old) (event_call self.new) result }
+        ensures { IsActStep events.old events.new event (event_call self.old)
+            (event_call self.new) result }
     {
         match self {
             ActiveCall::Notify(call) => notify_step(events, event, call),
@@ -126,7 +127,8 @@ fn tell_bits(base: u64, bits: u64, count: u64, told: &mut Vec<u64>) -> Result<()
 /// Appends the ids that an access reports to the ids taken so far.
 pub(crate) fn tell(progress: EventProgress, told: &mut Vec<u64>) -> Result<(), AllocError>
     requires { StartsWord progress }
-    ensures { OnOk result (told.new.items ≡ told.old.items ++ calls.reported progress) }
+    ensures ok { OnOk result (told.new.items ≡ told.old.items ++ calls.reported progress) }
+    ensures memory { OnErr result (reports progress ≡ true) }
 {
     match progress {
         EventProgress::Took {

@@ -1,5 +1,5 @@
 //! What stands among the rows.
-ghost use Rattle.std.specs.Prelude.{◌≡◌, ◌∷◌, [], find, length, option_map};
+ghost use Rattle.std.specs.Prelude.{◌≡◌, ◌<◌, ◌∷◌, [], find, length, option_map, vec_capacity, vec_len};
 ghost use Rattle.std.specs.List.{filter, position_from};
 ghost use Rattle.script_events.specs.Calls.{calls_without, listened_in, notified_in, things_without};
 ghost use Rattle.script_events.specs.PartyEvents.{is_row_of, is_thing_of};
@@ -33,7 +33,8 @@ pub(crate) fn place_of_thing(party: &Name, name: &Name, things: &[EventRow]) -> 
 
 /// The row of what a party holds under a name.
 fn thing_of<'a>(party: &Name, name: &Name, things: &'a [EventRow]) -> Option<&'a EventRow>
-    ensures { option_map (λ row. row.now) result ≡ find (is_thing_of party.now name.now) things.now }
+    ensures { option_map (λ row. row.now) result
+        ≡ find (is_thing_of party.now name.now) things.now }
 {
     things
         .iter()
@@ -66,11 +67,12 @@ pub(crate) fn notified(party: &Name, name: &Name, things: &[EventRow]) -> Option
     }
 }
 
-/// Takes out the one row of a party's call.
+/// Takes out the one row of a party's call. Its place stays free.
 pub(crate) fn take_call(party: &Name, calls: &mut Vec<CallRow>) -> CallRow
     requires { length (filter (is_row_of party.now) calls.old.items) ≡ 1 }
     ensures one { filter (is_row_of party.now) calls.old.items ≡ result ∷ [] }
     ensures left { calls.new.items ≡ calls_without party.now calls.old.items }
+    ensures room { vec_len calls.new < vec_capacity calls.new }
 {
     let Some(place) = place_of_call(party, calls) else {
         // The row stands.

@@ -1,10 +1,10 @@
 //! Steps of calls on events.
-ghost use Rattle.std.specs.Prelude.{◌≡◌, true, IfOk};
+ghost use Rattle.std.specs.Prelude.{◌≡◌, ◌<◌, true, IfOk, OnErr, vec_capacity, vec_len};
 ghost use Rattle.board_event_model.specs.EventCalls.{owed};
 ghost use Rattle.board_event_core.specs.EventTable.{CanPerformAt};
 ghost use Rattle.script_model.specs.ScriptEvents.{runs_on_events};
 ghost use Rattle.script_events.specs.Calls.{GoesOn, IsWentOn};
-ghost use Rattle.script_events.specs.PartyEvents.{IsLed, IsStepped, OfEach, event_call};
+ghost use Rattle.script_events.specs.PartyEvents.{IsLed, OfEach, StepMayWant, Steps, event_call, may_give};
 
 use crate::asking::{add_notifier, listen};
 use crate::calls::{end_told, is_last, is_waiting, tell};
@@ -34,11 +34,13 @@ impl PartyEvents {
     /// The call that a party runs on events makes its step.
     ///
     /// # Errors
-    /// `AllocError` where memory is refused.
+    /// `AllocError` where memory is refused: only where a listener or a notifier is made, or an access may give ids. The call
+    /// then runs no more, and what it has done is not undone.
     pub fn step(&mut self, party: &Name) -> Result<Stepped, AllocError>
         requires led { IsLed self.old }
         requires runs { OfEach self.old (λ x. runs_on_events x party.now ≡ true) }
-        ensures { IfOk result (λ told. OfEach self.old (λ x. IsStepped self.new x party.now told)) }
+        ensures told { IfOk result (Steps self.old self.new party.now) }
+        ensures memory { OnErr result (StepMayWant self.old party.now) }
     {
         let CallRow { party, task } = take_call(party, &mut self.calls);
         match task {
@@ -82,7 +84,9 @@ impl PartyEvents {
     fn go_on(&mut self, party: Name, mut act: Act) -> Result<Stepped, AllocError>
         requires goes_on { GoesOn (event_call act.call) }
         requires can { CanPerformAt self.old.events act.event (owed (event_call act.call)) }
-        ensures { IfOk result (IsWentOn self.old self.new party act) }
+        requires room { vec_len self.old.calls < vec_capacity self.old.calls }
+        ensures told { IfOk result (IsWentOn self.old self.new party act) }
+        ensures memory { OnErr result (may_give (owed (event_call act.call)) ≡ true) }
     {
         let event = act.event;
         let step = act.call.step(&mut self.events, event);
@@ -97,10 +101,10 @@ impl PartyEvents {
             });
         }
         act.waited = is_waiting(step.progress);
-        self.calls.push(CallRow {
+        self.calls.push_reserved(CallRow {
             party,
             task: CallTask::Act(act),
-        })?;
+        });
         Ok(Stepped::Acted {
             event,
             access: step.access,

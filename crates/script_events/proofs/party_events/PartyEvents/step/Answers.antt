@@ -1,13 +1,14 @@
-use Rattle.std.proofs.Common.{◌≡◌, refl, rules, sym, subst}
+use Rattle.std.proofs.Common.{◌≡◌, refl, rules, sym, subst, true}
+use Rattle.board_event_model.specs.EventCalls.{owed}
 use Rattle.std.specs.List.{filter}
 use Rattle.script_model.specs.ScriptEvents.{to_listen, to_notify}
 use Rattle.script_events.specs.declared.party_events.PartyEvents.{PartyEvents}
 use Rattle.script_events.specs.declared.rows.CallTask.{CallTask}
 use Rattle.script_events.specs.declared.rows.CallTask.TheVariants as task
 use Rattle.script_events.specs.Calls.{IsWentOn}
-use Rattle.script_events.specs.PartyEvents.{IsAskedBy, IsStepped, OfEach, is_row_of}
+use Rattle.script_events.specs.PartyEvents.{IsAskedBy, IsStepped, OfEach, StepMayWant, event_call, is_row_of, may_give}
 use Rattle.script_events.proofs.Asks.{few_notifiers}
-use Rattle.script_events.proofs.Steps.{act_can, act_goes_on, act_stepped, ask_stepped, if_ok, one_row, own_row}
+use Rattle.script_events.proofs.Steps.{act_can, act_goes_on, act_stepped, act_takes, anyway, ask_stepped, ask_takes, if_ok, on_err, one_row, own_row}
 use Rattle.script_events.proofs.party_events.PartyEvents.step.Goals as goal
 
 pub take_call-party-requires : goal.take_call-party-requires
@@ -41,28 +42,28 @@ go_on-requires-clause-can c =
     let is : row.task ≡ task.Act c.in-Act.act = search rules in
     act_can m led.state led.count led.few led.sound led.represents party row c.take_call-party.ensures.one c.in-Act.act is
 
-pub returns-in_ok-reply-in-Listen : goal.returns-in_ok-reply-in-Listen
-returns-in_ok-reply-in-Listen c =
+pub returns-in_ok-reply-in-Listen-clause-told : goal.returns-in_ok-reply-in-Listen-clause-told
+returns-in_ok-reply-in-Listen-clause-told c =
     let m = c.args.self.now in
     let party = c.args.party.now in
     let row = c.take_call-party.result in
     let q = to_listen c.in-Listen.listener c.in-Listen.kind c.in-Listen.event c.in-Listen.max in
     let is : row.task ≡ task.Listen c.in-Listen.listener c.in-Listen.kind c.in-Listen.event c.in-Listen.max = search rules in
     λ x count few sound rep.
-    ask_stepped m _ x count sound rep party row c.take_call-party.ensures.one q (subst (λ (t : CallTask). IsAskedBy t q) (sym is) refl) c.in_ok-reply-in-Listen.reply c.in_ok-reply-in-Listen.ensures c.take_call-party.ensures.left
+    ask_stepped m _ x count sound rep party row c.take_call-party.ensures.one q (subst (λ (t : CallTask). IsAskedBy t q) (sym is) refl) c.in_ok-reply-in-Listen.reply c.in_ok-reply-in-Listen.ensures.told c.take_call-party.ensures.left
 
-pub returns-in_ok-reply-in-Notifier : goal.returns-in_ok-reply-in-Notifier
-returns-in_ok-reply-in-Notifier c =
+pub returns-in_ok-reply-in-Notifier-clause-told : goal.returns-in_ok-reply-in-Notifier-clause-told
+returns-in_ok-reply-in-Notifier-clause-told c =
     let m = c.args.self.now in
     let party = c.args.party.now in
     let row = c.take_call-party.result in
     let q = to_notify c.in-Notifier.notifier c.in-Notifier.kind c.in-Notifier.event in
     let is : row.task ≡ task.Notifier c.in-Notifier.notifier c.in-Notifier.kind c.in-Notifier.event = search rules in
     λ x count few sound rep.
-    ask_stepped m _ x count sound rep party row c.take_call-party.ensures.one q (subst (λ (t : CallTask). IsAskedBy t q) (sym is) refl) c.in_ok-reply-in-Notifier.reply c.in_ok-reply-in-Notifier.ensures c.take_call-party.ensures.left
+    ask_stepped m _ x count sound rep party row c.take_call-party.ensures.one q (subst (λ (t : CallTask). IsAskedBy t q) (sym is) refl) c.in_ok-reply-in-Notifier.reply c.in_ok-reply-in-Notifier.ensures.told c.take_call-party.ensures.left
 
-pub returns-in-Act : goal.returns-in-Act
-returns-in-Act c =
+pub returns-in-Act-clause-told : goal.returns-in-Act-clause-told
+returns-in-Act-clause-told c =
     let m = c.args.self.now in
     let party = c.args.party.now in
     let row = c.take_call-party.result in
@@ -71,4 +72,34 @@ returns-in-Act c =
     let own : row.party ≡ party = own_row party m.calls.items row c.take_call-party.ensures.one in
     if_ok c.go_on.result (IsWentOn mid c.go_on.new.self row.party c.in-Act.act) (λ told. OfEach m (λ x. IsStepped c.go_on.new.self x party told))
     (λ told went x count few sound rep. act_stepped m mid c.go_on.new.self x count few sound rep party row c.take_call-party.ensures.one c.in-Act.act is refl refl c.take_call-party.ensures.left told (subst (λ p. IsWentOn mid c.go_on.new.self p c.in-Act.act told) own went))
-    c.go_on.ensures
+    c.go_on.ensures.told
+
+pub returns-in_err-reply-in-Listen-clause-memory : goal.returns-in_err-reply-in-Listen-clause-memory
+returns-in_err-reply-in-Listen-clause-memory c =
+    let m = c.args.self.now in
+    let party = c.args.party.now in
+    let row = c.take_call-party.result in
+    let q = to_listen c.in-Listen.listener c.in-Listen.kind c.in-Listen.event c.in-Listen.max in
+    let is : row.task ≡ task.Listen c.in-Listen.listener c.in-Listen.kind c.in-Listen.event c.in-Listen.max = search rules in
+    anyway _ (StepMayWant m party) (λ x count few sound rep.
+    ask_takes m x count sound rep party row c.take_call-party.ensures.one q (subst (λ (t : CallTask). IsAskedBy t q) (sym is) refl) c.in_err-reply-in-Listen.ensures.memory)
+
+pub returns-in_err-reply-in-Notifier-clause-memory : goal.returns-in_err-reply-in-Notifier-clause-memory
+returns-in_err-reply-in-Notifier-clause-memory c =
+    let m = c.args.self.now in
+    let party = c.args.party.now in
+    let row = c.take_call-party.result in
+    let q = to_notify c.in-Notifier.notifier c.in-Notifier.kind c.in-Notifier.event in
+    let is : row.task ≡ task.Notifier c.in-Notifier.notifier c.in-Notifier.kind c.in-Notifier.event = search rules in
+    anyway _ (StepMayWant m party) (λ x count few sound rep.
+    ask_takes m x count sound rep party row c.take_call-party.ensures.one q (subst (λ (t : CallTask). IsAskedBy t q) (sym is) refl) c.in_err-reply-in-Notifier.ensures.memory)
+
+pub returns-in-Act-clause-memory : goal.returns-in-Act-clause-memory
+returns-in-Act-clause-memory c =
+    let m = c.args.self.now in
+    let party = c.args.party.now in
+    let row = c.take_call-party.result in
+    let is : row.task ≡ task.Act c.in-Act.act = search rules in
+    on_err c.go_on.result (may_give (owed (event_call c.in-Act.act.call)) ≡ true) (StepMayWant m party)
+    (λ h x count few sound rep. act_takes m x count few sound rep party row c.take_call-party.ensures.one c.in-Act.act is h)
+    c.go_on.ensures.memory

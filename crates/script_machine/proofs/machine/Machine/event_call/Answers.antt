@@ -26,7 +26,7 @@ pub returns-in-Some-2-clause-tells : goal.returns-in-Some-2-clause-tells
 returns-in-Some-2-clause-tells g c = on_ok (λ e s count rep reached.
     let runs : runs_on_events s.events c.args.party ≡ false = sym (c.runs.ensures s.events count reached.few reached.sound.events rep.events) ∙ c.if-runs.false in
     let free : None ≡ free_reason (s.boards.parties c.args.party) None = sym c.in_default.is ∙ c.refusal_of_party.ensures.reason s.boards rep.boards in
-    let turned = c.in_ok-why.ensures s.events count reached.few reached.sound.events rep.events s.boards (c.takes_board_name-taken.ensures s count rep reached) in
+    let turned = c.in_ok-why.ensures.told s.events count reached.few reached.sound.events rep.events s.boards (c.takes_board_name-taken.ensures s count rep reached) in
     refusal_told _ s (line.Event c.args.party c.args.request) (task_turn s c.args.party c.args.request (task_of s.events c.args.party c.args.request)) c.in-Some-2.why _
     (event_turn s c.args.party c.args.request runs free) c.requires.line (sym c.in-Some-2.is ∙ turned.told_is)
     (λ a. record { alive = rep.alive; boards = rep.boards; events = turned.represents a }) (from_nothing _ _ _ c.requires.empty e)) c.push_refused-in-Some-2.result c.push_refused-in-Some-2.ensures
@@ -35,7 +35,7 @@ pub returns-in-None-clause-tells : goal.returns-in-None-clause-tells
 returns-in-None-clause-tells g c = on_ok (λ e s count rep reached.
     let runs : runs_on_events s.events c.args.party ≡ false = sym (c.runs.ensures s.events count reached.few reached.sound.events rep.events) ∙ c.if-runs.false in
     let free : None ≡ free_reason (s.boards.parties c.args.party) None = sym c.in_default.is ∙ c.refusal_of_party.ensures.reason s.boards rep.boards in
-    let turned = c.in_ok-why.ensures s.events count reached.few reached.sound.events rep.events s.boards (c.takes_board_name-taken.ensures s count rep reached) in
+    let turned = c.in_ok-why.ensures.told s.events count reached.few reached.sound.events rep.events s.boards (c.takes_board_name-taken.ensures s count rep reached) in
     begun_told _ s (line.Event c.args.party c.args.request) c.args.party c.args.request _
     (event_turn s c.args.party c.args.request runs free) c.requires.line (sym c.in-None.is ∙ turned.told_is)
     (λ a. record { alive = rep.alive; boards = rep.boards; events = turned.represents a }) (from_nothing _ _ _ c.requires.empty e)) c.push_answer.result c.push_answer.ensures.ok

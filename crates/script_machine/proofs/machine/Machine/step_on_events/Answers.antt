@@ -21,13 +21,13 @@ pub kind_of-requires : goal.kind_of-requires
 kind_of-requires g c =
     let led = c.requires.led in
     let s = led.state in
-    let stepped = subst (λ (t : Stepped). IsStepped c.step.new.self s.events c.args.party.now t) c.in-Acted.is (c.in_ok-reply.ensures s.events led.count led.reached.few led.reached.sound.events led.represents.events) in
+    let stepped = subst (λ (t : Stepped). IsStepped c.step.new.self s.events c.args.party.now t) c.in-Acted.is (c.in_ok-reply.ensures.told s.events led.count led.reached.few led.reached.sound.events led.represents.events) in
     event_stands c.step.new.self s.events c.args.party.now c.in-Acted.event c.in-Acted.access c.in-Acted.answer c.in-Acted.told stepped
 
 pub returns-in-Asked-clause-tells : goal.returns-in-Asked-clause-tells
 returns-in-Asked-clause-tells g c = on_ok (λ e s count rep reached.
     let runs : runs_on_events s.events c.args.party.now ≡ true = c.requires.runs s.events count reached.few reached.sound.events rep.events in
-    let stepped = subst (λ (t : Stepped). IsStepped c.step.new.self s.events c.args.party.now t) c.in-Asked.is (c.in_ok-reply.ensures s.events count reached.few reached.sound.events rep.events) in
+    let stepped = subst (λ (t : Stepped). IsStepped c.step.new.self s.events c.args.party.now t) c.in-Asked.is (c.in_ok-reply.ensures.told s.events count reached.few reached.sound.events rep.events) in
     let shown = ask_shown c.step.new.self s.events c.args.party.now c.in-Asked.reply stepped in
     told_turn _ s (line.Board (board_line.Step c.args.party.now)) (steps c.args.party.now) (of_ask c.in-Asked.reply) _ (step_taken s c.args.party.now runs) c.requires.line shown.right (step_formed_so s (line.Board (board_line.Step c.args.party.now)) count c.args.party.now _ reached.sound reached.few shown.right)
     (record { alive = rep.alive; boards = rep.boards; events = shown.represents }) (from_nothing _ _ _ c.requires.empty e)) c.push_event_asked.result c.push_event_asked.ensures
@@ -35,7 +35,7 @@ returns-in-Asked-clause-tells g c = on_ok (λ e s count rep reached.
 pub returns-in-Acted-clause-tells : goal.returns-in-Acted-clause-tells
 returns-in-Acted-clause-tells g c = on_ok (λ e s count rep reached.
     let runs : runs_on_events s.events c.args.party.now ≡ true = c.requires.runs s.events count reached.few reached.sound.events rep.events in
-    let stepped = subst (λ (t : Stepped). IsStepped c.step.new.self s.events c.args.party.now t) c.in-Acted.is (c.in_ok-reply.ensures s.events count reached.few reached.sound.events rep.events) in
+    let stepped = subst (λ (t : Stepped). IsStepped c.step.new.self s.events c.args.party.now t) c.in-Acted.is (c.in_ok-reply.ensures.told s.events count reached.few reached.sound.events rep.events) in
     let shown = access_shown c.step.new.self s.events c.args.party.now c.in-Acted.event c.in-Acted.access c.in-Acted.answer c.in-Acted.told c.kind_of.result c.name_of.result.now stepped c.kind_of.ensures c.name_of.ensures in
     let printed = e ∙ ap (λ (n : List ℕ). c.args.out.now.items ++ script_answer_line (of_event c.kind_of.result n c.in-Acted.access c.in-Acted.answer (option_map (λ reply. reply.now) c.as_ref.result))) c.as_bytes.ensures.value
     ∙ ap (λ (t : Option EventReply). c.args.out.now.items ++ script_answer_line (of_event c.kind_of.result c.name_of.result.now c.in-Acted.access c.in-Acted.answer t)) c.as_ref.ensures.value in
