@@ -95,15 +95,11 @@ impl<K: BoardKey, P> Creator<K, P> {
     /// `Key(ValueTooLarge)` where the key has more than 64 bytes; else `Key(ValueAlignmentTooLarge)` where its alignment is above 8; `OutOfMemory`.
     pub fn add<V: ZeroCopySend>(self, key: K, value: V) -> Result<Self, AddError>
         ensures large { IsErrOf result (AddError.Key KeyMemoryError.ValueTooLarge) ↔ (64 < K.SIZE) }
-        ensures aligned {
-            let why = AddError.Key KeyMemoryError.ValueAlignmentTooLarge in
-            IsErrOf result why ↔ ((K.SIZE ≤ 64) × (8 < K.ALIGNMENT))
-        }
-        ensures ok {
-            let values = details V.type_bytes V.SIZE V.ALIGNMENT in
+        ensures aligned { let why = AddError.Key KeyMemoryError.ValueAlignmentTooLarge in
+            IsErrOf result why ↔ ((K.SIZE ≤ 64) × (8 < K.ALIGNMENT)) }
+        ensures ok { let values = details V.type_bytes V.SIZE V.ALIGNMENT in
             let entry = IsEntryOf K.value_of K.SIZE K.WORDS key values (V.words_of value) in
-            IfOk result (λ more. AddsEntry self more entry)
-        }
+            IfOk result (λ more. AddsEntry self more entry) }
     {
         let added = match new_entry(self.alloc, &key, &value) {
             Ok(added) => added,
@@ -122,11 +118,9 @@ impl<K: BoardKey, P> Creator<K, P> {
     /// As for `add`.
     pub fn add_with_default<V: ZeroCopySend + Default>(self, key: K) -> Result<Self, AddError>
         ensures large { IsErrOf result (AddError.Key KeyMemoryError.ValueTooLarge) ↔ (64 < K.SIZE) }
-        ensures ok {
-            let values = details V.type_bytes V.SIZE V.ALIGNMENT in
+        ensures ok { let values = details V.type_bytes V.SIZE V.ALIGNMENT in
             let entry = λ (v : V). IsEntryOf K.value_of K.SIZE K.WORDS key values (V.words_of v) in
-            IfOk result (λ more. (v : V) × V.is_default v × AddsEntry self more (entry v))
-        }
+            IfOk result (λ more. (v : V) × V.is_default v × AddsEntry self more (entry v)) }
     {
         self.add(key, V::default())
     }
@@ -140,21 +134,15 @@ impl<K: BoardKey, P> Creator<K, P> {
         state: &mut DomainState,
         attributes: AttributeSpecifier,
     ) -> Result<PortFactory<K, P>, BlackboardCreateError>
-        ensures answer {
-            let same_key = same_keys K.eq K.value_of K.SIZE K.WORDS in
+        ensures answer { let same_key = same_keys K.eq K.value_of K.SIZE K.WORDS in
             let answer = calls.create_answer state.old.tables same_key self.name self.entries in
-            Answers (with_value factory_made result) BlackboardCreateError.OutOfMemory answer
-        }
-        ensures refused {
-            let same_key = same_keys K.eq K.value_of K.SIZE K.WORDS in
+            Answers (with_value factory_made result) BlackboardCreateError.OutOfMemory answer }
+        ensures refused { let same_key = same_keys K.eq K.value_of K.SIZE K.WORDS in
             let answer = calls.create_answer state.old.tables same_key self.name self.entries in
-            Refuses (with_value factory_made result) answer
-        }
-        ensures tables {
-            let keys = details K.type_bytes K.SIZE K.ALIGNMENT in
+            Refuses (with_value factory_made result) answer }
+        ensures tables { let keys = details K.type_bytes K.SIZE K.ALIGNMENT in
             let asked = lent.new_board self.node self.name keys self.limits attributes self.entries in
-            lent.LeavesMade result asked state.old.tables state.new.tables
-        }
+            lent.LeavesMade result asked state.old.tables state.new.tables }
         ensures kept { IfOk result (λ f. KeepsBoard state.new.tables f) }
         ensures named { IfOk result (λ f. f.name ≡ self.name) }
         ensures nodes { state.new.nodes ≡ state.old.nodes }
@@ -182,21 +170,15 @@ impl<K: BoardKey, P> Creator<K, P> {
         self,
         state: &mut DomainState,
     ) -> Result<PortFactory<K, P>, BlackboardCreateError>
-        ensures answer {
-            let same_key = same_keys K.eq K.value_of K.SIZE K.WORDS in
+        ensures answer { let same_key = same_keys K.eq K.value_of K.SIZE K.WORDS in
             let answer = calls.create_answer state.old.tables same_key self.name self.entries in
-            Answers (with_value factory_made result) BlackboardCreateError.OutOfMemory answer
-        }
-        ensures refused {
-            let same_key = same_keys K.eq K.value_of K.SIZE K.WORDS in
+            Answers (with_value factory_made result) BlackboardCreateError.OutOfMemory answer }
+        ensures refused { let same_key = same_keys K.eq K.value_of K.SIZE K.WORDS in
             let answer = calls.create_answer state.old.tables same_key self.name self.entries in
-            Refuses (with_value factory_made result) answer
-        }
-        ensures tables {
-            let keys = details K.type_bytes K.SIZE K.ALIGNMENT in
+            Refuses (with_value factory_made result) answer }
+        ensures tables { let keys = details K.type_bytes K.SIZE K.ALIGNMENT in
             let asked = lent.new_board self.node self.name keys self.limits [] self.entries in
-            lent.LeavesMade result asked state.old.tables state.new.tables
-        }
+            lent.LeavesMade result asked state.old.tables state.new.tables }
         ensures kept { IfOk result (λ f. KeepsBoard state.new.tables f) }
         ensures named { IfOk result (λ f. f.name ≡ self.name) }
         ensures nodes { state.new.nodes ≡ state.old.nodes }
@@ -225,16 +207,17 @@ impl<K: BoardKey, P> Creator<K, P> {
             domain,
             marker: _,
         } = self;
-        let mut state = domain.lock(rt);
-        let made = new_board::<K>(
-            &mut state,
-            node,
-            &name,
-            limits,
-            attributes.into_set(),
-            entries,
-        );
-        drop(state);
+        let made = {
+            let mut state = domain.lock(rt);
+            new_board::<K>(
+                &mut state,
+                node,
+                &name,
+                limits,
+                attributes.into_set(),
+                entries,
+            )
+        };
         match made {
             Ok(kept) => Ok(PortFactory::new(alloc, kept, name, domain)),
             Err(why) => Err(why),

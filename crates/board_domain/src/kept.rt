@@ -63,21 +63,15 @@ pub(crate) fn new_board<K: BoardKey>(
 ) -> Result<Kept, BlackboardCreateError>
     requires size { 0 < length entries.items → K.SIZE ≤ 64 }
     requires shapes { All IsShape (shapes_of (map as_added entries.items)) }
-    ensures answer {
-        let same_key = same_keys K.eq K.value_of K.SIZE K.WORDS in
+    ensures answer { let same_key = same_keys K.eq K.value_of K.SIZE K.WORDS in
         let answer = calls.create_answer state.old.tables same_key name.now (map as_added entries.items) in
-        Answers (with_value kept_made result) BlackboardCreateError.OutOfMemory answer
-    }
-    ensures refused {
-        let same_key = same_keys K.eq K.value_of K.SIZE K.WORDS in
+        Answers (with_value kept_made result) BlackboardCreateError.OutOfMemory answer }
+    ensures refused { let same_key = same_keys K.eq K.value_of K.SIZE K.WORDS in
         let answer = calls.create_answer state.old.tables same_key name.now (map as_added entries.items) in
-        Refuses (with_value kept_made result) answer
-    }
-    ensures tables {
-        let keys = details K.type_bytes K.SIZE K.ALIGNMENT in
+        Refuses (with_value kept_made result) answer }
+    ensures tables { let keys = details K.type_bytes K.SIZE K.ALIGNMENT in
         let asked = lent.new_board node name.now keys limits attributes (map as_added entries.items) in
-        lent.LeavesMade result asked state.old.tables state.new.tables
-    }
+        lent.LeavesMade result asked state.old.tables state.new.tables }
     ensures kept { IfOk result (λ k. KeepsBoard state.new.tables k) }
     ensures nodes { state.new.nodes ≡ state.old.nodes }
 {
@@ -108,16 +102,12 @@ pub(crate) fn open_board<K: BoardKey>(
     limits: Limits,
     verifier: &AttributeVerifier,
 ) -> Result<Kept, BlackboardOpenError>
-    ensures answer {
-        let keys = details K.type_bytes K.SIZE K.ALIGNMENT in
+    ensures answer { let keys = details K.type_bytes K.SIZE K.ALIGNMENT in
         let answer = calls.open_answer state.old.tables node name.now keys limits verifier.now in
-        Answers (with_value kept_made result) BlackboardOpenError.OutOfMemory answer
-    }
-    ensures refused {
-        let keys = details K.type_bytes K.SIZE K.ALIGNMENT in
+        Answers (with_value kept_made result) BlackboardOpenError.OutOfMemory answer }
+    ensures refused { let keys = details K.type_bytes K.SIZE K.ALIGNMENT in
         let answer = calls.open_answer state.old.tables node name.now keys limits verifier.now in
-        Refuses (with_value kept_made result) answer
-    }
+        Refuses (with_value kept_made result) answer }
     ensures tables { lent.LeavesOpened result node name.now state.old.tables state.new.tables }
     ensures kept { IfOk result (λ k. KeepsBoard state.new.tables k) }
     ensures nodes { state.new.nodes ≡ state.old.nodes }

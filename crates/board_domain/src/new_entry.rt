@@ -21,16 +21,12 @@ pub(crate) fn new_entry<K: BoardKey, V: ZeroCopySend>(
     value: &V,
 ) -> Result<NewEntry, AddError>
     ensures large { IsErrOf result (AddError.Key KeyMemoryError.ValueTooLarge) ↔ (64 < K.SIZE) }
-    ensures aligned {
-        let why = AddError.Key KeyMemoryError.ValueAlignmentTooLarge in
-        IsErrOf result why ↔ ((K.SIZE ≤ 64) × (8 < K.ALIGNMENT))
-    }
+    ensures aligned { let why = AddError.Key KeyMemoryError.ValueAlignmentTooLarge in
+        IsErrOf result why ↔ ((K.SIZE ≤ 64) × (8 < K.ALIGNMENT)) }
     ensures size { OnOk result (K.SIZE ≤ 64) }
     ensures shape { IfOk result (λ e. IsShape (shape_of (as_added e))) }
-    ensures ok {
-        let values = details V.type_bytes V.SIZE V.ALIGNMENT in
-        IfOk result (λ e. IsEntryOf K.value_of K.SIZE K.WORDS key.now values (V.words_of value.now) (as_added e))
-    }
+    ensures ok { let values = details V.type_bytes V.SIZE V.ALIGNMENT in
+        IfOk result (λ e. IsEntryOf K.value_of K.SIZE K.WORDS key.now values (V.words_of value.now) (as_added e)) }
 {
     let key = match KeyMemory::try_from(key) {
         Ok(key) => key,

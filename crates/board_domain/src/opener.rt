@@ -87,16 +87,12 @@ impl<K: BoardKey, P> Opener<K, P> {
         state: &mut DomainState,
         verifier: &AttributeVerifier,
     ) -> Result<PortFactory<K, P>, BlackboardOpenError>
-        ensures answer {
-            let keys = details K.type_bytes K.SIZE K.ALIGNMENT in
+        ensures answer { let keys = details K.type_bytes K.SIZE K.ALIGNMENT in
             let answer = calls.open_answer state.old.tables self.node self.name keys self.limits verifier.now in
-            Answers (with_value factory_made result) BlackboardOpenError.OutOfMemory answer
-        }
-        ensures refused {
-            let keys = details K.type_bytes K.SIZE K.ALIGNMENT in
+            Answers (with_value factory_made result) BlackboardOpenError.OutOfMemory answer }
+        ensures refused { let keys = details K.type_bytes K.SIZE K.ALIGNMENT in
             let answer = calls.open_answer state.old.tables self.node self.name keys self.limits verifier.now in
-            Refuses (with_value factory_made result) answer
-        }
+            Refuses (with_value factory_made result) answer }
         ensures tables { lent.LeavesOpened result self.node self.name state.old.tables state.new.tables }
         ensures kept { IfOk result (λ f. KeepsBoard state.new.tables f) }
         ensures named { IfOk result (λ f. f.name ≡ self.name) }
@@ -121,16 +117,12 @@ impl<K: BoardKey, P> Opener<K, P> {
     /// # Errors
     /// As for `open_with_attributes_in`.
     pub fn open_in(self, state: &mut DomainState) -> Result<PortFactory<K, P>, BlackboardOpenError>
-        ensures answer {
-            let keys = details K.type_bytes K.SIZE K.ALIGNMENT in
+        ensures answer { let keys = details K.type_bytes K.SIZE K.ALIGNMENT in
             let answer = calls.open_answer state.old.tables self.node self.name keys self.limits no_requirements in
-            Answers (with_value factory_made result) BlackboardOpenError.OutOfMemory answer
-        }
-        ensures refused {
-            let keys = details K.type_bytes K.SIZE K.ALIGNMENT in
+            Answers (with_value factory_made result) BlackboardOpenError.OutOfMemory answer }
+        ensures refused { let keys = details K.type_bytes K.SIZE K.ALIGNMENT in
             let answer = calls.open_answer state.old.tables self.node self.name keys self.limits no_requirements in
-            Refuses (with_value factory_made result) answer
-        }
+            Refuses (with_value factory_made result) answer }
         ensures tables { lent.LeavesOpened result self.node self.name state.old.tables state.new.tables }
         ensures kept { IfOk result (λ f. KeepsBoard state.new.tables f) }
         ensures named { IfOk result (λ f. f.name ≡ self.name) }
@@ -159,9 +151,10 @@ impl<K: BoardKey, P> Opener<K, P> {
             domain,
             marker: _,
         } = self;
-        let mut state = domain.lock(rt);
-        let opened = open_board::<K>(&mut state, node, &name, limits, verifier);
-        drop(state);
+        let opened = {
+            let mut state = domain.lock(rt);
+            open_board::<K>(&mut state, node, &name, limits, verifier)
+        };
         match opened {
             Ok(kept) => Ok(PortFactory::new(alloc, kept, name, domain)),
             Err(why) => Err(why),

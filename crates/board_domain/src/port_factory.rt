@@ -116,10 +116,8 @@ impl<K: BoardKey, P> PortFactory<K, P> {
 
     /// `dynamic_config` over the domain's state itself.
     pub fn dynamic_config_in(&self, state: &DomainState) -> DynamicConfig
-        ensures {
-            let keys = details K.type_bytes K.SIZE K.ALIGNMENT in
-            result ≡ lent.taken_of state.now.tables keys self.now.made.thing
-        }
+        ensures { let keys = details K.type_bytes K.SIZE K.ALIGNMENT in
+            result ≡ lent.taken_of state.now.tables keys self.now.made.thing }
     {
         let factory = self.made.thing;
         if !state.tables.is_held::<K>(factory, ThingKind::Factory) {
@@ -167,10 +165,8 @@ impl<K: BoardKey, P> PortFactory<K, P> {
 
     /// `release` over the domain's state itself.
     pub fn release_in(self, state: &mut DomainState)
-        ensures tables {
-            let keys = details K.type_bytes K.SIZE K.ALIGNMENT in
-            state.new.tables ≡ handles.given_up state.old.tables keys self.made.thing ThingKind.Factory
-        }
+        ensures tables { let keys = details K.type_bytes K.SIZE K.ALIGNMENT in
+            state.new.tables ≡ handles.given_up state.old.tables keys self.made.thing ThingKind.Factory }
         ensures nodes { state.new.nodes ≡ state.old.nodes }
     {
         give_up::<K>(&mut state.tables, self.made.thing, ThingKind::Factory);

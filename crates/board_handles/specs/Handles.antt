@@ -1,5 +1,6 @@
 -- What callers see of handles, loans and ports.
 use Rattle.std.specs.Prelude.{◌≡◌, ℕ, ◌+◌, ◌^◌, ◌<◌, ◌==◌, Bool, List, [], ◌∷◌, ◌++◌, length, map, slice_set, Option, Some}
+use Rattle.atomic_table.specs.Seated.{TableId}
 use Rattle.board_cell.specs.Passes.{CellSeen, ReaderSeen, ReceiptSeen, Gets, GetsWithin, Looks}
 use Rattle.board_service.specs.declared.made.Found.{Found}
 use Rattle.board_cells.specs.Cells.{EndSeen}
@@ -29,6 +30,12 @@ pub record LoanSeen : Type 0 where
 pub record PortSeen : Type 0 where
   pub thing : ℕ
   pub number : ℕ
+
+-- ---- what is true of a handle
+
+-- the pass is of the cell, whose values have this many words, as many as there is room for
+abbrev pub IsEndOf : CellSeen → TableId → ℕ → ℕ → Type 0
+IsEndOf cell own room width = (own ≡ cell.cell) × (room ≡ cell.width) × (cell.width ≡ width)
 
 -- ---- reads
 

@@ -9,12 +9,7 @@ use board_cells::{BoardCells, ReadEnd, WriteEnd};
 use board_service::DomainCore;
 
 /// Whether the board and the entry are there, and the entry's values have this many words.
-pub(crate) fn has_cell(
-    tables: &DomainCore<BoardCells>,
-    board: u64,
-    entry: u64,
-    words: u64,
-) -> bool
+pub(crate) fn has_cell(tables: &DomainCore<BoardCells>, board: u64, entry: u64, words: u64) -> bool
     ensures { result ≡ fits words cell_width (ends.cell_of tables.now board entry) }
 {
     match tables.cells(board) {

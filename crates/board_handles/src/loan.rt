@@ -30,13 +30,18 @@ impl<K, V: ZeroCopySend, P> Model for EntryValueUninit<K, V, P> {
     ghost use Rattle.std.specs.Prelude.{◌≡◌, ◌+◌, ◌<◌, ◌^◌, length};
     ghost use Rattle.std.specs.Arc.{arc_value};
     ghost use Rattle.board_cells.specs.Cells.{end_of};
-    ghost use Rattle.board_handles.specs.Handles.{LoanSeen};
+    ghost use Rattle.board_handles.specs.Handles.{LoanSeen, IsEndOf};
 
     ghost Value = { LoanSeen };
 
-    ghost view = { λ s. record { handle = record { found = s.found; held = end_of (arc_value s.cell) s.pass }; words = s.places.items } };
+    ghost view = { λ s. record {
+      handle = record { found = s.found; held = end_of (arc_value s.cell) s.pass };
+      words = s.places.items;
+    } };
 
-    ghost invariant = { λ s. (s.pass.cell ≡ (arc_value s.cell).cell) × (length s.words.items ≡ (arc_value s.cell).width) × (length s.places.items ≡ (arc_value s.cell).width) × ((arc_value s.cell).width ≡ V.WORDS) × (length s.pass.published + 1 < 2 ^ 64) };
+    ghost invariant = { λ s.
+        IsEndOf (arc_value s.cell) s.pass.cell (length s.words.items) V.WORDS
+        × (length s.places.items ≡ V.WORDS) × (length s.pass.published + 1 < 2 ^ 64) };
 }
 
 // Writes the words that were put, all of them, into a buffer.
@@ -48,7 +53,9 @@ fn fill(words: &mut [u64], places: &[Option<u64>])
 {
     for i in 0..words.len() {
         // Each word was put.
-        let Some(word) = places[i] else { unreachable!() };
+        let Some(word) = places[i] else {
+            unreachable!()
+        };
         words[i] = word;
     }
 }

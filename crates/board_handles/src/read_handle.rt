@@ -29,15 +29,15 @@ pub struct EntryHandle<K, V: ZeroCopySend, P> {
 }
 
 impl<K, V: ZeroCopySend, P> Model for EntryHandle<K, V, P> {
-    ghost use Rattle.std.specs.Prelude.{◌≡◌, length};
+    ghost use Rattle.std.specs.Prelude.{length};
     ghost use Rattle.std.specs.Arc.{arc_value};
-    ghost use Rattle.board_handles.specs.Handles.{ReadSeen};
+    ghost use Rattle.board_handles.specs.Handles.{ReadSeen, IsEndOf};
 
     ghost Value = { ReadSeen };
 
     ghost view = { λ s. record { found = s.found; cell = arc_value s.cell; pass = s.pass } };
 
-    ghost invariant = { λ s. (s.pass.cell ≡ (arc_value s.cell).cell) × (length s.words.items ≡ (arc_value s.cell).width) × ((arc_value s.cell).width ≡ V.WORDS) };
+    ghost invariant = { λ s. IsEndOf (arc_value s.cell) s.pass.cell (length s.words.items) V.WORDS };
 }
 
 impl<K, V: ZeroCopySend, P> EntryHandle<K, V, P> {

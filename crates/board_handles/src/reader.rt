@@ -63,18 +63,12 @@ fn new_reader<K: BoardKey>(
     state: &mut DomainState,
     factory: ThingId,
 ) -> Result<Made, ReaderCreateError>
-    ensures answer {
-        let keys = details K.type_bytes K.SIZE K.ALIGNMENT in
-        Answers result ReaderCreateError.OutOfMemory (lent.reader_made state.old.tables keys factory)
-    }
-    ensures refused {
-        let keys = details K.type_bytes K.SIZE K.ALIGNMENT in
-        Refuses result (lent.reader_made state.old.tables keys factory)
-    }
-    ensures ok {
-        let before = state.old.tables in
-        OnOk result (state.new.tables ≡ calls.after_reader before (calls.held before factory))
-    }
+    ensures answer { let keys = details K.type_bytes K.SIZE K.ALIGNMENT in
+        Answers result ReaderCreateError.OutOfMemory (lent.reader_made state.old.tables keys factory) }
+    ensures refused { let keys = details K.type_bytes K.SIZE K.ALIGNMENT in
+        Refuses result (lent.reader_made state.old.tables keys factory) }
+    ensures ok { let before = state.old.tables in
+        OnOk result (state.new.tables ≡ calls.after_reader before (calls.held before factory)) }
     ensures err { OnErr result (state.new.tables ≡ state.old.tables) }
     ensures nodes { state.new.nodes ≡ state.old.nodes }
 {
@@ -119,18 +113,12 @@ impl<K: BoardKey, P> PortFactoryReader<K, P> {
     /// # Errors
     /// `ThingUnknown` where the factory isn't held; else `ExceedsMaxSupportedReaders` where the board has as many readers as it may; `NumbersSpent`; `OutOfMemory`. All stays as it was.
     pub fn create_in(self, state: &mut DomainState) -> Result<Reader<K, P>, ReaderCreateError>
-        ensures answer {
-            let keys = details K.type_bytes K.SIZE K.ALIGNMENT in
-            Answers result ReaderCreateError.OutOfMemory (lent.reader_made state.old.tables keys self)
-        }
-        ensures refused {
-            let keys = details K.type_bytes K.SIZE K.ALIGNMENT in
-            Refuses result (lent.reader_made state.old.tables keys self)
-        }
-        ensures ok {
-            let before = state.old.tables in
-            OnOk result (state.new.tables ≡ calls.after_reader before (calls.held before self))
-        }
+        ensures answer { let keys = details K.type_bytes K.SIZE K.ALIGNMENT in
+            Answers result ReaderCreateError.OutOfMemory (lent.reader_made state.old.tables keys self) }
+        ensures refused { let keys = details K.type_bytes K.SIZE K.ALIGNMENT in
+            Refuses result (lent.reader_made state.old.tables keys self) }
+        ensures ok { let before = state.old.tables in
+            OnOk result (state.new.tables ≡ calls.after_reader before (calls.held before self)) }
         ensures err { OnErr result (state.new.tables ≡ state.old.tables) }
         ensures nodes { state.new.nodes ≡ state.old.nodes }
     {
@@ -160,16 +148,12 @@ fn read_handle_of<K, V: ZeroCopySend, P>(
     found: Found,
 ) -> Result<EntryHandle<K, V, P>, EntryHandleError>
     ensures same { tables.new ≡ tables.old }
-    ensures answer {
-        let unknown = EntryHandleError.ThingUnknown reader in
+    ensures answer { let unknown = EntryHandleError.ThingUnknown reader in
         let cell = ends.cell_of tables.old board found.entry in
-        Answers (with_value lent.read_given result) EntryHandleError.OutOfMemory (lent.fitting unknown V.WORDS cell_width found cell)
-    }
-    ensures refused {
-        let unknown = EntryHandleError.ThingUnknown reader in
+        Answers (with_value lent.read_given result) EntryHandleError.OutOfMemory (lent.fitting unknown V.WORDS cell_width found cell) }
+    ensures refused { let unknown = EntryHandleError.ThingUnknown reader in
         let cell = ends.cell_of tables.old board found.entry in
-        Refuses (with_value lent.read_given result) (lent.fitting unknown V.WORDS cell_width found cell)
-    }
+        Refuses (with_value lent.read_given result) (lent.fitting unknown V.WORDS cell_width found cell) }
     ensures fresh { IfOk result (λ h. IsUnread h.pass) }
 {
     if !has_cell(tables, board, found.entry, V::WORDS as u64) {
@@ -206,27 +190,21 @@ impl<K: BoardKey, P> Reader<K, P> {
         state: &mut DomainState,
         key: &K,
     ) -> Result<EntryHandle<K, V, P>, EntryHandleError>
-        ensures answer {
-            let keys = details K.type_bytes K.SIZE K.ALIGNMENT in
+        ensures answer { let keys = details K.type_bytes K.SIZE K.ALIGNMENT in
             let is_it = is_key K.eq K.value_of K.SIZE K.WORDS key.now in
             let values = details V.type_bytes V.SIZE V.ALIGNMENT in
             let asked = lent.asked keys is_it values V.WORDS in
-            lent.AnswersReader result state.old.tables asked self.now.thing
-        }
-        ensures refused {
-            let keys = details K.type_bytes K.SIZE K.ALIGNMENT in
+            lent.AnswersReader result state.old.tables asked self.now.thing }
+        ensures refused { let keys = details K.type_bytes K.SIZE K.ALIGNMENT in
             let is_it = is_key K.eq K.value_of K.SIZE K.WORDS key.now in
             let values = details V.type_bytes V.SIZE V.ALIGNMENT in
             let asked = lent.asked keys is_it values V.WORDS in
-            lent.RefusesReader result state.old.tables asked self.now.thing
-        }
-        ensures tables {
-            let keys = details K.type_bytes K.SIZE K.ALIGNMENT in
+            lent.RefusesReader result state.old.tables asked self.now.thing }
+        ensures tables { let keys = details K.type_bytes K.SIZE K.ALIGNMENT in
             let is_it = is_key K.eq K.value_of K.SIZE K.WORDS key.now in
             let values = details V.type_bytes V.SIZE V.ALIGNMENT in
             let asked = lent.asked keys is_it values V.WORDS in
-            lent.LeavesRead result state.old.tables asked self.now.thing state.new.tables
-        }
+            lent.LeavesRead result state.old.tables asked self.now.thing state.new.tables }
         ensures fresh { IfOk result (λ h. IsUnread h.pass) }
         ensures nodes { state.new.nodes ≡ state.old.nodes }
     {
@@ -274,10 +252,8 @@ impl<K: BoardKey, P> Reader<K, P> {
 
     /// `release` over the domain's state itself.
     pub fn release_in(self, state: &mut DomainState)
-        ensures tables {
-            let keys = details K.type_bytes K.SIZE K.ALIGNMENT in
-            state.new.tables ≡ lent.given_up state.old.tables keys self.thing ThingKind.Reader
-        }
+        ensures tables { let keys = details K.type_bytes K.SIZE K.ALIGNMENT in
+            state.new.tables ≡ lent.given_up state.old.tables keys self.thing ThingKind.Reader }
         ensures nodes { state.new.nodes ≡ state.old.nodes }
     {
         give_up::<K>(&mut state.tables, self.made.thing, ThingKind::Reader);
@@ -293,10 +269,8 @@ impl<K: BoardKey, P> Reader<K, P> {
 impl<K: BoardKey, V: ZeroCopySend, P> EntryHandle<K, V, P> {
     /// `release` over the domain's state itself.
     pub fn release_in(self, state: &mut DomainState)
-        ensures tables {
-            let keys = details K.type_bytes K.SIZE K.ALIGNMENT in
-            state.new.tables ≡ lent.given_up state.old.tables keys self.found.thing ThingKind.ReadHandle
-        }
+        ensures tables { let keys = details K.type_bytes K.SIZE K.ALIGNMENT in
+            state.new.tables ≡ lent.given_up state.old.tables keys self.found.thing ThingKind.ReadHandle }
         ensures nodes { state.new.nodes ≡ state.old.nodes }
     {
         let (found, _domain) = self.into_parts();

@@ -11,10 +11,8 @@ use board_service::{DomainCore, Found, ThingId, ThingKind};
 
 /// Ends a thing, where it is held as this kind, by a board whose keys are `K`s. Takes no memory.
 pub fn give_up<K: BoardKey>(tables: &mut DomainCore<BoardCells>, thing: ThingId, kind: ThingKind)
-    ensures {
-        let keys = details K.type_bytes K.SIZE K.ALIGNMENT in
-        tables.new ≡ lent.given_up tables.old keys thing kind
-    }
+    ensures { let keys = details K.type_bytes K.SIZE K.ALIGNMENT in
+        tables.new ≡ lent.given_up tables.old keys thing kind }
 {
     if tables.is_held::<K>(thing, kind) {
         let _ = tables.release(thing);
@@ -27,10 +25,8 @@ pub(crate) fn give_up_writing<K: BoardKey>(
     found: Found,
     end: WriteEnd,
 )
-    ensures {
-        let keys = details K.type_bytes K.SIZE K.ALIGNMENT in
-        tables.new ≡ lent.write_given_up tables.old keys record { found = found; held = end_seen end }
-    }
+    ensures { let keys = details K.type_bytes K.SIZE K.ALIGNMENT in
+        tables.new ≡ lent.write_given_up tables.old keys record { found = found; held = end_seen end } }
 {
     if !tables.is_held::<K>(found.thing, ThingKind::WriteHandle) {
         return;

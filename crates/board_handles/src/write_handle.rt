@@ -36,13 +36,15 @@ impl<K, V: ZeroCopySend, P> Model for EntryHandleMut<K, V, P> {
     ghost use Rattle.std.specs.Prelude.{◌≡◌, length};
     ghost use Rattle.std.specs.Arc.{arc_value};
     ghost use Rattle.board_cells.specs.Cells.{end_of};
-    ghost use Rattle.board_handles.specs.Handles.{WriteSeen};
+    ghost use Rattle.board_handles.specs.Handles.{WriteSeen, IsEndOf};
 
     ghost Value = { WriteSeen };
 
     ghost view = { λ s. record { found = s.found; held = end_of (arc_value s.cell) s.pass } };
 
-    ghost invariant = { λ s. (s.pass.cell ≡ (arc_value s.cell).cell) × (length s.words.items ≡ (arc_value s.cell).width) × (length s.places.items ≡ (arc_value s.cell).width) × ((arc_value s.cell).width ≡ V.WORDS) };
+    ghost invariant = { λ s.
+        IsEndOf (arc_value s.cell) s.pass.cell (length s.words.items) V.WORDS
+        × (length s.places.items ≡ V.WORDS) };
 }
 
 impl<K, V: ZeroCopySend, P> EntryHandleMut<K, V, P> {

@@ -62,18 +62,12 @@ fn new_writer<K: BoardKey>(
     state: &mut DomainState,
     factory: ThingId,
 ) -> Result<Made, WriterCreateError>
-    ensures answer {
-        let keys = details K.type_bytes K.SIZE K.ALIGNMENT in
-        Answers result WriterCreateError.OutOfMemory (lent.writer_made state.old.tables keys factory)
-    }
-    ensures refused {
-        let keys = details K.type_bytes K.SIZE K.ALIGNMENT in
-        Refuses result (lent.writer_made state.old.tables keys factory)
-    }
-    ensures ok {
-        let before = state.old.tables in
-        OnOk result (state.new.tables ≡ calls.after_writer before (calls.held before factory))
-    }
+    ensures answer { let keys = details K.type_bytes K.SIZE K.ALIGNMENT in
+        Answers result WriterCreateError.OutOfMemory (lent.writer_made state.old.tables keys factory) }
+    ensures refused { let keys = details K.type_bytes K.SIZE K.ALIGNMENT in
+        Refuses result (lent.writer_made state.old.tables keys factory) }
+    ensures ok { let before = state.old.tables in
+        OnOk result (state.new.tables ≡ calls.after_writer before (calls.held before factory)) }
     ensures err { OnErr result (state.new.tables ≡ state.old.tables) }
     ensures nodes { state.new.nodes ≡ state.old.nodes }
 {
@@ -118,18 +112,12 @@ impl<K: BoardKey, P> PortFactoryWriter<K, P> {
     /// # Errors
     /// `ThingUnknown` where the factory isn't held; else `ExceedsMaxSupportedWriters` where the board has as many writers as it may, each with a handle or itself; `NumbersSpent`; `OutOfMemory`. All stays as it was.
     pub fn create_in(self, state: &mut DomainState) -> Result<Writer<K, P>, WriterCreateError>
-        ensures answer {
-            let keys = details K.type_bytes K.SIZE K.ALIGNMENT in
-            Answers result WriterCreateError.OutOfMemory (lent.writer_made state.old.tables keys self)
-        }
-        ensures refused {
-            let keys = details K.type_bytes K.SIZE K.ALIGNMENT in
-            Refuses result (lent.writer_made state.old.tables keys self)
-        }
-        ensures ok {
-            let before = state.old.tables in
-            OnOk result (state.new.tables ≡ calls.after_writer before (calls.held before self))
-        }
+        ensures answer { let keys = details K.type_bytes K.SIZE K.ALIGNMENT in
+            Answers result WriterCreateError.OutOfMemory (lent.writer_made state.old.tables keys self) }
+        ensures refused { let keys = details K.type_bytes K.SIZE K.ALIGNMENT in
+            Refuses result (lent.writer_made state.old.tables keys self) }
+        ensures ok { let before = state.old.tables in
+            OnOk result (state.new.tables ≡ calls.after_writer before (calls.held before self)) }
         ensures err { OnErr result (state.new.tables ≡ state.old.tables) }
         ensures nodes { state.new.nodes ≡ state.old.nodes }
     {
@@ -158,16 +146,12 @@ fn write_handle_of<K, V: ZeroCopySend, P>(
     board: u64,
     found: Found,
 ) -> Result<EntryHandleMut<K, V, P>, EntryHandleMutError>
-    ensures answer {
-        let unknown = EntryHandleMutError.ThingUnknown writer in
+    ensures answer { let unknown = EntryHandleMutError.ThingUnknown writer in
         let end = ends.parked_of tables.old board found.entry in
-        Answers (with_value lent.write_given result) EntryHandleMutError.OutOfMemory (lent.fitting unknown V.WORDS end_width found end)
-    }
-    ensures refused {
-        let unknown = EntryHandleMutError.ThingUnknown writer in
+        Answers (with_value lent.write_given result) EntryHandleMutError.OutOfMemory (lent.fitting unknown V.WORDS end_width found end) }
+    ensures refused { let unknown = EntryHandleMutError.ThingUnknown writer in
         let end = ends.parked_of tables.old board found.entry in
-        Refuses (with_value lent.write_given result) (lent.fitting unknown V.WORDS end_width found end)
-    }
+        Refuses (with_value lent.write_given result) (lent.fitting unknown V.WORDS end_width found end) }
     ensures ok { OnOk result (tables.new ≡ ends.taken tables.old board found.entry) }
     ensures err { OnErr result (tables.new ≡ tables.old) }
 {
@@ -207,27 +191,21 @@ impl<K: BoardKey, P> Writer<K, P> {
         state: &mut DomainState,
         key: &K,
     ) -> Result<EntryHandleMut<K, V, P>, EntryHandleMutError>
-        ensures answer {
-            let keys = details K.type_bytes K.SIZE K.ALIGNMENT in
+        ensures answer { let keys = details K.type_bytes K.SIZE K.ALIGNMENT in
             let is_it = is_key K.eq K.value_of K.SIZE K.WORDS key.now in
             let values = details V.type_bytes V.SIZE V.ALIGNMENT in
             let asked = lent.asked keys is_it values V.WORDS in
-            lent.AnswersWriter result state.old.tables asked self.now.thing
-        }
-        ensures refused {
-            let keys = details K.type_bytes K.SIZE K.ALIGNMENT in
+            lent.AnswersWriter result state.old.tables asked self.now.thing }
+        ensures refused { let keys = details K.type_bytes K.SIZE K.ALIGNMENT in
             let is_it = is_key K.eq K.value_of K.SIZE K.WORDS key.now in
             let values = details V.type_bytes V.SIZE V.ALIGNMENT in
             let asked = lent.asked keys is_it values V.WORDS in
-            lent.RefusesWriter result state.old.tables asked self.now.thing
-        }
-        ensures tables {
-            let keys = details K.type_bytes K.SIZE K.ALIGNMENT in
+            lent.RefusesWriter result state.old.tables asked self.now.thing }
+        ensures tables { let keys = details K.type_bytes K.SIZE K.ALIGNMENT in
             let is_it = is_key K.eq K.value_of K.SIZE K.WORDS key.now in
             let values = details V.type_bytes V.SIZE V.ALIGNMENT in
             let asked = lent.asked keys is_it values V.WORDS in
-            lent.LeavesWritten result state.old.tables asked self.now.thing state.new.tables
-        }
+            lent.LeavesWritten result state.old.tables asked self.now.thing state.new.tables }
         ensures nodes { state.new.nodes ≡ state.old.nodes }
     {
         let writer = self.made.thing;
@@ -272,10 +250,8 @@ impl<K: BoardKey, P> Writer<K, P> {
 
     /// `release` over the domain's state itself.
     pub fn release_in(self, state: &mut DomainState)
-        ensures tables {
-            let keys = details K.type_bytes K.SIZE K.ALIGNMENT in
-            state.new.tables ≡ lent.given_up state.old.tables keys self.thing ThingKind.Writer
-        }
+        ensures tables { let keys = details K.type_bytes K.SIZE K.ALIGNMENT in
+            state.new.tables ≡ lent.given_up state.old.tables keys self.thing ThingKind.Writer }
         ensures nodes { state.new.nodes ≡ state.old.nodes }
     {
         give_up::<K>(&mut state.tables, self.made.thing, ThingKind::Writer);
@@ -291,10 +267,8 @@ impl<K: BoardKey, P> Writer<K, P> {
 impl<K: BoardKey, V: ZeroCopySend, P> EntryHandleMut<K, V, P> {
     /// `release` over the domain's state itself.
     pub fn release_in(self, state: &mut DomainState)
-        ensures tables {
-            let keys = details K.type_bytes K.SIZE K.ALIGNMENT in
-            state.new.tables ≡ lent.write_given_up state.old.tables keys self
-        }
+        ensures tables { let keys = details K.type_bytes K.SIZE K.ALIGNMENT in
+            state.new.tables ≡ lent.write_given_up state.old.tables keys self }
         ensures nodes { state.new.nodes ≡ state.old.nodes }
     {
         let (found, end, _domain) = self.into_parts();
@@ -312,10 +286,8 @@ impl<K: BoardKey, V: ZeroCopySend, P> EntryHandleMut<K, V, P> {
 impl<K: BoardKey, V: ZeroCopySend, P> EntryValueUninit<K, V, P> {
     /// `release` over the domain's state itself.
     pub fn release_in(self, state: &mut DomainState)
-        ensures tables {
-            let keys = details K.type_bytes K.SIZE K.ALIGNMENT in
-            state.new.tables ≡ lent.write_given_up state.old.tables keys self.handle
-        }
+        ensures tables { let keys = details K.type_bytes K.SIZE K.ALIGNMENT in
+            state.new.tables ≡ lent.write_given_up state.old.tables keys self.handle }
         ensures nodes { state.new.nodes ≡ state.old.nodes }
     {
         self.discard().release_in(state);
