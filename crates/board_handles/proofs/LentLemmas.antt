@@ -50,14 +50,17 @@ is_given unknown width width_of f (Some x) e fit given =
 
 -- ---- things
 
-is_same : (n : ℕ) → nat_eq n n ≡ true
+-- a number is itself
+pub is_same : (n : ℕ) → nat_eq n n ≡ true
 is_same n = (Decides-eqb n n).1 refl
 
-kept_some : {X : Type 0} (b : Bool) (x : X) (o : Option X) → IsSome o → IsSome (cond b (Some x) o)
+-- a test before does no harm
+pub kept_some : {X : Type 0} (b : Bool) (x : X) (o : Option X) → IsSome o → IsSome (cond b (Some x) o)
 kept_some true x o s = refl
 kept_some false x o s = s
 
-found_last : {X : Type 0} (q : X → Bool) (xs : List X) (x : X) → q x ≡ true → IsSome (find q (xs ++ x ∷ []))
+-- what was put at the end is found, or something before it
+pub found_last : {X : Type 0} (q : X → Bool) (xs : List X) (x : X) → q x ≡ true → IsSome (find q (xs ++ x ∷ []))
 found_last q [] x e = ap (λ b. is_some (cond b (Some x) None)) e
 found_last q (y ∷ ys) x e = kept_some (q y) y (find q (ys ++ x ∷ [])) (found_last q ys x e)
 
@@ -69,7 +72,8 @@ found_entry : {C : Type 0} (d : Domain C) (f : Option (ℕ × Entry)) → (found
 found_entry d None = refl
 found_entry d (Some f) = refl
 
-answered : {A E : Type 0} (o : Option E) (x y : A) → Ok x ≡ answer_of o y → x ≡ y
+-- an answer that is Ok is the expected one
+pub answered : {A E : Type 0} (o : Option E) (x y : A) → Ok x ≡ answer_of o y → x ≡ y
 answered None x y e = cc
 answered (Some w) x y e = absurd (cc)
 
