@@ -14,7 +14,7 @@ use Rattle.board_model.specs.TableCalls.{answer_of, place_of}
 use Rattle.board_service.specs.declared.made.Found.{Found}
 use Rattle.board_service.specs.Domain.{Domain, is_thing, stands_as, held, entry_answer, entry_mut_answer, after_entry, after_entry_mut, found, at, set_at, place_of_board, cells_of, with_cells}
 use Rattle.board_cell.specs.Passes.{CellSeen}
-use Rattle.board_cells.specs.Cells.{PlaceSeen, EndSeen, cell_width, end_width, fits}
+use Rattle.board_cells.specs.Cells.{cell_width, end_width}
 use Rattle.board_handles.specs.BoardEnds.{Core, cell_of, parked_of, taken}
 use Rattle.board_handles.specs.LentForms as lent
 
@@ -32,21 +32,6 @@ set_at_same xs (Some i) x y e s = ap (set xs i) s ∙ set_same xs i y (sym e)
 -- cells that come back as they were lent change nothing
 pub same_cells : {C : Type 0} (d : Domain C) (board : ℕ) (x y : C) → Some y ≡ cells_of d board → x ≡ y → with_cells d board x ≡ d
 same_cells d board x y e s = λ k. record d { cells = set_at_same d.cells (place_of_board d board) x y e s k }
-
--- ---- what is there
-
--- what fits is there
-pub is_there : {A E : Type 0} (width : ℕ) (width_of : A → ℕ) (o : Option A) → true ≡ fits width width_of o → o ≡ None → ⊥
-is_there width width_of None f e = cc
-is_there width width_of (Some x) f e = cc
-
--- what fits is given
-pub is_given : {A E : Type 0} (unknown : E) (width : ℕ) (width_of : A → ℕ) (f : Found) (o : Option A) (e : E) → true ≡ fits width width_of o
-    → lent.fitting unknown width width_of f o ≡ Err e → ⊥
-is_given unknown width width_of f None e fit given = cc
-is_given unknown width width_of f (Some x) e fit given =
-    let same : lent.fitting unknown width width_of f (Some x) ≡ Ok (f, x) = ap (λ b. if b then Ok (f, x) else Err unknown) (sym fit) in
-    cc
 
 -- ---- things
 

@@ -10,7 +10,7 @@ returns-in_err-share-clause-same c =
     let x = c.index_mut-place.result.now in
     let n : c.len.result ≡ length c.self.inside.places.items = search rules in
     let i = c.if-entry-len.false in
-    let same = c.share.ensures.same.1 in
+    let same = c.share.ensures.cell in
     put_back c.self.inside.places.items _ c.self.view_is c.args.entry x record { read = c.share.new.self; parked = x.parked } (omega arith) c.index_mut-place.ensures.value (λ k. record (place_seen x) { cell = same k })
 
 pub returns-clause-same : goal.returns-clause-same
@@ -18,7 +18,7 @@ returns-clause-same c =
     let x = c.index_mut-place.result.now in
     let n : c.len.result ≡ length c.self.inside.places.items = search rules in
     let i = c.if-entry-len.false in
-    let same = c.share.ensures.same.1 in
+    let same = c.share.ensures.cell in
     put_back c.self.inside.places.items _ c.self.view_is c.args.entry x record { read = c.share.new.self; parked = x.parked } (omega arith) c.index_mut-place.ensures.value (λ k. record (place_seen x) { cell = same k })
 
 pub returns-clause-cell : goal.returns-clause-cell
@@ -27,4 +27,4 @@ returns-clause-cell c =
     let n : c.len.result ≡ length c.self.inside.places.items = search rules in
     let i = c.if-entry-len.false in
     let shared = c.in_ok-share.ensures.shared in
-    ap Some shared.0 ∙ sym (cell_there c.self.inside.places.items _ c.self.view_is c.args.entry x (omega arith) c.index_mut-place.ensures.value)
+    ap Some shared ∙ sym (cell_there c.self.inside.places.items _ c.self.view_is c.args.entry x (omega arith) c.index_mut-place.ensures.value)
