@@ -1,0 +1,103 @@
+-- Boards and factories that were made stand.
+use Rattle.std.proofs.Common.{◌≡◌, ℕ, ◌+◌, ◌⊎◌, Bool, true, false, cond, List, [], ◌∷◌, ◌++◌, Option, Some, None, refl, sym, ap, ◌∙◌, subst, inl, inr}
+use Rattle.std.specs.Prelude.{find, IsSome, is_some, is_none, option_map, nat_eq, Result, Ok, Err}
+use Rattle.board_layout.specs.declared.type_detail.TypeDetail.{TypeDetail}
+use Rattle.board_model.specs.declared.attributes.Attribute.{Attribute}
+use Rattle.board_model.specs.declared.attributes.Requirements.{Requirements}
+use Rattle.board_model.specs.declared.tables.Board.{Board}
+use Rattle.board_model.specs.declared.tables.Limits.{Limits}
+use Rattle.board_model.specs.Tables.{Added, board_at, board_named, has_name, is_numbered}
+use Rattle.board_model.specs.TableCalls.{answer_of, first_of, number_of, open_refusals}
+use Rattle.board_names.specs.declared.errors.boards.BlackboardOpenError.TheVariants as open_error
+use Rattle.board_service.specs.declared.made.Made.{Made}
+use Rattle.board_service.specs.Domain.{spent, is_thing, held, made, create_answer, create_list, open_answer, open_list, after_open, after_release}
+use Rattle.board_handles.specs.BoardEnds.{Core}
+use Rattle.board_handles.specs.LentForms.{without_thing}
+use Rattle.board_handles.proofs.LentLemmas.{is_same, kept_some, found_last, answered}
+use Rattle.board_domain.specs.LentForms as lent
+
+-- what stands is shown
+pub is_shown : {A B : Type 0} (f : A → B) (o : Option A) → IsSome o → None ≡ option_map f o → ⊥
+is_shown f None s e = cc
+is_shown f (Some x) s e = cc
+
+-- ---- create
+
+module _ (b : lent.NewBoard) (d t : Core) (is : lent.IsMade b d t) where
+  -- a board that was made stands
+  pub board_made : (n : ℕ) → n ≡ d.tables.last_board + 1 → IsSome (board_at t.tables n)
+  board_made n e =
+      subst (λ (s : Core). IsSome (board_at s.tables n)) (sym is.2)
+      (found_last (is_numbered n) d.tables.boards _ (ap (λ m. nat_eq (d.tables.last_board + 1) m) e ∙ is_same (d.tables.last_board + 1)))
+
+  -- so does its factory
+  pub factory_made : (n : ℕ) → n ≡ d.last_thing + 1 → IsSome (find (is_thing n) t.tables.things)
+  factory_made n e =
+      subst (λ (s : Core). IsSome (find (is_thing n) s.tables.things)) (sym is.2)
+      (found_last (is_thing n) d.tables.things _ (ap (λ m. nat_eq (d.last_thing + 1) m) e ∙ is_same (d.last_thing + 1)))
+
+  -- and where that goes again, the board was made and is gone
+  pub made_and_gone : (n : ℕ) (now : Core) → n ≡ d.last_thing + 1 → now ≡ after_release t n (held t n).board → lent.IsNotMade b d now
+  made_and_gone n now e gone = inr (t, is, gone ∙ (λ k. after_release t (e k) (held t (e k)).board))
+
+module _ (d : Core) (same_key : List ℕ → List ℕ → Bool) (name : List ℕ) (entries : List Added) (x : Made) (ok : Ok x ≡ create_answer d same_key name entries) where
+  same : x ≡ made d (d.tables.last_board + 1)
+  same = answered (first_of (create_list d same_key name entries)) x (made d (d.tables.last_board + 1)) ok
+
+  pub created_number : x.number ≡ d.tables.last_board + 1
+  created_number = ap (λ (m : Made). m.number) same
+
+  pub created_thing : x.thing ≡ d.last_thing + 1
+  created_thing = ap (λ (m : Made). m.thing) same
+
+-- ---- open
+
+-- what is found by one test and passes another is found by that too, or something before it
+found_too : {A : Type 0} (p q : A → Bool) (xs : List A) (x : A) → find p xs ≡ Some x → q x ≡ true → IsSome (find q xs)
+
+found_here : {A : Type 0} (p q : A → Bool) (y : A) (ys : List A) (x : A) (b : Bool) → cond b (Some y) (find p ys) ≡ Some x → q x ≡ true → IsSome (cond (q y) (Some y) (find q ys))
+
+found_too p q [] x e h = absurd (cc)
+found_too p q (y ∷ ys) x e h = found_here p q y ys x (p y) e h
+
+found_here p q y ys x true e h =
+    let same : x ≡ y = cc in
+    subst (λ b. is_some (cond b (Some y) (find q ys)) ≡ true) (sym h ∙ ap q same) refl
+found_here p q y ys x false e h = kept_some (q y) y (find q ys) (found_too p q ys x e h)
+
+-- a board that is found by its name stands under its number
+named_stands : (boards : List Board) (name : List ℕ) (o : Option Board) → find (has_name name) boards ≡ o → is_none o ≡ false → IsSome (find (is_numbered (number_of o)) boards)
+named_stands boards name None e some = absurd (cc)
+named_stands boards name (Some b) e some = found_too (has_name name) (is_numbered b.number) boards b e (is_same b.number)
+
+module _ (d : Core) (node : ℕ) (name : List ℕ) (keys : TypeDetail) (limits : Limits) (needs : Requirements) (x : Made) where
+  opened_number_from : (o : Option Board) → board_named d.tables name ≡ o → Ok x ≡ open_answer d node name keys limits needs → is_none o ≡ false
+  opened_number_from None e ok =
+      let refused : Ok x ≡ Err _ = ok ∙ (λ k. answer_of (first_of (open_refusals nat_eq d.tables.things node (e k) keys limits needs ++ (spent d.last_thing, open_error.NumbersSpent) ∷ [])) (made d (number_of (e k)))) in
+      absurd (cc)
+  opened_number_from (Some b) e ok = refl
+
+  same_opened : Ok x ≡ open_answer d node name keys limits needs → x ≡ made d (number_of (board_named d.tables name))
+  same_opened ok = answered (first_of (open_list d node name keys limits needs)) x (made d (number_of (board_named d.tables name))) ok
+
+  -- a board that was opened stands
+  pub board_opened : (t : Core) → Ok x ≡ open_answer d node name keys limits needs → t ≡ after_open d node name → IsSome (board_at t.tables x.number)
+  board_opened t ok is =
+      let number : x.number ≡ number_of (board_named d.tables name) = ap (λ (m : Made). m.number) (same_opened ok) in
+      let stands = named_stands d.tables.boards name (board_named d.tables name) refl (opened_number_from (board_named d.tables name) refl ok) in
+      subst (λ n. IsSome (board_at t.tables n)) (sym number)
+      (subst (λ (s : Core). IsSome (board_at s.tables (number_of (board_named d.tables name)))) (sym is) stands)
+
+  pub opened_thing : Ok x ≡ open_answer d node name keys limits needs → x.thing ≡ d.last_thing + 1
+  opened_thing ok = ap (λ (m : Made). m.thing) (same_opened ok)
+
+  -- so does its factory
+  pub factory_opened : (t : Core) → Ok x ≡ open_answer d node name keys limits needs → t ≡ after_open d node name → IsSome (find (is_thing x.thing) t.tables.things)
+  factory_opened t ok is =
+      subst (λ (s : Core). IsSome (find (is_thing x.thing) s.tables.things)) (sym is)
+      (found_last (is_thing x.thing) d.tables.things _ (ap (λ n. nat_eq (d.last_thing + 1) n) (opened_thing ok) ∙ is_same (d.last_thing + 1)))
+
+  -- and where that goes again its number stays drawn
+  pub opened_and_gone : (t now : Core) → Ok x ≡ open_answer d node name keys limits needs → t ≡ after_open d node name → now ≡ after_release t x.thing (held t x.thing).board
+      → (now ≡ d) ⊎ (now ≡ without_thing (after_open d node name) (d.last_thing + 1))
+  opened_and_gone t now ok is gone = inr (gone ∙ (λ k. after_release (is k) (opened_thing ok k) (held (is k) (opened_thing ok k)).board))

@@ -1,0 +1,9 @@
+-- What a factory keeps of its board, and what its calls answer.
+use Rattle.board_model.specs.Tables.{board_at}
+use Rattle.board_handles.specs.BoardEnds.{Core}
+use Rattle.board_domain.specs.Services.{FactorySeen}
+use Rattle.board_domain.specs.Kept.{ShowsBoard}
+
+-- what is kept is what is fixed of the board, which stands
+abbrev pub KeepsBoard : Core → FactorySeen → Type 0
+KeepsBoard d f = ShowsBoard (board_at d.tables f.made.number) f.config f.attributes

@@ -1,0 +1,66 @@
+-- What the lent forms of creators, openers and factories answer over a domain's tables, and how they leave them.
+use Rattle.std.specs.Prelude.{◌≡◌, ℕ, ◌+◌, ◌⊎◌, if◌then◌else◌, List, Option, Some, None, option_map, Result, Ok, Err}
+use Rattle.board_layout.specs.declared.type_detail.TypeDetail.{TypeDetail}
+use Rattle.board_model.specs.declared.attributes.Attribute.{Attribute}
+use Rattle.board_model.specs.declared.tables.Limits.{Limits}
+use Rattle.board_model.specs.declared.tables.ThingKind.TheVariants.{Factory}
+use Rattle.board_model.specs.Tables.{Added, board_at}
+use Rattle.board_service.specs.Domain.{stands_as, held, after_create, after_open}
+use Rattle.board_service.specs.declared.told.DynamicConfig.{DynamicConfig}
+use Rattle.board_service.specs.Told.{use_in}
+use Rattle.board_cells.specs.Cells.{PlaceSeen, AreNew}
+use Rattle.board_handles.specs.BoardEnds.{Core}
+use Rattle.board_handles.specs.LentForms.{without_thing}
+
+-- ---- create
+
+-- a board that is asked for
+pub record NewBoard : Type 0 where
+  pub node : ℕ
+  pub name : List ℕ
+  pub keys : TypeDetail
+  pub limits : Limits
+  pub attributes : List Attribute
+  pub entries : List Added
+
+abbrev pub new_board : ℕ → List ℕ → TypeDetail → Limits → List Attribute → List Added → NewBoard
+new_board node name keys limits attributes entries =
+    record { node = node; name = name; keys = keys; limits = limits; attributes = attributes; entries = entries }
+
+-- the board was made, and each of its entries has a new cell, whose write end is parked
+abbrev pub IsMade : NewBoard → Core → Core → Type 0
+IsMade b old new =
+    (cells : List PlaceSeen) × AreNew b.entries cells
+    × (new ≡ after_create old b.node b.name b.keys b.limits b.attributes b.entries cells)
+
+-- nothing was made, or the board was made and is gone again, and the numbers that it drew stay drawn
+abbrev pub IsNotMade : NewBoard → Core → Core → Type 0
+IsNotMade b old new = (new ≡ old) ⊎ ((made : Core) × IsMade b old made × (new ≡ without_thing made (old.last_thing + 1)))
+
+-- the tables after a `create`
+abbrev pub LeavesMade : {A E : Type 0} → Result A E → NewBoard → Core → Core → Type 0
+LeavesMade (Ok x) b old new = IsMade b old new
+LeavesMade (Err e) b old new = IsNotMade b old new
+
+-- ---- open
+
+-- the tables after an `open`: with Err nothing was made, or the factory is gone again, and its number stays drawn
+abbrev pub LeavesOpened : {A E : Type 0} → Result A E → ℕ → List ℕ → Core → Core → Type 0
+LeavesOpened (Ok x) node name old new = new ≡ after_open old node name
+LeavesOpened (Err e) node name old new = (new ≡ old) ⊎ (new ≡ without_thing (after_open old node name) (old.last_thing + 1))
+
+-- ---- what is told of a board
+
+-- nothing is taken
+abbrev pub none_taken : DynamicConfig
+none_taken = record { readers = 0; writers = 0; nodes = 0 }
+
+abbrev pub or_none_taken : Option DynamicConfig → DynamicConfig
+or_none_taken None = none_taken
+or_none_taken (Some taken) = taken
+
+-- how much is taken of the board of a factory, and nothing where that isn't held
+abbrev pub taken_of : Core → TypeDetail → ℕ → DynamicConfig
+taken_of d keys factory =
+    if stands_as d keys factory Factory
+    then or_none_taken (option_map (use_in d.tables.things) (board_at d.tables (held d factory).board)) else none_taken

@@ -1,0 +1,5 @@
+pub mod Services
+pub mod ServiceHash
+pub mod Kept
+pub mod LentForms
+pub mod Factories

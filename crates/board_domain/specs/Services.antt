@@ -1,0 +1,73 @@
+-- What callers see of nodes, builders and factories.
+use Rattle.std.specs.Prelude.{◌≡◌, ℕ, ◌+◌, if◌then◌else◌, List, [], ◌∷◌, ◌++◌, None, Result, Ok, Err}
+use Rattle.board_layout.specs.declared.type_detail.TypeDetail.{TypeDetail}
+use Rattle.board_layout.specs.Keys.{key_value}
+use Rattle.board_model.specs.declared.attributes.Attribute.{Attribute}
+use Rattle.board_model.specs.declared.attributes.Requirements.{Requirements}
+use Rattle.board_model.specs.declared.tables.Limits.{Limits}
+use Rattle.board_model.specs.Tables.{Added}
+use Rattle.board_names.specs.declared.errors.service.DomainError.{DomainError}
+use Rattle.board_names.specs.declared.errors.service.DomainError.TheVariants.{NumbersSpent}
+use Rattle.board_service.specs.declared.made.Made.{Made}
+use Rattle.board_service.specs.declared.told.StaticConfig.{StaticConfig}
+use Rattle.board_service.specs.Domain.{spent}
+
+-- a node: its number and its name
+pub record NodeSeen : Type 0 where
+  pub id : ℕ
+  pub name : List ℕ
+
+abbrev pub node_number : NodeSeen → ℕ
+node_number n = n.id
+
+-- the next node's number after the last that was drawn
+abbrev pub node_answer : ℕ → Result ℕ DomainError
+node_answer last = if spent last then Err NumbersSpent else Ok (last + 1)
+
+-- what makes or opens a board: the node that asks, and the board's name
+pub record BuilderSeen : Type 0 where
+  pub node : ℕ
+  pub name : List ℕ
+
+-- what makes a board: the node that asks, the name, the limits, and the entries so far
+pub record CreatorSeen : Type 0 where
+  pub node : ℕ
+  pub name : List ℕ
+  pub limits : Limits
+  pub entries : List Added
+
+-- what opens a board: the node that asks, the name, and the limits that the board is to have at least
+pub record OpenerSeen : Type 0 where
+  pub node : ℕ
+  pub name : List ℕ
+  pub limits : Limits
+
+-- a factory: its thing and its board's number, the board's name, and what is fixed of the board
+pub record FactorySeen : Type 0 where
+  pub made : Made
+  pub name : List ℕ
+  pub config : StaticConfig
+  pub attributes : List Attribute
+
+abbrev pub factory_made : FactorySeen → Made
+factory_made f = f.made
+
+-- no limits are asked for
+abbrev pub no_limits : Limits
+no_limits = record { max_readers = None; max_nodes = None }
+
+-- nothing is required of a board's attributes
+abbrev pub no_requirements : Requirements
+no_requirements = record { pairs = []; keys = [] }
+
+-- ---- entries
+
+-- an entry of this key and these words of a first value: the key's bytes read back as the key
+pub record IsEntryOf {K : Type 0} (value_of : List ℕ → K) (size count : ℕ) (key : K) (values : TypeDetail) (words : List ℕ) (a : Added) : Type 0 where
+  pub key : key_value value_of size count a.key ≡ key
+  pub values : a.value ≡ values
+  pub words : a.words ≡ words
+
+-- the same creator with one entry more
+abbrev pub AddsEntry : CreatorSeen → CreatorSeen → (Added → Type 0) → Type 0
+AddsEntry old new IsIt = (a : Added) × IsIt a × (new ≡ record old { entries = old.entries ++ a ∷ [] })

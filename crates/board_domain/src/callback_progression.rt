@@ -1,0 +1,6 @@
+/// Whether a walk over nodes or keys goes on after a call.
+#[derive(Clone, Copy, Debug, PartialEq, Eq)]
+pub enum CallbackProgression {
+    Continue,
+    Stop,
+}

@@ -1,0 +1,237 @@
+//! What makes a board.
+ghost use Rattle.std.specs.Prelude.{◌≡◌, ◌≤◌, ◌<◌, ◌↔◌, [], Some, IfOk, IsErrOf};
+ghost use Rattle.board_layout.specs.Answer.{Answers, Refuses, with_value};
+ghost use Rattle.board_layout.specs.Bytes.{details};
+ghost use Rattle.board_layout.specs.Keys.{same_keys};
+ghost use Rattle.board_service.specs.Domain as calls;
+ghost use Rattle.board_domain.specs.LentForms as lent;
+ghost use Rattle.board_domain.specs.Services.{AddsEntry, IsEntryOf, no_limits, factory_made};
+ghost use Rattle.board_domain.specs.Factories.{KeepsBoard};
+
+use crate::add_error::AddError;
+use crate::kept::new_board;
+use crate::new_entry::new_entry;
+use crate::port_factory::PortFactory;
+use board_concepts::AttributeSpecifier;
+use board_handles::{Domain, DomainState};
+use board_layout::{BoardKey, KeyMemoryError, ZeroCopySend};
+use board_model::Limits;
+use board_names::{BlackboardCreateError, ServiceName};
+use board_service::{NewEntry, NodeId};
+use std::alloc::Global;
+use std::marker::{Model, PhantomData};
+use std::sync::Wait;
+
+/// What makes a board whose keys are `K`s, once its limits and entries are told. A limit that isn't told is 8 readers or 20 nodes.
+///
+/// Clauses see the node that asks, the name, the limits, and the entries so far.
+#[derive(Drop)]
+pub struct Creator<K: BoardKey, P> {
+    node: NodeId,
+    name: ServiceName,
+    limits: Limits,
+    entries: Vec<NewEntry>,
+    alloc: Global,
+    domain: Domain,
+    marker: PhantomData<(K, P)>,
+}
+
+impl<K: BoardKey, P> Model for Creator<K, P> {
+    ghost use Rattle.std.specs.Prelude.{◌≤◌, ◌<◌, length, map, All};
+    ghost use Rattle.board_layout.specs.Layout.{IsShape};
+    ghost use Rattle.board_model.specs.Tables.{shapes_of};
+    ghost use Rattle.board_service.specs.Entries.{as_added};
+    ghost use Rattle.board_domain.specs.Services.{CreatorSeen};
+
+    ghost Value = { CreatorSeen };
+
+    ghost view = { λ s. record { node = s.node; name = s.name; limits = s.limits; entries = map as_added s.entries.items } };
+
+    ghost invariant = { λ s. All IsShape (shapes_of (map as_added s.entries.items)) × (0 < length s.entries.items → K.SIZE ≤ 64) };
+}
+
+impl<K: BoardKey, P> Creator<K, P> {
+    pub(crate) fn new(
+        alloc: Global,
+        node: NodeId,
+        name: ServiceName,
+        domain: Domain,
+    ) -> Creator<K, P>
+        ensures { result ≡ record { node = node; name = name; limits = no_limits; entries = [] } }
+    {
+        Creator {
+            node,
+            name,
+            limits: Limits {
+                max_readers: None,
+                max_nodes: None,
+            },
+            entries: Vec::new(alloc),
+            alloc,
+            domain,
+            marker: PhantomData,
+        }
+    }
+
+    /// How many readers the board may have at once. 0 is raised to 1.
+    pub fn max_readers(mut self, value: u64) -> Self
+        ensures { result ≡ record self { limits = record self.limits { max_readers = Some value } } }
+    {
+        self.limits.max_readers = Some(value);
+        self
+    }
+
+    /// How many nodes the board may have at once. 0 is raised to 1.
+    pub fn max_nodes(mut self, value: u64) -> Self
+        ensures { result ≡ record self { limits = record self.limits { max_nodes = Some value } } }
+    {
+        self.limits.max_nodes = Some(value);
+        self
+    }
+
+    /// One more entry, with its first value. A refusal gives the creator up.
+    ///
+    /// # Errors
+    /// `Key(ValueTooLarge)` where the key has more than 64 bytes; else `Key(ValueAlignmentTooLarge)` where its alignment is above 8; `OutOfMemory`.
+    pub fn add<V: ZeroCopySend>(self, key: K, value: V) -> Result<Self, AddError>
+        ensures large { IsErrOf result (AddError.Key KeyMemoryError.ValueTooLarge) ↔ (64 < K.SIZE) }
+        ensures aligned { let why = AddError.Key KeyMemoryError.ValueAlignmentTooLarge in
+            IsErrOf result why ↔ ((K.SIZE ≤ 64) × (8 < K.ALIGNMENT)) }
+        ensures ok { let values = details V.type_bytes V.SIZE V.ALIGNMENT in
+            let entry = IsEntryOf K.value_of K.SIZE K.WORDS key values (V.words_of value) in
+            IfOk result (λ more. AddsEntry self more entry) }
+    {
+        let added = match new_entry(self.alloc, &key, &value) {
+            Ok(added) => added,
+            Err(why) => return Err(why),
+        };
+        let mut more = self;
+        match more.entries.push(added) {
+            Ok(()) => Ok(more),
+            Err(_) => Err(AddError::OutOfMemory),
+        }
+    }
+
+    /// One more entry, whose first value is the default of its type. A refusal gives the creator up.
+    ///
+    /// # Errors
+    /// As for `add`.
+    pub fn add_with_default<V: ZeroCopySend + Default>(self, key: K) -> Result<Self, AddError>
+        ensures large { IsErrOf result (AddError.Key KeyMemoryError.ValueTooLarge) ↔ (64 < K.SIZE) }
+        ensures ok { let values = details V.type_bytes V.SIZE V.ALIGNMENT in
+            let entry = λ (v : V). IsEntryOf K.value_of K.SIZE K.WORDS key values (V.words_of v) in
+            IfOk result (λ more. (v : V) × V.is_default v × AddsEntry self more (entry v)) }
+    {
+        self.add(key, V::default())
+    }
+
+    /// `create_with_attributes` over the domain's state itself.
+    ///
+    /// # Errors
+    /// The first that holds: `AlreadyExists`, a board of this name stands; `NoEntriesProvided`; `ServiceInCorruptedState`, two keys are equal, or the cells ask for more than 4294967295 bytes; `NumbersSpent`; `OutOfMemory`. All stays as it was; but where memory is refused behind the tables, the numbers that the board drew stay drawn.
+    pub fn create_with_attributes_in(
+        self,
+        state: &mut DomainState,
+        attributes: AttributeSpecifier,
+    ) -> Result<PortFactory<K, P>, BlackboardCreateError>
+        ensures answer { let same_key = same_keys K.eq K.value_of K.SIZE K.WORDS in
+            let answer = calls.create_answer state.old.tables same_key self.name self.entries in
+            Answers (with_value factory_made result) BlackboardCreateError.OutOfMemory answer }
+        ensures refused { let same_key = same_keys K.eq K.value_of K.SIZE K.WORDS in
+            let answer = calls.create_answer state.old.tables same_key self.name self.entries in
+            Refuses (with_value factory_made result) answer }
+        ensures tables { let keys = details K.type_bytes K.SIZE K.ALIGNMENT in
+            let asked = lent.new_board self.node self.name keys self.limits attributes self.entries in
+            lent.LeavesMade result asked state.old.tables state.new.tables }
+        ensures kept { IfOk result (λ f. KeepsBoard state.new.tables f) }
+        ensures named { IfOk result (λ f. f.name ≡ self.name) }
+        ensures nodes { state.new.nodes ≡ state.old.nodes }
+    {
+        let Creator {
+            node,
+            name,
+            limits,
+            entries,
+            alloc,
+            domain,
+            marker: _,
+        } = self;
+        match new_board::<K>(state, node, &name, limits, attributes.into_set(), entries) {
+            Ok(kept) => Ok(PortFactory::new(alloc, kept, name, domain)),
+            Err(why) => Err(why),
+        }
+    }
+
+    /// `create` over the domain's state itself.
+    ///
+    /// # Errors
+    /// As for `create_with_attributes_in`.
+    pub fn create_in(
+        self,
+        state: &mut DomainState,
+    ) -> Result<PortFactory<K, P>, BlackboardCreateError>
+        ensures answer { let same_key = same_keys K.eq K.value_of K.SIZE K.WORDS in
+            let answer = calls.create_answer state.old.tables same_key self.name self.entries in
+            Answers (with_value factory_made result) BlackboardCreateError.OutOfMemory answer }
+        ensures refused { let same_key = same_keys K.eq K.value_of K.SIZE K.WORDS in
+            let answer = calls.create_answer state.old.tables same_key self.name self.entries in
+            Refuses (with_value factory_made result) answer }
+        ensures tables { let keys = details K.type_bytes K.SIZE K.ALIGNMENT in
+            let asked = lent.new_board self.node self.name keys self.limits [] self.entries in
+            lent.LeavesMade result asked state.old.tables state.new.tables }
+        ensures kept { IfOk result (λ f. KeepsBoard state.new.tables f) }
+        ensures named { IfOk result (λ f. f.name ≡ self.name) }
+        ensures nodes { state.new.nodes ≡ state.old.nodes }
+    {
+        let none = AttributeSpecifier::new(self.alloc);
+        self.create_with_attributes_in(state, none)
+    }
+
+    /// Makes the board with these attributes, and a factory of it for the node.
+    ///
+    /// # Errors
+    /// As for `create_with_attributes_in`.
+    pub fn create_with_attributes<R: Wait>(
+        self,
+        rt: &R,
+        attributes: AttributeSpecifier,
+    ) -> Result<PortFactory<K, P>, BlackboardCreateError>
+        ensures named { IfOk result (λ f. f.name ≡ self.name) }
+    {
+        let Creator {
+            node,
+            name,
+            limits,
+            entries,
+            alloc,
+            domain,
+            marker: _,
+        } = self;
+        let made = {
+            let mut state = domain.lock(rt);
+            new_board::<K>(
+                &mut state,
+                node,
+                &name,
+                limits,
+                attributes.into_set(),
+                entries,
+            )
+        };
+        match made {
+            Ok(kept) => Ok(PortFactory::new(alloc, kept, name, domain)),
+            Err(why) => Err(why),
+        }
+    }
+
+    /// Makes the board, and a factory of it for the node.
+    ///
+    /// # Errors
+    /// As for `create_with_attributes_in`.
+    pub fn create<R: Wait>(self, rt: &R) -> Result<PortFactory<K, P>, BlackboardCreateError>
+        ensures named { IfOk result (λ f. f.name ≡ self.name) }
+    {
+        let none = AttributeSpecifier::new(self.alloc);
+        self.create_with_attributes(rt, none)
+    }
+}

@@ -1,0 +1,126 @@
+//! What a factory keeps of its board, and how boards are made and opened behind the lock.
+ghost use Rattle.std.specs.Prelude.{◌≡◌, ◌≤◌, ◌<◌, length, map, All, IfOk, IsSome};
+ghost use Rattle.board_layout.specs.Answer.{Answers, Refuses, with_value};
+ghost use Rattle.board_layout.specs.Bytes.{details};
+ghost use Rattle.board_layout.specs.Keys.{same_keys};
+ghost use Rattle.board_layout.specs.Layout.{IsShape};
+ghost use Rattle.board_model.specs.Tables.{board_at, shapes_of};
+ghost use Rattle.board_service.specs.Domain as calls;
+ghost use Rattle.board_service.specs.Entries.{as_added};
+ghost use Rattle.board_domain.specs.Kept.{kept_made, KeepsBoard, ShowsBoard};
+ghost use Rattle.board_domain.specs.LentForms as lent;
+
+use board_concepts::{AttributeSet, AttributeVerifier};
+use board_handles::{BoardCells, DomainState};
+use board_layout::BoardKey;
+use board_model::Limits;
+use board_names::{BlackboardCreateError, BlackboardOpenError, ServiceName};
+use board_service::{DomainCore, Made, NewEntry, NodeId, StaticConfig};
+use std::alloc::AllocError;
+
+/// A factory's thing and its board's number, and what is fixed of the board.
+#[derive(Drop)]
+pub(crate) struct Kept {
+    pub(crate) made: Made,
+    pub(crate) config: StaticConfig,
+    pub(crate) attributes: AttributeSet,
+}
+
+// What is fixed of a board that stands.
+fn kept_of(tables: &DomainCore<BoardCells>, made: Made) -> Result<Kept, AllocError>
+    requires { IsSome (board_at tables.now.tables made.number) }
+    ensures made { IfOk result (λ k. k.made ≡ made) }
+    ensures kept { IfOk result (λ k. ShowsBoard (board_at tables.now.tables made.number) k.config k.attributes) }
+{
+    // The board stands.
+    let Some(config) = tables.config_of(made.number) else {
+        unreachable!()
+    };
+    let Some(attributes) = tables.attributes_of(made.number) else {
+        unreachable!()
+    };
+    match attributes.copy() {
+        Ok(attributes) => Ok(Kept {
+            made,
+            config,
+            attributes,
+        }),
+        Err(_) => Err(AllocError),
+    }
+}
+
+/// Makes a board, and a factory of it for a node. Where memory is refused behind the tables, the board is gone again.
+///
+/// # Errors
+/// As the tables' `create`.
+pub(crate) fn new_board<K: BoardKey>(
+    state: &mut DomainState,
+    node: NodeId,
+    name: &ServiceName,
+    limits: Limits,
+    attributes: AttributeSet,
+    entries: Vec<NewEntry>,
+) -> Result<Kept, BlackboardCreateError>
+    requires size { 0 < length entries.items → K.SIZE ≤ 64 }
+    requires shapes { All IsShape (shapes_of (map as_added entries.items)) }
+    ensures answer { let same_key = same_keys K.eq K.value_of K.SIZE K.WORDS in
+        let answer = calls.create_answer state.old.tables same_key name.now (map as_added entries.items) in
+        Answers (with_value kept_made result) BlackboardCreateError.OutOfMemory answer }
+    ensures refused { let same_key = same_keys K.eq K.value_of K.SIZE K.WORDS in
+        let answer = calls.create_answer state.old.tables same_key name.now (map as_added entries.items) in
+        Refuses (with_value kept_made result) answer }
+    ensures tables { let keys = details K.type_bytes K.SIZE K.ALIGNMENT in
+        let asked = lent.new_board node name.now keys limits attributes (map as_added entries.items) in
+        lent.LeavesMade result asked state.old.tables state.new.tables }
+    ensures kept { IfOk result (λ k. KeepsBoard state.new.tables k) }
+    ensures nodes { state.new.nodes ≡ state.old.nodes }
+{
+    let made = match state
+        .tables
+        .create::<K>(node, name, limits, attributes, entries)
+    {
+        Ok(made) => made,
+        Err(why) => return Err(why),
+    };
+    match kept_of(&state.tables, made) {
+        Ok(kept) => Ok(kept),
+        Err(_) => {
+            let _ = state.tables.release(made.thing);
+            Err(BlackboardCreateError::OutOfMemory)
+        }
+    }
+}
+
+/// Makes one more factory of a board, for a node. Where memory is refused behind the tables, it is gone again.
+///
+/// # Errors
+/// As the tables' `open`.
+pub(crate) fn open_board<K: BoardKey>(
+    state: &mut DomainState,
+    node: NodeId,
+    name: &ServiceName,
+    limits: Limits,
+    verifier: &AttributeVerifier,
+) -> Result<Kept, BlackboardOpenError>
+    ensures answer { let keys = details K.type_bytes K.SIZE K.ALIGNMENT in
+        let answer = calls.open_answer state.old.tables node name.now keys limits verifier.now in
+        Answers (with_value kept_made result) BlackboardOpenError.OutOfMemory answer }
+    ensures refused { let keys = details K.type_bytes K.SIZE K.ALIGNMENT in
+        let answer = calls.open_answer state.old.tables node name.now keys limits verifier.now in
+        Refuses (with_value kept_made result) answer }
+    ensures tables { lent.LeavesOpened result node name.now state.old.tables state.new.tables }
+    ensures kept { IfOk result (λ k. KeepsBoard state.new.tables k) }
+    ensures nodes { state.new.nodes ≡ state.old.nodes }
+{
+    let made = match state.tables.open::<K>(node, name, limits, verifier) {
+        Ok(made) => made,
+        Err(why) => return Err(why),
+    };
+    match kept_of(&state.tables, made) {
+        Ok(kept) => Ok(kept),
+        Err(_) => {
+            let _ = state.tables.release(made.thing);
+            Err(BlackboardOpenError::OutOfMemory)
+        }
+    }
+}

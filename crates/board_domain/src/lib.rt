@@ -1,0 +1,31 @@
+//! Nodes of a domain, and how they make and open boards.
+//!
+//! A `Node` has a number of its domain and a name. Its `ServiceBuilder` makes a `Creator`, which is told limits and
+//! entries and then makes a board, or an `Opener`, which finds one. Either gives a `PortFactory`, which keeps what is
+//! fixed of its board and makes ports. What callers see of each, and what the lent forms answer and leave, stands in
+//! `specs/Services`; it is said in the words of the tables' calls.
+#![tactic(auto)]
+
+mod add_error;
+mod callback_progression;
+mod creator;
+mod kept;
+mod messaging_pattern;
+mod new_entry;
+mod node;
+mod opener;
+mod port_factory;
+mod service_builder;
+mod service_hash;
+
+pub use add_error::AddError;
+pub use callback_progression::CallbackProgression;
+pub use creator::Creator;
+pub use messaging_pattern::MessagingPattern;
+pub use node::Node;
+pub use opener::Opener;
+pub use port_factory::PortFactory;
+pub use service_builder::ServiceBuilder;
+
+#[cfg(test)]
+mod tests;

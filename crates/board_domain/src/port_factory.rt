@@ -1,0 +1,180 @@
+//! Factories of a board.
+ghost use Rattle.std.specs.Prelude.{◌≡◌, IfOk, IsOkUnless};
+ghost use Rattle.board_layout.specs.Bytes.{details};
+ghost use Rattle.board_names.specs.declared.errors.service.DomainError.TheVariants.{OutOfMemory};
+ghost use Rattle.board_handles.specs.LentForms as handles;
+ghost use Rattle.board_domain.specs.LentForms as lent;
+ghost use Rattle.board_domain.specs.ServiceHash.{service_hash};
+
+use crate::kept::Kept;
+use crate::service_hash::hash_of;
+use board_concepts::AttributeSet;
+use board_concepts::hash::HashValue;
+use board_handles::{Domain, DomainState, PortFactoryReader, PortFactoryWriter, give_up};
+use board_layout::BoardKey;
+use board_names::{DomainError, ServiceName};
+use board_service::{DynamicConfig, Made, StaticConfig, ThingKind};
+use std::alloc::Global;
+use std::marker::{Model, PhantomData};
+use std::sync::Wait;
+
+/// A factory of the ports of a board whose keys are `K`s. It keeps what is fixed of its board.
+///
+/// Clauses see its thing and its board's number, the board's name, and what is fixed of the board.
+#[derive(Drop)]
+pub struct PortFactory<K, P> {
+    made: Made,
+    name: ServiceName,
+    hash: HashValue,
+    config: StaticConfig,
+    attributes: AttributeSet,
+    alloc: Global,
+    domain: Domain,
+    marker: PhantomData<(K, P)>,
+}
+
+impl<K, P> Model for PortFactory<K, P> {
+    ghost use Rattle.std.specs.Prelude.{◌≡◌};
+    ghost use Rattle.board_domain.specs.Services.{FactorySeen};
+    ghost use Rattle.board_domain.specs.ServiceHash.{service_hash};
+
+    ghost Value = { FactorySeen };
+
+    ghost view = { λ s. record { made = s.made; name = s.name; config = s.config; attributes = s.attributes } };
+
+    ghost invariant = { λ s. s.hash ≡ service_hash s.name };
+}
+
+// Of a board whose factory isn't held.
+const NOTHING_TAKEN: DynamicConfig = DynamicConfig {
+    readers: 0,
+    writers: 0,
+    nodes: 0,
+};
+
+impl<K: BoardKey, P> PortFactory<K, P> {
+    pub(crate) fn new(
+        alloc: Global,
+        kept: Kept,
+        name: ServiceName,
+        domain: Domain,
+    ) -> PortFactory<K, P>
+        ensures { result ≡ record { made = kept.made; name = name; config = kept.config; attributes = kept.attributes } }
+    {
+        let Kept {
+            made,
+            config,
+            attributes,
+        } = kept;
+        let hash = hash_of(&name);
+        PortFactory {
+            made,
+            name,
+            hash,
+            config,
+            attributes,
+            alloc,
+            domain,
+            marker: PhantomData,
+        }
+    }
+
+    /// The board's name.
+    pub fn name(&self) -> &ServiceName
+        ensures { result.now ≡ self.now.name }
+    {
+        &self.name
+    }
+
+    /// The board's number, from 1 over all boards of a domain.
+    pub fn unique_service_id(&self) -> u64
+        ensures { result ≡ self.now.made.number }
+    {
+        self.made.number
+    }
+
+    /// The SHA-1 of `Blackboard/` and the board's name. It decides nothing.
+    pub fn service_hash(&self) -> &HashValue
+        ensures { result.now ≡ service_hash self.now.name }
+    {
+        &self.hash
+    }
+
+    /// The board's attributes.
+    pub fn attributes(&self) -> &AttributeSet
+        ensures { result.now ≡ self.now.attributes }
+    {
+        &self.attributes
+    }
+
+    /// The board's type of keys, its limits, and how many entries it has.
+    pub fn static_config(&self) -> &StaticConfig
+        ensures { result.now ≡ self.now.config }
+    {
+        &self.config
+    }
+
+    /// `dynamic_config` over the domain's state itself.
+    pub fn dynamic_config_in(&self, state: &DomainState) -> DynamicConfig
+        ensures { let keys = details K.type_bytes K.SIZE K.ALIGNMENT in
+            result ≡ lent.taken_of state.now.tables keys self.now.made.thing }
+    {
+        let factory = self.made.thing;
+        if !state.tables.is_held::<K>(factory, ThingKind::Factory) {
+            return NOTHING_TAKEN;
+        }
+        match state.tables.use_of(state.tables.board_of(factory)) {
+            Some(taken) => taken,
+            None => NOTHING_TAKEN,
+        }
+    }
+
+    /// How many readers, writer slots and nodes of the board are taken now. Zeros where this factory isn't held.
+    pub fn dynamic_config<R: Wait>(&self, rt: &R) -> DynamicConfig {
+        let state = self.domain.lock(rt);
+        self.dynamic_config_in(&state)
+    }
+
+    /// What makes a reader of the board.
+    ///
+    /// # Errors
+    /// `OutOfMemory` where one more owner of the domain is refused.
+    pub fn reader_builder(&self) -> Result<PortFactoryReader<K, P>, DomainError>
+        ensures ok { IfOk result (λ r. r ≡ self.now.made.thing) }
+        ensures memory { IsOkUnless result OutOfMemory }
+    {
+        match self.domain.share() {
+            Ok(domain) => Ok(PortFactoryReader::new(self.alloc, self.made.thing, domain)),
+            Err(_) => Err(DomainError::OutOfMemory),
+        }
+    }
+
+    /// What makes a writer of the board.
+    ///
+    /// # Errors
+    /// `OutOfMemory` where one more owner of the domain is refused.
+    pub fn writer_builder(&self) -> Result<PortFactoryWriter<K, P>, DomainError>
+        ensures ok { IfOk result (λ w. w ≡ self.now.made.thing) }
+        ensures memory { IsOkUnless result OutOfMemory }
+    {
+        match self.domain.share() {
+            Ok(domain) => Ok(PortFactoryWriter::new(self.alloc, self.made.thing, domain)),
+            Err(_) => Err(DomainError::OutOfMemory),
+        }
+    }
+
+    /// `release` over the domain's state itself.
+    pub fn release_in(self, state: &mut DomainState)
+        ensures tables { let keys = details K.type_bytes K.SIZE K.ALIGNMENT in
+            state.new.tables ≡ handles.given_up state.old.tables keys self.made.thing ThingKind.Factory }
+        ensures nodes { state.new.nodes ≡ state.old.nodes }
+    {
+        give_up::<K>(&mut state.tables, self.made.thing, ThingKind::Factory);
+    }
+
+    /// Gives the factory up. Ports that it made go on, and the board stands while one of them or of their handles does.
+    pub fn release<R: Wait>(self, rt: &R) {
+        let mut state = self.domain.lock(rt);
+        give_up::<K>(&mut state.tables, self.made.thing, ThingKind::Factory);
+    }
+}

@@ -1,0 +1,52 @@
+//! Domains: what many nodes share.
+ghost use Rattle.std.specs.Prelude.{IsOkUnless};
+ghost use Rattle.board_names.specs.declared.errors.service.DomainError.TheVariants.{OutOfMemory};
+
+use crate::state::DomainState;
+use board_names::DomainError;
+use board_service::DomainCore;
+use std::alloc::Global;
+use std::sync::{Arc, Mutex, MutexGuard, Wait};
+
+/// A domain: the boards that its nodes share, behind a lock.
+#[derive(Drop)]
+pub struct Domain {
+    state: Arc<Mutex<DomainState>>,
+}
+
+impl Domain {
+    /// A domain with no nodes and no boards.
+    ///
+    /// # Errors
+    /// `OutOfMemory`.
+    pub fn new(alloc: Global) -> Result<Domain, DomainError>
+        ensures memory { IsOkUnless result OutOfMemory }
+    {
+        let state = DomainState {
+            tables: DomainCore::new(alloc),
+            nodes: 0,
+        };
+        match Arc::new(alloc, Mutex::new(state)) {
+            Ok(state) => Ok(Domain { state }),
+            Err(_) => Err(DomainError::OutOfMemory),
+        }
+    }
+
+    /// One more owner of the same domain.
+    ///
+    /// # Errors
+    /// `OutOfMemory` where one more owner is refused.
+    pub fn share(&self) -> Result<Domain, DomainError>
+        ensures memory { IsOkUnless result OutOfMemory }
+    {
+        match Arc::try_clone(&self.state) {
+            Ok(state) => Ok(Domain { state }),
+            Err(_) => Err(DomainError::OutOfMemory),
+        }
+    }
+
+    /// What stands behind the lock, once no one else has it.
+    pub fn lock<R: Wait>(&self, rt: &R) -> MutexGuard<'_, DomainState> {
+        self.state.lock(rt)
+    }
+}

@@ -1,0 +1,40 @@
+//! A domain under its lock, the ports of its boards, and the handles of entries that they make.
+//!
+//! `DomainState` is what stands behind the lock: the tables with the cells of each board, and the number of the last
+//! node. `Domain` is a shared owner of it, and each typed value has one. A typed call takes the lock and calls its lent
+//! form, whose name ends in `_in` and whose contract says the answers: those of the tables' calls one after another,
+//! with what becomes of the cells' ends (`specs/LentForms`).
+//!
+//! What stands behind the lock is known by its type alone. So a call on a thing first asks whether that thing is held,
+//! and answers `ThingUnknown` where it isn't, which never comes where the typed calls alone are used.
+//!
+//! A handle has an end of its entry's cell, and its calls but `get` take no lock, no memory and wait for nobody
+//! (`specs/Handles`).
+#![tactic(auto)]
+
+mod blackboard_value;
+mod board_ends;
+mod domain;
+mod loan;
+mod port_ids;
+mod read_handle;
+mod reader;
+mod release;
+mod state;
+mod write_handle;
+mod writer;
+
+pub use blackboard_value::BlackboardValue;
+pub use board_cells::{BoardCells, ReadEnd, WriteEnd};
+pub use domain::Domain;
+pub use loan::EntryValueUninit;
+pub use port_ids::{UniqueReaderId, UniqueWriterId};
+pub use read_handle::EntryHandle;
+pub use reader::{PortFactoryReader, Reader};
+pub use release::give_up;
+pub use state::DomainState;
+pub use write_handle::EntryHandleMut;
+pub use writer::{PortFactoryWriter, Writer};
+
+#[cfg(test)]
+mod tests;

@@ -1,0 +1,124 @@
+//! Read handles of entries.
+ghost use Rattle.std.specs.Prelude.{◌≡◌, max, length, IfOk, IfErr};
+ghost use Rattle.std.specs.Arc.{arc_value};
+ghost use Rattle.board_cell.specs.Passes.{GivesUp};
+ghost use Rattle.board_handles.specs.Handles.{GetsValue, GetsValueWithin, LooksAt};
+
+use crate::blackboard_value::BlackboardValue;
+use crate::domain::Domain;
+use board_cell::{GetAgain, ReaderPass, ThreadedCell};
+use board_cells::ReadEnd;
+use board_layout::ZeroCopySend;
+use board_names::EventId;
+use board_service::Found;
+use std::marker::{Model, PhantomData};
+use std::sync::{Arc, Wait};
+
+/// A read handle of an entry whose values are `V`s.
+///
+/// Clauses see the thing and the entry that the tables told, the entry's cell, and what its pass knows.
+#[derive(Drop)]
+pub struct EntryHandle<K, V: ZeroCopySend, P> {
+    found: Found,
+    cell: Arc<ThreadedCell>,
+    pass: ReaderPass,
+    // What `get` reads into.
+    words: Vec<u64>,
+    domain: Domain,
+    marker: PhantomData<(K, V, P)>,
+}
+
+impl<K, V: ZeroCopySend, P> Model for EntryHandle<K, V, P> {
+    ghost use Rattle.std.specs.Prelude.{length};
+    ghost use Rattle.std.specs.Arc.{arc_value};
+    ghost use Rattle.board_handles.specs.Handles.{ReadSeen, IsEndOf};
+
+    ghost Value = { ReadSeen };
+
+    ghost view = { λ s. record { found = s.found; cell = arc_value s.cell; pass = s.pass } };
+
+    ghost invariant = { λ s. IsEndOf (arc_value s.cell) s.pass.cell (length s.words.items) V.WORDS };
+}
+
+impl<K, V: ZeroCopySend, P> EntryHandle<K, V, P> {
+    pub(crate) fn new(
+        found: Found,
+        end: ReadEnd,
+        words: Vec<u64>,
+        domain: Domain,
+    ) -> EntryHandle<K, V, P>
+        requires buffer { length words.items ≡ V.WORDS }
+        requires width { (arc_value end.cell).width ≡ V.WORDS }
+        ensures { result ≡ record { found = found; cell = arc_value end.cell; pass = end.pass } }
+    {
+        let ReadEnd { cell, pass } = end;
+        EntryHandle {
+            found,
+            cell,
+            pass,
+            words,
+            domain,
+            marker: PhantomData,
+        }
+    }
+
+    pub(crate) fn into_parts(self) -> (Found, Domain)
+        ensures { result.0 ≡ self.found }
+    {
+        let EntryHandle {
+            found,
+            cell: _,
+            pass: _,
+            words: _,
+            domain,
+            marker: _,
+        } = self;
+        (found, domain)
+    }
+
+    /// Reads the value, in as many tries as it takes.
+    pub fn get<R: Wait>(&mut self, rt: &R) -> BlackboardValue<V>
+        ensures kept { self.new ≡ record self.old { pass = self.new.pass } }
+        ensures got { GetsValue V.value_of result self.old.pass self.new.pass }
+    {
+        let cell = &*self.cell;
+        let generation = cell.get(rt, &mut self.pass, &mut self.words);
+        BlackboardValue::new(V::from_words(self.words.as_slice()), generation)
+    }
+
+    /// Reads the value in at most this many tries, 0 counted as 1. Takes no memory, and waits for nobody.
+    ///
+    /// # Errors
+    /// `GetAgain` where the counter rose in each of the tries.
+    pub fn try_get(&mut self, tries: u32) -> Result<BlackboardValue<V>, GetAgain>
+        ensures kept { self.new ≡ record self.old { pass = self.new.pass } }
+        ensures ok { IfOk result (λ v. GetsValueWithin (max tries 1) V.value_of v self.old.pass self.new.pass) }
+        ensures again { IfErr result (λ e. GivesUp (max tries 1) e.before e.after self.old.pass self.new.pass) }
+    {
+        let cell = &*self.cell;
+        match cell.try_get(&mut self.pass, tries, &mut self.words) {
+            Ok(generation) => Ok(BlackboardValue::new(
+                V::from_words(self.words.as_slice()),
+                generation,
+            )),
+            Err(again) => Err(again),
+        }
+    }
+
+    /// Whether the entry is still at the generation of this value. Looks at nothing else of it.
+    pub fn is_up_to_date(&mut self, value: &BlackboardValue<V>) -> bool
+        ensures kept { self.new ≡ record self.old { pass = self.new.pass } }
+        ensures looked { LooksAt value.now.generation result self.old.pass self.new.pass }
+    {
+        let generation = value.generation();
+        let cell = &*self.cell;
+        cell.fresh(&mut self.pass, generation)
+    }
+
+    /// The id of the entry: the byte at which its cell begins among those of its board.
+    pub fn entry_id(&self) -> EventId
+        ensures { result ≡ self.now.found.place }
+    {
+        EventId::new(self.found.place as usize)
+    }
+}
