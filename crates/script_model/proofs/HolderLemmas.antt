@@ -75,6 +75,27 @@ no_listener_yet x n h p m k e f =
     let some = thing_some x p k (h.things p m (listener k) f) in
     false≢true (sym (not_next x.session h.numbered k (x.session.stands k) refl some) ∙ ap (eqb k) same ∙ eqb_self k)
 
+-- the same listener, which is held or not as it was
+record IsSameHolder (st su : StandingEvent) : Type 0 where
+  held : su.event.held ≡ st.event.held
+  listener : su.listener ≡ st.listener
+
+changed_holder : (n m : ℕ) (f : Event → Event) (st : StandingEvent) → ((e : Event) → (f e).held ≡ e.held) → IsSameHolder st (one_changed n f m st)
+changed_holder n m f st kept = record {
+  held = elim (m == n) as (λ b. (if b then f st.event else st.event).held ≡ st.event.held) [ true ↦ kept st.event | false ↦ refl ];
+  listener = refl;
+}
+
+-- what a party held under another name than a free one, it still holds
+still_held : (x : ScriptEvents) (party name : List ℕ) (t : EventThing) (p m : List ℕ) (u : EventThing) → x.things party name ≡ None → x.things p m ≡ Some u → with_at x.things party name (Some t) p m ≡ Some u
+still_held x party name t p m u none holds =
+    elim (either (bytes_eq p party && bytes_eq m name)) [
+      | inl same ↦ absurd (
+          let both = and_split _ _ same in
+          none_some u (sym none ∙ ap (λ (q : List ℕ). x.things q name) (sym (same_text p party both.0)) ∙ ap (x.things p) (sym (same_text m name both.1)) ∙ holds))
+      | inr apart ↦ rw apart holds
+    ]
+
 -- a name is as it was, where another one is given
 named_beside : (names : EventKind → List ℕ → Option ℕ) (k : EventKind) (name : List ℕ) (next : ℕ) (j : EventKind) (text : List ℕ) (m : ℕ) → names k name ≡ None → names j text ≡ Some m → name_held names k name (Some next) j text ≡ Some m
 named_beside names k name next j text m none old =
@@ -85,8 +106,8 @@ named_beside names k name next j text m none old =
       | inr apart ↦ rw apart old
     ]
 
-pub listener_made : (x : ScriptEvents) (n : ℕ) (party name : List ℕ) (k : EventKind) (event : List ℕ) (max : ℕ) → is_event_name event ≡ true → max ≤ 65535 → x.names k event ≡ None → x.asked party ≡ None → x.session.doing party ≡ None → AreSoundEvents x n → AreSoundEvents (with_listener x party name k event max) (n + 1)
-listener_made x n party name k event max text low unnamed free idle h =
+pub listener_made : (x : ScriptEvents) (n : ℕ) (party name : List ℕ) (k : EventKind) (event : List ℕ) (max : ℕ) → is_event_name event ≡ true → max ≤ 65535 → x.names k event ≡ None → x.things party name ≡ None → x.asked party ≡ None → x.session.doing party ≡ None → AreSoundEvents x n → AreSoundEvents (with_listener x party name k event max) (n + 1)
+listener_made x n party name k event max text low unnamed unheld free idle h =
     let new : StandingEvent = record { event = new_event k event max; listener = party } in
     let next : ℕ = x.session.count + 1 in
     record {
@@ -127,6 +148,12 @@ listener_made x n party name k event max text low unnamed free idle h =
       holders = λ m st e held. elim (if_cases (m == next) (Some new) (x.session.stands m) (Some st) e) [
         | inl is ↦ subst (λ (z : StandingEvent). name_held x.names k event (Some next) z.event.kind z.event.name ≡ Some m) (some_same _ st is.1) (rw (kind_itself k, text_itself event) (ap Some (sym (eqb_true m next is.0))))
         | inr is ↦ named_beside x.names k event next st.event.kind st.event.name m unnamed (h.holders m st is.1 held)
+      ];
+      listeners = λ m st e held. elim (if_cases (m == next) (Some new) (x.session.stands m) (Some st) e) [
+        | inl is ↦ (
+            let here : with_at x.things party name (Some (listener next)) party name ≡ Some (listener next) = rw (text_itself party, text_itself name) refl in
+            (name, ap (λ (q : List ℕ). with_at x.things party name (Some (listener next)) q name) (sym (ap (λ (z : StandingEvent). z.listener) (some_same _ st is.1))) ∙ here ∙ ap (λ (j : ℕ). Some (listener j)) (sym (eqb_true m next is.0))))
+        | inr is ↦ (let k = h.listeners m st is.1 held in (k.0, still_held x party name (listener next) st.listener k.0 (listener m) unheld k.1))
       ];
       apart = h.apart;
       asked = h.asked;
@@ -174,8 +201,8 @@ thing_here x y n f p (listener k) is kept h =
 thing_here x y n f p (notifier k) is kept h =
     subst (λ (o : Option StandingEvent). IsSome o) (sym (is k)) (each_some (one_changed n f k) (x.session.stands k) h)
 
-pub notifier_made : (x : ScriptEvents) (n : ℕ) (party name : List ℕ) (k : ℕ) (e : Event) → event_of x.session.stands k ≡ Some e → x.names e.kind e.name ≡ Some k → x.asked party ≡ None → x.session.doing party ≡ None → AreSoundEvents x n → AreSoundEvents (notifier_more x party name k e) (n + 1)
-notifier_made x n party name k e found named free idle h =
+pub notifier_made : (x : ScriptEvents) (n : ℕ) (party name : List ℕ) (k : ℕ) (e : Event) → event_of x.session.stands k ≡ Some e → x.names e.kind e.name ≡ Some k → x.things party name ≡ None → x.asked party ≡ None → x.session.doing party ≡ None → AreSoundEvents x n → AreSoundEvents (notifier_more x party name k e) (n + 1)
+notifier_made x n party name k e found named unheld free idle h =
     let f : Event → Event = λ y. record y { notifiers = e.notifiers + 1 } in
     record {
       session = more_of x (notifier_more x party name k e) (notifiers_of k (e.notifiers + 1)) h.session tt refl;
@@ -200,6 +227,11 @@ notifier_made x n party name k e found named free idle h =
           let same : w.old.event ≡ e = some_same _ e (ap event_in (sym w.was) ∙ ap (λ (j : ℕ). event_in (x.session.stands j)) at ∙ found) in
           ap (λ (y : Event). x.names y.kind y.name) same ∙ named ∙ ap Some (sym at))
           (λ apart. h.holders m w.old w.was)) held);
+      listeners = λ m st g held. (
+          let w = each_was (one_changed k f m) (x.session.stands m) st g in
+          let same : IsSameHolder w.old st = subst (λ (z : StandingEvent). IsSameHolder w.old z) (sym w.is) (changed_holder k m f w.old (λ y. refl)) in
+          let old = h.listeners m w.old w.was (sym same.held ∙ held) in
+          (old.0, still_held x party name (notifier k) st.listener old.0 (listener m) unheld (ap (λ (q : List ℕ). x.things q old.0) same.listener ∙ old.1)));
       apart = h.apart;
       asked = h.asked;
       unheld = λ p q g. at_other x.things party name _ p (name_asked q) (another x.asked p party q g free) ∙ h.unheld p q g;
@@ -335,6 +367,26 @@ held_with_fewer kind.Bits true c h = refl
 held_with_fewer kind.Bits false c h = fewer_positive c h
 held_with_fewer kind.Queue held c h = h
 
+-- what a party holds beside a thing that goes, it still holds
+left_held : (x : ScriptEvents) (party name : List ℕ) (t : EventThing) (p m : List ℕ) (u : EventThing) → x.things party name ≡ Some t → (t ≡ u → ⊥) → x.things p m ≡ Some u → with_at x.things party name None p m ≡ Some u
+left_held x party name t p m u goes other holds =
+    elim (either (bytes_eq p party && bytes_eq m name)) [
+      | inl same ↦ absurd (
+          let both = and_split _ _ same in
+          other (some_same t u (sym goes ∙ ap (λ (q : List ℕ). x.things q name) (sym (same_text p party both.0)) ∙ ap (x.things p) (sym (same_text m name both.1)) ∙ holds)))
+      | inr apart ↦ rw apart holds
+    ]
+
+listener_is : (n m : ℕ) → listener n ≡ listener m → n ≡ m
+listener_is n m e = cc
+
+-- the event whose listener went, and another one
+released_not : (n m : ℕ) (f : Event → Event) (st : StandingEvent) → m ≡ n → ((e : Event) → (f e).held ≡ false) → (one_changed n f m st).event.held ≡ false
+released_not n m f st at goes = rw (ap (λ (k : ℕ). eqb m k) (sym at) ∙ eqb_self m) (goes st.event)
+
+unchanged_holder : (n m : ℕ) (f : Event → Event) (st : StandingEvent) → (m ≡ n → ⊥) → IsSameHolder st (one_changed n f m st)
+unchanged_holder n m f st apart = rw (is_false (eqb m n) (λ y. apart (eqb_true m n y))) (record { held = refl; listener = refl })
+
 -- the listener's party is the holder
 owner_is : (o : Option StandingEvent) (p q : List ℕ) → IsSomeAnd o (IsListening p) → IsSomeAnd o (IsListening q) → p ≡ q
 owner_is None p q h g = absurd h
@@ -375,6 +427,12 @@ listener_dropped x c party name n e found holds idle h =
       calls = λ p d g. held_call x y p d d refl refl (λ m t w. at_other x.things party name None p m (another x.session.doing p party d g idle) ∙ w) (h.calls p d g);
       names = dropped_named x c n e f found (λ y. refl) (λ y. refl) h;
       holders = dropped_holders x c n e f found refl refl (held_without e.kind e.held e.notifiers) h;
+      listeners = λ m st g held. (
+          let w = each_was (one_changed n f m) (x.session.stands m) st g in
+          let apart : (m ≡ n → ⊥) = λ at. false≢true (sym (released_not n m f w.old at (λ y. refl)) ∙ ap (λ (z : StandingEvent). z.event.held) (sym w.is) ∙ held) in
+          let same : IsSameHolder w.old st = subst (λ (z : StandingEvent). IsSameHolder w.old z) (sym w.is) (unchanged_holder n m f w.old apart) in
+          let old = h.listeners m w.old w.was (sym same.held ∙ held) in
+          (old.0, left_held x party name (listener n) st.listener old.0 (listener m) holds (λ e. apart (sym (listener_is n m e))) (ap (λ (q : List ℕ). x.things q old.0) same.listener ∙ old.1)));
       apart = h.apart;
       asked = h.asked;
       unheld = λ p q g. at_none x.things party name p (name_asked q) (h.unheld p q g);
@@ -388,8 +446,8 @@ listener_dropped x c party name n e found holds idle h =
       taken = (let l = h.taken in omega arith);
     }
 
-pub notifier_dropped : (x : ScriptEvents) (c : ℕ) (party name : List ℕ) (n : ℕ) (e : Event) → event_of x.session.stands n ≡ Some e → x.session.doing party ≡ None → AreSoundEvents x c → AreSoundEvents (record x { session = next_session x.session (notifiers_of n (e.notifiers - 1)); names = names_left x.names n (record e { notifiers = e.notifiers - 1 }); things = with_at x.things party name None }) (c + 1)
-notifier_dropped x c party name n e found idle h =
+pub notifier_dropped : (x : ScriptEvents) (c : ℕ) (party name : List ℕ) (n : ℕ) (e : Event) → event_of x.session.stands n ≡ Some e → x.things party name ≡ Some (notifier n) → x.session.doing party ≡ None → AreSoundEvents x c → AreSoundEvents (record x { session = next_session x.session (notifiers_of n (e.notifiers - 1)); names = names_left x.names n (record e { notifiers = e.notifiers - 1 }); things = with_at x.things party name None }) (c + 1)
+notifier_dropped x c party name n e found holds idle h =
     let f : Event → Event = λ y. record y { notifiers = e.notifiers - 1 } in
     let y : ScriptEvents = record x { session = next_session x.session (notifiers_of n (e.notifiers - 1)); names = names_left x.names n (record e { notifiers = e.notifiers - 1 }); things = with_at x.things party name None } in
     record {
@@ -409,6 +467,11 @@ notifier_dropped x c party name n e found idle h =
       calls = λ p d g. held_call x y p d d refl refl (λ m t w. at_other x.things party name None p m (another x.session.doing p party d g idle) ∙ w) (h.calls p d g);
       names = dropped_named x c n e f found (λ y. refl) (λ y. refl) h;
       holders = dropped_holders x c n e f found refl refl (held_with_fewer e.kind e.held e.notifiers) h;
+      listeners = λ m st g held. (
+          let w = each_was (one_changed n f m) (x.session.stands m) st g in
+          let same : IsSameHolder w.old st = subst (λ (z : StandingEvent). IsSameHolder w.old z) (sym w.is) (changed_holder n m f w.old (λ y. refl)) in
+          let old = h.listeners m w.old w.was (sym same.held ∙ held) in
+          (old.0, left_held x party name (notifier n) st.listener old.0 (listener m) holds (not_both n m) (ap (λ (q : List ℕ). x.things q old.0) same.listener ∙ old.1)));
       apart = h.apart;
       asked = h.asked;
       unheld = λ p q g. at_none x.things party name p (name_asked q) (h.unheld p q g);

@@ -45,11 +45,11 @@ asking_none x party = record x { asked = with_ask x.asked party None }
 asks_none : (x : ScriptEvents) (party : List ℕ) → (asking_none x party).asked party ≡ None
 asks_none x party = rw (text_itself party) refl
 
-opened_found : (x : ScriptEvents) (c : ℕ) (party name : List ℕ) (n : ℕ) (o : Option Event) → event_of x.session.stands n ≡ o → IsSomeAnd o (λ e. x.names e.kind e.name ≡ Some n) → x.session.doing party ≡ None → AreSoundEvents x c → AreSoundEvents (asking_none (opened_with x party name n o) party) (c + 1)
-opened_found x c party name n None found named idle h = absurd named
-opened_found x c party name n (Some e) found named idle h =
+opened_found : (x : ScriptEvents) (c : ℕ) (party name : List ℕ) (n : ℕ) (o : Option Event) → event_of x.session.stands n ≡ o → IsSomeAnd o (λ e. x.names e.kind e.name ≡ Some n) → x.things party name ≡ None → x.session.doing party ≡ None → AreSoundEvents x c → AreSoundEvents (asking_none (opened_with x party name n o) party) (c + 1)
+opened_found x c party name n None found named unheld idle h = absurd named
+opened_found x c party name n (Some e) found named unheld idle h =
     elim e.held as (λ b. AreSoundEvents (asking_none (if b then notifier_more x party name n e else x) party) (c + 1)) [
-      | true ↦ notifier_made (asking_none x party) c party name n e found named (asks_none x party) idle (asks_no_more x c party h)
+      | true ↦ notifier_made (asking_none x party) c party name n e found named unheld (asks_none x party) idle (asks_no_more x c party h)
       | false ↦ grown (asking_none x party) c (asks_no_more x c party h)
     ]
 
@@ -58,22 +58,22 @@ named_so : (x : ScriptEvents) (k : EventKind) (text : List ℕ) (n : ℕ) (o : O
 named_so x k text n None is h = absurd h
 named_so x k text n (Some e) is h = ap (λ (j : EventKind). x.names j e.name) h.kind ∙ ap (x.names k) h.name_is ∙ is
 
-opened_sound : (x : ScriptEvents) (c : ℕ) (party name : List ℕ) (k : EventKind) (event : List ℕ) (o : Option ℕ) → x.names k event ≡ o → x.session.doing party ≡ None → AreSoundEvents x c → AreSoundEvents (asking_none (opened x party name o) party) (c + 1)
-opened_sound x c party name k event None is idle h = grown (asking_none x party) c (asks_no_more x c party h)
-opened_sound x c party name k event (Some n) is idle h =
-    opened_found x c party name n (event_of x.session.stands n) refl (named_so x k event n (event_of x.session.stands n) is (h.names k event n is)) idle h
+opened_sound : (x : ScriptEvents) (c : ℕ) (party name : List ℕ) (k : EventKind) (event : List ℕ) (o : Option ℕ) → x.names k event ≡ o → x.things party name ≡ None → x.session.doing party ≡ None → AreSoundEvents x c → AreSoundEvents (asking_none (opened x party name o) party) (c + 1)
+opened_sound x c party name k event None is unheld idle h = grown (asking_none x party) c (asks_no_more x c party h)
+opened_sound x c party name k event (Some n) is unheld idle h =
+    opened_found x c party name n (event_of x.session.stands n) refl (named_so x k event n (event_of x.session.stands n) is (h.names k event n is)) unheld idle h
 
 none_of : (o : Option ℕ) → is_some o ≡ false → o ≡ None
 none_of None e = refl
 none_of (Some n) e = absurd cc
 
-ask_sound : (x : ScriptEvents) (c : ℕ) (party : List ℕ) (q : EventAsk) → IsFormedAsk q → x.session.doing party ≡ None → AreSoundEvents x c → AreSoundEvents (asking_none (ask_made x party q) party) (c + 1)
-ask_sound x c party (to_listen name k event max) formed idle h =
+ask_sound : (x : ScriptEvents) (c : ℕ) (party : List ℕ) (q : EventAsk) → IsFormedAsk q → x.things party (name_asked q) ≡ None → x.session.doing party ≡ None → AreSoundEvents x c → AreSoundEvents (asking_none (ask_made x party q) party) (c + 1)
+ask_sound x c party (to_listen name k event max) formed unheld idle h =
     elim (is_some (x.names k event)) as (λ b. is_some (x.names k event) ≡ b → AreSoundEvents (asking_none (if b then x else with_listener x party name k event max) party) (c + 1)) [
       | true ↦ λ taken. grown (asking_none x party) c (asks_no_more x c party h)
-      | false ↦ λ unnamed. listener_made (asking_none x party) c party name k event max formed.0 formed.1 (none_of (x.names k event) unnamed) (asks_none x party) idle (asks_no_more x c party h)
+      | false ↦ λ unnamed. listener_made (asking_none x party) c party name k event max formed.0 formed.1 (none_of (x.names k event) unnamed) unheld (asks_none x party) idle (asks_no_more x c party h)
     ] refl
-ask_sound x c party (to_notify name k event) formed idle h = opened_sound x c party name k event (x.names k event) refl idle h
+ask_sound x c party (to_notify name k event) formed unheld idle h = opened_sound x c party name k event (x.names k event) refl unheld idle h
 
 -- ---- a step
 
@@ -83,7 +83,7 @@ access_sound x c party d (Some st) a doing stands ok h =
     subst (λ (b : ScriptAnswer). AreSoundEvents (step_made x party None b) (c + 1)) (sym ok.printed) (call_stepped x c party _ ok.answer d st doing stands refl ok.right h)
 
 step_sound : (x : ScriptEvents) (c : ℕ) (party : List ℕ) (o : Option EventAsk) (d : Option PartyCall) (a : ScriptAnswer) → x.asked party ≡ o → x.session.doing party ≡ d → IsStepOf x o d a → AreSoundEvents x c → AreSoundEvents (step_made x party o a) (c + 1)
-step_sound x c party (Some q) d a asked doing ok h = ask_sound x c party q (h.asked party q asked) (h.apart party q asked) h
+step_sound x c party (Some q) d a asked doing ok h = ask_sound x c party q (h.asked party q asked) (h.unheld party q asked) (h.apart party q asked) h
 step_sound x c party None None a asked doing ok h = absurd ok
 step_sound x c party None (Some d) a asked doing ok h = access_sound x c party d (x.session.stands d.on) a doing refl ok h
 
@@ -92,7 +92,7 @@ step_sound x c party None (Some d) a asked doing ok h = access_sound x c party d
 let_go_sound : (x : ScriptEvents) (c : ℕ) (party name : List ℕ) (t : EventThing) (o : Option Event) → event_of x.session.stands (event_number t) ≡ o → x.things party name ≡ Some t → x.session.doing party ≡ None → AreSoundEvents x c → AreSoundEvents (let_go_from x party name t o) (c + 1)
 let_go_sound x c party name t None found holds idle h = grown x c h
 let_go_sound x c party name (listener k) (Some e) found holds idle h = listener_dropped x c party name k e found holds idle h
-let_go_sound x c party name (notifier k) (Some e) found holds idle h = notifier_dropped x c party name k e found idle h
+let_go_sound x c party name (notifier k) (Some e) found holds idle h = notifier_dropped x c party name k e found holds idle h
 
 drop_sound : (x : ScriptEvents) (c : ℕ) (party name : List ℕ) (o : Option EventThing) → x.things party name ≡ o → x.session.doing party ≡ None → AreSoundEvents x c → AreSoundEvents (event_let_go x party name o) (c + 1)
 drop_sound x c party name None holds idle h = grown x c h
@@ -299,6 +299,7 @@ script_start = record {
     calls = λ p d e. absurd (none_some _ e);
     names = λ k text n e. absurd (none_some _ e);
     holders = λ n st e. absurd (none_some _ e);
+    listeners = λ n st e. absurd (none_some _ e);
     apart = λ p q e. absurd (none_some _ e);
     asked = λ p q e. absurd (none_some _ e);
     unheld = λ p q e. absurd (none_some _ e);
@@ -321,4 +322,9 @@ pub sessions_sound : SessionsAreSound
 sessions_sound pairs ok = subst (IsSoundScript (state_after start pairs)) (omega arith) (script_from start 0 pairs script_start ok)
 
 pub names_agree : NamesAgree
-names_agree = record { by_name = λ s count h. h.events.names; by_event = λ s count h. h.events.holders }
+names_agree = record {
+  by_name = λ s count h. h.events.names;
+  by_event = λ s count h. h.events.holders;
+  by_thing = λ s count h p name n e. h.events.things p name (listener n) e;
+  by_listener = λ s count h. h.events.listeners;
+}

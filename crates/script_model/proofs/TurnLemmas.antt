@@ -14,8 +14,8 @@ use Rattle.board_event_model.proofs.SetLemmas.{and_join, and_split, is_false}
 use Rattle.board_event_model.proofs.SoundLemmas.{none_some, some_same}
 use Rattle.board_model.specs.Things.{with_at}
 use Rattle.script_model.specs.ScriptEvents.{EventAsk, EventThing, ScriptEvents, events_abandoned, listener, notifier, with_ask}
-use Rattle.script_model.specs.SoundEvents.{AreSoundEvents, HoldersAreNamed, IsCallOfThing, IsEventThing, IsFormedAsk, IsFormedEvent, IsHeldCall, IsListening, IsNamed, IsOfSession, name_asked}
-use Rattle.script_model.proofs.EachLemmas.{IsSameEvent, after_same, changed_same, each, each_and, each_event, each_some, each_was, event_in, gone_same, one_changed, same_event, same_formed, same_holds, same_listening, same_named}
+use Rattle.script_model.specs.SoundEvents.{AreSoundEvents, HoldersAreNamed, IsCallOfThing, IsEventThing, IsFormedAsk, IsFormedEvent, IsHeldCall, IsListening, IsNamed, IsOfSession, ListenersAreThings, name_asked}
+use Rattle.script_model.proofs.EachLemmas.{IsSameEvent, IsSameStanding, after_same, changed_same, each, each_and, each_event, each_some, each_was, event_in, gone_same, one_changed, same_event, same_formed, same_holds, same_listening, same_named}
 
 -- ---- tables of functions
 
@@ -88,6 +88,7 @@ grown x n h = record {
   calls = h.calls;
   names = h.names;
   holders = h.holders;
+  listeners = h.listeners;
   apart = h.apart;
   asked = h.asked;
   unheld = h.unheld;
@@ -108,6 +109,7 @@ asks x n party o ok h = record {
   calls = λ p d e. held_call x _ p d d refl refl (λ m t f. f) (h.calls p d e);
   names = h.names;
   holders = h.holders;
+  listeners = h.listeners;
   apart = λ p q e. elim (put_cases x.asked party o p (Some q) e) [
     | inl is ↦ ap x.session.doing is.0 ∙ (ok q is.1).0
     | inr is ↦ h.apart p q is.1
@@ -147,6 +149,7 @@ call_begun x n party on c free held ok h = record {
   ];
   names = h.names;
   holders = h.holders;
+  listeners = h.listeners;
   apart = λ p q e. put_other x.session.doing party _ p (another x.asked p party q e free) ∙ h.apart p q e;
   asked = h.asked;
   unheld = h.unheld;
@@ -171,6 +174,7 @@ call_ended x n party ok h = record {
   ];
   names = h.names;
   holders = h.holders;
+  listeners = h.listeners;
   apart = λ p q e. none_other x.session.doing party p (h.apart p q e);
   asked = h.asked;
   unheld = h.unheld;
@@ -191,6 +195,16 @@ holders_kept x y g is same names old n st e held =
     ap (λ (f : EventKind → List ℕ → Option ℕ). f st.event.kind st.event.name) names
     ∙ subst (λ (z : StandingEvent). holds_name z.event ≡ true → x.names z.event.kind z.event.name ≡ Some n) (sym w.is) new held
 
+-- a listener that is held is still a thing of its party
+listeners_kept : (x y : ScriptEvents) (g : ℕ → StandingEvent → StandingEvent) → ((m : ℕ) → y.session.stands m ≡ each (g m) (x.session.stands m)) → ((m : ℕ) (st : StandingEvent) → IsSameStanding st (g m st)) → y.things ≡ x.things → ListenersAreThings x → ListenersAreThings y
+listeners_kept x y g is same things old n st e held =
+    let w = each_was (g n) (x.session.stands n) st (sym (is n) ∙ e) in
+    let s = same n w.old in
+    let was : w.old.event.held ≡ true = sym s.event.held ∙ ap (λ (z : StandingEvent). z.event.held) (sym w.is) ∙ held in
+    let k = old n w.old w.was was in
+    let owner : st.listener ≡ w.old.listener = ap (λ (z : StandingEvent). z.listener) w.is ∙ s.listener in
+    (k.0, ap (λ (f : List ℕ → List ℕ → Option EventThing). f st.listener k.0) things ∙ ap (λ (p : List ℕ). x.things p k.0) owner ∙ k.1)
+
 -- the thing still stands, where each event is as it was to its holders
 thing_kept : (x y : ScriptEvents) (g : ℕ → StandingEvent → StandingEvent) → ((m : ℕ) → y.session.stands m ≡ each (g m) (x.session.stands m)) → ((m : ℕ) (p : List ℕ) (st : StandingEvent) → IsListening p st → IsListening p (g m st)) → (p : List ℕ) (t : EventThing) → IsEventThing x p t → IsEventThing y p t
 thing_kept x y g is kept p (listener m) h = subst (λ (o : Option StandingEvent). IsSomeAnd o (IsListening p)) (sym (is m)) (each_and (IsListening p) (IsListening p) (g m) (x.session.stands m) (kept m p) h)
@@ -210,6 +224,7 @@ party_abandoned x n party old =
       ];
       names = λ k text m e. each_event (IsNamed k text) (IsNamed k text) (gone_with party) (x.session.stands m) (λ st l. same_named k text st.event (gone_with party st).event (gone_same party st).event l) (old.names k text m e);
       holders = holders_kept x (events_abandoned x party) (λ k. gone_with party) (λ k. refl) (λ k st. (gone_same party st).event) refl old.holders;
+      listeners = listeners_kept x (events_abandoned x party) (λ k. gone_with party) (λ k. refl) (λ k st. gone_same party st) refl old.listeners;
       apart = λ p q e. none_other x.session.doing party p (h.apart p q e);
       asked = h.asked;
       unheld = h.unheld;
@@ -251,6 +266,7 @@ call_stepped x n party a b d st runs stands owes right h =
       ];
       names = λ k text m e. each_event (IsNamed k text) (IsNamed k text) (one_changed d.on (λ y. after y a) m) (x.session.stands m) (λ s l. same_named k text s.event _ (changed_same d.on m (λ y. after y a) s (λ y. after_same y a)).event l) (h.names k text m e);
       holders = holders_kept x (record x { session = took_step x.session party a b d (Some st.event) }) (one_changed d.on (λ y. after y a)) (λ k. refl) (λ k s. (changed_same d.on k (λ y. after y a) s (λ y. after_same y a)).event) refl h.holders;
+      listeners = listeners_kept x (record x { session = took_step x.session party a b d (Some st.event) }) (one_changed d.on (λ y. after y a)) (λ k. refl) (λ k s. changed_same d.on k (λ y. after y a) s (λ y. after_same y a)) refl h.listeners;
       apart = λ p q e. put_other x.session.doing party _ p (λ same. none_some d (sym (h.apart p q e) ∙ ap x.session.doing same ∙ runs)) ∙ h.apart p q e;
       asked = h.asked;
       unheld = h.unheld;

@@ -4,9 +4,10 @@ use Rattle.board_event_model.specs.declared.kind.EventKind.{EventKind}
 use Rattle.board_event_model.specs.EventSessions.{event_of}
 use Rattle.script_model.specs.declared.line.ScriptLine.{ScriptLine}
 use Rattle.script_model.specs.ScriptAnswers.{ScriptAnswer}
+use Rattle.script_model.specs.ScriptEvents.{listener}
 use Rattle.script_model.specs.ScriptTurns.{ScriptState}
 use Rattle.script_model.specs.ScriptSession.{IsLawful, IsRight, Session, after, start, state_after}
-use Rattle.script_model.specs.SoundEvents.{HoldersAreNamed, IsNamed, IsSoundScript}
+use Rattle.script_model.specs.SoundEvents.{HoldersAreNamed, IsListening, IsNamed, IsSoundScript, ListenersAreThings}
 
 -- no lawful session ever leaves the sound states
 pub record StaysSound : Type 0 where
@@ -17,8 +18,12 @@ pub record StaysSound : Type 0 where
 abbrev pub SessionsAreSound : Type 0
 SessionsAreSound = (pairs : Session) → IsLawful pairs → IsSoundScript (state_after start pairs) (length pairs)
 
--- who holds a name and the names agree both ways: a name is that of an event which has it and a holder, and such an event is the one of its name
+-- who holds a name and the names agree both ways: a name is that of an event which has it and a holder, and such an event is the one of its name;
+-- and its listener is held exactly while the listener's party has it under a name
 pub record NamesAgree : Type 0 where
   pub by_name : (s : ScriptState) (count : ℕ) → IsSoundScript s count
       → (k : EventKind) (text : List ℕ) (n : ℕ) → s.events.names k text ≡ Some n → IsSomeAnd (event_of s.events.session.stands n) (IsNamed k text)
   pub by_event : (s : ScriptState) (count : ℕ) → IsSoundScript s count → HoldersAreNamed s.events
+  pub by_thing : (s : ScriptState) (count : ℕ) → IsSoundScript s count
+      → (p name : List ℕ) (n : ℕ) → s.events.things p name ≡ Some (listener n) → IsSomeAnd (s.events.session.stands n) (IsListening p)
+  pub by_listener : (s : ScriptState) (count : ℕ) → IsSoundScript s count → ListenersAreThings s.events

@@ -51,6 +51,10 @@ pub record IsNamed (k : EventKind) (name : List ℕ) (e : Event) : Type 0 where
 abbrev pub HoldersAreNamed : ScriptEvents → Type 0
 HoldersAreNamed x = (n : ℕ) (st : StandingEvent) → x.session.stands n ≡ Some st → holds_name st.event ≡ true → x.names st.event.kind st.event.name ≡ Some n
 
+-- the party of a listener that is held has it under a name
+abbrev pub ListenersAreThings : ScriptEvents → Type 0
+ListenersAreThings x = (n : ℕ) (st : StandingEvent) → x.session.stands n ≡ Some st → st.event.held ≡ true → (name : List ℕ) × (x.things st.listener name ≡ Some (listener n))
+
 -- a name and a greatest id of the grammar, and no more notifiers than lines
 pub record IsFormedEvent (count : ℕ) (e : Event) : Type 0 where
   pub text : is_event_name e.name ≡ true
@@ -78,6 +82,7 @@ pub record AreSoundEvents (x : ScriptEvents) (count : ℕ) : Type 0 where
   pub calls : (p : List ℕ) (d : PartyCall) → x.session.doing p ≡ Some d → IsHeldCall x p d
   pub names : (k : EventKind) (text : List ℕ) (n : ℕ) → x.names k text ≡ Some n → IsSomeAnd (event_of x.session.stands n) (IsNamed k text)
   pub holders : HoldersAreNamed x
+  pub listeners : ListenersAreThings x
   -- a party that asks runs no other call on events
   pub apart : (p : List ℕ) (q : EventAsk) → x.asked p ≡ Some q → x.session.doing p ≡ None
   pub asked : (p : List ℕ) (q : EventAsk) → x.asked p ≡ Some q → IsFormedAsk q

@@ -1,8 +1,9 @@
 //! The definitions by which scripts are judged, their events included: the lines of boards and of events, and the laws of whole sessions.
 //!
-//! Begin with `specs/ScriptSession`: right answers, the state after a line, and the lawful sessions. `ScriptTurns` says
-//! what a line is on account of events; a line that is none of that is answered by the rules of boards. `ScriptOutput`
-//! has the sessions whose lines are those of an input, and their output. The laws are public functions without a body.
+//! Begin with `specs/ScriptSession`: right answers, the state after a line, and the lawful sessions. The rules of an answer
+//! stand in `ScriptRules`. `ScriptTurns` says what a line is on account of events; a line that is none of that is answered
+//! by the rules of boards. `ScriptOutput` has the sessions whose lines are those of an input, and their output. The laws are
+//! public functions without a body.
 #![tactic(auto)]
 
 pub mod answer_laws;
