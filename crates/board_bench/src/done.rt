@@ -39,11 +39,7 @@ impl Done {
 ///
 /// # Errors
 /// `OutOfMemory` where memory is refused.
-pub fn run<R: Threads + Wait + Sync>(
-    rt: &R,
-    alloc: Global,
-    task: Task,
-) -> Result<Done, CellError>
+pub fn run<R: Threads + Wait + Sync>(rt: &R, alloc: Global, task: Task) -> Result<Done, CellError>
     requires { IsBenchTask task }
     ensures { IfOk result (HasDone task) }
 {
@@ -54,9 +50,7 @@ pub fn run<R: Threads + Wait + Sync>(
             width,
             readers,
             updates,
-        } => Ok(Done::Raced(run_shared(
-            rt, alloc, width, readers, updates,
-        )?)),
+        } => Ok(Done::Raced(run_shared(rt, alloc, width, readers, updates)?)),
     }
 }
 

@@ -1,36 +1,23 @@
 //! Measures the cell between threads: `solo W get COUNT`, `solo W update COUNT` or `shared W R UPDATES`. It reads no clock.
 #![tactic(auto)]
 
-ghost use Rattle.std.specs.Prelude.{◌≡◌, drop, IfOk};
-ghost use Rattle.std.specs.Vec.Iter.{into_iter_items};
-
 mod done;
 mod shared;
 mod solo;
 mod task;
 
 use done::measure;
-use std::alloc::{AllocError, Global};
-use std::env::Args;
 use std::process::ExitCode;
 use std::{env, io};
 
 const USAGE: &str =
     "usage: board_bench solo 1|4|32 get|update COUNT, or board_bench shared 1|4|32 1|2|3 UPDATES";
 
-// The words behind the program's name.
-fn behind_name(alloc: Global, mut args: Args) -> Result<Vec<String>, AllocError>
-    ensures { IfOk result (λ words. words.items ≡ drop 1 (into_iter_items args)) }
-{
-    let _name = args.next();
-    args.collect(alloc)
-}
-
 // The words of the command line without the program's name. One that isn't text makes all of them one empty word.
 fn words(rt: &HostRuntime) -> anyhow::Result<Vec<String>> {
     let alloc = rt.alloc();
     match env::args(rt) {
-        Ok(args) => Ok(behind_name(alloc, args)?),
+        Ok(args) => Ok(args.skip(1).collect(alloc)?),
         Err(error) => {
             if error.kind() != io::ErrorKind::InvalidData {
                 return Err(error.into());

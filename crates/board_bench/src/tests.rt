@@ -62,7 +62,11 @@ fn each_task_is_done(rt: HostRuntime) -> Result<(), Fail> {
         ("solo 4 put 10", false),
     ] {
         let words = words_of(rt.alloc(), text)?;
-        assert_eq!(rt; measure(&rt, rt.alloc(), &words)?.is_some(), is_done, "{text}");
+        assert_eq!(rt;
+            measure(&rt, rt.alloc(), &words)?.is_some(),
+            is_done,
+            "{text}"
+        );
     }
     Ok(())
 }

@@ -1,30 +1,18 @@
 //! Runs a board script: from standard input to standard output, with notes on standard error.
 #![tactic(auto)]
 
-ghost use Rattle.std.specs.Prelude.{◌≡◌, drop, IfOk};
-ghost use Rattle.std.specs.Vec.Iter.{into_iter_items};
-
 mod adapters;
 
 use crate::adapters::{StderrSink, StdinSource, StdoutSink};
 use board_script::run_program;
-use std::alloc::{AllocError, Global};
-use std::env::Args;
+use std::alloc::AllocError;
 use std::process::ExitCode;
 use std::{env, io};
-
-// The words behind the program's name.
-fn behind_name(alloc: Global, mut args: Args) -> Result<Vec<String>, AllocError>
-    ensures { IfOk result (λ words. words.items ≡ drop 1 (into_iter_items args)) }
-{
-    let _name = args.next();
-    args.collect(alloc)
-}
 
 // The words of the command line without the program's name. One that isn't text makes all of them one empty word.
 fn words(rt: &HostRuntime) -> Result<Vec<String>, AllocError> {
     match env::args(rt) {
-        Ok(args) => behind_name(rt.alloc(), args),
+        Ok(args) => args.skip(1).collect(rt.alloc()),
         Err(error) => {
             if error.kind() == io::ErrorKind::OutOfMemory {
                 return Err(AllocError);
