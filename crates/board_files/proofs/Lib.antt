@@ -1,2 +1,4 @@
+pub mod ChangeLemmas
+pub mod CountLemmas
 pub mod FileLemmas
 pub mod LockLemmas

@@ -1,6 +1,6 @@
 -- Files in memory as the list of their changes.
-use Rattle.std.specs.Prelude.{◌≡◌, ℕ, List, [], ◌∷◌, Option, Some, None, take}
-use Rattle.board_names.specs.Table.{at, putting, without}
+use Rattle.std.specs.Prelude.{◌≡◌, ℕ, List, [], ◌∷◌, Option, Some, None, ⊤, take}
+use Rattle.board_names.specs.Table.{at, putting, without, IsFree}
 use Rattle.board_files.specs.Files.{File, Held, Told, new_file, lengthened, finished}
 use Rattle.board_files.specs.declared.changes.Change.{Change}
 use Rattle.board_files.specs.declared.changes.Change.TheVariants.{Made, Wrote, Finished, Removed}
@@ -19,6 +19,13 @@ applied (Made name) files = putting files name new_file
 applied (Wrote name bytes) files = altered files name (lengthened bytes)
 applied (Finished name) files = altered files name finished
 applied (Removed name) files = without files name
+
+-- after a removal the name is free
+abbrev pub FreesName : Change → Held → Type 0
+FreesName (Made name) files = ⊤
+FreesName (Wrote name bytes) files = ⊤
+FreesName (Finished name) files = ⊤
+FreesName (Removed name) files = IsFree files name
 
 -- the files after these changes of them
 abbrev pub replayed : Held → List Change → Held

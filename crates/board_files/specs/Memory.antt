@@ -18,11 +18,15 @@ fails_next m = list_any (λ n. n == m.calls) m.fails.items
 
 abbrev pub room_in : ℕ → Option (ℕ × ℕ) → ℕ
 room_in given None = given
-room_in given (Some (call, room)) = min given room
+room_in given (Some short) = min given short.1
+
+-- what is listed of the next call, where it is to take less
+abbrev pub planned_next : MemoryFiles → Option (ℕ × ℕ)
+planned_next m = find (λ s. s.0 == m.calls) m.short.items
 
 -- how much the next call takes of so many bytes, where it writes
 abbrev pub room_next : MemoryFiles → ℕ → ℕ
-room_next m given = room_in given (find (λ s. s.0 == m.calls) m.short.items)
+room_next m given = room_in given (planned_next m)
 
 -- after a call was counted
 abbrev pub called : MemoryFiles → MemoryFiles

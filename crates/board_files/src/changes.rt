@@ -1,7 +1,7 @@
 //! A change of files in memory.
 ghost use Rattle.std.specs.Prelude.{◌≡◌, ℕ, List, IfOk, OnOk, OnErr};
 ghost use Rattle.board_names.specs.Table.{putting};
-ghost use Rattle.board_files.specs.Changes.{applied};
+ghost use Rattle.board_files.specs.Changes.{applied, FreesName};
 
 use crate::stored_file::StoredFile;
 use board_names::{FilePath, Table};
@@ -38,6 +38,7 @@ impl Change {
     pub fn apply(&self, alloc: Global, files: &mut Table<StoredFile>) -> Result<(), AllocError>
         ensures ok { OnOk result (files.new.entries ≡ applied self.now files.old.entries) }
         ensures err { OnErr result (files.new.entries ≡ files.old.entries) }
+        ensures frees { OnOk result (FreesName self.now files.new.entries) }
     {
         match self {
             Change::Made(name) => put(files, name, StoredFile::new(alloc)?),

@@ -2,7 +2,7 @@
 ghost use Rattle.std.specs.Prelude.{◌≡◌, ◌<◌, ℕ, ◌^◌, List, [], Option, IfOk, OnOk, OnErr, is_some, option_map, IsSome};
 ghost use Rattle.board_names.specs.Table.{at, name_at, NamesAscend, IsFree};
 ghost use Rattle.board_files.specs.Files.{is_free, created, written, finalized, removed, moved, AreListed};
-ghost use Rattle.board_files.specs.Changes.{applied, told_after, stopped_at};
+ghost use Rattle.board_files.specs.Changes.{applied, FreesName, told_after, stopped_at};
 
 use crate::changes::Change;
 use crate::stored_file::StoredFile;
@@ -48,6 +48,7 @@ impl HeldFiles {
     fn make(&mut self, change: Change) -> Result<(), AllocError>
         ensures ok { OnOk result (self.new ≡ moved self.old (applied change self.old.files)) }
         ensures err { OnErr result (self.new ≡ self.old) }
+        ensures frees { OnOk result (FreesName change self.new.files) }
     {
         self.changes.reserve(1)?;
         change.apply(self.alloc, &mut self.files)?;

@@ -1,9 +1,9 @@
 //! Files in memory.
 ghost use Rattle.std.specs.Prelude.{◌≡◌, ℕ, ◌+◌, ◌-◌, ◌^◌, ◌<◌, ◌≤◌, ◌⊎◌, ◌↔◌, List, [], length, min, true, false, is_some, Some, Option, IfOk, IsOkUnless, IsErrOf, OnOk, OnErr, IsTrue};
 ghost use Rattle.board_names.specs.Table.{at, IsFree};
-ghost use Rattle.board_files.specs.Files.{Creates, Writes, Finalizes, LooksAt, Measures, ReadsFile, FillsFront, Removes, TellsName, CountsCall, CountsWrite};
+ghost use Rattle.board_files.specs.Files.{Creates, Writes, Finalizes, LooksAt, Measures, ReadsFile, FillsFront, Removes, TellsName, HasRisen, CountsCall, CountsWrite};
 ghost use Rattle.board_files.specs.Changes.{told_after, stopped_at};
-ghost use Rattle.board_files.specs.Memory.{counts_of, one_more, fails_next, room_next, called, faulted};
+ghost use Rattle.board_files.specs.Memory.{counts_of, one_more, fails_next, planned_next, room_next, called, faulted};
 ghost use Rattle.board_files.specs.declared.files.FilesError.TheVariants.{Failed, OutOfMemory};
 
 use crate::files::{Files, FilesError};
@@ -68,6 +68,7 @@ impl MemoryFiles {
         ensures cause { IsOkUnless result Failed }
         ensures ok { OnOk result (self.new ≡ called self.old) }
         ensures err { OnErr result (self.new ≡ faulted (called self.old)) }
+        ensures risen { OnErr result (HasRisen self.old.faults self.new.faults) }
     {
         let call = self.calls;
         self.calls = self.calls.saturating_add(1);
@@ -81,6 +82,7 @@ impl MemoryFiles {
     fn fault(&mut self) -> FilesError
         ensures error { result ≡ Failed }
         ensures after { self.new ≡ faulted self.old }
+        ensures risen { HasRisen self.old.faults self.new.faults }
     {
         self.faults = self.faults.saturating_add(1);
         FilesError::Failed
@@ -90,11 +92,18 @@ impl MemoryFiles {
     fn room(&self, given: usize) -> usize
         ensures { result ≡ room_next self.now given }
     {
-        let call = self.calls;
-        match self.short.iter().find(|short| short.0 == call) {
+        match self.planned() {
             None => given,
-            Some((_, room)) => given.min(*room),
+            Some(short) => given.min(short.1),
         }
+    }
+
+    /// What the next call is to take, where it is listed.
+    fn planned(&self) -> Option<(u64, usize)>
+        ensures { result ≡ planned_next self.now }
+    {
+        let call = self.calls;
+        self.short.iter().find(|short| short.0 == call).copied()
     }
 }
 

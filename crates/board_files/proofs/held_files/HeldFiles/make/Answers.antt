@@ -1,13 +1,20 @@
-use Rattle.std.proofs.Common.{rules, ◌≡◌, ◌<◌, ℕ, ◌^◌, List, [], Option, IfOk, OnOk, OnErr, is_some, option_map, IsSome, ◌+◌, ◌-◌, ◌*◌, ◌≤◌, length, ◌/◌, ◌%◌, Bool, true, false, nat_eq, nat_lt, ◌∷◌, ◌++◌, slice_index_or, slice_set, bit_and, bit_or, Fits, w8, w32, w64, Bor, MutBor}
-use Rattle.board_names.specs.Table.{at, name_at, NamesAscend, IsFree}
-use Rattle.board_files.specs.Files.{is_free, created, written, finalized, removed, moved, AreListed}
-use Rattle.board_files.specs.Changes.{applied, told_after, stopped_at}
+use Rattle.std.proofs.Common.{◌≡◌, [], ◌∷◌, ◌++◌, sym, ◌∙◌, ap, subst}
+use Rattle.board_files.specs.Changes.{applied, FreesName, replayed, told_after}
+use Rattle.board_files.specs.Files.{moved}
+use Rattle.board_files.proofs.ChangeLemmas.{replayed-push, told_after-push}
 use Rattle.board_files.proofs.held_files.HeldFiles.make.Goals as goal
 
--- src/held_files.rt:48:5
 pub invariant_of-self-2 : goal.invariant_of-self-2
-invariant_of-self-2 c = ?
+invariant_of-self-2 c =
+    let changes = c.self.inside.changes.items in
+    let items : c.push_reserved.new.self.items ≡ changes ++ c.args.change ∷ [] = c.push_reserved.ensures.items ∙ ap (λ l. l ++ c.args.change ∷ []) c.in_ok-reserve.ensures.items in
+    c.in_ok-apply.ensures.ok ∙ ap (applied c.args.change) c.self.invariant ∙ sym (replayed-push [] changes c.args.change) ∙ ap (replayed []) (sym items)
 
--- src/held_files.rt:48:5
 pub returns-clause-ok : goal.returns-clause-ok
-returns-clause-ok c = ?
+returns-clause-ok c =
+    let changes = c.self.inside.changes.items in
+    let items : c.push_reserved.new.self.items ≡ changes ++ c.args.change ∷ [] = c.push_reserved.ensures.items ∙ ap (λ l. l ++ c.args.change ∷ []) c.in_ok-reserve.ensures.items in
+    ap told_after items ∙ told_after-push changes c.args.change ∙ ap (λ t. moved t (applied c.args.change t.files)) c.self.view_is
+
+pub returns-clause-frees : goal.returns-clause-frees
+returns-clause-frees c = subst (FreesName c.args.change) (invariant_of-self-2 c) c.in_ok-apply.ensures.frees

@@ -1,8 +1,6 @@
-use Rattle.std.proofs.Common.{◌≡◌, ◌<◌, ℕ, ◌^◌, List, [], Option, IfOk, OnOk, OnErr, is_some, option_map, IsSome, ◌+◌, ◌-◌, ◌*◌, ◌≤◌, length}
-use Rattle.board_names.specs.Table.{at, name_at, NamesAscend, IsFree}
-use Rattle.board_files.specs.Files.{is_free, created, written, finalized, removed, moved, AreListed}
-use Rattle.board_files.specs.Changes.{applied, told_after, stopped_at}
+use Rattle.std.proofs.Common.{◌≡◌, take}
+use Rattle.board_files.specs.Changes.{told_after}
 use Rattle.board_files.proofs.held_files.HeldFiles.stopped.Given as goal
 
 abbrev pub invariant-loop-change : goal.invariant-loop-change
-invariant-loop-change l = ?
+invariant-loop-change l = l.stopped ≡ told_after (take l.change-index l.front)
