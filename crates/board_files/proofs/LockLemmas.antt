@@ -44,10 +44,18 @@ create-cases P name path (Some t) new (Ok false) h ok err =
 create-cases P name path (Some t) new (Err Failed) h ok err = from_to (P (Err creating.Creation)) t t new h.after (err t creating.Creation)
 create-cases P name path (Some t) new (Err OutOfMemory) h ok err = from_to (P (Err creating.OutOfMemory)) t t new h.after (err t creating.OutOfMemory)
 
+if_some : (o : Option Told) (says : Told → Type 0) → ((t : Told) → says t) → IfSome o says
+if_some None says fact = tt
+if_some (Some t) says fact = fact t
+
 pub create-locked : (name path : List ℕ) (old new : Option Told) (made : Result Bool FilesError) → Creates path old new made →
-    FromTo old new (λ t u. OnOk (create_told name made) (IsFresh path u.files))
-create-locked name path old new made h = create-cases (λ r t u. OnOk r (IsFresh path u.files)) name path old new made h
-    (λ t free. subst (λ u. IsFresh path u.files) (sym (created-free path t free)) (at-putting t.files path new_file)) (λ t e. tt)
+    IfSome new (λ u. OnOk (create_told name made) (IsFresh path u.files))
+create-locked name path None new (Ok true) h = subst (λ n. IfSome n (λ u. IsFresh path u.files)) (sym h.after) tt
+create-locked name path (Some t) new (Ok true) h =
+    subst (λ n. IfSome n (λ u. IsFresh path u.files)) (sym (h.after ∙ ap Some (created-free path t (free_from (at t.files path) h.answer)))) (at-putting t.files path new_file)
+create-locked name path old new (Ok false) h = if_some new (λ u. Unit {0}) (λ u. tt)
+create-locked name path old new (Err Failed) h = if_some new (λ u. Unit {0}) (λ u. tt)
+create-locked name path old new (Err OutOfMemory) h = if_some new (λ u. Unit {0}) (λ u. tt)
 
 pub create-err : (name path : List ℕ) (old new : Option Told) (made : Result Bool FilesError) → Creates path old new made → OnErr (create_told name made) (new ≡ old)
 create-err name path old new (Ok true) h = tt
@@ -136,7 +144,7 @@ finalized-written path contents t u w =
     subst (IsUnlocked path contents t) (sym (finalized-open path u contents w.held)) (record {
       whole = at-putting u.files path (final_file contents);
       stop = AddsMoments-trans t.moments u.moments (u.moments ++ files ∷ []) (IsUnlockMoment path contents t.files) w.stop
-      (AddsMoments-one u.moments (IsUnlockMoment path contents t.files) files (final_moment path contents t.files u.files w.others));
+          (AddsMoments-one u.moments (IsUnlockMoment path contents t.files) files (final_moment path contents t.files u.files w.others));
       others = SameOthers-trans path t.files u.files files w.others (SameOthers-putting path u.files (final_file contents));
     })
 
@@ -150,10 +158,10 @@ write-cases P path contents (Some t) new (Ok taken) e fresh h is short stays =
     elim (nat_lt taken (length contents)) as (λ b. nat_lt taken (length contents) ≡ b →
     (let r : Result (Unit {0}) StaticStorageUnlockError = if b then Err (unlocking.NoSpaceLeft taken (length contents)) else Ok tt in r) ≡ Err e → FromTo (Some t) new (P e)) [
       | true ↦ λ less was.
-        let same : unlocking.NoSpaceLeft taken (length contents) ≡ e = cc was in
-        from_to (P e) t (written path (take taken contents) t) new h.after
-        (subst (λ e'. P e' t (written path (take taken contents) t)) same
-        (short t (written path (take taken contents) t) taken (ltb-true taken (length contents) less) (written-fresh path contents (take taken contents) t fresh)))
+          let same : unlocking.NoSpaceLeft taken (length contents) ≡ e = cc was in
+          from_to (P e) t (written path (take taken contents) t) new h.after
+          (subst (λ e'. P e' t (written path (take taken contents) t)) same
+          (short t (written path (take taken contents) t) taken (ltb-true taken (length contents) less) (written-fresh path contents (take taken contents) t fresh)))
       | false ↦ λ less was. cc was
     ] refl is
 write-cases P path contents (Some t) new (Err Failed) e fresh h is short stays =
@@ -173,12 +181,13 @@ write-whole path contents old new before now (Ok taken) u h counts is =
     (new ≡ option_map (written path contents) old) × (now ≡ before)) [
       | true ↦ λ less was. cc was
       | false ↦ λ less was.
-        let ge : length contents ≤ taken = ge_from_false taken (length contents) less in
-        (h.after ∙ ap (λ bytes. option_map (written path bytes) old) (take_all taken contents ge), counts.2 (omega (arith, counts.0, ge)))
+          let ge : length contents ≤ taken = ge_from_false taken (length contents) less in
+          (h.after ∙ ap (λ bytes. option_map (written path bytes) old) (take_all taken contents ge), counts.2 (omega (arith, counts.0, ge)))
     ] refl is
   where
     no_less : (a b : ℕ) → nat_lt a b ≡ false → a < b → ⊥
     no_less a b less lt = let t : nat_lt a b ≡ true = lt-ltb a b lt in cc (t, less)
+
     ge_from_false : (a b : ℕ) → nat_lt a b ≡ false → b ≤ a
     ge_from_false a b less = ⊎_elim (λ (lt : a < b). absurd (no_less a b less lt)) (λ (ge : b ≤ a). ge) (cases_lt a b)
 write-whole path contents old new before now (Err Failed) u h counts is = cc is

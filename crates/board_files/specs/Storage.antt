@@ -2,6 +2,7 @@
 use Rattle.std.specs.Prelude.{◌≡◌, ◌≢◌, ◌⊎◌, ℕ, ◌<◌, ◌==◌, List, [], ◌∷◌, ◌++◌, length, take, drop, min, Bool, true, false, nat_lt, not, is_some, slice_get, Option, option_map, Some, None, ⊤, IsTrue, Result, Ok, Err, IfSome, IsSomeAnd, IsErrOf, OnOk, OnErr, if◌then◌else◌}
 use Rattle.std.specs.List.{filter}
 use Rattle.std.specs.Map.{keys_of}
+use Rattle.board_layout.specs.Answer.{with_value}
 use Rattle.board_names.specs.Configuration.{full_name}
 use Rattle.board_names.specs.Table.{at, taking}
 use Rattle.board_names.specs.declared.configuration.Configuration.{Configuration}
@@ -49,14 +50,9 @@ abbrev pub length_seen : Option File → Result ℕ StaticStorageOpenError
 length_seen None = Err DoesNotExist
 length_seen (Some file) = if file.is_final then Ok (length file.bytes) else Err InitializationNotYetFinalized
 
-abbrev pub storage_seen : List ℕ → Option File → Result FileStorage StaticStorageOpenError
-storage_seen name None = Err DoesNotExist
-storage_seen name (Some file) =
-    if file.is_final then Ok (storage_of name (length file.bytes)) else Err InitializationNotYetFinalized
-
 -- what `open` answers of these files
 abbrev pub open_answer : Configuration → List ℕ → Held → Result FileStorage StaticStorageOpenError
-open_answer cfg name files = storage_seen name (at files (full_name cfg name))
+open_answer cfg name files = with_value (storage_of name) (length_seen (at files (full_name cfg name)))
 
 -- what `read` of a storage of `len` bytes answers, by how many bytes were found
 abbrev pub found_answer : ℕ → ℕ → Result (Unit {0}) StaticStorageReadError

@@ -36,7 +36,7 @@ impl FileLocked {
         ensures ok { IfOk result (λ locked. locked ≡ locked_of name.now) }
         ensures answer { IfSome (F.told files.old) (λ t.
             AnswersOr result Creation OutOfMemory (create_answer cfg.now name.now t.files)) }
-        ensures locked { FromTo (F.told files.old) (F.told files.new) (λ t u.
+        ensures locked { IfSome (F.told files.new) (λ u.
             OnOk result (IsFresh (full_name cfg.now name.now) u.files)) }
         ensures err { OnErr result (F.told files.new ≡ F.told files.old) }
         ensures stop { FromTo (F.told files.old) (F.told files.new) (λ t u.

@@ -1,24 +1,19 @@
 //! A static storage over files that has its bytes.
 ghost use Rattle.std.specs.Prelude.{◌≡◌, ◌≢◌, ℕ, ◌<◌, ◌≤◌, ◌↔◌, ◌++◌, List, [], length, take, drop, is_some, Result, Ok, IfSome, IfOk, IsErrOf, IsSomeAnd, OnOk, OnErr};
-ghost use Rattle.std.specs.Map.{keys_of};
 ghost use Rattle.board_names.specs.Configuration.{full_name};
-ghost use Rattle.board_names.specs.Extraction.{Lists, FullNamesAscend};
 ghost use Rattle.board_names.specs.Table.{at, IsFree};
-ghost use Rattle.board_names.specs.declared.errors.concept.NamedConceptListError.TheVariants.{InternalError as NotListed, OutOfMemory as NoMemoryToList};
 ghost use Rattle.board_names.specs.declared.errors.concept.NamedConceptRemoveError.TheVariants.{InternalError as NotRemoved, OutOfMemory as NoMemoryToRemove};
 ghost use Rattle.board_names.specs.declared.errors.static_storage.StaticStorageOpenError.TheVariants.{Read, OutOfMemory as NoMemoryToOpen};
 ghost use Rattle.board_names.specs.declared.errors.static_storage.StaticStorageReadError.TheVariants.{ReadError, OutOfMemory as NoMemoryToRead, BufferTooSmall, StaticStorageWasModified};
-ghost use Rattle.board_layout.specs.Answer.{with_value};
-ghost use Rattle.board_files.specs.Files.{removed, AreListed};
-ghost use Rattle.board_files.specs.Storage.{AnswersOr, TellsFault, FromTo, storage_of, open_answer, length_seen, read_answer, final_names, name_and_final};
-ghost use Rattle.board_files.specs.Told.{look_told, size_told, read_told, remove_told, list_told, is_yes};
+ghost use Rattle.board_files.specs.Files.{removed};
+ghost use Rattle.board_files.specs.Storage.{AnswersOr, TellsFault, FromTo, storage_of, open_answer, length_seen, read_answer};
+ghost use Rattle.board_files.specs.Told.{look_told, size_told, read_told, remove_told};
 
 use crate::files::{Files, FilesError};
 use board_names::{
-    Configuration, FileName, FilePath, NamedConceptConfiguration, NamedConceptListError,
-    NamedConceptRemoveError, StaticStorageOpenError, StaticStorageReadError,
+    Configuration, FileName, FilePath, NamedConceptConfiguration, NamedConceptRemoveError,
+    StaticStorageOpenError, StaticStorageReadError,
 };
-use std::alloc::Global;
 
 /// A static storage over files that has its bytes: its file was final when it was unlocked or opened.
 #[derive(Clone, Copy, Debug, PartialEq, Eq)]
@@ -108,39 +103,6 @@ impl FileStorage {
         let had = files.remove(&cfg.path_for(name));
         removal(had)
     }
-
-    /// The names of the storages that have their bytes, each once, in the order of full names.
-    ///
-    /// # Errors
-    /// `InternalError` where the files failed; `OutOfMemory`.
-    pub fn list<F: Files>(
-        alloc: Global,
-        files: &mut F,
-        cfg: &Configuration,
-    ) -> Result<Vec<FileName>, NamedConceptListError>
-        ensures names { IfSome (F.told files.old) (λ t.
-            IfOk result (λ names. Lists cfg.now (final_names t.files) names.items)) }
-        ensures ascend { IfSome (F.told files.old) (λ t.
-            IfOk result (λ names. FullNamesAscend cfg.now names.items)) }
-        ensures stays { F.told files.new ≡ F.told files.old }
-        ensures fault { TellsFault NotListed (F.counts files.old).faults (F.counts files.new).faults result }
-        ensures short { (F.counts files.new).short_writes ≡ (F.counts files.old).short_writes }
-    {
-        let mut names = Vec::new(alloc);
-        for index in 0..usize::MAX {
-            let Some((path, is_final)) = file_at(files, index)? else {
-                return Ok(names);
-            };
-            if is_final {
-                if let Some(name) = cfg.extract_name_from_path(&path) {
-                    if names.push(name).is_err() {
-                        return Err(NamedConceptListError::OutOfMemory);
-                    }
-                }
-            }
-        }
-        Ok(names)
-    }
 }
 
 /// The length of a final file, by one look.
@@ -172,50 +134,6 @@ fn poll<F: Files>(files: &mut F, path: &FilePath, polls: u32) -> Result<u64, Sta
         }
     }
     look(files, path)
-}
-
-/// The full name at an index, and whether its file is final. A file that went meanwhile counts as not final.
-fn file_at<F: Files>(
-    files: &mut F,
-    index: usize,
-) -> Result<Option<(FilePath, bool)>, NamedConceptListError>
-    ensures answer { IfSome (F.told files.old) (λ t. IfOk result (λ one. one ≡ name_and_final t.files index)) }
-    ensures listed { IfSome (F.told files.old) (λ t. AreListed t.files) }
-    ensures stays { F.told files.new ≡ F.told files.old }
-    ensures fault { TellsFault NotListed (F.counts files.old).faults (F.counts files.new).faults result }
-    ensures short { (F.counts files.new).short_writes ≡ (F.counts files.old).short_writes }
-{
-    let name = files.name_at(index);
-    let Some(path) = listed_name(name)? else {
-        return Ok(None);
-    };
-    let seen = files.is_final(&path);
-    let is_final = listed_final(seen)?;
-    Ok(Some((path, is_final)))
-}
-
-/// The name that files gave, as `list` hands it on.
-fn listed_name(
-    name: Result<Option<FilePath>, FilesError>,
-) -> Result<Option<FilePath>, NamedConceptListError>
-    ensures { result ≡ list_told name }
-{
-    match name {
-        Ok(name) => Ok(name),
-        Err(FilesError::Failed) => Err(NamedConceptListError::InternalError),
-        Err(FilesError::OutOfMemory) => Err(NamedConceptListError::OutOfMemory),
-    }
-}
-
-/// Whether files showed a final file, as `list` hands it on.
-fn listed_final(seen: Result<Option<bool>, FilesError>) -> Result<bool, NamedConceptListError>
-    ensures { result ≡ with_value is_yes (list_told seen) }
-{
-    match seen {
-        Ok(seen) => Ok(seen == Some(true)),
-        Err(FilesError::Failed) => Err(NamedConceptListError::InternalError),
-        Err(FilesError::OutOfMemory) => Err(NamedConceptListError::OutOfMemory),
-    }
 }
 
 /// Whether a file was seen to be final, as `open` answers it.

@@ -1,5 +1,6 @@
 //! Files in memory.
 ghost use Rattle.std.specs.Prelude.{◌≡◌, ℕ, ◌+◌, ◌-◌, ◌^◌, ◌<◌, ◌≤◌, ◌⊎◌, ◌↔◌, List, [], length, min, true, false, is_some, Some, Option, IfOk, IsOkUnless, IsErrOf, OnOk, OnErr, IsTrue};
+ghost use Rattle.std.specs.Option.{option_copied};
 ghost use Rattle.board_names.specs.Table.{at, IsFree};
 ghost use Rattle.board_files.specs.Files.{Creates, Writes, Finalizes, LooksAt, Measures, ReadsFile, FillsFront, Removes, TellsName, HasRisen, CountsCall, CountsWrite};
 ghost use Rattle.board_files.specs.Changes.{told_after, stopped_at};
@@ -99,11 +100,11 @@ impl MemoryFiles {
     }
 
     /// What the next call is to take, where it is listed.
-    fn planned(&self) -> Option<(u64, usize)>
-        ensures { result ≡ planned_next self.now }
+    fn planned(&self) -> Option<&(u64, usize)>
+        ensures { option_copied result ≡ planned_next self.now }
     {
         let call = self.calls;
-        self.short.iter().find(|short| short.0 == call).copied()
+        self.short.iter().find(|short| short.0 == call)
     }
 }
 

@@ -20,7 +20,7 @@ returns-clause-locked g c =
     let new = g.F.Files.told c.create_exclusive-made.new.self in
     let path = full_name c.args.cfg.now c.args.name.now in
     let creates = subst (λ p. Creates p old new c.create_exclusive-made.result) c.path_for.ensures c.create_exclusive-made.ensures.files in
-    subst (λ r. FromTo old new (λ t u. OnOk r (IsFresh path u.files))) (sym c.lock_made.ensures)
+    subst (λ r. IfSome new (λ u. OnOk r (IsFresh path u.files))) (sym c.lock_made.ensures)
     (create-locked c.args.name.now path old new c.create_exclusive-made.result creates)
 
 pub returns-clause-stop : goal.returns-clause-stop
