@@ -1,0 +1,6 @@
+pub mod ChangeLemmas
+pub mod CountLemmas
+pub mod FileLemmas
+pub mod LifeLemmas
+pub mod LockLemmas
+pub mod ReadLemmas

@@ -1,0 +1,5 @@
+pub mod Files
+pub mod Changes
+pub mod Memory
+pub mod Storage
+pub mod Told
