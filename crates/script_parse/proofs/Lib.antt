@@ -2,3 +2,4 @@ pub mod Digits
 pub mod EntryLemmas
 pub mod PartLemmas
 pub mod TokenLemmas
+pub mod KeptLemmas

@@ -1,13 +1,16 @@
 //! Calls, from their tokens.
-ghost use Rattle.std.specs.Prelude.{◌≡◌, IfOk};
-ghost use Rattle.script_grammar.specs.LineReading.{read_call, read_create, read_entry_parts, read_fill, read_get, read_name_if_any, read_named_call, read_one_name, read_open, read_plain_call, read_put, read_two_names, read_update};
+ghost use Rattle.std.specs.Prelude.{◌≡◌, true, is_some, IfOk, OnErr};
+ghost use Rattle.script_grammar.specs.LineReading.{read_call, read_create, read_entry_parts, read_fill, read_get, read_name_if_any, read_needs, read_named_call, read_one_name, read_open, read_plain_call, read_put, read_two_names, read_update};
+ghost use Rattle.script_parse.specs.Kept.{is_kept_call, is_read};
+ghost use Rattle.script_parse.specs.Tokens.{left_behind, rest_where};
 
 use crate::atoms::name_of;
 use crate::bytes::is_word;
-use crate::options::{attributes_of, needs_of};
+use crate::options::{attributes_of, needs_of, skip_parts};
 use crate::tokens::Tokens;
-use crate::values::entries_of;
-use board_model::{Call, Key, LongName, Name, ValueType};
+use crate::values::{are_entries, entries_of};
+use board_layout::Text;
+use board_model::{Attribute, Call, Key, LongName, Name, ValueType};
 use std::alloc::{AllocError, Global};
 
 // A single name and no more.
@@ -192,8 +195,22 @@ fn plain_call_of(word: &[u8], tokens: &mut Tokens) -> Option<Call>
     named_call_of(word, tokens)
 }
 
+// Whether a `create` stands here. Takes no memory.
 #[tactic(auto, unfolding(script_grammar::specs::LineReading::read_create))]
-fn create_of(alloc: Global, tokens: &mut Tokens) -> Result<Option<Call>, AllocError>
+fn is_create(tokens: &mut Tokens) -> bool
+    ensures { result ≡ is_some (read_create tokens.old) }
+{
+    if tokens.board().is_none() {
+        return false;
+    }
+    if !skip_parts::<Attribute>(b"attr", tokens) {
+        return false;
+    }
+    are_entries(tokens)
+}
+
+#[tactic(auto, unfolding(script_grammar::specs::LineReading::read_create))]
+fn collect_create(alloc: Global, tokens: &mut Tokens) -> Result<Option<Call>, AllocError>
     ensures { IfOk result (λ o. o ≡ read_create tokens.old) }
 {
     let Some((factory, name, key_type, limits)) = tokens.board() else {
@@ -215,8 +232,50 @@ fn create_of(alloc: Global, tokens: &mut Tokens) -> Result<Option<Call>, AllocEr
     }))
 }
 
+// Where memory is refused in the midst of it, what is left is looked at all the same: a line outside the grammar wants none.
+fn create_of(alloc: Global, tokens: &mut Tokens) -> Result<Option<Call>, AllocError>
+    ensures read { IfOk result (λ o. o ≡ read_create tokens.old) }
+    ensures memory { OnErr result (is_read is_kept_call (read_create tokens.old) ≡ true) }
+{
+    let mut again = tokens.again();
+    match collect_create(alloc, tokens) {
+        Ok(call) => Ok(call),
+        Err(error) => {
+            if is_create(&mut again) {
+                return Err(error);
+            }
+            Ok(None)
+        }
+    }
+}
+
+// Passes over what an opener needs. Takes no memory.
+#[tactic(auto, unfolding(script_grammar::specs::LineReading::read_needs))]
+fn skip_needs(tokens: &mut Tokens) -> bool
+    ensures { rest_where result tokens.new ≡ left_behind (read_needs tokens.old) }
+{
+    if !skip_parts::<Attribute>(b"need", tokens) {
+        return false;
+    }
+    skip_parts::<Text<64>>(b"needkey", tokens)
+}
+
+// Whether an `open` stands here. Takes no memory.
 #[tactic(auto, unfolding(script_grammar::specs::LineReading::read_open))]
-fn open_of(alloc: Global, tokens: &mut Tokens) -> Result<Option<Call>, AllocError>
+fn is_open(tokens: &mut Tokens) -> bool
+    ensures { result ≡ is_some (read_open tokens.old) }
+{
+    if tokens.board().is_none() {
+        return false;
+    }
+    if !skip_needs(tokens) {
+        return false;
+    }
+    tokens.is_end()
+}
+
+#[tactic(auto, unfolding(script_grammar::specs::LineReading::read_open))]
+fn collect_open(alloc: Global, tokens: &mut Tokens) -> Result<Option<Call>, AllocError>
     ensures { IfOk result (λ o. o ≡ read_open tokens.old) }
 {
     let Some((factory, name, key_type, limits)) = tokens.board() else {
@@ -237,10 +296,28 @@ fn open_of(alloc: Global, tokens: &mut Tokens) -> Result<Option<Call>, AllocErro
     }))
 }
 
+// The same as for a `create`.
+fn open_of(alloc: Global, tokens: &mut Tokens) -> Result<Option<Call>, AllocError>
+    ensures read { IfOk result (λ o. o ≡ read_open tokens.old) }
+    ensures memory { OnErr result (is_read is_kept_call (read_open tokens.old) ≡ true) }
+{
+    let mut again = tokens.again();
+    match collect_open(alloc, tokens) {
+        Ok(call) => Ok(call),
+        Err(error) => {
+            if is_open(&mut again) {
+                return Err(error);
+            }
+            Ok(None)
+        }
+    }
+}
+
 // A call, by its word.
 #[tactic(auto, unfolding(script_grammar::specs::LineReading::read_call))]
 pub(crate) fn call_of(alloc: Global, tokens: &mut Tokens) -> Result<Option<Call>, AllocError>
-    ensures { IfOk result (λ o. o ≡ read_call tokens.old) }
+    ensures read { IfOk result (λ o. o ≡ read_call tokens.old) }
+    ensures memory { OnErr result (is_read is_kept_call (read_call tokens.old) ≡ true) }
 {
     let Some(word) = tokens.next() else {
         return Ok(None);

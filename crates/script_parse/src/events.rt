@@ -1,8 +1,9 @@
 //! Lines of events, from their tokens.
-ghost use Rattle.std.specs.Prelude.{◌≡◌, IfOk};
+ghost use Rattle.std.specs.Prelude.{◌≡◌, true, IfOk, OnErr};
 ghost use Rattle.std.specs.List.{list_all};
 ghost use Rattle.script_grammar.specs.TokenReading.{first_by};
 ghost use Rattle.script_grammar.specs.EventReading.{read_count, read_event_begin, read_event_line, read_event_name, read_expire, read_kind, read_listen, read_max, read_mode, read_notifier, read_notify, read_port, read_request, read_wait};
+ghost use Rattle.script_parse.specs.Kept.{is_kept_line, is_kept_request, is_read};
 ghost use Rattle.script_parse.specs.Tokens.{with_rest};
 ghost use Rattle.script_model.specs.ScriptGrammar.{is_event_byte, is_event_name};
 
@@ -131,7 +132,8 @@ impl<'a> Tokens<'a> {
 
 #[tactic(auto, unfolding(script_grammar::specs::EventReading::read_listen, script_grammar::specs::EventReading::read_listener))]
 fn listen_of(alloc: Global, tokens: &mut Tokens) -> Result<Option<EventRequest>, AllocError>
-    ensures { IfOk result (λ o. o ≡ read_listen tokens.old) }
+    ensures read { IfOk result (λ o. o ≡ read_listen tokens.old) }
+    ensures memory { OnErr result (is_read is_kept_request (read_listen tokens.old) ≡ true) }
 {
     let Some((listener, kind, event)) = tokens.port() else {
         return Ok(None);
@@ -164,7 +166,8 @@ fn listen_of(alloc: Global, tokens: &mut Tokens) -> Result<Option<EventRequest>,
 
 #[tactic(auto, unfolding(script_grammar::specs::EventReading::read_notifier))]
 fn notifier_of(alloc: Global, tokens: &mut Tokens) -> Result<Option<EventRequest>, AllocError>
-    ensures { IfOk result (λ o. o ≡ read_notifier tokens.old) }
+    ensures read { IfOk result (λ o. o ≡ read_notifier tokens.old) }
+    ensures memory { OnErr result (is_read is_kept_request (read_notifier tokens.old) ≡ true) }
 {
     let Some((notifier, kind, event)) = tokens.port() else {
         return Ok(None);
@@ -206,7 +209,8 @@ fn wait_of(tokens: &mut Tokens) -> Option<EventRequest>
 
 #[tactic(auto, unfolding(script_grammar::specs::EventReading::read_request))]
 fn request_of(alloc: Global, tokens: &mut Tokens) -> Result<Option<EventRequest>, AllocError>
-    ensures { IfOk result (λ o. o ≡ read_request tokens.old) }
+    ensures read { IfOk result (λ o. o ≡ read_request tokens.old) }
+    ensures memory { OnErr result (is_read is_kept_request (read_request tokens.old) ≡ true) }
 {
     let Some(word) = tokens.next() else {
         return Ok(None);
@@ -228,7 +232,8 @@ fn request_of(alloc: Global, tokens: &mut Tokens) -> Result<Option<EventRequest>
 
 #[tactic(auto, unfolding(script_grammar::specs::EventReading::read_event_begin))]
 fn event_begin_of(alloc: Global, tokens: &mut Tokens) -> Result<Option<ScriptLine>, AllocError>
-    ensures { IfOk result (λ o. o ≡ read_event_begin tokens.old) }
+    ensures read { IfOk result (λ o. o ≡ read_event_begin tokens.old) }
+    ensures memory { OnErr result (is_read is_kept_line (read_event_begin tokens.old) ≡ true) }
 {
     let Some(party) = tokens.name() else {
         return Ok(None);
@@ -253,7 +258,8 @@ pub(crate) fn event_line_of(
     alloc: Global,
     tokens: &mut Tokens,
 ) -> Result<Option<ScriptLine>, AllocError>
-    ensures { IfOk result (λ o. o ≡ read_event_line tokens.old) }
+    ensures read { IfOk result (λ o. o ≡ read_event_line tokens.old) }
+    ensures memory { OnErr result (is_read is_kept_line (read_event_line tokens.old) ≡ true) }
 {
     let Some(word) = tokens.next() else {
         return Ok(None);

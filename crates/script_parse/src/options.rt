@@ -3,7 +3,7 @@ ghost use Rattle.std.specs.Prelude.{◌≡◌, ℕ, IfOk, List, Option};
 ghost use Rattle.std.specs.Option.{option_map};
 ghost use Rattle.script_grammar.specs.LineReading.{read_board, read_limit, read_limits, read_needs, read_pair, read_parts};
 ghost use Rattle.script_grammar.specs.TokenReading.{first_by, read_attribute_key};
-ghost use Rattle.script_parse.specs.Tokens.{with_rest};
+ghost use Rattle.script_parse.specs.Tokens.{left_behind, rest_where, with_rest};
 
 use crate::tokens::Tokens;
 use board_layout::Text;
@@ -60,7 +60,7 @@ impl<'a> Tokens<'a> {
 }
 
 // A part of a call that may come many times, each time behind its word.
-trait Part: Copy {
+pub(crate) trait Part: Copy {
     ghost read: { List (List ℕ) → Option (Self × List (List ℕ)) };
 
     fn take(tokens: &mut Tokens) -> Option<Self>
@@ -103,6 +103,22 @@ fn parts_of<P: Part>(
         parts.push(part)?;
     }
     Ok(Some(parts))
+}
+
+// Passes over the parts behind this word, as far as they are parts. Takes no memory.
+pub(crate) fn skip_parts<P: Part>(word: &[u8], tokens: &mut Tokens) -> bool
+    ensures { rest_where result tokens.new
+        ≡ left_behind (read_parts 8 word.now P.read tokens.old) }
+{
+    for _n in 0..MOST_PARTS {
+        if !tokens.take_word(word) {
+            return true;
+        }
+        if P::take(tokens).is_none() {
+            return false;
+        }
+    }
+    true
 }
 
 // The pairs of attributes, each behind the word.

@@ -1,10 +1,11 @@
 //! Lines, from their bytes.
-ghost use Rattle.std.specs.Prelude.{◌≡◌, IfNone, IfOk, IfSome};
+ghost use Rattle.std.specs.Prelude.{◌≡◌, true, IfNone, IfOk, IfSome, OnErr};
 ghost use Rattle.script_grammar.specs.LineReading.{read_begin, read_line, read_plain_line, read_words};
 ghost use Rattle.script_grammar.specs.TokenReading.{split_tokens};
 ghost use Rattle.script_grammar.specs.EventReading.{read_script_line};
 ghost use Rattle.script_model.specs.declared.line.ScriptLine.{ScriptLine};
 ghost use Rattle.script_model.specs.ScriptGrammar.{SpellsLine};
+ghost use Rattle.script_parse.specs.Kept.{SpellsKept, is_kept_board_line, is_kept_line, is_read};
 
 use crate::bytes::is_word;
 use crate::calls::{call_of, one_name, two_names};
@@ -19,7 +20,8 @@ const MOST_BYTES: usize = 4096;
 
 #[tactic(auto, unfolding(script_grammar::specs::LineReading::read_begin))]
 fn begin_of(alloc: Global, tokens: &mut Tokens) -> Result<Option<Line>, AllocError>
-    ensures { IfOk result (λ o. o ≡ read_begin tokens.old) }
+    ensures read { IfOk result (λ o. o ≡ read_begin tokens.old) }
+    ensures memory { OnErr result (is_read is_kept_board_line (read_begin tokens.old) ≡ true) }
 {
     let Some(party) = tokens.name() else {
         return Ok(None);
@@ -65,7 +67,8 @@ fn plain_line_of(word: &[u8], tokens: &mut Tokens) -> Option<Line>
 // The board line that these tokens make.
 #[tactic(auto, unfolding(script_grammar::specs::LineReading::read_line))]
 fn line_of(alloc: Global, tokens: &mut Tokens) -> Result<Option<Line>, AllocError>
-    ensures { IfOk result (λ o. o ≡ read_line tokens.old) }
+    ensures read { IfOk result (λ o. o ≡ read_line tokens.old) }
+    ensures memory { OnErr result (is_read is_kept_board_line (read_line tokens.old) ≡ true) }
 {
     let Some(word) = tokens.next() else {
         return Ok(None);
@@ -79,7 +82,9 @@ fn line_of(alloc: Global, tokens: &mut Tokens) -> Result<Option<Line>, AllocErro
 // The line of a script that these bytes make, which may be longer than a line.
 #[tactic(auto, unfolding(script_grammar::specs::EventReading::read_script_line, script_grammar::specs::EventReading::board_line_first))]
 fn script_line_of(alloc: Global, bytes: &[u8]) -> Result<Option<ScriptLine>, AllocError>
-    ensures { IfOk result (λ o. o ≡ read_script_line (split_tokens bytes.now)) }
+    ensures read { IfOk result (λ o. o ≡ read_script_line (split_tokens bytes.now)) }
+    ensures memory { OnErr result (is_read is_kept_line
+        (read_script_line (split_tokens bytes.now)) ≡ true) }
 {
     if let Some(line) = line_of(alloc, &mut Tokens::between(bytes, b' '))? {
         return Ok(Some(ScriptLine::Board(line)));
@@ -91,10 +96,11 @@ fn script_line_of(alloc: Global, bytes: &[u8]) -> Result<Option<ScriptLine>, All
 /// Memory is taken for the names of boards and events, the entries and attributes of a `create` and the needs of an `open` alone.
 ///
 /// # Errors
-/// `AllocError` where memory is refused.
+/// `AllocError` where memory is refused, and the bytes spell a line with the name of a board or an event.
 pub fn parse_line(alloc: Global, bytes: &[u8]) -> Result<Option<ScriptLine>, AllocError>
     ensures found { IfOk result (λ o. IfSome o (λ l. SpellsLine bytes.now l)) }
     ensures only { IfOk result (λ o. IfNone o ((l : ScriptLine) → SpellsLine bytes.now l → ⊥)) }
+    ensures memory { OnErr result (SpellsKept bytes.now) }
 {
     if bytes.len() > MOST_BYTES {
         return Ok(None);

@@ -50,6 +50,16 @@ impl<'a> Tokens<'a> {
         }
     }
 
+    // The same parts, to be taken once more.
+    pub(crate) fn again(&self) -> Tokens<'a>
+        ensures { result ≡ self.now }
+    {
+        Tokens {
+            rest: self.rest,
+            separator: self.separator,
+        }
+    }
+
     // Takes the first part.
     pub(crate) fn next(&mut self) -> Option<&'a [u8]>
         ensures { MatchOption result (self.old ≡ []) (λ token. self.old ≡ token.now ∷ self.new) }

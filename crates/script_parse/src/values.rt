@@ -1,6 +1,6 @@
 //! Values and added entries, from their tokens.
 ghost use Rattle.std.specs.Prelude.{◌≡◌, IfOk};
-ghost use Rattle.std.specs.Option.{option_map};
+ghost use Rattle.std.specs.Option.{is_some, option_map};
 ghost use Rattle.script_grammar.specs.LineReading.{read_entries, read_entry};
 ghost use Rattle.script_grammar.specs.TokenReading.{first_by, read_four, read_value};
 ghost use Rattle.script_parse.specs.Tokens.{with_rest};
@@ -81,4 +81,22 @@ pub(crate) fn entries_of(
         entries.push(AddedEntry { key, value })?;
     }
     Ok(Some(AddedEntries::from_vec(entries)))
+}
+
+// Whether entries are left, and nothing else. Takes no memory.
+pub(crate) fn are_entries(tokens: &mut Tokens) -> bool
+    ensures { result ≡ is_some (read_entries tokens.old) }
+{
+    while let Some(word) = tokens.next() {
+        let Some(key) = tokens.next() else {
+            return false;
+        };
+        let Some(value) = tokens.next() else {
+            return false;
+        };
+        if entry_of(word, key, value).is_none() {
+            return false;
+        }
+    }
+    true
 }
