@@ -14,7 +14,7 @@ use Rattle.board_model.specs.declared.line.Call.{Call}
 use Rattle.board_model.specs.declared.line.Call.TheVariants as call
 use Rattle.board_model.specs.declared.line.Line.{Line}
 use Rattle.board_model.specs.declared.line.Line.TheVariants as line
-use Rattle.board_model.specs.declared.tables.Limits.{Limits}
+use Rattle.board_model.specs.declared.tables.NewLimits.{NewLimits}
 use Rattle.board_model.specs.declared.value.AddedEntry.{AddedEntry}
 use Rattle.board_model.specs.declared.value.Key.{Key}
 use Rattle.board_model.specs.declared.value.Key.TheVariants as key
@@ -52,8 +52,8 @@ abbrev pub refused : Line → Reason → Line × Answer
 refused l why = (l, answer.Refused why)
 
 -- neither limit is set
-abbrev pub no_limits : Limits
-no_limits = record { max_readers = None; max_nodes = None }
+abbrev pub no_limits : NewLimits
+no_limits = record { shared = record { max_readers = None; max_nodes = None }; max_writers = None }
 
 -- nothing is asked of the board's attributes
 abbrev pub no_needs : Requirements

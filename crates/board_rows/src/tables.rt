@@ -157,7 +157,7 @@ const ROWS: [Row; 9] = [
             ("begin b info f", "ok"),
             (
                 "step b",
-                "table = info b u64 readers 8 nodes 20 entries 1 attrs 0 taken 1 1 2",
+                "table = info b u64 readers 8 nodes 20 writers 1 entries 1 attrs 0 taken 1 1 2",
             ),
             ("begin b nodes f", "ok"),
             ("step b", "table = nodes a b"),

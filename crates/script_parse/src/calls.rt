@@ -7,7 +7,7 @@ use crate::bytes::is_word;
 use crate::options::{attributes_of, needs_of};
 use crate::tokens::Tokens;
 use crate::values::entries_of;
-use board_model::{Call, Key, LongName, Name, ValueType};
+use board_model::{Call, Key, LongName, Name, NewLimits, ValueType};
 use std::alloc::{AllocError, Global};
 
 // A single name and no more.
@@ -196,7 +196,10 @@ fn plain_call_of(word: &[u8], tokens: &mut Tokens) -> Option<Call>
 fn create_of(alloc: Global, tokens: &mut Tokens) -> Result<Option<Call>, AllocError>
     ensures { IfOk result (λ o. o ≡ read_create tokens.old) }
 {
-    let Some((factory, name, key_type, limits)) = tokens.board() else {
+    let Some((factory, name, key_type, shared)) = tokens.board() else {
+        return Ok(None);
+    };
+    let Some(max_writers) = tokens.limit(b"writers") else {
         return Ok(None);
     };
     let Some(attributes) = attributes_of(alloc, b"attr", tokens)? else {
@@ -209,7 +212,10 @@ fn create_of(alloc: Global, tokens: &mut Tokens) -> Result<Option<Call>, AllocEr
         factory,
         name: LongName::new(alloc, name)?,
         key_type,
-        limits,
+        limits: NewLimits {
+            shared,
+            max_writers,
+        },
         attributes,
         entries,
     }))
