@@ -70,7 +70,7 @@ fn write(alloc: Global, value: &Description) -> Result<Vec<u8>, AllocError>
     ensures { IfOk result (λ bytes. SpelledDescription value.now bytes.items) }
 {
     let mut out = Vec::new(alloc);
-    put_number(&mut out, u64::from(value.version))?;
+    put_number(&mut out, value.version as u64)?;
     put_text(&mut out, value.name.as_bytes())?;
     put_type(&mut out, &value.key)?;
     put_number(&mut out, value.max_readers)?;
