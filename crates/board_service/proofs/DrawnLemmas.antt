@@ -66,6 +66,15 @@ module _ {A : Type 0} (number : A → ℕ) (has : ℕ → A → Bool) (same : (n
         | false ↦ λ e. rw e (find-without last n xs h.2)
       ] refl
 
+-- without the last, which alone passes the test
+pub without-push : {A : Type 0} (p : A → Bool) (xs : List A) (y : A) → find p xs ≡ None → p y ≡ true → without_first p (xs ++ y ∷ []) ≡ xs
+without-push p [] y none own = rw own refl
+without-push {A = A} p (x ∷ xs) y none own =
+    elim (p x) as (λ c. cond c (there x) (find p xs) ≡ None → cond c (xs ++ y ∷ []) (x ∷ without_first p (xs ++ y ∷ [])) ≡ x ∷ xs) [
+      | true ↦ λ h. absurd cc
+      | false ↦ λ h. ap (λ (zs : List A). x ∷ zs) (without-push p xs y h own)
+    ] none
+
 -- what isn't found isn't found in a part
 pub none_without : {A : Type 0} (p q : A → Bool) (xs : List A) → find p xs ≡ None → find p (without_first q xs) ≡ None
 none_without p q [] free = refl

@@ -165,11 +165,11 @@ tables_more_board t last b x are numbered named of none port = record {
   where
     by_board : (board : ℕ) → is_some (find (is_numbered board) (t.boards ++ b ∷ [])) ≡ (list_any (is_of_board board) t.things || (x.board == board))
     by_board board = elim (x.board == board) as (λ c. (x.board == board) ≡ c → is_some (find (is_numbered board) (t.boards ++ b ∷ [])) ≡ (list_any (is_of_board board) t.things || c)) [
-    | true ↦ λ h.
+      | true ↦ λ h.
         let same : board ≡ t.last_board + 1 = grind (arith, h, of) in
         let none = none_above board_number is_numbered (λ n y. refl) t.last_board board t.boards are.boards (omega (arith, same)) in
         ap (λ (o : Option Board). is_some o) (find-push board_number is_numbered (λ n y. refl) board t.boards b (same ∙ sym numbered) none) ∙ sym (or_true (list_any (is_of_board board) t.things))
-    | false ↦ λ h.
+      | false ↦ λ h.
         let other : board ≢ b.number = λ e. (let c : (x.board == board) ≡ true = grind (arith, e, numbered, of) in absurd cc) in
         ap (λ (o : Option Board). is_some o) (find-push-other board_number is_numbered (λ n y. refl) board t.boards b other) ∙ are.standing board ∙ sym (or_false (list_any (is_of_board board) t.things))
     ] refl

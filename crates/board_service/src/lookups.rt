@@ -1,5 +1,5 @@
 //! What stands in the tables.
-ghost use Rattle.std.specs.Prelude.{◌≡◌, ◌≤◌, ◌<◌, ◌==◌, length, Option, option_map, find, slice_get, remove, Some, OnSome, ◌+◌, MatchOption, IfSome, IfNone, IsSome, nat_le, true};
+ghost use Rattle.std.specs.Prelude.{◌≡◌, ◌≤◌, ◌<◌, ◌==◌, length, Option, option_map, find, slice_get, remove, Some, ◌+◌, MatchOption, IfSome, IsSome, is_some, nat_le, true};
 ghost use Rattle.std.specs.List.{list_any, position_from};
 ghost use Rattle.board_layout.specs.Bytes.{details};
 ghost use Rattle.board_layout.specs.Keys as keys;
@@ -28,8 +28,16 @@ pub(crate) fn board_named<'a>(name: &ServiceName, boards: &'a [BoardRow]) -> Opt
     boards.iter().find(|b| *b.name() == *name)
 }
 
-/// Where the board with the number stands.
+/// Where the board with the number stands, if it does.
 pub(crate) fn place_of_board(number: u64, boards: &[BoardRow]) -> Option<usize>
+    ensures value { result ≡ position_from (tables.is_numbered number) 0 boards.now }
+    ensures stands { is_some result ≡ is_some (find (tables.is_numbered number) boards.now) }
+    ensures inside { IfSome result (λ i. i < length boards.now) }
+{
+    position_of_board(number, boards)
+}
+
+fn position_of_board(number: u64, boards: &[BoardRow]) -> Option<usize>
     ensures { result ≡ position_from (tables.is_numbered number) 0 boards.now }
 {
     for (i, board) in boards.iter().enumerate() {
@@ -93,7 +101,7 @@ pub(crate) fn take_board(number: u64, boards: &mut Vec<BoardRow>) -> usize
     ensures inside { result < length boards.old.items }
     ensures shorter { length boards.new.items + 1 ≡ length boards.old.items }
 {
-    match place_of_board(number, boards) {
+    match position_of_board(number, boards) {
         Some(i) => {
             let _ = boards.remove(i);
             i
