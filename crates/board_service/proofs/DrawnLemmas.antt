@@ -4,7 +4,7 @@ use Rattle.std.specs.Prelude.{find}
 use Rattle.board_model.specs.Tables.{without_first}
 use Rattle.board_service.specs.Facts.{AreDrawn}
 
-abbrev there : {X : Type 0} → X → Option X
+abbrev pub there : {X : Type 0} → X → Option X
 there x = Some x
 
 pub numbered_other : (n m : ℕ) → n ≢ m → (m == n) ≡ false
@@ -65,15 +65,6 @@ module _ {A : Type 0} (number : A → ℕ) (has : ℕ → A → Bool) (same : (n
         | true ↦ λ e. subst (λ z. find (has z) xs ≡ None) (is_own n x e) h.1
         | false ↦ λ e. rw e (find-without last n xs h.2)
       ] refl
-
--- without the last, which alone passes the test
-pub without-push : {A : Type 0} (p : A → Bool) (xs : List A) (y : A) → find p xs ≡ None → p y ≡ true → without_first p (xs ++ y ∷ []) ≡ xs
-without-push p [] y none own = rw own refl
-without-push {A = A} p (x ∷ xs) y none own =
-    elim (p x) as (λ c. cond c (there x) (find p xs) ≡ None → cond c (xs ++ y ∷ []) (x ∷ without_first p (xs ++ y ∷ [])) ≡ x ∷ xs) [
-      | true ↦ λ h. absurd cc
-      | false ↦ λ h. ap (λ (zs : List A). x ∷ zs) (without-push p xs y h own)
-    ] none
 
 -- what isn't found isn't found in a part
 pub none_without : {A : Type 0} (p q : A → Bool) (xs : List A) → find p xs ≡ None → find p (without_first q xs) ≡ None

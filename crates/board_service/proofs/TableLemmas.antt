@@ -145,7 +145,7 @@ tables_more_port t last x are named stands drawn port = record {
   boards = are.boards;
   things = drawn_more thing_number is_thing (λ n y. refl) last t.things x are.things named;
   ports = subst (AreDrawn port_number is_port (t.last_port + 1)) (sym (ports_more t.things x ∙ ap (λ o. ports_of t.things ++ cons_option o []) drawn))
-    (drawn_more port_number is_port (λ n y. refl) t.last_port (ports_of t.things) (t.last_port + 1) are.ports refl);
+      (drawn_more port_number is_port (λ n y. refl) t.last_port (ports_of t.things) (t.last_port + 1) are.ports refl);
   handles = all_more (HasPort (t.last_port + 1)) t.things x (handles_raised t.last_port (t.last_port + 1) t.things (omega arith) are.handles) (omega (arith, port));
   standing = λ board. standing_more t last x are stands board;
 }
@@ -166,12 +166,12 @@ tables_more_board t last b x are numbered named of none port = record {
     by_board : (board : ℕ) → is_some (find (is_numbered board) (t.boards ++ b ∷ [])) ≡ (list_any (is_of_board board) t.things || (x.board == board))
     by_board board = elim (x.board == board) as (λ c. (x.board == board) ≡ c → is_some (find (is_numbered board) (t.boards ++ b ∷ [])) ≡ (list_any (is_of_board board) t.things || c)) [
       | true ↦ λ h.
-        let same : board ≡ t.last_board + 1 = grind (arith, h, of) in
-        let none = none_above board_number is_numbered (λ n y. refl) t.last_board board t.boards are.boards (omega (arith, same)) in
-        ap (λ (o : Option Board). is_some o) (find-push board_number is_numbered (λ n y. refl) board t.boards b (same ∙ sym numbered) none) ∙ sym (or_true (list_any (is_of_board board) t.things))
+          let same : board ≡ t.last_board + 1 = grind (arith, h, of) in
+          let none = none_above board_number is_numbered (λ n y. refl) t.last_board board t.boards are.boards (omega (arith, same)) in
+          ap (λ (o : Option Board). is_some o) (find-push board_number is_numbered (λ n y. refl) board t.boards b (same ∙ sym numbered) none) ∙ sym (or_true (list_any (is_of_board board) t.things))
       | false ↦ λ h.
-        let other : board ≢ b.number = λ e. (let c : (x.board == board) ≡ true = grind (arith, e, numbered, of) in absurd cc) in
-        ap (λ (o : Option Board). is_some o) (find-push-other board_number is_numbered (λ n y. refl) board t.boards b other) ∙ are.standing board ∙ sym (or_false (list_any (is_of_board board) t.things))
+          let other : board ≢ b.number = λ e. (let c : (x.board == board) ≡ true = grind (arith, e, numbered, of) in absurd cc) in
+          ap (λ (o : Option Board). is_some o) (find-push-other board_number is_numbered (λ n y. refl) board t.boards b other) ∙ are.standing board ∙ sym (or_false (list_any (is_of_board board) t.things))
     ] refl
 
 -- ---- one thing less
@@ -186,15 +186,15 @@ tables_less_thing t last n are some kept = record {
   ports = ports_without (is_thing n) t.last_port t.things are.ports;
   handles = all_without (HasPort t.last_port) (is_thing n) t.things are.handles;
   standing = λ board.
-    let of = (thing_numbered n t.things).board in
-    elim (board == of) as (λ c. (board == of) ≡ c → is_some (board_at t board) ≡ list_any (is_of_board board) (without_first (is_thing n) t.things)) [
-      | true ↦ λ h.
-          let same : of ≡ board = grind (arith, h) in
-          subst (λ m. is_some (board_at t m) ≡ list_any (is_of_board m) (without_first (is_thing n) t.things)) same (board_stands t last n are some ∙ sym kept)
-      | false ↦ λ h.
-          let other : board ≢ of = λ e. (let c : (board == of) ≡ true = grind (arith, e) in absurd cc) in
-          are.standing board ∙ sym (any_without (is_of_board board) (is_thing n) t.things (found_of_other n board t.things other))
-    ] refl;
+      let of = (thing_numbered n t.things).board in
+      elim (board == of) as (λ c. (board == of) ≡ c → is_some (board_at t board) ≡ list_any (is_of_board board) (without_first (is_thing n) t.things)) [
+        | true ↦ λ h.
+            let same : of ≡ board = grind (arith, h) in
+            subst (λ m. is_some (board_at t m) ≡ list_any (is_of_board m) (without_first (is_thing n) t.things)) same (board_stands t last n are some ∙ sym kept)
+        | false ↦ λ h.
+            let other : board ≢ of = λ e. (let c : (board == of) ≡ true = grind (arith, e) in absurd cc) in
+            are.standing board ∙ sym (any_without (is_of_board board) (is_thing n) t.things (found_of_other n board t.things other))
+      ] refl;
 }
 
 -- the last thing of its board, which goes with it
@@ -207,15 +207,15 @@ tables_less_board t last n are gone = record {
   ports = ports_without (is_thing n) t.last_port t.things are.ports;
   handles = all_without (HasPort t.last_port) (is_thing n) t.things are.handles;
   standing = λ board.
-    let of = (thing_numbered n t.things).board in
-    elim (board == of) as (λ c. (board == of) ≡ c → is_some (find (is_numbered board) (without_first (is_numbered of) t.boards)) ≡ list_any (is_of_board board) (without_first (is_thing n) t.things)) [
-      | true ↦ λ h.
-          let same : of ≡ board = grind (arith, h) in
-          subst (λ m. is_some (find (is_numbered m) (without_first (is_numbered of) t.boards)) ≡ list_any (is_of_board m) (without_first (is_thing n) t.things)) same
-          (ap (λ (o : Option Board). is_some o) (find-without board_number is_numbered (λ m y. refl) t.last_board of t.boards are.boards) ∙ sym gone)
-      | false ↦ λ h.
-          let other : board ≢ of = λ e. (let c : (board == of) ≡ true = grind (arith, e) in absurd cc) in
-          ap (λ (o : Option Board). is_some o) (find-without-other board_number is_numbered (λ m y. refl) of board t.boards other)
-          ∙ are.standing board ∙ sym (any_without (is_of_board board) (is_thing n) t.things (found_of_other n board t.things other))
-    ] refl;
+      let of = (thing_numbered n t.things).board in
+      elim (board == of) as (λ c. (board == of) ≡ c → is_some (find (is_numbered board) (without_first (is_numbered of) t.boards)) ≡ list_any (is_of_board board) (without_first (is_thing n) t.things)) [
+        | true ↦ λ h.
+            let same : of ≡ board = grind (arith, h) in
+            subst (λ m. is_some (find (is_numbered m) (without_first (is_numbered of) t.boards)) ≡ list_any (is_of_board m) (without_first (is_thing n) t.things)) same
+            (ap (λ (o : Option Board). is_some o) (find-without board_number is_numbered (λ m y. refl) t.last_board of t.boards are.boards) ∙ sym gone)
+        | false ↦ λ h.
+            let other : board ≢ of = λ e. (let c : (board == of) ≡ true = grind (arith, e) in absurd cc) in
+            ap (λ (o : Option Board). is_some o) (find-without-other board_number is_numbered (λ m y. refl) of board t.boards other)
+            ∙ are.standing board ∙ sym (any_without (is_of_board board) (is_thing n) t.things (found_of_other n board t.things other))
+      ] refl;
 }

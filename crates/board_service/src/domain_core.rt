@@ -51,8 +51,8 @@ impl<C: Cells> Model for DomainCore<C> {
     } };
 
     ghost invariant = { λ d. IsCore
-      (record { boards = d.boards.items; things = d.things.items; last_board = d.last_board; last_port = d.last_port })
-      d.last_thing d.cells.items d.descriptions };
+        (record { boards = d.boards.items; things = d.things.items; last_board = d.last_board; last_port = d.last_port })
+        d.last_thing d.cells.items d.descriptions };
 }
 
 impl<C: Cells> DomainCore<C> {

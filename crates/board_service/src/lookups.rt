@@ -208,7 +208,7 @@ pub(crate) fn find_entry<'a, K: BoardKey>(
         (λ b. types.same_type b.key (details K.type_bytes K.SIZE K.ALIGNMENT)) ≡ true }
     ensures { option_map (λ f. (f.0, f.1.now)) result
         ≡ tables.entry_found (find (tables.is_numbered number) boards.now)
-            (keys.is_key K.eq K.value_of K.SIZE K.WORDS key.now) value.now }
+        (keys.is_key K.eq K.value_of K.SIZE K.WORDS key.now) value.now }
 {
     match board_at(number, boards) {
         Some(board) => of_type(value, entry_with::<K>(key, board)),
@@ -221,7 +221,7 @@ fn entry_with<'a, K: BoardKey>(key: &K, board: &'a BoardRow) -> Option<(u64, &'a
     requires { types.same_type board.now.key (details K.type_bytes K.SIZE K.ALIGNMENT) ≡ true }
     ensures { option_map (λ f. (f.0, f.1.now)) result
         ≡ tables.entry_from 0 (keys.is_key K.eq K.value_of K.SIZE K.WORDS key.now)
-            board.now.entries }
+        board.now.entries }
 {
     entry_from::<K>(key, board.entries.as_slice())
 }

@@ -65,7 +65,7 @@ pub(crate) fn create_refusal<K: BoardKey>(
     requires shapes { HaveShapes entries.now }
     ensures first { result ≡ calls.first_of
         (calls.create_refusals (keys.same_keys K.eq K.value_of K.SIZE K.WORDS)
-            boards.now name.now (added entries.now)
+        boards.now name.now (added entries.now)
         ++ (spent last_board || spent last_thing, BlackboardCreateError.NumbersSpent) ∷ []) }
     ensures small { IfNone result (payload_of entries.now < 2 ^ 32) }
     ensures key { IfNone result (K.SIZE ≤ 64) }
@@ -116,7 +116,7 @@ pub(crate) fn open_refusal(
 ) -> Option<BlackboardOpenError>
     ensures first { result ≡ calls.first_of
         (calls.open_refusals nat_eq things.now node
-            (find (tables.has_name name.now) boards.now) key.now limits.now needs.now
+        (find (tables.has_name name.now) boards.now) key.now limits.now needs.now
         ++ (spent last_thing, BlackboardOpenError.NumbersSpent) ∷ []) }
     ensures stands { IfNone result (IsSome (find (tables.has_name name.now) boards.now)) }
     ensures below { IfNone result (last_thing < 2 ^ 64 - 2) }

@@ -75,14 +75,14 @@ impl<C: Cells> DomainCore<C> {
         requires shapes { HaveShapes entries.items }
         ensures answer { Answers result BlackboardCreateError.OutOfMemory
             (domain.create_answer self.old (same_keys K.eq K.value_of K.SIZE K.WORDS)
-                name.now (added entries.items)) }
+            name.now (added entries.items)) }
         ensures refused { Refuses result
             (domain.create_answer self.old (same_keys K.eq K.value_of K.SIZE K.WORDS)
-                name.now (added entries.items)) }
+            name.now (added entries.items)) }
         ensures ok { OnOk result
             (domain.IsCreated C.opened C.words self.old self.new node name.now
-                (details K.type_bytes K.SIZE K.ALIGNMENT) (new_limits limits writers) attributes
-                (added entries.items)) }
+            (details K.type_bytes K.SIZE K.ALIGNMENT) (new_limits limits writers) attributes
+            (added entries.items)) }
         ensures err { OnErr result (self.new ≡ self.old) }
     {
         let wanted = entries.as_slice();

@@ -1,7 +1,7 @@
 //! What a caller knows of a domain that it is lent.
 ghost use Rattle.std.specs.Prelude.{◌≡◌, is_some};
 ghost use Rattle.board_layout.specs.Bytes.{details};
-ghost use Rattle.board_service.specs.Domain.{Stands, stands_as};
+ghost use Rattle.board_service.specs.Domain.{stands_as};
 
 use crate::cells::Cells;
 use crate::domain_core::DomainCore;
@@ -22,19 +22,4 @@ pub(super) fn cells_of<K: BoardKey, C: Cells>(
         return None;
     }
     core.cells(core.board_of(thing))
-}
-
-/// Whether a reader can be made. It goes at once, and leaves the things as they were, since its number was no other's.
-pub(super) fn can_make_reader<C: Cells + Drop>(core: &mut DomainCore<C>, factory: ThingId) -> bool
-    requires { Stands core.old factory }
-    ensures { core.new.tables.things ≡ core.old.tables.things }
-{
-    core.facts();
-    match core.reader(factory) {
-        Ok(made) => {
-            let _ = core.release(made.thing);
-            true
-        }
-        Err(_) => false,
-    }
 }
