@@ -109,14 +109,14 @@ fn writers(version: u32, bytes: &[u8]) -> Option<(u64, &[u8])>
 fn read_front(bytes: &[u8]) -> Option<Front<'_>>
     ensures found { IfSome result (λ f. (a : List Attribute) → SpelledList a f.attributes.now []
         → SpelledDescription (described f.version f.name f.key
-            f.max_readers f.max_nodes f.max_writers a) bytes.now) }
+        f.max_readers f.max_nodes f.max_writers a) bytes.now) }
     ensures rule { IfSome result (λ f. (a : List Attribute) → AreAttributes a
         → IsDescription (described f.version f.name f.key
-            f.max_readers f.max_nodes f.max_writers a)) }
+        f.max_readers f.max_nodes f.max_writers a)) }
     ensures every { (d : Description) (at : Fields) → IsDescription d → SpelledAt d bytes.now at
         → IsSomeAnd result (λ f. (f.attributes.now ≡ at.attributes)
-            × (d ≡ described f.version f.name f.key
-                f.max_readers f.max_nodes f.max_writers d.attributes)) }
+        × (d ≡ described f.version f.name f.key
+        f.max_readers f.max_nodes f.max_writers d.attributes)) }
 {
     let (version, bytes) = number(bytes, 0xFFFF_FFFF)?;
     let (name, bytes) = text(bytes)?;

@@ -172,7 +172,10 @@ const ROWS: [Row; 10] = [
     Row {
         name: "two writers of one board",
         lines: &[
-            ("begin a create f b u64 writers 2 add u64:1 u64:7 add u64:2 u64:8", "ok"),
+            (
+                "begin a create f b u64 writers 2 add u64:1 u64:7 add u64:2 u64:8",
+                "ok",
+            ),
             ("step a", "table = ok 1"),
             ("begin a writer w f", "ok"),
             ("step a", "table = ok 1"),
@@ -181,7 +184,10 @@ const ROWS: [Row; 10] = [
             ("begin b writer x f", "ok"),
             ("step b", "table = ok 2"),
             ("begin b writer y f", "ok"),
-            ("step b", "table = WriterCreateError::ExceedsMaxSupportedWriters"),
+            (
+                "step b",
+                "table = WriterCreateError::ExceedsMaxSupportedWriters",
+            ),
             ("begin a entrymut m w u64:1 u64", "ok"),
             ("step a", "table = ok 0"),
             ("begin b entrymut n x u64:1 u64", "ok"),

@@ -41,7 +41,12 @@ fn a_description_is_thirteen_bytes(rt: HostRuntime) -> Result<(), Fail> {
     assert_eq!(rt; bytes.as_slice(), BYTES.as_slice());
     let read = Recommended::deserialize(rt.alloc(), &bytes)?;
     assert_eq!(rt;
-        (read.version, read.max_readers, read.max_nodes, read.max_writers),
+        (
+            read.version,
+            read.max_readers,
+            read.max_nodes,
+            read.max_writers
+        ),
         (1, 8, 20, 1)
     );
     assert!(rt; read.name == description.name && read.key == description.key);
