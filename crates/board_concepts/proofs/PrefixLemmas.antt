@@ -8,7 +8,7 @@ use Rattle.board_layout.specs.declared.type_detail.TypeVariant.TheVariants as va
 use Rattle.board_model.specs.declared.attributes.Attribute.{Attribute}
 use Rattle.board_concepts.specs.declared.description.Description.{Description}
 use Rattle.board_concepts.specs.Spelling.{Spelled, SpelledText}
-use Rattle.board_concepts.specs.DescriptionSpelling.{SpelledType, SpelledAttribute, SpelledEach, SpelledList, SpelledDescription, IsPrefixFree, variant_number}
+use Rattle.board_concepts.specs.DescriptionSpelling.{SpelledType, SpelledAttribute, SpelledEach, SpelledList, SpelledWriters, SpelledDescription, IsPrefixFree, variant_number}
 
 -- A spelling that begins the bytes `a` is the one that begins `b`, which goes on with `more` behind `a`.
 -- What is behind the one goes on with `more` in what is behind the other.
@@ -78,20 +78,27 @@ same_list xs ys a b more rest other on s v =
     let counts = same_number a b more s.0 v.0 on (length xs) (length ys) s.1 v.1 in
     same_each xs ys s.0 v.0 more rest other counts.0 counts.1 s.2 v.2
 
+same_writers : (v w n m : ℕ) (a b more rest other : List ℕ) → b ≡ a ++ more → v ≡ w → SpelledWriters v n a rest → SpelledWriters w m b other → (n ≡ m) × (other ≡ rest ++ more)
+same_writers v w n m a b more rest other on same (inl x) (inl y) = same_number a b more rest other on n m x.1 y.1
+same_writers v w n m a b more rest other on same (inl x) (inr y) = absurd (omega (arith, same, x.0, y.0))
+same_writers v w n m a b more rest other on same (inr x) (inl y) = absurd (omega (arith, same, x.0, y.0))
+same_writers v w n m a b more rest other on same (inr x) (inr y) = (x.1 ∙ sym y.1, sym y.2 ∙ on ∙ ap (λ l. l ++ more) x.2)
+
 same_fields : (d e : Description) → d.version ≡ e.version → d.name ≡ e.name → d.key ≡ e.key → d.max_readers ≡ e.max_readers → d.max_nodes ≡ e.max_nodes
-    → d.attributes ≡ e.attributes → d ≡ e
-same_fields d e v n k r m a =
-    let same : ◌≡◌ {A = Description} (record { version = d.version; name = d.name; key = d.key; max_readers = d.max_readers; max_nodes = d.max_nodes; attributes = d.attributes })
-    (record { version = e.version; name = e.name; key = e.key; max_readers = e.max_readers; max_nodes = e.max_nodes; attributes = e.attributes }) = rw (v, n, k, r, m, a) refl in
+    → d.max_writers ≡ e.max_writers → d.attributes ≡ e.attributes → d ≡ e
+same_fields d e v n k r m w a =
+    let same : ◌≡◌ {A = Description} (record { version = d.version; name = d.name; key = d.key; max_readers = d.max_readers; max_nodes = d.max_nodes; max_writers = d.max_writers; attributes = d.attributes })
+    (record { version = e.version; name = e.name; key = e.key; max_readers = e.max_readers; max_nodes = e.max_nodes; max_writers = e.max_writers; attributes = e.attributes }) = rw (v, n, k, r, m, w, a) refl in
     same
 
 -- no spelling begins another, and no two descriptions have one spelling
 pub prefix_free : IsPrefixFree SpelledDescription
 prefix_free d e bytes more s v =
-    let versions = same_number bytes (bytes ++ more) more s.0.name v.0.name refl 1 1 s.1.version v.1.version in
+    let versions = same_number bytes (bytes ++ more) more s.0.name v.0.name refl d.version e.version s.1.version v.1.version in
     let names = same_text s.0.name v.0.name more s.0.key v.0.key versions.1 d.name e.name s.1.name v.1.name in
     let keys = same_type d.key e.key s.0.key v.0.key more s.0.max_readers v.0.max_readers names.1 s.1.key v.1.key in
     let readers = same_number s.0.max_readers v.0.max_readers more s.0.max_nodes v.0.max_nodes keys.1 d.max_readers e.max_readers s.1.max_readers v.1.max_readers in
-    let nodes = same_number s.0.max_nodes v.0.max_nodes more s.0.attributes v.0.attributes readers.1 d.max_nodes e.max_nodes s.1.max_nodes v.1.max_nodes in
-    let lists = same_list d.attributes e.attributes s.0.attributes v.0.attributes more [] [] nodes.1 s.1.attributes v.1.attributes in
-    (same_fields d e (s.1.version_is ∙ sym v.1.version_is) names.0 keys.0 readers.0 nodes.0 lists.0, sym lists.1)
+    let nodes = same_number s.0.max_nodes v.0.max_nodes more s.0.max_writers v.0.max_writers readers.1 d.max_nodes e.max_nodes s.1.max_nodes v.1.max_nodes in
+    let writers = same_writers d.version e.version d.max_writers e.max_writers s.0.max_writers v.0.max_writers more s.0.attributes v.0.attributes nodes.1 versions.0 s.1.max_writers v.1.max_writers in
+    let lists = same_list d.attributes e.attributes s.0.attributes v.0.attributes more [] [] writers.1 s.1.attributes v.1.attributes in
+    (same_fields d e versions.0 names.0 keys.0 readers.0 nodes.0 writers.0 lists.0, sym lists.1)

@@ -5,7 +5,7 @@ use Rattle.board_layout.specs.declared.type_detail.TypeDetail.{TypeDetail}
 use Rattle.board_model.specs.declared.attributes.Attribute.{Attribute}
 use Rattle.board_concepts.specs.declared.description.Description.{Description}
 use Rattle.board_concepts.specs.Spelling.{Puts, Spelled, SpelledText}
-use Rattle.board_concepts.specs.DescriptionSpelling.{SpelledAttribute, SpelledEach, SpelledType, SpelledList, SpelledDescription, variant_number}
+use Rattle.board_concepts.specs.DescriptionSpelling.{SpelledAttribute, SpelledEach, SpelledType, SpelledList, SpelledDescription, variant_number, SpelledWriters}
 
 -- two spellings one behind the other are one
 pub puts_then : (R S T : List ℕ → List ℕ → Type 0) (old mid new : List ℕ)
@@ -61,8 +61,11 @@ puts_type t a b c d e variant name size alignment =
     variant names
 
 -- the fields of a description from one on
+abbrev WritersOn : Description → List ℕ → List ℕ → Type 0
+WritersOn d bytes rest = (at : List ℕ) × SpelledWriters d.version d.max_writers bytes at × SpelledList d.attributes at rest
+
 abbrev NodesOn : Description → List ℕ → List ℕ → Type 0
-NodesOn d bytes rest = (at : List ℕ) × Spelled d.max_nodes bytes at × SpelledList d.attributes at rest
+NodesOn d bytes rest = (at : List ℕ) × Spelled d.max_nodes bytes at × WritersOn d at rest
 
 abbrev ReadersOn : Description → List ℕ → List ℕ → Type 0
 ReadersOn d bytes rest = (at : List ℕ) × Spelled d.max_readers bytes at × NodesOn d at rest
@@ -74,26 +77,27 @@ abbrev ServiceOn : Description → List ℕ → List ℕ → Type 0
 ServiceOn d bytes rest = (at : List ℕ) × SpelledText d.name bytes at × KeyOn d at rest
 
 abbrev VersionOn : Description → List ℕ → List ℕ → Type 0
-VersionOn d bytes rest = (at : List ℕ) × Spelled 1 bytes at × ServiceOn d at rest
+VersionOn d bytes rest = (at : List ℕ) × Spelled d.version bytes at × ServiceOn d at rest
 
 -- the fields of a description, one behind another, are the bytes
-pub puts_description : (d : Description) (a b c e f out : List ℕ) → d.version ≡ 1 → Puts (Spelled 1) [] a → Puts (SpelledText d.name) a b → Puts (SpelledType d.key) b c
-    → Puts (Spelled d.max_readers) c e → Puts (Spelled d.max_nodes) e f → Puts (SpelledList d.attributes) f out → SpelledDescription d out
-puts_description d a b c e f out one version name key readers nodes attributes =
-    let nodes_on : Puts (NodesOn d) e out = puts_then (Spelled d.max_nodes) (SpelledList d.attributes) (NodesOn d) e f out (λ bytes at rest r s. (at, r, s)) nodes attributes in
+pub puts_description : (d : Description) (a b c e f g out : List ℕ) → Puts (Spelled d.version) [] a → Puts (SpelledText d.name) a b → Puts (SpelledType d.key) b c
+    → Puts (Spelled d.max_readers) c e → Puts (Spelled d.max_nodes) e f → Puts (SpelledWriters d.version d.max_writers) f g → Puts (SpelledList d.attributes) g out → SpelledDescription d out
+puts_description d a b c e f g out version name key readers nodes writers attributes =
+    let writers_on : Puts (WritersOn d) f out = puts_then (SpelledWriters d.version d.max_writers) (SpelledList d.attributes) (WritersOn d) f g out (λ bytes at rest r s. (at, r, s)) writers attributes in
+    let nodes_on : Puts (NodesOn d) e out = puts_then (Spelled d.max_nodes) (WritersOn d) (NodesOn d) e f out (λ bytes at rest r s. (at, r, s)) nodes writers_on in
     let readers_on : Puts (ReadersOn d) c out = puts_then (Spelled d.max_readers) (NodesOn d) (ReadersOn d) c e out (λ bytes at rest r s. (at, r, s)) readers nodes_on in
     let key_on : Puts (KeyOn d) b out = puts_then (SpelledType d.key) (ReadersOn d) (KeyOn d) b c out (λ bytes at rest r s. (at, r, s)) key readers_on in
     let name_on : Puts (ServiceOn d) a out = puts_then (SpelledText d.name) (KeyOn d) (ServiceOn d) a b out (λ bytes at rest r s. (at, r, s)) name key_on in
-    let all : Puts (VersionOn d) [] out = puts_then (Spelled 1) (ServiceOn d) (VersionOn d) [] a out (λ bytes at rest r s. (at, r, s)) version name_on in
+    let all : Puts (VersionOn d) [] out = puts_then (Spelled d.version) (ServiceOn d) (VersionOn d) [] a out (λ bytes at rest r s. (at, r, s)) version name_on in
     let is : VersionOn d out [] = subst (λ l. VersionOn d l []) (append-nil all.0 ∙ sym all.1) (all.2 []) in (
-      record { name = is.0; key = is.2.0; max_readers = is.2.2.0; max_nodes = is.2.2.2.0; attributes = is.2.2.2.2.0 },
+      record { name = is.0; key = is.2.0; max_readers = is.2.2.0; max_nodes = is.2.2.2.0; max_writers = is.2.2.2.2.0; attributes = is.2.2.2.2.2.0 },
       record {
-        version_is = one;
         version = is.1;
         name = is.2.1;
         key = is.2.2.1;
         max_readers = is.2.2.2.1;
         max_nodes = is.2.2.2.2.1;
-        attributes = is.2.2.2.2.2;
+        max_writers = is.2.2.2.2.2.1;
+        attributes = is.2.2.2.2.2.2;
       },
     )

@@ -1,5 +1,5 @@
 -- How a description is spelled: its fields, one after another, and nothing behind them.
-use Rattle.std.specs.Prelude.{◌≡◌, ℕ, ◌<◌, ◌^◌, ◌↔◌, List, [], ◌∷◌, ◌++◌, length, IsTrue, Result, Ok, IfOk, IsErrOf}
+use Rattle.std.specs.Prelude.{◌≡◌, ℕ, ◌<◌, ◌^◌, ◌⊎◌, ◌↔◌, List, [], ◌∷◌, ◌++◌, length, IsTrue, Result, Ok, IfOk, IsErrOf}
 use Rattle.std.specs.List.{list_all}
 use Rattle.board_layout.specs.Types.{IsTypeName}
 use Rattle.board_layout.specs.Answer.{Answers}
@@ -54,22 +54,32 @@ pub record AreSpelled (attributes : List Attribute) (count : ℕ) (bytes rest : 
 abbrev pub SpelledList : List Attribute → List ℕ → List ℕ → Type 0
 SpelledList attributes bytes rest = (items : List ℕ) × Spelled (length attributes) bytes items × SpelledEach attributes items rest
 
+-- a description can be written: it has version 2, or version 1 and one writer
+abbrev pub IsWritable : Description → Type 0
+IsWritable d = (d.version ≡ 2) ⊎ ((d.version ≡ 1) × (d.max_writers ≡ 1))
+
+-- the bytes begin with the limit of writers: in version 1 it isn't spelled, and is 1
+abbrev pub SpelledWriters : ℕ → ℕ → List ℕ → List ℕ → Type 0
+SpelledWriters version writers bytes rest =
+    ((version ≡ 2) × Spelled writers bytes rest) ⊎ ((version ≡ 1) × (writers ≡ 1) × (bytes ≡ rest))
+
 -- the bytes that stand before the fields of a description
 pub record Fields : Type 0 where
   pub name : List ℕ
   pub key : List ℕ
   pub max_readers : List ℕ
   pub max_nodes : List ℕ
+  pub max_writers : List ℕ
   pub attributes : List ℕ
 
 -- the bytes are a description's fields, one after another, and nothing is behind them
 pub record SpelledAt (d : Description) (bytes : List ℕ) (at : Fields) : Type 0 where
-  pub version_is : d.version ≡ 1
-  pub version : Spelled 1 bytes at.name
+  pub version : Spelled d.version bytes at.name
   pub name : SpelledText d.name at.name at.key
   pub key : SpelledType d.key at.key at.max_readers
   pub max_readers : Spelled d.max_readers at.max_readers at.max_nodes
-  pub max_nodes : Spelled d.max_nodes at.max_nodes at.attributes
+  pub max_nodes : Spelled d.max_nodes at.max_nodes at.max_writers
+  pub max_writers : SpelledWriters d.version d.max_writers at.max_writers at.attributes
   pub attributes : SpelledList d.attributes at.attributes []
 
 -- these bytes spell a description
@@ -77,9 +87,9 @@ abbrev pub SpelledDescription : Description → List ℕ → Type 0
 SpelledDescription d bytes = (at : Fields) × SpelledAt d bytes at
 
 -- the description of these fields
-abbrev pub described : List ℕ → TypeDetail → ℕ → ℕ → List Attribute → Description
-described name key max_readers max_nodes attributes =
-    record { version = 1; name = name; key = key; max_readers = max_readers; max_nodes = max_nodes; attributes = attributes }
+abbrev pub described : ℕ → List ℕ → TypeDetail → ℕ → ℕ → ℕ → List Attribute → Description
+described version name key max_readers max_nodes max_writers attributes =
+    record { version = version; name = name; key = key; max_readers = max_readers; max_nodes = max_nodes; max_writers = max_writers; attributes = attributes }
 
 -- what a program can hold as a type
 pub record IsType (t : TypeDetail) : Type 0 where
@@ -89,10 +99,12 @@ pub record IsType (t : TypeDetail) : Type 0 where
 
 -- what a program can hold as a description
 pub record IsDescription (d : Description) : Type 0 where
+  pub version : d.version < 2 ^ 32
   pub name : IsServiceName d.name
   pub key : IsType d.key
   pub max_readers : d.max_readers < 2 ^ 64
   pub max_nodes : d.max_nodes < 2 ^ 64
+  pub max_writers : d.max_writers < 2 ^ 64
   pub attributes : AreAttributes d.attributes
 
 -- reading answers with the description that the bytes spell, exactly where they spell one and there is memory for it

@@ -93,7 +93,7 @@ kept_table s lists party (reader name x) =
     kept_asked s.tables (first_of (reader_refusals s.tables.things (board_at s.tables x.board))) (s.tables.last_port + 1) (with_reader s.tables x name)
     (same_boards s.tables (with_reader s.tables x name) refl)
 kept_table s lists party (writer name x) =
-    kept_asked s.tables (first_of (writer_refusals s.tables.things x.board)) (s.tables.last_port + 1) (with_writer s.tables x name)
+    kept_asked s.tables (first_of (writer_refusals s.tables.things (board_at s.tables x.board))) (s.tables.last_port + 1) (with_writer s.tables x name)
     (same_boards s.tables (with_writer s.tables x name) refl)
 kept_table s lists party (entry name x k type) =
     kept_asked s.tables (first_of (entry_refusals (entry_found (board_at s.tables x.board) (keeps_key k) (value_detail type)))) (id_of (entry_found (board_at s.tables x.board) (keeps_key k) (value_detail type)))

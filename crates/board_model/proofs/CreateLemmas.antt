@@ -8,7 +8,7 @@ use Rattle.board_model.specs.declared.attributes.Attribute.{Attribute}
 use Rattle.board_model.specs.declared.tables.Board.{Board}
 use Rattle.board_model.specs.declared.tables.Entry.{Entry}
 use Rattle.board_model.specs.declared.tables.Kind.TheVariants as kind
-use Rattle.board_model.specs.declared.tables.Limits.{Limits}
+use Rattle.board_model.specs.declared.tables.NewLimits.{NewLimits}
 use Rattle.board_model.specs.declared.value.AddedEntry.{AddedEntry}
 use Rattle.board_model.specs.declared.value.KeyType.{KeyType}
 use Rattle.board_model.specs.TypeTable.{key_detail}
@@ -41,7 +41,7 @@ opened_old l n b i entries ne = ap (λ (z : Bool). cond z (first_list (slice_get
 opened_here : (l : Published) (n b i : ℕ) (entries : List AddedEntry) → n ≡ b → with_first_values l b entries n i ≡ first_list (slice_get entries i)
 opened_here l n b i entries e = ap (λ (z : Bool). cond z (first_list (slice_get entries i)) (l n i)) (eq-eqb n b e)
 
-module _ (s : State) (party f name : List ℕ) (k : KeyType) (limits : Limits) (attributes : List Attribute) (entries : List AddedEntry) where
+module _ (s : State) (party f name : List ℕ) (k : KeyType) (limits : NewLimits) (attributes : List Attribute) (entries : List AddedEntry) where
   abbrev number : ℕ
   number = s.standing.tables.last_board + 1
 

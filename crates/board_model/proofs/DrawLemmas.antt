@@ -5,7 +5,7 @@ use Rattle.std.proofs.lemmas.List.{length_push}
 use Rattle.board_model.specs.declared.answer.Reply.{Reply}
 use Rattle.board_model.specs.declared.answer.Reply.TheVariants as reply
 use Rattle.board_model.specs.declared.attributes.Attribute.{Attribute}
-use Rattle.board_model.specs.declared.tables.Limits.{Limits}
+use Rattle.board_model.specs.declared.tables.NewLimits.{NewLimits}
 use Rattle.board_model.specs.declared.value.AddedEntry.{AddedEntry}
 use Rattle.board_model.specs.declared.value.KeyType.{KeyType}
 use Rattle.board_model.specs.TypeTable.{key_detail, same_key, value_detail, value_words}
@@ -55,7 +55,7 @@ drawn_table s lists party (reader name x) =
     drawn_asked s.tables (first_of (reader_refusals s.tables.things (board_at s.tables x.board))) (s.tables.last_port + 1) (with_reader s.tables x name)
     (drawn_port s.tables (with_reader s.tables x name) refl refl)
 drawn_table s lists party (writer name x) =
-    drawn_asked s.tables (first_of (writer_refusals s.tables.things x.board)) (s.tables.last_port + 1) (with_writer s.tables x name)
+    drawn_asked s.tables (first_of (writer_refusals s.tables.things (board_at s.tables x.board))) (s.tables.last_port + 1) (with_writer s.tables x name)
     (drawn_port s.tables (with_writer s.tables x name) refl refl)
 drawn_table s lists party (entry name x k type) =
     drawn_asked s.tables (first_of (entry_refusals (entry_found (board_at s.tables x.board) (keeps_key k) (value_detail type)))) (id_of (entry_found (board_at s.tables x.board) (keeps_key k) (value_detail type)))
@@ -119,7 +119,7 @@ published_short lists n c j value h b i = at ((b == c) && (i == j))
     at true = omega (arith, h c j, length_push (lists c j) value)
     at false = omega (arith, h b i)
 
-created_short : (lists : Published) (n : ℕ) (f name : List ℕ) (k : KeyType) (limits : Limits) (attributes : List Attribute) (entries : List AddedEntry) (t : Reply) → AreShort lists n
+created_short : (lists : Published) (n : ℕ) (f name : List ℕ) (k : KeyType) (limits : NewLimits) (attributes : List Attribute) (entries : List AddedEntry) (t : Reply) → AreShort lists n
     → AreShort (lists_after lists (table (create f name k limits attributes entries)) t) (n + 1)
 created_short lists n f name k limits attributes entries reply.Done h = more_short lists n h
 created_short lists n f name k limits attributes entries (reply.Number m) h = opened_short lists n m entries h

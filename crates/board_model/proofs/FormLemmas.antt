@@ -12,7 +12,7 @@ use Rattle.board_names.specs.declared.errors.boards.BlackboardCreateError.TheVar
 use Rattle.board_model.specs.declared.tables.Board.{Board}
 use Rattle.board_model.specs.declared.tables.Entry.{Entry}
 use Rattle.board_model.specs.declared.tables.Kind.TheVariants as kind
-use Rattle.board_model.specs.declared.tables.Limits.{Limits}
+use Rattle.board_model.specs.declared.tables.NewLimits.{NewLimits}
 use Rattle.board_model.specs.declared.value.AddedEntry.{AddedEntry}
 use Rattle.board_model.specs.declared.value.KeyType.{KeyType}
 use Rattle.board_model.specs.declared.value.KeyType.TheVariants as key_type
@@ -66,12 +66,13 @@ limit_number : (d : ℕ) (o : Option ℕ) → IsNumber d → IsNumberIfAny o →
 limit_number d None h k = h
 limit_number d (Some n) h k = omega arith
 
-formed_board : (number : ℕ) (name : List ℕ) (k : KeyType) (limits : Limits) (attributes : List Attribute) (entries : List AddedEntry) → IsFormedCreate name k limits attributes entries → payload (shapes_of (map added_of entries)) ≤ 4294967295
+formed_board : (number : ℕ) (name : List ℕ) (k : KeyType) (limits : NewLimits) (attributes : List Attribute) (entries : List AddedEntry) → IsFormedCreate name k limits attributes entries → payload (shapes_of (map added_of entries)) ≤ 4294967295
     → IsFormedBoard (new_board number name (key_detail k) limits attributes (map added_of entries))
 formed_board number name k limits attributes entries h le = record {
   name = h.text;
-  readers = limit_number 8 limits.max_readers (omega arith) h.bounds.readers;
-  nodes = limit_number 20 limits.max_nodes (omega arith) h.bounds.nodes;
+  readers = limit_number 8 limits.shared.max_readers (omega arith) h.bounds.shared.readers;
+  nodes = limit_number 20 limits.shared.max_nodes (omega arith) h.bounds.shared.nodes;
+  writers = limit_number 1 limits.max_writers (omega arith) h.bounds.writers;
   attributes = h.pairs.few;
   entries = omega (arith, entries_few (places_from 0 (shapes_of (map added_of entries))) entries, entries_paid entries, le);
   keys = subst (λ (x : KeyType). AllByRecursion (IsFormedEntry x) (entries_of (places_from 0 (shapes_of (map added_of entries))) (map added_of entries))) (sym (detail_again k)) (formed_entries k 0 entries h.each h.types);
@@ -146,7 +147,7 @@ formed_table s party n (reader name x) h p q r =
 formed_table s party n (writer name x) h p q r =
     let new : BoardTables = with_writer s.standing.tables x name in
     let k = held_formed s.standing.tables party x n h r.1.found in
-    formed_asked s.standing.tables (first_of (writer_refusals s.standing.tables.things x.board)) (s.standing.tables.last_port + 1) new n h
+    formed_asked s.standing.tables (first_of (writer_refusals s.standing.tables.things (board_at s.standing.tables x.board))) (s.standing.tables.last_port + 1) new n h
     (λ _. formed_thing s.standing.tables new (record { holder = x.holder; name = name; board = x.board; kind = kind.Writer (s.standing.tables.last_port + 1) }) n h h.boards (omega arith) refl (record { holder = k.holder; port = omega arith }))
 formed_table s party n (entry name x key type) h p q r =
     let found : Option (ℕ × Entry) = entry_found (board_at s.standing.tables x.board) (keeps_key key) (value_detail type) in

@@ -12,7 +12,7 @@ use Rattle.board_model.specs.declared.attributes.Attribute.{Attribute}
 use Rattle.board_names.specs.declared.errors.boards.BlackboardCreateError.{BlackboardCreateError}
 use Rattle.board_model.specs.declared.line.Line.{Line}
 use Rattle.board_model.specs.declared.line.Line.TheVariants as line
-use Rattle.board_model.specs.declared.tables.Limits.{Limits}
+use Rattle.board_model.specs.declared.tables.NewLimits.{NewLimits}
 use Rattle.board_model.specs.declared.value.AddedEntry.{AddedEntry}
 use Rattle.board_model.specs.declared.value.KeyType.{KeyType}
 use Rattle.board_model.specs.TypeTable.{key_detail, same_key, value_words}
@@ -38,7 +38,7 @@ pub record IsGrowth (s new : State) (b i n : ℕ) : Type 0 where
 pub growth_none : (s new : State) (b i : ℕ) → s.standing.tables.last_board ≤ new.standing.tables.last_board → new.published b i ≡ s.published b i → IsGrowth s new b i 0
 growth_none s new b i h e = record { drawn = h; more = []; list = e ∙ sym (append-nil (s.published b i)); count = refl }
 
-opened_elsewhere : (lists : Published) (t new : BoardTables) (f name : List ℕ) (k : KeyType) (limits : Limits) (attributes : List Attribute) (entries : List AddedEntry) (b i : ℕ) → b ≤ t.last_board → (o : Option BlackboardCreateError)
+opened_elsewhere : (lists : Published) (t new : BoardTables) (f name : List ℕ) (k : KeyType) (limits : NewLimits) (attributes : List Attribute) (entries : List AddedEntry) (b i : ℕ) → b ≤ t.last_board → (o : Option BlackboardCreateError)
     → lists_after lists (table (create f name k limits attributes entries)) (number_or reply.CreateError (asked o (t.last_board + 1) new t).0) b i ≡ lists b i
 opened_elsewhere lists t new f name k limits attributes entries b i le (Some e) = refl
 opened_elsewhere lists t new f name k limits attributes entries b i le None =

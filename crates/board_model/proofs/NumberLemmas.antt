@@ -13,7 +13,7 @@ use Rattle.board_model.specs.declared.answer.Reply.TheVariants as reply
 use Rattle.board_model.specs.declared.attributes.Attribute.{Attribute}
 use Rattle.board_model.specs.declared.line.Call.{Call}
 use Rattle.board_model.specs.declared.line.Call.TheVariants as call
-use Rattle.board_model.specs.declared.tables.Limits.{Limits}
+use Rattle.board_model.specs.declared.tables.NewLimits.{NewLimits}
 use Rattle.board_model.specs.declared.value.AddedEntry.{AddedEntry}
 use Rattle.board_model.specs.declared.value.KeyType.{KeyType}
 use Rattle.board_model.specs.declared.value.Value.{Value}
@@ -184,7 +184,7 @@ access_below s party r access.Table n sound w lt h run e = h.words
 access_below s party r (access.Read b i v) n sound w lt h run e = h.words
 access_below s party r (access.Write b i v) n sound w lt h run e = below_store s.memory b i v h.words (owed_numbers s party r b i v n sound w lt h run (sym e))
 
-created_below : (memory : ℕ → List ℕ) (f name : List ℕ) (k : KeyType) (limits : Limits) (attributes : List Attribute) (entries : List AddedEntry) (t : Reply) → AreBelow memory → AllByRecursion IsAddedEntry entries
+created_below : (memory : ℕ → List ℕ) (f name : List ℕ) (k : KeyType) (limits : NewLimits) (attributes : List Attribute) (entries : List AddedEntry) (t : Reply) → AreBelow memory → AllByRecursion IsAddedEntry entries
     → AreBelow (memory_after memory (table (create f name k limits attributes entries)) t)
 created_below memory f name k limits attributes entries reply.Done h e = h
 created_below memory f name k limits attributes entries (reply.Number m) h e = below_board memory m (opening_of entries) h (below_new entries e)

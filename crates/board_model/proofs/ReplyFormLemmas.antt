@@ -135,6 +135,7 @@ module _ (s : State) (sound : Sound s) (n : ℕ) (w : IsWithin s n) (lt : n < 2 
         name = f.name;
         max_readers = f.readers;
         max_nodes = f.nodes;
+        max_writers = f.writers;
         entries = omega (arith, f.entries);
         attributes = omega (arith, f.attributes);
         readers = omega (arith, count_by-le-length (is_reader_of x.number) s.standing.tables.things);
@@ -163,8 +164,8 @@ module _ (s : State) (sound : Sound s) (n : ℕ) (w : IsWithin s n) (lt : n < 2 
       told_number reply.ReaderError (first_of (reader_refusals s.standing.tables.things (board_at s.standing.tables x.board))) (s.standing.tables.last_port + 1) (with_reader s.standing.tables x name) s.standing.tables
       (omega (arith, w.ports)) (λ e q. one_told is_reader_reply (reader_refusals s.standing.tables.things (board_at s.standing.tables x.board)) (refl, tt) e q)
   table_told party (writer name x) h r =
-      told_number reply.WriterError (first_of (writer_refusals s.standing.tables.things x.board)) (s.standing.tables.last_port + 1) (with_writer s.standing.tables x name) s.standing.tables
-      (omega (arith, w.ports)) (λ e q. one_told is_writer_reply (writer_refusals s.standing.tables.things x.board) (refl, tt) e q)
+      told_number reply.WriterError (first_of (writer_refusals s.standing.tables.things (board_at s.standing.tables x.board))) (s.standing.tables.last_port + 1) (with_writer s.standing.tables x name) s.standing.tables
+      (omega (arith, w.ports)) (λ e q. one_told is_writer_reply (writer_refusals s.standing.tables.things (board_at s.standing.tables x.board)) (refl, tt) e q)
   table_told party (entry name x k type) h r =
       told_number reply.EntryError (first_of (entry_refusals (entry_found (board_at s.standing.tables x.board) (keeps_key k) (value_detail type)))) (id_of (entry_found (board_at s.standing.tables x.board) (keeps_key k) (value_detail type)))
       (with_read_handle s.standing.tables x name (entry_found (board_at s.standing.tables x.board) (keeps_key k) (value_detail type))) s.standing.tables

@@ -24,6 +24,7 @@ use Rattle.board_names.specs.declared.errors.boards.EntryHandleMutError.TheVaria
 use Rattle.board_model.specs.declared.tables.Kind.{Kind}
 use Rattle.board_model.specs.declared.tables.Kind.TheVariants as kind
 use Rattle.board_model.specs.declared.tables.Limits.{Limits}
+use Rattle.board_model.specs.declared.tables.NewLimits.{NewLimits}
 use Rattle.board_model.specs.declared.value.AddedEntry.{AddedEntry}
 use Rattle.board_model.specs.declared.value.Key.{Key}
 use Rattle.board_model.specs.declared.value.KeyType.{KeyType}
@@ -137,7 +138,7 @@ board_of_held s sound party name x f = all_found (HasBoard s.standing.tables) _ 
 
 -- ---- create
 
-abbrev create_state : State → List ℕ → List ℕ → List ℕ → KeyType → Limits → List Attribute → List AddedEntry → Asked → State
+abbrev create_state : State → List ℕ → List ℕ → List ℕ → KeyType → NewLimits → List Attribute → List AddedEntry → Asked → State
 create_state s party f name k limits attributes entries a = record {
   memory = memory_after s.memory (table (create f name k limits attributes entries)) a.reply;
   published = lists_after s.published (table (create f name k limits attributes entries)) a.reply;
@@ -145,7 +146,7 @@ create_state s party f name k limits attributes entries a = record {
   standing = a.standing;
 }
 
-module _ (s : State) (sound : Sound s) (party f name : List ℕ) (k : KeyType) (limits : Limits) (attributes : List Attribute) (entries : List AddedEntry) (calm : IsCalm s party) (unheld : IsFree s.standing party f) where
+module _ (s : State) (sound : Sound s) (party f name : List ℕ) (k : KeyType) (limits : NewLimits) (attributes : List Attribute) (entries : List AddedEntry) (calm : IsCalm s party) (unheld : IsFree s.standing party f) where
   create_told : (o : Option BlackboardCreateError) → (o ≡ None → payload (shapes_of (map added_of entries)) ≤ 4294967295)
       → Sound (create_state s party f name k limits attributes entries (told_by s.standing reply.CreateError (asked o (s.standing.tables.last_board + 1) (created s.standing.tables party f name (key_detail k) limits attributes (map added_of entries)) s.standing.tables)))
   create_told None small = create_sound s party f name k limits attributes entries sound calm unheld (small refl)

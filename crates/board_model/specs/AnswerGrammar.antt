@@ -124,8 +124,9 @@ name_item_text name = codes " " ++ name
 abbrev pub info_text : Info → List ℕ
 info_text i = codes "info " ++ (i.name ++ (codes " " ++ (key_type_text i.key_type
     ++ (codes " readers" ++ (number_text i.max_readers ++ (codes " nodes" ++ (number_text i.max_nodes
+    ++ (codes " writers" ++ (number_text i.max_writers
     ++ (codes " entries" ++ (number_text i.entries ++ (codes " attrs" ++ (number_text i.attributes
-    ++ (codes " taken" ++ (number_text i.readers ++ (number_text i.writers ++ number_text i.nodes))))))))))))))
+    ++ (codes " taken" ++ (number_text i.readers ++ (number_text i.writers ++ number_text i.nodes))))))))))))))))
 
 -- how the outcome of a call is written
 abbrev pub reply_text : Reply → List ℕ
@@ -227,6 +228,7 @@ pub record IsInfo (i : Info) : Type 0 where
   pub name : is_board_name i.name ≡ true
   pub max_readers : IsNumber i.max_readers
   pub max_nodes : IsNumber i.max_nodes
+  pub max_writers : IsNumber i.max_writers
   pub entries : IsNumber i.entries
   pub attributes : IsNumber i.attributes
   pub readers : IsNumber i.readers

@@ -7,11 +7,11 @@ use Rattle.board_model.specs.declared.attributes.Requirements.{Requirements}
 use Rattle.board_model.specs.declared.line.Line.{Line}
 use Rattle.board_model.specs.declared.tables.Board.{Board}
 use Rattle.board_model.specs.declared.tables.Entry.{Entry}
-use Rattle.board_model.specs.declared.tables.Limits.{Limits}
+use Rattle.board_model.specs.declared.tables.NewLimits.{NewLimits}
 use Rattle.board_model.specs.declared.value.AddedEntry.{AddedEntry}
 use Rattle.board_model.specs.declared.value.Key.{Key}
 use Rattle.board_model.specs.declared.value.KeyType.{KeyType}
-use Rattle.board_model.specs.LineGrammar.{AreAttributes, AreLimits, AreRequirements, IsAddedEntry, IsKey, IsNumber, IsLine, is_board_name, is_name}
+use Rattle.board_model.specs.LineGrammar.{AreAttributes, AreNewLimits, AreRequirements, IsAddedEntry, IsKey, IsNumber, IsLine, is_board_name, is_name}
 use Rattle.board_model.specs.AnswerGrammar.{IsAnswer}
 use Rattle.board_model.specs.TypeTable.{key_bytes, key_type_of, type_of_key}
 use Rattle.board_model.specs.Tables.{port_of}
@@ -36,6 +36,7 @@ pub record IsFormedBoard (b : Board) : Type 0 where
   pub name : is_board_name b.name ≡ true
   pub readers : IsNumber b.max_readers
   pub nodes : IsNumber b.max_nodes
+  pub writers : IsNumber b.max_writers
   pub attributes : length b.attributes ≤ 8
   pub entries : length b.entries ≤ 4294967295
   pub keys : AllByRecursion (IsFormedEntry (key_type_of b.key)) b.entries
@@ -52,9 +53,9 @@ pub record AreFormedTables (t : BoardTables) (n : ℕ) : Type 0 where
   pub few : length t.things ≤ n
 
 -- what a new board is made of
-pub record IsFormedCreate (name : List ℕ) (k : KeyType) (limits : Limits) (attributes : List Attribute) (entries : List AddedEntry) : Type 0 where
+pub record IsFormedCreate (name : List ℕ) (k : KeyType) (limits : NewLimits) (attributes : List Attribute) (entries : List AddedEntry) : Type 0 where
   pub text : is_board_name name ≡ true
-  pub bounds : AreLimits limits
+  pub bounds : AreNewLimits limits
   pub pairs : AreAttributes attributes
   pub each : AllByRecursion IsAddedEntry entries
   pub types : list_all (has_key_type k) entries ≡ true

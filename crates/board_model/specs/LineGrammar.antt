@@ -4,6 +4,7 @@ use Rattle.std.specs.List.{join_with_byte, flat_map, list_all, AllByRecursion}
 use Rattle.board_model.specs.declared.attributes.Attribute.{Attribute}
 use Rattle.board_model.specs.declared.attributes.Requirements.{Requirements}
 use Rattle.board_model.specs.declared.tables.Limits.{Limits}
+use Rattle.board_model.specs.declared.tables.NewLimits.{NewLimits}
 use Rattle.board_model.specs.declared.value.AddedEntry.{AddedEntry}
 use Rattle.board_model.specs.declared.value.KeyType.{KeyType}
 use Rattle.board_model.specs.declared.value.KeyType.TheVariants as key_type
@@ -52,6 +53,10 @@ limit_tokens word (Some n) = word ∷ decimal n ∷ []
 abbrev pub limits_tokens : Limits → List (List ℕ)
 limits_tokens l = limit_tokens (codes "readers") l.max_readers ++ limit_tokens (codes "nodes") l.max_nodes
 
+-- those of a new board: writers last
+abbrev pub new_limits_tokens : NewLimits → List (List ℕ)
+new_limits_tokens l = limits_tokens l.shared ++ limit_tokens (codes "writers") l.max_writers
+
 -- an attribute behind its word: key, then value
 abbrev pub pair_tokens : List ℕ → Attribute → List (List ℕ)
 pair_tokens word a = word ∷ a.key ∷ a.value ∷ []
@@ -72,7 +77,7 @@ name_tokens (Some v) = v ∷ []
 -- a call: its word, then what it names, then its optional parts
 abbrev pub call_tokens : Call → List (List ℕ)
 call_tokens (call.Create f name k limits attributes entries) =
-    codes "create" ∷ f ∷ name ∷ key_type_text k ∷ (limits_tokens limits ++ (flat_map (pair_tokens (codes "attr")) attributes ++ flat_map entry_tokens entries))
+    codes "create" ∷ f ∷ name ∷ key_type_text k ∷ (new_limits_tokens limits ++ (flat_map (pair_tokens (codes "attr")) attributes ++ flat_map entry_tokens entries))
 call_tokens (call.Open f name k limits needs) =
     codes "open" ∷ f ∷ name ∷ key_type_text k ∷ (limits_tokens limits ++ (flat_map (pair_tokens (codes "need")) needs.pairs ++ flat_map needed_key_tokens needs.keys))
 call_tokens (call.Reader r f) = codes "reader" ∷ r ∷ f ∷ []
@@ -157,6 +162,11 @@ pub record AreLimits (l : Limits) : Type 0 where
   pub readers : IsNumberIfAny l.max_readers
   pub nodes : IsNumberIfAny l.max_nodes
 
+-- those of a new board
+pub record AreNewLimits (l : NewLimits) : Type 0 where
+  pub shared : AreLimits l.shared
+  pub writers : IsNumberIfAny l.max_writers
+
 -- the key of an attribute
 abbrev pub is_attribute_key : List ℕ → Bool
 is_attribute_key text = is_visible 64 text
@@ -188,7 +198,7 @@ IsNameIfAny (Some v) = is_name v ≡ true
 
 -- the names, keys, values and numbers of a call are of the grammar
 abbrev pub IsCall : Call → Type 0
-IsCall (call.Create f name k limits attributes entries) = (is_name f ≡ true) × (is_board_name name ≡ true) × AreLimits limits × AreAttributes attributes × AllByRecursion IsAddedEntry entries
+IsCall (call.Create f name k limits attributes entries) = (is_name f ≡ true) × (is_board_name name ≡ true) × AreNewLimits limits × AreAttributes attributes × AllByRecursion IsAddedEntry entries
 IsCall (call.Open f name k limits needs) = (is_name f ≡ true) × (is_board_name name ≡ true) × AreLimits limits × AreRequirements needs
 IsCall (call.Reader r f) = (is_name r ≡ true) × (is_name f ≡ true)
 IsCall (call.Writer w f) = (is_name w ≡ true) × (is_name f ≡ true)

@@ -79,7 +79,7 @@ nodes_of board (t ∷ ts) = if is_of_board board t then placed_once t.holder (no
 
 -- what would be told where no board stands
 abbrev pub no_info : Info
-no_info = record { name = []; key_type = key_type.U64; max_readers = 0; max_nodes = 0; entries = 0; attributes = 0; readers = 0; writers = 0; nodes = 0 }
+no_info = record { name = []; key_type = key_type.U64; max_readers = 0; max_nodes = 0; max_writers = 0; entries = 0; attributes = 0; readers = 0; writers = 0; nodes = 0 }
 
 -- its limits, how many entries and attributes it has, and what is taken of it
 abbrev pub info_of : List Held → Option Board → Info
@@ -89,6 +89,7 @@ info_of things (Some b) = record {
   key_type = key_type_of b.key;
   max_readers = b.max_readers;
   max_nodes = b.max_nodes;
+  max_writers = b.max_writers;
   entries = length b.entries;
   attributes = length b.attributes;
   readers = reader_slots b.number things;

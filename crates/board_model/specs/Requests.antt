@@ -6,6 +6,7 @@ use Rattle.board_model.specs.declared.attributes.Attribute.{Attribute}
 use Rattle.board_model.specs.declared.attributes.Requirements.{Requirements}
 use Rattle.board_model.specs.declared.tables.Entry.{Entry}
 use Rattle.board_model.specs.declared.tables.Limits.{Limits}
+use Rattle.board_model.specs.declared.tables.NewLimits.{NewLimits}
 use Rattle.board_model.specs.declared.tables.ThingKind.TheVariants as thing_kind
 use Rattle.board_model.specs.declared.value.AddedEntry.{AddedEntry}
 use Rattle.board_model.specs.declared.value.Key.{Key}
@@ -64,7 +65,7 @@ pub record Lending : Type 0 where
 
 -- a call on the tables, which is one step
 pub data TableCall : Type 0 where
-  create : (factory name : List ℕ) (key_type : KeyType) (limits : Limits) (attributes : List Attribute) (entries : List AddedEntry) → TableCall
+  create : (factory name : List ℕ) (key_type : KeyType) (limits : NewLimits) (attributes : List Attribute) (entries : List AddedEntry) → TableCall
   open_ : (factory name : List ℕ) (key_type : KeyType) (limits : Limits) (needs : Requirements) → TableCall
   reader : (reader : List ℕ) (factory : Held) → TableCall
   writer : (writer : List ℕ) (factory : Held) → TableCall

@@ -9,6 +9,7 @@ use Rattle.board_model.specs.declared.tables.Entry.{Entry}
 use Rattle.board_model.specs.declared.tables.Thing.{Thing}
 use Rattle.board_model.specs.declared.tables.Board.{Board}
 use Rattle.board_model.specs.declared.tables.Limits.{Limits}
+use Rattle.board_model.specs.declared.tables.NewLimits.{NewLimits}
 use Rattle.board_model.specs.declared.tables.Kind.TheVariants as kind
 use Rattle.board_names.specs.declared.errors.boards.BlackboardCreateError.{BlackboardCreateError}
 use Rattle.board_names.specs.declared.errors.boards.BlackboardCreateError.TheVariants as create_error
@@ -61,14 +62,14 @@ create_refusals same_key boards name entries =
     ∷ []
 
 -- a board with the next number, and a factory of it
-abbrev pub created : {H N : Type 0} → Tables H N → H → N → List ℕ → TypeDetail → Limits → List Attribute → List Added → Tables H N
+abbrev pub created : {H N : Type 0} → Tables H N → H → N → List ℕ → TypeDetail → NewLimits → List Attribute → List Added → Tables H N
 created t holder name board key limits attributes entries =
     with_thing
     (record t { boards = t.boards ++ new_board (t.last_board + 1) board key limits attributes entries ∷ []; last_board = t.last_board + 1 })
     (record { holder = holder; name = name; board = t.last_board + 1; kind = kind.Factory })
 
 -- what the making of a board is told, and the tables after it
-abbrev pub create_asked : {H N : Type 0} → (List ℕ → List ℕ → Bool) → Tables H N → H → N → List ℕ → TypeDetail → Limits → List Attribute → List Added → Result ℕ BlackboardCreateError × Tables H N
+abbrev pub create_asked : {H N : Type 0} → (List ℕ → List ℕ → Bool) → Tables H N → H → N → List ℕ → TypeDetail → NewLimits → List Attribute → List Added → Result ℕ BlackboardCreateError × Tables H N
 create_asked same_key t holder name board key limits attributes entries =
     asked (first_of (create_refusals same_key t.boards board entries)) (t.last_board + 1) (created t holder name board key limits attributes entries) t
 
@@ -122,9 +123,9 @@ with_reader t of name =
 abbrev pub reader_asked : {H N : Type 0} → Tables H N → Thing H N → N → Result ℕ ReaderCreateError × Tables H N
 reader_asked t of name = asked (first_of (reader_refusals t.things (board_at t of.board))) (t.last_port + 1) (with_reader t of name) t
 
--- a board has one writer slot
-abbrev pub writer_refusals : {H N : Type 0} → List (Thing H N) → ℕ → List (Bool × WriterCreateError)
-writer_refusals things board = (nat_le 1 (writer_slots board things), writer_error.ExceedsMaxSupportedWriters) ∷ []
+-- a board has as many writer slots as its limit says
+abbrev pub writer_refusals : {H N : Type 0} → List (Thing H N) → Option Board → List (Bool × WriterCreateError)
+writer_refusals things board = (holds_at board (λ b. nat_le b.max_writers (writer_slots b.number things)), writer_error.ExceedsMaxSupportedWriters) ∷ []
 
 -- one more writer for the factory's holder, with the next port number
 abbrev pub with_writer : {H N : Type 0} → Tables H N → Thing H N → N → Tables H N
@@ -133,7 +134,7 @@ with_writer t of name =
 
 -- what the making of a writer is told, and the tables after it
 abbrev pub writer_asked : {H N : Type 0} → Tables H N → Thing H N → N → Result ℕ WriterCreateError × Tables H N
-writer_asked t of name = asked (first_of (writer_refusals t.things of.board)) (t.last_port + 1) (with_writer t of name) t
+writer_asked t of name = asked (first_of (writer_refusals t.things (board_at t of.board))) (t.last_port + 1) (with_writer t of name) t
 
 -- ---- handles; `of` is the reader or writer, and `found` the entry that was looked up, with its place
 

@@ -11,7 +11,7 @@ use Rattle.board_model.specs.declared.attributes.Requirements.{Requirements}
 use Rattle.board_model.specs.declared.tables.Entry.{Entry}
 use Rattle.board_model.specs.declared.tables.Thing.{Thing}
 use Rattle.board_model.specs.declared.tables.Board.{Board}
-use Rattle.board_model.specs.declared.tables.Limits.{Limits}
+use Rattle.board_model.specs.declared.tables.NewLimits.{NewLimits}
 use Rattle.board_model.specs.declared.tables.Kind.{Kind}
 use Rattle.board_model.specs.declared.tables.Kind.TheVariants as kind
 use Rattle.board_model.specs.declared.tables.ThingKind.{ThingKind}
@@ -221,13 +221,14 @@ limit_of default None = default
 limit_of default (Some n) = max n 1
 
 -- a board as it is made, with its limits settled and its cells planned
-abbrev pub new_board : ℕ → List ℕ → TypeDetail → Limits → List Attribute → List Added → Board
+abbrev pub new_board : ℕ → List ℕ → TypeDetail → NewLimits → List Attribute → List Added → Board
 new_board number name key limits attributes entries = record {
   number = number;
   name = name;
   key = key;
-  max_readers = limit_of 8 limits.max_readers;
-  max_nodes = limit_of 20 limits.max_nodes;
+  max_readers = limit_of 8 limits.shared.max_readers;
+  max_nodes = limit_of 20 limits.shared.max_nodes;
+  max_writers = limit_of 1 limits.max_writers;
   attributes = attributes;
   entries = entries_of (places_from 0 (shapes_of entries)) entries;
 }

@@ -15,6 +15,7 @@ use Rattle.board_model.specs.declared.line.Call.TheVariants as call
 use Rattle.board_model.specs.declared.line.Line.{Line}
 use Rattle.board_model.specs.declared.line.Line.TheVariants as line
 use Rattle.board_model.specs.declared.tables.Limits.{Limits}
+use Rattle.board_model.specs.declared.tables.NewLimits.{NewLimits}
 use Rattle.board_model.specs.declared.value.AddedEntry.{AddedEntry}
 use Rattle.board_model.specs.declared.value.Key.{Key}
 use Rattle.board_model.specs.declared.value.Key.TheVariants as key
@@ -55,6 +56,10 @@ refused l why = (l, answer.Refused why)
 abbrev pub no_limits : Limits
 no_limits = record { max_readers = None; max_nodes = None }
 
+-- a new board that is limited as boards are where nothing is asked for
+abbrev pub unlimited : NewLimits
+unlimited = record { shared = no_limits; max_writers = None }
+
 -- nothing is asked of the board's attributes
 abbrev pub no_needs : Requirements
 no_needs = record { pairs = []; keys = [] }
@@ -68,7 +73,7 @@ added k v = record { key = k; value = v }
 -- one party makes a board of two numbers, and updates one
 abbrev pub the_first_run : Session
 the_first_run =
-    accepted (codes "a") (call.Create (codes "f") (codes "b") key_type.U64 no_limits [] (added (key.U64 1) (value.U64 5) ∷ added (key.U64 2) (value.U64 7) ∷ []))
+    accepted (codes "a") (call.Create (codes "f") (codes "b") key_type.U64 unlimited [] (added (key.U64 1) (value.U64 5) ∷ added (key.U64 2) (value.U64 7) ∷ []))
     ∷ last_step (codes "a") access.Table (reply.Number 1)
     ∷ accepted (codes "a") (call.Writer (codes "w") (codes "f"))
     ∷ last_step (codes "a") access.Table (reply.Number 1)
@@ -87,7 +92,7 @@ the_first_run =
 -- one party makes a board with one entry and takes its write handle; the other opens it and takes a read handle
 abbrev pub set_up : ValueType → Value → Session
 set_up t v =
-    accepted (codes "a") (call.Create (codes "f") (codes "b") key_type.U64 no_limits [] (added (key.U64 1) v ∷ []))
+    accepted (codes "a") (call.Create (codes "f") (codes "b") key_type.U64 unlimited [] (added (key.U64 1) v ∷ []))
     ∷ last_step (codes "a") access.Table (reply.Number 1)
     ∷ accepted (codes "a") (call.Writer (codes "w") (codes "f"))
     ∷ last_step (codes "a") access.Table (reply.Number 1)

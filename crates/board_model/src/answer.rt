@@ -29,6 +29,7 @@ pub struct Info {
     pub key_type: KeyType,
     pub max_readers: u64,
     pub max_nodes: u64,
+    pub max_writers: u64,
     pub entries: u64,
     pub attributes: u64,
     pub readers: u64,

@@ -34,7 +34,7 @@ pub use line::{BoardName, Call, Line, Name};
 pub use lists::{
     AddedEntries, AttributeKeys, Attributes, Entries, Items, Keys, LongName, Names, Words,
 };
-pub use tables::{Board, Entry, Kind, Limits, Thing, ThingKind};
+pub use tables::{Board, Entry, Kind, Limits, NewLimits, Thing, ThingKind};
 pub use type_table::{
     key_bytes, key_detail, key_of, key_type_of, same_key_type, same_type, type_of, type_of_key,
     value_detail, value_type_of, value_words,

@@ -1,7 +1,7 @@
 //! The lines of a script.
 use crate::attributes::Requirements;
 use crate::lists::{AddedEntries, Attributes, LongName};
-use crate::tables::Limits;
+use crate::tables::{Limits, NewLimits};
 use crate::value::{Key, KeyType, Value, ValueType};
 use board_layout::Text;
 
@@ -18,7 +18,7 @@ pub enum Call {
         factory: Name,
         name: BoardName,
         key_type: KeyType,
-        limits: Limits,
+        limits: NewLimits,
         attributes: Attributes,
         entries: AddedEntries,
     },

@@ -18,6 +18,7 @@ pub struct Board {
     pub key: TypeDetail,
     pub max_readers: u64,
     pub max_nodes: u64,
+    pub max_writers: u64,
     pub attributes: Attributes,
     pub entries: Entries,
 }
@@ -27,6 +28,14 @@ pub struct Board {
 pub struct Limits {
     pub max_readers: Option<u64>,
     pub max_nodes: Option<u64>,
+}
+
+/// How many readers, nodes and writers a new board is to allow.
+#[derive(Clone, Copy, Debug, PartialEq, Eq)]
+pub struct NewLimits {
+    /// Those that an opener may ask for as well.
+    pub shared: Limits,
+    pub max_writers: Option<u64>,
 }
 
 /// What a thing of a board is, and what it keeps: the number of its port, the place of its entry among the board's.

@@ -1,6 +1,4 @@
 //! The tables of boards: who may make, open and hold what, and how long it stands.
-//!
-//! The two worked scripts of several writers aren't here, since a board has one writer so far. Once it may have more, the answer to `info` tells their number too.
 use crate::openings::ONE_NUMBER;
 use crate::row::{PLAIN, Part, Row, all_hold};
 use std::test::Fail;
@@ -34,7 +32,7 @@ const A_FREED_WRITER: Part = &[
     ("step a", "table = ok 0"),
 ];
 
-const ROWS: [Row; 9] = [
+const ROWS: [Row; 10] = [
     Row {
         name: "a name that stands",
         opening: &[ONE_NUMBER],
@@ -151,13 +149,13 @@ const ROWS: [Row; 9] = [
         ..PLAIN
     },
     Row {
-        name: "the tables told with one writer",
+        name: "the tables told",
         opening: &[ONE_NUMBER],
         lines: &[
             ("begin b info f", "ok"),
             (
                 "step b",
-                "table = info b u64 readers 8 nodes 20 entries 1 attrs 0 taken 1 1 2",
+                "table = info b u64 readers 8 nodes 20 writers 1 entries 1 attrs 0 taken 1 1 2",
             ),
             ("begin b nodes f", "ok"),
             ("step b", "table = nodes a b"),
@@ -168,6 +166,45 @@ const ROWS: [Row; 9] = [
             ("begin b get z", "refused unknown"),
             ("begin b reader r f", "refused taken"),
             ("begin b entry k r f8:x u64", "refused type"),
+        ],
+        ..PLAIN
+    },
+    Row {
+        name: "two writers of one board",
+        lines: &[
+            (
+                "begin a create f b u64 writers 2 add u64:1 u64:7 add u64:2 u64:8",
+                "ok",
+            ),
+            ("step a", "table = ok 1"),
+            ("begin a writer w f", "ok"),
+            ("step a", "table = ok 1"),
+            ("begin b open f b u64", "ok"),
+            ("step b", "table = ok 1"),
+            ("begin b writer x f", "ok"),
+            ("step b", "table = ok 2"),
+            ("begin b writer y f", "ok"),
+            (
+                "step b",
+                "table = WriterCreateError::ExceedsMaxSupportedWriters",
+            ),
+            ("begin a entrymut m w u64:1 u64", "ok"),
+            ("step a", "table = ok 0"),
+            ("begin b entrymut n x u64:1 u64", "ok"),
+            ("step b", "table = EntryHandleMutError::HandleAlreadyExists"),
+            ("begin b entrymut n x u64:2 u64", "ok"),
+            ("step b", "table = ok 32"),
+            ("begin a update m u64:9", "ok"),
+            ("begin b update n u64:10", "ok"),
+            ("step a", "write 1:3 9"),
+            ("step b", "write 1:7 10"),
+            ("step a", "write 1:0 2 = ok"),
+            ("step b", "write 1:4 2 = ok"),
+            ("words 1", "words 2 0 7 9 2 0 8 10"),
+            ("drop a w", "table = ok"),
+            ("drop a m", "table = ok"),
+            ("begin b writer y f", "ok"),
+            ("step b", "table = ok 3"),
         ],
         ..PLAIN
     },

@@ -8,7 +8,7 @@ ghost use Rattle.board_model.specs.TypeTable as types;
 ghost use Rattle.board_service.specs.Domain as domain;
 
 use crate::board_row::BoardRow;
-use crate::counts::{Held, reader_slots};
+use crate::counts::{Held, reader_slots, writer_slots};
 use crate::ids::ThingId;
 use board_layout::{BoardKey, TypeDetail, is_key};
 use board_model::{Entry, Kind, ThingKind, same_type};
@@ -128,6 +128,17 @@ pub(crate) fn has_all_readers(board: u64, boards: &[BoardRow], things: &[Held]) 
 {
     match board_at(board, boards) {
         Some(b) => b.max_readers() <= reader_slots(b.number(), things),
+        None => false,
+    }
+}
+
+/// Whether as many writer slots of the board are taken as it has.
+pub(crate) fn has_all_writers(board: u64, boards: &[BoardRow], things: &[Held]) -> bool
+    ensures { result ≡ tables.holds_at (find (tables.is_numbered board) boards.now)
+        (λ b. nat_le b.max_writers (tables.writer_slots b.number things.now)) }
+{
+    match board_at(board, boards) {
+        Some(b) => b.max_writers() <= writer_slots(b.number(), things),
         None => false,
     }
 }

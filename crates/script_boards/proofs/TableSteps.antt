@@ -16,7 +16,7 @@ use Rattle.board_model.specs.declared.tables.Board.{Board}
 use Rattle.board_model.specs.declared.tables.Entry.{Entry}
 use Rattle.board_model.specs.declared.tables.Kind.{Kind}
 use Rattle.board_model.specs.declared.tables.Kind.TheVariants as kind
-use Rattle.board_model.specs.declared.tables.Limits.{Limits}
+use Rattle.board_model.specs.declared.tables.NewLimits.{NewLimits}
 use Rattle.board_model.specs.declared.tables.ThingKind.TheVariants as thing_kind
 use Rattle.board_model.specs.declared.value.AddedEntry.{AddedEntry}
 use Rattle.board_model.specs.declared.value.Key.{Key}
@@ -262,7 +262,7 @@ module _ {C : Type 0} (m : BoardMachine C) (s : State) (rep : Represents m s) (r
         none None e = refl
         none (Some b) e = absurd (omega (arith, reached.sound.boards.numbered (s.standing.tables.last_board + 1) b e))
 
-    module _ (f n : List ℕ) (k : KeyType) (limits : Limits) (attributes : List Attribute) (entries : List AddedEntry) where
+    module _ (f n : List ℕ) (k : KeyType) (limits : NewLimits) (attributes : List Attribute) (entries : List AddedEntry) where
       abbrev next : BoardTables → BoardTables
       next t = created t party f n (key_detail k) limits attributes (map added_of entries)
 

@@ -1,7 +1,8 @@
 //! The machine: the domain, and the calls that run.
 use board_cell::{FreshCall, GetCall, PublishCall, PutCall, UpdateCall};
 use board_model::{
-    AddedEntries, Attributes, BoardName, Key, KeyType, Limits, Name, Requirements, ValueType, Words,
+    AddedEntries, Attributes, BoardName, Key, KeyType, Limits, Name, NewLimits, Requirements,
+    ValueType, Words,
 };
 use board_service::BoardWords;
 use script_parties::{Held, PartyDomain};
@@ -14,7 +15,7 @@ pub(crate) enum TableTask {
         factory: Name,
         name: BoardName,
         key_type: KeyType,
-        limits: Limits,
+        limits: NewLimits,
         attributes: Attributes,
         entries: AddedEntries,
     },

@@ -9,7 +9,7 @@ use Rattle.board_model.specs.declared.value.Key.TheVariants as key
 use Rattle.board_model.specs.declared.value.KeyType.TheVariants as key_type
 use Rattle.board_model.specs.declared.value.Value.TheVariants as value
 use Rattle.board_model.specs.declared.value.ValueType.TheVariants as type
-use Rattle.board_model.specs.WorkedSessions.{added, no_limits, no_needs}
+use Rattle.board_model.specs.WorkedSessions.{added, no_limits, no_needs, unlimited}
 
 -- ---- the opening: a board of two entries, with one writer and two readers
 
@@ -23,7 +23,7 @@ asked_by party calls = flat_map (λ c. asked_once party c) calls
 
 -- the board `gen` is made, of one word and of four
 abbrev pub create_board : Call
-create_board = call.Create (codes "f") (codes "gen") key_type.U64 no_limits [] (added (key.U64 0) (value.U64 0) ∷ added (key.U64 1) (value.Q4 0 0 0 0) ∷ [])
+create_board = call.Create (codes "f") (codes "gen") key_type.U64 unlimited [] (added (key.U64 0) (value.U64 0) ∷ added (key.U64 1) (value.Q4 0 0 0 0) ∷ [])
 
 -- the board is opened
 abbrev pub open_board : Call

@@ -171,11 +171,12 @@ flat_info i h =
     (flat_append (key_type_text i.key_type) _ (flat_key_type i.key_type)
     (flat_append (decimal i.max_readers) _ (flat_decimal i.max_readers)
     (flat_append (decimal i.max_nodes) _ (flat_decimal i.max_nodes)
+    (flat_append (decimal i.max_writers) _ (flat_decimal i.max_writers)
     (flat_append (decimal i.entries) _ (flat_decimal i.entries)
     (flat_append (decimal i.attributes) _ (flat_decimal i.attributes)
     (flat_append (decimal i.readers) _ (flat_decimal i.readers)
     (flat_append (decimal i.writers) _ (flat_decimal i.writers)
-    (flat_decimal i.nodes))))))))
+    (flat_decimal i.nodes)))))))))
 
 flat_reply : (r : Reply) → IsReply r → IsFlat (reply_text r)
 flat_reply reply.Done h = refl

@@ -3,24 +3,25 @@ use Rattle.std.proofs.Common.{◌≡◌, ℕ, true, false, List, [], ◌∷◌, 
 use Rattle.std.specs.Prelude.{codes}
 use Rattle.std.specs.Str.{bytes_eq}
 use Rattle.std.specs.List.{flat_map, AllByRecursion}
-use Rattle.std.proofs.lemmas.List.{append-nil}
+use Rattle.std.proofs.lemmas.List.{append-nil, append_assoc}
 use Rattle.std.proofs.lemmas.List.Concat.{flat_map-cons}
 use Rattle.board_model.specs.declared.attributes.Attribute.{Attribute}
 use Rattle.board_model.specs.declared.attributes.Requirements.{Requirements}
 use Rattle.board_model.specs.declared.tables.Limits.{Limits}
+use Rattle.board_model.specs.declared.tables.NewLimits.{NewLimits}
 use Rattle.board_model.specs.declared.value.AddedEntry.{AddedEntry}
 use Rattle.board_model.specs.declared.value.Key.{Key}
 use Rattle.board_model.specs.declared.value.KeyType.{KeyType}
 use Rattle.board_model.specs.declared.value.ValueType.{ValueType}
 use Rattle.board_model.specs.declared.line.Call.{Call}
 use Rattle.board_model.specs.declared.line.Call.TheVariants as call
-use Rattle.board_model.specs.LineGrammar.{IsKey, AreLimits, is_board_name, is_name, key_text, key_type_text, value_text, value_type_text, entry_tokens, call_tokens, name_tokens, IsNameIfAny, IsAddedEntry, IsCall, limits_tokens, pair_tokens, needed_key_tokens}
+use Rattle.board_model.specs.LineGrammar.{IsKey, AreLimits, is_board_name, is_name, key_text, key_type_text, value_text, value_type_text, entry_tokens, call_tokens, name_tokens, IsNameIfAny, IsAddedEntry, IsCall, limit_tokens, limits_tokens, new_limits_tokens, pair_tokens, needed_key_tokens}
 use Rattle.script_grammar.specs.TokenReading.{◌>>=◌, guard, first_by, is_end, read_name, read_board_name, read_key_type, read_value_type, read_key, read_value, read_number}
-use Rattle.script_grammar.specs.LineReading.{begins_with, read_board, read_limits, read_parts, read_pair, read_needs, read_entry, read_entries, read_create, read_one_name, read_two_names, read_name_if_any, read_open, read_entry_parts, read_get, read_update, read_put, read_fill, read_named_call, read_plain_call, read_call}
+use Rattle.script_grammar.specs.LineReading.{begins_with, read_board, read_limit, read_limits, read_parts, read_pair, read_needs, read_entry, read_entries, read_create, read_one_name, read_two_names, read_name_if_any, read_open, read_entry_parts, read_get, read_update, read_put, read_fill, read_named_call, read_plain_call, read_call}
 use Rattle.script_grammar.proofs.ReaderLemmas.{some_is, bind_some, guard_some, word_is, by_word, no_word, first_takes, end_takes, token_before, word_before}
 use Rattle.script_grammar.proofs.NumeralLemmas.{number_again, number_takes}
 use Rattle.script_grammar.proofs.TokenLemmas.{name_again, name_takes, board_name_again, board_name_takes, key_type_again, key_type_takes, value_type_again, value_type_takes, key_again, key_takes, value_again, value_takes}
-use Rattle.script_grammar.proofs.OptionLemmas.{begins_not, begins_no_part, limits_again, limits_take, pairs_again, pairs_take, needs_again, needs_take}
+use Rattle.script_grammar.proofs.OptionLemmas.{begins_not, begins_no_limit, begins_no_part, limit_again, limit_takes, limits_again, limits_take, pairs_again, pairs_take, needs_again, needs_take}
 
 -- ---- entries
 
@@ -185,11 +186,24 @@ behind_limits attributes es = flat_map (pair_tokens (codes "attr")) attributes +
 create_begins : (word : List ℕ) → bytes_eq (codes "attr") word ≡ false → bytes_eq (codes "add") word ≡ false → (attributes : List Attribute) (es : List AddedEntry) → begins_with word (behind_limits attributes es) ≡ false
 create_begins word a b attributes es = begins_not word (pair_tokens (codes "attr")) (λ x rest. a) attributes (flat_map entry_tokens es) (entries_begin word b es)
 
-create_again : (f n : List ℕ) (k : KeyType) (l : Limits) (attributes : List Attribute) (es : List AddedEntry) → IsCall (call.Create f n k l attributes es) → read_create (f ∷ n ∷ key_type_text k ∷ (limits_tokens l ++ (flat_map (pair_tokens (codes "attr")) attributes ++ flat_map entry_tokens es))) ≡ Some (call.Create f n k l attributes es)
+-- the limit of writers, and what is behind it
+abbrev behind_shared : Option ℕ → List Attribute → List AddedEntry → List (List ℕ)
+behind_shared writers attributes es = limit_tokens (codes "writers") writers ++ behind_limits attributes es
+
+shared_begins : (word : List ℕ) → bytes_eq (codes "writers") word ≡ false → bytes_eq (codes "attr") word ≡ false → bytes_eq (codes "add") word ≡ false → (writers : Option ℕ) (attributes : List Attribute) (es : List AddedEntry) → begins_with word (behind_shared writers attributes es) ≡ false
+shared_begins word w a b writers attributes es = begins_no_limit word (codes "writers") w writers (behind_limits attributes es) (create_begins word a b attributes es)
+
+-- the tokens of the limits of a new board, and what is behind them
+parted_limits : (l : NewLimits) (attributes : List Attribute) (es : List AddedEntry) → new_limits_tokens l ++ behind_limits attributes es ≡ limits_tokens l.shared ++ behind_shared l.max_writers attributes es
+parted_limits l attributes es = append_assoc (limits_tokens l.shared) (limit_tokens (codes "writers") l.max_writers) (behind_limits attributes es)
+
+create_again : (f n : List ℕ) (k : KeyType) (l : NewLimits) (attributes : List Attribute) (es : List AddedEntry) → IsCall (call.Create f n k l attributes es) → read_create (f ∷ n ∷ key_type_text k ∷ (new_limits_tokens l ++ behind_limits attributes es)) ≡ Some (call.Create f n k l attributes es)
 unfolding read_create
 create_again f n k l attributes es h =
-    rw (
-      board_again f n k l h.0 h.1 h.2 (behind_limits attributes es) (create_begins (codes "readers") refl refl attributes es) (create_begins (codes "nodes") refl refl attributes es),
+    ap (λ (x : List (List ℕ)). read_create (f ∷ n ∷ key_type_text k ∷ x)) (parted_limits l attributes es)
+    ∙ rw (
+      board_again f n k l.shared h.0 h.1 h.2.shared (behind_shared l.max_writers attributes es) (shared_begins (codes "readers") refl refl refl l.max_writers attributes es) (shared_begins (codes "nodes") refl refl refl l.max_writers attributes es),
+      limit_again (codes "writers") refl l.max_writers h.2.writers (behind_limits attributes es) (create_begins (codes "writers") refl refl attributes es),
       pairs_again (codes "attr") refl attributes h.3 (flat_map entry_tokens es) (entries_begin (codes "attr") refl es),
       entries_again es h.4,
     ) refl
@@ -202,14 +216,19 @@ create_takes : (ts : List (List ℕ)) (c : Call) → read_create ts ≡ Some c �
 unfolding read_create
 create_takes ts c e =
     let b = bind_some (read_board ts) _ c e in
-    let as_ = bind_some (read_parts 8 (codes "attr") read_pair b.0.1) _ c b.2 in
+    let w = bind_some (read_limit (codes "writers") b.0.1) _ c b.2 in
+    let as_ = bind_some (read_parts 8 (codes "attr") read_pair w.0.1) _ c w.2 in
     let es = bind_some (read_entries as_.0.1) _ c as_.2 in
     let tb = board_takes ts b.0 b.1 in
-    let ta = pairs_take (codes "attr") b.0.1 as_.0 as_.1 in
+    let tw = limit_takes (codes "writers") b.0.1 w.0 w.1 in
+    let ta = pairs_take (codes "attr") w.0.1 as_.0 as_.1 in
     let te = entries_take as_.0.1 es.0 es.1 in
-    let behind : b.0.1 ≡ behind_limits as_.0.0 es.0 = ta.tokens ∙ ap (λ (x : List (List ℕ)). flat_map (pair_tokens (codes "attr")) as_.0.0 ++ x) te.tokens in
-    subst (TakesCall (codes "create" ∷ ts)) (some_is (call.Create b.0.0.0 b.0.0.1 b.0.0.2 b.0.0.3 as_.0.0 es.0) c es.2)
-    (record { tokens = word_before (codes "create") (followed b.0.0.0 b.0.0.1 b.0.0.2 b.0.0.3 ts b.0.1 _ tb.tokens behind); is = (tb.factory, tb.name, tb.limits, ta.are, te.are) })
+    let limits : NewLimits = record { shared = b.0.0.3; max_writers = w.0.0 } in
+    let behind : w.0.1 ≡ behind_limits as_.0.0 es.0 = ta.tokens ∙ ap (λ (x : List (List ℕ)). flat_map (pair_tokens (codes "attr")) as_.0.0 ++ x) te.tokens in
+    let all : b.0.1 ≡ behind_shared w.0.0 as_.0.0 es.0 = tw.tokens ∙ ap (λ (x : List (List ℕ)). limit_tokens (codes "writers") w.0.0 ++ x) behind in
+    let together = followed b.0.0.0 b.0.0.1 b.0.0.2 b.0.0.3 ts b.0.1 _ tb.tokens all ∙ ap (λ (x : List (List ℕ)). b.0.0.0 ∷ b.0.0.1 ∷ key_type_text b.0.0.2 ∷ x) (sym (parted_limits limits as_.0.0 es.0)) in
+    subst (TakesCall (codes "create" ∷ ts)) (some_is (call.Create b.0.0.0 b.0.0.1 b.0.0.2 limits as_.0.0 es.0) c es.2)
+    (record { tokens = word_before (codes "create") together; is = (tb.factory, tb.name, record { shared = tb.limits; writers = tw.is }, ta.are, te.are) })
 
 abbrev needs_tokens : Requirements → List (List ℕ)
 needs_tokens needs = flat_map (pair_tokens (codes "need")) needs.pairs ++ flat_map needed_key_tokens needs.keys

@@ -34,16 +34,16 @@ begins_no_part word g other xs = ap (begins_with word) (sym (append-nil (flat_ma
 
 -- ---- limits
 
-limit_again : (word : List ℕ) → bytes_eq word word ≡ true → (n : Option ℕ) → IsNumberIfAny n → (rest : List (List ℕ)) → begins_with word rest ≡ false → read_limit word (limit_tokens word n ++ rest) ≡ Some (n, rest)
+pub limit_again : (word : List ℕ) → bytes_eq word word ≡ true → (n : Option ℕ) → IsNumberIfAny n → (rest : List (List ℕ)) → begins_with word rest ≡ false → read_limit word (limit_tokens word n ++ rest) ≡ Some (n, rest)
 unfolding read_limit
 limit_again word same None h rest other = rw other refl
 limit_again word same (Some n) h rest other = rw (same, number_again n h) refl
 
-record IsTakenLimit (word : List ℕ) (ts : List (List ℕ)) (p : Option ℕ × List (List ℕ)) : Type 0 where
+pub record IsTakenLimit (word : List ℕ) (ts : List (List ℕ)) (p : Option ℕ × List (List ℕ)) : Type 0 where
   pub tokens : ts ≡ limit_tokens word p.0 ++ p.1
   pub is : IsNumberIfAny p.0
 
-limit_takes : (word : List ℕ) (ts : List (List ℕ)) (p : Option ℕ × List (List ℕ)) → read_limit word ts ≡ Some p → IsTakenLimit word ts p
+pub limit_takes : (word : List ℕ) (ts : List (List ℕ)) (p : Option ℕ × List (List ℕ)) → read_limit word ts ≡ Some p → IsTakenLimit word ts p
 unfolding read_limit
 limit_takes word ts p e =
     elim (chosen (begins_with word ts) _ _ _ e) [
@@ -56,16 +56,17 @@ limit_takes word ts p e =
       | inr h ↦ subst (IsTakenLimit word ts) (some_is (None, ts) p h.1) (record { tokens = refl; is = tt })
     ]
 
-no_readers : (n : Option ℕ) (rest : List (List ℕ)) → begins_with (codes "readers") rest ≡ false → begins_with (codes "readers") (limit_tokens (codes "nodes") n ++ rest) ≡ false
-no_readers None rest h = h
-no_readers (Some n) rest h = refl
+-- a word doesn't come before a limit of another word
+pub begins_no_limit : (word other : List ℕ) → bytes_eq other word ≡ false → (n : Option ℕ) (rest : List (List ℕ)) → begins_with word rest ≡ false → begins_with word (limit_tokens other n ++ rest) ≡ false
+begins_no_limit word other differ None rest h = h
+begins_no_limit word other differ (Some n) rest h = differ
 
 pub limits_again : (l : Limits) → AreLimits l → (rest : List (List ℕ)) → begins_with (codes "readers") rest ≡ false → begins_with (codes "nodes") rest ≡ false → read_limits (limits_tokens l ++ rest) ≡ Some (l, rest)
 unfolding read_limits
 limits_again l h rest other last =
     ap read_limits (append_assoc (limit_tokens (codes "readers") l.max_readers) (limit_tokens (codes "nodes") l.max_nodes) rest)
     ∙ rw (
-      limit_again (codes "readers") refl l.max_readers h.readers (limit_tokens (codes "nodes") l.max_nodes ++ rest) (no_readers l.max_nodes rest other),
+      limit_again (codes "readers") refl l.max_readers h.readers (limit_tokens (codes "nodes") l.max_nodes ++ rest) (begins_no_limit (codes "readers") (codes "nodes") refl l.max_nodes rest other),
       limit_again (codes "nodes") refl l.max_nodes h.nodes rest last,
     ) refl
 

@@ -9,6 +9,7 @@ use Rattle.board_event_model.specs.declared.call.WaitMode.{WaitMode}
 use Rattle.board_event_model.specs.declared.call.WaitMode.TheVariants as mode
 use Rattle.board_model.specs.declared.attributes.Attribute.{Attribute}
 use Rattle.board_model.specs.declared.tables.Limits.{Limits}
+use Rattle.board_model.specs.declared.tables.NewLimits.{NewLimits}
 use Rattle.board_model.specs.declared.value.AddedEntry.{AddedEntry}
 use Rattle.board_model.specs.declared.value.Key.{Key}
 use Rattle.board_model.specs.declared.value.Key.TheVariants as key
@@ -27,7 +28,7 @@ use Rattle.script_model.specs.declared.line.EventRequest.TheVariants as request
 use Rattle.script_model.specs.declared.line.ScriptLine.{ScriptLine}
 use Rattle.script_model.specs.declared.line.ScriptLine.TheVariants as script_line
 use Rattle.script_model.specs.ScriptGrammar.{IsEventRequest, IsScriptLine, count_text, is_event_name, kind_text, mode_text, request_tokens, script_spell, script_tokens}
-use Rattle.board_model.specs.LineGrammar.{is_name, is_attribute_key, key_text, key_type_text, value_text, value_type_text, limit_tokens, limits_tokens, pair_tokens, needed_key_tokens, entry_tokens, name_tokens, call_tokens, tokens, spell, IsNumber, IsNumberIfAny, IsNameIfAny, IsAddedEntry, IsAttribute, AreLimits, IsCall, IsKey, IsValue, IsLine}
+use Rattle.board_model.specs.LineGrammar.{is_name, is_attribute_key, key_text, key_type_text, value_text, value_type_text, limit_tokens, limits_tokens, new_limits_tokens, pair_tokens, needed_key_tokens, entry_tokens, name_tokens, call_tokens, tokens, spell, IsNumber, IsNumberIfAny, IsNameIfAny, IsAddedEntry, IsAttribute, AreLimits, AreNewLimits, IsCall, IsKey, IsValue, IsLine}
 use Rattle.script_grammar.specs.TokenReading.{split_tokens}
 use Rattle.script_grammar.proofs.SplitLemmas.{IsFree, split_free, free_number, free_visible, free_name, free_event_name, free_joined}
 
@@ -79,6 +80,9 @@ plain_limit word w (Some n) h = (w, (plain_number n h, tt))
 plain_limits : (l : Limits) → AreLimits l → ArePlain (limits_tokens l)
 plain_limits l h = plain_append (limit_tokens (codes "readers") l.max_readers) (limit_tokens (codes "nodes") l.max_nodes) (plain_limit (codes "readers") refl l.max_readers h.readers) (plain_limit (codes "nodes") refl l.max_nodes h.nodes)
 
+plain_new_limits : (l : NewLimits) → AreNewLimits l → ArePlain (new_limits_tokens l)
+plain_new_limits l h = plain_append (limits_tokens l.shared) (limit_tokens (codes "writers") l.max_writers) (plain_limits l.shared h.shared) (plain_limit (codes "writers") refl l.max_writers h.writers)
+
 plain_pair : (word : List ℕ) → IsPlain word → (a : Attribute) → IsAttribute a → ArePlain (pair_tokens word a)
 plain_pair word w a h = (w, (free_visible 32 64 refl a.key h.key, (free_visible 32 256 refl a.value h.value, tt)))
 
@@ -107,7 +111,7 @@ plain_call (call.Create f n k l attrs es) h = (
       free_visible 32 255 refl n h.1,
       (
         plain_key_type k,
-        plain_append (limits_tokens l) (flat_map (pair_tokens (codes "attr")) attrs ++ flat_map entry_tokens es) (plain_limits l h.2)
+        plain_append (new_limits_tokens l) (flat_map (pair_tokens (codes "attr")) attrs ++ flat_map entry_tokens es) (plain_new_limits l h.2)
             (plain_append (flat_map (pair_tokens (codes "attr")) attrs) (flat_map entry_tokens es)
             (plain_each IsAttribute (pair_tokens (codes "attr")) (plain_pair (codes "attr") refl) attrs h.3.each)
             (plain_each IsAddedEntry entry_tokens plain_entry es h.4)),

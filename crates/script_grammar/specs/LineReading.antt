@@ -66,11 +66,11 @@ read_board ts =
     first_by read_name ts >>= λ f. first_by read_board_name f.1 >>= λ n. first_by read_key_type n.1 >>= λ k. read_limits k.1 >>= λ limits.
     Some ((f.0, n.0, k.0, limits.0), limits.1)
 
--- attributes and entries may follow
+-- the limit of writers, attributes and entries may follow
 unfoldable pub read_create : List (List ℕ) → Option Call
 read_create ts =
-    read_board ts >>= λ b. read_parts 8 (codes "attr") read_pair b.1 >>= λ attributes. read_entries attributes.1 >>= λ entries.
-    Some (call.Create b.0.0 b.0.1 b.0.2 b.0.3 attributes.0 entries)
+    read_board ts >>= λ b. read_limit (codes "writers") b.1 >>= λ w. read_parts 8 (codes "attr") read_pair w.1 >>= λ attributes. read_entries attributes.1 >>= λ entries.
+    Some (call.Create b.0.0 b.0.1 b.0.2 (record { shared = b.0.3; max_writers = w.0 }) attributes.0 entries)
 
 -- needs may follow
 unfoldable pub read_open : List (List ℕ) → Option Call

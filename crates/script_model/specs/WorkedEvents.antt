@@ -66,7 +66,7 @@ a_set_name_is_held_longer =
 
 -- a new board, under this name for its factory
 abbrev pub a_board : List ℕ → ScriptLine
-a_board name = line.Board (board_line.Begin (codes "b") (call.Create name (codes "b") key_type.U64 boards.no_limits [] (boards.added (key.U64 1) (value.U64 7) ∷ [])))
+a_board name = line.Board (board_line.Begin (codes "b") (call.Create name (codes "b") key_type.U64 boards.unlimited [] (boards.added (key.U64 1) (value.U64 7) ∷ [])))
 
 -- each reason for which a line is refused on account of events
 abbrev pub lines_are_refused : Session

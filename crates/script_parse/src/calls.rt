@@ -10,7 +10,7 @@ use crate::options::{attributes_of, needs_of, skip_parts};
 use crate::tokens::Tokens;
 use crate::values::{are_entries, entries_of};
 use board_layout::Text;
-use board_model::{Attribute, Call, Key, LongName, Name, ValueType};
+use board_model::{Attribute, Call, Key, LongName, Name, NewLimits, ValueType};
 use std::alloc::{AllocError, Global};
 
 // A single name and no more.
@@ -200,7 +200,7 @@ fn plain_call_of(word: &[u8], tokens: &mut Tokens) -> Option<Call>
 fn is_create(tokens: &mut Tokens) -> bool
     ensures { result ≡ is_some (read_create tokens.old) }
 {
-    if tokens.board().is_none() {
+    if tokens.board().is_none() || tokens.limit(b"writers").is_none() {
         return false;
     }
     if !skip_parts::<Attribute>(b"attr", tokens) {
@@ -213,7 +213,10 @@ fn is_create(tokens: &mut Tokens) -> bool
 fn collect_create(alloc: Global, tokens: &mut Tokens) -> Result<Option<Call>, AllocError>
     ensures { IfOk result (λ o. o ≡ read_create tokens.old) }
 {
-    let Some((factory, name, key_type, limits)) = tokens.board() else {
+    let Some((factory, name, key_type, shared)) = tokens.board() else {
+        return Ok(None);
+    };
+    let Some(max_writers) = tokens.limit(b"writers") else {
         return Ok(None);
     };
     let Some(attributes) = attributes_of(alloc, b"attr", tokens)? else {
@@ -226,7 +229,10 @@ fn collect_create(alloc: Global, tokens: &mut Tokens) -> Result<Option<Call>, Al
         factory,
         name: LongName::new(alloc, name)?,
         key_type,
-        limits,
+        limits: NewLimits {
+            shared,
+            max_writers,
+        },
         attributes,
         entries,
     }))

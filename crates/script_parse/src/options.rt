@@ -16,7 +16,7 @@ const MOST_PARTS: usize = 8;
 impl<'a> Tokens<'a> {
     // A limit, where its word stands.
     #[tactic(auto, unfolding(script_grammar::specs::LineReading::read_limit))]
-    fn limit(&mut self, word: &[u8]) -> Option<Option<u64>>
+    pub(crate) fn limit(&mut self, word: &[u8]) -> Option<Option<u64>>
         ensures { with_rest result self.new ≡ read_limit word.now self.old }
     {
         if !self.take_word(word) {

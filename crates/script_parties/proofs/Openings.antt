@@ -20,6 +20,7 @@ use Rattle.board_model.specs.declared.tables.Board.{Board}
 use Rattle.board_model.specs.declared.tables.Entry.{Entry}
 use Rattle.board_model.specs.declared.tables.Kind.TheVariants as kind
 use Rattle.board_model.specs.declared.tables.Limits.{Limits}
+use Rattle.board_model.specs.declared.tables.NewLimits.{NewLimits}
 use Rattle.board_model.specs.declared.tables.Thing.{Thing}
 use Rattle.board_model.specs.declared.value.AddedEntry.{AddedEntry}
 use Rattle.board_model.specs.declared.value.KeyType.{KeyType}
@@ -168,7 +169,7 @@ opening_is words list entries law h =
     let opens : IsOpening (Some list) (map added_of entries) = subst (λ w. IsOpening w (map added_of entries)) law h in
     opens ∙ ap (λ vs. opening_words 0 (places_from 0 (shapes_of (map added_of entries))) vs) (words_same entries)
 
-pub create_made : {C : Type 0} (words : C → Option (List ℕ)) (list : C → List ℕ) (nodes : List (List ℕ)) (numbers : List ℕ) (things : List Held) (d after : Domain C) (party factory name : List ℕ) (k : KeyType) (limits : Limits)
+pub create_made : {C : Type 0} (words : C → Option (List ℕ)) (list : C → List ℕ) (nodes : List (List ℕ)) (numbers : List ℕ) (things : List Held) (d after : Domain C) (party factory name : List ℕ) (k : KeyType) (limits : NewLimits)
     (attributes : List Attribute) (entries : List AddedEntry) (node : ℕ) (title : List ℕ) (given : List Attribute) (added : List Added) (m : Made) (cells : C)
     → ((x : C) → words x ≡ Some (list x)) → IsNamed nodes numbers things d → IsCreated party name attributes (map added_of entries) nodes node title given added → AllByRecursion HasShortKey added
     → Answers (ok_of m) create_error.OutOfMemory (create_answer d (same_key k) title added) → IsOpening (words cells) added → after ≡ after_create d node title (key_detail k) limits given added cells
@@ -214,7 +215,7 @@ create_made {C} words list nodes numbers things d after party factory name k lim
 no_words : (words : List (List ℕ)) (entries : List AddedEntry) (why : BlackboardCreateError) → words ≡ words_with words entries (reply.CreateError why)
 no_words words entries why = refl
 
-pub create_not_made : {C : Type 0} (list : C → List ℕ) (nodes : List (List ℕ)) (numbers : List ℕ) (things : List Held) (d after : Domain C) (party factory name : List ℕ) (k : KeyType) (limits : Limits)
+pub create_not_made : {C : Type 0} (list : C → List ℕ) (nodes : List (List ℕ)) (numbers : List ℕ) (things : List Held) (d after : Domain C) (party factory name : List ℕ) (k : KeyType) (limits : NewLimits)
     (attributes : List Attribute) (entries : List AddedEntry) (node : ℕ) (title : List ℕ) (given : List Attribute) (added : List Added) (why : BlackboardCreateError)
     → IsNamed nodes numbers things d → IsCreated party name attributes (map added_of entries) nodes node title given added → d.tables.last_board < 2 ^ 63 → d.last_thing < 2 ^ 63 → why ≢ create_error.OutOfMemory
     → Answers (err_of why) create_error.OutOfMemory (create_answer d (same_key k) title added) → after ≡ d

@@ -34,7 +34,7 @@ pub record IsTold (ts : List (Thing ℕ ℕ)) (board : Option Board) (name : Lis
 
 pub info_told : (xs : List Held) (ts : List (Thing ℕ ℕ)) (board : Option Board) (name : List ℕ) (config : StaticConfig) (attributes : List Attribute) (taken : DynamicConfig) → TakeAlike xs ts → IsTold ts board name config attributes taken
     → (text : List ℕ) (key : KeyType) (count : ℕ) → text ≡ name → key ≡ key_type_of config.type_details → count ≡ length attributes
-    → ◌≡◌ {A = Info} (record { name = text; key_type = key; max_readers = config.max_readers; max_nodes = config.max_nodes; entries = config.entries; attributes = count; readers = taken.readers; writers = taken.writers; nodes = taken.nodes }) (info_of xs board)
+    → ◌≡◌ {A = Info} (record { name = text; key_type = key; max_readers = config.max_readers; max_nodes = config.max_nodes; max_writers = config.max_writers; entries = config.entries; attributes = count; readers = taken.readers; writers = taken.writers; nodes = taken.nodes }) (info_of xs board)
 info_told xs ts None name config attributes taken alike h text key count e k n = absurd (let x = h.name_is in cc)
 info_told xs ts (Some b) name config attributes taken alike h text key count e k n =
     let name_is : name ≡ b.name = same_Some name b.name h.name_is in

@@ -85,11 +85,15 @@ reader_not_made {C} list nodes numbers things d after x number name why h i p q 
 
 -- ---- writers
 
+writers_refused : (f : ℕ → List ℕ) (ts : List (Thing ℕ ℕ)) (xs : List Held) (b : Option Board) → AreSame f ts xs → first_of (writer_refusals xs b) ≡ first_of (writer_refusals ts b)
+writers_refused f ts xs None e = refl
+writers_refused f ts xs (Some b) e = ap (λ n. if nat_le b.max_writers n then Some writer_error.ExceedsMaxSupportedWriters else None) (writers-same f b.number ts xs e)
+
 writer_tests : {C : Type 0} (nodes : List (List ℕ)) (numbers : List ℕ) (things : List Held) (d : Domain C) (x : Held) (number : ℕ) → IsNamed nodes numbers things d → IsThing nodes d x number
-    → first_of (writer_refusals things x.board) ≡ first_of (writer_refusals d.tables.things (held d number).board)
+    → first_of (writer_refusals things (board_at d.tables x.board)) ≡ first_of (writer_refusals d.tables.things (board_at d.tables (held d number).board))
 writer_tests nodes numbers things d x number h i =
-    ap (λ n. if nat_le 1 n then Some writer_error.ExceedsMaxSupportedWriters else None) (writers-same (party_at nodes) x.board d.tables.things things h.same)
-    ∙ ap (λ b. first_of (writer_refusals d.tables.things b)) (sym i.board)
+    writers_refused (party_at nodes) d.tables.things things (board_at d.tables x.board) h.same
+    ∙ ap (λ b. first_of (writer_refusals d.tables.things (board_at d.tables b))) (sym i.board)
 
 pub writer_made : {C : Type 0} (list : C → List ℕ) (nodes : List (List ℕ)) (numbers : List ℕ) (things : List Held) (d after : Domain C) (x : Held) (number : ℕ) (name : List ℕ) (m : Made)
     → IsNamed nodes numbers things d → IsThing nodes d x number → Answers (ok_of m) writer_error.OutOfMemory (writer_answer d (held d number)) → after ≡ after_writer d (held d number)
@@ -97,12 +101,12 @@ pub writer_made : {C : Type 0} (list : C → List ℕ) (nodes : List (List ℕ))
     × IsNamed nodes (numbers ++ m.thing ∷ []) (things ++ from x name (kind.Writer m.number) ∷ []) after
 writer_made {C} list nodes numbers things d after x number name m h i a ok =
     let of = held d number in
-    let by = answered_made (writer_refusals d.tables.things of.board) (spent d.tables.last_port || spent d.last_thing, writer_error.NumbersSpent) writer_error.OutOfMemory m (made d (d.tables.last_port + 1)) a in
+    let by = answered_made (writer_refusals d.tables.things (board_at d.tables of.board)) (spent d.tables.last_port || spent d.last_thing, writer_error.NumbersSpent) writer_error.OutOfMemory m (made d (d.tables.last_port + 1)) a in
     let Told : Domain C → Made → Type 0 = λ e k. IsWriter (shown list d things) (shown list e (things ++ from x name (kind.Writer k.number) ∷ [])) name x (reply.Number k.number) in
     let Kept : Domain C → Made → Type 0 = λ e k. IsNamed nodes (numbers ++ k.thing ∷ []) (things ++ from x name (kind.Writer k.number) ∷ []) e in
     let told : Told (after_writer d of) (made d (d.tables.last_port + 1)) =
     told_made (shown list d things) (shown list (after_writer d of) (things ++ from x name (kind.Writer (d.tables.last_port + 1)) ∷ [])) (λ e. reply.WriterError e)
-    (first_of (writer_refusals things x.board)) (d.tables.last_port + 1) (with_writer (shown list d things).tables x name)
+    (first_of (writer_refusals things (board_at d.tables x.board))) (d.tables.last_port + 1) (with_writer (shown list d things).tables x name)
     (writer_tests nodes numbers things d x number h i ∙ by.none) refl refl (omega arith) in
     let more : IsMore nodes d (after_writer d of) (record { holder = of.holder; name = d.last_thing + 1; board = of.board; kind = kind.Writer (d.tables.last_port + 1) }) (from x name (kind.Writer (d.tables.last_port + 1))) =
     record { things = refl; last = refl; number = refl; holder = i.holder; board = i.board; kind = refl; node = record { some = i.node.some; most = i.node.most }; keys = h.keys } in
@@ -115,7 +119,7 @@ pub writer_not_made : {C : Type 0} (list : C → List ℕ) (nodes : List (List �
     → IsWriter (shown list d things) (shown list after things) name x (reply.WriterError why)
 writer_not_made {C} list nodes numbers things d after x number name why h i p q memory a err =
     let of = held d number in
-    let by = answered_refused (writer_refusals d.tables.things of.board) (spent d.tables.last_port || spent d.last_thing, writer_error.NumbersSpent) writer_error.OutOfMemory why (made d (d.tables.last_port + 1)) (few_left d.tables.last_port d.last_thing p q) memory a in
+    let by = answered_refused (writer_refusals d.tables.things (board_at d.tables of.board)) (spent d.tables.last_port || spent d.last_thing, writer_error.NumbersSpent) writer_error.OutOfMemory why (made d (d.tables.last_port + 1)) (few_left d.tables.last_port d.last_thing p q) memory a in
     subst (λ e. IsWriter (shown list d things) (shown list e things) name x (reply.WriterError why)) (sym err)
-    (told_refused (shown list d things) (λ e. reply.WriterError e) (first_of (writer_refusals things x.board)) (d.tables.last_port + 1) (with_writer (shown list d things).tables x name) why
+    (told_refused (shown list d things) (λ e. reply.WriterError e) (first_of (writer_refusals things (board_at d.tables x.board))) (d.tables.last_port + 1) (with_writer (shown list d things).tables x name) why
     (writer_tests nodes numbers things d x number h i ∙ by))

@@ -8,6 +8,7 @@ use Rattle.board_model.specs.declared.attributes.Attribute.{Attribute}
 use Rattle.board_model.specs.declared.attributes.Requirements.{Requirements}
 use Rattle.board_model.specs.declared.tables.Board.{Board}
 use Rattle.board_model.specs.declared.tables.Limits.{Limits}
+use Rattle.board_model.specs.declared.tables.NewLimits.{NewLimits}
 use Rattle.board_model.specs.declared.value.AddedEntry.{AddedEntry}
 use Rattle.board_model.specs.declared.value.Key.{Key}
 use Rattle.board_model.specs.declared.value.KeyType.{KeyType}
@@ -76,7 +77,7 @@ words_with words entries (reply.Number n) = words ++ opening_of entries ∷ []
 words_with words entries told = words
 
 -- a create is told so, and leaves these tables and words
-pub record IsCreate (old new : Parties) (party factory name : List ℕ) (k : KeyType) (limits : Limits) (attributes : List Attribute) (entries : List AddedEntry) (told : Reply) : Type 0 where
+pub record IsCreate (old new : Parties) (party factory name : List ℕ) (k : KeyType) (limits : NewLimits) (attributes : List Attribute) (entries : List AddedEntry) (told : Reply) : Type 0 where
   pub told_is : told ≡ number_or reply.CreateError (create_asked (same_key k) old.tables party factory name (key_detail k) limits attributes (map added_of entries)).0
   pub tables : new.tables ≡ (create_asked (same_key k) old.tables party factory name (key_detail k) limits attributes (map added_of entries)).1
   pub words : new.words ≡ words_with old.words entries told

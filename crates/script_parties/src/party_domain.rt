@@ -19,8 +19,8 @@ use board_cell::Words;
 use board_layout::Text;
 use board_model::{
     AddedEntries, Attributes, Entry, Info, Key, KeyType, Keys, Kind, Limits, LongName, Name, Names,
-    Reply, Requirements, Thing, ThingKind, ValueType, key_detail, key_type_of, same_type,
-    type_of_key, value_detail,
+    NewLimits, Reply, Requirements, Thing, ThingKind, ValueType, key_detail, key_type_of,
+    same_type, type_of_key, value_detail,
 };
 use board_names::{
     BlackboardCreateError, BlackboardOpenError, EntryHandleError, EntryHandleMutError,
@@ -186,7 +186,7 @@ impl<C: BoardWords + Drop> PartyDomain<C> {
         factory: Name,
         name: Text<255>,
         key_type: KeyType,
-        limits: Limits,
+        limits: NewLimits,
         attributes: &Attributes,
         entries: &AddedEntries,
     ) -> Result<Reply, AllocError>
@@ -474,6 +474,7 @@ impl<C: BoardWords + Drop> PartyDomain<C> {
                 key_type: key_type_of(&config.type_details),
                 max_readers: config.max_readers,
                 max_nodes: config.max_nodes,
+                max_writers: config.max_writers,
                 entries: config.entries,
                 attributes: attributes.len() as u64,
                 readers: taken.readers,

@@ -13,7 +13,7 @@ ghost use Rattle.board_service.specs.Entries.{IsOpening, as_added};
 use crate::adding::f8_of;
 use board_concepts::{AttributeSet, AttributeVerifier};
 use board_layout::{F8, TypeDetail};
-use board_model::{Key, KeyType, Limits, ThingKind};
+use board_model::{Key, KeyType, Limits, NewLimits, ThingKind};
 use board_names::{
     BlackboardCreateError, BlackboardOpenError, EntryHandleError, EntryHandleMutError, ServiceName,
 };
@@ -25,7 +25,7 @@ pub(crate) fn create_in<C: Cells>(
     key_type: KeyType,
     node: NodeId,
     name: &ServiceName,
-    limits: Limits,
+    limits: NewLimits,
     attributes: AttributeSet,
     entries: Vec<NewEntry>,
 ) -> Result<Made, BlackboardCreateError>
@@ -36,8 +36,22 @@ pub(crate) fn create_in<C: Cells>(
     ensures err { OnErr result (core.new ≡ core.old) }
 {
     match key_type {
-        KeyType::U64 => core.create::<u64>(node, name, limits, attributes, entries),
-        KeyType::F8 => core.create::<F8>(node, name, limits, attributes, entries),
+        KeyType::U64 => core.create::<u64>(
+            node,
+            name,
+            limits.shared,
+            limits.max_writers,
+            attributes,
+            entries,
+        ),
+        KeyType::F8 => core.create::<F8>(
+            node,
+            name,
+            limits.shared,
+            limits.max_writers,
+            attributes,
+            entries,
+        ),
     }
 }
 

@@ -141,6 +141,7 @@ fn push_info(info: &Info, out: &mut Vec<u8>) -> Result<(), AllocError>
     push_both(b" ", key_type_name(info.key_type), out)?;
     push_counted(b" readers", info.max_readers, out)?;
     push_counted(b" nodes", info.max_nodes, out)?;
+    push_counted(b" writers", info.max_writers, out)?;
     push_counts(info, out)
 }
 

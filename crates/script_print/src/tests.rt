@@ -35,6 +35,7 @@ fn info(alloc: Global) -> Result<Answer, AllocError> {
         key_type: KeyType::F8,
         max_readers: 8,
         max_nodes: 20,
+        max_writers: 1,
         entries: 2,
         attributes: 1,
         readers: 3,
@@ -96,7 +97,7 @@ fn answers_to_board_lines(rt: HostRuntime) -> Result<(), Fail> {
         ),
         (
             info(alloc)?,
-            b"table = info board f8 readers 8 nodes 20 entries 2 attrs 1 taken 3 1 4\n",
+            b"table = info board f8 readers 8 nodes 20 writers 1 entries 2 attrs 1 taken 3 1 4\n",
         ),
         (
             step(Reply::OpenError(missing)),

@@ -1,5 +1,6 @@
 //! Descriptions and their bytes.
-ghost use Rattle.std.specs.Prelude.{◌≡◌, IfOk};
+ghost use Rattle.std.specs.Prelude.{IfOk};
+ghost use Rattle.board_concepts.specs.DescriptionSpelling.{IsWritable};
 
 use crate::attribute_set::AttributeSet;
 use crate::attribute_specifier::AttributeSpecifier;
@@ -16,9 +17,9 @@ const BYTES: [u8; 13] = [
     0x01, 0x01, 0x66, 0x00, 0x03, 0x75, 0x36, 0x34, 0x08, 0x08, 0x08, 0x14, 0x00,
 ];
 
-// The service `f`, with keys of type `u64` and 20 nodes.
+// The service `f` in version 1, with keys of type `u64`, 20 nodes and one writer.
 fn described(max_readers: u64, attributes: AttributeSet) -> Result<Description, Fail>
-    ensures { IfOk result (λ d. d.version ≡ 1) }
+    ensures { IfOk result IsWritable }
 {
     Ok(Description {
         version: 1,
@@ -26,6 +27,7 @@ fn described(max_readers: u64, attributes: AttributeSet) -> Result<Description, 
         key: TypeDetail::new::<u64>(TypeVariant::FixedSize),
         max_readers,
         max_nodes: 20,
+        max_writers: 1,
         attributes,
     })
 }
@@ -39,11 +41,42 @@ fn a_description_is_thirteen_bytes(rt: HostRuntime) -> Result<(), Fail> {
     assert_eq!(rt; bytes.as_slice(), BYTES.as_slice());
     let read = Recommended::deserialize(rt.alloc(), &bytes)?;
     assert_eq!(rt;
-        (read.version, read.max_readers, read.max_nodes),
-        (1, 8, 20)
+        (
+            read.version,
+            read.max_readers,
+            read.max_nodes,
+            read.max_writers
+        ),
+        (1, 8, 20, 1)
     );
     assert!(rt; read.name == description.name && read.key == description.key);
     assert_eq!(rt; read.attributes.len(), 0);
+    Ok(())
+}
+
+const OF_VERSION_TWO: [u8; 14] = [
+    0x02, 0x01, 0x66, 0x00, 0x03, 0x75, 0x36, 0x34, 0x08, 0x08, 0x08, 0x14, 0x01, 0x00,
+];
+
+#[test]
+fn version_two_spells_the_writers(rt: HostRuntime) -> Result<(), Fail> {
+    let alloc = rt.alloc();
+    let old = Postcard::deserialize(alloc, &BYTES)?;
+    let one = old.upgraded();
+    let bytes = Postcard::serialize(alloc, &one)?;
+    assert_eq!(rt; bytes.as_slice(), OF_VERSION_TWO.as_slice());
+    let three = Description {
+        max_writers: 3,
+        ..one
+    };
+    let bytes = Postcard::serialize(alloc, &three)?;
+    assert_eq!(rt; bytes.get(12..), Some([0x03, 0x00].as_slice()));
+    let read = Postcard::deserialize(alloc, &bytes)?;
+    assert_eq!(rt; (read.version, read.max_writers), (2, 3));
+    for end in 0..14 {
+        let (front, _) = OF_VERSION_TWO.split_at(end);
+        assert!(rt; is_refused::<Postcard>(alloc, front), "{end} bytes");
+    }
     Ok(())
 }
 
@@ -86,9 +119,9 @@ fn what_spells_nothing_is_refused(rt: HostRuntime) {
         &[
             0x81, 0x00, 0x01, 0x66, 0x00, 0x03, 0x75, 0x36, 0x34, 0x08, 0x08, 0x08, 0x14, 0x00,
         ],
-        // a version of 2
+        // a version of 3
         &[
-            0x02, 0x01, 0x66, 0x00, 0x03, 0x75, 0x36, 0x34, 0x08, 0x08, 0x08, 0x14, 0x00,
+            0x03, 0x01, 0x66, 0x00, 0x03, 0x75, 0x36, 0x34, 0x08, 0x08, 0x08, 0x14, 0x01, 0x00,
         ],
         // a variant of 2
         &[

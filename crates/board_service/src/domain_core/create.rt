@@ -3,6 +3,7 @@ ghost use Rattle.std.specs.Prelude.{◌≡◌, ◌≤◌, ◌<◌, ◌^◌, None
 ghost use Rattle.board_layout.specs.Answer.{Answers, Refuses};
 ghost use Rattle.board_layout.specs.Keys.{same_keys};
 ghost use Rattle.board_layout.specs.Bytes.{details};
+ghost use Rattle.board_service.specs.Domain.{new_limits};
 ghost use Rattle.board_service.specs.Domain as domain;
 ghost use Rattle.board_service.specs.Entries.{HaveShapes, added, cells_for, first_words_at, payload_of};
 ghost use Rattle.board_names.specs.Table.{at, putting};
@@ -57,7 +58,7 @@ fn make_described<C: Cells>(
 }
 
 impl<C: Cells> DomainCore<C> {
-    /// Makes a board, and a factory of it for a node. `number` is the board's. Where the words of cells are known, they are those that open with the entries' values. A limit of `None` is 8 readers or 20 nodes; one of 0 is raised to 1.
+    /// Makes a board, and a factory of it for a node. `number` is the board's. Where the words of cells are known, they are those that open with the entries' values. A limit of `None` is 8 readers, 20 nodes or 1 writer; one of 0 is raised to 1.
     ///
     /// # Errors
     /// The first that holds: `AlreadyExists`, a board of this name stands; `NoEntriesProvided`; `ServiceInCorruptedState`, two keys are equal by `K`, or the cells ask for more than 4294967295 bytes; `NumbersSpent`; `OutOfMemory`. All stays as it was.
@@ -66,6 +67,7 @@ impl<C: Cells> DomainCore<C> {
         node: NodeId,
         name: &ServiceName,
         limits: Limits,
+        writers: Option<u64>,
         attributes: AttributeSet,
         entries: Vec<NewEntry>,
     ) -> Result<Made, BlackboardCreateError>
@@ -79,7 +81,7 @@ impl<C: Cells> DomainCore<C> {
             name.now (added entries.items)) }
         ensures ok { OnOk result
             (domain.IsCreated C.opened C.words self.old self.new node name.now
-            (details K.type_bytes K.SIZE K.ALIGNMENT) limits attributes
+            (details K.type_bytes K.SIZE K.ALIGNMENT) (new_limits limits writers) attributes
             (added entries.items)) }
         ensures err { OnErr result (self.new ≡ self.old) }
     {
@@ -107,11 +109,12 @@ impl<C: Cells> DomainCore<C> {
             return Err(BlackboardCreateError::OutOfMemory);
         }
         let description = Description {
-            version: 1,
+            version: 2,
             name: *name,
             key: TypeDetail::new::<K>(TypeVariant::FixedSize),
             max_readers: limit_of(8, limits.max_readers),
             max_nodes: limit_of(20, limits.max_nodes),
+            max_writers: limit_of(1, writers),
             attributes,
         };
         let Ok(bytes) = spell(self.alloc, &description) else {
@@ -139,6 +142,7 @@ impl<C: Cells> DomainCore<C> {
             key: description.key,
             max_readers: description.max_readers,
             max_nodes: description.max_nodes,
+            max_writers: description.max_writers,
             attributes: description.attributes,
             entries: Entries::from_vec(kept),
         });

@@ -5,9 +5,8 @@ ghost use Rattle.board_service.specs.Domain as domain;
 
 use super::DomainCore;
 use crate::cells::Cells;
-use crate::counts::writer_slots;
 use crate::ids::ThingId;
-use crate::lookups::{has_all_readers, thing_of};
+use crate::lookups::{has_all_readers, has_all_writers, thing_of};
 use crate::made::Made;
 use crate::refusals::LAST;
 use board_model::Kind;
@@ -45,7 +44,7 @@ impl<C: Cells> DomainCore<C> {
     /// Makes a writer of a factory's board. `number` is its port's.
     ///
     /// # Errors
-    /// `ExceedsMaxSupportedWriters` where a writer of the board stands, or a write handle made from one; `NumbersSpent`; `OutOfMemory`. All stays as it was.
+    /// `ExceedsMaxSupportedWriters` where as many writer slots of the board are taken as its limit says, one by each port number of a writer or of a write handle made from one; `NumbersSpent`; `OutOfMemory`. All stays as it was.
     pub fn writer(&mut self, factory: ThingId) -> Result<Made, WriterCreateError>
         requires { domain.Stands self.old factory }
         ensures answer { Answers result WriterCreateError.OutOfMemory
@@ -57,7 +56,7 @@ impl<C: Cells> DomainCore<C> {
         ensures err { OnErr result (self.new ≡ self.old) }
     {
         let of = thing_of(factory, &self.things);
-        if writer_slots(of.board, &self.things) >= 1 {
+        if has_all_writers(of.board, &self.boards, &self.things) {
             return Err(WriterCreateError::ExceedsMaxSupportedWriters);
         }
         if self.last_port >= LAST || self.last_thing >= LAST {

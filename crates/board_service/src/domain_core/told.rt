@@ -69,6 +69,7 @@ impl<C: Cells> DomainCore<C> {
                 type_details: *b.key(),
                 max_readers: b.max_readers(),
                 max_nodes: b.max_nodes(),
+                max_writers: b.max_writers(),
                 entries: b.entries().len() as u64,
             }),
             None => None,

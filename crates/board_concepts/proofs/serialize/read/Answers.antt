@@ -26,7 +26,7 @@ returns c =
           let front = c.in-Some.ensures.every d s.0 is s.1 in
           let there : SpelledList d.attributes c.in-Some.front.attributes.now [] = subst (λ b. SpelledList d.attributes b []) (sym front.0) s.1.attributes in
           let met = c.in-Ok.ensures d.attributes is.attributes there in
-          λ differs. ap (λ a. Ok (described c.in-Some.front.name c.in-Some.front.key c.in-Some.front.max_readers c.in-Some.front.max_nodes a)) met ∙ ap Ok (sym front.1);
+          λ differs. ap (λ a. Ok (described c.in-Some.front.version c.in-Some.front.name c.in-Some.front.key c.in-Some.front.max_readers c.in-Some.front.max_nodes c.in-Some.front.max_writers a)) met ∙ ap Ok (sym front.1);
       none = (
         λ internal. absurd (cc internal),
         λ no. absurd (no _ (c.in-Some.ensures.rule list.0 list.1) (c.in-Some.ensures.found list.0 list.2)),
