@@ -128,7 +128,8 @@ impl<W: LoanWords> LoanCore<W> {
     pub fn put(&self, index: u64, word: u64) -> Option<PutCall>
         requires shape { cell_end self.now.handle.shape < 2 ^ 64 }
         ensures beyond { (result ≡ None) ↔ (self.now.handle.shape.words ≤ index) }
-        ensures call { IfSome result (λ call. call ≡ put_of self.now.handle.shape self.now.handle.generation index word) }
+        ensures call { IfSome result (λ call. call
+            ≡ put_of self.now.handle.shape self.now.handle.generation index word) }
     {
         let handle = &self.handle;
         if index < handle.shape.words {

@@ -125,7 +125,8 @@ impl<C: BoardWords + Drop> BoardMachine<C> {
     pub(crate) fn entry_held(&self, handle: &Held) -> &Entry
         requires led { IsLed self.now }
         requires held { IsHandle self.now handle.now }
-        ensures { tables.entry_at (tables_of self.now) handle.now.board (tables.entry_of handle.now.kind) ≡ Some result.now }
+        ensures { tables.entry_at (tables_of self.now) handle.now.board
+            (tables.entry_of handle.now.kind) ≡ Some result.now }
     {
         match self.domain.entry_at(handle.board, entry_of(&handle.kind)) {
             Some(entry) => entry,
@@ -136,7 +137,8 @@ impl<C: BoardWords + Drop> BoardMachine<C> {
 
     // The thing of this kind that the party holds under the name.
     fn thing_used(&self, kind: ThingKind, party: &Name, name: &Name) -> Result<Held, Reason>
-        ensures { IsUsed (of_kind kind (thing_of self.now.domain.tables.things party.now name.now)) result }
+        ensures { IsUsed (of_kind kind (thing_of self.now.domain.tables.things party.now name.now))
+            result }
     {
         self.domain
             .held_of_kind(kind, party, name)
@@ -201,7 +203,8 @@ impl<C: BoardWords + Drop> BoardMachine<C> {
         generation: u64,
     ) -> Result<Task, NotBegun>
         requires led { IsLed self.now }
-        requires generation { HasGeneration self.now party.now (call.Update handle.now value) generation }
+        requires generation { HasGeneration self.now party.now (call.Update handle.now value)
+            generation }
         ensures { Checks self.now party.now (call.Update handle.now value) result }
     {
         let found = self.handle_used(party, handle)?;

@@ -45,7 +45,8 @@ fn place_of_loan(party: &Name, name: &Name, loans: &[Lent]) -> Option<usize>
 
 /// Forgets the words of the loan that a party holds under a name.
 pub(crate) fn forget_loan(party: &Name, name: &Name, loans: &mut Vec<Lent>)
-    ensures { loans.new.items ≡ filter (λ x. not (is_lent_as party.now name.now x)) loans.old.items }
+    ensures { loans.new.items
+        ≡ filter (λ x. not (is_lent_as party.now name.now x)) loans.old.items }
 {
     loans.retain(|x| !(*party == x.party && *name == x.name));
 }
@@ -53,7 +54,8 @@ pub(crate) fn forget_loan(party: &Name, name: &Name, loans: &mut Vec<Lent>)
 impl<C: BoardWords + Drop> BoardMachine<C> {
     // The write handle that a loan of the party is, and its words.
     fn loan_held(&self, party: &Name, name: &Name) -> Option<(Held, &Vec<Option<u64>>)>
-        ensures { option_map (λ l. (l.0, l.1.now.items)) result ≡ loan_held self.now party.now name.now }
+        ensures { option_map (λ l. (l.0, l.1.now.items)) result
+            ≡ loan_held self.now party.now name.now }
     {
         match (
             self.domain
@@ -102,7 +104,8 @@ impl<C: BoardWords + Drop> BoardMachine<C> {
     ) -> Result<Task, NotBegun>
         requires led { IsLed self.now }
         requires free { HasNoRow self.now party.now }
-        requires generation { HasGeneration self.now party.now (call.Put loan index word) generation }
+        requires generation { HasGeneration self.now party.now (call.Put loan index word)
+            generation }
         ensures { Checks self.now party.now (call.Put loan index word) result }
     {
         let Some((found, words)) = self.loan_held(party, &loan) else {
@@ -132,7 +135,8 @@ impl<C: BoardWords + Drop> BoardMachine<C> {
     ) -> Result<Task, NotBegun>
         requires led { IsLed self.now }
         requires free { HasNoRow self.now party.now }
-        requires generation { HasGeneration self.now party.now (call.Publish loan handle) generation }
+        requires generation { HasGeneration self.now party.now (call.Publish loan handle)
+            generation }
         ensures { Checks self.now party.now (call.Publish loan handle) result }
     {
         let Some((found, words)) = self.loan_held(party, &loan) else {
@@ -161,7 +165,8 @@ impl<C: BoardWords + Drop> BoardMachine<C> {
     ) -> Result<Task, NotBegun>
         requires led { IsLed self.now }
         requires free { HasNoRow self.now party.now }
-        requires generation { HasGeneration self.now party.now (call.Fill loan handle value) generation }
+        requires generation { HasGeneration self.now party.now (call.Fill loan handle value)
+            generation }
         ensures { Checks self.now party.now (call.Fill loan handle value) result }
     {
         let Some((found, put)) = self.loan_held(party, &loan) else {

@@ -13,7 +13,8 @@ use board_service::BoardWords;
 
 /// Forgets what a party kept under a name.
 fn forget_values(party: &Name, name: &Name, values: &mut Vec<KeptValue>)
-    ensures { values.new.items ≡ filter (λ v. not (is_kept_as party.now name.now v)) values.old.items }
+    ensures { values.new.items
+        ≡ filter (λ v. not (is_kept_as party.now name.now v)) values.old.items }
 {
     values.retain(|v| !(*party == v.party && *name == v.name));
 }

@@ -29,9 +29,12 @@ impl<C: BoardWords + Drop> BoardMachine<C> {
     /// `AllocError` where memory is refused.
     pub fn words_of(&mut self, number: u64) -> Result<Option<Vec<u64>>, AllocError>
         ensures same { self.new ≡ self.old }
-        ensures none { IfOk result (λ found. IfNone found (OfEach self.old (λ s. has_board s number ≡ false))) }
-        ensures stands { IfOk result (λ found. IfSome found (λ words. OfEach self.old (λ s. has_board s number ≡ true))) }
-        ensures words { IfOk result (λ found. IfSome found (λ words. OfEach self.old (λ s. words.items ≡ s.memory number))) }
+        ensures none { IfOk result (λ found. IfNone found
+            (OfEach self.old (λ s. has_board s number ≡ false))) }
+        ensures stands { IfOk result (λ found. IfSome found
+            (λ words. OfEach self.old (λ s. has_board s number ≡ true))) }
+        ensures words { IfOk result (λ found. IfSome found
+            (λ words. OfEach self.old (λ s. words.items ≡ s.memory number))) }
     {
         self.domain.copy_words(number)
     }

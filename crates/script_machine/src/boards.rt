@@ -23,7 +23,8 @@ use std::alloc::AllocError;
 // Tells the words of a board.
 fn push_listing(words: &[u64], out: &mut Vec<u8>) -> Result<(), AllocError>
     ensures numbers { AllByRecursion IsNumber words.now }
-    ensures told { OnOk result (out.new.items ≡ out.old.items ++ answer_line (answer.Words words.now)) }
+    ensures told { OnOk result (out.new.items
+        ≡ out.old.items ++ answer_line (answer.Words words.now)) }
 {
     push_words(words, out)
 }
@@ -77,7 +78,8 @@ impl<C: BoardWords + Drop> Machine<C> {
         requires led { IsLed self.old }
         requires line { IsLine (board_line.Begin party call) }
         requires empty { out.old.items ≡ [] }
-        ensures tells { OnOk result (TellsOfBoards self.old self.new (board_line.Begin party call) out.new.items) }
+        ensures tells { OnOk result (TellsOfBoards self.old self.new (board_line.Begin party call)
+            out.new.items) }
         ensures drawn { OnOk result (drawn_by self.new.boards ≤ drawn_by self.old.boards + 1) }
     {
         if self.events.runs(&party) {
@@ -98,7 +100,8 @@ impl<C: BoardWords + Drop> Machine<C> {
         requires led { IsLed self.old }
         requires line { IsLine (board_line.Step party.now) }
         requires empty { out.old.items ≡ [] }
-        ensures tells { OnOk result (TellsOfBoards self.old self.new (board_line.Step party.now) out.new.items) }
+        ensures tells { OnOk result (TellsOfBoards self.old self.new (board_line.Step party.now)
+            out.new.items) }
         ensures drawn { OnOk result (drawn_by self.new.boards ≤ drawn_by self.old.boards + 1) }
     {
         if self.events.runs(party) {
@@ -114,7 +117,8 @@ impl<C: BoardWords + Drop> Machine<C> {
         requires line { IsLine (board_line.Step party.now) }
         requires runs { events.OfEach self.old.events (λ x. runs_on_events x party.now ≡ true) }
         requires empty { out.old.items ≡ [] }
-        ensures tells { OnOk result (TellsOfBoards self.old self.new (board_line.Step party.now) out.new.items) }
+        ensures tells { OnOk result (TellsOfBoards self.old self.new (board_line.Step party.now)
+            out.new.items) }
         ensures drawn { drawn_by self.new.boards ≡ drawn_by self.old.boards }
     {
         match self.events.step(party)? {
@@ -171,7 +175,8 @@ impl<C: BoardWords + Drop> Machine<C> {
         requires led { IsLed self.old }
         requires line { IsLine (board_line.Abandon party) }
         requires empty { out.old.items ≡ [] }
-        ensures tells { OnOk result (TellsOfBoards self.old self.new (board_line.Abandon party) out.new.items) }
+        ensures tells { OnOk result (TellsOfBoards self.old self.new (board_line.Abandon party)
+            out.new.items) }
         ensures drawn { OnOk result (drawn_by self.new.boards ≤ drawn_by self.old.boards + 1) }
     {
         let answer = self.boards.abandon(party)?;
@@ -187,7 +192,8 @@ impl<C: BoardWords + Drop> Machine<C> {
         requires led { IsLed self.old }
         requires line { IsLine (board_line.Words board) }
         requires empty { out.old.items ≡ [] }
-        ensures tells { OnOk result (TellsOfBoards self.old self.new (board_line.Words board) out.new.items) }
+        ensures tells { OnOk result (TellsOfBoards self.old self.new (board_line.Words board)
+            out.new.items) }
         ensures drawn { OnOk result (drawn_by self.new.boards ≤ drawn_by self.old.boards + 1) }
     {
         match self.boards.words_of(board)? {

@@ -58,7 +58,8 @@ impl<C: BoardWords + Drop> Machine<C> {
         requires led { IsLed self.old }
         requires line { IsScriptLine (line.Event party request) }
         requires empty { out.old.items ≡ [] }
-        ensures tells { OnOk result (Tells self.old self.new (line.Event party request) out.new.items) }
+        ensures tells { OnOk result (Tells self.old self.new (line.Event party request)
+            out.new.items) }
         ensures drawn { drawn_by self.new.boards ≡ drawn_by self.old.boards }
     {
         if self.events.runs(&party) {
@@ -79,7 +80,8 @@ impl<C: BoardWords + Drop> Machine<C> {
         requires led { IsLed self.old }
         requires line { IsScriptLine (line.Expire party.now) }
         requires empty { out.old.items ≡ [] }
-        ensures tells { OnOk result (Tells self.old self.new (line.Expire party.now) out.new.items) }
+        ensures tells { OnOk result (Tells self.old self.new (line.Expire party.now)
+            out.new.items) }
         ensures drawn { drawn_by self.new.boards ≡ drawn_by self.old.boards }
     {
         if let Some(why) = self.boards.refusal_of_party(party) {

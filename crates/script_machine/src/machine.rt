@@ -52,7 +52,8 @@ impl<C: BoardWords + Drop> Machine<C> {
         requires led { IsLed self.old }
         requires line { IsLine line }
         requires empty { out.old.items ≡ [] }
-        ensures tells { OnOk result (Tells self.old self.new (script_line.Board line) out.new.items) }
+        ensures tells { OnOk result (Tells self.old self.new (script_line.Board line)
+            out.new.items) }
         ensures drawn { OnOk result (drawn_by self.new.boards ≤ drawn_by self.old.boards + 1) }
     {
         match line {
@@ -100,7 +101,8 @@ impl<C: BoardWords + Drop> Machine<C> {
         requires { (session : Session) × StandsFor StandsAfter self.old session }
 
         // For each session that it stands for the answer is right, and it stands for the session with this pair.
-        ensures ok { OnOk result (AnswersEach StandsAfter self.old self.new line.now answer.new.items) }
+        ensures ok { OnOk result (AnswersEach StandsAfter self.old self.new line.now
+            answer.new.items) }
 
         // A line outside the grammar is refused, no other one is, and nothing changes.
         ensures bad { IsErrOf result LineError.Bad → SpellsNone line.now }
