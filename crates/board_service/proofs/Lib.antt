@@ -2,6 +2,8 @@ pub mod First
 pub mod Places
 pub mod Small
 pub mod ShapeLemmas
+pub mod DrawnLemmas
+pub mod TableLemmas
 pub mod StorageLemmas
 pub mod BoardLemmas
 pub mod NameLemmas

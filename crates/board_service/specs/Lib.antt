@@ -1,4 +1,5 @@
 pub mod Entries
 pub mod Domain
+pub mod Facts
 pub mod Told
 pub mod Descriptions

@@ -141,7 +141,8 @@ pub fn port_of(kind: &Kind) -> u64
 }
 
 fn is_last_below(board: u64, node: NodeId, thing: &Held, later: &[Held]) -> bool
-    ensures { result ≡ (tables.is_of_board board thing.now && nat_lt thing.now.holder node && not (tables.is_node nat_eq board thing.now.holder later.now)) }
+    ensures { result ≡ (tables.is_of_board board thing.now && nat_lt thing.now.holder node
+        && not (tables.is_node nat_eq board thing.now.holder later.now)) }
 {
     thing.board == board && thing.holder.0 < node.0 && !is_node(board, thing.holder, later)
 }

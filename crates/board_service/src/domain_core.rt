@@ -1,7 +1,8 @@
 //! The boards of a domain and the things of them, as plain data: one call is one step on the tables.
-ghost use Rattle.std.specs.Prelude.{◌≡◌, ◌+◌, ◌-◌, ◌^◌, ◌<◌, [], IfOk, OnOk, OnErr};
-ghost use Rattle.board_model.specs.TableCalls.{with_thing};
-ghost use Rattle.board_service.specs.Domain.{with_tables};
+ghost use Rattle.std.specs.Prelude.{◌≡◌, ◌+◌, ◌-◌, ◌^◌, ◌<◌, ◌≤◌, Some, None, IfOk, IsSome, OnOk, OnErr};
+ghost use Rattle.board_model.specs.Tables.{board_at, port_of};
+ghost use Rattle.board_service.specs.Domain.{empty, made, with_next, with_next_port};
+ghost use Rattle.board_service.specs.Facts.{IsDomain, drawn_port};
 
 mod create;
 mod handles;
@@ -15,6 +16,7 @@ use crate::board_row::BoardRow;
 use crate::cells::Cells;
 use crate::counts::Held;
 use crate::ids::{NodeId, ThingId};
+use crate::made::Made;
 use board_model::{Kind, Thing};
 use board_names::NameTable;
 use board_store::Statics;
@@ -48,13 +50,15 @@ impl<C: Cells> Model for DomainCore<C> {
       cells = d.cells.items;
     } };
 
-    ghost invariant = { λ d. IsCore d.boards.items d.cells.items d.last_board d.descriptions };
+    ghost invariant = { λ d. IsCore
+        (record { boards = d.boards.items; things = d.things.items; last_board = d.last_board; last_port = d.last_port })
+        d.last_thing d.cells.items d.descriptions };
 }
 
 impl<C: Cells> DomainCore<C> {
     /// No boards and no things. Takes no memory.
     pub fn new(alloc: Global) -> DomainCore<C>
-        ensures { result ≡ record { tables = record { boards = []; things = []; last_board = 0; last_port = 0 }; last_thing = 0; cells = [] } }
+        ensures { result ≡ empty }
     {
         DomainCore {
             boards: Vec::new(alloc),
@@ -67,11 +71,22 @@ impl<C: Cells> DomainCore<C> {
             alloc,
         }
     }
-    // Adds a thing with the next number.
+
+    /// What is true of every domain, for those who are lent one: the numbers of boards, of things, and of the ports of readers and writers differ, and none is above the last that was drawn; a board stands exactly while a thing of it does; and each board has its cells. A call of this does nothing.
+    pub fn facts(&self)
+        ensures { IsDomain self.now }
+    {
+        let _ = &self.boards;
+    }
+
+    // Adds a thing of a board that stands, with the next number. It has no port of its own.
     fn add_thing(&mut self, holder: NodeId, board: u64, kind: Kind) -> Result<ThingId, AllocError>
-        requires { self.old.last_thing < 2 ^ 64 - 2 }
+        requires below { self.old.last_thing < 2 ^ 64 - 2 }
+        requires stands { IsSome (board_at self.old.tables board) }
+        requires none { drawn_port kind ≡ None }
+        requires port { port_of kind ≤ self.old.tables.last_port }
         ensures number { IfOk result (λ thing. thing ≡ self.old.last_thing + 1) }
-        ensures ok { OnOk result (self.new ≡ with_tables self.old (with_thing self.old.tables (record { holder = holder; name = self.old.last_thing + 1; board = board; kind = kind }))) }
+        ensures ok { OnOk result (self.new ≡ with_next self.old holder board kind) }
         ensures err { OnErr result (self.new ≡ self.old) }
     {
         self.things.reserve(1)?;
@@ -84,5 +99,32 @@ impl<C: Cells> DomainCore<C> {
             kind,
         });
         Ok(name)
+    }
+
+    // Adds a reader or a writer of a board that stands, with the next number and the next port, which it keeps.
+    fn add_port(&mut self, holder: NodeId, board: u64, kind: Kind) -> Result<Made, AllocError>
+        requires below { self.old.last_thing < 2 ^ 64 - 2 }
+        requires ports { self.old.tables.last_port < 2 ^ 64 - 2 }
+        requires stands { IsSome (board_at self.old.tables board) }
+        requires drawn { drawn_port kind ≡ Some (self.old.tables.last_port + 1) }
+        requires port { port_of kind ≡ self.old.tables.last_port + 1 }
+        ensures made { IfOk result (λ m. m ≡ made self.old (self.old.tables.last_port + 1)) }
+        ensures ok { OnOk result (self.new ≡ with_next_port self.old holder board kind) }
+        ensures err { OnErr result (self.new ≡ self.old) }
+    {
+        self.things.reserve(1)?;
+        self.last_thing += 1;
+        self.last_port += 1;
+        let thing = ThingId(self.last_thing);
+        self.things.push_reserved(Thing {
+            holder,
+            name: thing,
+            board,
+            kind,
+        });
+        Ok(Made {
+            thing,
+            number: self.last_port,
+        })
     }
 }

@@ -1,5 +1,5 @@
 //! What stands in the tables.
-ghost use Rattle.std.specs.Prelude.{◌≡◌, ◌≤◌, ◌<◌, ◌==◌, length, Option, option_map, find, slice_get, remove, Some, OnSome, ◌+◌, MatchOption, IfSome, IfNone, IsSome, nat_le, true};
+ghost use Rattle.std.specs.Prelude.{◌≡◌, ◌≤◌, ◌<◌, ◌==◌, length, Option, option_map, find, slice_get, remove, Some, ◌+◌, MatchOption, IfSome, IsSome, is_some, nat_le, true};
 ghost use Rattle.std.specs.List.{list_any, position_from};
 ghost use Rattle.board_layout.specs.Bytes.{details};
 ghost use Rattle.board_layout.specs.Keys as keys;
@@ -28,8 +28,16 @@ pub(crate) fn board_named<'a>(name: &ServiceName, boards: &'a [BoardRow]) -> Opt
     boards.iter().find(|b| *b.name() == *name)
 }
 
-/// Where the board with the number stands.
+/// Where the board with the number stands, if it does.
 pub(crate) fn place_of_board(number: u64, boards: &[BoardRow]) -> Option<usize>
+    ensures value { result ≡ position_from (tables.is_numbered number) 0 boards.now }
+    ensures stands { is_some result ≡ is_some (find (tables.is_numbered number) boards.now) }
+    ensures inside { IfSome result (λ i. i < length boards.now) }
+{
+    position_of_board(number, boards)
+}
+
+fn position_of_board(number: u64, boards: &[BoardRow]) -> Option<usize>
     ensures { result ≡ position_from (tables.is_numbered number) 0 boards.now }
 {
     for (i, board) in boards.iter().enumerate() {
@@ -74,7 +82,8 @@ fn place_of_thing(number: ThingId, things: &[Held]) -> Option<usize>
 pub(crate) fn take_thing(number: ThingId, things: &mut Vec<Held>) -> Held
     requires { IsSome (find (domain.is_thing number) things.old.items) }
     ensures taken { result ≡ domain.thing_numbered number things.old.items }
-    ensures rest { things.new.items ≡ tables.without_first (domain.is_thing number) things.old.items }
+    ensures rest { things.new.items
+        ≡ tables.without_first (domain.is_thing number) things.old.items }
 {
     match place_of_thing(number, things) {
         Some(i) => things.remove(i),
@@ -83,20 +92,22 @@ pub(crate) fn take_thing(number: ThingId, things: &mut Vec<Held>) -> Held
     }
 }
 
-/// Takes the board with the number out, and tells where it stood.
-pub(crate) fn take_board(number: u64, boards: &mut Vec<BoardRow>) -> Option<usize>
-    ensures place { result ≡ position_from (tables.is_numbered number) 0 boards.old.items }
-    ensures rest { boards.new.items ≡ tables.without_first (tables.is_numbered number) boards.old.items }
-    ensures inside { IfSome result (λ i. i < length boards.old.items) }
-    ensures shorter { OnSome result (length boards.new.items + 1 ≡ length boards.old.items) }
-    ensures same { IfNone result (boards.new.items ≡ boards.old.items) }
+/// Takes the board with the number out, which stands, and tells where it stood.
+pub(crate) fn take_board(number: u64, boards: &mut Vec<BoardRow>) -> usize
+    requires { IsSome (find (tables.is_numbered number) boards.old.items) }
+    ensures place { position_from (tables.is_numbered number) 0 boards.old.items ≡ Some result }
+    ensures rest { boards.new.items
+        ≡ tables.without_first (tables.is_numbered number) boards.old.items }
+    ensures inside { result < length boards.old.items }
+    ensures shorter { length boards.new.items + 1 ≡ length boards.old.items }
 {
-    match place_of_board(number, boards) {
+    match position_of_board(number, boards) {
         Some(i) => {
             let _ = boards.remove(i);
-            Some(i)
+            i
         }
-        None => None,
+        // The board stands.
+        None => unreachable!(),
     }
 }
 
@@ -112,7 +123,8 @@ pub(crate) fn take_cells<C>(place: usize, cells: &mut Vec<C>) -> C
 
 /// Whether the board has as many readers as it may have.
 pub(crate) fn has_all_readers(board: u64, boards: &[BoardRow], things: &[Held]) -> bool
-    ensures { result ≡ tables.holds_at (find (tables.is_numbered board) boards.now) (λ b. nat_le b.max_readers (tables.reader_slots b.number things.now)) }
+    ensures { result ≡ tables.holds_at (find (tables.is_numbered board) boards.now)
+        (λ b. nat_le b.max_readers (tables.reader_slots b.number things.now)) }
 {
     match board_at(board, boards) {
         Some(b) => b.max_readers() <= reader_slots(b.number(), things),
@@ -136,7 +148,8 @@ pub fn is_kind(kind: ThingKind, of: &Kind) -> bool
 
 /// Whether the board has keys of this type.
 pub(crate) fn has_details(board: u64, key: &TypeDetail, boards: &[BoardRow]) -> bool
-    ensures { result ≡ tables.holds_at (find (tables.is_numbered board) boards.now) (λ b. types.same_type b.key key.now) }
+    ensures { result ≡ tables.holds_at (find (tables.is_numbered board) boards.now)
+        (λ b. types.same_type b.key key.now) }
 {
     match board_at(board, boards) {
         Some(b) => same_type(b.key(), key),
@@ -146,7 +159,8 @@ pub(crate) fn has_details(board: u64, key: &TypeDetail, boards: &[BoardRow]) -> 
 
 fn entry_from<'a, K: BoardKey>(key: &K, entries: &'a [Entry]) -> Option<(u64, &'a Entry)>
     requires { K.SIZE ≤ 64 }
-    ensures { option_map (λ f. (f.0, f.1.now)) result ≡ tables.entry_from 0 (keys.is_key K.eq K.value_of K.SIZE K.WORDS key.now) entries.now }
+    ensures { option_map (λ f. (f.0, f.1.now)) result
+        ≡ tables.entry_from 0 (keys.is_key K.eq K.value_of K.SIZE K.WORDS key.now) entries.now }
 {
     for (i, entry) in entries.iter().enumerate() {
         if is_key::<K>(key, &entry.key) {
@@ -157,7 +171,8 @@ fn entry_from<'a, K: BoardKey>(key: &K, entries: &'a [Entry]) -> Option<(u64, &'
 }
 
 fn of_type<'a>(value: &TypeDetail, found: Option<(u64, &'a Entry)>) -> Option<(u64, &'a Entry)>
-    ensures { option_map (λ f. (f.0, f.1.now)) result ≡ tables.of_type value.now (option_map (λ f. (f.0, f.1.now)) found.entry) }
+    ensures { option_map (λ f. (f.0, f.1.now)) result
+        ≡ tables.of_type value.now (option_map (λ f. (f.0, f.1.now)) found.entry) }
 {
     match found {
         Some(f) => {
@@ -178,8 +193,11 @@ pub(crate) fn find_entry<'a, K: BoardKey>(
     value: &TypeDetail,
     boards: &'a [BoardRow],
 ) -> Option<(u64, &'a Entry)>
-    requires { tables.holds_at (find (tables.is_numbered number) boards.now) (λ b. types.same_type b.key (details K.type_bytes K.SIZE K.ALIGNMENT)) ≡ true }
-    ensures { option_map (λ f. (f.0, f.1.now)) result ≡ tables.entry_found (find (tables.is_numbered number) boards.now) (keys.is_key K.eq K.value_of K.SIZE K.WORDS key.now) value.now }
+    requires { tables.holds_at (find (tables.is_numbered number) boards.now)
+        (λ b. types.same_type b.key (details K.type_bytes K.SIZE K.ALIGNMENT)) ≡ true }
+    ensures { option_map (λ f. (f.0, f.1.now)) result
+        ≡ tables.entry_found (find (tables.is_numbered number) boards.now)
+        (keys.is_key K.eq K.value_of K.SIZE K.WORDS key.now) value.now }
 {
     match board_at(number, boards) {
         Some(board) => of_type(value, entry_with::<K>(key, board)),
@@ -190,7 +208,9 @@ pub(crate) fn find_entry<'a, K: BoardKey>(
 // The entry of a board with the key, with its place.
 fn entry_with<'a, K: BoardKey>(key: &K, board: &'a BoardRow) -> Option<(u64, &'a Entry)>
     requires { types.same_type board.now.key (details K.type_bytes K.SIZE K.ALIGNMENT) ≡ true }
-    ensures { option_map (λ f. (f.0, f.1.now)) result ≡ tables.entry_from 0 (keys.is_key K.eq K.value_of K.SIZE K.WORDS key.now) board.now.entries }
+    ensures { option_map (λ f. (f.0, f.1.now)) result
+        ≡ tables.entry_from 0 (keys.is_key K.eq K.value_of K.SIZE K.WORDS key.now)
+        board.now.entries }
 {
     entry_from::<K>(key, board.entries.as_slice())
 }

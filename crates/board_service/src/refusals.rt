@@ -1,12 +1,11 @@
 //! Why boards are not made and not opened. None of these functions takes memory.
-ghost use Rattle.std.specs.Prelude.{◌≡◌, ◌≤◌, ◌<◌, ◌-◌, ◌^◌, ◌||◌, ◌∷◌, [], ◌++◌, find, map, length, nat_eq, All, IfNone, None};
+ghost use Rattle.std.specs.Prelude.{◌≡◌, ◌≤◌, ◌<◌, ◌-◌, ◌^◌, ◌||◌, ◌∷◌, [], ◌++◌, find, length, nat_eq, IfNone, IsSome};
 ghost use Rattle.std.specs.List.{list_any};
 ghost use Rattle.board_layout.specs.Keys as keys;
-ghost use Rattle.board_layout.specs.Layout.{IsShape, payload};
 ghost use Rattle.board_model.specs.Tables as tables;
 ghost use Rattle.board_model.specs.TableCalls as calls;
 ghost use Rattle.board_service.specs.Domain.{spent};
-ghost use Rattle.board_service.specs.Entries.{as_added};
+ghost use Rattle.board_service.specs.Entries.{HaveShapes, added, payload_of};
 
 use crate::board_row::BoardRow;
 use crate::counts::{Held, is_node, nodes_taken};
@@ -30,7 +29,8 @@ fn has_name(name: &ServiceName, boards: &[BoardRow]) -> bool
 
 fn has_key<K: BoardKey>(key: &KeyMemory<64>, entries: &[NewEntry]) -> bool
     requires { K.SIZE ≤ 64 }
-    ensures { result ≡ tables.has_key (keys.same_keys K.eq K.value_of K.SIZE K.WORDS) key.now.bytes (map as_added entries.now) }
+    ensures { result ≡ tables.has_key (keys.same_keys K.eq K.value_of K.SIZE K.WORDS)
+        key.now.bytes (added entries.now) }
 {
     for entry in entries {
         if same_keys::<K>(&entry.key, key) {
@@ -42,7 +42,8 @@ fn has_key<K: BoardKey>(key: &KeyMemory<64>, entries: &[NewEntry]) -> bool
 
 fn has_equal_keys<K: BoardKey>(entries: &[NewEntry]) -> bool
     requires { K.SIZE ≤ 64 }
-    ensures { result ≡ tables.has_equal_keys (keys.same_keys K.eq K.value_of K.SIZE K.WORDS) (map as_added entries.now) }
+    ensures { result ≡ tables.has_equal_keys (keys.same_keys K.eq K.value_of K.SIZE K.WORDS)
+        (added entries.now) }
 {
     for (i, entry) in entries.iter().enumerate() {
         if has_key::<K>(&entry.key, &entries[i + 1..]) {
@@ -61,9 +62,12 @@ pub(crate) fn create_refusal<K: BoardKey>(
     last_thing: u64,
 ) -> Option<BlackboardCreateError>
     requires size { 0 < length entries.now → K.SIZE ≤ 64 }
-    requires shapes { All IsShape (tables.shapes_of (map as_added entries.now)) }
-    ensures first { result ≡ calls.first_of (calls.create_refusals (keys.same_keys K.eq K.value_of K.SIZE K.WORDS) boards.now name.now (map as_added entries.now) ++ (spent last_board || spent last_thing, BlackboardCreateError.NumbersSpent) ∷ []) }
-    ensures small { IfNone result (payload (tables.shapes_of (map as_added entries.now)) < 2 ^ 32) }
+    requires shapes { HaveShapes entries.now }
+    ensures first { result ≡ calls.first_of
+        (calls.create_refusals (keys.same_keys K.eq K.value_of K.SIZE K.WORDS)
+        boards.now name.now (added entries.now)
+        ++ (spent last_board || spent last_thing, BlackboardCreateError.NumbersSpent) ∷ []) }
+    ensures small { IfNone result (payload_of entries.now < 2 ^ 32) }
     ensures key { IfNone result (K.SIZE ≤ 64) }
     ensures below { IfNone result ((last_board < 2 ^ 64 - 2) × (last_thing < 2 ^ 64 - 2)) }
 {
@@ -110,7 +114,11 @@ pub(crate) fn open_refusal(
     things: &[Held],
     last_thing: u64,
 ) -> Option<BlackboardOpenError>
-    ensures first { result ≡ calls.first_of (calls.open_refusals nat_eq things.now node (find (tables.has_name name.now) boards.now) key.now limits.now needs.now ++ (spent last_thing, BlackboardOpenError.NumbersSpent) ∷ []) }
+    ensures first { result ≡ calls.first_of
+        (calls.open_refusals nat_eq things.now node
+        (find (tables.has_name name.now) boards.now) key.now limits.now needs.now
+        ++ (spent last_thing, BlackboardOpenError.NumbersSpent) ∷ []) }
+    ensures stands { IfNone result (IsSome (find (tables.has_name name.now) boards.now)) }
     ensures below { IfNone result (last_thing < 2 ^ 64 - 2) }
 {
     let Some(board) = board_named(name, boards) else {
@@ -137,13 +145,16 @@ pub(crate) fn open_refusal(
     None
 }
 
-/// The number of the board with the name.
+/// The number of the board with the name, which stands.
 pub(crate) fn number_of_named(name: &ServiceName, boards: &[BoardRow]) -> u64
-    ensures { result ≡ calls.number_of (find (tables.has_name name.now) boards.now) }
+    requires { IsSome (find (tables.has_name name.now) boards.now) }
+    ensures value { result ≡ calls.number_of (find (tables.has_name name.now) boards.now) }
+    ensures stands { IsSome (find (tables.is_numbered result) boards.now) }
 {
     match board_named(name, boards) {
         Some(b) => b.number(),
-        None => 0,
+        // A board with the name stands.
+        None => unreachable!(),
     }
 }
 

@@ -1,12 +1,10 @@
 //! New boards.
-ghost use Rattle.std.specs.Prelude.{◌≡◌, ◌≤◌, ◌<◌, ◌^◌, None, length, map, All, IfOk, IfSome, OnOk, OnErr};
+ghost use Rattle.std.specs.Prelude.{◌≡◌, ◌≤◌, ◌<◌, ◌^◌, None, length, IfOk, IfSome, OnOk, OnErr};
 ghost use Rattle.board_layout.specs.Answer.{Answers, Refuses};
 ghost use Rattle.board_layout.specs.Keys.{same_keys};
 ghost use Rattle.board_layout.specs.Bytes.{details};
-ghost use Rattle.board_layout.specs.Layout.{IsShape, opening_words, payload, places_from};
-ghost use Rattle.board_model.specs.Tables.{shapes_of};
 ghost use Rattle.board_service.specs.Domain as domain;
-ghost use Rattle.board_service.specs.Entries.{IsOpening, as_added, first_words};
+ghost use Rattle.board_service.specs.Entries.{HaveShapes, added, cells_for, first_words_at, payload_of};
 ghost use Rattle.board_names.specs.Table.{at, putting};
 ghost use Rattle.board_store.specs.declared.statics.Stored.TheVariants.{Final};
 
@@ -19,6 +17,7 @@ use crate::made::Made;
 use crate::new_entry::NewEntry;
 use crate::planned::{entries_for, plan_for};
 use crate::refusals::{create_refusal, limit_of};
+use board_cell::CellError;
 use board_concepts::{AttributeSet, Description};
 use board_layout::{BoardKey, Plan, TypeDetail, TypeVariant};
 use board_model::{Entries, Kind, Limits, Thing};
@@ -35,12 +34,14 @@ fn make_described<C: Cells>(
     path: &FilePath,
     bytes: &[u8],
 ) -> Result<C, AllocError>
-    requires plan { plan.now.cells.items ≡ places_from 0 (shapes_of (map as_added entries.now.items)) }
-    requires small { payload (shapes_of (map as_added entries.now.items)) < 2 ^ 32 }
+    requires plan { plan.now.cells.items ≡ cells_for entries.now.items }
+    requires small { payload_of entries.now.items < 2 ^ 32 }
     requires free { at descriptions.old path.now ≡ None }
-    ensures opened { IfOk result (λ c. C.opened plan.now.cells.items (map as_added entries.now.items) c) }
-    ensures words { IfOk result (λ c. IfSome (C.words c) (λ ws. ws ≡ opening_words 0 plan.now.cells.items (map first_words (map as_added entries.now.items)))) }
-    ensures ok { OnOk result (descriptions.new ≡ putting descriptions.old path.now (Final bytes.now)) }
+    ensures opened { IfOk result (C.opened plan.now.cells.items (added entries.now.items)) }
+    ensures words { IfOk result (λ c. IfSome (C.words c)
+        (λ ws. ws ≡ first_words_at plan.now.cells.items entries.now.items)) }
+    ensures ok { OnOk result
+        (descriptions.new ≡ putting descriptions.old path.now (Final bytes.now)) }
     ensures err { OnErr result (descriptions.new ≡ descriptions.old) }
 {
     let Ok(()) = keep(descriptions, path, bytes) else {
@@ -48,7 +49,7 @@ fn make_described<C: Cells>(
     };
     match C::make(alloc, plan, entries) {
         Ok(cells) => Ok(cells),
-        Err(_) => {
+        Err(CellError::OutOfMemory) => {
             let _ = descriptions.remove(path);
             Err(AllocError)
         }
@@ -69,10 +70,17 @@ impl<C: Cells> DomainCore<C> {
         entries: Vec<NewEntry>,
     ) -> Result<Made, BlackboardCreateError>
         requires size { 0 < length entries.items → K.SIZE ≤ 64 }
-        requires shapes { All IsShape (shapes_of (map as_added entries.items)) }
-        ensures answer { Answers result BlackboardCreateError.OutOfMemory (domain.create_answer self.old (same_keys K.eq K.value_of K.SIZE K.WORDS) name.now (map as_added entries.items)) }
-        ensures refused { Refuses result (domain.create_answer self.old (same_keys K.eq K.value_of K.SIZE K.WORDS) name.now (map as_added entries.items)) }
-        ensures ok { OnOk result (domain.IsCreated C.opened C.words self.old self.new node name.now (details K.type_bytes K.SIZE K.ALIGNMENT) limits attributes (map as_added entries.items)) }
+        requires shapes { HaveShapes entries.items }
+        ensures answer { Answers result BlackboardCreateError.OutOfMemory
+            (domain.create_answer self.old (same_keys K.eq K.value_of K.SIZE K.WORDS)
+            name.now (added entries.items)) }
+        ensures refused { Refuses result
+            (domain.create_answer self.old (same_keys K.eq K.value_of K.SIZE K.WORDS)
+            name.now (added entries.items)) }
+        ensures ok { OnOk result
+            (domain.IsCreated C.opened C.words self.old self.new node name.now
+            (details K.type_bytes K.SIZE K.ALIGNMENT) limits attributes
+            (added entries.items)) }
         ensures err { OnErr result (self.new ≡ self.old) }
     {
         let wanted = entries.as_slice();

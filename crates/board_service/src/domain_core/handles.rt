@@ -27,10 +27,18 @@ impl<C: Cells> DomainCore<C> {
         key: &K,
         value: &TypeDetail,
     ) -> Result<Found, EntryHandleError>
-        requires { domain.stands_as self.old (details K.type_bytes K.SIZE K.ALIGNMENT) reader ThingKind.Reader ≡ true }
-        ensures answer { Answers result EntryHandleError.OutOfMemory (domain.entry_answer self.old (domain.entry_of_thing self.old reader (is_key K.eq K.value_of K.SIZE K.WORDS key.now) value.now)) }
-        ensures refused { Refuses result (domain.entry_answer self.old (domain.entry_of_thing self.old reader (is_key K.eq K.value_of K.SIZE K.WORDS key.now) value.now)) }
-        ensures ok { OnOk result (self.new ≡ domain.after_entry self.old (domain.held self.old reader) (domain.entry_of_thing self.old reader (is_key K.eq K.value_of K.SIZE K.WORDS key.now) value.now)) }
+        requires { domain.stands_as self.old (details K.type_bytes K.SIZE K.ALIGNMENT)
+            reader ThingKind.Reader ≡ true }
+        ensures answer { Answers result EntryHandleError.OutOfMemory
+            (domain.entry_answer self.old (domain.entry_of_thing self.old reader
+            (is_key K.eq K.value_of K.SIZE K.WORDS key.now) value.now)) }
+        ensures refused { Refuses result
+            (domain.entry_answer self.old (domain.entry_of_thing self.old reader
+            (is_key K.eq K.value_of K.SIZE K.WORDS key.now) value.now)) }
+        ensures ok { OnOk result
+            (self.new ≡ domain.after_entry self.old (domain.held self.old reader)
+            (domain.entry_of_thing self.old reader
+            (is_key K.eq K.value_of K.SIZE K.WORDS key.now) value.now)) }
         ensures err { OnErr result (self.new ≡ self.old) }
     {
         let of = thing_of(reader, &self.things);
@@ -58,10 +66,18 @@ impl<C: Cells> DomainCore<C> {
         key: &K,
         value: &TypeDetail,
     ) -> Result<Found, EntryHandleMutError>
-        requires { domain.stands_as self.old (details K.type_bytes K.SIZE K.ALIGNMENT) writer ThingKind.Writer ≡ true }
-        ensures answer { Answers result EntryHandleMutError.OutOfMemory (domain.entry_mut_answer self.old (domain.held self.old writer) (domain.entry_of_thing self.old writer (is_key K.eq K.value_of K.SIZE K.WORDS key.now) value.now)) }
-        ensures refused { Refuses result (domain.entry_mut_answer self.old (domain.held self.old writer) (domain.entry_of_thing self.old writer (is_key K.eq K.value_of K.SIZE K.WORDS key.now) value.now)) }
-        ensures ok { OnOk result (self.new ≡ domain.after_entry_mut self.old (domain.held self.old writer) (domain.entry_of_thing self.old writer (is_key K.eq K.value_of K.SIZE K.WORDS key.now) value.now)) }
+        requires { domain.stands_as self.old (details K.type_bytes K.SIZE K.ALIGNMENT)
+            writer ThingKind.Writer ≡ true }
+        ensures answer { Answers result EntryHandleMutError.OutOfMemory
+            (domain.entry_mut_answer self.old (domain.held self.old writer) (domain.entry_of_thing self.old writer
+            (is_key K.eq K.value_of K.SIZE K.WORDS key.now) value.now)) }
+        ensures refused { Refuses result
+            (domain.entry_mut_answer self.old (domain.held self.old writer) (domain.entry_of_thing self.old writer
+            (is_key K.eq K.value_of K.SIZE K.WORDS key.now) value.now)) }
+        ensures ok { OnOk result
+            (self.new ≡ domain.after_entry_mut self.old (domain.held self.old writer)
+            (domain.entry_of_thing self.old writer
+            (is_key K.eq K.value_of K.SIZE K.WORDS key.now) value.now)) }
         ensures err { OnErr result (self.new ≡ self.old) }
     {
         let of = thing_of(writer, &self.things);

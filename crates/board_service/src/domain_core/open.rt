@@ -26,8 +26,12 @@ impl<C: Cells> DomainCore<C> {
         limits: Limits,
         verifier: &AttributeVerifier,
     ) -> Result<Made, BlackboardOpenError>
-        ensures answer { Answers result BlackboardOpenError.OutOfMemory (domain.open_answer self.old node name.now (details K.type_bytes K.SIZE K.ALIGNMENT) limits verifier.now) }
-        ensures refused { Refuses result (domain.open_answer self.old node name.now (details K.type_bytes K.SIZE K.ALIGNMENT) limits verifier.now) }
+        ensures answer { Answers result BlackboardOpenError.OutOfMemory
+            (domain.open_answer self.old node name.now
+            (details K.type_bytes K.SIZE K.ALIGNMENT) limits verifier.now) }
+        ensures refused { Refuses result
+            (domain.open_answer self.old node name.now
+            (details K.type_bytes K.SIZE K.ALIGNMENT) limits verifier.now) }
         ensures ok { OnOk result (self.new ≡ domain.after_open self.old node name.now) }
         ensures err { OnErr result (self.new ≡ self.old) }
     {

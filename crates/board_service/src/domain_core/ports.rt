@@ -1,5 +1,5 @@
 //! Readers and writers.
-ghost use Rattle.std.specs.Prelude.{◌≡◌, find, IsSome, OnOk, OnErr};
+ghost use Rattle.std.specs.Prelude.{◌≡◌, OnOk, OnErr};
 ghost use Rattle.board_layout.specs.Answer.{Answers, Refuses};
 ghost use Rattle.board_service.specs.Domain as domain;
 
@@ -19,10 +19,13 @@ impl<C: Cells> DomainCore<C> {
     /// # Errors
     /// `ExceedsMaxSupportedReaders` where the board has as many readers as it may; `NumbersSpent`; `OutOfMemory`. All stays as it was.
     pub fn reader(&mut self, factory: ThingId) -> Result<Made, ReaderCreateError>
-        requires { IsSome (find (domain.is_thing factory) self.old.tables.things) }
-        ensures answer { Answers result ReaderCreateError.OutOfMemory (domain.reader_answer self.old (domain.held self.old factory)) }
-        ensures refused { Refuses result (domain.reader_answer self.old (domain.held self.old factory)) }
-        ensures ok { OnOk result (self.new ≡ domain.after_reader self.old (domain.held self.old factory)) }
+        requires { domain.Stands self.old factory }
+        ensures answer { Answers result ReaderCreateError.OutOfMemory
+            (domain.reader_answer self.old (domain.held self.old factory)) }
+        ensures refused { Refuses result
+            (domain.reader_answer self.old (domain.held self.old factory)) }
+        ensures ok { OnOk result
+            (self.new ≡ domain.after_reader self.old (domain.held self.old factory)) }
         ensures err { OnErr result (self.new ≡ self.old) }
     {
         let of = thing_of(factory, &self.things);
@@ -33,14 +36,10 @@ impl<C: Cells> DomainCore<C> {
             return Err(ReaderCreateError::NumbersSpent);
         }
         let port = self.last_port + 1;
-        let Ok(thing) = self.add_thing(of.holder, of.board, Kind::Reader { port }) else {
-            return Err(ReaderCreateError::OutOfMemory);
-        };
-        self.last_port = port;
-        Ok(Made {
-            thing,
-            number: port,
-        })
+        match self.add_port(of.holder, of.board, Kind::Reader { port }) {
+            Ok(made) => Ok(made),
+            Err(_) => Err(ReaderCreateError::OutOfMemory),
+        }
     }
 
     /// Makes a writer of a factory's board. `number` is its port's.
@@ -48,10 +47,13 @@ impl<C: Cells> DomainCore<C> {
     /// # Errors
     /// `ExceedsMaxSupportedWriters` where a writer of the board stands, or a write handle made from one; `NumbersSpent`; `OutOfMemory`. All stays as it was.
     pub fn writer(&mut self, factory: ThingId) -> Result<Made, WriterCreateError>
-        requires { IsSome (find (domain.is_thing factory) self.old.tables.things) }
-        ensures answer { Answers result WriterCreateError.OutOfMemory (domain.writer_answer self.old (domain.held self.old factory)) }
-        ensures refused { Refuses result (domain.writer_answer self.old (domain.held self.old factory)) }
-        ensures ok { OnOk result (self.new ≡ domain.after_writer self.old (domain.held self.old factory)) }
+        requires { domain.Stands self.old factory }
+        ensures answer { Answers result WriterCreateError.OutOfMemory
+            (domain.writer_answer self.old (domain.held self.old factory)) }
+        ensures refused { Refuses result
+            (domain.writer_answer self.old (domain.held self.old factory)) }
+        ensures ok { OnOk result
+            (self.new ≡ domain.after_writer self.old (domain.held self.old factory)) }
         ensures err { OnErr result (self.new ≡ self.old) }
     {
         let of = thing_of(factory, &self.things);
@@ -62,13 +64,9 @@ impl<C: Cells> DomainCore<C> {
             return Err(WriterCreateError::NumbersSpent);
         }
         let port = self.last_port + 1;
-        let Ok(thing) = self.add_thing(of.holder, of.board, Kind::Writer { port }) else {
-            return Err(WriterCreateError::OutOfMemory);
-        };
-        self.last_port = port;
-        Ok(Made {
-            thing,
-            number: port,
-        })
+        match self.add_port(of.holder, of.board, Kind::Writer { port }) {
+            Ok(made) => Ok(made),
+            Err(_) => Err(WriterCreateError::OutOfMemory),
+        }
     }
 }

@@ -1,5 +1,5 @@
 //! What is told of things and boards.
-ghost use Rattle.std.specs.Prelude.{◌≡◌, find, option_map, is_some, IsSome};
+ghost use Rattle.std.specs.Prelude.{◌≡◌, option_map, is_some, IsSome};
 ghost use Rattle.std.specs.Bool.{OnTrue};
 ghost use Rattle.board_layout.specs.Bytes.{details};
 ghost use Rattle.board_model.specs.Tables.{board_at};
@@ -20,10 +20,11 @@ use board_model::{Entry, ThingKind};
 use board_names::ServiceName;
 
 impl<C: Cells> DomainCore<C> {
-    /// The number of a thing's board.
+    /// The number of a thing's board, which stands.
     pub fn board_of(&self, thing: ThingId) -> u64
-        requires { IsSome (find (domain.is_thing thing) self.now.tables.things) }
-        ensures { result ≡ (domain.held self.now thing).board }
+        requires { domain.Stands self.now thing }
+        ensures value { result ≡ (domain.held self.now thing).board }
+        ensures stands { IsSome (board_at self.now.tables result) }
     {
         thing_of(thing, &self.things).board
     }
@@ -37,8 +38,9 @@ impl<C: Cells> DomainCore<C> {
 
     /// Whether the thing stands, is of the kind, and its board's keys are of type `K`.
     pub fn is_held<K: BoardKey>(&self, thing: ThingId, kind: ThingKind) -> bool
-        ensures value { result ≡ domain.stands_as self.now (details K.type_bytes K.SIZE K.ALIGNMENT) thing kind }
-        ensures stands { OnTrue result (IsSome (find (domain.is_thing thing) self.now.tables.things)) }
+        ensures value { result
+            ≡ domain.stands_as self.now (details K.type_bytes K.SIZE K.ALIGNMENT) thing kind }
+        ensures stands { OnTrue result (domain.Stands self.now thing) }
     {
         let key = TypeDetail::new::<K>(TypeVariant::FixedSize);
         match thing_at(thing, &self.things) {
@@ -49,7 +51,8 @@ impl<C: Cells> DomainCore<C> {
 
     /// The board's name.
     pub fn name_of(&self, board: u64) -> Option<&ServiceName>
-        ensures { option_map (λ n. n.now) result ≡ option_map (λ b. b.name) (board_at self.now.tables board) }
+        ensures { option_map (λ n. n.now) result
+            ≡ option_map (λ b. b.name) (board_at self.now.tables board) }
     {
         match board_at(board, &self.boards) {
             Some(b) => Some(b.name()),
@@ -74,7 +77,8 @@ impl<C: Cells> DomainCore<C> {
 
     /// How much of the board is taken: the readers, the writer slots, and the nodes with a thing of it.
     pub fn use_of(&self, board: u64) -> Option<DynamicConfig>
-        ensures { result ≡ option_map (told.use_in self.now.tables.things) (board_at self.now.tables board) }
+        ensures { result
+            ≡ option_map (told.use_in self.now.tables.things) (board_at self.now.tables board) }
     {
         match board_at(board, &self.boards) {
             Some(b) => Some(DynamicConfig {
@@ -88,7 +92,8 @@ impl<C: Cells> DomainCore<C> {
 
     /// The board's attributes.
     pub fn attributes_of(&self, board: u64) -> Option<&AttributeSet>
-        ensures { option_map (λ a. a.now) result ≡ option_map (λ b. b.attributes) (board_at self.now.tables board) }
+        ensures { option_map (λ a. a.now) result
+            ≡ option_map (λ b. b.attributes) (board_at self.now.tables board) }
     {
         match board_at(board, &self.boards) {
             Some(b) => Some(b.attributes()),
@@ -98,14 +103,16 @@ impl<C: Cells> DomainCore<C> {
 
     /// The board's description: its name, type of keys, limits and attributes, as bytes in the wire format of `Postcard`.
     pub fn description_of(&self, board: u64) -> Option<&[u8]>
-        ensures { ShowsDescription (board_at self.now.tables board) (option_map (λ b. b.now) result) }
+        ensures { ShowsDescription (board_at self.now.tables board)
+            (option_map (λ b. b.now) result) }
     {
         self.descriptions.bytes_of(&path_of(board))
     }
 
     /// The node at this place among those of the board, ascending.
     pub fn node_at(&self, board: u64, index: u64) -> Option<NodeId>
-        ensures { result ≡ told.node_in index self.now.tables.things (board_at self.now.tables board) }
+        ensures { result
+            ≡ told.node_in index self.now.tables.things (board_at self.now.tables board) }
     {
         match board_at(board, &self.boards) {
             Some(b) => node_at(b.number(), index, &self.things),
@@ -115,7 +122,8 @@ impl<C: Cells> DomainCore<C> {
 
     /// The entries of the board, in the order of adding.
     pub fn entries_of(&self, board: u64) -> Option<&[Entry]>
-        ensures { option_map (λ es. es.now) result ≡ option_map (λ b. b.entries) (board_at self.now.tables board) }
+        ensures { option_map (λ es. es.now) result
+            ≡ option_map (λ b. b.entries) (board_at self.now.tables board) }
     {
         match board_at(board, &self.boards) {
             Some(b) => Some(b.entries()),
@@ -125,7 +133,8 @@ impl<C: Cells> DomainCore<C> {
 
     /// The key at this place among those of the board, in the order of adding.
     pub fn key_at(&self, board: u64, index: u64) -> Option<KeyMemory<64>>
-        ensures { option_map (λ k. k.bytes) result ≡ told.key_in index (board_at self.now.tables board) }
+        ensures { option_map (λ k. k.bytes) result
+            ≡ told.key_in index (board_at self.now.tables board) }
     {
         match board_at(board, &self.boards) {
             Some(b) => match b.entries().get(index as usize) {

@@ -1,19 +1,62 @@
-use Rattle.std.proofs.Common.{◌≡◌, arith, ap, sym, subst, length, List}
+use Rattle.std.proofs.Common.{◌≡◌, ◌<◌, ◌^◌, ℕ, true, false, arith, List, length, sym, ap, subst, ◌∙◌}
+use Rattle.std.specs.Prelude.{find, is_some}
+use Rattle.std.specs.List.{list_any}
 use Rattle.board_model.specs.declared.tables.Board.{Board}
-use Rattle.board_model.specs.Tables.{is_numbered}
-use Rattle.board_model.specs.Tables as tables
+use Rattle.board_model.specs.declared.tables.Thing.{Thing}
+use Rattle.board_model.specs.Tables.{Tables, is_numbered, is_of_board, without_first}
 use Rattle.board_store.specs.Statics.{Storages}
-use Rattle.board_service.specs.Descriptions.{IsCore}
-use Rattle.board_service.proofs.BoardLemmas.{core_less}
+use Rattle.board_names.specs.Table.{without}
+use Rattle.board_service.specs.Descriptions.{IsCore, storage_name}
+use Rattle.board_service.specs.Domain.{Domain, is_thing, thing_numbered}
+use Rattle.board_service.proofs.BoardLemmas.{core_less, core_released}
+use Rattle.board_service.proofs.TableLemmas.{board_stands}
 use Rattle.board_service.proofs.domain_core.DomainCore.release.Goals as goal
 
-pub invariant_of-self-in-Some : goal.invariant_of-self-in-Some
-invariant_of-self-in-Some g c =
-    let number = c.take_thing-gone.result.board in
+pub invariant_of-self : goal.invariant_of-self
+invariant_of-self g c =
+    let s = c.self.inside in
+    let rest = c.take_thing-gone.ensures.rest in
+    let taken = c.take_thing-gone.ensures.taken in
+    let some : is_some (find (is_thing c.args.thing) s.things.items) ≡ true = subst (λ (d : Domain g.row.C.Denot). is_some (find (is_thing c.args.thing) d.tables.things) ≡ true) (sym c.self.view_is) c.requires in
+    let any : list_any (is_of_board c.take_thing-gone.result.board) c.take_thing-gone.new.things.items ≡ true =
+    ap (λ (ts : List (Thing ℕ ℕ)). list_any (is_of_board c.take_thing-gone.result.board) ts) (sym c.deref.ensures.value) ∙ sym c.has_thing_of.ensures ∙ c.if-has_thing_of.true in
+    let kept : list_any (is_of_board (thing_numbered c.args.thing s.things.items).board) (without_first (is_thing c.args.thing) s.things.items) ≡ true =
+    ap (λ (ts : List (Thing ℕ ℕ)). list_any (is_of_board (thing_numbered c.args.thing s.things.items).board) ts) (sym rest)
+    ∙ ap (λ (t : Thing ℕ ℕ). list_any (is_of_board t.board) c.take_thing-gone.new.things.items) (sym taken) ∙ any in
+    subst (λ (ts : List (Thing ℕ ℕ)). IsCore (record { boards = s.boards.items; things = ts; last_board = s.last_board; last_port = s.last_port }) s.last_thing s.cells.items s.descriptions)
+    (sym rest) (core_released c.args.thing c.self.invariant some kept)
+
+pub take_board-place-requires : goal.take_board-place-requires
+take_board-place-requires g c =
+    let s = c.self.inside in
+    let some : is_some (find (is_thing c.args.thing) s.things.items) ≡ true = subst (λ (d : Domain g.row.C.Denot). is_some (find (is_thing c.args.thing) d.tables.things) ≡ true) (sym c.self.view_is) c.requires in
+    ap (λ (t : Thing ℕ ℕ). is_some (find (is_numbered t.board) s.boards.items)) c.take_thing-gone.ensures.taken
+    ∙ board_stands (record { boards = s.boards.items; things = s.things.items; last_board = s.last_board; last_port = s.last_port }) s.last_thing c.args.thing c.self.invariant.tables some
+
+pub invariant_of-self-2 : goal.invariant_of-self-2
+invariant_of-self-2 g c =
+    let s = c.self.inside in
+    let rest = c.take_thing-gone.ensures.rest in
+    let taken = c.take_thing-gone.ensures.taken in
+    let board : c.take_thing-gone.result.board ≡ (thing_numbered c.args.thing s.things.items).board = ap (λ (t : Thing ℕ ℕ). t.board) taken in
+    let none : list_any (is_of_board c.take_thing-gone.result.board) c.take_thing-gone.new.things.items ≡ false =
+    ap (λ (ts : List (Thing ℕ ℕ)). list_any (is_of_board c.take_thing-gone.result.board) ts) (sym c.deref.ensures.value) ∙ sym c.has_thing_of.ensures ∙ c.if-has_thing_of.false in
+    let gone : list_any (is_of_board (thing_numbered c.args.thing s.things.items).board) (without_first (is_thing c.args.thing) s.things.items) ≡ false =
+    ap (λ (ts : List (Thing ℕ ℕ)). list_any (is_of_board (thing_numbered c.args.thing s.things.items).board) ts) (sym rest)
+    ∙ ap (λ (n : ℕ). list_any (is_of_board n) c.take_thing-gone.new.things.items) (sym board) ∙ none in
+    let fewer = c.take_board-place.ensures.rest in
     let left = c.take_cells.new.cells.items in
-    let rest = c.in-Some.ensures.rest in
-    let cells : length left ≡ length (tables.without_first (is_numbered number) c.self.inside.boards.items) =
-    omega (arith, c.take_cells.ensures.shorter, c.in-Some.ensures.shorter, ap (λ (bs : List Board). length bs) rest, c.self.invariant.cells) in
-    let less = core_less {left = left} number c.self.invariant c.let_go.ensures.range cells in
-    subst (λ (bs : List Board). IsCore bs left c.self.inside.last_board c.let_go.new.statics) (sym rest)
-    (subst (λ (ds : Storages). IsCore (tables.without_first (is_numbered number) c.self.inside.boards.items) left c.self.inside.last_board ds) (sym c.let_go.ensures.after) less)
+    let cells : length left ≡ length (without_first (is_numbered c.take_thing-gone.result.board) s.boards.items) =
+    omega (arith, c.take_cells.ensures.shorter, c.take_board-place.ensures.shorter, ap (λ (bs : List Board). length bs) fewer, c.self.invariant.cells) in
+    let Left : ℕ → Type 0 = λ n. length left ≡ length (without_first (is_numbered n) s.boards.items) in
+    let less = core_less c.args.thing c.self.invariant gone (subst (λ (n : ℕ). n < 2 ^ 64) board c.let_go.ensures.range) (subst Left board cells) in
+    let Core : ℕ → Type 0 = λ n. IsCore (record { boards = without_first (is_numbered n) s.boards.items; things = without_first (is_thing c.args.thing) s.things.items; last_board = s.last_board; last_port = s.last_port })
+    s.last_thing left (without s.descriptions (storage_name n)) in
+    let there = subst Core (sym board) less in
+    let Boards : List Board → Type 0 = λ bs. IsCore (record { boards = bs; things = without_first (is_thing c.args.thing) s.things.items; last_board = s.last_board; last_port = s.last_port })
+    s.last_thing left (without s.descriptions (storage_name c.take_thing-gone.result.board)) in
+    let Things : List (Thing ℕ ℕ) → Type 0 = λ ts. IsCore (record { boards = c.take_board-place.new.boards.items; things = ts; last_board = s.last_board; last_port = s.last_port })
+    s.last_thing left (without s.descriptions (storage_name c.take_thing-gone.result.board)) in
+    let Kept : Storages → Type 0 = λ ds. IsCore (record { boards = c.take_board-place.new.boards.items; things = c.take_thing-gone.new.things.items; last_board = s.last_board; last_port = s.last_port })
+    s.last_thing left ds in
+    subst Kept (sym c.let_go.ensures.after) (subst Things (sym rest) (subst Boards (sym fewer) there))

@@ -1,0 +1,14 @@
+use Rattle.std.proofs.Common.{◌≡◌, ◌≤◌, ℕ, List, sym, ap, subst, ◌∙◌}
+use Rattle.board_model.specs.declared.tables.Thing.{Thing}
+use Rattle.board_model.specs.Tables.{port_of}
+use Rattle.board_service.specs.Domain.{Domain, held, thing_numbered}
+use Rattle.board_service.specs.Facts.{IsDomain}
+use Rattle.board_service.proofs.BoardLemmas.{core_domain, port_drawn}
+use Rattle.board_service.proofs.domain_core.DomainCore.entry_mut.Goals as goal
+
+pub add_thing-requires-clause-port : goal.add_thing-requires-clause-port
+add_thing-requires-clause-port g c =
+    let known = subst (λ (d : Domain g.row.C.Denot). IsDomain d) c.self.view_is (core_domain c.self.invariant) in
+    let same : c.thing_of-of.result ≡ held c.args.self.now c.args.writer =
+    c.thing_of-of.ensures ∙ ap (λ (ts : List (Thing ℕ ℕ)). thing_numbered c.args.writer ts) (c.deref.ensures.value ∙ ap (λ (d : Domain g.row.C.Denot). d.tables.things) c.self.view_is) in
+    subst (λ (p : ℕ). p ≤ c.args.self.now.tables.last_port) (sym (c.port_of.ensures ∙ ap (λ (t : Thing ℕ ℕ). port_of t.kind) same)) (port_drawn c.args.self.now c.args.writer known)
