@@ -12,6 +12,3 @@ mod place;
 
 pub use cells::BoardCells;
 pub use ends::{ReadEnd, WriteEnd};
-
-#[cfg(test)]
-mod tests;

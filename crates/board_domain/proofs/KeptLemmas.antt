@@ -10,7 +10,8 @@ use Rattle.board_model.specs.Tables.{Added, board_at, board_named, has_name, is_
 use Rattle.board_model.specs.TableCalls.{answer_of, first_of, number_of, open_refusals}
 use Rattle.board_names.specs.declared.errors.boards.BlackboardOpenError.TheVariants as open_error
 use Rattle.board_service.specs.declared.made.Made.{Made}
-use Rattle.board_service.specs.Domain.{spent, is_thing, held, made, create_answer, create_list, open_answer, open_list, after_open, after_release}
+use Rattle.board_cells.specs.Cells.{PlaceSeen, AreNew}
+use Rattle.board_service.specs.Domain.{IsCreated, spent, is_thing, held, made, create_answer, create_list, open_answer, open_list, after_open, after_release}
 use Rattle.board_handles.specs.BoardEnds.{Core}
 use Rattle.board_handles.specs.LentForms.{without_thing}
 use Rattle.board_handles.proofs.LentLemmas.{is_same, kept_some, found_last, answered}
@@ -22,6 +23,10 @@ is_shown f None s e = cc
 is_shown f (Some x) s e = cc
 
 -- ---- create
+
+-- a board with cells that share ends was made
+pub is_made : (b : lent.NewBoard) (d t : Core) → IsCreated {C = List PlaceSeen} (λ places entries cells. AreNew entries cells) (λ cells. None) d t b.node b.name b.keys b.limits b.attributes b.entries → lent.IsMade b d t
+is_made b d t is = (is.0, is.1, is.3)
 
 module _ (b : lent.NewBoard) (d t : Core) (is : lent.IsMade b d t) where
   -- a board that was made stands
@@ -52,18 +57,17 @@ module _ (d : Core) (same_key : List ℕ → List ℕ → Bool) (name : List ℕ
 
 -- ---- open
 
--- what is found by one test and passes another is found by that too, or something before it
-found_too : {A : Type 0} (p q : A → Bool) (xs : List A) (x : A) → find p xs ≡ Some x → q x ≡ true → IsSome (find q xs)
-
-found_here : {A : Type 0} (p q : A → Bool) (y : A) (ys : List A) (x : A) (b : Bool) → cond b (Some y) (find p ys) ≡ Some x → q x ≡ true → IsSome (cond (q y) (Some y) (find q ys))
-
-found_too p q [] x e h = absurd (cc)
-found_too p q (y ∷ ys) x e h = found_here p q y ys x (p y) e h
-
-found_here p q y ys x true e h =
+-- a step of the lemma below
+found_here : {A : Type 0} (p q : A → Bool) (y : A) (ys : List A) (x : A) (b : Bool) → cond b (Some y) (find p ys) ≡ Some x → q x ≡ true → (find p ys ≡ Some x → IsSome (find q ys)) → IsSome (cond (q y) (Some y) (find q ys))
+found_here p q y ys x true e h rest =
     let same : x ≡ y = cc in
     subst (λ b. is_some (cond b (Some y) (find q ys)) ≡ true) (sym h ∙ ap q same) refl
-found_here p q y ys x false e h = kept_some (q y) y (find q ys) (found_too p q ys x e h)
+found_here p q y ys x false e h rest = kept_some (q y) y (find q ys) (rest e)
+
+-- what is found by one test and passes another is found by that too, or something before it
+found_too : {A : Type 0} (p q : A → Bool) (xs : List A) (x : A) → find p xs ≡ Some x → q x ≡ true → IsSome (find q xs)
+found_too p q [] x e h = absurd (cc)
+found_too p q (y ∷ ys) x e h = found_here p q y ys x (p y) e h (λ f. found_too p q ys x f h)
 
 -- a board that is found by its name stands under its number
 named_stands : (boards : List Board) (name : List ℕ) (o : Option Board) → find (has_name name) boards ≡ o → is_none o ≡ false → IsSome (find (is_numbered (number_of o)) boards)

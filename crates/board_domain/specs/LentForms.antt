@@ -5,6 +5,11 @@ use Rattle.board_model.specs.declared.attributes.Attribute.{Attribute}
 use Rattle.board_model.specs.declared.tables.Limits.{Limits}
 use Rattle.board_model.specs.declared.tables.ThingKind.TheVariants.{Factory}
 use Rattle.board_model.specs.Tables.{Added, board_at}
+use Rattle.board_model.specs.declared.attributes.Requirements.{Requirements}
+use Rattle.board_names.specs.declared.errors.boards.BlackboardOpenError.{BlackboardOpenError}
+use Rattle.board_service.specs.declared.made.Made.{Made}
+use Rattle.board_domain.specs.Services.{OpenerSeen}
+use Rattle.board_service.specs.Domain as calls
 use Rattle.board_service.specs.Domain.{stands_as, held, after_create, after_open}
 use Rattle.board_service.specs.declared.told.DynamicConfig.{DynamicConfig}
 use Rattle.board_service.specs.Told.{use_in}
@@ -43,6 +48,10 @@ LeavesMade (Ok x) b old new = IsMade b old new
 LeavesMade (Err e) b old new = IsNotMade b old new
 
 -- ---- open
+
+-- what the opening of a board answers: the factory's thing, and the board's number
+abbrev pub open_answer : Core → TypeDetail → OpenerSeen → Requirements → Result Made BlackboardOpenError
+open_answer d keys o needs = calls.open_answer d o.node o.name keys o.limits needs
 
 -- the tables after an `open`: with Err nothing was made, or the factory is gone again, and its number stays drawn
 abbrev pub LeavesOpened : {A E : Type 0} → Result A E → ℕ → List ℕ → Core → Core → Type 0

@@ -1,5 +1,5 @@
 -- What callers see of nodes, builders and factories.
-use Rattle.std.specs.Prelude.{◌≡◌, ℕ, ◌+◌, if◌then◌else◌, List, [], ◌∷◌, ◌++◌, None, Result, Ok, Err}
+use Rattle.std.specs.Prelude.{◌≡◌, ℕ, ◌+◌, if◌then◌else◌, List, [], ◌∷◌, ◌++◌, Some, None, Result, Ok, Err}
 use Rattle.board_layout.specs.declared.type_detail.TypeDetail.{TypeDetail}
 use Rattle.board_layout.specs.Keys.{key_value}
 use Rattle.board_model.specs.declared.attributes.Attribute.{Attribute}
@@ -56,6 +56,18 @@ factory_made f = f.made
 abbrev pub no_limits : Limits
 no_limits = record { max_readers = None; max_nodes = None }
 
+-- at most so many readers are asked for
+abbrev pub with_readers : Limits → ℕ → Limits
+with_readers l n = record l { max_readers = Some n }
+
+-- at most so many nodes are asked for
+abbrev pub with_nodes : Limits → ℕ → Limits
+with_nodes l n = record l { max_nodes = Some n }
+
+-- what makes a board of which nothing more was told
+abbrev pub new_creator : ℕ → List ℕ → CreatorSeen
+new_creator node name = record { node = node; name = name; limits = no_limits; entries = [] }
+
 -- nothing is required of a board's attributes
 abbrev pub no_requirements : Requirements
 no_requirements = record { pairs = []; keys = [] }
@@ -64,9 +76,9 @@ no_requirements = record { pairs = []; keys = [] }
 
 -- an entry of this key and these words of a first value: the key's bytes read back as the key
 pub record IsEntryOf {K : Type 0} (value_of : List ℕ → K) (size count : ℕ) (key : K) (values : TypeDetail) (words : List ℕ) (a : Added) : Type 0 where
-  pub key : key_value value_of size count a.key ≡ key
-  pub values : a.value ≡ values
-  pub words : a.words ≡ words
+  pub reads_back : key_value value_of size count a.key ≡ key
+  pub typed : a.value ≡ values
+  pub holds : a.words ≡ words
 
 -- the same creator with one entry more
 abbrev pub AddsEntry : CreatorSeen → CreatorSeen → (Added → Type 0) → Type 0

@@ -5,7 +5,7 @@ ghost use Rattle.board_layout.specs.Bytes.{details};
 ghost use Rattle.board_layout.specs.Keys.{same_keys};
 ghost use Rattle.board_service.specs.Domain as calls;
 ghost use Rattle.board_domain.specs.LentForms as lent;
-ghost use Rattle.board_domain.specs.Services.{AddsEntry, IsEntryOf, no_limits, factory_made};
+ghost use Rattle.board_domain.specs.Services.{AddsEntry, IsEntryOf, new_creator, with_readers, with_nodes, factory_made};
 ghost use Rattle.board_domain.specs.Factories.{KeepsBoard};
 
 use crate::add_error::AddError;
@@ -45,9 +45,15 @@ impl<K: BoardKey, P> Model for Creator<K, P> {
 
     ghost Value = { CreatorSeen };
 
-    ghost view = { λ s. record { node = s.node; name = s.name; limits = s.limits; entries = map as_added s.entries.items } };
+    ghost view = { λ s. record {
+      node = s.node;
+      name = s.name;
+      limits = s.limits;
+      entries = map as_added s.entries.items;
+    } };
 
-    ghost invariant = { λ s. All IsShape (shapes_of (map as_added s.entries.items)) × (0 < length s.entries.items → K.SIZE ≤ 64) };
+    ghost invariant = { λ s. All IsShape (shapes_of (map as_added s.entries.items))
+        × (0 < length s.entries.items → K.SIZE ≤ 64) };
 }
 
 impl<K: BoardKey, P> Creator<K, P> {
@@ -57,7 +63,7 @@ impl<K: BoardKey, P> Creator<K, P> {
         name: ServiceName,
         domain: Domain,
     ) -> Creator<K, P>
-        ensures { result ≡ record { node = node; name = name; limits = no_limits; entries = [] } }
+        ensures { result ≡ new_creator node name }
     {
         Creator {
             node,
@@ -75,7 +81,7 @@ impl<K: BoardKey, P> Creator<K, P> {
 
     /// How many readers the board may have at once. 0 is raised to 1.
     pub fn max_readers(mut self, value: u64) -> Self
-        ensures { result ≡ record self { limits = record self.limits { max_readers = Some value } } }
+        ensures { result ≡ record self { limits = with_readers self.limits value } }
     {
         self.limits.max_readers = Some(value);
         self
@@ -83,7 +89,7 @@ impl<K: BoardKey, P> Creator<K, P> {
 
     /// How many nodes the board may have at once. 0 is raised to 1.
     pub fn max_nodes(mut self, value: u64) -> Self
-        ensures { result ≡ record self { limits = record self.limits { max_nodes = Some value } } }
+        ensures { result ≡ record self { limits = with_nodes self.limits value } }
     {
         self.limits.max_nodes = Some(value);
         self
@@ -94,7 +100,8 @@ impl<K: BoardKey, P> Creator<K, P> {
     /// # Errors
     /// `Key(ValueTooLarge)` where the key has more than 64 bytes; else `Key(ValueAlignmentTooLarge)` where its alignment is above 8; `OutOfMemory`.
     pub fn add<V: ZeroCopySend>(self, key: K, value: V) -> Result<Self, AddError>
-        ensures large { IsErrOf result (AddError.Key KeyMemoryError.ValueTooLarge) ↔ (64 < K.SIZE) }
+        ensures large { IsErrOf result (AddError.Key KeyMemoryError.ValueTooLarge)
+            ↔ (64 < K.SIZE) }
         ensures aligned { let why = AddError.Key KeyMemoryError.ValueAlignmentTooLarge in
             IsErrOf result why ↔ ((K.SIZE ≤ 64) × (8 < K.ALIGNMENT)) }
         ensures ok { let values = details V.type_bytes V.SIZE V.ALIGNMENT in
@@ -117,7 +124,8 @@ impl<K: BoardKey, P> Creator<K, P> {
     /// # Errors
     /// As for `add`.
     pub fn add_with_default<V: ZeroCopySend + Default>(self, key: K) -> Result<Self, AddError>
-        ensures large { IsErrOf result (AddError.Key KeyMemoryError.ValueTooLarge) ↔ (64 < K.SIZE) }
+        ensures large { IsErrOf result (AddError.Key KeyMemoryError.ValueTooLarge)
+            ↔ (64 < K.SIZE) }
         ensures ok { let values = details V.type_bytes V.SIZE V.ALIGNMENT in
             let entry = λ (v : V). IsEntryOf K.value_of K.SIZE K.WORDS key values (V.words_of v) in
             IfOk result (λ more. (v : V) × V.is_default v × AddsEntry self more (entry v)) }

@@ -7,7 +7,7 @@ ghost use Rattle.board_layout.specs.Layout.{IsShape};
 ghost use Rattle.board_model.specs.Tables.{board_at, shapes_of};
 ghost use Rattle.board_service.specs.Domain as calls;
 ghost use Rattle.board_service.specs.Entries.{as_added};
-ghost use Rattle.board_domain.specs.Kept.{kept_made, KeepsBoard, ShowsBoard};
+ghost use Rattle.board_domain.specs.Kept.{kept_made, KeepsBoard};
 ghost use Rattle.board_domain.specs.LentForms as lent;
 
 use board_concepts::{AttributeSet, AttributeVerifier};
@@ -30,7 +30,7 @@ pub(crate) struct Kept {
 fn kept_of(tables: &DomainCore<BoardCells>, made: Made) -> Result<Kept, AllocError>
     requires { IsSome (board_at tables.now.tables made.number) }
     ensures made { IfOk result (λ k. k.made ≡ made) }
-    ensures kept { IfOk result (λ k. ShowsBoard (board_at tables.now.tables made.number) k.config k.attributes) }
+    ensures kept { IfOk result (λ k. KeepsBoard tables.now k) }
 {
     // The board stands.
     let Some(config) = tables.config_of(made.number) else {
@@ -64,13 +64,16 @@ pub(crate) fn new_board<K: BoardKey>(
     requires size { 0 < length entries.items → K.SIZE ≤ 64 }
     requires shapes { All IsShape (shapes_of (map as_added entries.items)) }
     ensures answer { let same_key = same_keys K.eq K.value_of K.SIZE K.WORDS in
-        let answer = calls.create_answer state.old.tables same_key name.now (map as_added entries.items) in
+        let added = map as_added entries.items in
+        let answer = calls.create_answer state.old.tables same_key name.now added in
         Answers (with_value kept_made result) BlackboardCreateError.OutOfMemory answer }
     ensures refused { let same_key = same_keys K.eq K.value_of K.SIZE K.WORDS in
-        let answer = calls.create_answer state.old.tables same_key name.now (map as_added entries.items) in
+        let added = map as_added entries.items in
+        let answer = calls.create_answer state.old.tables same_key name.now added in
         Refuses (with_value kept_made result) answer }
     ensures tables { let keys = details K.type_bytes K.SIZE K.ALIGNMENT in
-        let asked = lent.new_board node name.now keys limits attributes (map as_added entries.items) in
+        let added = map as_added entries.items in
+        let asked = lent.new_board node name.now keys limits attributes added in
         lent.LeavesMade result asked state.old.tables state.new.tables }
     ensures kept { IfOk result (λ k. KeepsBoard state.new.tables k) }
     ensures nodes { state.new.nodes ≡ state.old.nodes }
@@ -82,10 +85,11 @@ pub(crate) fn new_board<K: BoardKey>(
         Ok(made) => made,
         Err(why) => return Err(why),
     };
+    let thing = made.thing;
     match kept_of(&state.tables, made) {
         Ok(kept) => Ok(kept),
         Err(_) => {
-            let _ = state.tables.release(made.thing);
+            let _ = state.tables.release(thing);
             Err(BlackboardCreateError::OutOfMemory)
         }
     }
@@ -116,10 +120,11 @@ pub(crate) fn open_board<K: BoardKey>(
         Ok(made) => made,
         Err(why) => return Err(why),
     };
+    let thing = made.thing;
     match kept_of(&state.tables, made) {
         Ok(kept) => Ok(kept),
         Err(_) => {
-            let _ = state.tables.release(made.thing);
+            let _ = state.tables.release(thing);
             Err(BlackboardOpenError::OutOfMemory)
         }
     }

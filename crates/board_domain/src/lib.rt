@@ -26,6 +26,3 @@ pub use node::Node;
 pub use opener::Opener;
 pub use port_factory::PortFactory;
 pub use service_builder::ServiceBuilder;
-
-#[cfg(test)]
-mod tests;

@@ -40,7 +40,8 @@ impl Node {
         domain: &Domain,
         name: NodeName,
     ) -> Result<Node, DomainError>
-        ensures answer { Answers (with_value node_number result) DomainError.OutOfMemory (node_answer state.old.nodes) }
+        ensures answer { let answer = node_answer state.old.nodes in
+            Answers (with_value node_number result) DomainError.OutOfMemory answer }
         ensures refused { Refuses (with_value node_number result) (node_answer state.old.nodes) }
         ensures named { IfOk result (λ node. node.name ≡ name) }
         ensures tables { state.new.tables ≡ state.old.tables }

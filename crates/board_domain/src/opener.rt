@@ -2,9 +2,8 @@
 ghost use Rattle.std.specs.Prelude.{◌≡◌, [], Some, IfOk};
 ghost use Rattle.board_layout.specs.Answer.{Answers, Refuses, with_value};
 ghost use Rattle.board_layout.specs.Bytes.{details};
-ghost use Rattle.board_service.specs.Domain as calls;
 ghost use Rattle.board_domain.specs.LentForms as lent;
-ghost use Rattle.board_domain.specs.Services.{no_limits, factory_made, no_requirements};
+ghost use Rattle.board_domain.specs.Services.{no_limits, with_readers, with_nodes, factory_made, no_requirements};
 ghost use Rattle.board_domain.specs.Factories.{KeepsBoard};
 
 use crate::kept::open_board;
@@ -64,7 +63,7 @@ impl<K: BoardKey, P> Opener<K, P> {
 
     /// For how many readers at once the board is to have room at least.
     pub fn max_readers(mut self, value: u64) -> Self
-        ensures { result ≡ record self { limits = record self.limits { max_readers = Some value } } }
+        ensures { result ≡ record self { limits = with_readers self.limits value } }
     {
         self.limits.max_readers = Some(value);
         self
@@ -72,7 +71,7 @@ impl<K: BoardKey, P> Opener<K, P> {
 
     /// For how many nodes at once the board is to have room at least.
     pub fn max_nodes(mut self, value: u64) -> Self
-        ensures { result ≡ record self { limits = record self.limits { max_nodes = Some value } } }
+        ensures { result ≡ record self { limits = with_nodes self.limits value } }
     {
         self.limits.max_nodes = Some(value);
         self
@@ -88,10 +87,10 @@ impl<K: BoardKey, P> Opener<K, P> {
         verifier: &AttributeVerifier,
     ) -> Result<PortFactory<K, P>, BlackboardOpenError>
         ensures answer { let keys = details K.type_bytes K.SIZE K.ALIGNMENT in
-            let answer = calls.open_answer state.old.tables self.node self.name keys self.limits verifier.now in
+            let answer = lent.open_answer state.old.tables keys self verifier.now in
             Answers (with_value factory_made result) BlackboardOpenError.OutOfMemory answer }
         ensures refused { let keys = details K.type_bytes K.SIZE K.ALIGNMENT in
-            let answer = calls.open_answer state.old.tables self.node self.name keys self.limits verifier.now in
+            let answer = lent.open_answer state.old.tables keys self verifier.now in
             Refuses (with_value factory_made result) answer }
         ensures tables { lent.LeavesOpened result self.node self.name state.old.tables state.new.tables }
         ensures kept { IfOk result (λ f. KeepsBoard state.new.tables f) }
@@ -118,10 +117,10 @@ impl<K: BoardKey, P> Opener<K, P> {
     /// As for `open_with_attributes_in`.
     pub fn open_in(self, state: &mut DomainState) -> Result<PortFactory<K, P>, BlackboardOpenError>
         ensures answer { let keys = details K.type_bytes K.SIZE K.ALIGNMENT in
-            let answer = calls.open_answer state.old.tables self.node self.name keys self.limits no_requirements in
+            let answer = lent.open_answer state.old.tables keys self no_requirements in
             Answers (with_value factory_made result) BlackboardOpenError.OutOfMemory answer }
         ensures refused { let keys = details K.type_bytes K.SIZE K.ALIGNMENT in
-            let answer = calls.open_answer state.old.tables self.node self.name keys self.limits no_requirements in
+            let answer = lent.open_answer state.old.tables keys self no_requirements in
             Refuses (with_value factory_made result) answer }
         ensures tables { lent.LeavesOpened result self.node self.name state.old.tables state.new.tables }
         ensures kept { IfOk result (λ f. KeepsBoard state.new.tables f) }

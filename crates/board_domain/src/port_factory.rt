@@ -4,6 +4,7 @@ ghost use Rattle.board_layout.specs.Bytes.{details};
 ghost use Rattle.board_names.specs.declared.errors.service.DomainError.TheVariants.{OutOfMemory};
 ghost use Rattle.board_handles.specs.LentForms as handles;
 ghost use Rattle.board_domain.specs.LentForms as lent;
+ghost use Rattle.board_domain.specs.Factories.{factory_of};
 ghost use Rattle.board_domain.specs.ServiceHash.{service_hash};
 
 use crate::kept::Kept;
@@ -59,7 +60,7 @@ impl<K: BoardKey, P> PortFactory<K, P> {
         name: ServiceName,
         domain: Domain,
     ) -> PortFactory<K, P>
-        ensures { result ≡ record { made = kept.made; name = name; config = kept.config; attributes = kept.attributes } }
+        ensures { result ≡ factory_of kept name }
     {
         let Kept {
             made,

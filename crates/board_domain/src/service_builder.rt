@@ -1,6 +1,6 @@
 //! What makes or opens a board.
-ghost use Rattle.std.specs.Prelude.{◌≡◌, []};
-ghost use Rattle.board_domain.specs.Services.{no_limits};
+ghost use Rattle.std.specs.Prelude.{◌≡◌};
+ghost use Rattle.board_domain.specs.Services.{no_limits, new_creator};
 
 use crate::creator::Creator;
 use crate::opener::Opener;
@@ -37,7 +37,7 @@ impl ServiceBuilder {
 
     /// What makes the board, with keys of type `K`. Its ports are shared by the policy `P`, which stands in their types alone. Takes no memory.
     pub fn blackboard_creator<K: BoardKey, P: Policy>(self, alloc: Global) -> Creator<K, P>
-        ensures { result ≡ record { node = self.node; name = self.name; limits = no_limits; entries = [] } }
+        ensures { result ≡ new_creator self.node self.name }
     {
         Creator::new(alloc, self.node, self.name, self.domain)
     }

@@ -2,6 +2,7 @@
 ghost use Rattle.std.specs.Prelude.{◌≡◌};
 ghost use Rattle.board_domain.specs.ServiceHash.{service_hash};
 
+use arrayvec::ArrayVec;
 use board_concepts::hash::{Hash, HashValue, Sha1};
 use board_names::ServiceName;
 
@@ -12,10 +13,13 @@ const PATTERN: &[u8; 11] = b"Blackboard/";
 pub(crate) fn hash_of(name: &ServiceName) -> HashValue
     ensures { result ≡ service_hash name.now }
 {
-    let text = name.as_bytes();
-    let end = PATTERN.len() + text.len();
-    let mut bytes = [0; 266];
-    bytes[..11].copy_from_slice(PATTERN);
-    bytes[11..end].copy_from_slice(text);
-    Sha1::new(&bytes[..end]).value()
+    // 11 bytes and a name of up to 255 are at most 266.
+    let mut bytes: ArrayVec<u8, 266> = ArrayVec::new();
+    let Ok(()) = bytes.try_extend_from_slice(PATTERN) else {
+        unreachable!()
+    };
+    let Ok(()) = bytes.try_extend_from_slice(name.as_bytes()) else {
+        unreachable!()
+    };
+    Sha1::new(bytes.as_slice()).value()
 }

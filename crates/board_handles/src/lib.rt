@@ -35,6 +35,3 @@ pub use release::give_up;
 pub use state::DomainState;
 pub use write_handle::EntryHandleMut;
 pub use writer::{PortFactoryWriter, Writer};
-
-#[cfg(test)]
-mod tests;

@@ -24,7 +24,7 @@ returns-in-Ok-write_handle_of-clause-tables g c =
     write_done c.args.state.now.tables (details K.type_bytes K.SIZE K.ALIGNMENT) c.new-value.result (details V.type_bytes V.SIZE V.ALIGNMENT)
     (is_key g.K.PartialEq.eq K.value_of K.SIZE K.WORDS c.args.key.now) V.WORDS c.self.inside.made.thing c.args.self.now.thing c.board_of-board.result
     c.in-Ok.found c.entry_mut.new.self c.write_handle_of.new.tables
-    c.new-value.ensures (ap (λ (m : Made). m.thing) c.self.view_is) c.board_of-board.ensures
+    c.new-value.ensures (ap (λ (m : Made). m.thing) c.self.view_is) c.board_of-board.ensures.value
     (c.in-Ok.ensures.answer (ok_is_no_refusal _ _)) c.in-Ok.ensures.ok c.in-Ok-write_handle_of.ensures.ok
 
 pub returns-in-Err-write_handle_of-clause-answer : goal.returns-in-Err-write_handle_of-clause-answer
@@ -35,5 +35,5 @@ returns-in-Err-write_handle_of-clause-answer g c = λ not_memory.
     write_undone c.args.state.now.tables (details K.type_bytes K.SIZE K.ALIGNMENT) c.new-value.result (details V.type_bytes V.SIZE V.ALIGNMENT)
     (is_key g.K.PartialEq.eq K.value_of K.SIZE K.WORDS c.args.key.now) V.WORDS c.self.inside.made.thing c.args.self.now.thing c.board_of-board.result
     c.in-Ok.found c.in-Err-write_handle_of.why c.entry_mut.new.self c.is_held.result
-    c.new-value.ensures (ap (λ (m : Made). m.thing) c.self.view_is) c.board_of-board.ensures c.is_held.ensures.value stands
+    c.new-value.ensures (ap (λ (m : Made). m.thing) c.self.view_is) c.board_of-board.ensures.value c.is_held.ensures.value stands
     (c.in-Ok.ensures.answer (ok_is_no_refusal _ _)) c.in-Ok.ensures.ok (c.in-Err-write_handle_of.ensures.answer not_memory)
