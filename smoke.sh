@@ -1,9 +1,10 @@
 #!/bin/bash
 # Runs the built programs from outside, on real files and pipes, and compares what they write, what they note and their
-# status. It ends with status 1 where one of them does otherwise. `make test` leaves the programs where this looks.
+# status. It ends with status 1 where one of them does otherwise. `make test` leaves the programs where this looks; RUN and
+# BENCH name others.
 cd "$(dirname "${BASH_SOURCE[0]}")" || exit 1
-run=$PWD/crates/board_run/out/board_run
-bench=$PWD/crates/board_bench/out/board_bench
+run=${RUN:-$PWD/crates/board_run/out/board_run}
+bench=${BENCH:-$PWD/crates/board_bench/out/board_bench}
 for program in "$run" "$bench"; do
     [ -x "$program" ] || { echo "$program is not there: make test leaves it" >&2; exit 1; }
 done

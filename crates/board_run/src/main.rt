@@ -4,7 +4,7 @@
 mod adapters;
 
 use crate::adapters::{StderrSink, StdinSource, StdoutSink};
-use board_script::run_program;
+use board_script::{end_without_words, run_program};
 use std::alloc::AllocError;
 use std::process::ExitCode;
 use std::{env, io};
@@ -25,11 +25,11 @@ fn words(rt: &HostRuntime) -> Result<Vec<String>, AllocError> {
 }
 
 fn main(rt: HostRuntime) -> ExitCode {
-    run_program(
-        rt.alloc(),
-        words(&rt),
-        &mut StdinSource::new(rt.stdin()),
-        &mut StdoutSink::new(rt.stdout()),
-        &mut StderrSink::new(rt.stderr()),
-    )
+    let mut notes = StderrSink::new(rt.stderr());
+    let Ok(words) = words(&rt) else {
+        return end_without_words(&mut notes);
+    };
+    let mut source = StdinSource::new(rt.stdin());
+    let mut sink = StdoutSink::new(rt.stdout());
+    run_program(rt.alloc(), &words, &mut source, &mut sink, &mut notes)
 }

@@ -25,6 +25,11 @@ two f (a ∷ []) x y l e g = absurd (omega arith)
 two f (a ∷ b ∷ []) x y l e g = rw (e, g) refl
 two f (a ∷ b ∷ c ∷ more) x y l e g = absurd (omega arith)
 
+-- no texts are those of no words
+pub no_words : {A : Type 0} (f : A → List ℕ) (ws : List A) → map f ws ≡ [] → length ws ≡ 0
+no_words f [] e = refl
+no_words f (w ∷ ws) e = absurd cc
+
 -- the second word is the number's spelling
 pub spelled : (a b : List ℕ) (n : ℕ) → AreGenWords (a ∷ b ∷ []) n → read_number b ≡ Some n
 spelled a b n h =

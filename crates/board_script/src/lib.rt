@@ -25,4 +25,4 @@ pub use script_loop::{
     SinkError, Source,
 };
 pub use script_machine::Machine;
-pub use top::{run_program, run_words};
+pub use top::{end_without_words, run_program, run_words};

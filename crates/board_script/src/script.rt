@@ -72,11 +72,7 @@ pub fn run_script<S: Source, K: Sink>(
 ///
 /// # Errors
 /// As `run_script`, and `WriteFault` where the output has more bytes than the room. After an error no output is given.
-pub fn run_in_memory(
-    alloc: Global,
-    script: Vec<u8>,
-    room: usize,
-) -> Result<MemorySink, ScriptError>
+pub fn run_in_memory(alloc: Global, script: Vec<u8>, room: usize) -> Result<MemorySink, ScriptError>
     // The sink holds the output of the lawful session of the script's lines.
     ensures output { IfOk result (λ sink. IsOutputOf script.items (sink_holds sink)) }
 

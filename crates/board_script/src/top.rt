@@ -1,5 +1,5 @@
 //! The program's top call, its statuses and its notes.
-ghost use Rattle.std.specs.Prelude.{◌≡◌, ◌⊎◌, ℕ, ◌<◌, length, map, Err, IfNone, IfOk, IfSome, OnErr};
+ghost use Rattle.std.specs.Prelude.{◌≡◌, ◌⊎◌, ℕ, ◌<◌, length, map, Err, IfNone, IfSome};
 ghost use Rattle.std.specs.Process.{exit_status};
 ghost use Rattle.std.specs.String.{string_bytes};
 ghost use Rattle.std.specs.Io.KnownBytes.{IsAtEnd};
@@ -13,7 +13,7 @@ use itoa::Buffer;
 use script_generator::run_generated;
 use script_loop::{ScriptError, Sink, Source, write_whole};
 use script_parse::number_of;
-use std::alloc::{AllocError, Global};
+use std::alloc::Global;
 use std::process::ExitCode;
 
 // Writes a note. That it fails changes nothing else.
@@ -151,32 +151,28 @@ pub fn run_words<S: Source, K: Sink, N: Sink>(
     report(run_generated(alloc, n, sink), notes)
 }
 
-/// The same for the words of a process, or for none where memory was refused for them. Gives the process's exit code.
-///
-/// The code is the status of `run_words`, and 7, with the note of it, where there are no words.
+/// The same, with the status as the process's exit code.
 pub fn run_program<S: Source, K: Sink, N: Sink>(
     alloc: Global,
-    words: Result<Vec<String>, AllocError>,
+    words: &Vec<String>,
     source: &mut S,
     sink: &mut K,
     notes: &mut N,
 ) -> ExitCode
     // The process ends with the status of what the words ask for, and with its note.
-    ensures ended { IfOk words (λ all. HasEnded (map string_bytes all.items) (exit_status result)
+    ensures { HasEnded (map string_bytes words.now.items) (exit_status result)
         (stream_of S.left S.faults source.old source.new)
         (stream_of K.held K.faults sink.old sink.new)
-        (stream_of N.held N.faults notes.old notes.new)) }
-
-    // Nothing is run where memory was refused for the words.
-    ensures refused { OnErr words (exit_status result ≡ 7) }
-    ensures note { OnErr words (IsNoted (stream_of N.held N.faults notes.old notes.new)
-        (note_of (Err ScriptError.OutOfMemory))) }
-    ensures unread { OnErr words (source.new ≡ source.old) }
-    ensures unwritten { OnErr words (sink.new ≡ sink.old) }
+        (stream_of N.held N.faults notes.old notes.new) }
 {
-    let status = match words {
-        Ok(words) => run_words(alloc, &words, source, sink, notes),
-        Err(_) => report(Err(ScriptError::OutOfMemory), notes),
-    };
-    ExitCode::from(status)
+    ExitCode::from(run_words(alloc, words, source, sink, notes))
+}
+
+/// The exit code of a process whose words can't be had, since memory was refused for them.
+pub fn end_without_words<N: Sink>(notes: &mut N) -> ExitCode
+    ensures status { exit_status result ≡ 7 }
+    ensures note { IsNoted (stream_of N.held N.faults notes.old notes.new)
+        (note_of (Err ScriptError.OutOfMemory)) }
+{
+    ExitCode::from(report(Err(ScriptError::OutOfMemory), notes))
 }

@@ -170,7 +170,8 @@ pub fn push_event_step(
 /// # Errors
 /// `AllocError` where memory is refused; then a front of the line may have been added.
 pub fn push_event_asked(reply: &EventReply, out: &mut Vec<u8>) -> Result<(), AllocError>
-    ensures { OnOk result (out.new.items ≡ out.old.items ++ script_answer_line (of_ask reply.now)) }
+    ensures { OnOk result (out.new.items
+        ≡ out.old.items ++ script_answer_line (of_ask reply.now)) }
 {
     out.extend_from_slice(b"table = ")?;
     push_event_reply(reply, out)?;

@@ -11,6 +11,6 @@ returns-clause-generated g c = λ n h.
     let same = one_number _ c.in-Some.n n (rw c.deref.ensures.value at c.in-Some.ensures.some) h in
     summed_up c.run_generated.result c.in-Some.n n c.report-2.result _ _ same c.run_generated.ensures.run c.report-2.ensures.is c.report-2.ensures.note
 
-pub returns-then-words-clause-complete : goal.returns-then-words-clause-complete
-returns-then-words-clause-complete g c = λ none sure room takes fits.
+pub returns-then-is_empty-clause-complete : goal.returns-then-is_empty-clause-complete
+returns-then-is_empty-clause-complete g c = λ none sure room takes fits.
     run_through c.run_script.result c.report.result c.report.ensures.is (c.run_script.ensures.complete sure room takes fits)

@@ -1,0 +1,11 @@
+use Rattle.std.specs.String.{string_bytes}
+use Rattle.board_script.proofs.Words.{no_words}
+use Rattle.board_script.proofs.top.run_program.Goals as goal
+
+pub returns : goal.returns
+returns g c = rw c.from.ensures (record {
+  ran = λ none. c.run_words.ensures.ran (no_words string_bytes c.args.words.now.items none);
+  generated = c.run_words.ensures.generated;
+  usage = c.run_words.ensures.usage;
+  usage_note = c.run_words.ensures.usage_note;
+})
