@@ -1,11 +1,15 @@
 //! Monitoring by the typed calls, of which their clauses say little, and once by the lent forms.
+ghost use Rattle.std.specs.Prelude.{IsOkUnless};
+ghost use Rattle.board_names.specs.Table.{NamesAscend};
+ghost use Rattle.board_names.specs.declared.errors.monitoring.MonitoringCreateTokenError.TheVariants.{OutOfMemory};
+
 use crate::{
     Builder, Cleaner, Monitor, Monitoring, MonitoringBuilder, MonitoringCleaner, MonitoringMonitor,
     MonitoringRegistry, MonitoringToken, Monitors, ProcessLocalMonitoring, State, Token,
 };
 use board_names::{
-    Configuration, FileName, MonitoringCreateCleanerError, MonitoringCreateTokenError, NameTable,
-    NamedConcept, NamedConceptBuilder, NamedConceptMgmt,
+    Configuration, FileName, FilePath, MonitoringCreateCleanerError, MonitoringCreateTokenError,
+    NameTable, NamedConcept, NamedConceptBuilder, NamedConceptConfiguration, NamedConceptMgmt,
 };
 use std::alloc::Global;
 use std::process::Abort;
@@ -128,19 +132,56 @@ fn a_name_is_taken_when_lent(rt: HostRuntime) -> Result<(), Fail> {
     Ok(())
 }
 
-fn state_of<R: Wait, B: MonitoringBuilder>(rt: &R, builder: B) -> Result<State, Fail>
+// Code over the trait alone: a name is taken and seen alive.
+fn state_of<R: Wait, M: Monitoring>(
+    rt: &R,
+    alloc: Global,
+    registry: &M::Registry,
+) -> Result<State, Fail>
 where
-    B::Monitor: Drop,
+    M::Token: Drop,
+    M::Monitor: Drop,
 {
-    let monitor = builder.monitor()?;
-    Ok(monitor.state(rt)?)
+    let name = FileName::new(b"t")?;
+    let token = M::Builder::new(&name, registry)?.token(rt, alloc)?;
+    let state = M::Builder::new(&name, registry)?.monitor()?.state(rt)?;
+    token.release(rt);
+    Ok(state)
 }
 
 #[test]
 fn any_monitoring_is_asked_by_the_traits(rt: HostRuntime) -> Result<(), Fail> {
     let registry = MonitoringRegistry::new(rt.alloc())?;
-    let _token = names(&registry)?.token(&rt, rt.alloc())?;
-    assert_eq!(rt; state_of(&rt, names(&registry)?)?, State::Alive);
+    let state = state_of::<_, ProcessLocalMonitoring>(&rt, rt.alloc(), &registry)?;
+    assert_eq!(rt; state, State::Alive);
+    Ok(())
+}
+
+// A caller's proof over names that were lent, whoever took them: a removed name can be taken, want of memory aside.
+fn takes_a_removed_name(
+    state: &mut Monitors,
+    name: &FilePath,
+) -> Result<(), MonitoringCreateTokenError>
+    ensures { IsOkUnless result OutOfMemory }
+{
+    state.remove(name);
+    state.token(name)
+}
+
+// And their names ascend, so they differ.
+fn count_of_names(state: &Monitors) -> usize
+    ensures { NamesAscend state.now }
+{
+    state.name_count()
+}
+
+#[test]
+fn a_removed_name_is_taken_again(rt: HostRuntime) -> Result<(), Fail> {
+    let mut state = Monitors::new(rt.alloc());
+    let name = monitored().path_for(&FileName::new(b"t")?);
+    assert_eq!(rt; state.token(&name), Ok(()));
+    assert_eq!(rt; takes_a_removed_name(&mut state, &name), Ok(()));
+    assert_eq!(rt; count_of_names(&state), 1);
     Ok(())
 }
 

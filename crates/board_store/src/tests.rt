@@ -1,10 +1,14 @@
 //! Static storage by the typed calls, of which their clauses say little, and once by the lent forms.
+ghost use Rattle.std.specs.Prelude.{IsOkUnless};
+ghost use Rattle.board_names.specs.Table.{NamesAscend};
+ghost use Rattle.board_names.specs.declared.errors.static_storage.StaticStorageCreateError.TheVariants.{OutOfMemory};
+
 use crate::{
     Builder, Content, Locked, StaticRegistry, StaticStorage, StaticStorageBuilder,
     StaticStorageLocked, Statics, Storage,
 };
 use board_names::{
-    Configuration, FileName, NameTable, NamedConcept, NamedConceptBuilder,
+    Configuration, FileName, FilePath, NameTable, NamedConcept, NamedConceptBuilder,
     NamedConceptConfiguration, NamedConceptDoesExistError, NamedConceptMgmt,
     StaticStorageCreateError, StaticStorageOpenError, StaticStorageReadError,
     StaticStorageUnlockError,
@@ -233,5 +237,33 @@ fn contents_are_shared(rt: HostRuntime) -> Result<(), Fail> {
     assert_eq!(rt; buffer, [4, 5, 9]);
     let copy = Content::of(alloc, shared.as_bytes())?;
     assert_eq!(rt; copy.len(), 2);
+    Ok(())
+}
+
+// A caller's proof over storages that were lent, whoever filled them: a removed name can be taken, want of memory aside.
+fn takes_a_removed_name(
+    state: &mut Statics,
+    name: &FilePath,
+) -> Result<(), StaticStorageCreateError>
+    ensures { IsOkUnless result OutOfMemory }
+{
+    state.remove(name);
+    state.create_locked(name)
+}
+
+// And their names ascend, so they differ.
+fn count_of_names(state: &Statics) -> usize
+    ensures { NamesAscend state.now }
+{
+    state.name_count()
+}
+
+#[test]
+fn a_removed_name_is_taken_again(rt: HostRuntime) -> Result<(), Fail> {
+    let mut state = Statics::new(rt.alloc());
+    let name = usual().path_for(&FileName::new(b"x")?);
+    assert_eq!(rt; state.create_locked(&name), Ok(()));
+    assert_eq!(rt; takes_a_removed_name(&mut state, &name), Ok(()));
+    assert_eq!(rt; (count_of_names(&state), state.name_at(0)), (1, Some(name)));
     Ok(())
 }
