@@ -181,7 +181,7 @@ all_step k e now w (wait.Swap n b) a try many some is on far right =
     let kind_is : IsOfKind kind.Bits e w.words = subst (λ (x : EventKind). IsOfKind x e w.words) far.0 is in
     let quiet : with_pending now (without_word now.pending n) ≡ after now (wait_owed (wait.Swap n b)) = ap (λ (s : ℕ). record now { pending = without_word now.pending n; signals = s }) (sym (ap (λ (x : Event). x.signals) far.1)) in
     rw far.0 (subst (λ (x : Event). AllStepped kind.Bits e now x w.words (wait.Swap n b) (swapped w n b (word_in a)).1 (ids_where (has now.pending) (64 * n) 64)) quiet
-        (swap_step e now w n (word_in a) b try kind_is far.1 far.2 far.3 far.4))
+    (swap_step e now w n (word_in a) b try kind_is far.1 far.2 far.3 far.4))
 all_step k e now w wait.Look a try many some is on far right = absurd far
 all_step k e now w (wait.Pop n) a try many some is on far right = rw (far.0, right) (pop_step e now w n now.queue try many far.1 refl far.2)
 all_step k e now w wait.Finished a try many some is on far right = absurd (on refl)
@@ -227,9 +227,12 @@ all_begins R f k max n t w fits table is = record {
   words = (wait_begins k max true w fits is).1;
   far = λ e here. (
       let kind_is : IsOfKind k e w.words = is_of_kind k max n t e w.words table (wait_begins k max true w fits is).1 here in
-      let begun : IsOfKind k e (wait_begun k max true mode.Try).words = subst (λ (x : Wait). IsOfKind k e x.words) is kind_is in
-      (e, Became-first t n e here.stands, (rw is (all_at_first k e max (wait_begun k max true mode.Try).words begun)),
-        λ last folds. (to_come e w.words w.stage, (rw is (waiting_at_first k e max begun)), folds)));
+      let begun : IsOfKind k e (wait_begun k max true mode.Try).words = subst (λ (x : Wait). IsOfKind k e x.words) is kind_is in (
+        e,
+        Became-first t n e here.stands,
+        (rw is (all_at_first k e max (wait_begun k max true mode.Try).words begun)),
+        λ last folds. (to_come e w.words w.stage, (rw is (waiting_at_first k e max begun)), folds),
+      ));
   gone = λ _. refl;
 }
 
@@ -252,10 +255,13 @@ all_goes_on R begun f g k max n t u v w next p a taking on made calls = record {
         let kind_is = is_of_kind k max n t e w.words taking.table taking.words here in
         let step : AllStepped k e now (after now (wait_owed w.stage)) w.words w.stage (wait_turn w w.stage a).1 (taken now (wait_owed w.stage)) =
         all_step k e now w w.stage a taking.try.mode taking.try.all taking.try.some kind_is on before.2 right in
-        let told : reported p ≡ taken now (wait_owed w.stage) = (rw made.progress (wait_told now w w.stage a right)) in
-        (after now (wait_owed w.stage), Became-next t u v n now (λ x. after x (wait_owed w.stage)) before.1 made.memory, (rw made.goes_on step.far),
+        let told : reported p ≡ taken now (wait_owed w.stage) = (rw made.progress (wait_told now w w.stage a right)) in (
+          after now (wait_owed w.stage),
+          Became-next t u v n now (λ x. after x (wait_owed w.stage)) before.1 made.memory,
+          (rw made.goes_on step.far),
           λ last folds. before.3 last (subst (λ (ids : List ℕ). FoldsTo R f ids last) (ap (λ (l : List ℕ). l ++ to_come (after now (wait_owed w.stage)) next.words next.stage) told ∙ (rw made.goes_on step.ids))
-              (FoldsTo-append R f g last (reported p) (to_come (after now (wait_owed w.stage)) next.words next.stage) calls folds)))
+              (FoldsTo-append R f g last (reported p) (to_come (after now (wait_owed w.stage)) next.words next.stage) calls folds)),
+        )
 
 -- it ends
 pub all_ends : {F : Type 0} (R : F → ℕ → F → Type 0) (begun f : F) (k : EventKind) (max n : ℕ) (t u : EventTable) (w : Wait) → TakingAll R begun f k max n t u w → w.stage ≡ wait.Finished → OnEventAt k max n t (λ e. u ≡ with_event t n (all_taken k e))

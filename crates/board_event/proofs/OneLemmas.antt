@@ -25,6 +25,7 @@ use Rattle.board_event_model.proofs.SetLemmas.{either, has_empty, is_false, or_s
 use Rattle.board_event_model.proofs.QuietLemmas.{word_empty}
 use Rattle.board_event_core.specs.EventTable.{CanPerformAt, EventTable, IsEvent, IsEventTable, event_at, with_event}
 use Rattle.board_event_core.specs.IdSets.{IsLeast}
+use Rattle.board_event.specs.Ends.{End}
 use Rattle.board_event.specs.Accesses.{WaitMade}
 use Rattle.board_event.specs.LentForms.{GivesNone, IsEventAt, IsNext, NoneWaits, OnEventAt, one_taken}
 use Rattle.board_event.specs.Taking.{NoneBelow, OneSoFar, OneTaken, TryStage, TryWait, wait_begun, with_signals}
@@ -184,8 +185,8 @@ is_of_kind k max n t e words table count here = record {
   of_kind = here.of_kind;
   size = λ bits. count bits ∙ sym (ap (λ (m : ℕ). m / 64 + 1) (here.greatest bits));
   ids = (
-    let sound : IfSome (event_at t n) IsEvent = IfSome-lookup_from_All IsEvent (is_at (nat_cmp n)) t.events table.kept.sound in
-    (rw here.stands at sound));
+      let sound : IfSome (event_at t n) IsEvent = IfSome-lookup_from_All IsEvent (is_at (nat_cmp n)) t.events table.kept.sound in
+      (rw here.stands at sound));
 }
 
 -- how it begins
@@ -282,3 +283,12 @@ gives_none k e old new n (Some id) is taken = (λ h. absurd (some_not_none h), �
   where
     some_not_none : ◌≡◌ {A = Result (Option ℕ) ListenerWaitError} (Ok (Some id)) (Ok None) → ⊥
     some_not_none h = cc h
+
+-- the same of an end, a kind and a table that are equal to these
+pub moved : (P : EventKind → End → EventTable → Type 0) (j k : EventKind) (seen end : End) (u t : EventTable) → j ≡ k → seen ≡ end → u ≡ t → P j seen u → P k end t
+moved P j k seen end u t kinds ends tables holds = subst (λ x. P x end t) kinds (subst (λ x. P j x t) ends (subst (λ x. P j seen x) tables holds))
+
+-- what isn't some is none
+pub none_of : (one : Option ℕ) → ((id : ℕ) → one ≡ Some id → ⊥) → one ≡ None
+none_of None other = refl
+none_of (Some id) other = absurd (other id refl)

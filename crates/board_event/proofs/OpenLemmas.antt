@@ -7,7 +7,8 @@ use Rattle.board_event_model.specs.declared.kind.EventKind.TheVariants as kind
 use Rattle.board_event_model.specs.EventMemory.{Event}
 use Rattle.board_event_model.proofs.SetLemmas.{either}
 use Rattle.board_event_core.specs.EventTable.{EventTable, IsNotifierAnswer, changed, event_at, notifier_of, with_notifier}
-use Rattle.board_event.specs.Ends.{greatest_of}
+use Rattle.board_names.specs.Concept.{Named, Placed, placed}
+use Rattle.board_event.specs.Ends.{End, IsNotifierOf, greatest_of}
 use Rattle.board_event.proofs.TableLemmas.{Became-first, Became-next}
 
 -- a number that was answered is the event's
@@ -50,3 +51,8 @@ greatest_before t u n m k some is holds = by (event_at t n) refl some
         let there : event_at u n ≡ Some (with_notifier e) = (Became-next t t u n e with_notifier (Became-first t n e h) is).stands in
         let max : m ≡ greatest_of k (with_notifier e) = (rw there at holds) in
         max ∙ same k e
+
+-- so the notifier is that of its event
+pub is_notifier : (k : EventKind) (named : Named) (s t : EventTable) (end : End) (place : Placed) (n m : ℕ) → end ≡ record { place = place; event = n; max = m } → place ≡ placed named → s ≡ t →
+    IsSomeAnd (event_at s n) (λ e. m ≡ greatest_of k e) → IsNotifierOf k named t end
+is_notifier k named s t end place n m is at same holds = rw is (record { place = at; max = (rw (← same) holds) })

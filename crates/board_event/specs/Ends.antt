@@ -33,7 +33,6 @@ end_of named max event = record { place = placed named; event = event; max = max
 abbrev pub is_held : EventKind → EventTable → List ℕ → Bool
 is_held k t name = is_some (at (names_of k t) name)
 
-
 -- ---- how a listener is made
 
 -- what `create` answers over a table

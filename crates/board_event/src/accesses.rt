@@ -27,11 +27,7 @@ pub(crate) fn wait_access(
 
 /// Makes the access that a notify owes, and tells what the notify has come to. Where the event can't take the access, a
 /// post is left out, and else the listener is gone.
-pub(crate) fn notify_access(
-    events: &mut Events,
-    event: u64,
-    call: &mut NotifyCall,
-) -> EventProgress
+pub(crate) fn notify_access(events: &mut Events, event: u64, call: &mut NotifyCall) -> EventProgress
     requires { call.old.stage ≢ NotifyStage.Finished }
     ensures { IsNotifyAccess events.old events.new event call.old call.new result }
 {

@@ -37,10 +37,7 @@ impl NamedConceptMgmt for BitEvent {
 
     type Registry = BitRegistry;
 
-    fn lock<'a, R: Wait>(
-        rt: &R,
-        registry: &'a BitRegistry,
-    ) -> MutexGuard<'a, EventsOf<BitEvent>> {
+    fn lock<'a, R: Wait>(rt: &R, registry: &'a BitRegistry) -> MutexGuard<'a, EventsOf<BitEvent>> {
         registry.lock(rt)
     }
 

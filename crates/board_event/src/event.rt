@@ -157,9 +157,5 @@ pub trait ListenerBuilder: NamedConceptBuilder {
     ///
     /// # Errors
     /// `AlreadyExists` where the name is held; `NumbersSpent` where all event numbers were drawn; `OutOfMemory`.
-    fn create<R: Wait>(
-        self,
-        rt: &R,
-        alloc: Global,
-    ) -> Result<Self::Listener, ListenerCreateError>;
+    fn create<R: Wait>(self, rt: &R, alloc: Global) -> Result<Self::Listener, ListenerCreateError>;
 }

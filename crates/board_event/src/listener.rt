@@ -71,10 +71,10 @@ impl<K: KindOfEvents + Drop> EventListener<K> {
         ensures after { Changes K.which self.now state.old state.new (after_one K.which result) }
         ensures gone { IsGone self.now state.old → (result ≡ Ok None) × (state.new ≡ state.old) }
     {
-        match take_one(&mut state.events, self.event, K::kind(), self.max) {
-            None => Ok(None),
-            Some(id) => Ok(Some(TriggerId::new(id as usize))),
-        }
+        let Some(id) = take_one(&mut state.events, self.event, K::kind(), self.max) else {
+            return Ok(None);
+        };
+        Ok(Some(TriggerId::new(id as usize)))
     }
 
     /// `try_wait_all` over the events themselves.

@@ -53,12 +53,7 @@ impl<K: KindOfEvents + Drop> EventListenerBuilder<K> {
         let _ = alloc;
         let path = self.request.path();
         let event = state.events.listen(K::kind(), &path, self.max)?;
-        Ok(EventListener::at(
-            self.request.place(),
-            self.arrived,
-            event,
-            self.max,
-        ))
+        Ok(EventListener::at(self.request.place(), self.arrived, event, self.max))
     }
 
     /// Makes the event.
@@ -111,20 +106,11 @@ impl<K: KindOfEvents + Drop> ListenerBuilder for EventListenerBuilder<K> {
         self
     }
 
-    fn create<R: Wait>(
-        self,
-        rt: &R,
-        alloc: Global,
-    ) -> Result<EventListener<K>, ListenerCreateError>
+    fn create<R: Wait>(self, rt: &R, alloc: Global) -> Result<EventListener<K>, ListenerCreateError>
         ensures { IfOk result (λ end. end ≡ end_of self.named self.max end.event) }
     {
         let _ = alloc;
         let event = self.make(rt)?;
-        Ok(EventListener::at(
-            self.request.place(),
-            self.arrived,
-            event,
-            self.max,
-        ))
+        Ok(EventListener::at(self.request.place(), self.arrived, event, self.max))
     }
 }

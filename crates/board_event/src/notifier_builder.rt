@@ -9,7 +9,9 @@ use crate::events_of::{EventsOf, KindOfEvents};
 use crate::notifier::EventNotifier;
 use crate::registry::{EventRegistry, share_signal};
 use board_event_core::{EventKind, Events, NotifierCreateError};
-use board_names::{Configuration, FileName, NameRequest, NamedConceptBuilder, RegistryError};
+use board_names::{
+    Configuration, FileName, FilePath, NameRequest, NamedConceptBuilder, RegistryError,
+};
 use std::alloc::Global;
 use std::marker::Model;
 use std::sync::{Arc, Condvar, Wait};
@@ -36,10 +38,7 @@ impl<K: KindOfEvents + Drop> EventNotifierBuilder<K> {
     /// # Errors
     /// `DoesNotExist` where the name isn't held, or its listener is gone; `NumbersSpent` where the event has 2^64 - 2
     /// notifiers. The events stay as they were.
-    pub fn open_in(
-        self,
-        state: &mut EventsOf<K>,
-    ) -> Result<EventNotifier<K>, NotifierCreateError>
+    pub fn open_in(self, state: &mut EventsOf<K>) -> Result<EventNotifier<K>, NotifierCreateError>
         ensures answer { IsOpened K.which self state.old result }
         ensures end { IfOk result (IsNotifierOf K.which self state.old) }
         ensures ok { IfOk result (λ end. state.new ≡ changed state.old end.event with_notifier) }
@@ -48,20 +47,25 @@ impl<K: KindOfEvents + Drop> EventNotifierBuilder<K> {
         let path = self.request.path();
         let event = state.events.notifier(K::kind(), &path)?;
         let max = greatest_id(K::kind(), &state.events, event);
-        Ok(EventNotifier::at(
-            self.request.place(),
-            self.arrived,
-            event,
-            max,
-        ))
+        Ok(EventNotifier::at(self.request.place(), self.arrived, event, max))
     }
 
     /// Opens a notifier, and answers the event's number and the greatest id.
     fn join<R: Wait>(&self, rt: &R) -> Result<(u64, u64), NotifierCreateError> {
         let mut state = self.request.lock(rt);
-        let event = state.events.notifier(K::kind(), &self.request.path())?;
-        Ok((event, greatest_id(K::kind(), &state.events, event)))
+        open_event(&mut state.events, K::kind(), &self.request.path())
     }
+}
+
+/// Makes a notifier, and answers the event's number and the greatest id.
+fn open_event(
+    events: &mut Events,
+    kind: EventKind,
+    name: &FilePath,
+) -> Result<(u64, u64), NotifierCreateError> {
+    let event = events.notifier(kind, name)?;
+    let max = greatest_id(kind, events, event);
+    Ok((event, max))
 }
 
 /// The greatest id of an event that a notifier hands over: a queue takes any.
@@ -113,11 +117,6 @@ impl<K: KindOfEvents + Drop> NotifierBuilder for EventNotifierBuilder<K> {
         ensures { IfOk result (λ end. end.place ≡ placed self) }
     {
         let (event, max) = self.join(rt)?;
-        Ok(EventNotifier::at(
-            self.request.place(),
-            self.arrived,
-            event,
-            max,
-        ))
+        Ok(EventNotifier::at(self.request.place(), self.arrived, event, max))
     }
 }

@@ -16,9 +16,11 @@ loop-call-smaller g c =
 pub loop-call-preserved : goal.loop-call-preserved
 loop-call-preserved g c =
     let on : c.loop-call.call.stage ≢ wait.Finished = search rules in
-    let range = made_in_range c.loop-call.events c.wait_access.new.events c.args.event c.loop-call.call c.wait_access.new.call _ c.in-Some.progress c.in-Some.ensures.0 c.loop-call.invariant.1.try c.in-Some.ensures.1 in
-    (c.hand_over.ensures.callable, all_goes_on (λ p x q. goal.F-step g p x tt q) c.args.callback c.loop-call.callback c.hand_over.new.callback c.args.kind c.args.max c.args.event c.args.events.now c.loop-call.events c.wait_access.new.events
-        c.loop-call.call c.wait_access.new.call c.in-Some.progress c.in-Some.ensures.0 c.loop-call.invariant.1 on c.in-Some.ensures.1 (c.hand_over.ensures.calls range))
+    let range = made_in_range c.loop-call.events c.wait_access.new.events c.args.event c.loop-call.call c.wait_access.new.call _ c.in-Some.progress c.in-Some.ensures.0 c.loop-call.invariant.1.try c.in-Some.ensures.1 in (
+      c.hand_over.ensures.callable,
+      all_goes_on (λ p x q. goal.F-step g p x tt q) c.args.callback c.loop-call.callback c.hand_over.new.callback c.args.kind c.args.max c.args.event c.args.events.now c.loop-call.events c.wait_access.new.events
+          c.loop-call.call c.wait_access.new.call c.in-Some.progress c.in-Some.ensures.0 c.loop-call.invariant.1 on c.in-Some.ensures.1 (c.hand_over.ensures.calls range),
+    )
 
 pub returns-in_default-clause-calls : goal.returns-in_default-clause-calls
 returns-in_default-clause-calls g c = λ e here. (
