@@ -37,7 +37,7 @@ fn three<R: Wait, L: Listener>(rt: &R, listener: &L) -> usize {
     sum
 }
 
-fn between<R: Threads + Wait + Abort + Sync, K: KindOfEvents + Drop>(
+fn between<R: Threads + Wait + Abort + Sync, K: KindOfEvents + Drop + Send + Sync>(
     rt: &R,
     alloc: Global,
     registry: &EventRegistry<K>,
