@@ -1,4 +1,4 @@
-mod BitLemmas
+pub mod BitLemmas
 mod TableLemmas
 mod RowLemmas
 mod EventLemmas

@@ -1,0 +1,7 @@
+mod TableLemmas
+mod WordLemmas
+mod TryLemmas
+mod OneLemmas
+mod AllLemmas
+mod NotifyLemmas
+mod OpenLemmas

@@ -1,0 +1,37 @@
+use Rattle.std.specs.Prelude.{◌≢◌}
+use Rattle.std.proofs.Common.{rules, subst}
+use Rattle.board_event_model.specs.declared.call.EventProgress.{EventProgress}
+use Rattle.board_event_model.specs.declared.call.WaitStage.TheVariants as wait
+use Rattle.board_event.specs.Accesses.{WaitMade}
+use Rattle.board_event.proofs.OneLemmas.{one_begins, one_ends, one_gives, one_goes_on, one_kept_from}
+use Rattle.board_event.proofs.TryLemmas.{not_taken, wait_fewer}
+use Rattle.board_event.proofs.taking.take_one.Goals as goal
+
+pub loop-call-init : goal.loop-call-init
+loop-call-init c = one_begins c.args.kind c.args.max c.args.event c.args.events.now c.wait_call-call.result c.ranges.max.fits c.table_stands.ensures c.wait_call-call.ensures
+
+pub loop-call-smaller : goal.loop-call-smaller
+loop-call-smaller c =
+    let on : c.loop-call.call.stage ≢ wait.Finished = search rules in
+    wait_fewer c.loop-call.events c.wait_access.new.events c.args.event c.loop-call.call c.wait_access.new.call _ c.in-Some.progress c.in-Some.ensures.0 c.loop-call.invariant.try on c.in-Some.ensures.1
+
+pub loop-call-preserved : goal.loop-call-preserved
+loop-call-preserved c =
+    let on : c.loop-call.call.stage ≢ wait.Finished = search rules in
+    one_goes_on c.args.kind c.args.max c.args.event c.args.events.now c.loop-call.events c.wait_access.new.events c.loop-call.call c.wait_access.new.call c.in-Some.progress c.in-Some.ensures.0
+    c.loop-call.invariant on c.in-Some.ensures.1 c.in_default-progress.not-Id
+
+pub returns-in_default-clause-one : goal.returns-in_default-clause-one
+returns-in_default-clause-one c = λ e here. (
+    let on : c.loop-call.call.stage ≢ wait.Finished = search rules in
+    let refused = not_taken c.loop-call.events c.wait_access.new.events c.args.event c.loop-call.call c.wait_access.new.call c.wait_access.result c.wait_access.ensures c.in_default.not-Some in
+    absurd (one_kept_from c.args.kind c.args.max c.args.event c.args.events.now c.loop-call.events c.loop-call.call c.loop-call.invariant on refused.0 e here))
+
+pub returns-in-Id-clause-one : goal.returns-in-Id-clause-one
+returns-in-Id-clause-one c =
+    let on : c.loop-call.call.stage ≢ wait.Finished = search rules in
+    one_gives c.args.kind c.args.max c.args.event c.args.events.now c.loop-call.events c.wait_access.new.events c.loop-call.call c.wait_access.new.call c.in-Id.id c.in-Id.last c.in-Some.ensures.0
+    c.loop-call.invariant on (subst (λ (p : EventProgress). WaitMade c.loop-call.events c.wait_access.new.events c.args.event c.loop-call.call c.wait_access.new.call p c.in-Some.ensures.0) c.in-Id.is c.in-Some.ensures.1)
+
+pub returns-clause-one : goal.returns-clause-one
+returns-clause-one c = one_ends c.args.kind c.args.max c.args.event c.args.events.now c.loop-call.events c.loop-call.call c.loop-call.invariant (search rules)

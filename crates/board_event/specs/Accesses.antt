@@ -1,0 +1,65 @@
+-- One access of a call. No clause of a public call cites it.
+use Rattle.std.specs.Prelude.{◌≡◌, ◌≤◌, ℕ, ◌+◌, ◌-◌, ◌^◌, ◌==◌, List, IsSomeAnd, Option, Some, None, ⊤, ◌⊎◌}
+use Rattle.std.specs.Int.{bit_at}
+use Rattle.board_names.specs.declared.errors.event.NotifierNotifyError.TheVariants as error
+use Rattle.board_event_model.specs.declared.access.EventAnswer.{EventAnswer}
+use Rattle.board_event_model.specs.declared.call.EventProgress.{EventProgress}
+use Rattle.board_event_model.specs.declared.call.EventProgress.TheVariants as progress
+use Rattle.board_event_model.specs.declared.call.NotifyStage.{NotifyStage}
+use Rattle.board_event_model.specs.declared.call.NotifyStage.TheVariants as notify
+use Rattle.board_event_model.specs.Ids.{ids_where}
+use Rattle.board_event_model.specs.EventMemory.{IsRight, after}
+use Rattle.board_event_model.specs.NotifyCalls.{Notify, notify_owed, notify_turn}
+use Rattle.board_event_model.specs.WaitCalls.{Wait, wait_owed, wait_turn}
+use Rattle.board_event_core.specs.EventTable.{CanPerformAt, EventTable, changed, event_at}
+use Rattle.board_event_core.specs.Turns.{notify_went_on, wait_went_on}
+
+-- the access that a wait owes was made, and answered so
+pub record WaitMade (old new : EventTable) (n : ℕ) (call next : Wait) (p : EventProgress) (a : EventAnswer) : Type 0 where
+  pub right : IsSomeAnd (event_at old n) (λ e. IsRight e (wait_owed call.stage) a)
+  pub memory : new ≡ changed old n (λ e. after e (wait_owed call.stage))
+  pub progress : p ≡ (wait_turn call call.stage a).0
+  pub goes_on : next ≡ wait_went_on call a
+
+-- where the event can take the access it is made, and else all stays
+abbrev pub IsWaitAccess : EventTable → EventTable → ℕ → Wait → Wait → Option EventProgress → Type 0
+IsWaitAccess old new n call next None = (¬ CanPerformAt old n (wait_owed call.stage)) × (new ≡ old)
+IsWaitAccess old new n call next (Some p) = (a : EventAnswer) × WaitMade old new n call next p a
+
+-- the access that a notify owes was made, and answered so
+pub record NotifyMade (old new : EventTable) (n : ℕ) (call next : Notify) (p : EventProgress) (a : EventAnswer) : Type 0 where
+  pub can : CanPerformAt old n (notify_owed call.id call.stage)
+  pub right : IsSomeAnd (event_at old n) (λ e. IsRight e (notify_owed call.id call.stage) a)
+  pub memory : new ≡ changed old n (λ e. after e (notify_owed call.id call.stage))
+  pub progress : p ≡ (notify_turn call call.stage a).0
+  pub goes_on : next ≡ notify_went_on call a
+
+-- some answer was given to it
+abbrev pub IsNotifyMade : EventTable → EventTable → ℕ → Notify → Notify → EventProgress → Type 0
+IsNotifyMade old new n call next p = (a : EventAnswer) × NotifyMade old new n call next p a
+
+-- what a notify comes to where the event can't take its access: a post is left out, and else the listener is gone
+abbrev pub left_out : NotifyStage → EventProgress
+left_out notify.Post = progress.Notified
+left_out _ = progress.Refused error.Disconnected
+
+-- the event can't take it
+pub record NotifyLeft (old new : EventTable) (n : ℕ) (call : Notify) (p : EventProgress) : Type 0 where
+  pub cannot : ¬ CanPerformAt old n (notify_owed call.id call.stage)
+  pub stays : new ≡ old
+  pub told : p ≡ left_out call.stage
+
+-- where the event can take the access it is made, and else all stays
+abbrev pub IsNotifyAccess : EventTable → EventTable → ℕ → Notify → Notify → EventProgress → Type 0
+IsNotifyAccess old new n call next p = IsNotifyMade old new n call next p ⊎ NotifyLeft old new n call p
+
+-- ---- the ids of a step
+
+-- the ids of the first bits of a word, of which the least is this one
+abbrev pub ids_of_bits : ℕ → ℕ → ℕ → List ℕ
+ids_of_bits base bits count = ids_where (λ i. bit_at bits (i - base) == 1) base count
+
+-- the ids of a step are numbers of 64 bits
+abbrev pub IsInRange : EventProgress → Type 0
+IsInRange (progress.Took base bits last) = base + 64 ≤ 2 ^ 64
+IsInRange _ = ⊤

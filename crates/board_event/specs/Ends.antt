@@ -1,0 +1,86 @@
+-- What clauses see of the ends of an event and of their builders, and the calls that make and release them.
+use Rattle.std.specs.Prelude.{◌≡◌, ℕ, ◌-◌, ◌^◌, ◌<◌, List, Bool, is_some, true, None, Result, IsSomeAnd}
+use Rattle.board_layout.specs.Answer.{with_value}
+use Rattle.board_names.specs.Concept.{Named, Placed, path_of, placed}
+use Rattle.board_names.specs.Configuration.{full_name}
+use Rattle.board_names.specs.Table.{at}
+use Rattle.board_names.specs.declared.configuration.Configuration.{Configuration}
+use Rattle.board_names.specs.declared.errors.event.ListenerCreateError.{ListenerCreateError}
+use Rattle.board_names.specs.declared.errors.event.NotifierCreateError.{NotifierCreateError}
+use Rattle.board_event_model.specs.declared.kind.EventKind.{EventKind}
+use Rattle.board_event_model.specs.declared.kind.EventKind.TheVariants as kind
+use Rattle.board_event_model.specs.EventMemory.{Event}
+use Rattle.board_event_core.specs.EventTable.{EventTable, IsNotifierAnswer, answer_to_listen, changed, event_at, names_of, settled, table_listened, without_listener, without_name, without_notifier}
+
+-- an end of an event: its name, the number of its event, and the greatest id
+pub record End : Type 0 where
+  pub place : Placed
+  pub event : ℕ
+  pub max : ℕ
+
+-- a builder of a listener: its name, and the greatest id that was asked for
+pub record ListenerAsked : Type 0 where
+  pub named : Named
+  pub max : ℕ
+
+-- the end of this event
+abbrev pub end_of : Named → ℕ → ℕ → End
+end_of named max event = record { place = placed named; event = event; max = max }
+
+-- ---- names
+
+-- whether a name of this kind is held
+abbrev pub is_held : EventKind → EventTable → List ℕ → Bool
+is_held k t name = is_some (at (names_of k t) name)
+
+-- ---- how a listener is made
+
+-- what `create` answers over a table
+abbrev pub create_answer : EventKind → ListenerAsked → EventTable → Result End ListenerCreateError
+create_answer k asked t = with_value (end_of asked.named asked.max) (answer_to_listen t k (path_of asked.named))
+
+-- the table with the event that was asked for
+abbrev pub created : EventKind → ListenerAsked → EventTable → EventTable
+created k asked t = table_listened t k (path_of asked.named) asked.max
+
+-- ---- how a notifier is made
+
+-- the number of an end's event
+abbrev pub event_of : End → ℕ
+event_of end = end.event
+
+-- the greatest id that a notifier hands over: a queue takes any
+abbrev pub greatest_of : EventKind → Event → ℕ
+greatest_of kind.Bits e = e.max
+greatest_of kind.Queue e = 2 ^ 64 - 1
+
+-- what `open` answers over a table: the event of the name, or why there is no notifier
+abbrev pub IsOpened : EventKind → Named → EventTable → Result End NotifierCreateError → Type 0
+IsOpened k named t result = IsNotifierAnswer t (with_value event_of result) (at (names_of k t) (path_of named))
+
+-- a notifier has its builder's name, and its event's greatest id
+pub record IsNotifierOf (k : EventKind) (named : Named) (t : EventTable) (end : End) : Type 0 where
+  pub place : end.place ≡ placed named
+  pub max : IsSomeAnd (event_at t end.event) (λ e. end.max ≡ greatest_of k e)
+
+-- ---- how ends are given up
+
+-- the end's event doesn't stand
+abbrev pub IsGone : End → EventTable → Type 0
+IsGone end t = event_at t end.event ≡ None
+
+-- the end's event stands, and its listener is held
+abbrev pub HasListener : End → EventTable → Type 0
+HasListener end t = IsSomeAnd (event_at t end.event) (λ e. e.held ≡ true)
+
+-- the end's event stands, and has a notifier
+abbrev pub HasNotifier : End → EventTable → Type 0
+HasNotifier end t = IsSomeAnd (event_at t end.event) (λ e. 0 < e.notifiers)
+
+-- the table once the listener of an event was let go
+abbrev pub listener_gone : EventTable → ℕ → EventTable
+listener_gone t n = settled (changed t n without_listener) n
+
+-- the table once a notifier of an event was let go
+abbrev pub notifier_gone : EventTable → ℕ → EventTable
+notifier_gone t n = settled (changed t n without_notifier) n

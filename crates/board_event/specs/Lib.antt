@@ -1,0 +1,4 @@
+pub mod Ends
+pub mod Accesses
+pub mod LentForms
+pub mod Taking

@@ -1,0 +1,235 @@
+//! The end of an event that takes ids.
+ghost use Rattle.std.specs.Prelude.{◌≡◌, ◌≢◌, ℕ, List, None, Ok, IsOk};
+ghost use Rattle.board_event.specs.Ends.{HasListener, IsGone, listener_gone};
+ghost use Rattle.board_event.specs.LentForms.{Changes, GivesNext, GivesNone, IsCalledOnAll, OnEvent, after_one, all_taken};
+
+use crate::accesses::{hand_over, wait_access};
+use crate::event::Listener;
+use crate::events_of::{EventsOf, KindOfEvents};
+use crate::patience::{Forever, Patience, Until};
+use crate::taking::{take_all, take_one, wait_call};
+use board_event_core::{
+    EventProgress, ListenerWaitError, TriggerId, WaitCall, WaitMode, WaitStage,
+};
+use board_names::{FileName, NamePlace, NamedConcept};
+use std::alloc::Global;
+use std::cell::Cell;
+use std::marker::{Model, PhantomData};
+use std::sync::{Arc, Condvar, Wait};
+use std::time::{Clock, Duration};
+
+/// The end of an event that takes ids. It may go to another thread, and isn't shared between threads.
+///
+/// Clauses see the name, the event's number and its greatest id. A call asks the table whether the event stands and can
+/// take the access: where it doesn't, a wait takes nothing and gives none, and a release changes nothing.
+#[derive(Drop)]
+pub struct EventListener<K> {
+    place: NamePlace<EventsOf<K>>,
+    arrived: Arc<Condvar, Global>,
+    event: u64,
+    max: u64,
+    alone: PhantomData<Cell<()>>,
+}
+
+impl<K> Model for EventListener<K> {
+    ghost use Rattle.board_event.specs.Ends.{End};
+
+    ghost Value = { End };
+
+    ghost view = { λ l. record { place = l.place; event = l.event; max = l.max } };
+}
+
+impl<K: KindOfEvents + Drop> EventListener<K> {
+    pub(crate) fn at(
+        place: NamePlace<EventsOf<K>>,
+        arrived: Arc<Condvar, Global>,
+        event: u64,
+        max: u64,
+    ) -> EventListener<K>
+        ensures { result ≡ record { place = place; event = event; max = max } }
+    {
+        EventListener {
+            place,
+            arrived,
+            event,
+            max,
+            alone: PhantomData,
+        }
+    }
+
+    /// `try_wait_one` over the events themselves.
+    ///
+    /// # Errors
+    /// None: it is never refused.
+    pub fn try_wait_one_in(
+        &self,
+        state: &mut EventsOf<K>,
+    ) -> Result<Option<TriggerId>, ListenerWaitError>
+        ensures ok { IsOk result }
+        ensures id { OnEvent K.which self.now state.old (GivesNext K.which result) }
+        ensures none { OnEvent K.which self.now state.old (GivesNone result) }
+        ensures after { Changes K.which self.now state.old state.new (after_one K.which result) }
+        ensures gone { IsGone self.now state.old → (result ≡ Ok None) × (state.new ≡ state.old) }
+    {
+        let Some(id) = take_one(&mut state.events, self.event, K::kind(), self.max) else {
+            return Ok(None);
+        };
+        Ok(Some(TriggerId::new(id as usize)))
+    }
+
+    /// `try_wait_all` over the events themselves.
+    ///
+    /// # Errors
+    /// None: it is never refused.
+    pub fn try_wait_all_in<F: FnMut(TriggerId)>(
+        &self,
+        state: &mut EventsOf<K>,
+        callback: F,
+    ) -> Result<(), ListenerWaitError>
+        requires { F.IsAlwaysCallable callback }
+        ensures ok { result ≡ Ok tt }
+        ensures calls { OnEvent K.which self.now state.old (IsCalledOnAll F.step callback K.which) }
+        ensures after { Changes K.which self.now state.old state.new (all_taken K.which) }
+        ensures gone { IsGone self.now state.old → state.new ≡ state.old }
+    {
+        take_all(&mut state.events, self.event, K::kind(), self.max, callback);
+        Ok(())
+    }
+
+    /// `release` over the events themselves.
+    pub fn release_in(self, state: &mut EventsOf<K>)
+        ensures gone { HasListener self state.old → state.new ≡ listener_gone state.old self.event }
+        ensures stays { (¬ HasListener self state.old) → state.new ≡ state.old }
+    {
+        self.give_up(state);
+    }
+
+    /// Lets go of the listener of the event.
+    fn give_up(&self, state: &mut EventsOf<K>)
+        ensures gone { HasListener self.now state.old → state.new ≡ listener_gone state.old self.now.event }
+        ensures stays { (¬ HasListener self.now state.old) → state.new ≡ state.old }
+    {
+        if state.events.has_listener(self.event) {
+            state.events.release_listener(self.event);
+        }
+    }
+
+    /// One access of a wait, under one hold of the lock. A look that found nothing sleeps before it lets go of the lock,
+    /// so no notify comes between the look and the sleep.
+    fn access<R: Wait, P: Patience<R>>(
+        &self,
+        rt: &R,
+        call: &mut WaitCall,
+        patience: &P,
+    ) -> Option<EventProgress>
+        requires { call.old.stage ≢ WaitStage.Finished }
+    {
+        let mut state = self.place.lock(rt);
+        let progress = wait_access(&mut state.events, self.event, call)?;
+        if progress == EventProgress::Waiting && !patience.sleep(rt, &self.arrived, state) {
+            return None;
+        }
+        Some(progress)
+    }
+
+    /// Drives a wait for one id.
+    fn one<R: Wait, P: Patience<R>>(
+        &self,
+        rt: &R,
+        mode: WaitMode,
+        patience: &P,
+    ) -> Option<TriggerId> {
+        let mut call = wait_call(K::kind(), self.max, false, mode);
+        for _ in rt.forever() {
+            if call.is_done() {
+                break;
+            }
+            match self.access(rt, &mut call, patience)? {
+                EventProgress::Id { id, last: _ } => return Some(TriggerId::new(id as usize)),
+                _ => {}
+            }
+        }
+        None
+    }
+
+    /// Drives a wait for all ids. No lock is held while the callback runs.
+    fn all<R: Wait, P: Patience<R>, F: FnMut(TriggerId)>(
+        &self,
+        rt: &R,
+        mode: WaitMode,
+        patience: &P,
+        mut callback: F,
+    )
+        requires { F.IsAlwaysCallable callback }
+    {
+        let mut call = wait_call(K::kind(), self.max, true, mode);
+        for _ in rt.forever() {
+            if call.is_done() {
+                break;
+            }
+            let Some(progress) = self.access(rt, &mut call, patience) else {
+                break;
+            };
+            hand_over(&mut callback, progress);
+        }
+    }
+}
+
+impl<K: KindOfEvents + Drop> NamedConcept for EventListener<K> {
+    ghost name_of = { λ l. l.place.name };
+
+    fn name(&self) -> &FileName {
+        self.place.name()
+    }
+}
+
+impl<K: KindOfEvents + Drop> Listener for EventListener<K> {
+    fn try_wait_one<R: Wait>(&self, rt: &R) -> Result<Option<TriggerId>, ListenerWaitError> {
+        Ok(self.one(rt, WaitMode::Try, &Forever))
+    }
+
+    fn timed_wait_one<R: Wait + Clock>(
+        &self,
+        rt: &R,
+        timeout: Duration,
+    ) -> Result<Option<TriggerId>, ListenerWaitError> {
+        Ok(self.one(rt, WaitMode::Timed, &Until::after(rt, timeout)))
+    }
+
+    fn blocking_wait_one<R: Wait>(&self, rt: &R) -> Result<Option<TriggerId>, ListenerWaitError> {
+        Ok(self.one(rt, WaitMode::Block, &Forever))
+    }
+
+    fn try_wait_all<R: Wait, F: FnMut(TriggerId)>(
+        &self,
+        rt: &R,
+        callback: F,
+    ) -> Result<(), ListenerWaitError> {
+        self.all(rt, WaitMode::Try, &Forever, callback);
+        Ok(())
+    }
+
+    fn timed_wait_all<R: Wait + Clock, F: FnMut(TriggerId)>(
+        &self,
+        rt: &R,
+        callback: F,
+        timeout: Duration,
+    ) -> Result<(), ListenerWaitError> {
+        self.all(rt, WaitMode::Timed, &Until::after(rt, timeout), callback);
+        Ok(())
+    }
+
+    fn blocking_wait_all<R: Wait, F: FnMut(TriggerId)>(
+        &self,
+        rt: &R,
+        callback: F,
+    ) -> Result<(), ListenerWaitError> {
+        self.all(rt, WaitMode::Block, &Forever, callback);
+        Ok(())
+    }
+
+    fn release<R: Wait>(self, rt: &R) {
+        let mut state = self.place.lock(rt);
+        self.give_up(&mut state);
+    }
+}

@@ -1,0 +1,134 @@
+//! The end of an event that hands ids over.
+ghost use Rattle.std.specs.Prelude.{◌≡◌, ◌≢◌, ℕ, List, Err};
+ghost use Rattle.board_names.specs.declared.errors.event.NotifierNotifyError.TheVariants.{Disconnected};
+ghost use Rattle.board_event.specs.Ends.{HasNotifier, IsGone, notifier_gone};
+ghost use Rattle.board_event.specs.LentForms.{AnswersNotify, Changes, notified};
+
+use crate::accesses::notify_access;
+use crate::event::Notifier;
+use crate::events_of::{EventsOf, KindOfEvents};
+use crate::taking::{notify_call, notify_once};
+use board_event_core::{EventProgress, NotifierNotifyError, NotifyCall, NotifyStage, TriggerId};
+use board_names::{FileName, NamePlace, NamedConcept};
+use std::alloc::Global;
+use std::marker::Model;
+use std::sync::{Arc, Condvar, Wait};
+
+/// The end of an event that hands ids over.
+///
+/// Clauses see the name, the event's number and the greatest id. A call asks the table whether the event stands and can
+/// take the access: where it can't take a post, that is left out, and where it can't take another, the listener is gone.
+#[derive(Drop)]
+pub struct EventNotifier<K> {
+    place: NamePlace<EventsOf<K>>,
+    arrived: Arc<Condvar, Global>,
+    event: u64,
+    max: u64,
+}
+
+impl<K> Model for EventNotifier<K> {
+    ghost use Rattle.board_event.specs.Ends.{End};
+
+    ghost Value = { End };
+
+    ghost view = { λ n. record { place = n.place; event = n.event; max = n.max } };
+}
+
+impl<K: KindOfEvents + Drop> EventNotifier<K> {
+    pub(crate) fn at(
+        place: NamePlace<EventsOf<K>>,
+        arrived: Arc<Condvar, Global>,
+        event: u64,
+        max: u64,
+    ) -> EventNotifier<K>
+        ensures { result ≡ record { place = place; event = event; max = max } }
+    {
+        EventNotifier {
+            place,
+            arrived,
+            event,
+            max,
+        }
+    }
+
+    /// `notify` over the events themselves.
+    ///
+    /// # Errors
+    /// `Disconnected` where the listener is gone; `TriggerIdOutOfBounds` where the id is above the greatest of a set;
+    /// `FailedToDeliverSignal` where 512 ids wait in a queue. The event stays as it was.
+    pub fn notify_in(
+        &self,
+        state: &mut EventsOf<K>,
+        id: TriggerId,
+    ) -> Result<(), NotifierNotifyError>
+        ensures answer { AnswersNotify K.which self.now state.old id result }
+        ensures after { Changes K.which self.now state.old state.new (notified K.which id) }
+        ensures gone { IsGone self.now state.old → (result ≡ Err Disconnected) × (state.new ≡ state.old) }
+    {
+        let id = id.as_value() as u64;
+        notify_once(&mut state.events, self.event, K::kind(), self.max, id)
+    }
+
+    /// `release` over the events themselves.
+    pub fn release_in(self, state: &mut EventsOf<K>)
+        ensures gone { HasNotifier self state.old → state.new ≡ notifier_gone state.old self.event }
+        ensures stays { (¬ HasNotifier self state.old) → state.new ≡ state.old }
+    {
+        self.give_up(state);
+    }
+
+    /// Lets go of a notifier of the event.
+    fn give_up(&self, state: &mut EventsOf<K>)
+        ensures gone { HasNotifier self.now state.old → state.new ≡ notifier_gone state.old self.now.event }
+        ensures stays { (¬ HasNotifier self.now state.old) → state.new ≡ state.old }
+    {
+        if state.events.has_notifier(self.event) {
+            state.events.release_notifier(self.event);
+        }
+    }
+
+    /// One access of a notify, under one hold of the lock.
+    fn access<R: Wait>(&self, rt: &R, call: &mut NotifyCall) -> EventProgress
+        requires { call.old.stage ≢ NotifyStage.Finished }
+    {
+        let mut state = self.place.lock(rt);
+        notify_access(&mut state.events, self.event, call)
+    }
+}
+
+impl<K: KindOfEvents + Drop> NamedConcept for EventNotifier<K> {
+    ghost name_of = { λ n. n.place.name };
+
+    fn name(&self) -> &FileName {
+        self.place.name()
+    }
+}
+
+impl<K: KindOfEvents + Drop> Notifier for EventNotifier<K> {
+    ghost greatest = { λ n. n.max };
+
+    fn trigger_id_max(&self) -> TriggerId {
+        TriggerId::new(self.max as usize)
+    }
+
+    fn notify<R: Wait>(&self, rt: &R, id: TriggerId) -> Result<(), NotifierNotifyError> {
+        let mut call = notify_call(K::kind(), self.max, id.as_value() as u64);
+        for _ in rt.forever() {
+            if call.is_done() {
+                break;
+            }
+            match self.access(rt, &mut call) {
+                EventProgress::More => {}
+                EventProgress::Refused(why) => return Err(why),
+                _ => break,
+            }
+        }
+        self.arrived.notify_all();
+        Ok(())
+    }
+
+    fn release<R: Wait>(self, rt: &R) {
+        let mut state = self.place.lock(rt);
+        self.give_up(&mut state);
+    }
+}
