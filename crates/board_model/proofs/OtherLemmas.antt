@@ -58,7 +58,7 @@ module _ (s : State) (sound : Sound s) (party q n : List ℕ) (ne : q ≡ party 
   in_table (reader name x) h =
       asked_things s.standing.tables (first_of (reader_refusals s.standing.tables.things (board_at s.standing.tables x.board))) (s.standing.tables.last_port + 1) (with_reader s.standing.tables x name) q n (pushed _ (owner _ x h.1))
   in_table (writer name x) h =
-      asked_things s.standing.tables (first_of (writer_refusals s.standing.tables.things x.board)) (s.standing.tables.last_port + 1) (with_writer s.standing.tables x name) q n (pushed _ (owner _ x h.1))
+      asked_things s.standing.tables (first_of (writer_refusals s.standing.tables.things (board_at s.standing.tables x.board))) (s.standing.tables.last_port + 1) (with_writer s.standing.tables x name) q n (pushed _ (owner _ x h.1))
   in_table (entry name x k type) h =
       asked_things s.standing.tables (first_of (entry_refusals (entry_found (board_at s.standing.tables x.board) (keeps_key k) (value_detail type)))) (id_of (entry_found (board_at s.standing.tables x.board) (keeps_key k) (value_detail type)))
       (with_read_handle s.standing.tables x name (entry_found (board_at s.standing.tables x.board) (keeps_key k) (value_detail type))) q n (pushed _ (owner _ x h.1))

@@ -3,7 +3,7 @@ use Rattle.std.specs.Prelude.{◌≡◌, ℕ, true, ◌==◌, List, [], ◌∷�
 use Rattle.std.specs.List.{AllByRecursion, list_any}
 use Rattle.std.specs.Str.{bytes_eq}
 use Rattle.board_model.specs.declared.attributes.Attribute.{Attribute}
-use Rattle.board_model.specs.declared.tables.Limits.{Limits}
+use Rattle.board_model.specs.declared.tables.NewLimits.{NewLimits}
 use Rattle.board_model.specs.declared.value.AddedEntry.{AddedEntry}
 use Rattle.board_model.specs.declared.value.Key.{Key}
 use Rattle.board_model.specs.declared.value.KeyType.{KeyType}
@@ -45,5 +45,5 @@ pub record IsKeyOf (k : KeyType) (key : Key) : Type 0 where
 
 -- a board tells its keys as they were added, in that order
 abbrev pub KeysAreToldInOrder : Type 0
-KeysAreToldInOrder = (number : ℕ) (name : List ℕ) (k : KeyType) (limits : Limits) (attributes : List Attribute) (entries : List AddedEntry) → AllByRecursion (λ (e : AddedEntry). IsKeyOf k e.key) entries
+KeysAreToldInOrder = (number : ℕ) (name : List ℕ) (k : KeyType) (limits : NewLimits) (attributes : List Attribute) (entries : List AddedEntry) → AllByRecursion (λ (e : AddedEntry). IsKeyOf k e.key) entries
     → keys_in (Some (new_board number name (key_detail k) limits attributes (map added_of entries))) ≡ map (λ (e : AddedEntry). e.key) entries
