@@ -31,7 +31,8 @@ impl ReadEnd {
         ensures cell { arc_value self.new.cell ≡ arc_value self.old.cell }
         ensures pass { self.new.pass ≡ self.old.pass }
         ensures shared { IfOk result (λ end. arc_value end.cell ≡ arc_value self.old.cell) }
-        ensures fresh { IfOk result (λ end. end.pass ≡ new_reader self.old.pass.cell self.old.pass.reached) }
+        ensures fresh { let pass = self.old.pass in
+            IfOk result (λ end. end.pass ≡ new_reader pass.cell pass.reached) }
     {
         let cell = Arc::try_clone(&self.cell)?;
         let pass = cell.split(&mut self.pass);

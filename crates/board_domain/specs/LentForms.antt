@@ -2,13 +2,13 @@
 use Rattle.std.specs.Prelude.{◌≡◌, ℕ, ◌+◌, ◌⊎◌, if◌then◌else◌, List, Option, Some, None, option_map, Result, Ok, Err}
 use Rattle.board_layout.specs.declared.type_detail.TypeDetail.{TypeDetail}
 use Rattle.board_model.specs.declared.attributes.Attribute.{Attribute}
-use Rattle.board_model.specs.declared.tables.Limits.{Limits}
+use Rattle.board_model.specs.declared.tables.NewLimits.{NewLimits}
 use Rattle.board_model.specs.declared.tables.ThingKind.TheVariants.{Factory}
 use Rattle.board_model.specs.Tables.{Added, board_at}
 use Rattle.board_model.specs.declared.attributes.Requirements.{Requirements}
 use Rattle.board_names.specs.declared.errors.boards.BlackboardOpenError.{BlackboardOpenError}
 use Rattle.board_service.specs.declared.made.Made.{Made}
-use Rattle.board_domain.specs.Services.{OpenerSeen}
+use Rattle.board_domain.specs.Services.{CreatorSeen, OpenerSeen}
 use Rattle.board_service.specs.Domain as calls
 use Rattle.board_service.specs.Domain.{stands_as, held, after_create, after_open}
 use Rattle.board_service.specs.declared.told.DynamicConfig.{DynamicConfig}
@@ -24,13 +24,17 @@ pub record NewBoard : Type 0 where
   pub node : ℕ
   pub name : List ℕ
   pub keys : TypeDetail
-  pub limits : Limits
+  pub limits : NewLimits
   pub attributes : List Attribute
   pub entries : List Added
 
-abbrev pub new_board : ℕ → List ℕ → TypeDetail → Limits → List Attribute → List Added → NewBoard
+abbrev pub new_board : ℕ → List ℕ → TypeDetail → NewLimits → List Attribute → List Added → NewBoard
 new_board node name keys limits attributes entries =
     record { node = node; name = name; keys = keys; limits = limits; attributes = attributes; entries = entries }
+
+-- the board that a creator asks for, with keys of this type and these attributes
+abbrev pub asked_board : CreatorSeen → TypeDetail → List Attribute → NewBoard
+asked_board c keys attributes = new_board c.node c.name keys c.limits attributes c.entries
 
 -- the board was made, and each of its entries has a new cell, whose write end is parked
 abbrev pub IsMade : NewBoard → Core → Core → Type 0

@@ -5,6 +5,7 @@ use Rattle.board_layout.specs.Keys.{key_value}
 use Rattle.board_model.specs.declared.attributes.Attribute.{Attribute}
 use Rattle.board_model.specs.declared.attributes.Requirements.{Requirements}
 use Rattle.board_model.specs.declared.tables.Limits.{Limits}
+use Rattle.board_model.specs.declared.tables.NewLimits.{NewLimits}
 use Rattle.board_model.specs.Tables.{Added}
 use Rattle.board_names.specs.declared.errors.service.DomainError.{DomainError}
 use Rattle.board_names.specs.declared.errors.service.DomainError.TheVariants.{NumbersSpent}
@@ -33,7 +34,7 @@ pub record BuilderSeen : Type 0 where
 pub record CreatorSeen : Type 0 where
   pub node : ℕ
   pub name : List ℕ
-  pub limits : Limits
+  pub limits : NewLimits
   pub entries : List Added
 
 -- what opens a board: the node that asks, the name, and the limits that the board is to have at least
@@ -56,17 +57,33 @@ factory_made f = f.made
 abbrev pub no_limits : Limits
 no_limits = record { max_readers = None; max_nodes = None }
 
--- at most so many readers are asked for
+-- so many readers are asked for
 abbrev pub with_readers : Limits → ℕ → Limits
 with_readers l n = record l { max_readers = Some n }
 
--- at most so many nodes are asked for
+-- so many nodes are asked for
 abbrev pub with_nodes : Limits → ℕ → Limits
 with_nodes l n = record l { max_nodes = Some n }
 
+-- nothing is told of a new board's limits
+abbrev pub no_new_limits : NewLimits
+no_new_limits = record { shared = no_limits; max_writers = None }
+
+-- a new board is to allow so many readers
+abbrev pub allowing_readers : NewLimits → ℕ → NewLimits
+allowing_readers l n = record l { shared = with_readers l.shared n }
+
+-- a new board is to allow so many nodes
+abbrev pub allowing_nodes : NewLimits → ℕ → NewLimits
+allowing_nodes l n = record l { shared = with_nodes l.shared n }
+
+-- a new board is to allow so many writers
+abbrev pub allowing_writers : NewLimits → ℕ → NewLimits
+allowing_writers l n = record l { max_writers = Some n }
+
 -- what makes a board of which nothing more was told
 abbrev pub new_creator : ℕ → List ℕ → CreatorSeen
-new_creator node name = record { node = node; name = name; limits = no_limits; entries = [] }
+new_creator node name = record { node = node; name = name; limits = no_new_limits; entries = [] }
 
 -- nothing is required of a board's attributes
 abbrev pub no_requirements : Requirements

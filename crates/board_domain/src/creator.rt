@@ -5,7 +5,7 @@ ghost use Rattle.board_layout.specs.Bytes.{details};
 ghost use Rattle.board_layout.specs.Keys.{same_keys};
 ghost use Rattle.board_service.specs.Domain as calls;
 ghost use Rattle.board_domain.specs.LentForms as lent;
-ghost use Rattle.board_domain.specs.Services.{AddsEntry, IsEntryOf, new_creator, with_readers, with_nodes, factory_made};
+ghost use Rattle.board_domain.specs.Services.{AddsEntry, IsEntryOf, new_creator, allowing_readers, allowing_nodes, allowing_writers, factory_made};
 ghost use Rattle.board_domain.specs.Factories.{KeepsBoard};
 
 use crate::add_error::AddError;
@@ -15,21 +15,21 @@ use crate::port_factory::PortFactory;
 use board_concepts::AttributeSpecifier;
 use board_handles::{Domain, DomainState};
 use board_layout::{BoardKey, KeyMemoryError, ZeroCopySend};
-use board_model::Limits;
+use board_model::{Limits, NewLimits};
 use board_names::{BlackboardCreateError, ServiceName};
 use board_service::{NewEntry, NodeId};
 use std::alloc::Global;
 use std::marker::{Model, PhantomData};
 use std::sync::Wait;
 
-/// What makes a board whose keys are `K`s, once its limits and entries are told. A limit that isn't told is 8 readers or 20 nodes.
+/// What makes a board whose keys are `K`s, once its limits and entries are told. A limit that isn't told is 8 readers, 20 nodes or 1 writer.
 ///
 /// Clauses see the node that asks, the name, the limits, and the entries so far.
 #[derive(Drop)]
 pub struct Creator<K: BoardKey, P> {
     node: NodeId,
     name: ServiceName,
-    limits: Limits,
+    limits: NewLimits,
     entries: Vec<NewEntry>,
     alloc: Global,
     domain: Domain,
@@ -68,9 +68,12 @@ impl<K: BoardKey, P> Creator<K, P> {
         Creator {
             node,
             name,
-            limits: Limits {
-                max_readers: None,
-                max_nodes: None,
+            limits: NewLimits {
+                shared: Limits {
+                    max_readers: None,
+                    max_nodes: None,
+                },
+                max_writers: None,
             },
             entries: Vec::new(alloc),
             alloc,
@@ -81,17 +84,25 @@ impl<K: BoardKey, P> Creator<K, P> {
 
     /// How many readers the board may have at once. 0 is raised to 1.
     pub fn max_readers(mut self, value: u64) -> Self
-        ensures { result ≡ record self { limits = with_readers self.limits value } }
+        ensures { result ≡ record self { limits = allowing_readers self.limits value } }
     {
-        self.limits.max_readers = Some(value);
+        self.limits.shared.max_readers = Some(value);
         self
     }
 
     /// How many nodes the board may have at once. 0 is raised to 1.
     pub fn max_nodes(mut self, value: u64) -> Self
-        ensures { result ≡ record self { limits = with_nodes self.limits value } }
+        ensures { result ≡ record self { limits = allowing_nodes self.limits value } }
     {
-        self.limits.max_nodes = Some(value);
+        self.limits.shared.max_nodes = Some(value);
+        self
+    }
+
+    /// How many writers the board may have at once. 0 is raised to 1.
+    pub fn max_writers(mut self, value: u64) -> Self
+        ensures { result ≡ record self { limits = allowing_writers self.limits value } }
+    {
+        self.limits.max_writers = Some(value);
         self
     }
 
@@ -149,7 +160,7 @@ impl<K: BoardKey, P> Creator<K, P> {
             let answer = calls.create_answer state.old.tables same_key self.name self.entries in
             Refuses (with_value factory_made result) answer }
         ensures tables { let keys = details K.type_bytes K.SIZE K.ALIGNMENT in
-            let asked = lent.new_board self.node self.name keys self.limits attributes self.entries in
+            let asked = lent.asked_board self keys attributes in
             lent.LeavesMade result asked state.old.tables state.new.tables }
         ensures kept { IfOk result (λ f. KeepsBoard state.new.tables f) }
         ensures named { IfOk result (λ f. f.name ≡ self.name) }
@@ -185,7 +196,7 @@ impl<K: BoardKey, P> Creator<K, P> {
             let answer = calls.create_answer state.old.tables same_key self.name self.entries in
             Refuses (with_value factory_made result) answer }
         ensures tables { let keys = details K.type_bytes K.SIZE K.ALIGNMENT in
-            let asked = lent.new_board self.node self.name keys self.limits [] self.entries in
+            let asked = lent.asked_board self keys [] in
             lent.LeavesMade result asked state.old.tables state.new.tables }
         ensures kept { IfOk result (λ f. KeepsBoard state.new.tables f) }
         ensures named { IfOk result (λ f. f.name ≡ self.name) }

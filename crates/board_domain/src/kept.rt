@@ -13,7 +13,7 @@ ghost use Rattle.board_domain.specs.LentForms as lent;
 use board_concepts::{AttributeSet, AttributeVerifier};
 use board_handles::{BoardCells, DomainState};
 use board_layout::BoardKey;
-use board_model::Limits;
+use board_model::{Limits, NewLimits};
 use board_names::{BlackboardCreateError, BlackboardOpenError, ServiceName};
 use board_service::{DomainCore, Made, NewEntry, NodeId, StaticConfig};
 use std::alloc::AllocError;
@@ -57,7 +57,7 @@ pub(crate) fn new_board<K: BoardKey>(
     state: &mut DomainState,
     node: NodeId,
     name: &ServiceName,
-    limits: Limits,
+    limits: NewLimits,
     attributes: AttributeSet,
     entries: Vec<NewEntry>,
 ) -> Result<Kept, BlackboardCreateError>
@@ -78,10 +78,14 @@ pub(crate) fn new_board<K: BoardKey>(
     ensures kept { IfOk result (λ k. KeepsBoard state.new.tables k) }
     ensures nodes { state.new.nodes ≡ state.old.nodes }
 {
-    let made = match state
-        .tables
-        .create::<K>(node, name, limits, attributes, entries)
-    {
+    let made = match state.tables.create::<K>(
+        node,
+        name,
+        limits.shared,
+        limits.max_writers,
+        attributes,
+        entries,
+    ) {
         Ok(made) => made,
         Err(why) => return Err(why),
     };

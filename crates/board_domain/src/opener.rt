@@ -92,7 +92,8 @@ impl<K: BoardKey, P> Opener<K, P> {
         ensures refused { let keys = details K.type_bytes K.SIZE K.ALIGNMENT in
             let answer = lent.open_answer state.old.tables keys self verifier.now in
             Refuses (with_value factory_made result) answer }
-        ensures tables { lent.LeavesOpened result self.node self.name state.old.tables state.new.tables }
+        ensures tables { let before = state.old.tables in
+            lent.LeavesOpened result self.node self.name before state.new.tables }
         ensures kept { IfOk result (λ f. KeepsBoard state.new.tables f) }
         ensures named { IfOk result (λ f. f.name ≡ self.name) }
         ensures nodes { state.new.nodes ≡ state.old.nodes }
@@ -122,7 +123,8 @@ impl<K: BoardKey, P> Opener<K, P> {
         ensures refused { let keys = details K.type_bytes K.SIZE K.ALIGNMENT in
             let answer = lent.open_answer state.old.tables keys self no_requirements in
             Refuses (with_value factory_made result) answer }
-        ensures tables { lent.LeavesOpened result self.node self.name state.old.tables state.new.tables }
+        ensures tables { let before = state.old.tables in
+            lent.LeavesOpened result self.node self.name before state.new.tables }
         ensures kept { IfOk result (λ f. KeepsBoard state.new.tables f) }
         ensures named { IfOk result (λ f. f.name ≡ self.name) }
         ensures nodes { state.new.nodes ≡ state.old.nodes }

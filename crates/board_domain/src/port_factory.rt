@@ -41,7 +41,12 @@ impl<K, P> Model for PortFactory<K, P> {
 
     ghost Value = { FactorySeen };
 
-    ghost view = { λ s. record { made = s.made; name = s.name; config = s.config; attributes = s.attributes } };
+    ghost view = { λ s. record {
+      made = s.made;
+      name = s.name;
+      config = s.config;
+      attributes = s.attributes;
+    } };
 
     ghost invariant = { λ s. s.hash ≡ service_hash s.name };
 }
@@ -167,7 +172,8 @@ impl<K: BoardKey, P> PortFactory<K, P> {
     /// `release` over the domain's state itself.
     pub fn release_in(self, state: &mut DomainState)
         ensures tables { let keys = details K.type_bytes K.SIZE K.ALIGNMENT in
-            state.new.tables ≡ handles.given_up state.old.tables keys self.made.thing ThingKind.Factory }
+            let thing = self.made.thing in
+            state.new.tables ≡ handles.given_up state.old.tables keys thing ThingKind.Factory }
         ensures nodes { state.new.nodes ≡ state.old.nodes }
     {
         give_up::<K>(&mut state.tables, self.made.thing, ThingKind::Factory);

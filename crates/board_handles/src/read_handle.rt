@@ -37,7 +37,8 @@ impl<K, V: ZeroCopySend, P> Model for EntryHandle<K, V, P> {
 
     ghost view = { λ s. record { found = s.found; cell = arc_value s.cell; pass = s.pass } };
 
-    ghost invariant = { λ s. IsEndOf (arc_value s.cell) s.pass.cell (length s.words.items) V.WORDS };
+    ghost invariant = { λ s. let room = length s.words.items in
+        IsEndOf (arc_value s.cell) s.pass.cell room V.WORDS };
 }
 
 impl<K, V: ZeroCopySend, P> EntryHandle<K, V, P> {
@@ -92,8 +93,10 @@ impl<K, V: ZeroCopySend, P> EntryHandle<K, V, P> {
     /// `GetAgain` where the counter rose in each of the tries.
     pub fn try_get(&mut self, tries: u32) -> Result<BlackboardValue<V>, GetAgain>
         ensures kept { self.new ≡ record self.old { pass = self.new.pass } }
-        ensures ok { IfOk result (λ v. GetsValueWithin (max tries 1) V.value_of v self.old.pass self.new.pass) }
-        ensures again { IfErr result (λ e. GivesUp (max tries 1) e.before e.after self.old.pass self.new.pass) }
+        ensures ok { let most = max tries 1 in
+            IfOk result (λ v. GetsValueWithin most V.value_of v self.old.pass self.new.pass) }
+        ensures again { let most = max tries 1 in
+            IfErr result (λ e. GivesUp most e.before e.after self.old.pass self.new.pass) }
     {
         let cell = &*self.cell;
         match cell.try_get(&mut self.pass, tries, &mut self.words) {

@@ -64,7 +64,8 @@ fn new_reader<K: BoardKey>(
     factory: ThingId,
 ) -> Result<Made, ReaderCreateError>
     ensures answer { let keys = details K.type_bytes K.SIZE K.ALIGNMENT in
-        Answers result ReaderCreateError.OutOfMemory (lent.reader_made state.old.tables keys factory) }
+        let answer = lent.reader_made state.old.tables keys factory in
+        Answers result ReaderCreateError.OutOfMemory answer }
     ensures refused { let keys = details K.type_bytes K.SIZE K.ALIGNMENT in
         Refuses result (lent.reader_made state.old.tables keys factory) }
     ensures ok { let before = state.old.tables in
@@ -114,7 +115,8 @@ impl<K: BoardKey, P> PortFactoryReader<K, P> {
     /// `ThingUnknown` where the factory isn't held; else `ExceedsMaxSupportedReaders` where the board has as many readers as it may; `NumbersSpent`; `OutOfMemory`. All stays as it was.
     pub fn create_in(self, state: &mut DomainState) -> Result<Reader<K, P>, ReaderCreateError>
         ensures answer { let keys = details K.type_bytes K.SIZE K.ALIGNMENT in
-            Answers result ReaderCreateError.OutOfMemory (lent.reader_made state.old.tables keys self) }
+            let answer = lent.reader_made state.old.tables keys self in
+            Answers result ReaderCreateError.OutOfMemory answer }
         ensures refused { let keys = details K.type_bytes K.SIZE K.ALIGNMENT in
             Refuses result (lent.reader_made state.old.tables keys self) }
         ensures ok { let before = state.old.tables in
@@ -150,10 +152,12 @@ fn read_handle_of<K, V: ZeroCopySend, P>(
     ensures same { tables.new ≡ tables.old }
     ensures answer { let unknown = EntryHandleError.ThingUnknown reader in
         let cell = ends.cell_of tables.old board found.entry in
-        Answers (with_value lent.read_given result) EntryHandleError.OutOfMemory (lent.fitting unknown V.WORDS cell_width found cell) }
+        let answer = lent.fitting unknown V.WORDS cell_width found cell in
+        Answers (with_value lent.read_given result) EntryHandleError.OutOfMemory answer }
     ensures refused { let unknown = EntryHandleError.ThingUnknown reader in
         let cell = ends.cell_of tables.old board found.entry in
-        Refuses (with_value lent.read_given result) (lent.fitting unknown V.WORDS cell_width found cell) }
+        let answer = lent.fitting unknown V.WORDS cell_width found cell in
+        Refuses (with_value lent.read_given result) answer }
     ensures fresh { IfOk result (λ h. IsUnread h.pass) }
 {
     if !has_cell(tables, board, found.entry, V::WORDS as u64) {
@@ -270,7 +274,8 @@ impl<K: BoardKey, V: ZeroCopySend, P> EntryHandle<K, V, P> {
     /// `release` over the domain's state itself.
     pub fn release_in(self, state: &mut DomainState)
         ensures tables { let keys = details K.type_bytes K.SIZE K.ALIGNMENT in
-            state.new.tables ≡ lent.given_up state.old.tables keys self.found.thing ThingKind.ReadHandle }
+            let thing = self.found.thing in
+            state.new.tables ≡ lent.given_up state.old.tables keys thing ThingKind.ReadHandle }
         ensures nodes { state.new.nodes ≡ state.old.nodes }
     {
         let (found, _domain) = self.into_parts();

@@ -26,7 +26,8 @@ pub(crate) fn give_up_writing<K: BoardKey>(
     end: WriteEnd,
 )
     ensures { let keys = details K.type_bytes K.SIZE K.ALIGNMENT in
-        tables.new ≡ lent.write_given_up tables.old keys record { found = found; held = end_seen end } }
+        tables.new
+        ≡ lent.write_given_up tables.old keys record { found = found; held = end_seen end } }
 {
     if !tables.is_held::<K>(found.thing, ThingKind::WriteHandle) {
         return;

@@ -63,7 +63,8 @@ fn new_writer<K: BoardKey>(
     factory: ThingId,
 ) -> Result<Made, WriterCreateError>
     ensures answer { let keys = details K.type_bytes K.SIZE K.ALIGNMENT in
-        Answers result WriterCreateError.OutOfMemory (lent.writer_made state.old.tables keys factory) }
+        let answer = lent.writer_made state.old.tables keys factory in
+        Answers result WriterCreateError.OutOfMemory answer }
     ensures refused { let keys = details K.type_bytes K.SIZE K.ALIGNMENT in
         Refuses result (lent.writer_made state.old.tables keys factory) }
     ensures ok { let before = state.old.tables in
@@ -113,7 +114,8 @@ impl<K: BoardKey, P> PortFactoryWriter<K, P> {
     /// `ThingUnknown` where the factory isn't held; else `ExceedsMaxSupportedWriters` where the board has as many writers as it may, each with a handle or itself; `NumbersSpent`; `OutOfMemory`. All stays as it was.
     pub fn create_in(self, state: &mut DomainState) -> Result<Writer<K, P>, WriterCreateError>
         ensures answer { let keys = details K.type_bytes K.SIZE K.ALIGNMENT in
-            Answers result WriterCreateError.OutOfMemory (lent.writer_made state.old.tables keys self) }
+            let answer = lent.writer_made state.old.tables keys self in
+            Answers result WriterCreateError.OutOfMemory answer }
         ensures refused { let keys = details K.type_bytes K.SIZE K.ALIGNMENT in
             Refuses result (lent.writer_made state.old.tables keys self) }
         ensures ok { let before = state.old.tables in
@@ -148,10 +150,12 @@ fn write_handle_of<K, V: ZeroCopySend, P>(
 ) -> Result<EntryHandleMut<K, V, P>, EntryHandleMutError>
     ensures answer { let unknown = EntryHandleMutError.ThingUnknown writer in
         let end = ends.parked_of tables.old board found.entry in
-        Answers (with_value lent.write_given result) EntryHandleMutError.OutOfMemory (lent.fitting unknown V.WORDS end_width found end) }
+        let answer = lent.fitting unknown V.WORDS end_width found end in
+        Answers (with_value lent.write_given result) EntryHandleMutError.OutOfMemory answer }
     ensures refused { let unknown = EntryHandleMutError.ThingUnknown writer in
         let end = ends.parked_of tables.old board found.entry in
-        Refuses (with_value lent.write_given result) (lent.fitting unknown V.WORDS end_width found end) }
+        let answer = lent.fitting unknown V.WORDS end_width found end in
+        Refuses (with_value lent.write_given result) answer }
     ensures ok { OnOk result (tables.new ≡ ends.taken tables.old board found.entry) }
     ensures err { OnErr result (tables.new ≡ tables.old) }
 {
