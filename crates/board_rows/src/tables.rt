@@ -32,7 +32,7 @@ const A_FREED_WRITER: Part = &[
     ("step a", "table = ok 0"),
 ];
 
-const ROWS: [Row; 10] = [
+const ROWS: [Row; 12] = [
     Row {
         name: "a name that stands",
         opening: &[ONE_NUMBER],
@@ -205,6 +205,87 @@ const ROWS: [Row; 10] = [
             ("drop a m", "table = ok"),
             ("begin b writer y f", "ok"),
             ("step b", "table = ok 3"),
+        ],
+        ..PLAIN
+    },
+    Row {
+        name: "limits of writers",
+        lines: &[
+            (
+                "begin a create f b u64 readers 3 nodes 4 writers 5 attr k v add u64:1 u64:7",
+                "ok",
+            ),
+            ("step a", "table = ok 1"),
+            ("begin a info f", "ok"),
+            (
+                "step a",
+                "table = info b u64 readers 3 nodes 4 writers 5 entries 1 attrs 1 taken 0 0 1",
+            ),
+            ("begin a create g c u64 writers 0 add u64:1 u64:7", "ok"),
+            ("step a", "table = ok 2"),
+            ("begin a info g", "ok"),
+            (
+                "step a",
+                "table = info c u64 readers 8 nodes 20 writers 1 entries 1 attrs 0 taken 0 0 1",
+            ),
+            ("begin a writer w g", "ok"),
+            ("step a", "table = ok 1"),
+            ("begin a writer x g", "ok"),
+            (
+                "step a",
+                "table = WriterCreateError::ExceedsMaxSupportedWriters",
+            ),
+        ],
+        ..PLAIN
+    },
+    Row {
+        name: "slots of two writers",
+        lines: &[
+            (
+                "begin a create f b u64 writers 2 add u64:1 u64:7 add u64:2 u64:8",
+                "ok",
+            ),
+            ("step a", "table = ok 1"),
+            ("begin a writer w f", "ok"),
+            ("step a", "table = ok 1"),
+            ("begin a writer x f", "ok"),
+            ("step a", "table = ok 2"),
+            ("begin a entrymut m w u64:1 u64", "ok"),
+            ("step a", "table = ok 0"),
+            ("begin a entrymut n w u64:2 u64", "ok"),
+            ("step a", "table = ok 32"),
+            ("begin a info f", "ok"),
+            (
+                "step a",
+                "table = info b u64 readers 8 nodes 20 writers 2 entries 2 attrs 0 taken 0 2 1",
+            ),
+            ("drop a w", "table = ok"),
+            ("drop a m", "table = ok"),
+            ("begin a writer y f", "ok"),
+            (
+                "step a",
+                "table = WriterCreateError::ExceedsMaxSupportedWriters",
+            ),
+            ("begin a loan l n", "ok"),
+            ("step a", "table = ok"),
+            ("drop a x", "table = ok"),
+            ("begin a writer y f", "ok"),
+            ("step a", "table = ok 3"),
+            ("begin a writer z f", "ok"),
+            (
+                "step a",
+                "table = WriterCreateError::ExceedsMaxSupportedWriters",
+            ),
+            ("begin a discard l n", "ok"),
+            ("step a", "table = ok"),
+            ("drop a n", "table = ok"),
+            ("begin a info f", "ok"),
+            (
+                "step a",
+                "table = info b u64 readers 8 nodes 20 writers 2 entries 2 attrs 0 taken 0 1 1",
+            ),
+            ("begin a writer z f", "ok"),
+            ("step a", "table = ok 4"),
         ],
         ..PLAIN
     },
