@@ -3,13 +3,11 @@ use std::test::Fail;
 
 #[test]
 fn lines_of_the_grammar_are_read(rt: HostRuntime) -> Result<(), Fail> {
-    let lines: [&[u8]; 36] = [
+    let lines: [&[u8]; 34] = [
         b"begin begin create f step u64",
         b"begin p create f ~!/\\ f8 add f8:a u64:18446744073709551615 add u64:1 bool:true",
         b"begin p create f readers u64 readers 3 nodes 2 attr k v attr k v add u64:1 q4:1,2,3,4",
         b"begin p create f = u64 attr attr attr add u64:1 u64:2",
-        b"begin p create f b u64 readers 3 nodes 2 writers 1 attr k v add u64:1 u64:2",
-        b"begin p create f b u64 writers 18446744073709551615",
         b"begin p open f board u64",
         b"begin p open f b f8 readers 1 nodes 2 need k v need k w needkey k needkey j",
         b"begin p open f b u64 need needkey need",
@@ -49,7 +47,7 @@ fn lines_of_the_grammar_are_read(rt: HostRuntime) -> Result<(), Fail> {
 
 #[test]
 fn other_bytes_are_no_line(rt: HostRuntime) -> Result<(), Fail> {
-    let others: [&[u8]; 34] = [
+    let others: [&[u8]; 30] = [
         b"",
         b"step p\r",
         b"step  p",
@@ -72,13 +70,9 @@ fn other_bytes_are_no_line(rt: HostRuntime) -> Result<(), Fail> {
         b"begin p create f b u64 u64:1 u64:2 add",
         b"begin p create f b u64 nodes 1 readers 1",
         b"begin p create f b u64 attr k v nodes 1",
-        b"begin p create f b u64 writers 1 nodes 1",
-        b"begin p create f b u64 attr k v writers 1",
-        b"begin p create f b u64 writers 1 writers 1",
         b"begin p create f b u64 need k v",
         b"begin p open f b u64 needkey k need k v",
         b"begin p open f b u64 add u64:1 u64:2",
-        b"begin p open f b u64 writers 1",
         b"begin p listen l bits door 65536",
         b"begin p listen l queue door 1",
         b"begin p notifier n queue a/b",
