@@ -17,6 +17,7 @@ mod opener;
 mod port_factory;
 mod service_builder;
 mod service_hash;
+mod walks;
 
 pub use add_error::AddError;
 pub use callback_progression::CallbackProgression;
