@@ -27,3 +27,6 @@ pub use node::Node;
 pub use opener::Opener;
 pub use port_factory::PortFactory;
 pub use service_builder::ServiceBuilder;
+
+#[cfg(test)]
+mod tests;
