@@ -1,7 +1,8 @@
 -- What the lent forms of creators, openers and factories answer over a domain's tables, and how they leave them.
-use Rattle.std.specs.Prelude.{◌≡◌, ℕ, ◌+◌, ◌⊎◌, if◌then◌else◌, List, Option, Some, None, option_map, Result, Ok, Err}
+use Rattle.std.specs.Prelude.{◌≡◌, ℕ, ◌+◌, ◌⊎◌, ◌&&◌, nat_le, if◌then◌else◌, List, [], Option, Some, None, option_map, Result, Ok, Err}
 use Rattle.board_layout.specs.declared.type_detail.TypeDetail.{TypeDetail}
 use Rattle.board_model.specs.declared.attributes.Attribute.{Attribute}
+use Rattle.board_model.specs.declared.tables.Entry.{Entry}
 use Rattle.board_model.specs.declared.tables.NewLimits.{NewLimits}
 use Rattle.board_model.specs.declared.tables.ThingKind.TheVariants.{Factory}
 use Rattle.board_model.specs.Tables.{Added, board_at}
@@ -14,6 +15,7 @@ use Rattle.board_service.specs.Domain.{stands_as, held, after_create, after_open
 use Rattle.board_service.specs.declared.told.DynamicConfig.{DynamicConfig}
 use Rattle.board_service.specs.Told.{use_in}
 use Rattle.board_cells.specs.Cells.{PlaceSeen, AreNew}
+use Rattle.board_domain.specs.Walks.{nodes_in, keys_in}
 use Rattle.board_handles.specs.BoardEnds.{Core}
 use Rattle.board_handles.specs.LentForms.{without_thing}
 
@@ -77,3 +79,13 @@ abbrev pub taken_of : Core → TypeDetail → ℕ → DynamicConfig
 taken_of d keys factory =
     if stands_as d keys factory Factory
     then or_none_taken (option_map (use_in d.tables.things) (board_at d.tables (held d factory).board)) else none_taken
+
+-- the nodes with things of the board of a factory, ascending, and none where that isn't held
+abbrev pub nodes_of : Core → TypeDetail → ℕ → List ℕ
+nodes_of d keys factory =
+    if stands_as d keys factory Factory then nodes_in d.tables.things (board_at d.tables (held d factory).board) else []
+
+-- the keys of the board of a factory, and none where that isn't held; keys have at most 64 bytes
+abbrev pub keys_of : {K : Type 0} → (Entry → K) → Core → TypeDetail → ℕ → List K
+keys_of of d keys factory =
+    if stands_as d keys factory Factory && nat_le keys.size 64 then keys_in of (board_at d.tables (held d factory).board) else []

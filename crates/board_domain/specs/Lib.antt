@@ -1,5 +1,6 @@
 pub mod Services
 pub mod ServiceHash
 pub mod Kept
+pub mod Walks
 pub mod LentForms
 pub mod Factories

@@ -17,6 +17,7 @@ mod opener;
 mod port_factory;
 mod service_builder;
 mod service_hash;
+mod walks;
 
 pub use add_error::AddError;
 pub use callback_progression::CallbackProgression;
@@ -26,3 +27,6 @@ pub use node::Node;
 pub use opener::Opener;
 pub use port_factory::PortFactory;
 pub use service_builder::ServiceBuilder;
+
+#[cfg(test)]
+mod tests;

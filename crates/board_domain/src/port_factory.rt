@@ -1,20 +1,24 @@
 //! Factories of a board.
 ghost use Rattle.std.specs.Prelude.{◌≡◌, IfOk, IsOkUnless};
+ghost use Rattle.std.specs.Fn.{CalledAt};
 ghost use Rattle.board_layout.specs.Bytes.{details};
 ghost use Rattle.board_names.specs.declared.errors.service.DomainError.TheVariants.{OutOfMemory};
 ghost use Rattle.board_handles.specs.LentForms as handles;
 ghost use Rattle.board_domain.specs.LentForms as lent;
 ghost use Rattle.board_domain.specs.Factories.{factory_of};
 ghost use Rattle.board_domain.specs.ServiceHash.{service_hash};
+ghost use Rattle.board_domain.specs.Walks.{Visits, key_seen};
 
+use crate::callback_progression::CallbackProgression;
 use crate::kept::Kept;
 use crate::service_hash::hash_of;
+use crate::walks::{visit_keys, visit_nodes};
 use board_concepts::AttributeSet;
 use board_concepts::hash::HashValue;
 use board_handles::{Domain, DomainState, PortFactoryReader, PortFactoryWriter, give_up};
 use board_layout::BoardKey;
 use board_names::{DomainError, ServiceName};
-use board_service::{DynamicConfig, Made, StaticConfig, ThingKind};
+use board_service::{DynamicConfig, Made, NodeId, StaticConfig, ThingKind};
 use std::alloc::Global;
 use std::marker::{Model, PhantomData};
 use std::sync::Wait;
@@ -139,6 +143,65 @@ impl<K: BoardKey, P> PortFactory<K, P> {
     pub fn dynamic_config<R: Wait>(&self, rt: &R) -> DynamicConfig {
         let state = self.domain.lock(rt);
         self.dynamic_config_in(&state)
+    }
+
+    /// `nodes` over the domain's state itself.
+    pub fn nodes_in<F: FnMut(NodeId) -> CallbackProgression>(
+        &self,
+        state: &DomainState,
+        callback: F,
+    )
+        requires { F.IsAlwaysCallable callback }
+        ensures { let keys = details K.type_bytes K.SIZE K.ALIGNMENT in
+            let nodes = lent.nodes_of state.now.tables keys self.now.made.thing in
+            Visits (λ f x r g. F.step f x r g) callback nodes }
+    {
+        let factory = self.made.thing;
+        if !state.tables.is_held::<K>(factory, ThingKind::Factory) {
+            return;
+        }
+        let board = state.tables.board_of(factory);
+        if let Some(taken) = state.tables.use_of(board) {
+            visit_nodes(&state.tables, board, taken.nodes, callback);
+        }
+    }
+
+    /// Calls the callback with each node that has a thing of the board, ascending, until it says to stop. Calls it with none where this factory isn't held. The domain's lock is held meanwhile, so a callback that takes it waits forever.
+    pub fn nodes<R: Wait, F: FnMut(NodeId) -> CallbackProgression>(&self, rt: &R, callback: F)
+        requires { F.IsAlwaysCallable callback }
+    {
+        let state = self.domain.lock(rt);
+        self.nodes_in(&state, callback)
+    }
+
+    /// `list_keys` over the domain's state itself.
+    pub fn list_keys_in<F: FnMut(&K) -> CallbackProgression>(
+        &self,
+        state: &DomainState,
+        callback: F,
+    )
+        requires { F.IsAlwaysCallable callback }
+        ensures { let types = details K.type_bytes K.SIZE K.ALIGNMENT in
+            let of = key_seen K.value_of K.SIZE K.WORDS in
+            let keys = lent.keys_of of state.now.tables types self.now.made.thing in
+            Visits (CalledAt F.FnMut) callback keys }
+    {
+        let factory = self.made.thing;
+        if !state.tables.is_held::<K>(factory, ThingKind::Factory) || K::SIZE > 64 {
+            return;
+        }
+        let board = state.tables.board_of(factory);
+        if let Some(entries) = state.tables.entries_of(board) {
+            visit_keys::<K, F>(entries, callback);
+        }
+    }
+
+    /// Calls the callback with each key of the board, in the order of adding, until it says to stop. Calls it with none where this factory isn't held. The domain's lock is held meanwhile, so a callback that takes it waits forever.
+    pub fn list_keys<R: Wait, F: FnMut(&K) -> CallbackProgression>(&self, rt: &R, callback: F)
+        requires { F.IsAlwaysCallable callback }
+    {
+        let state = self.domain.lock(rt);
+        self.list_keys_in(&state, callback)
     }
 
     /// What makes a reader of the board.
