@@ -1,8 +1,9 @@
 //! Events whose ids wait as a set, up to a greatest one.
 ghost use Rattle.std.specs.Prelude.{◌≡◌, true, Ok};
 ghost use Rattle.board_names.specs.Configuration.{full_name};
+ghost use Rattle.board_names.specs.Table.{IsFree};
 ghost use Rattle.board_event_model.specs.declared.kind.EventKind.TheVariants as kind;
-ghost use Rattle.board_event_core.specs.EventTable.{without_name};
+ghost use Rattle.board_event_core.specs.EventTable.{names_of, without_name};
 ghost use Rattle.board_event.specs.Ends.{is_held};
 
 use crate::event::Event;
@@ -48,6 +49,7 @@ impl NamedConceptMgmt for BitEvent {
     ) -> Result<bool, NamedConceptRemoveError>
         ensures answer { result ≡ Ok (is_held kind.Bits state.old (full_name cfg.now name.now)) }
         ensures after { state.new ≡ without_name kind.Bits state.old (full_name cfg.now name.now) }
+        ensures gone { IsFree (names_of kind.Bits state.new) (full_name cfg.now name.now) }
     {
         Ok(state.remove_name(&cfg.path_for(name)))
     }

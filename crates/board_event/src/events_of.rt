@@ -1,6 +1,6 @@
 //! A table of events, as events of one kind see it.
 ghost use Rattle.std.specs.Prelude.{◌≡◌, ℕ, List, [], Ok, is_some};
-ghost use Rattle.board_names.specs.Table.{at};
+ghost use Rattle.board_names.specs.Table.{IsFree, at};
 ghost use Rattle.board_event_core.specs.EventTable.{empty_table, names_of, without_name};
 
 use board_event_core::{EventKind, Events};
@@ -60,6 +60,7 @@ impl<K: KindOfEvents> EventsOf<K> {
     pub(crate) fn remove_name(&mut self, name: &FilePath) -> bool
         ensures value { result ≡ is_some (at (names_of K.which self.old) name.now) }
         ensures after { self.new ≡ without_name K.which self.old name.now }
+        ensures gone { IsFree (names_of K.which self.new) name.now }
     {
         self.events.remove(K::kind(), name)
     }

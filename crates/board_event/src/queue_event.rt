@@ -1,8 +1,9 @@
 //! Events whose ids wait in a queue of 512. Any id may be handed over.
 ghost use Rattle.std.specs.Prelude.{◌≡◌, false, Ok};
 ghost use Rattle.board_names.specs.Configuration.{full_name};
+ghost use Rattle.board_names.specs.Table.{IsFree};
 ghost use Rattle.board_event_model.specs.declared.kind.EventKind.TheVariants as kind;
-ghost use Rattle.board_event_core.specs.EventTable.{without_name};
+ghost use Rattle.board_event_core.specs.EventTable.{names_of, without_name};
 ghost use Rattle.board_event.specs.Ends.{is_held};
 
 use crate::event::Event;
@@ -51,6 +52,7 @@ impl NamedConceptMgmt for QueueEvent {
     ) -> Result<bool, NamedConceptRemoveError>
         ensures answer { result ≡ Ok (is_held kind.Queue state.old (full_name cfg.now name.now)) }
         ensures after { state.new ≡ without_name kind.Queue state.old (full_name cfg.now name.now) }
+        ensures gone { IsFree (names_of kind.Queue state.new) (full_name cfg.now name.now) }
     {
         Ok(state.remove_name(&cfg.path_for(name)))
     }
