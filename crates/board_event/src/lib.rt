@@ -31,8 +31,6 @@ mod patience;
 mod queue_event;
 mod registry;
 mod taking;
-#[cfg(test)]
-mod tests;
 
 pub use bit_event::BitEvent;
 pub use board_event_core::{
