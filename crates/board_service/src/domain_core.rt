@@ -8,6 +8,7 @@ mod handles;
 mod lent;
 mod open;
 mod ports;
+mod refused;
 mod release;
 mod told;
 

@@ -1,8 +1,9 @@
 //! The bytes of answers, which are added to a buffer of the caller's.
-ghost use Rattle.std.specs.Prelude.{◌≡◌, ◌++◌, ◌∷◌, [], OnOk, codes, decimal, take};
+ghost use Rattle.std.specs.Prelude.{◌≡◌, ◌++◌, ◌∷◌, [], OnErr, OnOk, codes, decimal, take};
 ghost use Rattle.std.specs.List.{flat_map};
 ghost use Rattle.board_model.specs.declared.answer.Answer.TheVariants as answer;
 ghost use Rattle.board_model.specs.AnswerGrammar.{access_text, answer_line, answer_text, number_text, place_text, reply_text, told_text};
+ghost use Rattle.script_print.specs.Refusals.{IsRefusal, LacksRoom};
 
 use crate::names::refusal_line;
 use crate::replies::push_reply;
@@ -102,9 +103,11 @@ pub fn push_gone(out: &mut Vec<u8>) -> Result<(), AllocError>
 /// Adds the line of a refusal.
 ///
 /// # Errors
-/// `AllocError` where memory is refused; then a front of the line may have been added.
+/// `AllocError` where memory is refused, which it isn't where the buffer has room for the longest refusal, 19 bytes; then a front of the line may have been added.
 pub fn push_refused(reason: Reason, out: &mut Vec<u8>) -> Result<(), AllocError>
-    ensures { OnOk result (out.new.items ≡ out.old.items ++ answer_line (answer.Refused reason)) }
+    ensures ok { OnOk result (out.new.items
+        ≡ out.old.items ++ answer_line (answer.Refused reason)) }
+    ensures room { OnErr result (LacksRoom out.old) }
 {
     out.extend_from_slice(refusal_line(reason))
 }
@@ -142,6 +145,7 @@ pub fn push_words(words: &[u64], out: &mut Vec<u8>) -> Result<(), AllocError>
 /// `AllocError` where memory is refused; then a front of the line may have been added.
 pub fn push_answer(answer: &Answer, out: &mut Vec<u8>) -> Result<(), AllocError>
     ensures ok { OnOk result (out.new.items ≡ out.old.items ++ answer_line answer.now) }
+    ensures room { OnErr result (IsRefusal answer.now → LacksRoom out.old) }
 {
     match answer {
         Answer::Begun => push_begun(out),

@@ -5,20 +5,22 @@ use Rattle.board_model.specs.declared.answer.Answer.TheVariants as answer
 use Rattle.board_model.specs.declared.answer.Reason.TheVariants as reason
 use Rattle.board_model.specs.declared.answer.Reply.TheVariants as reply
 use Rattle.board_model.specs.declared.line.Line.TheVariants as board_line
-use Rattle.board_model.specs.LawfulSession.{free_reason}
+use Rattle.board_model.specs.LawfulSession.{free_reason, reason_of}
 use Rattle.script_boards.proofs.Listings.{on_ok}
 use Rattle.script_model.specs.declared.line.ScriptLine.TheVariants as line
 use Rattle.script_model.specs.ScriptAnswers.{of_boards}
 use Rattle.script_model.specs.ScriptEvents.{holds_event, runs_on_events}
 use Rattle.script_model.specs.ScriptTurns.{board_turn, drops}
 use Rattle.script_machine.proofs.Turns.{from_nothing, none_is, release_busy, release_held, release_unfree, release_unheld, told_alone, told_refused, told_turn}
+use Rattle.script_machine.specs.Wants.{Accepts, BoardMayWant}
+use Rattle.script_machine.proofs.Wants.{accepted, alone_accepted, answered_wants, anyway, refused_wants, turn_accepted}
 use Rattle.script_machine.proofs.machine.Machine.release.Goals.{else-is_none-via-then-is_none+else-holds, else-is_none-via-else-is_none}
 use Rattle.script_machine.proofs.machine.Machine.release.Goals as goal
 
 pub returns-then-runs-clause-tells : goal.returns-then-runs-clause-tells
 returns-then-runs-clause-tells g c = on_ok (λ e s count rep reached.
     let runs : runs_on_events s.events c.args.party.now ≡ true = sym (c.runs.ensures s.events count reached.few reached.sound.events rep.events) ∙ c.if-runs.true in
-    told_refused _ s (line.Board (board_line.Release c.args.party.now c.args.name.now)) reason.Busy _ (release_busy s c.args.party.now c.args.name.now runs) c.requires.line rep (from_nothing _ _ _ c.requires.empty e)) c.push_refused.result c.push_refused.ensures
+    told_refused _ s (line.Board (board_line.Release c.args.party.now c.args.name.now)) reason.Busy _ (release_busy s c.args.party.now c.args.name.now runs) c.requires.line rep (from_nothing _ _ _ c.requires.empty e)) c.push_refused.result c.push_refused.ensures.ok
 
 pub release-requires-clause-held : goal.release-requires-clause-held
 release-requires-clause-held g c = λ x count few sound rep. sym (c.holds.ensures x count few sound rep) ∙ c.if-holds.true
@@ -41,3 +43,23 @@ returns-clause-tells g c = on_ok (λ e s count rep reached.
     let served = c.release-answer.ensures.serves s.boards rep.boards reached.boards c.requires.line in
     told_alone _ s (board_line.Release c.args.party.now c.args.name.now) c.release-answer.result _ alone c.requires.line served.0
     (record { alive = rep.alive; boards = served.1; events = rep.events }) (from_nothing _ _ _ c.requires.empty e)) c.push_answer-2.result c.push_answer-2.ensures.ok
+
+pub returns-then-runs-clause-memory : goal.returns-then-runs-clause-memory
+returns-then-runs-clause-memory g c = refused_wants c.push_refused.result c.args.out.now (Accepts c.args.self.now (line.Board (board_line.Release c.args.party.now c.args.name.now))) c.push_refused.ensures.room
+
+pub returns-then-holds-clause-memory : goal.returns-then-holds-clause-memory
+returns-then-holds-clause-memory g c = anyway c.push_answer.result (BoardMayWant c.args.self.now (board_line.Release c.args.party.now c.args.name.now) c.args.out.now) (λ room s count rep reached.
+    let runs : runs_on_events s.events c.args.party.now ≡ false = sym (c.runs.ensures s.events count reached.few reached.sound.events rep.events) ∙ c.if-runs.false in
+    let free : None ≡ free_reason (s.boards.parties c.args.party.now) None = none_is c.refusal_of_party.result (c.is_none.ensures ∙ ap not c.if-is_none.true) ∙ c.refusal_of_party.ensures.reason s.boards rep.boards in
+    let held : holds_event s.events c.args.party.now c.args.name.now ≡ true = sym (c.holds.ensures s.events count reached.few reached.sound.events rep.events) ∙ c.if-holds.true in
+    turn_accepted s (line.Board (board_line.Release c.args.party.now c.args.name.now)) (drops c.args.party.now c.args.name.now) (release_held s c.args.party.now c.args.name.now runs free held) refl)
+
+pub returns-clause-memory : goal.returns-clause-memory
+returns-clause-memory g c = answered_wants c.push_answer-2.result c.args.out.now c.release-answer.result (Accepts c.args.self.now (line.Board (board_line.Release c.args.party.now c.args.name.now))) c.push_answer-2.ensures.room (λ no s count rep reached.
+    let runs : runs_on_events s.events c.args.party.now ≡ false = sym (c.runs.ensures s.events count reached.few reached.sound.events rep.events) ∙ c.if-runs.false in
+    let alone : board_turn s (board_line.Release c.args.party.now c.args.name.now) ≡ None = elim c.else-is_none.branch [
+      | else-is_none-via-then-is_none+else-holds w ↦ release_unheld s c.args.party.now c.args.name.now runs (sym (w.holds.ensures s.events count reached.few reached.sound.events rep.events) ∙ w.if-holds.false)
+      | else-is_none-via-else-is_none w ↦ release_unfree s c.args.party.now c.args.name.now runs (sym (ap is_some (c.refusal_of_party.ensures.reason s.boards rep.boards)) ∙ c.is_none.ensures ∙ ap not w.if-is_none.false)
+    ] in
+    let served = c.release-answer.ensures.serves s.boards rep.boards reached.boards c.requires.line in
+    alone_accepted s (board_line.Release c.args.party.now c.args.name.now) alone (accepted (reason_of s.boards (board_line.Release c.args.party.now c.args.name.now)) c.release-answer.result served.0.reason no))

@@ -8,7 +8,7 @@ use Rattle.script_parties.specs.Parties.{IsFew, IsWriter}
 use Rattle.script_parties.proofs.Asked.{carried}
 use Rattle.script_parties.proofs.Places.{stands_in, thing_of_call}
 use Rattle.script_parties.proofs.Ports.{from, writer_made, writer_not_made, shown}
-use Rattle.script_parties.proofs.party_domain.PartyDomain.writer.Goals as goal
+use Rattle.script_parties.proofs.party_domain.PartyDomain.add_writer.Goals as goal
 
 pub writer-requires : goal.writer-requires
 writer-requires g c =

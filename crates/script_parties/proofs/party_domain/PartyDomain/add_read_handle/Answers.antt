@@ -16,7 +16,7 @@ use Rattle.script_parties.proofs.Handles.{entry_made, entry_not_made, held_as}
 use Rattle.script_parties.proofs.Places.{stands_in, thing_of_call}
 use Rattle.script_parties.proofs.Ports.{from, shown}
 use Rattle.board_service.specs.Domain.{after_entry, entry_answer, entry_for, held}
-use Rattle.script_parties.proofs.party_domain.PartyDomain.entry.Goals as goal
+use Rattle.script_parties.proofs.party_domain.PartyDomain.add_read_handle.Goals as goal
 
 pub entry_in-requires-clause-held : goal.entry_in-requires-clause-held
 entry_in-requires-clause-held g c =

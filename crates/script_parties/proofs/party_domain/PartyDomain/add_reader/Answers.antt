@@ -8,7 +8,7 @@ use Rattle.script_parties.specs.Parties.{IsFew, IsReader}
 use Rattle.script_parties.proofs.Asked.{carried}
 use Rattle.script_parties.proofs.Places.{stands_in, thing_of_call}
 use Rattle.script_parties.proofs.Ports.{from, reader_made, reader_not_made, shown}
-use Rattle.script_parties.proofs.party_domain.PartyDomain.reader.Goals as goal
+use Rattle.script_parties.proofs.party_domain.PartyDomain.add_reader.Goals as goal
 
 pub reader-requires : goal.reader-requires
 reader-requires g c =

@@ -16,7 +16,7 @@ use Rattle.script_parties.proofs.Handles.{entry_mut_made, entry_mut_not_made, he
 use Rattle.script_parties.proofs.Places.{stands_in, thing_of_call}
 use Rattle.script_parties.proofs.Ports.{from, shown}
 use Rattle.board_service.specs.Domain.{after_entry_mut, entry_mut_answer, entry_for, held}
-use Rattle.script_parties.proofs.party_domain.PartyDomain.entry_mut.Goals as goal
+use Rattle.script_parties.proofs.party_domain.PartyDomain.add_write_handle.Goals as goal
 
 pub entry_mut_in-requires-clause-held : goal.entry_mut_in-requires-clause-held
 entry_mut_in-requires-clause-held g c =
