@@ -1,4 +1,8 @@
 //! Channels by the typed calls, of which their clauses say little, and once by the lent forms.
+ghost use Rattle.std.specs.Prelude.{IsOkUnless};
+ghost use Rattle.board_names.specs.Table.{NamesAscend};
+ghost use Rattle.board_names.specs.declared.errors.communication_channel.CommunicationChannelCreateError.TheVariants.{OutOfMemory};
+
 use crate::{
     Channel, ChannelRegistry, Channels, CommunicationChannel, CommunicationChannelConnector,
     CommunicationChannelCreator, CommunicationChannelParticipant, CommunicationChannelReceiver,
@@ -7,7 +11,7 @@ use crate::{
 };
 use board_names::{
     CommunicationChannelCreateError, CommunicationChannelOpenError, CommunicationChannelSendError,
-    Configuration, FileName, NameTable, NamedConcept, NamedConceptBuilder,
+    Configuration, FileName, FilePath, NameTable, NamedConcept, NamedConceptBuilder,
     NamedConceptConfiguration, NamedConceptMgmt,
 };
 use std::alloc::Global;
@@ -146,26 +150,67 @@ fn channels_are_listed(rt: HostRuntime) -> Result<(), Fail> {
     assert_eq!(rt; removed, Ok(true));
     let again = Channel::remove_cfg(&rt, &registry, &c, &channels());
     assert_eq!(rt; again, Ok(false));
+    let held = Channel::does_exist_cfg(&rt, &registry, &c, &channels());
+    assert_eq!(rt; held, Ok(false));
     Ok(())
 }
 
-fn size_made<R: Wait, C: CommunicationChannelCreator>(
+// Code over the trait alone: a number goes from a sender to the receiver of the same name.
+fn goes_over<R: Wait, C: CommunicationChannel>(
     rt: &R,
     alloc: Global,
-    creator: C,
-) -> Result<usize, CommunicationChannelCreateError>
+    registry: &C::Registry,
+) -> Result<Option<u64>, Fail>
 where
     C::Receiver: Drop,
+    C::Sender: Drop,
 {
-    let receiver = creator.buffer_size(3).create_receiver(rt, alloc)?;
-    Ok(receiver.buffer_size())
+    let name = FileName::new(b"c")?;
+    let receiver = C::Creator::new(&name, registry)?.create_receiver(rt, alloc)?;
+    let sender = C::Connector::new(&name, registry)?.open_sender(rt)?;
+    sender.send(rt, &7)?;
+    Ok(receiver.receive(rt)?)
 }
 
 #[test]
-fn any_channel_is_made_by_the_traits(rt: HostRuntime) -> Result<(), Fail> {
+fn any_channel_is_used_by_the_traits(rt: HostRuntime) -> Result<(), Fail> {
     let registry = ChannelRegistry::new(rt.alloc())?;
-    let creator = creator(b"c", &registry)?;
-    assert_eq!(rt; size_made(&rt, rt.alloc(), creator)?, 3);
+    let other = creator(b"d", &registry)?.create_receiver(&rt, rt.alloc())?;
+    assert_eq!(rt;
+        goes_over::<_, Channel>(&rt, rt.alloc(), &registry)?,
+        Some(7)
+    );
+    // What is sent to one channel is received from no other.
+    connector(b"c", &registry)?.open_sender(&rt)?.send(&rt, &8)?;
+    assert_eq!(rt; other.receive(&rt), Ok(None));
+    Ok(())
+}
+
+// A caller's proof over channels that were lent, whoever made them: a removed name can be taken, want of memory aside.
+fn takes_a_removed_name(
+    state: &mut Channels,
+    name: &FilePath,
+) -> Result<SharedQueue, CommunicationChannelCreateError>
+    ensures { IsOkUnless result OutOfMemory }
+{
+    state.remove(name);
+    state.create(name, 1, false)
+}
+
+// And their names ascend, so they differ.
+fn count_of_names(state: &Channels) -> usize
+    ensures { NamesAscend state.now }
+{
+    state.name_count()
+}
+
+#[test]
+fn a_removed_name_is_taken_again(rt: HostRuntime) -> Result<(), Fail> {
+    let mut state = Channels::new(rt.alloc());
+    let name = channels().path_for(&FileName::new(b"c")?);
+    let _first = state.create(&name, 2, false)?;
+    let second = takes_a_removed_name(&mut state, &name)?;
+    assert_eq!(rt; (second.capacity(), count_of_names(&state)), (1, 1));
     Ok(())
 }
 
