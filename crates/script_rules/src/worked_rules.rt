@@ -1,0 +1,7 @@
+//! Rules that are broken, worked out by hand.
+ghost use Rattle.script_rules.specs.WorkedRules.{WorkedRules};
+
+/// Each rule of an answer that differs from the right one.
+pub fn rules_may_be_broken()
+    ensures { WorkedRules }
+{}
