@@ -279,7 +279,7 @@ table_small s party (create f name k limits attributes entries) h e =
 table_small s party (open_ f name k limits needs) h e =
     asked_small (first_of (open_refusals bytes_eq s.standing.tables.things party (board_named s.standing.tables name) (key_detail k) limits needs)) _ (joined s.standing.tables party f (board_named s.standing.tables name)) s.standing.tables h h
 table_small s party (reader name x) h e = asked_small (first_of (reader_refusals s.standing.tables.things (board_at s.standing.tables x.board))) (s.standing.tables.last_port + 1) (with_reader s.standing.tables x name) s.standing.tables h h
-table_small s party (writer name x) h e = asked_small (first_of (writer_refusals s.standing.tables.things x.board)) (s.standing.tables.last_port + 1) (with_writer s.standing.tables x name) s.standing.tables h h
+table_small s party (writer name x) h e = asked_small (first_of (writer_refusals s.standing.tables.things (board_at s.standing.tables x.board))) (s.standing.tables.last_port + 1) (with_writer s.standing.tables x name) s.standing.tables h h
 table_small s party (entry name x k type) h e =
     asked_small (first_of (entry_refusals (entry_found (board_at s.standing.tables x.board) (keeps_key k) (value_detail type)))) _ (with_read_handle s.standing.tables x name (entry_found (board_at s.standing.tables x.board) (keeps_key k) (value_detail type))) s.standing.tables h h
 table_small s party (entry_mut name x k type) h e =

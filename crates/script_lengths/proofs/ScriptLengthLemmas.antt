@@ -104,7 +104,7 @@ step_sized s n m party a sound few h None (Some d) e ok = at (event_of s.events.
     at None f k = absurd k
     at (Some z) f k =
         let facts = acting s n party d z sound.events few (sound.numbers few) e f in
-        let said = turn_keeps z (call_of d.call) k.answer d.call.told k.right facts.small facts.queue (h.calls party d e).kept in
+        let said = turn_keeps z (call_of d.call) k.answer d.call.told k.right facts.small facts.queue (h.kept party d e) in
         subst (IsSizedScriptAnswer m) (sym k.printed) (told_sized d.call (turn (call_of d.call) k.answer).0 said.short)
 
 turn_sized : (s : ScriptState) (n m : ℕ) (l : ScriptLine) (a : ScriptAnswer) (o : Option EventTurn) → IsSoundScript s n → n < 2 ^ 63 → AreKeptCalls HasRoom s.events.session → ((b : Line) (c : Answer) → boards.IsRight s.boards b c → IsSizedAnswer m c) → IsRuled s l a o → IsSizedScriptAnswer m a

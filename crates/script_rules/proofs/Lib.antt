@@ -6,3 +6,4 @@ pub mod EventAnswerLemmas
 pub mod NamedLemmas
 pub mod PairLemmas
 pub mod VerdictLemmas
+pub mod WorkedPairLemmas

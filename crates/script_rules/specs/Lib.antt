@@ -8,3 +8,4 @@ pub mod NamedRules
 pub mod SessionPairs
 pub mod LawsOfPairs
 pub mod WorkedRules
+pub mod WorkedPairs
