@@ -1,13 +1,12 @@
 -- An answer that keeps a rule and those before it agrees with the right one in the groups of these rules.
-use Rattle.std.proofs.Common.{◌≡◌, ℕ, ◌≤◌, Bool, true, false, List, [], ◌∷◌, ◌++◌, arith, refl, sym, ap, subst, ◌∙◌, Option, Some, None, IsSomeAnd}
-use Rattle.std.specs.Prelude.{codes, decimal, if◌then◌else◌, not, is_some, slice_get, ◌&&◌, ◌==◌}
+use Rattle.std.proofs.Common.{◌≡◌, ℕ, Bool, true, false, List, [], ◌∷◌, ◌++◌, arith, refl, sym, ap, subst, ◌∙◌, Option, Some, None, IsSomeAnd}
+use Rattle.std.specs.Prelude.{codes, decimal, if◌then◌else◌, not, slice_get, ◌==◌}
 use Rattle.std.specs.List.{flat_map}
 use Rattle.std.proofs.lemmas.List.Splits.{slice_split_at}
 use Rattle.board_cell_model.specs.declared.access.Access.{Access}
 use Rattle.board_cell_model.specs.declared.access.Access.TheVariants as access
 use Rattle.board_cell_model.specs.OwedAccesses.{owed_of}
 use Rattle.board_event_model.specs.declared.access.EventAccess.{EventAccess}
-use Rattle.board_event_model.specs.declared.access.EventAccess.TheVariants as event_access
 use Rattle.board_event_model.specs.declared.access.EventAnswer.{EventAnswer}
 use Rattle.board_event_model.specs.declared.kind.EventKind.{EventKind}
 use Rattle.board_event_model.specs.EventCalls.{call_of, owed}
@@ -20,7 +19,6 @@ use Rattle.board_model.specs.declared.answer.Reason.{Reason}
 use Rattle.board_model.specs.declared.answer.Reason.TheVariants as reason
 use Rattle.board_model.specs.declared.answer.Reply.{Reply}
 use Rattle.board_model.specs.declared.answer.Reply.TheVariants as reply
-use Rattle.board_model.specs.declared.line.Line.{Line}
 use Rattle.board_model.specs.declared.line.Line.TheVariants as board_line
 use Rattle.board_model.specs.AnswerGrammar.{number_text}
 use Rattle.board_model.specs.LawfulSession as boards
@@ -30,21 +28,21 @@ use Rattle.script_model.specs.declared.line.EventRequest.{EventRequest}
 use Rattle.script_model.specs.declared.line.ScriptLine.{ScriptLine}
 use Rattle.script_model.specs.declared.line.ScriptLine.TheVariants as line
 use Rattle.script_model.specs.declared.reply.EventReply.{EventReply}
-use Rattle.script_model.specs.ScriptAnswers.{IsScriptAnswer, ScriptAnswer, event_text, expired, of_ask, of_boards, of_event, script_answer_text}
+use Rattle.script_model.specs.ScriptAnswers.{IsScriptAnswer, ScriptAnswer, expired, of_ask, of_boards, of_event, script_answer_text}
 use Rattle.script_model.specs.ScriptEvents.{EventAsk, EventTask, ScriptEvents, name_made, runs_on_events, task_of}
 use Rattle.script_model.specs.ScriptRules.{IsEvent, IsOfEvent, IsOwed, IsOwedAccess, IsOwedStep, IsReasoned, IsWord, OfBoards, reason_in_turn, script_reason, turn_reason}
-use Rattle.script_model.specs.ScriptTurns.{EventTurn, ScriptState, begin_turn, begins, board_turn, drop_turn, drops, expire_of_call, expire_turn, expires, free_turn, is_name_taken, may_expire, refused, request_turn, steps, task_turn, turn_of}
+use Rattle.script_model.specs.ScriptTurns.{EventTurn, ScriptState, begin_turn, begins, drop_turn, drops, expire_of_call, expire_turn, expires, free_turn, is_name_taken, may_expire, refused, request_turn, steps, task_turn, turn_of}
 use Rattle.script_model.specs.ScriptSession.{IsRight}
 use Rattle.script_model.proofs.AnswerLaws.{one_answer}
 use Rattle.script_rules.proofs.EventAnswerLemmas.{same_event_answer}
 use Rattle.script_grammar.proofs.SplitLemmas.{free_lacks}
 use Rattle.script_rules.specs.declared.rule.Rule.{Rule}
 use Rattle.script_rules.specs.declared.rule.Rule.TheVariants as rule
-use Rattle.script_rules.specs.PrintedAnswers.{IsPrinted, IsStepAccess, Printed, StepAccess, StepReply, a_step, board_access, event_access, event_reply, printed_of, printed_text, told_by_boards, told_by_events}
+use Rattle.script_rules.specs.PrintedAnswers.{IsPrinted, IsStepAccess, StepAccess, StepReply, a_step, board_access, event_access, event_reply, printed_of, printed_text, told_by_boards, told_by_events}
 use Rattle.script_rules.specs.AnswerGroups.{Groups, groups_of, refusal_of, same_tokens, tokens_of}
 use Rattle.script_rules.specs.BrokenRules.{broken_rule, first_group}
-use Rattle.script_rules.specs.StepGroups.{event_found, owed_access, owed_event, reply_tokens, step_groups, word_read}
-use Rattle.script_rules.specs.NamedRules.{BrokenRulesAreNamed, KeepsRule, KeepsUpTo, RightAnswersKeepAll}
+use Rattle.script_rules.specs.StepGroups.{event_found, owed_access, step_groups, word_read}
+use Rattle.script_rules.specs.NamedRules.{BrokenRulesAreNamed, KeepsRule, RightAnswersKeepAll}
 use Rattle.script_rules.proofs.GroupLemmas.{not_answer, not_line, same_self, self_none}
 use Rattle.script_rules.proofs.PrintedLemmas.{answers_printed}
 use Rattle.script_rules.proofs.StepGroupLemmas.{step_grouped}

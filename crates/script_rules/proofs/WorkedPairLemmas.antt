@@ -1,5 +1,5 @@
 -- Lines with their answers, judged.
-use Rattle.std.proofs.Common.{rules, ◌≡◌, ℕ, ◌+◌, ◌*◌, ◌<◌, ◌≤◌, List, [], ◌∷◌, ◌++◌, length, arith, refl, sym, ap, ◌∙◌, Option, Some, None}
+use Rattle.std.proofs.Common.{rules, ◌≡◌, ℕ, ◌+◌, ◌<◌, ◌≤◌, List, [], ◌∷◌, ◌++◌, length, arith, refl, sym, ap, ◌∙◌, Some, None}
 use Rattle.std.specs.Prelude.{codes, decimal}
 use Rattle.std.proofs.lemmas.Fmt.{decimal_digit}
 use Rattle.board_cell_model.specs.declared.access.Access.TheVariants as access
@@ -12,16 +12,15 @@ use Rattle.script_model.specs.declared.line.ScriptLine.{ScriptLine}
 use Rattle.script_model.specs.declared.line.ScriptLine.TheVariants as line
 use Rattle.script_model.specs.LawsOfComposition.{of_pair}
 use Rattle.script_model.specs.ScriptGrammar.{IsScriptLine, SpellsLine, script_spell}
-use Rattle.script_model.specs.ScriptAnswers.{ScriptAnswer, of_boards, script_answer_text}
+use Rattle.script_model.specs.ScriptAnswers.{of_boards, script_answer_text}
 use Rattle.script_model.specs.ScriptSession.{IsLawful, IsRight, Session, start, state_after}
 use Rattle.script_grammar.specs.EventReading.{board_line_first, read_event_line, read_script_line}
 use Rattle.script_grammar.specs.LineReading.{read_line, read_one_name, read_plain_line}
 use Rattle.script_grammar.proofs.ScriptLineLemmas.{is_only}
-use Rattle.script_rules.specs.declared.rule.Rule.{Rule}
 use Rattle.script_rules.specs.declared.rule.Rule.TheVariants as rule
 use Rattle.script_rules.specs.PrintedAnswers.{IsPrinted, Printed, SpellsAnswer, a_list, a_refusal, a_step, an_end, a_begin, board_access, board_reply, printed_text}
-use Rattle.script_rules.specs.BrokenRules.{Breaks, Differs, IsLineText, broken_rule}
-use Rattle.script_rules.specs.SessionPairs.{AreLawful, BreaksAt, SpellsPairs}
+use Rattle.script_rules.specs.BrokenRules.{IsLineText, broken_rule}
+use Rattle.script_rules.specs.SessionPairs.{BreaksAt, SpellsPairs}
 use Rattle.script_rules.specs.WorkedPairs.{WorkedPairs, a_board, a_board_begins, an_update_begins, board_begun, board_made, new_board, new_handle, new_update, update_begun}
 
 spells : (text : List ℕ) (l : ScriptLine) → IsScriptLine l → text ≡ script_spell l → length text ≤ 4096 → SpellsLine text l
