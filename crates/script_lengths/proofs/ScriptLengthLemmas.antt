@@ -25,7 +25,7 @@ use Rattle.script_model.proofs.NumberedLemmas.{acting}
 use Rattle.script_model.proofs.RuleLemmas.{ruled}
 use Rattle.script_model.proofs.PartLemmas.{boards_law_holds}
 use Rattle.script_rules.specs.PrintedAnswers.{printed_of}
-use Rattle.script_rules.proofs.PrintedLemmas.{answers_printed}
+use Rattle.script_rules.proofs.RightPrintedLemmas.{right_printed}
 use Rattle.script_lengths.specs.BoardSizes as sizes
 use Rattle.script_lengths.specs.EventRooms.{HasRoom, ids_bytes}
 use Rattle.script_lengths.specs.SizedAnswers.{IsSizedAnswer}
@@ -131,5 +131,5 @@ right_short pairs l a ok few z right = script_answers_short (length pairs) a rig
 
 pub right_spelled : RightAnswersAreSpelled
 right_spelled pairs l a ok few z right =
-    let k = answers_printed a right.answer in
+    let k = right_printed pairs l a ok right in
     record { printed = printed_of a; formed = k.formed; bytes = k.text; short = omega (arith, right_short pairs l a ok few z right) }

@@ -1,5 +1,7 @@
 -- Answers as they are printed; the groups of their tokens; one verdict on a pair, and on a session.
 pub mod PrintedLemmas
+pub mod TypedGetLemmas
+pub mod RightPrintedLemmas
 pub mod GroupLemmas
 pub mod StepGroupLemmas
 pub mod EventAnswerLemmas

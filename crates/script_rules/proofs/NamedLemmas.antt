@@ -38,13 +38,13 @@ use Rattle.script_rules.proofs.EventAnswerLemmas.{same_event_answer}
 use Rattle.script_grammar.proofs.SplitLemmas.{free_lacks}
 use Rattle.script_rules.specs.declared.rule.Rule.{Rule}
 use Rattle.script_rules.specs.declared.rule.Rule.TheVariants as rule
-use Rattle.script_rules.specs.PrintedAnswers.{IsPrinted, IsStepAccess, StepAccess, StepReply, a_step, board_access, event_access, event_reply, printed_of, printed_text, told_by_boards, told_by_events}
+use Rattle.script_rules.specs.PrintedAnswers.{IsPrinted, IsStepAccess, StepAccess, StepReply, a_step, board_access, event_access, events_reply, printed_of, printed_text, told_by_boards, told_by_events}
 use Rattle.script_rules.specs.AnswerGroups.{Groups, groups_of, refusal_of, same_tokens, tokens_of}
 use Rattle.script_rules.specs.BrokenRules.{broken_rule, first_group}
 use Rattle.script_rules.specs.StepGroups.{event_found, owed_access, step_groups, word_read}
 use Rattle.script_rules.specs.NamedRules.{BrokenRulesAreNamed, KeepsRule, RightAnswersKeepAll}
 use Rattle.script_rules.proofs.GroupLemmas.{not_answer, not_line, same_self, self_none}
-use Rattle.script_rules.proofs.PrintedLemmas.{answers_printed}
+use Rattle.script_rules.proofs.PrintedLemmas.{HasStepAccess, access_printed, text_printed}
 use Rattle.script_rules.proofs.StepGroupLemmas.{step_grouped}
 
 -- ---- groups that agree
@@ -100,9 +100,7 @@ words_begin [] = record { rest = []; is = refl }
 words_begin (w ∷ ws) = record { rest = tokens_of (decimal w ++ flat_map number_text ws); is = slice_split_at (λ b. b == 32) (codes "words") 32 (decimal w ++ flat_map number_text ws) (free_lacks 32 (codes "words") refl) refl }
 
 step_kept : (a : ScriptAnswer) (x : StepAccess) (told : Option StepReply) → IsScriptAnswer a → printed_of a ≡ a_step x told → (script_answer_text a ≡ printed_text (a_step x told)) × IsStepAccess x
-step_kept a x told h e =
-    let k = answers_printed a h in
-    (k.text ∙ ap printed_text e, (subst IsPrinted e k.formed).0)
+step_kept a x told h e = (text_printed a ∙ ap printed_text e, subst HasStepAccess e (access_printed a h))
 
 step_groups_of : (party : List ℕ) (a : ScriptAnswer) (x : StepAccess) (told : Option StepReply) → IsScriptAnswer a → printed_of a ≡ a_step x told → groups_of (line.Board (board_line.Step party)) (tokens_of (script_answer_text a)) ≡ step_groups x told
 step_groups_of party a x told h e =
@@ -121,7 +119,7 @@ refuses_none (of_boards (answer.Refused why)) h k = absurd k
 refuses_none (of_boards (answer.Step a told)) h k = step_refuses (of_boards (answer.Step a told)) (board_access a) (told_by_boards told) h refl
 refuses_none (of_boards answer.Gone) h k = refl
 refuses_none (of_boards (answer.Words ws)) h k = ap refusal_of (words_begin ws).is
-refuses_none (of_ask r) h k = step_refuses (of_ask r) (board_access access.Table) (Some (event_reply r)) h refl
+refuses_none (of_ask r) h k = step_refuses (of_ask r) (board_access access.Table) (Some (events_reply r)) h refl
 refuses_none (of_event kind name a b told) h k = step_refuses (of_event kind name a b told) (event_access kind name a b) (told_by_events told) h refl
 refuses_none expired h k = refl
 
@@ -347,10 +345,10 @@ events_agree : (x : ScriptEvents) (party : List ℕ) (q : Option EventAsk) (d : 
     → AgreeIn r (groups_in (line.Board (board_line.Step party)) right) (groups_in (line.Board (board_line.Step party)) a)
 unfolding groups_in
 events_agree x party (Some q) d right a r f g h k v w n =
-    agree_by r _ _ (step_groups (board_access access.Table) (Some (event_reply h.0))) (step_groups (board_access access.Table) (Some (event_reply k.0)))
-    (step_groups_of party right (board_access access.Table) (Some (event_reply h.0)) f (ap printed_of h.1))
-    (step_groups_of party a (board_access access.Table) (Some (event_reply k.0)) g (ap printed_of k.1))
-    (ask_agree (Some (event_reply h.0)) (Some (event_reply k.0)) r n)
+    agree_by r _ _ (step_groups (board_access access.Table) (Some (events_reply h.0))) (step_groups (board_access access.Table) (Some (events_reply k.0)))
+    (step_groups_of party right (board_access access.Table) (Some (events_reply h.0)) f (ap printed_of h.1))
+    (step_groups_of party a (board_access access.Table) (Some (events_reply k.0)) g (ap printed_of k.1))
+    (ask_agree (Some (events_reply h.0)) (Some (events_reply k.0)) r n)
 events_agree x party None None right a r f g h k v w n = absurd h
 events_agree x party None (Some d) right a r f g h k v w n = at (event_of x.session.stands d.on) refl h k
   where

@@ -109,7 +109,7 @@ write_text n h =
 -- ---- their pairs
 
 told_number : (k n : ℕ) → n < 10 → SpellsAnswer k (codes "table = ok " ++ (48 + n) ∷ [])
-told_number k n h = prints k _ (a_step (board_access access.Table) (Some (board_reply (reply.Number n)))) (tt, omega (arith, h)) (sym (told_text n h)) (omega arith)
+told_number k n h = prints k _ (a_step (board_access access.Table) (Some (board_reply (reply.Number n)))) (tt, (omega (arith, h), tt)) (sym (told_text n h)) (omega arith)
 
 begun_pairs : SpellsPairs 1 a_board_begins board_begun
 begun_pairs = (spells _ _ (search rules) (sym board_text) (omega arith), refl, prints 1 _ a_begin tt refl (omega arith), tt)

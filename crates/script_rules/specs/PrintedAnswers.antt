@@ -1,5 +1,5 @@
 -- The texts that are answers at all: an access of a step may stand with any reply, whichever call it belongs to.
-use Rattle.std.specs.Prelude.{◌≡◌, ℕ, ◌+◌, ◌*◌, ◌≤◌, List, [], ◌++◌, length, codes, IfSome, Option, Some, None}
+use Rattle.std.specs.Prelude.{◌≡◌, ℕ, ◌+◌, ◌*◌, ◌≤◌, Bool, true, false, List, [], ◌++◌, length, codes, IfSome, Option, Some, None}
 use Rattle.std.specs.List.{AllByRecursion}
 use Rattle.board_cell_model.specs.declared.access.Access.{Access}
 use Rattle.board_cell_model.specs.declared.access.Access.TheVariants as access
@@ -10,10 +10,17 @@ use Rattle.board_event_model.specs.EventMemory.{kind_of_access}
 use Rattle.board_model.specs.declared.answer.Answer.TheVariants as answer
 use Rattle.board_model.specs.declared.answer.Reason.{Reason}
 use Rattle.board_model.specs.declared.answer.Reply.{Reply}
+use Rattle.board_model.specs.declared.answer.Reply.TheVariants as reply
 use Rattle.board_model.specs.AnswerGrammar.{IsAccess, IsReply, access_text, answer_text, reply_text}
 use Rattle.board_model.specs.LineGrammar.{IsNumber}
+use Rattle.board_model.specs.TypeTable.{word_count}
+use Rattle.board_names.specs.declared.errors.event.NotifierNotifyError.{NotifierNotifyError}
+use Rattle.board_names.specs.declared.errors.event.NotifierNotifyError.TheVariants as notify_error
+use Rattle.script_model.specs.declared.line.ScriptLine.{ScriptLine}
 use Rattle.script_model.specs.declared.reply.EventReply.{EventReply}
-use Rattle.script_model.specs.ScriptAnswers.{IsFormedAccess, IsFormedReply, IsScriptAnswer, ScriptAnswer, event_access_text, event_reply_text, expired, of_ask, of_boards, of_event, script_answer_text}
+use Rattle.script_model.specs.declared.reply.EventReply.TheVariants as event_reply
+use Rattle.script_model.specs.ScriptAnswers.{IsFormedAccess, IsFormedReply, ScriptAnswer, event_access_text, event_reply_text, expired, of_ask, of_boards, of_event, script_answer_text}
+use Rattle.script_model.specs.ScriptSession.{IsLawful, IsRight, Session, start, state_after}
 
 -- the access of a step, to the tables and words of boards or to an event
 pub data StepAccess : Type 0 where
@@ -23,7 +30,7 @@ pub data StepAccess : Type 0 where
 -- the reply of a step, of a call on boards or on events
 pub data StepReply : Type 0 where
   board_reply : Reply → StepReply
-  event_reply : EventReply → StepReply
+  events_reply : EventReply → StepReply
 
 -- an answer as it is printed: to a line that begins, is refused, steps or drops, abandons, lists words, or expires
 pub data Printed : Type 0 where
@@ -44,7 +51,7 @@ step_access_text (event_access k name a b) = event_access_text k name a b
 -- the reply of a step
 abbrev pub step_reply_text : StepReply → List ℕ
 step_reply_text (board_reply r) = reply_text r
-step_reply_text (event_reply r) = event_reply_text r
+step_reply_text (events_reply r) = event_reply_text r
 
 -- what a step prints of the reply, where there is one
 abbrev pub step_told_text : Option StepReply → List ℕ
@@ -67,10 +74,27 @@ abbrev pub IsStepAccess : StepAccess → Type 0
 IsStepAccess (board_access a) = IsAccess a
 IsStepAccess (event_access k name a b) = (k ≡ kind_of_access a) × IsFormedAccess name a b None
 
+-- a value that was read has as many words as its type
+abbrev pub IsWholeReply : Reply → Type 0
+IsWholeReply (reply.Got t words g) = length words ≡ word_count t
+IsWholeReply r = Unit {0}
+
+-- the errors that a notify of a script gives
+abbrev pub is_notify_reply : NotifierNotifyError → Bool
+is_notify_reply notify_error.FailedToDeliverSignal = true
+is_notify_reply notify_error.TriggerIdOutOfBounds = true
+is_notify_reply notify_error.Disconnected = true
+is_notify_reply e = false
+
+-- if a notify was refused, it was with one of them
+abbrev pub IsGivenReply : EventReply → Type 0
+IsGivenReply (event_reply.NotNotified e) = is_notify_reply e ≡ true
+IsGivenReply r = Unit {0}
+
 -- a reply that some call may be told
 abbrev pub IsStepReply : StepReply → Type 0
-IsStepReply (board_reply r) = IsReply r
-IsStepReply (event_reply r) = IsFormedReply r
+IsStepReply (board_reply r) = IsReply r × IsWholeReply r
+IsStepReply (events_reply r) = IsFormedReply r × IsGivenReply r
 
 -- an answer of the grammar
 abbrev pub IsPrinted : Printed → Type 0
@@ -95,7 +119,7 @@ told_by_boards (Some r) = Some (board_reply r)
 -- what a step on events is told
 abbrev pub told_by_events : Option EventReply → Option StepReply
 told_by_events None = None
-told_by_events (Some r) = Some (event_reply r)
+told_by_events (Some r) = Some (events_reply r)
 
 -- an answer of a script, as it is printed
 abbrev pub printed_of : ScriptAnswer → Printed
@@ -104,7 +128,7 @@ printed_of (of_boards (answer.Refused why)) = a_refusal why
 printed_of (of_boards (answer.Step a told)) = a_step (board_access a) (told_by_boards told)
 printed_of (of_boards answer.Gone) = an_end
 printed_of (of_boards (answer.Words words)) = a_list words
-printed_of (of_ask r) = a_step (board_access access.Table) (Some (event_reply r))
+printed_of (of_ask r) = a_step (board_access access.Table) (Some (events_reply r))
 printed_of (of_event k name a b told) = a_step (event_access k name a b) (told_by_events told)
 printed_of expired = an_expiry
 
@@ -113,6 +137,6 @@ pub record IsPrintedSo (a : ScriptAnswer) : Type 0 where
   pub formed : IsPrinted (printed_of a)
   pub text : script_answer_text a ≡ printed_text (printed_of a)
 
--- so is each answer that some line may be given
-abbrev pub AnswersArePrinted : Type 0
-AnswersArePrinted = (a : ScriptAnswer) → IsScriptAnswer a → IsPrintedSo a
+-- so is each right answer of a session
+abbrev pub RightAnswersArePrinted : Type 0
+RightAnswersArePrinted = (pairs : Session) (l : ScriptLine) (a : ScriptAnswer) → IsLawful pairs → IsRight (state_after start pairs) l a → IsPrintedSo a

@@ -1,12 +1,12 @@
 //! Laws of the rules of one answer. Each function's contract is a theorem over the definitions alone.
 ghost use Rattle.script_rules.specs.BrokenRules.{BreaksNoneWhereRight};
 ghost use Rattle.script_rules.specs.NamedRules.{BrokenRulesAreNamed, RightAnswersKeepAll};
-ghost use Rattle.script_rules.specs.PrintedAnswers.{AnswersArePrinted};
+ghost use Rattle.script_rules.specs.PrintedAnswers.{RightAnswersArePrinted};
 ghost use Rattle.script_rules.specs.StepGroups.{StepsAreGrouped};
 
-/// The text of an answer that some line may be given is one of the grammar of texts.
-pub fn answers_are_printed()
-    ensures { AnswersArePrinted }
+/// The text of a right answer is one of the grammar of texts.
+pub fn right_answers_are_printed()
+    ensures { RightAnswersArePrinted }
 {}
 
 /// An answer breaks no rule exactly where it is the right one.
