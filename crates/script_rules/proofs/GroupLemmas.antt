@@ -76,16 +76,17 @@ record AreSame (x y : Groups) : Type 0 where
   event : same_tokens x.event y.event ≡ true
   reply : same_tokens x.reply y.reply ≡ true
 
+all_true : (a b c d : Bool) → (if not a then Some rule.Owed else if not b then Some rule.Word else if not c then Some rule.Event else if not d then Some rule.Reply else None) ≡ None → (a ≡ true) × (b ≡ true) × (c ≡ true) × (d ≡ true)
+all_true true true true true h = (refl, refl, refl, refl)
+all_true true true true false h = absurd cc
+all_true true true false d h = absurd cc
+all_true true false c d h = absurd cc
+all_true false b c d h = absurd cc
+
 all_same : (x y : Groups) → first_group x y ≡ None → AreSame x y
-all_same x y e = at (same_tokens x.owed y.owed) (same_tokens x.word y.word) (same_tokens x.event y.event) (same_tokens x.reply y.reply) refl refl refl refl e
-  where
-    at : (a b c d : Bool) → same_tokens x.owed y.owed ≡ a → same_tokens x.word y.word ≡ b → same_tokens x.event y.event ≡ c → same_tokens x.reply y.reply ≡ d
-        → (if not a then Some rule.Owed else if not b then Some rule.Word else if not c then Some rule.Event else if not d then Some rule.Reply else None) ≡ None → AreSame x y
-    at true true true true p q r s h = record { owed = p; word = q; event = r; reply = s }
-    at true true true false p q r s h = absurd cc
-    at true true false d p q r s h = absurd cc
-    at true false c d p q r s h = absurd cc
-    at false b c d p q r s h = absurd cc
+all_same x y e =
+    let k = all_true _ _ _ _ e in
+    record { owed = k.0; word = k.1; event = k.2; reply = k.3 }
 
 same_whole : (x y : Groups) → AreSame x y → whole x ≡ whole y
 same_whole x y h =
@@ -101,7 +102,7 @@ no_group false o e = absurd cc
 
 pub none_same : (l : ScriptLine) (right text : List ℕ) → broken_rule l right text ≡ None → right ≡ text
 none_same l right text e =
-    let g = no_group (same_tokens (refusal_of (tokens_of right)) (refusal_of (tokens_of text))) (first_group (groups_of l (tokens_of right)) (groups_of l (tokens_of text))) e in
+    let g = no_group _ _ e in
     let w = same_whole (groups_of l (tokens_of right)) (groups_of l (tokens_of text)) (all_same (groups_of l (tokens_of right)) (groups_of l (tokens_of text)) g) in
     let t : tokens_of right ≡ tokens_of text = sym (groups_whole l (tokens_of right)) ∙ w ∙ groups_whole l (tokens_of text) in
     sym (join_with_byte-slice_split 32 right) ∙ ap (join_with_byte 32) t ∙ join_with_byte-slice_split 32 text

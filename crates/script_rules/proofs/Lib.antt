@@ -6,6 +6,7 @@ pub mod GroupLemmas
 pub mod StepGroupLemmas
 pub mod EventAnswerLemmas
 pub mod NamedLemmas
+pub mod ReasonLemmas
 pub mod PairLemmas
 pub mod VerdictLemmas
 pub mod WorkedPairLemmas

@@ -113,7 +113,7 @@ step_refuses a x told h e =
     ap (λ (t : List ℕ). refusal_of (tokens_of t)) k.0 ∙ (step_grouped [] x told k.1).refusal
 
 -- an answer to an accepted line refuses nothing
-refuses_none : (a : ScriptAnswer) → IsScriptAnswer a → IsReasoned None a → refusal_of (tokens_of (script_answer_text a)) ≡ []
+pub refuses_none : (a : ScriptAnswer) → IsScriptAnswer a → IsReasoned None a → refusal_of (tokens_of (script_answer_text a)) ≡ []
 refuses_none (of_boards answer.Begun) h k = refl
 refuses_none (of_boards (answer.Refused why)) h k = absurd k
 refuses_none (of_boards (answer.Step a told)) h k = step_refuses (of_boards (answer.Step a told)) (board_access a) (told_by_boards told) h refl

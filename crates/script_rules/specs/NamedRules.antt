@@ -42,3 +42,7 @@ pub record RightAnswersKeepAll : Type 0 where
 -- no answer whose text breaks a rule keeps this rule and all before it, whatever else is printed so
 abbrev pub BrokenRulesAreNamed : Type 0
 BrokenRulesAreNamed = (s : ScriptState) (l : ScriptLine) (right a : ScriptAnswer) (r : Rule) → IsRight s l right → broken_rule l (script_answer_text right) (script_answer_text a) ≡ Some r → KeepsUpTo s l a r → ⊥
+
+-- and the rule of reasons is broken wherever the answer doesn't keep it
+abbrev pub ReasonsAreJudged : Type 0
+ReasonsAreJudged = (s : ScriptState) (l : ScriptLine) (right a : ScriptAnswer) → IsRight s l right → IsScriptAnswer a → (KeepsRule s l a rule.Reason → ⊥) → broken_rule l (script_answer_text right) (script_answer_text a) ≡ Some rule.Reason

@@ -1,6 +1,6 @@
 //! Laws of the rules of one answer. Each function's contract is a theorem over the definitions alone.
 ghost use Rattle.script_rules.specs.BrokenRules.{BreaksNoneWhereRight};
-ghost use Rattle.script_rules.specs.NamedRules.{BrokenRulesAreNamed, RightAnswersKeepAll};
+ghost use Rattle.script_rules.specs.NamedRules.{BrokenRulesAreNamed, ReasonsAreJudged, RightAnswersKeepAll};
 ghost use Rattle.script_rules.specs.PrintedAnswers.{RightAnswersArePrinted};
 ghost use Rattle.script_rules.specs.StepGroups.{StepsAreGrouped};
 
@@ -27,4 +27,9 @@ pub fn right_answers_keep_all()
 /// No answer whose text breaks a rule keeps by name this rule and all before it.
 pub fn broken_rules_are_named()
     ensures { BrokenRulesAreNamed }
+{}
+
+/// An answer that isn't refused as its line is breaks the rule of reasons.
+pub fn reasons_are_judged()
+    ensures { ReasonsAreJudged }
 {}
