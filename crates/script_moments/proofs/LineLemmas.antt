@@ -1,14 +1,14 @@
 -- How a snapshot goes on, line by line.
-use Rattle.std.proofs.Common.{◌≡◌, ℕ, Bool, true, false, cond, List, [], ◌∷◌, ◌++◌, length, arith, refl, sym, ap, subst, ◌∙◌, Some, None, append_assoc}
-use Rattle.std.specs.Prelude.{if◌then◌else◌, slice_get}
+use Rattle.std.proofs.Common.{◌≡◌, ℕ, true, List, [], ◌∷◌, ◌++◌, length, arith, refl, sym, ap, subst, ◌∙◌, Some, None, append_assoc}
+use Rattle.std.specs.Prelude.{slice_get}
 use Rattle.std.specs.List.{AllByRecursion, flat_map}
 use Rattle.std.proofs.lemmas.List.{append-nil}
 use Rattle.std.proofs.lemmas.List.Concat.{flat_map-append}
 use Rattle.board_model.proofs.ThingLemmas.{all_push, same_to_itself}
-use Rattle.script_model.specs.ScriptSession.{IsLawful, start}
+use Rattle.script_model.specs.ScriptSession.{IsLawful}
 use Rattle.script_model.specs.LawsOfComposition.{Pair}
 use Rattle.script_model.specs.LawsOfLines.{names}
-use Rattle.script_moments.specs.Moments.{Moment, own, next_moment}
+use Rattle.script_moments.specs.Moments.{Moment, next_moment}
 use Rattle.script_moments.specs.Gets.{Ends, Get, GoesOn, IsBegin, IsOpen, IsPart, IsRound, Round, moments_of, moments_of_get, ended_get}
 use Rattle.script_moments.specs.SnapshotLines.{GetBegins, GetEnds, GetGoesOn, OthersLeaveSnapshots, RoundEnds, SnapshotEnds, SnapshotsBegin, SnapshotsGoOn}
 use Rattle.script_moments.specs.Snapshots.{moments_of_snapshot}

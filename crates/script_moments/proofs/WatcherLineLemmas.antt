@@ -1,5 +1,5 @@
 -- How a watcher goes on, line by line.
-use Rattle.std.proofs.Common.{◌≡◌, ℕ, true, List, [], ◌∷◌, ◌++◌, arith, refl, sym, ap, subst, ◌∙◌, Option, Some, None, append_assoc}
+use Rattle.std.proofs.Common.{◌≡◌, ℕ, true, List, [], ◌∷◌, ◌++◌, arith, refl, sym, ap, subst, ◌∙◌, Some, None, append_assoc}
 use Rattle.std.specs.Prelude.{length, slice_get}
 use Rattle.std.specs.List.{flat_map}
 use Rattle.std.proofs.lemmas.List.{append-nil}
@@ -8,7 +8,7 @@ use Rattle.board_model.proofs.ThingLemmas.{all_push, same_to_itself}
 use Rattle.script_model.specs.ScriptSession.{IsLawful, IsRight, Session}
 use Rattle.script_model.specs.LawsOfComposition.{Pair, state_met}
 use Rattle.script_model.specs.LawsOfLines.{names}
-use Rattle.script_moments.specs.Moments.{Moment, own, next_moment}
+use Rattle.script_moments.specs.Moments.{Moment, next_moment}
 use Rattle.script_moments.specs.Gets.{ended_get, Get, Round, moments_of, moments_of_get}
 use Rattle.script_moments.specs.Watchers.{AreAskedIds, AreFirstIds, IsIdBegin, IsIdTold, moments_of_opening, AskedId, IsOpenTurn, IsTurn, IsWaitBegin, IsWatcher, OpenTurn, Turn, WaitGoesOn, Waited, calls, getting, idle, moments_of_id, moments_of_open_turn, moments_of_turn, moments_of_wait, moments_of_watcher, waiting}
 use Rattle.script_moments.specs.WatcherLines.{GetsGoOn, OpeningsGoOn, OthersLeaveOpenings, OthersLeaveWatchers, WaitsGoOn, WatchersGoOn, WatchersOpen, watcher_at}

@@ -1,5 +1,5 @@
 -- The watcher that was worked out by hand.
-use Rattle.std.proofs.Common.{rules, ◌≡◌, true, refl, inr, Some, None, [], ◌∷◌, ◌++◌}
+use Rattle.std.proofs.Common.{rules, true, refl, inr, Some, None, [], ◌∷◌, ◌++◌}
 use Rattle.std.specs.Prelude.{codes}
 use Rattle.board_event_model.specs.declared.access.EventAccess.TheVariants as event_access
 use Rattle.board_event_model.specs.declared.access.EventAnswer.TheVariants as event_answer

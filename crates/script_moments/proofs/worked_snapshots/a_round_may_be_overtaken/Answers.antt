@@ -1,4 +1,4 @@
-use Rattle.std.proofs.Common.{rules, ◌≡◌, ℕ, refl, List, [], ◌∷◌, ◌++◌}
+use Rattle.std.proofs.Common.{rules, ℕ, refl, List, [], ◌++◌}
 use Rattle.std.specs.Prelude.{codes}
 use Rattle.board_cell_model.specs.declared.access.Access.TheVariants as access
 use Rattle.script_model.specs.ScriptSession.{IsLawful, Session}
