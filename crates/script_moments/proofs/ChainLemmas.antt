@@ -8,6 +8,7 @@ use Rattle.board_event_model.specs.EventMemory.{Event}
 use Rattle.board_event_model.specs.EventSessions.{PartyCall, event_of}
 use Rattle.board_model.specs.declared.answer.Answer.{Answer}
 use Rattle.board_model.specs.declared.answer.Answer.TheVariants as answer
+use Rattle.board_model.specs.declared.answer.Reason.{Reason}
 use Rattle.board_model.specs.declared.answer.Reason.TheVariants as reason
 use Rattle.board_model.specs.declared.line.Call.{Call}
 use Rattle.board_model.specs.declared.line.Line.{Line}
@@ -192,21 +193,22 @@ begin_refused free false w e = absurd cc
 begin_refused (running r) b w e = absurd cc
 begin_refused gone b w e = absurd cc
 
+-- a begin that events have to do with is refused
+pub begin_turn_refused : (s : ScriptState) (party : List ℕ) (c : Call) (w : EventTurn) → turn_of s (line.Board (board_line.Begin party c)) ≡ Some w → (why : Reason) × (w ≡ refused why)
+begin_turn_refused s party c w e =
+    elim (either (runs_on_events s.events party)) [
+      | inl busy ↦ (reason.Busy, (let k = rw busy at e in cc))
+      | inr idle ↦ (reason.Taken, begin_refused (s.boards.parties party) _ w (rw idle at e))
+    ]
+
 pub begin_alone : (s : ScriptState) (party : List ℕ) (c : Call) → IsRight s (line.Board (board_line.Begin party c)) (of_boards answer.Begun) → IsAlone s (board_line.Begin party c, answer.Begun)
 begin_alone s party c ok =
     let rule = ruled s (line.Board (board_line.Begin party c)) (of_boards answer.Begun) ok in
     alone s (board_line.Begin party c, answer.Begun) rule (at (turn_of s (line.Board (board_line.Begin party c))) refl rule)
   where
-    why : (w : EventTurn) → turn_of s (line.Board (board_line.Begin party c)) ≡ Some w → (r : _) × (w ≡ refused r)
-    why w e =
-        elim (either (runs_on_events s.events party)) [
-          | inl busy ↦ (reason.Busy, (let k = rw busy at e in cc))
-          | inr idle ↦ (reason.Taken, begin_refused (s.boards.parties party) _ w (rw idle at e))
-        ]
-
     at : (o : Option EventTurn) → turn_of s (line.Board (board_line.Begin party c)) ≡ o → IsRuled s (line.Board (board_line.Begin party c)) (of_boards answer.Begun) o → turn_of s (line.Board (board_line.Begin party c)) ≡ None
     at None e k = e
-    at (Some w) e k = absurd (no_refusal s.events (turn_of s (line.Board (board_line.Begin party c))) w e k why)
+    at (Some w) e k = absurd (no_refusal s.events (turn_of s (line.Board (board_line.Begin party c))) w e k (λ v. begin_turn_refused s party c v))
 
 no_event_step : (x : ScriptEvents) (q : Option EventAsk) (d : Option PartyCall) (a : Answer) → IsStepOf x q d (of_boards a) → ⊥
 no_event_step x (Some q) d a h = cc

@@ -59,7 +59,7 @@ pub record IsOwn (m : Moment) (x : Line × Answer) : Type 0 where
   pub right : boards.IsRight m.met.boards x.0 x.1
   pub state : (left m).boards ≡ boards.after m.met.boards x.0 x.1
 
-own_is : (m : Moment) (x : Line × Answer) → m.pair ≡ of_pair x → (IsRight m.met (line.Board x.0) (of_boards x.1) → IsAlone m.met x) → IsRight m.met m.pair.0 m.pair.1 → IsOwn m x
+pub own_is : (m : Moment) (x : Line × Answer) → m.pair ≡ of_pair x → (IsRight m.met (line.Board x.0) (of_boards x.1) → IsAlone m.met x) → IsRight m.met m.pair.0 m.pair.1 → IsOwn m x
 own_is m x e alone ok =
     let k = alone (subst (λ (p : Pair). IsRight m.met p.0 p.1) e ok) in
     record {

@@ -11,3 +11,4 @@ pub mod ReportLemmas
 pub mod WatchLemmas
 pub mod WatcherLineLemmas
 pub mod WorkedWatcher
+pub mod TurnLemmas

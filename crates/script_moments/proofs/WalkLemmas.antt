@@ -46,7 +46,7 @@ pub record IsFetch (s : State) (party h : List ℕ) (f : Fetch) : Type 0 where
   pub there : entry_at s.standing.tables thing.board (entry_of thing.kind) ≡ Some entry
   pub is : f ≡ record { board = thing.board; entry = entry_of thing.kind; shape = cell_shape entry.cell; type = entry.value; handle = h; name = None }
 
-free_none : (x : Party) (o : Option Reason) → free_reason x o ≡ None → o ≡ None
+pub free_none : (x : Party) (o : Option Reason) → free_reason x o ≡ None → o ≡ None
 free_none free o e = e
 free_none (running r) o e = absurd cc
 free_none gone o e = absurd cc

@@ -10,4 +10,5 @@ pub mod LawsOfReports
 pub mod Watchers
 pub mod LawsOfWatchers
 pub mod WatcherLines
+pub mod LawsOfTurns
 pub mod WorkedWatchers

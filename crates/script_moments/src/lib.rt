@@ -10,6 +10,7 @@
 #![tactic(auto)]
 
 pub mod snapshot_laws;
+pub mod turn_laws;
 pub mod watcher_laws;
 pub mod worked_snapshots;
 pub mod worked_watchers;
