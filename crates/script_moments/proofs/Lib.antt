@@ -12,3 +12,4 @@ pub mod WatchLemmas
 pub mod WatcherLineLemmas
 pub mod WorkedWatcher
 pub mod TurnLemmas
+pub mod WaitLemmas

@@ -26,7 +26,7 @@ own_append party (x ∷ xs) ys = at (names party x.pair.0) (own_append party xs 
 
 -- ---- one pair more
 
-lawful_push : (xs : Session) (s : ScriptState) (y : Pair) → IsLawfulFrom s xs → IsRight (state_after s xs) y.0 y.1 → IsLawfulFrom s (xs ++ y ∷ [])
+pub lawful_push : (xs : Session) (s : ScriptState) (y : Pair) → IsLawfulFrom s xs → IsRight (state_after s xs) y.0 y.1 → IsLawfulFrom s (xs ++ y ∷ [])
 lawful_push [] s y ok h = (h, tt)
 lawful_push (x ∷ xs) s y ok h = (ok.0, lawful_push xs (after s x.0 x.1) y ok.1 h)
 

@@ -92,7 +92,7 @@ step_answered s count party r a sound runs ok =
     let right : boards.IsRight s.boards (board_line.Step party) (answer.Step x.0 x.1) = subst (boards.IsRight s.boards (board_line.Step party)) x.2 k.right in
     record { access = x.0; told = x.1; is = k.is ∙ ap of_boards x.2; step = step_of s.boards party r x.0 x.1 runs right }
 
-pair_is : (p : Pair) (l : ScriptLine) (a : ScriptAnswer) → p.0 ≡ l → p.1 ≡ a → p ≡ (l, a)
+pub pair_is : (p : Pair) (l : ScriptLine) (a : ScriptAnswer) → p.0 ≡ l → p.1 ≡ a → p ≡ (l, a)
 pair_is p l a e f = ap (λ (k : ScriptLine). (k, p.1)) e ∙ ap (λ (b : ScriptAnswer). (l, b)) f
 
 -- ---- a get that runs
@@ -136,7 +136,7 @@ next_is before since party early tail pair ok e right on =
     let c = chain_split party early (tail ++ next_moment before since pair ∷ []) (state_met before) (subst (Chain party (state_met before)) all (own_chain party (since ++ pair ∷ []) (state_met before) l.1)) in
     record { chain = c.1; sound = (chain_grows party early (state_met before) c.0 (rounds.sound_at before l.0)).sound }
 
-step_named : (party : List ℕ) (pair : Pair) → pair.0 ≡ line.Board (board_line.Step party) → names party pair.0 ≡ true
+pub step_named : (party : List ℕ) (pair : Pair) → pair.0 ≡ line.Board (board_line.Step party) → names party pair.0 ≡ true
 step_named party pair e = ap (names party) e ∙ same_to_itself party
 
 get_steps_on : (before since : Session) (party h : List ℕ) (early : List Moment) (m : Moment) (steps : List Moment) (pair : Pair) → IsLawful (before ++ since) → own party (moments (state_met before) since) ≡ early ++ m ∷ steps → IsOpen party h (m, steps) → IsRight (state_met (before ++ since)) pair.0 pair.1

@@ -1,5 +1,5 @@
 //! Laws of turns. Each function's contract is a theorem over the definitions alone.
-ghost use Rattle.script_moments.specs.LawsOfTurns.{CallsAreBegunOrRefused, IdsAreTold, SnapshotsStepOn, WatchersStepOn};
+ghost use Rattle.script_moments.specs.LawsOfTurns.{CallsAreBegunOrRefused, IdsAreTold, SnapshotsStepOn, WaitsStepOn, WatchersStepOn};
 
 /// A call on boards is begun or refused.
 pub fn calls_are_begun_or_refused()
@@ -19,4 +19,9 @@ pub fn watchers_step_on()
 /// An id that was asked for is told with the party's next step.
 pub fn ids_are_told()
     ensures { IdsAreTold }
+{}
+
+/// The wait of a watcher goes on with the party's next step, or ends and is told the ids that it took.
+pub fn waits_step_on()
+    ensures { WaitsStepOn }
 {}
