@@ -1,5 +1,5 @@
 -- How the next line of a party that is driven is answered.
-use Rattle.std.proofs.Common.{◌≡◌, ℕ, ◌+◌, Bool, true, false, List, [], ◌∷◌, ◌++◌, length, arith, refl, sym, ap, subst, ◌∙◌, Option, Some, None, inl, inr, append_assoc}
+use Rattle.std.proofs.Common.{◌≡◌, ℕ, ◌+◌, true, List, [], ◌∷◌, ◌++◌, length, arith, refl, sym, ap, subst, ◌∙◌, Option, Some, None, inl, inr, append_assoc}
 use Rattle.std.specs.Prelude.{◌⊎◌, IfSome, is_some}
 use Rattle.std.specs.List.{AllByRecursion, flat_map}
 use Rattle.std.proofs.lemmas.Bool.{false≢true}
@@ -11,14 +11,13 @@ use Rattle.board_model.specs.declared.answer.Reason.{Reason}
 use Rattle.board_model.specs.declared.answer.Reply.{Reply}
 use Rattle.board_model.specs.declared.answer.Reply.TheVariants as reply
 use Rattle.board_model.specs.declared.line.Call.TheVariants as call
-use Rattle.board_model.specs.declared.line.Line.{Line}
 use Rattle.board_model.specs.declared.line.Line.TheVariants as board_line
 use Rattle.board_model.specs.declared.value.ValueType.{ValueType}
 use Rattle.board_model.specs.LawfulSession as boards
 use Rattle.board_model.specs.LawfulSession.{IsOwedStep, IsReasoned, call_reason, reason_of, step_reason}
-use Rattle.board_model.specs.Parties.{Party, Running, begun, is_done, owed, running}
+use Rattle.board_model.specs.Parties.{Party, Running, begun, running}
 use Rattle.board_model.specs.Replies.{ask, latest}
-use Rattle.board_model.specs.Requests.{Fetch, Request, TableCall, and_then, get, id, identified, request_of, table}
+use Rattle.board_model.specs.Requests.{Fetch, Request, and_then, get, id, identified, request_of, table}
 use Rattle.board_model.specs.Sound.{Sound}
 use Rattle.board_model.specs.Things.{Held}
 use Rattle.board_model.specs.TypeTable.{value_type_of}
@@ -42,7 +41,7 @@ use Rattle.script_moments.specs.Moments.{Moment, end_of, left, moments, next_mom
 use Rattle.script_moments.specs.Gets.{GoesOn, IsOpen, IsPart, Round, moments_of}
 use Rattle.script_moments.specs.LawsOfTurns.{CallsAreBegunOrRefused, IdsAreTold, SnapshotsStepOn, StepsOn, WatchersStepOn}
 use Rattle.script_moments.specs.Watchers.{AreFirstIds, AskedId, IsIdBegin, moments_of_id, moments_of_turn, moments_of_wait}
-use Rattle.script_moments.proofs.ChainLemmas.{Chain, IsAlone, begin_alone, begin_turn_refused, chain_split, link_grows, link_leaves, own_chain}
+use Rattle.script_moments.proofs.ChainLemmas.{Chain, begin_alone, begin_turn_refused, chain_split, link_grows, link_leaves, own_chain}
 use Rattle.script_moments.proofs.WalkLemmas.{IsRun, free_none, run_begun, run_link, run_step}
 use Rattle.script_moments.proofs.GetWalks.{IsOwn, chain_grows, own_begin, own_is, own_step}
 use Rattle.script_moments.proofs.RoundLemmas as rounds
@@ -200,6 +199,12 @@ id_told : (s : boards.State) (party : List ℕ) (t : Held) (told : Option Reply)
 id_told s party t None on h = absurd (false≢true on)
 id_told s party t (Some r) on h = (_, ap (λ (x : Reply). Some x) h)
 
+id_pair : (party : List ℕ) (pair : Pair) (x : Access) (told : Option Reply) (n : ℕ) → pair.0 ≡ line.Board (board_line.Step party) → pair.1 ≡ of_boards (answer.Step x told) → x ≡ access.Table → told ≡ Some (reply.Id n) → pair ≡ of_pair (board_line.Step party, answer.Step access.Table (Some (reply.Id n)))
+id_pair party pair x told n is answers at_table tells =
+    pair_is pair (line.Board (board_line.Step party)) (of_boards (answer.Step x told)) is answers
+    ∙ ap (λ (y : Access). of_pair (board_line.Step party, answer.Step y told)) at_table
+    ∙ ap (λ (r : Option Reply). of_pair (board_line.Step party, answer.Step access.Table r)) tells
+
 pub ids_told : IdsAreTold
 ids_told before since party handles asked m pair h right is =
     let o = first_open party handles asked m h.asked in
@@ -213,7 +218,4 @@ ids_told before since party handles asked m pair h right is =
     let still = (link_leaves party (left m).boards s.boards n.chain.2.0 sound_left).runs (id_call t.0) run in
     let k = step_answered s _ party (record (id_call t.0) { passed = still.0 }) pair.1 (sound_at (before ++ since) h.lawful) still.1 (subst (λ (l : ScriptLine). IsRight s l pair.1) is right) in
     let reply_is = id_told s.boards party t.0 k.told k.step.reply.last k.step.reply.reply in
-    let at_table : k.access ≡ access.Table = table_is k.access k.step.next in
-    (reply_is.0, pair_is pair (line.Board (board_line.Step party)) (of_boards (answer.Step k.access k.told)) is k.is
-    ∙ ap (λ (x : Access). of_pair (board_line.Step party, answer.Step x k.told)) at_table
-    ∙ ap (λ (x : Option Reply). of_pair (board_line.Step party, answer.Step access.Table x)) reply_is.1)
+    (reply_is.0, id_pair party pair k.access k.told reply_is.0 is k.is (table_is k.access k.step.next) reply_is.1)

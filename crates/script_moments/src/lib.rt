@@ -6,7 +6,7 @@
 //!
 //! Begin with `specs/Moments`: the pairs of a session with the state that each met, and a party's own. `Gets` has gets and
 //! rounds of them, `Snapshots` and `Watchers` what a party does in turns, `SnapshotLines` and `WatcherLines` how that goes on
-//! by one line more. The laws are public functions without a body.
+//! by one line more, and `LawsOfTurns` how the next line is answered. The laws are public functions without a body.
 #![tactic(auto)]
 
 pub mod snapshot_laws;
