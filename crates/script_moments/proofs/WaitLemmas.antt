@@ -26,8 +26,8 @@ use Rattle.script_model.specs.declared.line.ScriptLine.{ScriptLine}
 use Rattle.script_model.specs.declared.line.ScriptLine.TheVariants as line
 use Rattle.script_model.specs.declared.reply.EventReply.{EventReply}
 use Rattle.script_model.specs.ScriptAnswers.{ScriptAnswer, of_boards, of_event}
-use Rattle.script_model.specs.ScriptEvents.{EventAsk, EventTask, IsEventAccess, IsStepOf, ScriptEvents, act, end_told, is_for_all, listened_event, on_event, runs_on_events, step_made, step_told, task_of, wait_call}
-use Rattle.script_model.specs.ScriptTurns.{EventTurn, IsTurnAnswer, ScriptState, begins, free_turn, refused, steps, task_turn, turn_of, turned}
+use Rattle.script_model.specs.ScriptEvents.{EventAsk, EventTask, IsEventAccess, IsStepOf, ScriptEvents, act, end_told, is_for_all, listened_event, name_made, on_event, runs_on_events, step_made, step_told, task_of, wait_call}
+use Rattle.script_model.specs.ScriptTurns.{EventTurn, IsTurnAnswer, ScriptState, begins, free_turn, is_name_taken, refused, steps, task_turn, turn_of, turned}
 use Rattle.script_model.specs.ScriptSession.{IsLawful, IsLawfulFrom, IsRight, Session, after, after_turn, start}
 use Rattle.script_model.specs.LawsOfComposition.{Pair, state_met}
 use Rattle.script_model.specs.LawsOfEvents.{TellsIds}
@@ -39,7 +39,7 @@ use Rattle.script_model.proofs.LineLaws.{lines_leave}
 use Rattle.script_model.proofs.RuleLemmas.{ruled}
 use Rattle.script_model.proofs.TurnLemmas.{text_itself}
 use Rattle.script_moments.specs.Moments.{Moment, end_of, left, moments, next_moment, own}
-use Rattle.script_moments.specs.LawsOfTurns.{WaitsStepOn}
+use Rattle.script_moments.specs.LawsOfTurns.{EventCallsAreBegunOrRefused, WaitsStepOn}
 use Rattle.script_moments.specs.Watchers.{IsWaitBegin, StepsOnEvent, WaitGoesOn, moments_of_id, moments_of_turn}
 use Rattle.script_moments.proofs.GetWalks.{pair_grows}
 use Rattle.script_moments.proofs.RoundLemmas as rounds
@@ -48,11 +48,11 @@ use Rattle.script_moments.proofs.TurnLemmas.{pair_is, step_named}
 
 -- ---- what a party runs on events, between its own moments
 
-record SameCall (party : List ℕ) (s t : ScriptState) : Type 0 where
-  asked : t.events.asked party ≡ s.events.asked party
-  doing : t.events.session.doing party ≡ s.events.session.doing party
+pub record SameCall (party : List ℕ) (s t : ScriptState) : Type 0 where
+  pub asked : t.events.asked party ≡ s.events.asked party
+  pub doing : t.events.session.doing party ≡ s.events.session.doing party
 
-abbrev CallChain : List ℕ → ScriptState → List Moment → Type 0
+abbrev pub CallChain : List ℕ → ScriptState → List Moment → Type 0
 CallChain party s [] = Unit {0}
 CallChain party s (m ∷ ms) = SameCall party s m.met × IsRight m.met m.pair.0 m.pair.1 × CallChain party (left m) ms
 
@@ -60,7 +60,7 @@ chain_before : (party : List ℕ) (s t : ScriptState) (ms : List Moment) → Sam
 chain_before party s t [] h k = tt
 chain_before party s t (m ∷ ms) h k = (record { asked = k.0.asked ∙ h.asked; doing = k.0.doing ∙ h.doing }, k.1, k.2)
 
-call_chain : (party : List ℕ) (pairs : Session) (s : ScriptState) → IsLawfulFrom s pairs → Sound s.boards → CallChain party s (own party (moments s pairs))
+pub call_chain : (party : List ℕ) (pairs : Session) (s : ScriptState) → IsLawfulFrom s pairs → Sound s.boards → CallChain party s (own party (moments s pairs))
 call_chain party [] s ok sound = tt
 call_chain party (x ∷ xs) s ok sound = at (names party x.0) refl (call_chain party xs (after s x.0 x.1) ok.1 (pair_grows s x.0 x.1 ok.0 sound).sound)
   where
@@ -70,21 +70,21 @@ call_chain party (x ∷ xs) s ok sound = at (names party x.0) refl (call_chain p
         let l = lines_leave s x.0 x.1 party sound ok.0 e in
         chain_before party s (after s x.0 x.1) (own party (moments (after s x.0 x.1) xs)) (record { asked = l.asked; doing = l.doing }) k
 
-call_split : (party : List ℕ) (xs ys : List Moment) (s : ScriptState) → CallChain party s (xs ++ ys) → CallChain party (end_of s xs) ys
+pub call_split : (party : List ℕ) (xs ys : List Moment) (s : ScriptState) → CallChain party s (xs ++ ys) → CallChain party (end_of s xs) ys
 call_split party [] ys s h = h
 call_split party (x ∷ xs) ys s h = call_split party xs ys (left x) h.2
 
 -- ---- a wait for all that runs
 
-record WaitsAt (x : ScriptEvents) (party : List ℕ) : Type 0 where
-  asked : x.asked party ≡ None
-  doing : PartyCall
-  runs : x.session.doing party ≡ Some doing
-  wait : Wait
-  call : call_of doing.call ≡ a_wait wait
-  many : wait.many ≡ true
+pub record WaitsAt (x : ScriptEvents) (party : List ℕ) : Type 0 where
+  pub asked : x.asked party ≡ None
+  pub doing : PartyCall
+  pub runs : x.session.doing party ≡ Some doing
+  pub wait : Wait
+  pub call : call_of doing.call ≡ a_wait wait
+  pub many : wait.many ≡ true
 
-waits_same : (party : List ℕ) (s t : ScriptState) → SameCall party s t → WaitsAt s.events party → WaitsAt t.events party
+pub waits_same : (party : List ℕ) (s t : ScriptState) → SameCall party s t → WaitsAt s.events party → WaitsAt t.events party
 waits_same party s t h w = record { asked = h.asked ∙ w.asked; doing = w.doing; runs = h.doing ∙ w.runs; wait = w.wait; call = w.call; many = w.many }
 
 do_here : (f : List ℕ → Option PartyCall) (party : List ℕ) (x : Option PartyCall) → do_at f party x party ≡ x
@@ -119,6 +119,20 @@ task_begun_is s party listener false free (Some t) k = record { idle = refl; tas
 task_begun_is s party listener false (running r) o k = absurd (no_refused reason.Busy k)
 task_begun_is s party listener false gone o k = absurd (no_refused reason.Abandoned k)
 
+pub events_begun_or_refused : EventCallsAreBegunOrRefused
+events_begun_or_refused s party q a ok = at (runs_on_events s.events party) (s.boards.parties party) (task_of s.events party q) (ruled s (line.Event party q) a ok)
+  where
+    taken : (z : Bool) (t : EventTask) → IsTurnAnswer s.events (if z then refused reason.Taken else begins party t) a → (a ≡ of_boards answer.Begun) ⊎ ((why : Reason) × (a ≡ of_boards (answer.Refused why)))
+    taken true t k = inr (reason.Taken, k)
+    taken false t k = inl k
+
+    at : (b : Bool) (y : Party) (o : Option EventTask) → IsTurnAnswer s.events (if b then refused reason.Busy else free_turn y (task_turn s party q o)) a → (a ≡ of_boards answer.Begun) ⊎ ((why : Reason) × (a ≡ of_boards (answer.Refused why)))
+    at true y o k = inr (reason.Busy, k)
+    at false free None k = inr (reason.Unknown, k)
+    at false free (Some t) k = taken (is_name_taken s party (name_made q)) t k
+    at false (running r) o k = inr (reason.Busy, k)
+    at false gone o k = inr (reason.Abandoned, k)
+
 wait_task : (x : ScriptEvents) (o : Option ℕ) (t : EventTask) → and_then o (on_event x waits_all) ≡ Some t → (n : ℕ) × (e : Event) × (t ≡ act n (waits_all e))
 wait_task x None t h = absurd cc
 wait_task x (Some n) t h = at (event_of x.session.stands n) h
@@ -131,7 +145,7 @@ many_if : (b : Bool) (k : ℕ) → (if b then wait_bits k true mode.Try else wai
 many_if true k = refl
 many_if false k = refl
 
-begun_waits : (m : Moment) (party listener : List ℕ) → IsWaitBegin party listener m → IsRight m.met m.pair.0 m.pair.1 → WaitsAt (left m).events party
+pub begun_waits : (m : Moment) (party listener : List ℕ) → IsWaitBegin party listener m → IsRight m.met m.pair.0 m.pair.1 → WaitsAt (left m).events party
 begun_waits m party listener e ok =
     let s : ScriptState = m.met in
     let l : ScriptLine = line.Event party (asks_all listener) in
@@ -155,17 +169,17 @@ begun_waits m party listener e ok =
 
 -- ---- a step of it
 
-record IsWaitStep (s : ScriptState) (d : PartyCall) (a : ScriptAnswer) : Type 0 where
-  standing : StandingEvent
-  stands : s.events.session.stands d.on ≡ Some standing
-  access : IsEventAccess standing.event d.call a
+pub record IsWaitStep (s : ScriptState) (d : PartyCall) (a : ScriptAnswer) : Type 0 where
+  pub standing : StandingEvent
+  pub stands : s.events.session.stands d.on ≡ Some standing
+  pub access : IsEventAccess standing.event d.call a
 
 step_turn : (s : ScriptState) (party : List ℕ) → WaitsAt s.events party → turn_of s (line.Board (board_line.Step party)) ≡ Some (steps party)
 step_turn s party w =
     let busy : runs_on_events s.events party ≡ true = ap (λ (o : Option EventAsk). is_some o || is_some (s.events.session.doing party)) w.asked ∙ ap (λ (o : Option PartyCall). is_some o) w.runs in
     ap (λ (b : Bool). if b then Some (steps party) else None) busy
 
-step_is : (s : ScriptState) (party : List ℕ) (a : ScriptAnswer) → (w : WaitsAt s.events party) → IsRight s (line.Board (board_line.Step party)) a → IsWaitStep s w.doing a
+pub step_is : (s : ScriptState) (party : List ℕ) (a : ScriptAnswer) → (w : WaitsAt s.events party) → IsRight s (line.Board (board_line.Step party)) a → IsWaitStep s w.doing a
 step_is s party a w ok =
     let rule : IsTurnAnswer s.events (steps party) a = subst (IsRuled s (line.Board (board_line.Step party)) a) (step_turn s party w) (ruled s (line.Board (board_line.Step party)) a ok) in
     let k : IsStepOf s.events None (Some w.doing) a = subst (λ (q : Option EventAsk). IsStepOf s.events q (Some w.doing) a) w.asked (subst (λ (o : Option PartyCall). IsStepOf s.events (s.events.asked party) o a) w.runs rule) in
@@ -182,8 +196,13 @@ not_last : (b : Bool) (x : EventReply) → None ≡ (if b then Some x else None)
 not_last true x e = absurd cc
 not_last false x e = refl
 
-step_waits : (m : Moment) (party : List ℕ) → WaitsAt m.met.events party → WaitGoesOn party m → IsRight m.met m.pair.0 m.pair.1 → WaitsAt (left m).events party
-step_waits m party w g ok =
+-- the party waits on, with a step more
+pub record HasStepped (x : ScriptEvents) (party : List ℕ) (d : PartyCall) (e : Event) (a : EventAccess) : Type 0 where
+  pub waits : WaitsAt x party
+  pub steps : waits.doing.call.steps ≡ record { met = e; access = a } ∷ d.call.steps
+
+pub step_more : (m : Moment) (party : List ℕ) (w : WaitsAt m.met.events party) (g : WaitGoesOn party m) → IsRight m.met m.pair.0 m.pair.1 → (st : StandingEvent) × (m.met.events.session.stands w.doing.on ≡ Some st) × HasStepped (left m).events party w.doing st.event g.access
+step_more m party w g ok =
     let s : ScriptState = m.met in
     let x : ScriptEvents = s.events in
     let d : PartyCall = w.doing in
@@ -199,9 +218,9 @@ step_waits m party w g ok =
     ∙ ap (λ (q : Option EventAsk). step_made x party q a) w.asked
     ∙ ap (λ (o : Option PartyCall). record x { session = stepped_on x.session party g.access g.answer o }) w.runs
     ∙ ap (λ (o : Option Event). record x { session = took_step x.session party g.access g.answer d o }) met in
-    subst (λ (y : ScriptEvents). WaitsAt y party) (sym state) (here x d k.standing.event g.access g.answer w.wait w.asked w.call w.many goes)
+    (k.standing, k.stands, subst (λ (y : ScriptEvents). HasStepped y party d k.standing.event g.access) (sym state) (here x d k.standing.event g.access g.answer w.wait w.asked w.call w.many goes))
   where
-    here : (x : ScriptEvents) (d : PartyCall) (e : Event) (a : EventAccess) (b : EventAnswer) (v : Wait) → x.asked party ≡ None → call_of d.call ≡ a_wait v → v.many ≡ true → is_last (turn (call_of d.call) b).0 ≡ false → WaitsAt (record x { session = took_step x.session party a b d (Some e) }) party
+    here : (x : ScriptEvents) (d : PartyCall) (e : Event) (a : EventAccess) (b : EventAnswer) (v : Wait) → x.asked party ≡ None → call_of d.call ≡ a_wait v → v.many ≡ true → is_last (turn (call_of d.call) b).0 ≡ false → HasStepped (record x { session = took_step x.session party a b d (Some e) }) party d e a
     here x d e a b v none call many goes =
         let r : RunningCall = record {
           number = d.call.number;
@@ -212,13 +231,19 @@ step_waits m party w g ok =
           waited = is_waiting (turn (call_of d.call) b).0;
         } in
         record {
-          asked = none;
-          doing = record { on = d.on; call = r };
-          runs = do_here x.session.doing party _ ∙ ap (λ (z : Bool). doing_on d.on (if z then None else Some r)) goes;
-          wait = record v { stage = (wait_turn v v.stage b).1 };
-          call = ap (λ (c : EventCall). (turn c b).1) call;
-          many = many;
+          waits = record {
+            asked = none;
+            doing = record { on = d.on; call = r };
+            runs = do_here x.session.doing party _ ∙ ap (λ (z : Bool). doing_on d.on (if z then None else Some r)) goes;
+            wait = record v { stage = (wait_turn v v.stage b).1 };
+            call = ap (λ (c : EventCall). (turn c b).1) call;
+            many = many;
+          };
+          steps = refl;
         }
+
+step_waits : (m : Moment) (party : List ℕ) → WaitsAt m.met.events party → WaitGoesOn party m → IsRight m.met m.pair.0 m.pair.1 → WaitsAt (left m).events party
+step_waits m party w g ok = (step_more m party w g ok).2.waits
 
 steps_wait : (party : List ℕ) (ms : List Moment) (e : Moment) (s : ScriptState) → WaitsAt s.events party → CallChain party s (ms ++ e ∷ []) → AllByRecursion (WaitGoesOn party) ms → WaitsAt e.met.events party
 steps_wait party [] e s w c go = waits_same party s e.met c.0 w

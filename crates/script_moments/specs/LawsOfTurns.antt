@@ -5,6 +5,7 @@ use Rattle.board_model.specs.declared.answer.Reason.{Reason}
 use Rattle.board_model.specs.declared.line.Call.{Call}
 use Rattle.board_model.specs.declared.line.Line.TheVariants as board_line
 use Rattle.board_model.specs.declared.value.ValueType.{ValueType}
+use Rattle.script_model.specs.declared.line.EventRequest.{EventRequest}
 use Rattle.script_model.specs.declared.line.ScriptLine.TheVariants as line
 use Rattle.script_model.specs.declared.reply.EventReply.{EventReply}
 use Rattle.script_model.specs.ScriptAnswers.{ScriptAnswer, of_boards}
@@ -22,6 +23,11 @@ use Rattle.script_moments.specs.WatcherLines.{opening_at, watcher_at}
 -- a call on boards is begun or refused
 abbrev pub CallsAreBegunOrRefused : Type 0
 CallsAreBegunOrRefused = (s : ScriptState) (party : List ℕ) (c : Call) (a : ScriptAnswer) → IsRight s (line.Board (board_line.Begin party c)) a
+    → (a ≡ of_boards answer.Begun) ⊎ ((why : Reason) × (a ≡ of_boards (answer.Refused why)))
+
+-- and so is a call on events
+abbrev pub EventCallsAreBegunOrRefused : Type 0
+EventCallsAreBegunOrRefused = (s : ScriptState) (party : List ℕ) (q : EventRequest) (a : ScriptAnswer) → IsRight s (line.Event party q) a
     → (a ≡ of_boards answer.Begun) ⊎ ((why : Reason) × (a ≡ of_boards (answer.Refused why)))
 
 -- a get goes on or ends

@@ -1,9 +1,14 @@
 //! Laws of turns. Each function's contract is a theorem over the definitions alone.
-ghost use Rattle.script_moments.specs.LawsOfTurns.{CallsAreBegunOrRefused, IdsAreTold, SnapshotsStepOn, WaitsStepOn, WatchersStepOn};
+ghost use Rattle.script_moments.specs.LawsOfTurns.{CallsAreBegunOrRefused, EventCallsAreBegunOrRefused, IdsAreTold, SnapshotsStepOn, WaitsStepOn, WatchersStepOn};
 
 /// A call on boards is begun or refused.
 pub fn calls_are_begun_or_refused()
     ensures { CallsAreBegunOrRefused }
+{}
+
+/// A call on events is begun or refused.
+pub fn event_calls_are_begun_or_refused()
+    ensures { EventCallsAreBegunOrRefused }
 {}
 
 /// The get of a snapshot that runs goes on or ends with the party's next step.
