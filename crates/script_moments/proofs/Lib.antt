@@ -13,3 +13,4 @@ pub mod WatcherLineLemmas
 pub mod WorkedWatcher
 pub mod TurnLemmas
 pub mod WaitLemmas
+pub mod TakeLemmas

@@ -84,7 +84,7 @@ pub record WaitsAt (x : ScriptEvents) (party : List ℕ) : Type 0 where
   pub call : call_of doing.call ≡ a_wait wait
   pub many : wait.many ≡ true
 
-pub waits_same : (party : List ℕ) (s t : ScriptState) → SameCall party s t → WaitsAt s.events party → WaitsAt t.events party
+abbrev pub waits_same : (party : List ℕ) (s t : ScriptState) → SameCall party s t → WaitsAt s.events party → WaitsAt t.events party
 waits_same party s t h w = record { asked = h.asked ∙ w.asked; doing = w.doing; runs = h.doing ∙ w.runs; wait = w.wait; call = w.call; many = w.many }
 
 do_here : (f : List ℕ → Option PartyCall) (party : List ℕ) (x : Option PartyCall) → do_at f party x party ≡ x

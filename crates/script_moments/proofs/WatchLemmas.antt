@@ -40,7 +40,7 @@ own_past party s since pre behind y early late m e on k h =
     heads (record { met = t; pair = y }) m rest late (append_cancel_left early (record { met = t; pair = y } ∷ rest) (m ∷ late) (sym all ∙ h))
 
 -- what of a turn that runs is behind its wait and its gets
-abbrev tail_of : OpenTurn → List Moment
+abbrev pub tail_of : OpenTurn → List Moment
 tail_of idle = []
 tail_of (waiting m ms) = m ∷ ms
 tail_of (getting w gets o) = moments_of_open o
@@ -52,7 +52,7 @@ open_moments (getting w gets o) =
     sym (append_assoc (moments_of_wait w) (moments_of gets) (moments_of_open o))
     ∙ ap (λ (ms : List Moment). ms ++ moments_of_open o) (sym (append-nil (moments_of_wait w ++ moments_of gets)))
 
-watcher_moments : (x : Watcher) → moments_of_watcher x ≡ flat_map moments_of_id x.asked ++ (flat_map moments_of_turn (turns_of x) ++ tail_of x.rest)
+pub watcher_moments : (x : Watcher) → moments_of_watcher x ≡ flat_map moments_of_id x.asked ++ (flat_map moments_of_turn (turns_of x) ++ tail_of x.rest)
 watcher_moments x =
     let ids : List Moment = flat_map moments_of_id x.asked in
     let done : List Moment = flat_map moments_of_turn x.turns in
@@ -81,7 +81,7 @@ ended_parts party listener hs asked [] (getting w gets p) k r = (record { runs =
 ended_parts party listener hs asked (t ∷ ts) o k r =
     (record { runs = None; part = round_part party (calls hs asked t.wait.ids) t.gets k.0.gets }, ended_parts party listener hs asked ts o k.1 r)
 
-turn_at : (P : Turn → Type 0) (earlier later : List Turn) (t : Turn) → AllByRecursion P (earlier ++ t ∷ later) → P t
+pub turn_at : (P : Turn → Type 0) (earlier later : List Turn) (t : Turn) → AllByRecursion P (earlier ++ t ∷ later) → P t
 turn_at P [] later t h = h.0
 turn_at P (u ∷ us) later t h = turn_at P us later t h.1
 

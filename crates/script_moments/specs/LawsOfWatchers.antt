@@ -1,8 +1,8 @@
 -- Laws of watchers: what they report is an item of its list, and after a take it is fresh.
-use Rattle.std.specs.Prelude.{◌≡◌, ℕ, ◌≤◌, true, List, ◌∷◌, ◌++◌}
-use Rattle.std.specs.List.{AllByRecursion, flat_map}
+use Rattle.std.specs.Prelude.{◌≡◌, ℕ, ◌≤◌, ◌==◌, true, List, ◌∷◌, ◌++◌}
+use Rattle.std.specs.List.{AllByRecursion, flat_map, list_any}
 use Rattle.script_model.specs.ScriptSession.{Session}
-use Rattle.script_model.specs.LawsOfComposition.{state_met}
+use Rattle.script_model.specs.LawsOfComposition.{TakesId, state_met}
 use Rattle.script_model.specs.LawsOfLines.{names}
 use Rattle.script_moments.specs.Moments.{Moment, moments, own}
 use Rattle.script_moments.specs.Gets.{Get, IsGet, Round}
@@ -33,6 +33,13 @@ pub record IsTakenIn (before since : Session) (party : List ℕ) (x : Watcher) (
   pub still : List Moment
   pub wait : moments_of_wait t.wait ≡ done ++ record { met = state_met (to_taken c); pair = c.taken } ∷ still
   pub own : own party (moments (state_met before) pre) ≡ flat_map moments_of_id x.asked ++ (flat_map moments_of_turn earlier ++ done)
+
+-- the wait is told what it took, so the handles of that id are called for
+abbrev pub TakenIdsAreTold : Type 0
+TakenIdsAreTold =
+    (before since : Session) (party listener : List ℕ) (handles : List (List ℕ)) (x : Watcher) → IsWatcher before since party listener handles x
+    → (earlier later : List Turn) (t : Turn) (c : Take) (behind : Session) → IsTakenIn before since party x earlier later t c behind
+    → (n id : ℕ) → TakesId (state_met (to_taken c)) c.taken n id → list_any (λ y. y == id) t.wait.ids ≡ true
 
 -- this get of the turn is through the handle
 pub record IsGetOf (party handle : List ℕ) (t : Turn) (r : Get) : Type 0 where
