@@ -4,7 +4,7 @@ use crate::row::{PLAIN, Part, Row, Script, all_hold};
 use std::alloc::{AllocError, Global};
 use std::test::Fail;
 
-const ROWS: [Row; 6] = [
+pub(crate) const ROWS: [Row; 6] = [
     Row {
         name: "a blocking wait on bits",
         opening: &[A_SET_OF_64],

@@ -4,7 +4,7 @@ use board_script::{MemorySink, MemorySource, ScriptError, run_script, run_script
 use std::alloc::{AllocError, Global};
 use std::test::Fail;
 
-const ROWS: [Row; 2] = [
+pub(crate) const ROWS: [Row; 2] = [
     Row {
         name: "an empty line",
         lines: &[("abandon a", "gone"), ("", ""), ("abandon b", "")],

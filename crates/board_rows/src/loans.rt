@@ -3,7 +3,7 @@ use crate::openings::{A_LOAN, FOUR_WORDS, FOURTH_WORD_PUT, THREE_WORDS_PUT};
 use crate::row::{PLAIN, Row, all_hold};
 use std::test::Fail;
 
-const ROWS: [Row; 3] = [
+pub(crate) const ROWS: [Row; 3] = [
     Row {
         name: "a loan forgets its words",
         opening: &[FOUR_WORDS, A_LOAN, THREE_WORDS_PUT],

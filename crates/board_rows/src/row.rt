@@ -108,14 +108,14 @@ impl Script<'_> {
     }
 }
 
-// Adds a text with its newline.
-fn push_line(text: &str, out: &mut Vec<u8>) -> Result<(), AllocError> {
+/// Adds a text with its newline.
+pub(crate) fn push_line(text: &str, out: &mut Vec<u8>) -> Result<(), AllocError> {
     out.extend_from_slice(text.as_bytes())?;
     out.extend_from_slice(b"\n")
 }
 
-// Adds what is told with its newline, or nothing where nothing is told.
-fn push_told(text: &str, out: &mut Vec<u8>) -> Result<(), AllocError> {
+/// Adds what is told with its newline, or nothing where nothing is told.
+pub(crate) fn push_told(text: &str, out: &mut Vec<u8>) -> Result<(), AllocError> {
     if text.is_empty() {
         return Ok(());
     }
