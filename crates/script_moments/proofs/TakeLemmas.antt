@@ -19,7 +19,7 @@ use Rattle.script_model.specs.declared.reply.EventReply.{EventReply}
 use Rattle.script_model.specs.declared.reply.EventReply.TheVariants as reply
 use Rattle.script_model.specs.ScriptAnswers.{of_event}
 use Rattle.script_model.specs.ScriptTurns.{ScriptState}
-use Rattle.script_model.specs.ScriptSession.{IsLawful, IsRight, Session, start, state_after}
+use Rattle.script_model.specs.ScriptSession.{IsLawful, IsRight, Session, start}
 use Rattle.script_model.specs.LawsOfComposition.{Pair, TakesId, state_met}
 use Rattle.script_model.specs.LawsOfEvents.{TakesAccess, TellsIds}
 use Rattle.script_model.proofs.CompositionLemmas.{lawful_split}
@@ -28,11 +28,11 @@ use Rattle.script_moments.specs.Moments.{Moment, end_of, left, moments, own}
 use Rattle.script_moments.specs.Gets.{moments_of}
 use Rattle.script_moments.specs.Reports.{to_taken}
 use Rattle.script_moments.specs.LawsOfWatchers.{TakenIdsAreTold}
-use Rattle.script_moments.specs.Watchers.{AskedId, IsOpenTurn, IsTurn, IsWaitBegin, IsWaited, OpenTurn, StepsOnEvent, Turn, WaitGoesOn, getting, idle, moments_of_id, moments_of_turn, moments_of_wait, moments_of_watcher, turn_begun, turns_of, waiting}
+use Rattle.script_moments.specs.Watchers.{AskedId, IsOpenTurn, IsTurn, IsWaitBegin, IsWaited, OpenTurn, StepsOnEvent, Turn, WaitGoesOn, getting, idle, moments_of_id, moments_of_turn, moments_of_wait, turn_begun, turns_of, waiting}
 use Rattle.script_moments.proofs.RoundLemmas as rounds
-use Rattle.script_moments.proofs.ReportLemmas.{IsCutAt, cut_at}
+use Rattle.script_moments.proofs.ReportLemmas.{cut_at}
 use Rattle.script_moments.proofs.SessionLemmas.{state_append}
-use Rattle.script_moments.proofs.WaitLemmas.{CallChain, HasStepped, WaitsAt, begun_waits, call_chain, call_split, step_is, step_more, waits_same}
+use Rattle.script_moments.proofs.WaitLemmas.{CallChain, WaitsAt, begun_waits, call_chain, call_split, step_is, step_more, waits_same}
 use Rattle.script_moments.proofs.WatchLemmas.{tail_of, turn_at, watcher_moments}
 
 -- ---- a take at a step of the wait

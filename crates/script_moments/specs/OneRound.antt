@@ -40,6 +40,10 @@ two_entries = map of_pair (
     ∷ boards.last_step b access.Table (reply.Number 32)
     ∷ [])
 
+-- b's handles of both
+abbrev pub both : List (List ℕ)
+both = codes "h" ∷ codes "k" ∷ []
+
 -- the pairs of a get of one word, at this counter and place
 abbrev pub get_begins : List ℕ → Pair
 get_begins handle = of_pair (boards.accepted b (call.Get handle None))

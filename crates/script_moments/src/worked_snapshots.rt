@@ -5,7 +5,7 @@ ghost use Rattle.script_model.specs.ScriptSession.{IsLawful};
 ghost use Rattle.script_moments.specs.Gets.{IsRound, moments_of};
 ghost use Rattle.script_moments.specs.LawsOfSnapshots.{AreLastValues};
 ghost use Rattle.script_moments.specs.Moments.{moments, own};
-ghost use Rattle.script_moments.specs.OneRound.{hasty, one_round, to_second, two_entries};
+ghost use Rattle.script_moments.specs.OneRound.{both, hasty, one_round, to_second, two_entries};
 ghost use Rattle.script_moments.specs.Snapshots.{IsWritten};
 ghost use Rattle.script_moments.specs.WorkedSnapshots.{WorkedCounts, a_snapshot, b, before_it, since_it};
 
@@ -23,12 +23,12 @@ pub fn its_steps_are_few()
 pub fn a_round_may_be_overtaken()
     ensures lawful { IsLawful (two_entries ++ one_round) }
     ensures own { own b (moments (state_met two_entries) one_round) ≡ moments_of hasty }
-    ensures round { IsRound b (codes "h" ∷ codes "k" ∷ []) hasty }
+    ensures round { IsRound b both hasty }
 {}
 
 /// What such a round gave was the last of both entries neither when it began, nor between its gets, nor when it ended.
 pub fn one_round_is_of_no_moment()
-    ensures began { AreLastValues (state_met two_entries) b (codes "h" ∷ codes "k" ∷ []) hasty → ⊥ }
-    ensures between { AreLastValues (state_met (two_entries ++ to_second)) b (codes "h" ∷ codes "k" ∷ []) hasty → ⊥ }
-    ensures ended { AreLastValues (state_met (two_entries ++ one_round)) b (codes "h" ∷ codes "k" ∷ []) hasty → ⊥ }
+    ensures began { AreLastValues (state_met two_entries) b both hasty → ⊥ }
+    ensures between { AreLastValues (state_met (two_entries ++ to_second)) b both hasty → ⊥ }
+    ensures ended { AreLastValues (state_met (two_entries ++ one_round)) b both hasty → ⊥ }
 {}
