@@ -38,7 +38,7 @@ use Rattle.script_rules.proofs.EventAnswerLemmas.{same_event_answer}
 use Rattle.script_grammar.proofs.SplitLemmas.{free_lacks}
 use Rattle.script_rules.specs.declared.rule.Rule.{Rule}
 use Rattle.script_rules.specs.declared.rule.Rule.TheVariants as rule
-use Rattle.script_rules.specs.PrintedAnswers.{IsPrinted, IsStepAccess, StepAccess, StepReply, a_step, board_access, event_access, events_reply, printed_of, printed_text, told_by_boards, told_by_events}
+use Rattle.script_rules.specs.PrintedAnswers.{IsStepAccess, StepAccess, StepReply, a_step, board_access, event_access, events_reply, printed_of, printed_text, told_by_boards, told_by_events}
 use Rattle.script_rules.specs.AnswerGroups.{Groups, groups_of, refusal_of, same_tokens, tokens_of}
 use Rattle.script_rules.specs.BrokenRules.{broken_rule, first_group}
 use Rattle.script_rules.specs.StepGroups.{event_found, owed_access, step_groups, word_read}

@@ -1,5 +1,5 @@
 -- An answer breaks the rule of reasons exactly where it isn't refused as its line is.
-use Rattle.std.proofs.Common.{◌≡◌, ℕ, Bool, true, false, List, [], ◌∷◌, ◌++◌, drop, refl, sym, ap, subst, ◌∙◌, Option, Some, None}
+use Rattle.std.proofs.Common.{◌≡◌, ℕ, Bool, true, false, List, [], ◌∷◌, ◌++◌, drop, refl, sym, ap, ◌∙◌, Option, Some, None}
 use Rattle.std.specs.Prelude.{codes, if◌then◌else◌, not, ◌==◌}
 use Rattle.std.specs.List.{join_with_byte}
 use Rattle.std.specs.Str.{bytes_eq}
@@ -8,16 +8,12 @@ use Rattle.board_model.specs.declared.answer.Answer.TheVariants as answer
 use Rattle.board_model.specs.declared.answer.Reason.{Reason}
 use Rattle.board_model.specs.declared.answer.Reason.TheVariants as reason
 use Rattle.board_model.specs.AnswerGrammar.{reason_text}
-use Rattle.script_model.specs.declared.line.ScriptLine.{ScriptLine}
 use Rattle.script_model.specs.ScriptAnswers.{IsScriptAnswer, ScriptAnswer, expired, of_ask, of_boards, of_event, script_answer_text}
 use Rattle.script_model.specs.ScriptRules.{IsReasoned, script_reason}
-use Rattle.script_model.specs.ScriptTurns.{ScriptState}
-use Rattle.script_model.specs.ScriptSession.{IsRight}
 use Rattle.script_grammar.proofs.SplitLemmas.{free_lacks}
 use Rattle.script_rules.specs.declared.rule.Rule.{Rule}
 use Rattle.script_rules.specs.declared.rule.Rule.TheVariants as rule
 use Rattle.script_rules.specs.AnswerGroups.{refusal_of, same_tokens, tokens_of}
-use Rattle.script_rules.specs.BrokenRules.{broken_rule}
 use Rattle.script_rules.specs.NamedRules.{ReasonsAreJudged}
 use Rattle.script_rules.proofs.GroupLemmas.{same_is}
 use Rattle.script_rules.proofs.NamedLemmas.{refuses_none}

@@ -1,5 +1,5 @@
 -- A get that runs has the type of its entry, so that its value has as many words as its type.
-use Rattle.std.proofs.Common.{◌≡◌, ℕ, Bool, true, false, cond, List, [], ◌∷◌, ◌++◌, length, refl, sym, ap, subst, ◌∙◌, Option, Some, None}
+use Rattle.std.proofs.Common.{◌≡◌, ℕ, Bool, true, false, cond, List, [], ◌∷◌, ◌++◌, refl, sym, ap, ◌∙◌, Option, Some, None}
 use Rattle.std.specs.Str.{bytes_eq}
 use Rattle.board_cell_model.specs.declared.access.Access.{Access}
 use Rattle.board_cell_model.specs.declared.access.Access.TheVariants as access
@@ -17,10 +17,10 @@ use Rattle.board_model.specs.declared.value.ValueType.{ValueType}
 use Rattle.board_model.specs.declared.value.ValueType.TheVariants as type
 use Rattle.board_model.specs.TypeTable.{value_detail, value_type_of, word_count}
 use Rattle.board_model.specs.Tables.{entry_of}
-use Rattle.board_model.specs.Things.{Held, held_of_kind}
+use Rattle.board_model.specs.Things.{held_of_kind}
 use Rattle.board_model.specs.Requests.{Request, and_then, fill, fresh, get, handle_of, handled, identified, loan_of, publish, put, request_of, table, update}
-use Rattle.board_model.specs.Parties.{Party, Running, begun, free, gone, notice, running, with_party}
-use Rattle.board_model.specs.LawfulSession.{IsLawful, IsLawfulFrom, IsRight, Session, State, after, after_step, start, state_after}
+use Rattle.board_model.specs.Parties.{Party, begun, free, gone, notice, running, with_party}
+use Rattle.board_model.specs.LawfulSession.{IsLawful, IsLawfulFrom, Session, State, after, after_step, start, state_after}
 use Rattle.board_model.specs.Sound.{IsTyped, Sound}
 use Rattle.board_model.proofs.SoundLemmas.{sound_after, sound_start}
 

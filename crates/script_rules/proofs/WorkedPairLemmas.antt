@@ -3,6 +3,9 @@ use Rattle.std.proofs.Common.{rules, ◌≡◌, ℕ, ◌+◌, ◌<◌, ◌≤◌
 use Rattle.std.specs.Prelude.{codes, decimal}
 use Rattle.std.proofs.lemmas.Fmt.{decimal_digit}
 use Rattle.board_cell_model.specs.declared.access.Access.TheVariants as access
+use Rattle.board_event_model.specs.declared.access.EventAccess.TheVariants as events
+use Rattle.board_event_model.specs.declared.access.EventAnswer.TheVariants as event_answer
+use Rattle.board_event_model.specs.declared.kind.EventKind.TheVariants as kind
 use Rattle.board_model.specs.declared.answer.Answer.TheVariants as answer
 use Rattle.board_model.specs.declared.answer.Reason.TheVariants as reason
 use Rattle.board_model.specs.declared.answer.Reply.TheVariants as reply
@@ -10,18 +13,19 @@ use Rattle.board_model.specs.declared.line.Line.TheVariants as board_line
 use Rattle.board_model.specs.WorkedSessions as boards
 use Rattle.script_model.specs.declared.line.ScriptLine.{ScriptLine}
 use Rattle.script_model.specs.declared.line.ScriptLine.TheVariants as line
+use Rattle.script_model.specs.declared.reply.EventReply.TheVariants as event_reply
 use Rattle.script_model.specs.LawsOfComposition.{of_pair}
 use Rattle.script_model.specs.ScriptGrammar.{IsScriptLine, SpellsLine, script_spell}
-use Rattle.script_model.specs.ScriptAnswers.{of_boards, script_answer_text}
+use Rattle.script_model.specs.ScriptAnswers.{of_boards, of_event, script_answer_text}
 use Rattle.script_model.specs.ScriptSession.{IsLawful, IsRight, Session, start, state_after}
 use Rattle.script_grammar.specs.EventReading.{board_line_first, read_event_line, read_script_line}
 use Rattle.script_grammar.specs.LineReading.{read_line, read_one_name, read_plain_line}
 use Rattle.script_grammar.proofs.ScriptLineLemmas.{is_only}
 use Rattle.script_rules.specs.declared.rule.Rule.TheVariants as rule
-use Rattle.script_rules.specs.PrintedAnswers.{IsPrinted, Printed, SpellsAnswer, a_list, a_refusal, a_step, an_end, a_begin, board_access, board_reply, printed_text}
+use Rattle.script_rules.specs.PrintedAnswers.{IsPrinted, Printed, SpellsAnswer, a_list, a_refusal, a_step, an_end, a_begin, board_access, board_reply, event_access, events_reply, printed_text}
 use Rattle.script_rules.specs.BrokenRules.{IsLineText, broken_rule}
 use Rattle.script_rules.specs.SessionPairs.{BreaksAt, SpellsPairs}
-use Rattle.script_rules.specs.WorkedPairs.{WorkedPairs, a_board, a_board_begins, an_update_begins, board_begun, board_made, new_board, new_handle, new_update, update_begun}
+use Rattle.script_rules.specs.WorkedPairs.{WorkedPairs, a_board, a_board_begins, a_wait_begins, an_update_begins, board_begun, board_made, new_board, new_handle, new_update, update_begun, wait_begun}
 
 spells : (text : List ℕ) (l : ScriptLine) → IsScriptLine l → text ≡ script_spell l → length text ≤ 4096 → SpellsLine text l
 spells text l h e short = record { line = h; bytes = e; short = short }
@@ -222,6 +226,47 @@ owed_broken = record {
   breaks = record { line = step_line; spelled = spells_step; formed = prints 8 _ (a_step (board_access (access.Write 1 2 9)) None) ((omega arith, omega arith, omega arith), tt) (sym (write_text 2 (omega arith))) (omega arith); right = of_boards (answer.Step (access.Write 1 3 9) None); is_right = search rules; printed = codes "write 1:2 9"; is = refl; broken = ap (λ t. broken_rule step_line t (codes "write 1:2 9")) (write_text 3 (omega arith)) };
 }
 
+wait_begun_lawful : IsLawful wait_begun
+wait_begun_lawful = search rules
+
+wait_pairs : SpellsPairs 1 a_wait_begins wait_begun
+wait_pairs = (
+  spells _ _ (search rules) refl (omega arith),
+  refl,
+  prints 1 _ a_begin tt refl (omega arith),
+  (
+    spells _ _ (search rules) refl (omega arith),
+    refl,
+    prints 2 _ (a_step (board_access access.Table) (Some (events_reply event_reply.Done))) (tt, (tt, tt)) refl (omega arith),
+    (spells _ _ (search rules) refl (omega arith), refl, prints 3 _ a_begin tt refl (omega arith), tt),
+  ),
+)
+
+popped : Printed
+popped = a_step (event_access kind.Queue (codes "q") events.Pop (event_answer.Id 5)) (Some (events_reply (event_reply.Id 5)))
+
+popped_text : printed_text popped ≡ codes "pop queue:q 5 = id 5"
+unfolding popped
+popped_text = one_number (λ x. codes "pop queue:q " ++ (x ++ (codes " = id " ++ x))) 5 (omega arith)
+
+popped_formed : IsPrinted popped
+unfolding popped
+popped_formed = ((refl, record { text = refl; numbers = tt; answers = omega arith; reply = tt }), (omega arith, tt))
+
+event_broken : BreaksAt (a_wait_begins ++ codes "step a" ∷ codes "pop queue:q 5 = id 5" ∷ []) 4 rule.Event
+unfolding step_line
+event_broken = record {
+  before = a_wait_begins;
+  text = codes "step a";
+  rest = codes "pop queue:q 5 = id 5" ∷ [];
+  cut = refl;
+  session = wait_begun;
+  lawful = wait_begun_lawful;
+  spelled = wait_pairs;
+  number = refl;
+  breaks = record { line = step_line; spelled = spells_step; formed = prints 4 _ popped popped_formed (sym popped_text) (omega arith); right = of_event kind.Queue (codes "q") events.Pop event_answer.Empty (Some event_reply.Nothing); is_right = search rules; printed = codes "pop queue:q 5 = id 5"; is = refl; broken = refl };
+}
+
 pub worked_pairs : WorkedPairs
 unfolding abandoned
 worked_pairs = record {
@@ -233,4 +278,5 @@ worked_pairs = record {
   reply = reply_broken;
   word = word_broken;
   owed = owed_broken;
+  event = event_broken;
 }

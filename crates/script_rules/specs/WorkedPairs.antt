@@ -1,6 +1,7 @@
 -- Lines with their answers that were judged by hand.
-use Rattle.std.specs.Prelude.{ℕ, List, [], ◌∷◌, ◌++◌, codes}
+use Rattle.std.specs.Prelude.{ℕ, false, List, [], ◌∷◌, ◌++◌, codes}
 use Rattle.board_cell_model.specs.declared.access.Access.TheVariants as access
+use Rattle.board_event_model.specs.declared.call.WaitMode.TheVariants as mode
 use Rattle.board_model.specs.declared.answer.Reply.TheVariants as reply
 use Rattle.board_model.specs.declared.line.Call.{Call}
 use Rattle.board_model.specs.declared.line.Call.TheVariants as call
@@ -9,8 +10,11 @@ use Rattle.board_model.specs.declared.value.KeyType.TheVariants as key_type
 use Rattle.board_model.specs.declared.value.Value.TheVariants as value
 use Rattle.board_model.specs.declared.value.ValueType.TheVariants as type
 use Rattle.board_model.specs.WorkedSessions as boards
+use Rattle.script_model.specs.declared.line.EventRequest.TheVariants as request
+use Rattle.script_model.specs.declared.reply.EventReply.TheVariants as event_reply
 use Rattle.script_model.specs.LawsOfComposition.{of_pair}
 use Rattle.script_model.specs.ScriptSession.{Session}
+use Rattle.script_model.specs.WorkedScripts.{asks, told}
 use Rattle.script_rules.specs.declared.rule.Rule.TheVariants as rule
 use Rattle.script_rules.specs.SessionPairs.{AreLawful, BreaksAt}
 
@@ -32,6 +36,14 @@ an_update_begins =
     ∷ codes "step a" ∷ codes "table = ok 0"
     ∷ codes "begin a update m u64:9" ∷ codes "ok"
     ∷ [])
+
+-- a party listens on a queue, and begins a wait
+abbrev pub a_wait_begins : List (List ℕ)
+a_wait_begins =
+    codes "begin a listen e queue q" ∷ codes "ok"
+    ∷ codes "step a" ∷ codes "table = ok"
+    ∷ codes "begin a wait e one try" ∷ codes "ok"
+    ∷ []
 
 -- ---- the same lines and answers, as sessions
 
@@ -66,6 +78,14 @@ update_begun =
     ∷ of_pair (boards.accepted (codes "a") new_update)
     ∷ [])
 
+-- of `a_wait_begins`
+abbrev pub wait_begun : Session
+wait_begun =
+    asks (codes "a") (request.ListenQueue (codes "e") (codes "q"))
+    ∷ told (codes "a") event_reply.Done
+    ∷ asks (codes "a") (request.Wait (codes "e") false mode.Try)
+    ∷ []
+
 -- what a judge says of these lines
 pub record WorkedPairs : Type 0 where
   pub empty : AreLawful [] 0
@@ -76,3 +96,4 @@ pub record WorkedPairs : Type 0 where
   pub reply : BreaksAt (a_board_begins ++ codes "step a" ∷ codes "table = ok 2" ∷ []) 2 rule.Reply
   pub word : BreaksAt (a_board ++ codes "words 1" ∷ codes "words 1 0 8 0" ∷ []) 3 rule.Word
   pub owed : BreaksAt (an_update_begins ++ codes "step a" ∷ codes "write 1:2 9" ∷ []) 8 rule.Owed
+  pub event : BreaksAt (a_wait_begins ++ codes "step a" ∷ codes "pop queue:q 5 = id 5" ∷ []) 4 rule.Event

@@ -3,7 +3,9 @@
 //! A pair is a line and its answer, as bytes. What is judged is the text of an answer and never its value, since one text
 //! may be two answers: `table = ok` is printed for a call on boards and for one on events. `specs/PrintedAnswers` says which
 //! texts are answers at all. `AnswerGroups` parts the tokens of an answer by what they speak of, and `BrokenRules` compares
-//! them with those of the right answer, by the rules of `ScriptSession`. The laws are public functions without a body.
+//! them with those of the right answer, which is the one of `ScriptSession`. `NamedRules` ties that to the rules by name, and
+//! `SessionPairs` says which sessions of pairs are lawful, and in which the n-th pair breaks a rule. The laws are public
+//! functions without a body.
 #![tactic(auto)]
 
 mod rule;
