@@ -1,5 +1,5 @@
 -- What whole calls read of a cell, and write.
-use Rattle.std.proofs.Common.{◌≡◌, ◌≢◌, ◌⊎◌, inl, inr, ⊎_elim, ℕ, ◌+◌, ◌*◌, ◌%◌, ◌<◌, ◌≤◌, List, length, length-set, refl, sym, ap, subst, ◌∙◌, arith}
+use Rattle.std.proofs.Common.{◌≡◌, ◌≢◌, ◌⊎◌, inl, inr, ⊎_elim, ℕ, ◌+◌, ◌*◌, ◌%◌, ◌<◌, ◌≤◌, List, length, length-set, sym, ap, ◌∙◌, arith}
 use Rattle.std.specs.Prelude.{slice_index, slice_set}
 use Rattle.std.proofs.lemmas.List.{ext_get_or, get_or-set_same, get_or-set_other}
 use mathlib.Core.Logic.{dite}
@@ -7,7 +7,7 @@ use native.Mathlib.Decide.{ℕ_discrete}
 use Rattle.board_layout.specs.declared.shape.CellShape.{CellShape}
 use Rattle.board_layout.specs.Layout.{cell_end}
 use Rattle.board_cell_model.specs.OwedAccesses.{copy_at, current_at, spare_at}
-use Rattle.board_cell.specs.WholeCalls.{CellsHaveOneValue, HasValue, LiesAmong, LieApart, OthersKeepTheirValues, PublishesIn, generation_in}
+use Rattle.board_cell.specs.WholeCalls.{CellsHaveOneValue, LiesAmong, LieApart, OthersKeepTheirValues, PublishesIn, generation_in}
 
 -- each copy stands behind the head, or behind the other copy
 copies : (c : CellShape) (g : ℕ) → (copy_at c g ≡ c.first + c.head) ⊎ (copy_at c g ≡ c.first + c.head + c.words)
@@ -84,12 +84,11 @@ pub stepped : (start wide i : ℕ) (value old mid new : List ℕ) → start + wi
     → (length new ≡ length old) × ((k : ℕ) → k < i + 1 → slice_index new (start + k) ≡ slice_index value k)
     × ((k : ℕ) → k < start → slice_index new k ≡ slice_index old k) × ((k : ℕ) → start + wide ≤ k → slice_index new k ≡ slice_index old k)
 stepped start wide i value old mid new within lt long copied low high set_is =
-    let other : (k : ℕ) → k ≢ start + i → slice_index new k ≡ slice_index mid k = λ k apart. ap (λ (l : List ℕ). slice_index l k) set_is ∙ get_or-set_other mid (start + i) k (slice_index value i) 0 apart in
-    (
+    let other : (k : ℕ) → k ≢ start + i → slice_index new k ≡ slice_index mid k = λ k apart. ap (λ (l : List ℕ). slice_index l k) set_is ∙ get_or-set_other mid (start + i) k (slice_index value i) 0 apart in (
       ap (λ (l : List ℕ). length l) set_is ∙ length-set mid (start + i) (slice_index value i) ∙ long,
       λ k less. dite (ℕ_discrete k i)
           (λ same. ap (λ (m : ℕ). slice_index new (start + m)) same ∙ ap (λ (l : List ℕ). slice_index l (start + i)) set_is
-            ∙ get_or-set_same mid (start + i) (slice_index value i) 0 (omega (arith, within, lt, long)) ∙ ap (λ (m : ℕ). slice_index value m) (sym same))
+          ∙ get_or-set_same mid (start + i) (slice_index value i) 0 (omega (arith, within, lt, long)) ∙ ap (λ (m : ℕ). slice_index value m) (sym same))
           (λ apart. other (start + k) (λ e. apart (omega (arith, e))) ∙ copied k (omega (arith, less, apart))),
       λ k less. other k (λ e. absurd (omega (arith, e, less))) ∙ low k less,
       λ k more. other k (λ e. absurd (omega (arith, e, more, lt))) ∙ high k more,
