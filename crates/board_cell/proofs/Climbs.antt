@@ -1,7 +1,7 @@
 -- The counters of tries climb.
 use Rattle.std.proofs.Common.{◌≡◌, ℕ, ◌+◌, ◌<◌, ◌≤◌, List, [], ◌∷◌, ◌++◌, refl, ap, ◌∙◌, append_assoc, arith}
 use Rattle.atomic_table.specs.Seated.{TableId}
-use Rattle.board_cell.specs.Passes.{note, ClimbsFrom, last_from, ReaderSeen, Gets, GetsWithin}
+use Rattle.board_cell.specs.Passes.{note, ClimbsFrom, last_from, ReaderSeen, Gets, GetsWithin, GetsAreNoOlder}
 use Rattle.board_cell.specs.Views.{AfterTries, AfterTriesWithin, with_open, reader_of}
 use Rattle.board_cell.specs.declared.threaded.view.ReaderView.{ReaderView}
 use Rattle.board_cell.specs.declared.threaded.view.View.{View}
@@ -14,6 +14,16 @@ climbs_push x (y ∷ ys) n c l = (c.0, climbs_push y ys n c.1 l)
 pub last_push : (x : ℕ) (xs : List ℕ) (n : ℕ) → last_from x (xs ++ n ∷ []) ≡ n
 last_push x [] n = refl
 last_push x (y ∷ ys) n = last_push y ys n
+
+climbs_up : (x : ℕ) (xs : List ℕ) → ClimbsFrom x xs → x ≤ last_from x xs
+climbs_up x [] c = omega arith
+climbs_up x (y ∷ ys) c = omega (arith, c.0, climbs_up y ys c.1)
+
+-- a get is of the generation that was known to be reached, or of a later one
+pub no_older : GetsAreNoOlder
+no_older g words old new gets =
+    let loads = gets.loads in
+    omega (arith, loads.begins, climbs_up loads.first loads.rest loads.climbs, loads.ends)
 
 -- what a pass over a seat with this view is seen as
 abbrev pub seen : TableId → View → ReaderSeen

@@ -10,3 +10,4 @@ pub mod SeatSteps
 pub mod Histories
 pub mod OnBoard
 pub mod Climbs
+pub mod WholeLemmas

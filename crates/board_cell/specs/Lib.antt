@@ -6,3 +6,4 @@ pub mod Rule
 pub mod Views
 pub mod History
 pub mod Mirror
+pub mod WholeCalls

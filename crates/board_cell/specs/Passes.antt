@@ -1,5 +1,5 @@
 -- What callers see of a cell between threads and of its passes.
-use Rattle.std.specs.Prelude.{◌≡◌, ℕ, ◌+◌, ◌-◌, ◌<◌, ◌≤◌, List, [], ◌∷◌, ◌++◌, length, max, slice_get, Some}
+use Rattle.std.specs.Prelude.{◌≡◌, ℕ, ◌+◌, ◌-◌, ◌<◌, ◌≤◌, ◌==◌, Bool, List, [], ◌∷◌, ◌++◌, length, max, slice_get, Some}
 use Rattle.std.specs.List.{All}
 use Rattle.atomic_table.specs.Seated.{TableId}
 use Rattle.board_layout.specs.declared.shape.CellShape.{CellShape}
@@ -84,6 +84,10 @@ pub record GetsWithin (tries g : ℕ) (words : List ℕ) (old new : ReaderSeen) 
   pub gets : Gets g words old new
   pub few : length gets.loads.rest < tries
 
+-- a get is of the generation that its reader knew to be reached, or of a later one
+abbrev pub GetsAreNoOlder : Type 0
+GetsAreNoOlder = (g : ℕ) (words : List ℕ) (old new : ReaderSeen) → Gets g words old new → old.reached ≤ g
+
 -- no try was accepted: each of the counters is greater than the one before, and these are the last two
 pub record GivesUp (tries before after : ℕ) (old new : ReaderSeen) : Type 0 where
   pub cell : new.cell ≡ old.cell
@@ -101,6 +105,10 @@ pub record GivesUp (tries before after : ℕ) (old new : ReaderSeen) : Type 0 wh
 pub record Looks (counter : ℕ) (old new : ReaderSeen) : Type 0 where
   pub begins : old.reached ≤ counter
   pub pass : new ≡ record old { loads = old.loads ++ counter ∷ []; reached = counter }
+
+-- the counter was loaded once, and it is told whether it is this generation
+abbrev pub LooksAt : ℕ → Bool → ReaderSeen → ReaderSeen → Type 0
+LooksAt generation same old new = (counter : ℕ) × Looks counter old new × (same ≡ (counter == generation))
 
 -- the pass published these words
 abbrev pub publishing : WriterSeen → List ℕ → WriterSeen

@@ -1,5 +1,5 @@
 -- The accesses of whole runs, one after another.
-use Rattle.std.specs.Prelude.{◌≡◌, ℕ, zero, suc, ◌+◌, ◌-◌, List, [], ◌∷◌, ◌++◌, length, map}
+use Rattle.std.specs.Prelude.{◌≡◌, ℕ, zero, suc, ◌+◌, ◌-◌, List, [], ◌∷◌, ◌++◌, length, map, Result, OnOk}
 use Rattle.board_layout.specs.declared.shape.CellShape.{CellShape}
 use Rattle.board_cell_model.specs.OwedAccesses.{Owed, to_read, Reading, finished, hear, owed_read, owed_write}
 use Rattle.board_cell.specs.Calls.{on_board, Asking, Getting, Publishing, Putting, Updating, next_put, next_raise}
@@ -28,6 +28,10 @@ owed_looks board c (v ∷ vs) = to_read board c.first ∷ []
 -- the accesses that are owed were noted behind the old ones, whichever board they are made on
 abbrev pub AreNoted : List Access → List Access → (ℕ → List Owed) → Type 0
 AreNoted old new owed = (board : ℕ) → map (on_board board) new ≡ map (on_board board) old ++ owed board
+
+-- a run that went through noted the accesses that it owed
+abbrev pub Notes : {A E : Type 0} → Result A E → List Access → List Access → (ℕ → List Owed) → Type 0
+Notes result old new owed = OnOk result (AreNoted old new owed)
 
 -- ---- what whole runs owe, on the board with this number
 

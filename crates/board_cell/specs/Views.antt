@@ -82,6 +82,13 @@ joined_view (Writer x) (Reader y) = Writer (writer_with x y)
 joined_view (Reader x) (Reader y) = Reader (reader_with x y)
 joined_view v _ = v
 
+-- the view of a receipt of this generation is a reader's, who has read nothing and knows it to be reached
+pub record IsReceiptOf (generation : ℕ) (v : View) : Type 0 where
+  pub reader : v ≡ Reader (reader_of v)
+  pub notes : (reader_of v).notes ≡ []
+  pub loads : (reader_of v).loads ≡ []
+  pub reached : (reader_of v).reached ≡ generation
+
 -- the call is in the reader's open try
 abbrev pub IsTrying : ℕ → Getting → ReaderView → Type 0
 IsTrying w call x = call ≡ record { shape = threaded_shape w; reading = trying x.opened x.found }

@@ -8,7 +8,10 @@
 //! (generation and words), the counters that it loaded, and the generation that it knows to be reached. `specs/Rule`
 //! has the one record of facts that holds of the words and all views at every moment, `specs/Views` what a step does to
 //! the view that takes it, `specs/Passes` what callers see of a pass, and `specs/History` the legal history of all
-//! publications and notes, which `gather` gives. `threaded/steps` has the atomic steps.
+//! publications and notes, which `gather` gives. `threaded/steps` has the atomic steps. `OfCell` is the promise of a
+//! thread that what it gives back is of a cell.
+//!
+//! A thread that has the words alone calls `get_on`, `fresh_on` and `update_on`, which make all accesses of a call.
 #![tactic(auto)]
 
 mod access;
@@ -22,6 +25,7 @@ mod runs;
 mod seat_words;
 mod threaded;
 mod update_call;
+mod whole_calls;
 mod words;
 
 pub use access::{Access, Progress};
@@ -29,13 +33,16 @@ pub use board_cell_model::{a_get_hears_in_order, a_try_decides};
 pub use board_layout::CellShape;
 pub use cell_error::CellError;
 pub use get_call::GetCall;
-pub use laws::a_history_is_legal;
+pub use laws::{a_cell_has_one_value, a_get_is_no_older, a_history_is_legal};
 pub use one_access::{FreshCall, PublishCall, PutCall};
 pub use plain_words::PlainWords;
 pub use runs::{run_fresh, run_get, run_publish, run_put, run_update};
 pub use seat_words::SeatWords;
-pub use threaded::{Gathered, GetAgain, Note, ReaderPass, Receipt, ThreadedCell, WriterPass};
+pub use threaded::{
+    Gathered, GetAgain, Note, OfCell, ReaderPass, Receipt, ThreadedCell, WriterPass,
+};
 pub use update_call::{UpdateCall, ValueWords};
+pub use whole_calls::{fresh_on, get_on, update_on};
 pub use words::Words;
 
 #[cfg(test)]

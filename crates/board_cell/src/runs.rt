@@ -2,7 +2,7 @@
 ghost use Rattle.std.specs.Prelude.{◌≡◌, ◌≤◌, true, false, length, slice_get, None, IfOk, OnOk};
 ghost use Rattle.board_cell_model.specs.OwedAccesses.{is_finished};
 ghost use Rattle.board_cell.specs.Calls.{hearing_all, look_answer, written_out};
-ghost use Rattle.board_cell.specs.Runs.{AreNoted, looks_owed, put_owed, raise_owed, reads_owed, writes_owed};
+ghost use Rattle.board_cell.specs.Runs.{Notes, looks_owed, put_owed, raise_owed, reads_owed, writes_owed};
 
 use crate::access::{Access, Progress};
 use crate::get_call::GetCall;
@@ -22,7 +22,8 @@ pub fn run_get(
 ) -> Result<(), AllocError>
     requires { is_finished call.old.reading ≡ false }
     ensures call { OnOk result (call.new ≡ hearing_all call.old words.now) }
-    ensures accesses { OnOk result (AreNoted accesses.old.items accesses.new.items (reads_owed call.old words.now)) }
+    ensures accesses { let owed = reads_owed call.old words.now in
+        Notes result accesses.old.items accesses.new.items owed }
 {
     for word in words {
         accesses.push(call.next())?;
@@ -41,7 +42,8 @@ pub fn run_get(
 pub fn run_update(call: &mut UpdateCall, accesses: &mut Vec<Access>) -> Result<(), AllocError>
     requires { call.old.written ≤ length call.old.words }
     ensures call { OnOk result (call.new ≡ written_out call.old) }
-    ensures accesses { OnOk result (AreNoted accesses.old.items accesses.new.items (writes_owed call.old)) }
+    ensures accesses { let owed = writes_owed call.old in
+        Notes result accesses.old.items accesses.new.items owed }
 {
     loop {
         accesses.push(call.next())?;
@@ -63,7 +65,8 @@ pub fn run_fresh(
 ) -> Result<Option<bool>, AllocError>
     requires { call.old.counter ≡ None }
     ensures call { OnOk result (call.new ≡ record call.old { counter = slice_get words.now 0 }) }
-    ensures accesses { OnOk result (AreNoted accesses.old.items accesses.new.items (looks_owed call.old words.now)) }
+    ensures accesses { let owed = looks_owed call.old words.now in
+        Notes result accesses.old.items accesses.new.items owed }
     ensures answer { IfOk result (λ answer. answer ≡ look_answer call.old words.now) }
 {
     let Some(word) = words.first() else {
@@ -81,7 +84,8 @@ pub fn run_fresh(
 pub fn run_put(call: &mut PutCall, accesses: &mut Vec<Access>) -> Result<(), AllocError>
     requires { call.old.done ≡ false }
     ensures call { OnOk result (call.new ≡ record call.old { done = true }) }
-    ensures accesses { OnOk result (AreNoted accesses.old.items accesses.new.items (put_owed call.old)) }
+    ensures accesses { let owed = put_owed call.old in
+        Notes result accesses.old.items accesses.new.items owed }
 {
     accesses.push(call.next())?;
     call.took(0);
@@ -95,7 +99,8 @@ pub fn run_put(call: &mut PutCall, accesses: &mut Vec<Access>) -> Result<(), All
 pub fn run_publish(call: &mut PublishCall, accesses: &mut Vec<Access>) -> Result<(), AllocError>
     requires { call.old.done ≡ false }
     ensures call { OnOk result (call.new ≡ record call.old { done = true }) }
-    ensures accesses { OnOk result (AreNoted accesses.old.items accesses.new.items (raise_owed call.old)) }
+    ensures accesses { let owed = raise_owed call.old in
+        Notes result accesses.old.items accesses.new.items owed }
 {
     accesses.push(call.next())?;
     call.took(0);

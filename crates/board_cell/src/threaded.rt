@@ -2,6 +2,7 @@
 
 mod cell;
 mod gather;
+mod promise;
 mod reader;
 mod receipt;
 mod rule;
@@ -11,6 +12,7 @@ mod writer;
 
 pub use cell::ThreadedCell;
 pub use gather::Gathered;
+pub use promise::OfCell;
 pub use reader::{GetAgain, ReaderPass};
 pub use receipt::Receipt;
 pub use view::Note;

@@ -16,6 +16,10 @@ is_attribute a = is_text 64 a.key && is_text 256 a.value
 abbrev pub pair_of : List ℕ → List ℕ → Attribute
 pair_of key value = record { key = key; value = value }
 
+-- these are the key and the value of an attribute
+abbrev pub are_texts : List ℕ → List ℕ → Bool
+are_texts key value = is_attribute (pair_of key value)
+
 -- the attributes of a service: up to 8
 pub record AreAttributes (attributes : List Attribute) : Type 0 where
   pub few : length attributes ≤ 8

@@ -70,7 +70,8 @@ impl AttributeSet {
 
     /// The key and the value of the pair at this place.
     pub fn pair_at(&self, index: usize) -> Option<(&[u8], &[u8])>
-        ensures { option_map (λ pair. pair_of pair.0.now pair.1.now) result ≡ slice_get self.now index }
+        ensures { let pair = option_map (λ p. pair_of p.0.now p.1.now) result in
+            pair ≡ slice_get self.now index }
     {
         let pair = self.attributes.get(index)?;
         Some((pair.key.as_bytes(), pair.value.as_bytes()))

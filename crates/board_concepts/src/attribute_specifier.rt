@@ -1,7 +1,7 @@
 //! The attributes that a new service is to have.
 ghost use Rattle.std.specs.Prelude.{◌≡◌, ◌++◌, [], ◌∷◌, ◌↔◌, length, IsTrue, false, IfOk, IsErrOf};
 ghost use Rattle.board_names.specs.declared.errors.service.AttributeError.TheVariants.{ExceedsMaxSupportedAttributes, InvalidText};
-ghost use Rattle.board_concepts.specs.Attributes.{MeetsFull, is_attribute, pair_of};
+ghost use Rattle.board_concepts.specs.Attributes.{MeetsFull, are_texts, pair_of};
 
 use crate::attribute_set::{AttributeSet, is_text};
 use board_layout::Text;
@@ -29,8 +29,9 @@ impl Model for AttributeSpecifier {
 
 // One more pair in a set.
 pub(crate) fn add(set: AttributeSet, key: &str, value: &str) -> Result<AttributeSet, AttributeError>
-    ensures invalid { IsErrOf result InvalidText ↔ (is_attribute (pair_of key.now value.now) ≡ false) }
-    ensures full { IsErrOf result ExceedsMaxSupportedAttributes ↔ MeetsFull (is_attribute (pair_of key.now value.now)) set }
+    ensures invalid { IsErrOf result InvalidText ↔ (are_texts key.now value.now ≡ false) }
+    ensures full { IsErrOf result ExceedsMaxSupportedAttributes ↔
+        MeetsFull (are_texts key.now value.now) set }
     ensures ok { IfOk result (λ more. more ≡ set ++ pair_of key.now value.now ∷ []) }
 {
     if !is_text(MAX_ATTRIBUTE_KEY_LENGTH, key.as_bytes())
@@ -68,8 +69,9 @@ impl AttributeSpecifier {
     /// `InvalidText` where a text is too long or has a byte outside 0x20 to 0x7E; else `ExceedsMaxSupportedAttributes` where
     /// there are 8 pairs; `OutOfMemory`.
     pub fn define(self, key: &str, value: &str) -> Result<Self, AttributeError>
-        ensures invalid { IsErrOf result InvalidText ↔ (is_attribute (pair_of key.now value.now) ≡ false) }
-        ensures full { IsErrOf result ExceedsMaxSupportedAttributes ↔ MeetsFull (is_attribute (pair_of key.now value.now)) self }
+        ensures invalid { IsErrOf result InvalidText ↔ (are_texts key.now value.now ≡ false) }
+        ensures full { IsErrOf result ExceedsMaxSupportedAttributes ↔
+            MeetsFull (are_texts key.now value.now) self }
         ensures ok { IfOk result (λ more. more ≡ self ++ pair_of key.now value.now ∷ []) }
     {
         let set = add(self.set, key, value)?;

@@ -3,7 +3,7 @@ ghost use Rattle.std.specs.Prelude.{◌≡◌, ◌++◌, [], ◌∷◌, ◌↔�
 ghost use Rattle.std.specs.List.{list_all};
 ghost use Rattle.board_model.specs.Tables as tables;
 ghost use Rattle.board_names.specs.declared.errors.service.AttributeError.TheVariants.{ExceedsMaxSupportedAttributes, InvalidText};
-ghost use Rattle.board_concepts.specs.Attributes.{MeetsFull, AreKeys, is_text, is_attribute, pair_of};
+ghost use Rattle.board_concepts.specs.Attributes.{MeetsFull, AreKeys, is_text, are_texts, pair_of};
 
 use crate::attribute_set::{AttributeSet, is_text};
 use crate::attribute_specifier::add;
@@ -86,9 +86,11 @@ impl AttributeVerifier {
     /// `InvalidText` where a text is too long or has a byte outside 0x20 to 0x7E; else `ExceedsMaxSupportedAttributes` where
     /// there are 8 required pairs; `OutOfMemory`.
     pub fn require(self, key: &str, value: &str) -> Result<Self, AttributeError>
-        ensures invalid { IsErrOf result InvalidText ↔ (is_attribute (pair_of key.now value.now) ≡ false) }
-        ensures full { IsErrOf result ExceedsMaxSupportedAttributes ↔ MeetsFull (is_attribute (pair_of key.now value.now)) self.pairs }
-        ensures ok { IfOk result (λ more. more ≡ record self { pairs = self.pairs ++ pair_of key.now value.now ∷ [] }) }
+        ensures invalid { IsErrOf result InvalidText ↔ (are_texts key.now value.now ≡ false) }
+        ensures full { IsErrOf result ExceedsMaxSupportedAttributes ↔
+            MeetsFull (are_texts key.now value.now) self.pairs }
+        ensures ok { let pairs = self.pairs ++ pair_of key.now value.now ∷ [] in
+            IfOk result (λ more. more ≡ record self { pairs = pairs }) }
     {
         let pairs = add(self.pairs, key, value)?;
         Ok(AttributeVerifier {
@@ -104,8 +106,10 @@ impl AttributeVerifier {
     /// there are 8 required keys; `OutOfMemory`.
     pub fn require_key(self, key: &str) -> Result<Self, AttributeError>
         ensures invalid { IsErrOf result InvalidText ↔ (is_text 64 key.now ≡ false) }
-        ensures full { IsErrOf result ExceedsMaxSupportedAttributes ↔ MeetsFull (is_text 64 key.now) self.keys }
-        ensures ok { IfOk result (λ more. more ≡ record self { keys = self.keys ++ key.now ∷ [] }) }
+        ensures full { IsErrOf result ExceedsMaxSupportedAttributes ↔
+            MeetsFull (is_text 64 key.now) self.keys }
+        ensures ok { let keys = self.keys ++ key.now ∷ [] in
+            IfOk result (λ more. more ≡ record self { keys = keys }) }
     {
         if !is_text(MAX_ATTRIBUTE_KEY_LENGTH, key.as_bytes()) {
             return Err(AttributeError::InvalidText);

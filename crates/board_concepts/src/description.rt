@@ -5,15 +5,22 @@ use crate::attribute_set::AttributeSet;
 use board_layout::TypeDetail;
 use board_names::ServiceName;
 
-/// A service: the version of this form, its name, its type of keys, its limits, and its attributes. New boards have version 2. Version 1 doesn't spell the limit of writers, which is 1 there.
+/// A service, as it is described to those who open it.
 #[derive(Drop, Debug)]
 pub struct Description {
+    /// The version of this form. New boards have version 2.
     pub version: u32,
+    /// The name of the service.
     pub name: ServiceName,
+    /// The type of its keys.
     pub key: TypeDetail,
+    /// How many readers it may have.
     pub max_readers: u64,
+    /// How many nodes it may have.
     pub max_nodes: u64,
+    /// How many writers it may have. Version 1 doesn't spell it, and there it is 1.
     pub max_writers: u64,
+    /// Its attributes.
     pub attributes: AttributeSet,
 }
 

@@ -1,5 +1,5 @@
 -- Walks of a callback, from the last call back to the first.
-use Rattle.std.proofs.Common.{◌≡◌, ℕ, suc, ◌+◌, ◌-◌, ◌<◌, ◌≤◌, List, [], ◌∷◌, Option, Some, None, sym, ap, ◌∙◌, subst, inl, inr, arith}
+use Rattle.std.proofs.Common.{◌≡◌, ℕ, suc, ◌+◌, ◌-◌, ◌<◌, ◌≤◌, List, [], ◌∷◌, Option, Some, None, sym, ap, ◌∙◌, subst, inl, inr, ⊎_elim, ◌⊎◌, arith}
 use Rattle.std.specs.Prelude.{true, if◌then◌else◌, option_map}
 use Rattle.std.specs.List.{cons_option}
 use Rattle.board_layout.specs.declared.type_detail.TypeDetail.{TypeDetail}
@@ -14,20 +14,27 @@ use Rattle.board_handles.specs.BoardEnds.{Core}
 use Rattle.board_domain.specs.LentForms as lent
 use Rattle.board_domain.specs.declared.callback_progression.CallbackProgression.{CallbackProgression}
 use Rattle.board_domain.specs.declared.callback_progression.CallbackProgression.TheVariants.{Continue, Stop}
-use Rattle.board_domain.specs.Walks.{Visits, at_places, nodes_in}
+use Rattle.board_domain.specs.Walks.{Walks, WalksTo, at_places, nodes_in}
 
 module _ {F A : Type 0} (called : F → A → CallbackProgression → F → Type 0) where
   -- none is left
-  pub visits_none : (f : F) (all : List A) → all ≡ [] → Visits called f all
-  visits_none f all e = subst (Visits called f) (sym e) tt
+  pub walks_none : (f last : F) (all : List A) → all ≡ [] → last ≡ f → WalksTo called f all last
+  walks_none f last all e same = subst (λ xs. WalksTo called f xs last) (sym e) same
 
   -- the call at the first said to stop
-  pub visits_stopped : (f g : F) (x : A) (xs all : List A) → all ≡ x ∷ xs → called f x Stop g → Visits called f all
-  visits_stopped f g x xs all e now = subst (Visits called f) (sym e) (g, inl now)
+  pub walks_stopped : (f last : F) (x : A) (xs all : List A) → all ≡ x ∷ xs → called f x Stop last → WalksTo called f all last
+  walks_stopped f last x xs all e now = subst (λ xs. WalksTo called f xs last) (sym e) (inl now)
 
   -- the call at the first said to go on
-  pub visits_more : (f g : F) (x : A) (xs all : List A) → all ≡ x ∷ xs → called f x Continue g → Visits called g xs → Visits called f all
-  visits_more f g x xs all e now rest = subst (Visits called f) (sym e) (g, inr (now, rest))
+  pub walks_more : (f g last : F) (x : A) (xs all : List A) → all ≡ x ∷ xs → called f x Continue g → WalksTo called g xs last → WalksTo called f all last
+  walks_more f g last x xs all e now rest = subst (λ xs. WalksTo called f xs last) (sym e) (inr (g, now, rest))
+
+  -- a walk with its end is a walk
+  pub walks_on : (f last : F) (xs : List A) → WalksTo called f xs last → Walks called f xs
+  walks_on f last [] w = tt
+  walks_on f last (x ∷ xs) w =
+      ⊎_elim (λ (now : called f x Stop last). (last, inl now))
+      (λ (more : (g : F) × called f x Continue g × WalksTo called g xs last). (more.0, inr (more.1, walks_on more.0 last xs more.2))) w
 
 -- what stands at this place comes before the others
 module _ {A : Type 0} (at : ℕ → Option A) (place count : ℕ) (below : place < count) where

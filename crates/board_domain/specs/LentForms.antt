@@ -1,5 +1,6 @@
 -- What the lent forms of creators, openers and factories answer over a domain's tables, and how they leave them.
-use Rattle.std.specs.Prelude.{◌≡◌, ℕ, ◌+◌, ◌⊎◌, ◌&&◌, nat_le, if◌then◌else◌, List, [], Option, Some, None, option_map, Result, Ok, Err}
+use Rattle.std.specs.Prelude.{◌≡◌, ℕ, ◌+◌, ◌⊎◌, ◌&&◌, nat_le, Bool, if◌then◌else◌, List, [], Option, Some, None, option_map, Result, Ok, Err, IfOk}
+use Rattle.board_layout.specs.Answer.{Answers, Refuses, with_value}
 use Rattle.board_layout.specs.declared.type_detail.TypeDetail.{TypeDetail}
 use Rattle.board_model.specs.declared.attributes.Attribute.{Attribute}
 use Rattle.board_model.specs.declared.tables.Entry.{Entry}
@@ -7,9 +8,12 @@ use Rattle.board_model.specs.declared.tables.NewLimits.{NewLimits}
 use Rattle.board_model.specs.declared.tables.ThingKind.TheVariants.{Factory}
 use Rattle.board_model.specs.Tables.{Added, board_at}
 use Rattle.board_model.specs.declared.attributes.Requirements.{Requirements}
+use Rattle.board_names.specs.declared.errors.boards.BlackboardCreateError.{BlackboardCreateError}
+use Rattle.board_names.specs.declared.errors.boards.BlackboardCreateError.TheVariants as create_error
 use Rattle.board_names.specs.declared.errors.boards.BlackboardOpenError.{BlackboardOpenError}
+use Rattle.board_names.specs.declared.errors.boards.BlackboardOpenError.TheVariants as open_error
 use Rattle.board_service.specs.declared.made.Made.{Made}
-use Rattle.board_domain.specs.Services.{CreatorSeen, OpenerSeen}
+use Rattle.board_domain.specs.Services.{CreatorSeen, OpenerSeen, FactorySeen, factory_made}
 use Rattle.board_service.specs.Domain as calls
 use Rattle.board_service.specs.Domain.{stands_as, held, after_create, after_open}
 use Rattle.board_service.specs.declared.told.DynamicConfig.{DynamicConfig}
@@ -17,7 +21,8 @@ use Rattle.board_service.specs.Told.{use_in}
 use Rattle.board_cells.specs.Cells.{PlaceSeen, AreNew}
 use Rattle.board_domain.specs.Walks.{nodes_in, keys_in}
 use Rattle.board_handles.specs.BoardEnds.{Core}
-use Rattle.board_handles.specs.LentForms.{without_thing}
+use Rattle.board_handles.specs.LentForms.{without_thing, StaysIfRefused}
+use Rattle.board_domain.specs.Factories.{KeepsBoard}
 
 -- ---- create
 
@@ -53,6 +58,18 @@ abbrev pub LeavesMade : {A E : Type 0} → Result A E → NewBoard → Core → 
 LeavesMade (Ok x) b old new = IsMade b old new
 LeavesMade (Err e) b old new = IsNotMade b old new
 
+-- where the tables refuse a board they stay
+abbrev pub StaysUnmade : NewBoard → (List ℕ → List ℕ → Bool) → Core → Core → Type 0
+StaysUnmade b same_key old new = StaysIfRefused (calls.create_answer old same_key b.name b.entries) old new
+
+-- a typed `create` was made over some tables, of which nothing more is known, and left them in some way
+abbrev pub CreatesSomewhere : Result FactorySeen BlackboardCreateError → (List ℕ → List ℕ → Bool) → NewBoard → Type 0
+CreatesSomewhere result same_key b =
+    (old : Core) × (new : Core)
+    × Answers (with_value factory_made result) create_error.OutOfMemory (calls.create_answer old same_key b.name b.entries)
+    × Refuses (with_value factory_made result) (calls.create_answer old same_key b.name b.entries)
+    × LeavesMade result b old new × IfOk result (KeepsBoard new)
+
 -- ---- open
 
 -- what the opening of a board answers: the factory's thing, and the board's number
@@ -63,6 +80,18 @@ open_answer d keys o needs = calls.open_answer d o.node o.name keys o.limits nee
 abbrev pub LeavesOpened : {A E : Type 0} → Result A E → ℕ → List ℕ → Core → Core → Type 0
 LeavesOpened (Ok x) node name old new = new ≡ after_open old node name
 LeavesOpened (Err e) node name old new = (new ≡ old) ⊎ (new ≡ without_thing (after_open old node name) (old.last_thing + 1))
+
+-- where the tables refuse to open a board they stay
+abbrev pub StaysUnopened : OpenerSeen → TypeDetail → Requirements → Core → Core → Type 0
+StaysUnopened o keys needs old new = StaysIfRefused (open_answer old keys o needs) old new
+
+-- a typed `open` was made over some tables, of which nothing more is known, and left them in some way
+abbrev pub OpensSomewhere : Result FactorySeen BlackboardOpenError → OpenerSeen → TypeDetail → Requirements → Type 0
+OpensSomewhere result o keys needs =
+    (old : Core) × (new : Core)
+    × Answers (with_value factory_made result) open_error.OutOfMemory (open_answer old keys o needs)
+    × Refuses (with_value factory_made result) (open_answer old keys o needs)
+    × LeavesOpened result o.node o.name old new × IfOk result (KeepsBoard new)
 
 -- ---- what is told of a board
 

@@ -1,6 +1,8 @@
 -- What callers see of nodes, builders and factories.
 use Rattle.std.specs.Prelude.{◌≡◌, ℕ, ◌+◌, if◌then◌else◌, List, [], ◌∷◌, ◌++◌, Some, None, Result, Ok, Err}
+use Rattle.board_layout.specs.Answer.{Answers, Refuses}
 use Rattle.board_layout.specs.declared.type_detail.TypeDetail.{TypeDetail}
+use Rattle.board_layout.specs.Bytes.{BeginsWithBytes}
 use Rattle.board_layout.specs.Keys.{key_value}
 use Rattle.board_model.specs.declared.attributes.Attribute.{Attribute}
 use Rattle.board_model.specs.declared.attributes.Requirements.{Requirements}
@@ -8,7 +10,7 @@ use Rattle.board_model.specs.declared.tables.Limits.{Limits}
 use Rattle.board_model.specs.declared.tables.NewLimits.{NewLimits}
 use Rattle.board_model.specs.Tables.{Added}
 use Rattle.board_names.specs.declared.errors.service.DomainError.{DomainError}
-use Rattle.board_names.specs.declared.errors.service.DomainError.TheVariants.{NumbersSpent}
+use Rattle.board_names.specs.declared.errors.service.DomainError.TheVariants.{NumbersSpent, OutOfMemory}
 use Rattle.board_service.specs.declared.made.Made.{Made}
 use Rattle.board_service.specs.declared.told.StaticConfig.{StaticConfig}
 use Rattle.board_service.specs.Domain.{spent}
@@ -24,6 +26,10 @@ node_number n = n.id
 -- the next node's number after the last that was drawn
 abbrev pub node_answer : ℕ → Result ℕ DomainError
 node_answer last = if spent last then Err NumbersSpent else Ok (last + 1)
+
+-- a node's number was drawn after some last one, of which nothing more is known
+abbrev pub DrawsSomewhere : Result ℕ DomainError → Type 0
+DrawsSomewhere result = (last : ℕ) × Answers result OutOfMemory (node_answer last) × Refuses result (node_answer last)
 
 -- what makes or opens a board: the node that asks, and the board's name
 pub record BuilderSeen : Type 0 where
@@ -42,6 +48,10 @@ pub record OpenerSeen : Type 0 where
   pub node : ℕ
   pub name : List ℕ
   pub limits : Limits
+
+-- an opener of the node, for the board of this name
+abbrev pub opening : ℕ → List ℕ → Limits → OpenerSeen
+opening node name limits = record { node = node; name = name; limits = limits }
 
 -- a factory: its thing and its board's number, the board's name, and what is fixed of the board
 pub record FactorySeen : Type 0 where
@@ -91,8 +101,9 @@ no_requirements = record { pairs = []; keys = [] }
 
 -- ---- entries
 
--- an entry of this key and these words of a first value: the key's bytes read back as the key
-pub record IsEntryOf {K : Type 0} (value_of : List ℕ → K) (size count : ℕ) (key : K) (values : TypeDetail) (words : List ℕ) (a : Added) : Type 0 where
+-- an entry of this key and these words of a first value: the key's bytes are those of its words with zeros behind, and read back as the key
+pub record IsEntryOf {K : Type 0} (value_of : List ℕ → K) (words_of : K → List ℕ) (size count : ℕ) (key : K) (values : TypeDetail) (words : List ℕ) (a : Added) : Type 0 where
+  pub bytes : BeginsWithBytes a.key (words_of key) size
   pub reads_back : key_value value_of size count a.key ≡ key
   pub typed : a.value ≡ values
   pub holds : a.words ≡ words

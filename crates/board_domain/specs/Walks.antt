@@ -1,5 +1,5 @@
 -- How a callback walks over nodes and keys.
-use Rattle.std.specs.Prelude.{ℕ, suc, zero, ◌+◌, ◌⊎◌, nat_eq, List, [], ◌∷◌, map, Option, Some, None}
+use Rattle.std.specs.Prelude.{◌≡◌, ℕ, suc, zero, ◌+◌, ◌⊎◌, nat_eq, List, [], ◌∷◌, map, Option, Some, None}
 use Rattle.std.specs.List.{cons_option}
 use Rattle.board_layout.specs.Keys.{key_value}
 use Rattle.board_model.specs.declared.tables.Board.{Board}
@@ -10,10 +10,15 @@ use Rattle.board_service.specs.Told.{node_in}
 use Rattle.board_domain.specs.declared.callback_progression.CallbackProgression.{CallbackProgression}
 use Rattle.board_domain.specs.declared.callback_progression.CallbackProgression.TheVariants.{Continue, Stop}
 
--- a callback was called at one after another, in order, until it said to stop or none was left
-abbrev pub Visits : {F A : Type 0} → (F → A → CallbackProgression → F → Type 0) → F → List A → Type 0
-Visits called f [] = Unit {0}
-Visits {F} called f (x ∷ xs) = (g : F) × (called f x Stop g ⊎ (called f x Continue g × Visits called g xs))
+-- a callback was called at one after another, in order, until it said to stop or none was left, and no more; that leaves it so
+abbrev pub WalksTo : {F A : Type 0} → (F → A → CallbackProgression → F → Type 0) → F → List A → F → Type 0
+WalksTo called f [] last = last ≡ f
+WalksTo {F} called f (x ∷ xs) last = called f x Stop last ⊎ ((g : F) × called f x Continue g × WalksTo called g xs last)
+
+-- the same, whatever that leaves
+abbrev pub Walks : {F A : Type 0} → (F → A → CallbackProgression → F → Type 0) → F → List A → Type 0
+Walks called f [] = Unit {0}
+Walks {F} called f (x ∷ xs) = (g : F) × (called f x Stop g ⊎ (called f x Continue g × Walks called g xs))
 
 -- those that stand at this place and the next, so many places
 abbrev pub at_places : {A : Type 0} → (ℕ → Option A) → ℕ → ℕ → List A

@@ -116,8 +116,8 @@ impl<K: BoardKey, P> Creator<K, P> {
         ensures aligned { let why = AddError.Key KeyMemoryError.ValueAlignmentTooLarge in
             IsErrOf result why ↔ ((K.SIZE ≤ 64) × (8 < K.ALIGNMENT)) }
         ensures ok { let values = details V.type_bytes V.SIZE V.ALIGNMENT in
-            let entry = IsEntryOf K.value_of K.SIZE K.WORDS key values (V.words_of value) in
-            IfOk result (λ more. AddsEntry self more entry) }
+            let is_it = IsEntryOf K.value_of K.words_of K.SIZE K.WORDS key values in
+            IfOk result (λ more. AddsEntry self more (is_it (V.words_of value))) }
     {
         let added = match new_entry(self.alloc, &key, &value) {
             Ok(added) => added,
@@ -137,9 +137,12 @@ impl<K: BoardKey, P> Creator<K, P> {
     pub fn add_with_default<V: ZeroCopySend + Default>(self, key: K) -> Result<Self, AddError>
         ensures large { IsErrOf result (AddError.Key KeyMemoryError.ValueTooLarge)
             ↔ (64 < K.SIZE) }
+        ensures aligned { let why = AddError.Key KeyMemoryError.ValueAlignmentTooLarge in
+            IsErrOf result why ↔ ((K.SIZE ≤ 64) × (8 < K.ALIGNMENT)) }
         ensures ok { let values = details V.type_bytes V.SIZE V.ALIGNMENT in
-            let entry = λ (v : V). IsEntryOf K.value_of K.SIZE K.WORDS key values (V.words_of v) in
-            IfOk result (λ more. (v : V) × V.is_default v × AddsEntry self more (entry v)) }
+            let is_it = IsEntryOf K.value_of K.words_of K.SIZE K.WORDS key values in
+            let words = V.words_of in
+            IfOk result (λ more. (v : V) × V.is_default v × AddsEntry self more (is_it (words v))) }
     {
         self.add(key, V::default())
     }
@@ -162,6 +165,10 @@ impl<K: BoardKey, P> Creator<K, P> {
         ensures tables { let keys = details K.type_bytes K.SIZE K.ALIGNMENT in
             let asked = lent.asked_board self keys attributes in
             lent.LeavesMade result asked state.old.tables state.new.tables }
+        ensures stays { let keys = details K.type_bytes K.SIZE K.ALIGNMENT in
+            let asked = lent.asked_board self keys attributes in
+            let same_key = same_keys K.eq K.value_of K.SIZE K.WORDS in
+            lent.StaysUnmade asked same_key state.old.tables state.new.tables }
         ensures kept { IfOk result (λ f. KeepsBoard state.new.tables f) }
         ensures named { IfOk result (λ f. f.name ≡ self.name) }
         ensures nodes { state.new.nodes ≡ state.old.nodes }
@@ -198,6 +205,10 @@ impl<K: BoardKey, P> Creator<K, P> {
         ensures tables { let keys = details K.type_bytes K.SIZE K.ALIGNMENT in
             let asked = lent.asked_board self keys [] in
             lent.LeavesMade result asked state.old.tables state.new.tables }
+        ensures stays { let keys = details K.type_bytes K.SIZE K.ALIGNMENT in
+            let asked = lent.asked_board self keys [] in
+            let same_key = same_keys K.eq K.value_of K.SIZE K.WORDS in
+            lent.StaysUnmade asked same_key state.old.tables state.new.tables }
         ensures kept { IfOk result (λ f. KeepsBoard state.new.tables f) }
         ensures named { IfOk result (λ f. f.name ≡ self.name) }
         ensures nodes { state.new.nodes ≡ state.old.nodes }
@@ -215,6 +226,9 @@ impl<K: BoardKey, P> Creator<K, P> {
         rt: &R,
         attributes: AttributeSpecifier,
     ) -> Result<PortFactory<K, P>, BlackboardCreateError>
+        ensures answer { let keys = details K.type_bytes K.SIZE K.ALIGNMENT in
+            let same_key = same_keys K.eq K.value_of K.SIZE K.WORDS in
+            lent.CreatesSomewhere result same_key (lent.asked_board self keys attributes) }
         ensures named { IfOk result (λ f. f.name ≡ self.name) }
     {
         let Creator {
@@ -226,16 +240,10 @@ impl<K: BoardKey, P> Creator<K, P> {
             domain,
             marker: _,
         } = self;
+        let set = attributes.into_set();
         let made = {
             let mut state = domain.lock(rt);
-            new_board::<K>(
-                &mut state,
-                node,
-                &name,
-                limits,
-                attributes.into_set(),
-                entries,
-            )
+            new_board::<K>(&mut state, node, &name, limits, set, entries)
         };
         match made {
             Ok(kept) => Ok(PortFactory::new(alloc, kept, name, domain)),
@@ -248,6 +256,9 @@ impl<K: BoardKey, P> Creator<K, P> {
     /// # Errors
     /// As for `create_with_attributes_in`.
     pub fn create<R: Wait>(self, rt: &R) -> Result<PortFactory<K, P>, BlackboardCreateError>
+        ensures answer { let keys = details K.type_bytes K.SIZE K.ALIGNMENT in
+            let same_key = same_keys K.eq K.value_of K.SIZE K.WORDS in
+            lent.CreatesSomewhere result same_key (lent.asked_board self keys []) }
         ensures named { IfOk result (λ f. f.name ≡ self.name) }
     {
         let none = AttributeSpecifier::new(self.alloc);

@@ -9,6 +9,7 @@ ghost use Rattle.board_service.specs.Domain as calls;
 ghost use Rattle.board_service.specs.Entries.{as_added};
 ghost use Rattle.board_domain.specs.Kept.{kept_made, KeepsBoard};
 ghost use Rattle.board_domain.specs.LentForms as lent;
+ghost use Rattle.board_domain.specs.Services.{opening};
 
 use board_concepts::{AttributeSet, AttributeVerifier};
 use board_handles::{BoardCells, DomainState};
@@ -75,6 +76,11 @@ pub(crate) fn new_board<K: BoardKey>(
         let added = map as_added entries.items in
         let asked = lent.new_board node name.now keys limits attributes added in
         lent.LeavesMade result asked state.old.tables state.new.tables }
+    ensures stays { let keys = details K.type_bytes K.SIZE K.ALIGNMENT in
+        let added = map as_added entries.items in
+        let asked = lent.new_board node name.now keys limits attributes added in
+        let same_key = same_keys K.eq K.value_of K.SIZE K.WORDS in
+        lent.StaysUnmade asked same_key state.old.tables state.new.tables }
     ensures kept { IfOk result (λ k. KeepsBoard state.new.tables k) }
     ensures nodes { state.new.nodes ≡ state.old.nodes }
 {
@@ -117,6 +123,9 @@ pub(crate) fn open_board<K: BoardKey>(
         let answer = calls.open_answer state.old.tables node name.now keys limits verifier.now in
         Refuses (with_value kept_made result) answer }
     ensures tables { lent.LeavesOpened result node name.now state.old.tables state.new.tables }
+    ensures stays { let keys = details K.type_bytes K.SIZE K.ALIGNMENT in
+        let asked = opening node name.now limits in
+        lent.StaysUnopened asked keys verifier.now state.old.tables state.new.tables }
     ensures kept { IfOk result (λ k. KeepsBoard state.new.tables k) }
     ensures nodes { state.new.nodes ≡ state.old.nodes }
 {

@@ -5,6 +5,7 @@ use board_service::StaticConfig;
 /// What kind of service a name stands for. There are blackboards alone.
 #[derive(Clone, Copy, Debug, PartialEq, Eq)]
 pub enum MessagingPattern {
+    /// A board, and what is fixed of it.
     Blackboard(StaticConfig),
 }
 

@@ -27,7 +27,7 @@ pub(crate) fn new_entry<K: BoardKey, V: ZeroCopySend>(
     ensures shape { IfOk result (λ e. IsShape (shape_of (as_added e))) }
     ensures ok { let values = details V.type_bytes V.SIZE V.ALIGNMENT in
         let words = V.words_of value.now in
-        let is_it = IsEntryOf K.value_of K.SIZE K.WORDS key.now values words in
+        let is_it = IsEntryOf K.value_of K.words_of K.SIZE K.WORDS key.now values words in
         IfOk result (λ e. is_it (as_added e)) }
 {
     let key = match KeyMemory::try_from(key) {

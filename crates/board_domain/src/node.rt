@@ -2,7 +2,7 @@
 ghost use Rattle.std.specs.Prelude.{◌≡◌, ◌+◌, IfOk, IsOkUnless, OnOk, OnErr};
 ghost use Rattle.board_layout.specs.Answer.{Answers, Refuses, with_value};
 ghost use Rattle.board_names.specs.declared.errors.service.DomainError.TheVariants.{OutOfMemory};
-ghost use Rattle.board_domain.specs.Services.{node_answer, node_number};
+ghost use Rattle.board_domain.specs.Services.{node_answer, node_number, DrawsSomewhere};
 
 use crate::service_builder::ServiceBuilder;
 use board_handles::{Domain, DomainState};
@@ -67,6 +67,7 @@ impl Node {
     /// # Errors
     /// As for `new_in`.
     pub fn new<R: Wait>(rt: &R, domain: &Domain, name: NodeName) -> Result<Node, DomainError>
+        ensures answer { DrawsSomewhere (with_value node_number result) }
         ensures named { IfOk result (λ node. node.name ≡ name) }
     {
         let mut state = domain.lock(rt);

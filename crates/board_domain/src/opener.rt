@@ -94,20 +94,14 @@ impl<K: BoardKey, P> Opener<K, P> {
             Refuses (with_value factory_made result) answer }
         ensures tables { let before = state.old.tables in
             lent.LeavesOpened result self.node self.name before state.new.tables }
+        ensures stays { let keys = details K.type_bytes K.SIZE K.ALIGNMENT in
+            lent.StaysUnopened self keys verifier.now state.old.tables state.new.tables }
         ensures kept { IfOk result (λ f. KeepsBoard state.new.tables f) }
         ensures named { IfOk result (λ f. f.name ≡ self.name) }
         ensures nodes { state.new.nodes ≡ state.old.nodes }
     {
-        let Opener {
-            node,
-            name,
-            limits,
-            alloc,
-            domain,
-            marker: _,
-        } = self;
-        match open_board::<K>(state, node, &name, limits, verifier) {
-            Ok(kept) => Ok(PortFactory::new(alloc, kept, name, domain)),
+        match open_board::<K>(state, self.node, &self.name, self.limits, verifier) {
+            Ok(kept) => Ok(PortFactory::new(self.alloc, kept, self.name, self.domain)),
             Err(why) => Err(why),
         }
     }
@@ -125,6 +119,8 @@ impl<K: BoardKey, P> Opener<K, P> {
             Refuses (with_value factory_made result) answer }
         ensures tables { let before = state.old.tables in
             lent.LeavesOpened result self.node self.name before state.new.tables }
+        ensures stays { let keys = details K.type_bytes K.SIZE K.ALIGNMENT in
+            lent.StaysUnopened self keys no_requirements state.old.tables state.new.tables }
         ensures kept { IfOk result (λ f. KeepsBoard state.new.tables f) }
         ensures named { IfOk result (λ f. f.name ≡ self.name) }
         ensures nodes { state.new.nodes ≡ state.old.nodes }
@@ -142,22 +138,16 @@ impl<K: BoardKey, P> Opener<K, P> {
         rt: &R,
         verifier: &AttributeVerifier,
     ) -> Result<PortFactory<K, P>, BlackboardOpenError>
+        ensures answer { let keys = details K.type_bytes K.SIZE K.ALIGNMENT in
+            lent.OpensSomewhere result self keys verifier.now }
         ensures named { IfOk result (λ f. f.name ≡ self.name) }
     {
-        let Opener {
-            node,
-            name,
-            limits,
-            alloc,
-            domain,
-            marker: _,
-        } = self;
         let opened = {
-            let mut state = domain.lock(rt);
-            open_board::<K>(&mut state, node, &name, limits, verifier)
+            let mut state = self.domain.lock(rt);
+            open_board::<K>(&mut state, self.node, &self.name, self.limits, verifier)
         };
         match opened {
-            Ok(kept) => Ok(PortFactory::new(alloc, kept, name, domain)),
+            Ok(kept) => Ok(PortFactory::new(self.alloc, kept, self.name, self.domain)),
             Err(why) => Err(why),
         }
     }
@@ -167,6 +157,8 @@ impl<K: BoardKey, P> Opener<K, P> {
     /// # Errors
     /// As for `open_with_attributes_in`.
     pub fn open<R: Wait>(self, rt: &R) -> Result<PortFactory<K, P>, BlackboardOpenError>
+        ensures answer { let keys = details K.type_bytes K.SIZE K.ALIGNMENT in
+            lent.OpensSomewhere result self keys no_requirements }
         ensures named { IfOk result (λ f. f.name ≡ self.name) }
     {
         let none = AttributeVerifier::new(self.alloc);

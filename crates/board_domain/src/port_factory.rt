@@ -1,18 +1,19 @@
 //! Factories of a board.
-ghost use Rattle.std.specs.Prelude.{◌≡◌, IfOk, IsOkUnless};
+ghost use Rattle.std.specs.Prelude.{◌≡◌, ℕ, List, IfOk, IsOkUnless};
 ghost use Rattle.std.specs.Fn.{CalledAt};
 ghost use Rattle.board_layout.specs.Bytes.{details};
 ghost use Rattle.board_names.specs.declared.errors.service.DomainError.TheVariants.{OutOfMemory};
+ghost use Rattle.board_handles.specs.BoardEnds.{Core};
 ghost use Rattle.board_handles.specs.LentForms as handles;
 ghost use Rattle.board_domain.specs.LentForms as lent;
 ghost use Rattle.board_domain.specs.Factories.{factory_of};
 ghost use Rattle.board_domain.specs.ServiceHash.{service_hash};
-ghost use Rattle.board_domain.specs.Walks.{Visits, key_seen};
+ghost use Rattle.board_domain.specs.Walks.{Walks, key_seen};
 
 use crate::callback_progression::CallbackProgression;
 use crate::kept::Kept;
 use crate::service_hash::hash_of;
-use crate::walks::{visit_keys, visit_nodes};
+use crate::walks::{walk_keys, walk_nodes};
 use board_concepts::AttributeSet;
 use board_concepts::hash::HashValue;
 use board_handles::{Domain, DomainState, PortFactoryReader, PortFactoryWriter, give_up};
@@ -140,7 +141,10 @@ impl<K: BoardKey, P> PortFactory<K, P> {
     }
 
     /// How many readers, writer slots and nodes of the board are taken now. Zeros where this factory isn't held.
-    pub fn dynamic_config<R: Wait>(&self, rt: &R) -> DynamicConfig {
+    pub fn dynamic_config<R: Wait>(&self, rt: &R) -> DynamicConfig
+        ensures { let keys = details K.type_bytes K.SIZE K.ALIGNMENT in
+            (d : Core) × (result ≡ lent.taken_of d keys self.now.made.thing) }
+    {
         let state = self.domain.lock(rt);
         self.dynamic_config_in(&state)
     }
@@ -154,7 +158,7 @@ impl<K: BoardKey, P> PortFactory<K, P> {
         requires { F.IsAlwaysCallable callback }
         ensures { let keys = details K.type_bytes K.SIZE K.ALIGNMENT in
             let nodes = lent.nodes_of state.now.tables keys self.now.made.thing in
-            Visits (λ f x r g. F.step f x r g) callback nodes }
+            Walks (λ f x r g. F.step f x r g) callback nodes }
     {
         let factory = self.made.thing;
         if !state.tables.is_held::<K>(factory, ThingKind::Factory) {
@@ -162,13 +166,14 @@ impl<K: BoardKey, P> PortFactory<K, P> {
         }
         let board = state.tables.board_of(factory);
         if let Some(taken) = state.tables.use_of(board) {
-            visit_nodes(&state.tables, board, taken.nodes, callback);
+            walk_nodes(&state.tables, board, taken.nodes, callback);
         }
     }
 
     /// Calls the callback with each node that has a thing of the board, ascending, until it says to stop. Calls it with none where this factory isn't held. The domain's lock is held meanwhile, so a callback that takes it waits forever.
     pub fn nodes<R: Wait, F: FnMut(NodeId) -> CallbackProgression>(&self, rt: &R, callback: F)
         requires { F.IsAlwaysCallable callback }
+        ensures { (nodes : List ℕ) × Walks (λ f x r g. F.step f x r g) callback nodes }
     {
         let state = self.domain.lock(rt);
         self.nodes_in(&state, callback)
@@ -184,7 +189,7 @@ impl<K: BoardKey, P> PortFactory<K, P> {
         ensures { let types = details K.type_bytes K.SIZE K.ALIGNMENT in
             let of = key_seen K.value_of K.SIZE K.WORDS in
             let keys = lent.keys_of of state.now.tables types self.now.made.thing in
-            Visits (CalledAt F.FnMut) callback keys }
+            Walks (CalledAt F.FnMut) callback keys }
     {
         let factory = self.made.thing;
         if !state.tables.is_held::<K>(factory, ThingKind::Factory) || K::SIZE > 64 {
@@ -192,19 +197,20 @@ impl<K: BoardKey, P> PortFactory<K, P> {
         }
         let board = state.tables.board_of(factory);
         if let Some(entries) = state.tables.entries_of(board) {
-            visit_keys::<K, F>(entries, callback);
+            walk_keys::<K, F>(entries, callback);
         }
     }
 
     /// Calls the callback with each key of the board, in the order of adding, until it says to stop. Calls it with none where this factory isn't held. The domain's lock is held meanwhile, so a callback that takes it waits forever.
     pub fn list_keys<R: Wait, F: FnMut(&K) -> CallbackProgression>(&self, rt: &R, callback: F)
         requires { F.IsAlwaysCallable callback }
+        ensures { (keys : List K) × Walks (CalledAt F.FnMut) callback keys }
     {
         let state = self.domain.lock(rt);
         self.list_keys_in(&state, callback)
     }
 
-    /// What makes a reader of the board.
+    /// What makes a reader of the board, while this factory stands.
     ///
     /// # Errors
     /// `OutOfMemory` where one more owner of the domain is refused.
@@ -218,7 +224,7 @@ impl<K: BoardKey, P> PortFactory<K, P> {
         }
     }
 
-    /// What makes a writer of the board.
+    /// What makes a writer of the board, while this factory stands.
     ///
     /// # Errors
     /// `OutOfMemory` where one more owner of the domain is refused.

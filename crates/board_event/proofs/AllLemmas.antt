@@ -14,7 +14,7 @@ use Rattle.board_event_model.specs.declared.call.WaitStage.TheVariants as wait
 use Rattle.board_event_model.specs.declared.kind.EventKind.{EventKind}
 use Rattle.board_event_model.specs.declared.kind.EventKind.TheVariants as kind
 use Rattle.board_event_model.specs.Ids.{Ids, IsWord, has, ids_where, in_word}
-use Rattle.board_event_model.specs.EventMemory.{CanPerform, Event, IsRight, after, oldest, pop_answer, taken, yes_or_no}
+use Rattle.board_event_model.specs.EventMemory.{CanPerform, Event, IsRight, after, kind_of_access, oldest, pop_answer, taken, yes_or_no}
 use Rattle.board_event_model.specs.EventCalls.{reported}
 use Rattle.board_event_model.specs.NotifyCalls.{is_yes}
 use Rattle.board_event_model.specs.WaitCalls.{Wait, first_word, nothing, popped, swapped, wait_owed, wait_turn, word_in}
@@ -23,9 +23,10 @@ use Rattle.board_event_model.proofs.TrackLemmas.{ids_same, wait_told}
 use Rattle.board_event_core.specs.EventTable.{EventTable, IsEventTable, with_event, event_at, CanPerformAt}
 use Rattle.board_event_core.proofs.BitLemmas.{empty_is}
 use Rattle.board_event.specs.Accesses.{WaitMade}
+use Rattle.board_event.specs.Ends.{NoneOfKind}
 use Rattle.board_event.specs.LentForms.{AreWaiting, IsEventAt, OnEventAt, all_taken}
 use Rattle.board_event.specs.Taking.{AllSoFar, NoneBelow, SameFrom, TryWait, to_come, wait_begun, with_pending, with_queue, with_signals}
-use Rattle.board_event.proofs.OneLemmas.{IsOfKind, is_of_kind, not_made, wait_begins}
+use Rattle.board_event.proofs.OneLemmas.{IsOfKind, begun_kind, is_of_kind, not_made, wait_begins}
 use Rattle.board_event.proofs.TableLemmas.{Became, Became-first, Became-next, at_event, event_here}
 use Rattle.board_event.proofs.TryLemmas.{TryWait-made}
 use Rattle.board_event.proofs.WordLemmas.{IsListOf-below, differ, eqb_is, ids_where-parts, is_eqb}
@@ -210,7 +211,8 @@ pub record TakingAll {F : Type 0} (R : F → ℕ → F → Type 0) (begun f : F)
   pub words : k ≡ kind.Bits → w.words ≡ max / 64 + 1
   pub far : OnEventAt k max n t (λ e. (now : Event) × Became t u n now × AllSoFar k e now w.words w.stage
       × ((last : F) → FoldsTo R f (to_come now w.words w.stage) last → (ids : List ℕ) × AreWaiting k e ids × FoldsTo R begun ids last))
-  pub gone : event_at t n ≡ None → u ≡ t
+  pub gone : NoneOfKind k n t → (u ≡ t) × (kind_of_access (wait_owed w.stage) ≡ k)
+  pub uncalled : NoneOfKind k n t → f ≡ begun
 
 all_at_first : (k : EventKind) (e : Event) (max words : ℕ) → IsOfKind k e words → AllSoFar k e e (wait_begun k max true mode.Try).words (wait_begun k max true mode.Try).stage
 all_at_first kind.Bits e max words is = (refl, refl)
@@ -233,7 +235,8 @@ all_begins R f k max n t w fits table is = record {
         (rw is (all_at_first k e max (wait_begun k max true mode.Try).words begun)),
         λ last folds. (to_come e w.words w.stage, (rw is (waiting_at_first k e max begun)), folds),
       ));
-  gone = λ _. refl;
+  gone = λ _. (refl, (rw is (begun_kind k max true)));
+  uncalled = λ _. refl;
 }
 
 -- it goes on, and the ids that were taken are handed over
@@ -244,7 +247,8 @@ all_goes_on R begun f g k max n t u v w next p a taking on made calls = record {
   try = TryWait-made u v n w next true p a taking.try on made;
   words = λ bits. (rw made.goes_on (taking.words bits));
   far = far;
-  gone = λ none. absurd (not_made u v t n w next p a (taking.gone none) none made);
+  gone = λ none. absurd (not_made k u v t n w next p a (taking.gone none) none made);
+  uncalled = λ none. absurd (not_made k u v t n w next p a (taking.gone none) none made);
 }
   where
     far : OnEventAt k max n t (λ e. (now : Event) × Became t v n now × AllSoFar k e now next.words next.stage × ((last : _) → FoldsTo R g (to_come now next.words next.stage) last → (ids : List ℕ) × AreWaiting k e ids × FoldsTo R begun ids last))
@@ -271,12 +275,12 @@ all_ends R begun f k max n t u w taking ended e here =
     far.1.table ∙ ap (with_event t n) end
 
 pub all_called : {F : Type 0} (R : F → ℕ → F → Type 0) (begun f : F) (k : EventKind) (max n : ℕ) (t u : EventTable) (w : Wait) → TakingAll R begun f k max n t u w → w.stage ≡ wait.Finished →
-    OnEventAt k max n t (λ e. (ids : List ℕ) × AreWaiting k e ids × (last : F) × FoldsTo R begun ids last)
+    OnEventAt k max n t (λ e. (ids : List ℕ) × AreWaiting k e ids × FoldsTo R begun ids f)
 all_called R begun f k max n t u w taking ended e here =
     let far = taking.far e here in
     let none : to_come far.0 w.words w.stage ≡ [] = ap (to_come far.0 w.words) ended in
     let all = far.3 f (subst (λ (ids : List ℕ). FoldsTo R f ids f) (sym none) refl) in
-    (all.0, all.1, f, all.2)
+    (all.0, all.1, all.2)
 
 -- it is never kept from an access
 pub all_kept_from : {F : Type 0} (R : F → ℕ → F → Type 0) (begun f : F) (k : EventKind) (max n : ℕ) (t u : EventTable) (w : Wait) → TakingAll R begun f k max n t u w → w.stage ≢ wait.Finished → ¬ CanPerformAt u n (wait_owed w.stage) →

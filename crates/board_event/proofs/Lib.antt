@@ -5,3 +5,5 @@ mod OneLemmas
 mod AllLemmas
 mod NotifyLemmas
 mod OpenLemmas
+mod TypedNotify
+mod TypedWaits

@@ -18,14 +18,14 @@ use Rattle.board_event_model.specs.declared.call.WaitStage.TheVariants as wait
 use Rattle.board_event_model.specs.declared.kind.EventKind.{EventKind}
 use Rattle.board_event_model.specs.declared.kind.EventKind.TheVariants as kind
 use Rattle.board_event_model.specs.Ids.{Ids, IsWord, has}
-use Rattle.board_event_model.specs.EventMemory.{CanPerform, Event, IsRight, after, is_pending, pop_answer, yes_or_no}
+use Rattle.board_event_model.specs.EventMemory.{CanPerform, Event, IsRight, after, is_pending, kind_of_access, pop_answer, yes_or_no}
 use Rattle.board_event_model.specs.NotifyCalls.{is_yes}
 use Rattle.board_event_model.specs.WaitCalls.{Wait, first_word, nothing, popped, scanned, wait_owed, wait_turn, word_in}
 use Rattle.board_event_model.proofs.SetLemmas.{either, has_empty, is_false, or_split}
 use Rattle.board_event_model.proofs.QuietLemmas.{word_empty}
 use Rattle.board_event_core.specs.EventTable.{CanPerformAt, EventTable, IsEvent, IsEventTable, event_at, with_event}
 use Rattle.board_event_core.specs.IdSets.{IsLeast}
-use Rattle.board_event.specs.Ends.{End}
+use Rattle.board_event.specs.Ends.{End, NoneOfKind}
 use Rattle.board_event.specs.Accesses.{WaitMade}
 use Rattle.board_event.specs.LentForms.{GivesNone, IsEventAt, IsNext, NoneWaits, OnEventAt, one_taken}
 use Rattle.board_event.specs.Taking.{NoneBelow, OneSoFar, OneTaken, TryStage, TryWait, wait_begun, with_signals}
@@ -177,7 +177,7 @@ pub record TakingOne (k : EventKind) (max n : ℕ) (t u : EventTable) (w : Wait)
   pub try : TryWait w false
   pub words : k ≡ kind.Bits → w.words ≡ max / 64 + 1
   pub far : OnEventAt k max n t (λ e. (now : Event) × Became t u n now × OneSoFar k e now w.words w.stage)
-  pub gone : event_at t n ≡ None → u ≡ t
+  pub gone : NoneOfKind k n t → (u ≡ t) × (kind_of_access (wait_owed w.stage) ≡ k)
 
 -- an event of a table is of its kind
 pub is_of_kind : (k : EventKind) (max n : ℕ) (t : EventTable) (e : Event) (words : ℕ) → IsEventTable t → (k ≡ kind.Bits → words ≡ max / 64 + 1) → IsEventAt k max n t e → IsOfKind k e words
@@ -205,13 +205,18 @@ one_at_first : (k : EventKind) (e : Event) (max : ℕ) → OneSoFar k e e (wait_
 one_at_first kind.Bits e max = (refl, refl)
 one_at_first kind.Queue e max = (refl, refl, refl)
 
+-- its first access is one on events of its kind
+pub begun_kind : (k : EventKind) (max : ℕ) (many : Bool) → kind_of_access (wait_owed (wait_begun k max many mode.Try).stage) ≡ k
+begun_kind kind.Bits max many = refl
+begun_kind kind.Queue max many = refl
+
 pub one_begins : (k : EventKind) (max n : ℕ) (t : EventTable) (w : Wait) → max < 2 ^ 64 → IsEventTable t → w ≡ wait_begun k max false mode.Try → TakingOne k max n t t w
 one_begins k max n t w fits table is = record {
   table = table;
   try = (wait_begins k max false w fits is).0;
   words = (wait_begins k max false w fits is).1;
   far = λ e here. (e, Became-first t n e here.stands, (rw is (one_at_first k e max)));
-  gone = λ _. refl;
+  gone = λ _. (refl, (rw is (begun_kind k max false)));
 }
 
 -- what an access has come to on the event
@@ -236,9 +241,13 @@ told_on k e x words progress.Notified stage other told = told
 told_on k e x words (progress.Refused why) stage other told = told
 told_on k e x words progress.Nothing stage other told = told
 
--- where no event stands no access was made
-pub not_made : (u v t : EventTable) (n : ℕ) (w next : Wait) (p : EventProgress) (a : EventAnswer) → u ≡ t → event_at t n ≡ None → WaitMade u v n w next p a → ⊥
-not_made u v t n w next p a same gone made = let right : IsSomeAnd (event_at t n) (λ x. IsRight x (wait_owed w.stage) a) = subst (λ (s : EventTable). IsSomeAnd (event_at s n) (λ x. IsRight x (wait_owed w.stage) a)) same made.right in (rw gone at right)
+-- where no event of its kind stands no access was made
+pub not_made : (k : EventKind) (u v t : EventTable) (n : ℕ) (w next : Wait) (p : EventProgress) (a : EventAnswer) → (u ≡ t) × (kind_of_access (wait_owed w.stage) ≡ k) → NoneOfKind k n t → WaitMade u v n w next p a → ⊥
+not_made k u v t n w next p a same none made = by (event_at t n) refl (subst (λ (s : EventTable). IsSomeAnd (event_at s n) (λ x. CanPerform x (wait_owed w.stage))) same.0 made.can)
+  where
+    by : (o : Option Event) → event_at t n ≡ o → IsSomeAnd o (λ x. CanPerform x (wait_owed w.stage)) → ⊥
+    by None h can = can
+    by (Some e) h can = none e h (can.kind ∙ same.1)
 
 pub one_goes_on : (k : EventKind) (max n : ℕ) (t u v : EventTable) (w next : Wait) (p : EventProgress) (a : EventAnswer) → TakingOne k max n t u w → w.stage ≢ wait.Finished → WaitMade u v n w next p a →
     ((id : ℕ) (last : Bool) → p ≡ progress.Id id last → ⊥) → TakingOne k max n t v next
@@ -247,7 +256,7 @@ one_goes_on k max n t u v w next p a taking on made other = record {
   try = TryWait-made u v n w next false p a taking.try on made;
   words = λ bits. (rw made.goes_on (taking.words bits));
   far = λ e here. (let x = one_made k max n t u v w next p a taking on made e here in (x.0, x.1, told_on k e x.0 next.words p next.stage other x.2));
-  gone = λ none. absurd (not_made u v t n w next p a (taking.gone none) none made);
+  gone = λ none. absurd (not_made k u v t n w next p a (taking.gone none) none made);
 }
 
 -- it gives an id
@@ -257,8 +266,8 @@ one_gives k max n t u v w next id last a taking on made e here =
     let x = one_made k max n t u v w next (progress.Id id last) a taking on made e here in
     record { id = x.2.0; none = λ none. absurd (cc none); left = x.1.table ∙ ap (with_event t n) x.2.1 }
 
-pub none_gives : (k : EventKind) (max n : ℕ) (t u v : EventTable) (w next : Wait) (p : EventProgress) (a : EventAnswer) → TakingOne k max n t u w → WaitMade u v n w next p a → event_at t n ≡ None → ⊥
-none_gives k max n t u v w next p a taking made none = not_made u v t n w next p a (taking.gone none) none made
+pub none_gives : (k : EventKind) (max n : ℕ) (t u v : EventTable) (w next : Wait) (p : EventProgress) (a : EventAnswer) → TakingOne k max n t u w → WaitMade u v n w next p a → NoneOfKind k n t → ⊥
+none_gives k max n t u v w next p a taking made none = not_made k u v t n w next p a (taking.gone none) none made
 
 -- it ends with none
 pub one_ends : (k : EventKind) (max n : ℕ) (t u : EventTable) (w : Wait) → TakingOne k max n t u w → w.stage ≡ wait.Finished → OnEventAt k max n t (λ e. OneTaken k e t u n None)

@@ -11,11 +11,12 @@ use Rattle.board_event_model.specs.Ids.{ids_where}
 use Rattle.board_event_model.specs.EventMemory.{IsRight, after}
 use Rattle.board_event_model.specs.NotifyCalls.{Notify, notify_owed, notify_turn}
 use Rattle.board_event_model.specs.WaitCalls.{Wait, wait_owed, wait_turn}
-use Rattle.board_event_core.specs.EventTable.{CanPerformAt, EventTable, changed, event_at}
+use Rattle.board_event_core.specs.EventTable.{CanPerformAt, EventTable, IsEventTable, changed, event_at}
 use Rattle.board_event_core.specs.Turns.{notify_went_on, wait_went_on}
 
 -- the access that a wait owes was made, and answered so
 pub record WaitMade (old new : EventTable) (n : ℕ) (call next : Wait) (p : EventProgress) (a : EventAnswer) : Type 0 where
+  pub can : CanPerformAt old n (wait_owed call.stage)
   pub right : IsSomeAnd (event_at old n) (λ e. IsRight e (wait_owed call.stage) a)
   pub memory : new ≡ changed old n (λ e. after e (wait_owed call.stage))
   pub progress : p ≡ (wait_turn call call.stage a).0
@@ -52,6 +53,20 @@ pub record NotifyLeft (old new : EventTable) (n : ℕ) (call : Notify) (p : Even
 -- where the event can take the access it is made, and else all stays
 abbrev pub IsNotifyAccess : EventTable → EventTable → ℕ → Notify → Notify → EventProgress → Type 0
 IsNotifyAccess old new n call next p = IsNotifyMade old new n call next p ⊎ NotifyLeft old new n call p
+
+-- ---- one hold of the lock: a table of events that stood then, and the access on it
+
+-- of a notify
+abbrev pub IsNotifyHold : ℕ → Notify → Notify → EventProgress → Type 0
+IsNotifyHold n call next p = (old : EventTable) × (new : EventTable) × IsNotifyAccess old new n call next p
+
+-- of a wait, where the access was made
+pub record WaitHeld (old new : EventTable) (n : ℕ) (call next : Wait) (p : EventProgress) (a : EventAnswer) : Type 0 where
+  pub table : IsEventTable old
+  pub made : WaitMade old new n call next p a
+
+abbrev pub IsWaitHold : ℕ → Wait → Wait → EventProgress → Type 0
+IsWaitHold n call next p = (old : EventTable) × (new : EventTable) × (a : EventAnswer) × WaitHeld old new n call next p a
 
 -- ---- the ids of a step
 

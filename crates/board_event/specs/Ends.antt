@@ -1,7 +1,7 @@
 -- What clauses see of the ends of an event and of their builders, and the calls that make and release them.
-use Rattle.std.specs.Prelude.{◌≡◌, ℕ, ◌-◌, ◌^◌, ◌<◌, List, Bool, is_some, true, None, Result, IsSomeAnd}
+use Rattle.std.specs.Prelude.{◌≡◌, ◌≢◌, ℕ, ◌-◌, ◌^◌, ◌<◌, List, Bool, codes, is_some, true, Some, Result, IfOk, IsSomeAnd}
 use Rattle.board_layout.specs.Answer.{with_value}
-use Rattle.board_names.specs.Concept.{Named, Placed, path_of, placed}
+use Rattle.board_names.specs.Concept.{Named, Placed, path_of, placed, starting}
 use Rattle.board_names.specs.Configuration.{full_name}
 use Rattle.board_names.specs.Table.{at}
 use Rattle.board_names.specs.declared.configuration.Configuration.{Configuration}
@@ -9,8 +9,8 @@ use Rattle.board_names.specs.declared.errors.event.ListenerCreateError.{Listener
 use Rattle.board_names.specs.declared.errors.event.NotifierCreateError.{NotifierCreateError}
 use Rattle.board_event_model.specs.declared.kind.EventKind.{EventKind}
 use Rattle.board_event_model.specs.declared.kind.EventKind.TheVariants as kind
-use Rattle.board_event_model.specs.EventMemory.{Event}
-use Rattle.board_event_core.specs.EventTable.{EventTable, IsNotifierAnswer, answer_to_listen, changed, event_at, names_of, settled, table_listened, without_listener, without_name, without_notifier}
+use Rattle.board_event_model.specs.EventMemory.{Event, new_event}
+use Rattle.board_event_core.specs.EventTable.{EventTable, FreesNameOf, IsNotifierAnswer, answer_to_listen, changed, event_at, names_of, settled, table_listened, without_listener, without_name, without_notifier}
 
 -- an end of an event: its name, the number of its event, and the greatest id
 pub record End : Type 0 where
@@ -22,6 +22,10 @@ pub record End : Type 0 where
 pub record ListenerAsked : Type 0 where
   pub named : Named
   pub max : ℕ
+
+-- a builder of a listener as it begins: with the suffix of events, and up to id 65535
+abbrev pub listener_asked : List ℕ → ListenerAsked
+listener_asked name = record { named = starting name (codes ".event"); max = 65535 }
 
 -- the end of this event
 abbrev pub end_of : Named → ℕ → ℕ → End
@@ -38,6 +42,10 @@ is_held k t name = is_some (at (names_of k t) name)
 -- what `create` answers over a table
 abbrev pub create_answer : EventKind → ListenerAsked → EventTable → Result End ListenerCreateError
 create_answer k asked t = with_value (end_of asked.named asked.max) (answer_to_listen t k (path_of asked.named))
+
+-- the end's event is the one that was asked for
+abbrev pub IsMade : EventKind → ListenerAsked → EventTable → End → Type 0
+IsMade k asked t end = event_at t end.event ≡ Some (new_event k (path_of asked.named) asked.max)
 
 -- the table with the event that was asked for
 abbrev pub created : EventKind → ListenerAsked → EventTable → EventTable
@@ -65,9 +73,13 @@ pub record IsNotifierOf (k : EventKind) (named : Named) (t : EventTable) (end : 
 
 -- ---- how ends are given up
 
--- the end's event doesn't stand
-abbrev pub IsGone : End → EventTable → Type 0
-IsGone end t = event_at t end.event ≡ None
+-- no event of this kind stands under the number
+abbrev pub NoneOfKind : EventKind → ℕ → EventTable → Type 0
+NoneOfKind k n t = (e : Event) → event_at t n ≡ Some e → e.kind ≢ k
+
+-- no event of the end's kind stands under its number
+abbrev pub IsGone : EventKind → End → EventTable → Type 0
+IsGone k end t = NoneOfKind k end.event t
 
 -- the end's event stands, and its listener is held
 abbrev pub HasListener : End → EventTable → Type 0
@@ -77,10 +89,18 @@ HasListener end t = IsSomeAnd (event_at t end.event) (λ e. e.held ≡ true)
 abbrev pub HasNotifier : End → EventTable → Type 0
 HasNotifier end t = IsSomeAnd (event_at t end.event) (λ e. 0 < e.notifiers)
 
--- the table once the listener of an event was let go
-abbrev pub listener_gone : EventTable → ℕ → EventTable
-listener_gone t n = settled (changed t n without_listener) n
+-- where the listener was held and nobody holds its event's name any more, the name is free
+abbrev pub FreesListenersName : End → EventTable → EventTable → Type 0
+FreesListenersName end old new = HasListener end old → FreesNameOf old new end.event without_listener
 
--- the table once a notifier of an event was let go
-abbrev pub notifier_gone : EventTable → ℕ → EventTable
-notifier_gone t n = settled (changed t n without_notifier) n
+-- where a notifier was held and nobody holds its event's name any more, the name is free
+abbrev pub FreesNotifiersName : End → EventTable → EventTable → Type 0
+FreesNotifiersName end old new = HasNotifier end old → FreesNameOf old new end.event without_notifier
+
+-- the table once the listener of the end's event was let go
+abbrev pub listener_gone : EventTable → End → EventTable
+listener_gone t end = settled (changed t end.event without_listener) end.event
+
+-- the table once a notifier of the end's event was let go
+abbrev pub notifier_gone : EventTable → End → EventTable
+notifier_gone t end = settled (changed t end.event without_notifier) end.event

@@ -39,31 +39,46 @@ Changes k end old new f = ChangesAt k end.max end.event old new f
 
 -- ---- a notify
 
+-- the event under this number stands, and is of this kind
+pub record StandsAs (k : EventKind) (n : ℕ) (t : EventTable) (e : Event) : Type 0 where
+  pub stands : event_at t n ≡ Some e
+  pub of_kind : e.kind ≡ k
+
+-- what holds of that event, where it stands
+abbrev pub OnKindAt : EventKind → ℕ → EventTable → (Event → Type 0) → Type 0
+OnKindAt k n t P = (e : Event) → StandsAs k n t e → P e
+
 -- what a push answers, as a notify tells it
 abbrev pub push_told : EventAnswer → Result (Unit {0}) NotifierNotifyError
 push_told answer.Done = Ok tt
 push_told answer.Full = Err error.FailedToDeliverSignal
 push_told _ = Err error.Disconnected
 
--- what a notify of an id answers: of a set, the listener is looked for first, and then the id is held against the greatest
-abbrev pub notify_answer : EventKind → ℕ → Event → Result (Unit {0}) NotifierNotifyError
-notify_answer kind.Bits id e =
+-- what a notify of an id answers, by an end up to `max`: of a set, the listener is looked for first, then the id is held
+-- against the end's greatest, and then against the set's, which is the same where the end is the set's own
+abbrev pub notify_answer : EventKind → ℕ → ℕ → Event → Result (Unit {0}) NotifierNotifyError
+notify_answer kind.Bits max id e =
     if not e.held then Err error.Disconnected
-    else (if nat_lt e.max id then Err error.TriggerIdOutOfBounds else Ok tt)
-notify_answer kind.Queue id e = push_told (push_answer e)
+    else (if nat_lt max id then Err error.TriggerIdOutOfBounds
+    else (if nat_lt e.max id then Err error.Disconnected else Ok tt))
+notify_answer kind.Queue max id e = push_told (push_answer e)
 
 -- one signal more, unless as many as can be counted are there
 abbrev pub posted : Event → Event
 posted e = if nat_lt e.signals (2 ^ 64 - 1) then record e { signals = e.signals + 1 } else e
 
 -- the event after a notify of an id: where it was not refused, the id waits, and a signal more
-abbrev pub notified : EventKind → ℕ → Event → Event
-notified kind.Bits id e = if not e.held || nat_lt e.max id then e else posted (after e (access.Set id))
-notified kind.Queue id e = after e (access.Push id)
+abbrev pub notified : EventKind → ℕ → ℕ → Event → Event
+notified kind.Bits max id e = if not e.held || (nat_lt max id || nat_lt e.max id) then e else posted (after e (access.Set id))
+notified kind.Queue max id e = after e (access.Push id)
 
--- a notify answers so, where the event stands
+-- a notify answers so, where an event of the end's kind stands
 abbrev pub AnswersNotify : EventKind → End → EventTable → ℕ → Result (Unit {0}) NotifierNotifyError → Type 0
-AnswersNotify k end t id result = OnEvent k end t (λ e. result ≡ notify_answer k id e)
+AnswersNotify k end t id result = OnKindAt k end.event t (λ e. result ≡ notify_answer k end.max id e)
+
+-- and leaves that event so, and all others as they were
+abbrev pub Notifies : EventKind → End → EventTable → EventTable → ℕ → Type 0
+Notifies k end old new id = OnKindAt k end.event old (λ e. new ≡ with_event old end.event (notified k end.max id e))
 
 -- ---- a wait for one
 
@@ -110,9 +125,17 @@ AreWaiting kind.Queue e ids = ids ≡ e.queue
 abbrev pub CallsOn : {F : Type 0} → (F → ℕ → Unit {0} → F → Type 0) → F → List ℕ → F → Type 0
 CallsOn step callback ids last = FoldsTo (λ p id q. step p id tt q) callback ids last
 
+-- it is called on each id that waits, in this order, and on no other: so it came to be `last`
+abbrev pub CallsOnAll : {F : Type 0} → (F → ℕ → Unit {0} → F → Type 0) → F → F → EventKind → Event → Type 0
+CallsOnAll step callback last k e = (ids : List ℕ) × AreWaiting k e ids × CallsOn step callback ids last
+
 -- it is called on each id that waits, in this order
 abbrev pub IsCalledOnAll : {F : Type 0} → (F → ℕ → Unit {0} → F → Type 0) → F → EventKind → Event → Type 0
 IsCalledOnAll {F} step callback k e = (ids : List ℕ) × AreWaiting k e ids × (last : F) × CallsOn step callback ids last
+
+-- so it is called over an end's event, where that stands
+abbrev pub HandsOver : {F : Type 0} → (F → ℕ → Unit {0} → F → Type 0) → F → EventKind → End → EventTable → Type 0
+HandsOver step callback k end t = OnEvent k end t (IsCalledOnAll step callback k)
 
 -- the event after a wait for all
 abbrev pub all_taken : EventKind → Event → Event

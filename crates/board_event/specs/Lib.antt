@@ -2,3 +2,4 @@ pub mod Ends
 pub mod Accesses
 pub mod LentForms
 pub mod Taking
+pub mod TypedCalls

@@ -125,12 +125,12 @@ to_come now words wait.Finished = []
 
 -- ---- a notify, by where it stands
 
-abbrev pub NotifySoFar : EventKind → Event → Event → ℕ → NotifyStage → Type 0
-NotifySoFar k e now id notify.Look = (k ≡ kind.Bits) × (now ≡ e)
-NotifySoFar k e now id notify.Set = (k ≡ kind.Bits) × (now ≡ e) × (e.held ≡ true) × (id ≤ e.max)
-NotifySoFar k e now id notify.Post = (k ≡ kind.Bits) × (now ≡ record e { pending = set.insert e.pending id }) × (e.held ≡ true) × (id ≤ e.max)
-NotifySoFar k e now id notify.Push = (k ≡ kind.Queue) × (now ≡ e)
-NotifySoFar k e now id notify.Finished = ⊥
+abbrev pub NotifySoFar : EventKind → ℕ → Event → Event → ℕ → NotifyStage → Type 0
+NotifySoFar k max e now id notify.Look = (k ≡ kind.Bits) × (now ≡ e)
+NotifySoFar k max e now id notify.Set = (k ≡ kind.Bits) × (now ≡ e) × (e.held ≡ true) × (id ≤ max)
+NotifySoFar k max e now id notify.Post = (k ≡ kind.Bits) × (now ≡ record e { pending = set.insert e.pending id }) × (e.held ≡ true) × (id ≤ max) × (id ≤ e.max)
+NotifySoFar k max e now id notify.Push = (k ≡ kind.Queue) × (now ≡ e)
+NotifySoFar k max e now id notify.Finished = ⊥
 
 -- how many accesses it owes at most
 abbrev pub notify_left : NotifyStage → ℕ

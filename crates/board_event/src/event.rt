@@ -1,5 +1,5 @@
 //! What an event does: a notifier hands ids to a listener, which takes them one by one or all at once.
-ghost use Rattle.std.specs.Prelude.{◌≡◌, ℕ, List, ◌<◌, ◌-◌, ◌^◌, codes, IsOk};
+ghost use Rattle.std.specs.Prelude.{◌≡◌, ℕ, List, ◌<◌, ◌-◌, ◌^◌, codes, IfOk, IsOk};
 
 use board_names::{
     FileName, ListenerCreateError, ListenerWaitError, NamedConcept, NamedConceptBuilder,
@@ -10,7 +10,7 @@ use std::sync::Wait;
 use std::time::{Clock, Duration};
 
 /// The events of this process.
-pub type Local = crate::queue_event::QueueEvent;
+pub type Local = crate::local_event::QueueEvent;
 
 /// Events of one kind.
 pub trait Event: NamedConceptMgmt + Sized {
@@ -18,13 +18,13 @@ pub trait Event: NamedConceptMgmt + Sized {
     type Notifier: Notifier;
 
     /// What opens a notifier.
-    type NotifierBuilder: NotifierBuilder<Notifier = Self::Notifier>;
+    type NotifierBuilder: NotifierBuilder<Notifier = Self::Notifier, Registry = Self::Registry>;
 
     /// What takes ids.
     type Listener: Listener;
 
     /// What makes a listener, and with it the event.
-    type ListenerBuilder: ListenerBuilder<Listener = Self::Listener>;
+    type ListenerBuilder: ListenerBuilder<Listener = Self::Listener, Registry = Self::Registry>;
 
     /// The suffix that a builder starts with.
     fn default_suffix() -> FileName
@@ -57,6 +57,7 @@ pub trait Notifier: NamedConcept + Sized {
 
 /// A builder of a notifier.
 pub trait NotifierBuilder: NamedConceptBuilder {
+    /// What it opens.
     type Notifier: Notifier;
 
     /// Ignored: a notifier is opened at once or not at all.
@@ -68,7 +69,8 @@ pub trait NotifierBuilder: NamedConceptBuilder {
     /// # Errors
     /// `DoesNotExist` where the name isn't held, or its listener is gone; `NumbersSpent` where the event has 2^64 - 2
     /// notifiers.
-    fn open<R: Wait>(self, rt: &R) -> Result<Self::Notifier, NotifierCreateError>;
+    fn open<R: Wait>(self, rt: &R) -> Result<Self::Notifier, NotifierCreateError>
+        ensures { IfOk result (λ end. Self.Notifier.name_of end ≡ (Self.named self).name) };
 }
 
 /// The end that takes ids. It may go to another thread, and isn't shared between threads.
@@ -143,11 +145,12 @@ pub trait Listener: NamedConcept + Sized {
 
 /// A builder of a listener and its event.
 pub trait ListenerBuilder: NamedConceptBuilder {
+    /// What it makes.
     type Listener: Listener;
 
     ghost asked_max: { Self → ℕ };
 
-    /// The greatest id that a notifier may hand over. A queue takes any.
+    /// The greatest id that a notifier may hand over, below `usize::MAX`. A queue takes any id.
     fn trigger_id_max(self, id: TriggerId) -> Self
         requires { id < 2 ^ 64 - 1 }
         ensures max { asked_max result ≡ id }
@@ -157,5 +160,6 @@ pub trait ListenerBuilder: NamedConceptBuilder {
     ///
     /// # Errors
     /// `AlreadyExists` where the name is held; `NumbersSpent` where all event numbers were drawn; `OutOfMemory`.
-    fn create<R: Wait>(self, rt: &R, alloc: Global) -> Result<Self::Listener, ListenerCreateError>;
+    fn create<R: Wait>(self, rt: &R, alloc: Global) -> Result<Self::Listener, ListenerCreateError>
+        ensures { IfOk result (λ end. Self.Listener.name_of end ≡ (Self.named self).name) };
 }

@@ -19,6 +19,34 @@ pub trait KindOfEvents {
         ensures { result ≡ which };
 }
 
+/// The kind of `BitEvent`: ids wait as a set, up to a greatest one.
+#[derive(Clone, Copy, Debug, PartialEq, Eq)]
+pub struct SetOfIds;
+
+impl KindOfEvents for SetOfIds {
+    ghost use Rattle.board_event_model.specs.declared.kind.EventKind.TheVariants as kind;
+
+    ghost which = { kind.Bits };
+
+    fn kind() -> EventKind {
+        EventKind::Bits
+    }
+}
+
+/// The kind of `QueueEvent`: ids wait in a queue of 512.
+#[derive(Clone, Copy, Debug, PartialEq, Eq)]
+pub struct QueueOfIds;
+
+impl KindOfEvents for QueueOfIds {
+    ghost use Rattle.board_event_model.specs.declared.kind.EventKind.TheVariants as kind;
+
+    ghost which = { kind.Queue };
+
+    fn kind() -> EventKind {
+        EventKind::Queue
+    }
+}
+
 /// A table of events whose names are those of one kind. Clauses see the table.
 #[derive(Drop)]
 pub struct EventsOf<K> {

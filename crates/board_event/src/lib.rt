@@ -20,19 +20,17 @@
 #![tactic(auto)]
 
 mod accesses;
-mod bit_event;
 pub mod event;
 mod events_of;
 mod listener;
 mod listener_builder;
+mod local_event;
 mod notifier;
 mod notifier_builder;
 mod patience;
-mod queue_event;
 mod registry;
 mod taking;
 
-pub use bit_event::BitEvent;
 pub use board_event_core::{
     BitSet, EventAccess, EventAnswer, EventId, EventKind, EventProgress, EventStep, Events,
     IdTracker, ListenerCreateError, ListenerWaitError, NotifierCreateError, NotifierNotifyError,
@@ -40,10 +38,10 @@ pub use board_event_core::{
     WaitMode, WaitStage, notify_step, table_stands, wait_step,
 };
 pub use event::{Event, Listener, ListenerBuilder, Notifier, NotifierBuilder};
-pub use events_of::{EventsOf, KindOfEvents};
+pub use events_of::{EventsOf, KindOfEvents, QueueOfIds, SetOfIds};
 pub use listener::EventListener;
 pub use listener_builder::{DEFAULT_TRIGGER_ID_MAX, EventListenerBuilder};
+pub use local_event::{BitEvent, LocalEvent, QueueEvent};
 pub use notifier::EventNotifier;
 pub use notifier_builder::EventNotifierBuilder;
-pub use queue_event::QueueEvent;
 pub use registry::{BitRegistry, EventRegistry, QueueRegistry};

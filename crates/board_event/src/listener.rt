@@ -1,7 +1,9 @@
 //! The end of an event that takes ids.
-ghost use Rattle.std.specs.Prelude.{◌≡◌, ◌≢◌, ℕ, List, None, Ok, IsOk};
-ghost use Rattle.board_event.specs.Ends.{HasListener, IsGone, listener_gone};
-ghost use Rattle.board_event.specs.LentForms.{Changes, GivesNext, GivesNone, IsCalledOnAll, OnEvent, after_one, all_taken};
+ghost use Rattle.std.specs.Prelude.{◌≡◌, ◌≢◌, ℕ, List, None, Ok, IfOk, IfSome, IsOk};
+ghost use Rattle.board_event.specs.Ends.{FreesListenersName, HasListener, IsGone, listener_gone};
+ghost use Rattle.board_event.specs.Accesses.{IsWaitHold};
+ghost use Rattle.board_event.specs.TypedCalls.{GivesWaited, IsCalledOnWaited, Waited};
+ghost use Rattle.board_event.specs.LentForms.{Changes, GivesNext, GivesNone, HandsOver, OnEvent, after_one, all_taken};
 
 use crate::accesses::{hand_over, wait_access};
 use crate::event::Listener;
@@ -9,7 +11,7 @@ use crate::events_of::{EventsOf, KindOfEvents};
 use crate::patience::{Forever, Patience, Until};
 use crate::taking::{take_all, take_one, wait_call};
 use board_event_core::{
-    EventProgress, ListenerWaitError, TriggerId, WaitCall, WaitMode, WaitStage,
+    EventProgress, ListenerWaitError, TriggerId, WaitCall, WaitMode, WaitStage, table_stands,
 };
 use board_names::{FileName, NamePlace, NamedConcept};
 use std::alloc::Global;
@@ -69,7 +71,8 @@ impl<K: KindOfEvents + Drop> EventListener<K> {
         ensures id { OnEvent K.which self.now state.old (GivesNext K.which result) }
         ensures none { OnEvent K.which self.now state.old (GivesNone result) }
         ensures after { Changes K.which self.now state.old state.new (after_one K.which result) }
-        ensures gone { IsGone self.now state.old → (result ≡ Ok None) × (state.new ≡ state.old) }
+        ensures gone { IsGone K.which self.now state.old → result ≡ Ok None }
+        ensures stays { IsGone K.which self.now state.old → state.new ≡ state.old }
     {
         let Some(id) = take_one(&mut state.events, self.event, K::kind(), self.max) else {
             return Ok(None);
@@ -84,30 +87,38 @@ impl<K: KindOfEvents + Drop> EventListener<K> {
     pub fn try_wait_all_in<F: FnMut(TriggerId)>(
         &self,
         state: &mut EventsOf<K>,
-        callback: F,
+        mut callback: F,
     ) -> Result<(), ListenerWaitError>
         requires { F.IsAlwaysCallable callback }
         ensures ok { result ≡ Ok tt }
-        ensures calls { OnEvent K.which self.now state.old (IsCalledOnAll F.step callback K.which) }
+        ensures calls { HandsOver F.step callback K.which self.now state.old }
         ensures after { Changes K.which self.now state.old state.new (all_taken K.which) }
-        ensures gone { IsGone self.now state.old → state.new ≡ state.old }
+        ensures stays { IsGone K.which self.now state.old → state.new ≡ state.old }
     {
-        take_all(&mut state.events, self.event, K::kind(), self.max, callback);
+        take_all(
+            &mut state.events,
+            self.event,
+            K::kind(),
+            self.max,
+            &mut callback,
+        );
         Ok(())
     }
 
     /// `release` over the events themselves.
     pub fn release_in(self, state: &mut EventsOf<K>)
-        ensures gone { HasListener self state.old → state.new ≡ listener_gone state.old self.event }
+        ensures gone { HasListener self state.old → state.new ≡ listener_gone state.old self }
         ensures stays { (¬ HasListener self state.old) → state.new ≡ state.old }
+        ensures free { FreesListenersName self state.old state.new }
     {
         self.give_up(state);
     }
 
     /// Lets go of the listener of the event.
     fn give_up(&self, state: &mut EventsOf<K>)
-        ensures gone { HasListener self.now state.old → state.new ≡ listener_gone state.old self.now.event }
+        ensures gone { HasListener self.now state.old → state.new ≡ listener_gone state.old self.now }
         ensures stays { (¬ HasListener self.now state.old) → state.new ≡ state.old }
+        ensures free { FreesListenersName self.now state.old state.new }
     {
         if state.events.has_listener(self.event) {
             state.events.release_listener(self.event);
@@ -123,8 +134,10 @@ impl<K: KindOfEvents + Drop> EventListener<K> {
         patience: &P,
     ) -> Option<EventProgress>
         requires { call.old.stage ≢ WaitStage.Finished }
+        ensures { IfSome result (IsWaitHold self.now.event call.old call.new) }
     {
         let mut state = self.place.lock(rt);
+        table_stands(&state.events);
         let progress = wait_access(&mut state.events, self.event, call)?;
         if progress == EventProgress::Waiting && !patience.sleep(rt, &self.arrived, state) {
             return None;
@@ -138,7 +151,9 @@ impl<K: KindOfEvents + Drop> EventListener<K> {
         rt: &R,
         mode: WaitMode,
         patience: &P,
-    ) -> Option<TriggerId> {
+    ) -> Option<TriggerId>
+        ensures { IfSome result (Waited self.now) }
+    {
         let mut call = wait_call(K::kind(), self.max, false, mode);
         for _ in rt.forever() {
             if call.is_done() {
@@ -161,6 +176,7 @@ impl<K: KindOfEvents + Drop> EventListener<K> {
         mut callback: F,
     )
         requires { F.IsAlwaysCallable callback }
+        ensures { IsCalledOnWaited F.step callback self.now }
     {
         let mut call = wait_call(K::kind(), self.max, true, mode);
         for _ in rt.forever() {
@@ -184,7 +200,10 @@ impl<K: KindOfEvents + Drop> NamedConcept for EventListener<K> {
 }
 
 impl<K: KindOfEvents + Drop> Listener for EventListener<K> {
-    fn try_wait_one<R: Wait>(&self, rt: &R) -> Result<Option<TriggerId>, ListenerWaitError> {
+    fn try_wait_one<R: Wait>(&self, rt: &R) -> Result<Option<TriggerId>, ListenerWaitError>
+        ensures ok { IsOk result }
+        ensures id { IfOk result (GivesWaited self.now) }
+    {
         Ok(self.one(rt, WaitMode::Try, &Forever))
     }
 
@@ -192,11 +211,17 @@ impl<K: KindOfEvents + Drop> Listener for EventListener<K> {
         &self,
         rt: &R,
         timeout: Duration,
-    ) -> Result<Option<TriggerId>, ListenerWaitError> {
+    ) -> Result<Option<TriggerId>, ListenerWaitError>
+        ensures ok { IsOk result }
+        ensures id { IfOk result (GivesWaited self.now) }
+    {
         Ok(self.one(rt, WaitMode::Timed, &Until::after(rt, timeout)))
     }
 
-    fn blocking_wait_one<R: Wait>(&self, rt: &R) -> Result<Option<TriggerId>, ListenerWaitError> {
+    fn blocking_wait_one<R: Wait>(&self, rt: &R) -> Result<Option<TriggerId>, ListenerWaitError>
+        ensures ok { IsOk result }
+        ensures id { IfOk result (GivesWaited self.now) }
+    {
         Ok(self.one(rt, WaitMode::Block, &Forever))
     }
 
@@ -204,7 +229,11 @@ impl<K: KindOfEvents + Drop> Listener for EventListener<K> {
         &self,
         rt: &R,
         callback: F,
-    ) -> Result<(), ListenerWaitError> {
+    ) -> Result<(), ListenerWaitError>
+        requires { F.IsAlwaysCallable callback }
+        ensures ok { IsOk result }
+        ensures calls { IsCalledOnWaited F.step callback self.now }
+    {
         self.all(rt, WaitMode::Try, &Forever, callback);
         Ok(())
     }
@@ -214,7 +243,11 @@ impl<K: KindOfEvents + Drop> Listener for EventListener<K> {
         rt: &R,
         callback: F,
         timeout: Duration,
-    ) -> Result<(), ListenerWaitError> {
+    ) -> Result<(), ListenerWaitError>
+        requires { F.IsAlwaysCallable callback }
+        ensures ok { IsOk result }
+        ensures calls { IsCalledOnWaited F.step callback self.now }
+    {
         self.all(rt, WaitMode::Timed, &Until::after(rt, timeout), callback);
         Ok(())
     }
@@ -223,7 +256,11 @@ impl<K: KindOfEvents + Drop> Listener for EventListener<K> {
         &self,
         rt: &R,
         callback: F,
-    ) -> Result<(), ListenerWaitError> {
+    ) -> Result<(), ListenerWaitError>
+        requires { F.IsAlwaysCallable callback }
+        ensures ok { IsOk result }
+        ensures calls { IsCalledOnWaited F.step callback self.now }
+    {
         self.all(rt, WaitMode::Block, &Forever, callback);
         Ok(())
     }

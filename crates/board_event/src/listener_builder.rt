@@ -3,7 +3,8 @@ ghost use Rattle.std.specs.Prelude.{◌≡◌, ◌<◌, ◌-◌, ◌^◌, ℕ, L
 ghost use Rattle.board_layout.specs.Answer.{Answers, Refuses};
 ghost use Rattle.board_names.specs.Concept.{starting};
 ghost use Rattle.board_names.specs.declared.errors.event.ListenerCreateError.TheVariants.{OutOfMemory};
-ghost use Rattle.board_event.specs.Ends.{create_answer, created, end_of};
+ghost use Rattle.board_event.specs.Ends.{IsMade, create_answer, created, end_of, listener_asked};
+ghost use Rattle.board_event.specs.TypedCalls.{MayCreate};
 
 use crate::event::ListenerBuilder;
 use crate::events_of::{EventsOf, KindOfEvents};
@@ -16,7 +17,7 @@ use std::marker::Model;
 use std::sync::{Arc, Condvar, Wait};
 
 /// The greatest id of a set, unless its builder is told otherwise.
-pub const DEFAULT_TRIGGER_ID_MAX: u64 = 65535;
+pub const DEFAULT_TRIGGER_ID_MAX: usize = 65535;
 
 /// A builder of a listener and its event. Clauses see the name, the configuration and the greatest id.
 #[derive(Drop)]
@@ -35,7 +36,7 @@ impl<K> Model for EventListenerBuilder<K> {
 }
 
 impl<K: KindOfEvents + Drop> EventListenerBuilder<K> {
-    /// `create` over the events themselves.
+    /// `create` over the events themselves. The listener belongs to them: its typed calls go to the builder's registry.
     ///
     /// # Errors
     /// `AlreadyExists` where the name is held; `NumbersSpent` where all event numbers were drawn; `OutOfMemory`. The
@@ -48,6 +49,7 @@ impl<K: KindOfEvents + Drop> EventListenerBuilder<K> {
         ensures answer { Answers result OutOfMemory (create_answer K.which self state.old) }
         ensures refused { Refuses result (create_answer K.which self state.old) }
         ensures ok { OnOk result (state.new ≡ created K.which self state.old) }
+        ensures stands { IfOk result (IsMade K.which self state.new) }
         ensures err { OnErr result (state.new ≡ state.old) }
     {
         let _ = alloc;
@@ -57,7 +59,9 @@ impl<K: KindOfEvents + Drop> EventListenerBuilder<K> {
     }
 
     /// Makes the event.
-    fn make<R: Wait>(&self, rt: &R) -> Result<u64, ListenerCreateError> {
+    fn make<R: Wait>(&self, rt: &R) -> Result<u64, ListenerCreateError>
+        ensures { MayCreate result }
+    {
         let mut state = self.request.lock(rt);
         state
             .events
@@ -74,7 +78,7 @@ impl<K: KindOfEvents + Drop> NamedConceptBuilder for EventListenerBuilder<K> {
         name: &FileName,
         registry: &EventRegistry<K>,
     ) -> Result<EventListenerBuilder<K>, RegistryError>
-        ensures { IfOk result (λ b. b ≡ record { named = starting name.now (codes ".event"); max = 65535 }) }
+        ensures { IfOk result (λ b. b ≡ listener_asked name.now) }
     {
         let suffix = FileName::from_valid(b".event");
         let request = NameRequest::new(name, &suffix, &registry.names)?;
@@ -82,7 +86,7 @@ impl<K: KindOfEvents + Drop> NamedConceptBuilder for EventListenerBuilder<K> {
         Ok(EventListenerBuilder {
             request,
             arrived,
-            max: DEFAULT_TRIGGER_ID_MAX,
+            max: DEFAULT_TRIGGER_ID_MAX as u64,
         })
     }
 
@@ -107,7 +111,8 @@ impl<K: KindOfEvents + Drop> ListenerBuilder for EventListenerBuilder<K> {
     }
 
     fn create<R: Wait>(self, rt: &R, alloc: Global) -> Result<EventListener<K>, ListenerCreateError>
-        ensures { IfOk result (λ end. end ≡ end_of self.named self.max end.event) }
+        ensures end { IfOk result (λ end. end ≡ end_of self.named self.max end.event) }
+        ensures refused { MayCreate result }
     {
         let _ = alloc;
         let event = self.make(rt)?;

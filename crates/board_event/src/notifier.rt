@@ -1,8 +1,10 @@
 //! The end of an event that hands ids over.
 ghost use Rattle.std.specs.Prelude.{◌≡◌, ◌≢◌, ℕ, List, Err};
 ghost use Rattle.board_names.specs.declared.errors.event.NotifierNotifyError.TheVariants.{Disconnected};
-ghost use Rattle.board_event.specs.Ends.{HasNotifier, IsGone, notifier_gone};
-ghost use Rattle.board_event.specs.LentForms.{AnswersNotify, Changes, notified};
+ghost use Rattle.board_event.specs.Ends.{FreesNotifiersName, HasNotifier, IsGone, notifier_gone};
+ghost use Rattle.board_event.specs.Accesses.{IsNotifyHold};
+ghost use Rattle.board_event.specs.TypedCalls.{MayNotify};
+ghost use Rattle.board_event.specs.LentForms.{AnswersNotify, Notifies};
 
 use crate::accesses::notify_access;
 use crate::event::Notifier;
@@ -56,40 +58,63 @@ impl<K: KindOfEvents + Drop> EventNotifier<K> {
     /// # Errors
     /// `Disconnected` where the listener is gone; `TriggerIdOutOfBounds` where the id is above the greatest of a set;
     /// `FailedToDeliverSignal` where 512 ids wait in a queue. The event stays as it was.
+    ///
+    /// It wakes all that wait, in case the events are those behind the registry's lock.
     pub fn notify_in(
         &self,
         state: &mut EventsOf<K>,
         id: TriggerId,
     ) -> Result<(), NotifierNotifyError>
         ensures answer { AnswersNotify K.which self.now state.old id result }
-        ensures after { Changes K.which self.now state.old state.new (notified K.which id) }
-        ensures gone { IsGone self.now state.old → (result ≡ Err Disconnected) × (state.new ≡ state.old) }
+        ensures after { Notifies K.which self.now state.old state.new id }
+        ensures gone { IsGone K.which self.now state.old → result ≡ Err Disconnected }
+        ensures stays { IsGone K.which self.now state.old → state.new ≡ state.old }
     {
         let id = id.as_value() as u64;
-        notify_once(&mut state.events, self.event, K::kind(), self.max, id)
+        let answer = notify_once(&mut state.events, self.event, K::kind(), self.max, id);
+        self.arrived.notify_all();
+        answer
     }
 
     /// `release` over the events themselves.
     pub fn release_in(self, state: &mut EventsOf<K>)
-        ensures gone { HasNotifier self state.old → state.new ≡ notifier_gone state.old self.event }
+        ensures gone { HasNotifier self state.old → state.new ≡ notifier_gone state.old self }
         ensures stays { (¬ HasNotifier self state.old) → state.new ≡ state.old }
+        ensures free { FreesNotifiersName self state.old state.new }
     {
         self.give_up(state);
     }
 
     /// Lets go of a notifier of the event.
     fn give_up(&self, state: &mut EventsOf<K>)
-        ensures gone { HasNotifier self.now state.old → state.new ≡ notifier_gone state.old self.now.event }
+        ensures gone { HasNotifier self.now state.old → state.new ≡ notifier_gone state.old self.now }
         ensures stays { (¬ HasNotifier self.now state.old) → state.new ≡ state.old }
+        ensures free { FreesNotifiersName self.now state.old state.new }
     {
         if state.events.has_notifier(self.event) {
             state.events.release_notifier(self.event);
         }
     }
 
+    /// Drives a notify to its end.
+    fn drive<R: Wait>(&self, rt: &R, id: u64) -> Result<(), NotifierNotifyError>
+        ensures { MayNotify K.which self.now id result }
+    {
+        let mut call = notify_call(K::kind(), self.max, id);
+        for _ in rt.forever() {
+            match self.access(rt, &mut call) {
+                EventProgress::More => {}
+                EventProgress::Refused(why) => return Err(why),
+                _ => return Ok(()),
+            }
+        }
+        unreachable!()
+    }
+
     /// One access of a notify, under one hold of the lock.
     fn access<R: Wait>(&self, rt: &R, call: &mut NotifyCall) -> EventProgress
         requires { call.old.stage ≢ NotifyStage.Finished }
+        ensures { IsNotifyHold self.now.event call.old call.new result }
     {
         let mut state = self.place.lock(rt);
         notify_access(&mut state.events, self.event, call)
@@ -111,20 +136,12 @@ impl<K: KindOfEvents + Drop> Notifier for EventNotifier<K> {
         TriggerId::new(self.max as usize)
     }
 
-    fn notify<R: Wait>(&self, rt: &R, id: TriggerId) -> Result<(), NotifierNotifyError> {
-        let mut call = notify_call(K::kind(), self.max, id.as_value() as u64);
-        for _ in rt.forever() {
-            if call.is_done() {
-                break;
-            }
-            match self.access(rt, &mut call) {
-                EventProgress::More => {}
-                EventProgress::Refused(why) => return Err(why),
-                _ => break,
-            }
-        }
+    fn notify<R: Wait>(&self, rt: &R, id: TriggerId) -> Result<(), NotifierNotifyError>
+        ensures { MayNotify K.which self.now id result }
+    {
+        let answer = self.drive(rt, id.as_value() as u64);
         self.arrived.notify_all();
-        Ok(())
+        answer
     }
 
     fn release<R: Wait>(self, rt: &R) {

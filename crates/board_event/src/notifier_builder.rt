@@ -1,8 +1,9 @@
 //! How a notifier is opened.
 ghost use Rattle.std.specs.Prelude.{◌≡◌, ℕ, List, codes, IfOk, IsSome, IsSomeAnd, OnErr};
-ghost use Rattle.board_names.specs.Concept.{placed, starting};
+ghost use Rattle.board_names.specs.Concept.{starting};
 ghost use Rattle.board_event_core.specs.EventTable.{changed, event_at, with_notifier};
 ghost use Rattle.board_event.specs.Ends.{IsNotifierOf, IsOpened, greatest_of};
+ghost use Rattle.board_event.specs.TypedCalls.{IsOpenedAs, MayOpen, TakesAnyOfQueue};
 
 use crate::event::NotifierBuilder;
 use crate::events_of::{EventsOf, KindOfEvents};
@@ -33,7 +34,7 @@ impl<K> Model for EventNotifierBuilder<K> {
 }
 
 impl<K: KindOfEvents + Drop> EventNotifierBuilder<K> {
-    /// `open` over the events themselves.
+    /// `open` over the events themselves. The notifier belongs to them: its typed calls go to the builder's registry.
     ///
     /// # Errors
     /// `DoesNotExist` where the name isn't held, or its listener is gone; `NumbersSpent` where the event has 2^64 - 2
@@ -51,7 +52,10 @@ impl<K: KindOfEvents + Drop> EventNotifierBuilder<K> {
     }
 
     /// Opens a notifier, and answers the event's number and the greatest id.
-    fn join<R: Wait>(&self, rt: &R) -> Result<(u64, u64), NotifierCreateError> {
+    fn join<R: Wait>(&self, rt: &R) -> Result<(u64, u64), NotifierCreateError>
+        ensures any_id { IfOk result (λ found. TakesAnyOfQueue K.which found.1) }
+        ensures refused { MayOpen result }
+    {
         let mut state = self.request.lock(rt);
         open_event(&mut state.events, K::kind(), &self.request.path())
     }
@@ -62,7 +66,10 @@ fn open_event(
     events: &mut Events,
     kind: EventKind,
     name: &FilePath,
-) -> Result<(u64, u64), NotifierCreateError> {
+) -> Result<(u64, u64), NotifierCreateError>
+    ensures any_id { IfOk result (λ found. TakesAnyOfQueue kind found.1) }
+    ensures refused { MayOpen result }
+{
     let event = events.notifier(kind, name)?;
     let max = greatest_id(kind, events, event);
     Ok((event, max))
@@ -114,7 +121,8 @@ impl<K: KindOfEvents + Drop> NotifierBuilder for EventNotifierBuilder<K> {
     }
 
     fn open<R: Wait>(self, rt: &R) -> Result<EventNotifier<K>, NotifierCreateError>
-        ensures { IfOk result (λ end. end.place ≡ placed self) }
+        ensures end { IfOk result (IsOpenedAs K.which self) }
+        ensures refused { MayOpen result }
     {
         let (event, max) = self.join(rt)?;
         Ok(EventNotifier::at(self.request.place(), self.arrived, event, max))

@@ -1,7 +1,5 @@
 //! Events that many values share.
-use crate::bit_event::BitEvent;
-use crate::events_of::{EventsOf, KindOfEvents};
-use crate::queue_event::QueueEvent;
+use crate::events_of::{EventsOf, KindOfEvents, QueueOfIds, SetOfIds};
 use board_names::{Registry, RegistryError};
 use std::alloc::Global;
 use std::sync::{Arc, Condvar, MutexGuard, Wait};
@@ -53,7 +51,7 @@ pub(crate) fn share_signal(
 }
 
 /// Sets of ids that many values share.
-pub type BitRegistry = EventRegistry<BitEvent>;
+pub type BitRegistry = EventRegistry<SetOfIds>;
 
 /// Queues of ids that many values share.
-pub type QueueRegistry = EventRegistry<QueueEvent>;
+pub type QueueRegistry = EventRegistry<QueueOfIds>;

@@ -1,8 +1,9 @@
 //! Calls on events that nobody else has, driven to their end.
 ghost use Rattle.std.specs.Prelude.{◌≡◌, Err, None};
 ghost use Rattle.board_names.specs.declared.errors.event.NotifierNotifyError.TheVariants.{Disconnected};
-ghost use Rattle.board_event_core.specs.EventTable.{event_at};
-ghost use Rattle.board_event.specs.LentForms.{ChangesAt, IsCalledOnAll, OnEventAt, all_taken, notified, notify_answer};
+ghost use Rattle.board_event_core.specs.EventTable.{with_event};
+ghost use Rattle.board_event.specs.Ends.{NoneOfKind};
+ghost use Rattle.board_event.specs.LentForms.{CallsOnAll, ChangesAt, OnEventAt, OnKindAt, all_taken, notified, notify_answer};
 ghost use Rattle.board_event.specs.Taking.{OneTaken, notify_begun, wait_begun};
 
 use crate::accesses::{hand_over, notify_access, wait_access};
@@ -39,9 +40,10 @@ pub(crate) fn notify_once(
     max: u64,
     id: u64,
 ) -> Result<(), NotifierNotifyError>
-    ensures answer { OnEventAt kind max event events.old (λ e. result ≡ notify_answer kind id e) }
-    ensures after { ChangesAt kind max event events.old events.new (notified kind id) }
-    ensures gone { event_at events.old event ≡ None → (result ≡ Err Disconnected) × (events.new ≡ events.old) }
+    ensures answer { OnKindAt kind event events.old (λ e. result ≡ notify_answer kind max id e) }
+    ensures after { OnKindAt kind event events.old (λ e. events.new ≡ with_event events.old event (notified kind max id e)) }
+    ensures gone { NoneOfKind kind event events.old → result ≡ Err Disconnected }
+    ensures stays { NoneOfKind kind event events.old → events.new ≡ events.old }
 {
     let mut call = notify_call(kind, max, id);
     while !call.is_done() {
@@ -57,7 +59,8 @@ pub(crate) fn notify_once(
 /// Takes the next id of an event, where one waits.
 pub(crate) fn take_one(events: &mut Events, event: u64, kind: EventKind, max: u64) -> Option<u64>
     ensures one { OnEventAt kind max event events.old (λ e. OneTaken kind e events.old events.new event result) }
-    ensures gone { event_at events.old event ≡ None → (result ≡ None) × (events.new ≡ events.old) }
+    ensures gone { NoneOfKind kind event events.old → result ≡ None }
+    ensures stays { NoneOfKind kind event events.old → events.new ≡ events.old }
 {
     table_stands(events);
     let mut call = wait_call(kind, max, false, WaitMode::Try);
@@ -79,12 +82,13 @@ pub(crate) fn take_all<F: FnMut(TriggerId)>(
     event: u64,
     kind: EventKind,
     max: u64,
-    mut callback: F,
+    callback: &mut F,
 )
-    requires { F.IsAlwaysCallable callback }
-    ensures calls { OnEventAt kind max event events.old (IsCalledOnAll F.step callback kind) }
+    requires { F.IsAlwaysCallable callback.old }
+    ensures calls { OnEventAt kind max event events.old (CallsOnAll F.step callback.old callback.new kind) }
     ensures after { ChangesAt kind max event events.old events.new (all_taken kind) }
-    ensures gone { event_at events.old event ≡ None → events.new ≡ events.old }
+    ensures stays { NoneOfKind kind event events.old → events.new ≡ events.old }
+    ensures uncalled { NoneOfKind kind event events.old → callback.new ≡ callback.old }
 {
     table_stands(events);
     let mut call = wait_call(kind, max, true, WaitMode::Try);
@@ -92,6 +96,6 @@ pub(crate) fn take_all<F: FnMut(TriggerId)>(
         let Some(progress) = wait_access(events, event, &mut call) else {
             return;
         };
-        hand_over(&mut callback, progress);
+        hand_over(callback, progress);
     }
 }

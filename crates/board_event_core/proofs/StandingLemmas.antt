@@ -1,5 +1,5 @@
 -- What each call on a table keeps.
-use Rattle.std.specs.Prelude.{◌≡◌, ◌≤◌, ◌+◌, ℕ, Bool, true, false, cond, not, List, [], ◌∷◌, Option, Some, None, IfSome, IsSome, IsSomeAnd, if◌then◌else◌, ◌||◌, nat_lt, length, ◌++◌, refl}
+use Rattle.std.specs.Prelude.{◌≡◌, ◌≤◌, ◌<◌, ◌+◌, ◌-◌, ◌^◌, ℕ, Bool, true, false, cond, not, List, [], ◌∷◌, Option, Some, None, IfSome, IsSome, IsSomeAnd, if◌then◌else◌, ◌||◌, nat_lt, length, ◌++◌, refl}
 use Rattle.std.proofs.Common.{ap, arith, sym}
 use Rattle.std.specs.declared.cmp.Ordering.{Ordering}
 use Rattle.std.specs.declared.cmp.Ordering.TheVariants.{Less, Equal, Greater}
@@ -20,8 +20,10 @@ use Rattle.board_event_model.specs.declared.kind.EventKind.TheVariants as kind
 use Rattle.board_event_model.specs.declared.access.EventAccess.{EventAccess}
 use Rattle.board_event_model.specs.declared.access.EventAccess.TheVariants as access
 use Rattle.board_event_model.specs.EventMemory.{Event, after, holds_name, has_holder, new_event}
-use Rattle.board_event_core.specs.EventTable.{AreLeft, EventTable, FreesName, FreesNameOf, freed, HoldsName, IsEvent, IsKept, LosesName, changed, event_at, table_listened, named_with, names_of, settled, settled_with, with_event, with_gone, with_names, with_notifier, without_event, without_name}
-use Rattle.board_event_core.proofs.EventLemmas.{IsEvent-new_event}
+use Rattle.board_event_model.proofs.QuietLemmas.{ltb_true}
+use Rattle.board_event_model.proofs.SetLemmas.{is_false}
+use Rattle.board_event_core.specs.EventTable.{AreLeft, DropsEvent, DropsEventOf, EventTable, FreesName, FreesNameOf, freed, HoldsName, IsAttended, IsEvent, IsKept, LosesName, changed, event_at, table_listened, named_with, names_of, settled, settled_with, with_event, with_gone, with_names, with_notifier, without_event, without_listener, without_name}
+use Rattle.board_event_core.proofs.EventLemmas.{IsAttended-new_event, IsEvent-new_event}
 
 -- ---- equal keys
 
@@ -77,6 +79,11 @@ found_by : {X : Type 0} (P : X → Type 0) (b : Bool) (old new : Option X) (w : 
 found_by P true old new w is hit miss = rw is (hit refl)
 found_by P false old new w is hit miss = rw is (miss refl)
 
+-- what holds of the new value and of all others holds of what is found, if anything is
+all_by : {X : Type 0} (P : X → Type 0) (b : Bool) (old new : Option X) (w : X) → new ≡ cond b (Some w) old → P w → IfSome old P → IfSome new P
+all_by P true old new w is hit miss = rw is hit
+all_by P false old new w is hit miss = rw is miss
+
 -- what is found is the new value, or was found before
 number_by : {X : Type 0} (G : Type 0) (b : Bool) (old new : Option X) (w : X) → new ≡ cond b (Some w) old → IsSome new → (b ≡ true → G) → (b ≡ false → IsSome old → G) → G
 number_by G true old new w is found hit miss = hit refl
@@ -106,8 +113,13 @@ abbrev pub Keeps : Event → Event → Type 0
 Keeps e next = (k : EventKind) (name : List ℕ) → HoldsName k name e → HoldsName k name next
 
 -- one event is another that holds what it held
-kept_with : (t : EventTable) (n : ℕ) (e next : Event) → event_at t n ≡ Some e → Keeps e next → IsEvent next → IsKept t → IsKept (with_event t n next)
-kept_with t n e next is keeps good table = record { named = named; numbered = numbered; sound = All-values-set_value (is_at (nat_cmp n)) IsEvent t.events next table.sound good }
+kept_with : (t : EventTable) (n : ℕ) (e next : Event) → event_at t n ≡ Some e → Keeps e next → IsEvent next → IsAttended next → IsKept t → IsKept (with_event t n next)
+kept_with t n e next is keeps good held table = record {
+  named = named;
+  numbered = numbered;
+  sound = All-values-set_value (is_at (nat_cmp n)) IsEvent t.events next table.sound good;
+  attended = λ m. all_by IsAttended (is_at (nat_cmp n) m) (event_at t m) _ next (event_at-with_event t n next m found) held (table.attended m);
+}
   where
     found : IsSome (event_at t n)
     found = rw is refl
@@ -130,14 +142,18 @@ sound_at t n e is table =
     let sound : IfSome (event_at t n) IsEvent = IfSome-lookup_from_All IsEvent (is_at (nat_cmp n)) t.events table.sound in
     (rw is at sound)
 
+-- and somebody holds it
+pub attended_at : (t : EventTable) (n : ℕ) (e : Event) → event_at t n ≡ Some e → IsKept t → IsAttended e
+attended_at t n e is table = let held : IfSome (event_at t n) IsAttended = table.attended n in (rw is at held)
+
 -- so it is for each call that changes one event
 pub kept_changed : (t u : EventTable) (n : ℕ) (f : Event → Event) → ((e : Event) → Keeps e (f e)) → ((e : Event) → event_at t n ≡ Some e → IsEvent e → IsEvent (f e)) →
-    u ≡ changed t n f → IsKept t → IsKept u
-kept_changed t u n f keeps good is table = rw is (by (event_at t n) refl)
+    ((e : Event) → event_at t n ≡ Some e → IsAttended e → IsAttended (f e)) → u ≡ changed t n f → IsKept t → IsKept u
+kept_changed t u n f keeps good holds is table = rw is (by (event_at t n) refl)
   where
     by : (o : Option Event) → event_at t n ≡ o → IsKept (elim o [ None ↦ t | Some e ↦ with_event t n (f e) ])
     by None h = table
-    by (Some e) h = kept_with t n e (f e) h (keeps e) (good e h (sound_at t n e h table)) table
+    by (Some e) h = kept_with t n e (f e) h (keeps e) (good e h (sound_at t n e h table)) (holds e h (attended_at t n e h table)) table
 
 -- ---- what a call leaves to its event
 
@@ -198,17 +214,23 @@ name_by k name t max j other m h G fresh before = by k j h fresh before
     by kind.Queue kind.Bits found fresh' before' = before' found
     by kind.Queue kind.Queue found fresh' before' = choice t.queues _ refl (put t.queues) found (fresh' refl) before'
 
+-- so the new event stands
+pub listened_stands : (t u : EventTable) (k : EventKind) (name : List ℕ) (max n : ℕ) → n ≡ t.drawn + 1 → u ≡ table_listened t k name max → event_at u n ≡ Some (new_event k name max)
+listened_stands t u k name max n number is =
+    rw is (rw number (rw (event_at-table_listened t k name max (t.drawn + 1)) (rw ((eq_by_cmp_equiv nat_cmp_total).refl (t.drawn + 1)) refl)))
+
 -- the new event holds its name
 new_holds : (k : EventKind) (name : List ℕ) (max : ℕ) → HoldsName k name (new_event k name max)
 new_holds kind.Bits name max = record { kind = refl; name = refl; held = refl }
 new_holds kind.Queue name max = record { kind = refl; name = refl; held = refl }
 
 -- a listen
-pub kept_listened : (t : EventTable) (k : EventKind) (name : List ℕ) (max : ℕ) → IsKept t → IsKept (table_listened t k name max)
-kept_listened t k name max table = record {
+pub kept_listened : (t : EventTable) (k : EventKind) (name : List ℕ) (max : ℕ) → max < 2 ^ 64 → IsKept t → IsKept (table_listened t k name max)
+kept_listened t k name max sized table = record {
   named = named;
   numbered = numbered;
-  sound = All-values-insert_entry nat_cmp (t.drawn + 1) (new_event k name max) IsEvent t.events table.sound (IsEvent-new_event k name max);
+  sound = All-values-insert_entry nat_cmp (t.drawn + 1) (new_event k name max) IsEvent t.events table.sound (IsEvent-new_event k name max sized);
+  attended = λ m. all_by IsAttended (is_at (nat_cmp (t.drawn + 1)) m) (event_at t m) _ (new_event k name max) (event_at-table_listened t k name max m) (IsAttended-new_event k name max) (table.attended m);
 }
   where
     fresh : HoldsName k name (new_event k name max)
@@ -248,6 +270,14 @@ changed_stands t u n f some is = by (event_at t n) refl some
     by : (o : Option Event) → event_at t n ≡ o → IsSome o → IsSome (event_at u n)
     by None h none = cc none
     by (Some e) h found = let with_it : u ≡ with_event t n (f e) = (rw (h, changed) at is) in rw with_it (rw (here-with_event t n e (f e) h) refl)
+
+-- and an event with a notifier more has one
+pub notified_stands : (t u : EventTable) (n : ℕ) → IsSome (event_at t n) → u ≡ changed t n with_notifier → IsSomeAnd (event_at u n) (λ e. 0 < e.notifiers)
+notified_stands t u n some is = by (event_at t n) refl some
+  where
+    by : (o : Option Event) → event_at t n ≡ o → IsSome o → IsSomeAnd (event_at u n) (λ e. 0 < e.notifiers)
+    by None h none = absurd (cc none)
+    by (Some e) h found = let with_it : u ≡ with_event t n (with_notifier e) = (rw (h, changed) at is) in rw with_it (rw (here-with_event t n e (with_notifier e) h) (omega arith))
 
 -- where the name goes, the events stay
 event_at-named_with : (t : EventTable) (n : ℕ) (e : Event) (q : ℕ) → event_at (named_with t n e) q ≡ event_at t q
@@ -292,6 +322,10 @@ held_by_name kind.Queue false some holds = cc holds
 event_at-held : (t : EventTable) (n : ℕ) (e : Event) → holds_name e ≡ true → settled_with t n e ≡ t
 event_at-held t n e holds = let held : has_holder e ≡ true = held_by_name e.kind e.held (nat_lt 0 e.notifiers) holds in rw held (rw holds refl)
 
+-- where somebody holds the event still, it stands
+event_at-attended : (t : EventTable) (n : ℕ) (e : Event) (q : ℕ) → has_holder e ≡ true → event_at (settled_with t n e) q ≡ event_at t q
+event_at-attended t n e q held = rw held (event_at-named_with t n e q)
+
 -- a holder less leaves the kind and the name
 abbrev pub IsSameEvent : Event → Event → Type 0
 IsSameEvent e next = (next.kind ≡ e.kind) × (next.name ≡ e.name)
@@ -317,9 +351,9 @@ sound-settled t n e sound = by (has_holder e)
     by false = All-map-remove_entry (is_at (nat_cmp n)) (λ x. x.1) IsEvent (named_with t n e).events named
 
 -- where the event is known
-kept_settled_with : (t u : EventTable) (n : ℕ) (e next : Event) → event_at t n ≡ Some e → IsSameEvent e next → IsEvent next → IsKept t →
-    u ≡ settled_with (with_event t n next) n next → AreLeft (with_event t n next) u → LosesName next u n → IsKept u
-kept_settled_with t u n e next is same good table done left gone = record { named = named; numbered = numbered; sound = sound }
+kept_settled_with : (t u : EventTable) (n : ℕ) (e next : Event) → event_at t n ≡ Some e → IsSameEvent e next → IsEvent next → next.notifiers ≤ 2 ^ 64 - 2 → IsKept t →
+    u ≡ settled_with (with_event t n next) n next → AreLeft (with_event t n next) u → LosesName next u n → DropsEvent u n next → IsKept u
+kept_settled_with t u n e next is same good counted table done left gone dropped = record { named = named; numbered = numbered; sound = sound; attended = attended }
   where
     found : IsSome (event_at t n)
     found = rw is refl
@@ -360,10 +394,25 @@ kept_settled_with t u n e next is same good table done left gone = record { name
         by true here = rw (sym (same_number n m here)) (table.numbered n found)
         by false apart = table.numbered m (rw (sym (others m apart)) some)
 
+    -- the event itself, if it stands still
+    itself : (b : Bool) → has_holder next ≡ b → IfSome (event_at u n) IsAttended
+    itself true held =
+        let stays : event_at (settled_with (with_event t n next) n next) n ≡ event_at (with_event t n next) n = event_at-attended (with_event t n next) n next n held in
+        rw done (rw stays (rw there (record { holder = held; counted = counted })))
+    itself false none = rw (dropped none) tt
+
+    attended : (m : ℕ) → IfSome (event_at u m) IsAttended
+    attended m = by (is_at (nat_cmp n) m) refl
+      where
+        by : (b : Bool) → is_at (nat_cmp n) m ≡ b → IfSome (event_at u m) IsAttended
+        by true here = rw (sym (same_number n m here)) (itself (has_holder next) refl)
+        by false apart = rw (others m apart) (table.attended m)
+
 -- a release
-pub kept_settled : (t s u : EventTable) (n : ℕ) (f : Event → Event) → ((e : Event) → IsSameEvent e (f e)) → ((e : Event) → IsEvent e → IsEvent (f e)) → IsKept t → IsSome (event_at t n) →
-    s ≡ changed t n f → u ≡ settled s n → AreLeft s u → IsSomeAnd (event_at s n) (λ e. LosesName e u n) → IsKept u
-kept_settled t s u n f same good table some changed_is settled_is left gone = by (event_at t n) refl
+pub kept_settled : (t s u : EventTable) (n : ℕ) (f : Event → Event) → ((e : Event) → IsSameEvent e (f e)) → ((e : Event) → IsEvent e → IsEvent (f e)) →
+    ((e : Event) → IsAttended e → (f e).notifiers ≤ 2 ^ 64 - 2) → IsKept t → IsSome (event_at t n) → s ≡ changed t n f → u ≡ settled s n → AreLeft s u →
+    IsSomeAnd (event_at s n) (λ e. LosesName e u n) → IsSomeAnd (event_at s n) (λ e. DropsEvent u n e) → IsKept u
+kept_settled t s u n f same good counted table some changed_is settled_is left gone dropped = by (event_at t n) refl
   where
     by : (o : Option Event) → event_at t n ≡ o → IsKept u
     by None h = absurd (let none = (rw h at some) in cc none)
@@ -372,7 +421,8 @@ kept_settled t s u n f same good table some changed_is settled_is left gone = by
         let there : event_at s n ≡ Some (f e) = rw s_is (here-with_event t n e (f e) h) in
         let u_is : u ≡ settled_with s n (f e) = (rw (there, settled) at settled_is) in
         let lost : LosesName (f e) u n = (rw there at gone) in
-        kept_settled_with t u n e (f e) h (same e) (good e (sound_at t n e h table)) table (rw (sym s_is) u_is) (rw (sym s_is) left) lost
+        let away : DropsEvent u n (f e) = (rw there at dropped) in
+        kept_settled_with t u n e (f e) h (same e) (good e (sound_at t n e h table)) (counted e (attended_at t n e h table)) table (rw (sym s_is) u_is) (rw (sym s_is) left) lost away
 
 -- ---- a name that goes
 
@@ -392,7 +442,7 @@ events-without_name t kind.Queue name = refl
 
 -- a name that is removed
 pub kept_removed : (t u : EventTable) (k : EventKind) (name : List ℕ) → u ≡ without_name k t name → AreLeft t u → IsKept t → IsKept u
-kept_removed t u k name is left table = record { named = named; numbered = numbered; sound = sound }
+kept_removed t u k name is left table = record { named = named; numbered = numbered; sound = sound; attended = λ m. rw (same m) (table.attended m) }
   where
     same : (m : ℕ) → event_at u m ≡ event_at t m
     same m = rw is (event_at-without_name t k name m)
@@ -426,3 +476,47 @@ frees_name t s u n f same some changed_is left gone = by (event_at t n) refl
         let before : at (names_of (f e).kind t) (f e).name ≡ Some m = rw (sym (names_of-with_event t n (f e) (f e).kind)) (rw (sym s_is) (left (f e).kind (f e).name m is)) in
         let number : n ≡ m = (let both = (rw held at before) in cc both) in
         lost nobody (rw number is)))
+
+-- who lets go of an event that nobody holds any more lets it go
+pub drops_event : (t s u : EventTable) (n : ℕ) (f : Event → Event) → IsSome (event_at t n) → s ≡ changed t n f → IsSomeAnd (event_at s n) (λ e. DropsEvent u n e) → DropsEventOf t u n f
+drops_event t s u n f some changed_is dropped = by (event_at t n) refl
+  where
+    by : (o : Option Event) → event_at t n ≡ o → IsSomeAnd o (λ e. DropsEvent u n (f e))
+    by None h = absurd (let none = (rw h at some) in cc none)
+    by (Some e) h =
+        let s_is : s ≡ with_event t n (f e) = (rw (h, changed) at changed_is) in
+        let there : event_at s n ≡ Some (f e) = rw s_is (here-with_event t n e (f e) h) in
+        (rw there at dropped)
+
+-- ---- what a caller knows of a table that it is lent
+
+-- an event without a notifier has its listener
+pub listens_alone : (t : EventTable) (n : ℕ) → IsKept t → IsSome (event_at t n) → ¬ IsSomeAnd (event_at t n) (λ e. 0 < e.notifiers) → IsSomeAnd (event_at t n) (λ e. e.held ≡ true)
+listens_alone t n table some none = by (event_at t n) (table.attended n) some none
+  where
+    held_by : (held : Bool) (n : ℕ) → held || nat_lt 0 n ≡ true → ¬ (0 < n) → held ≡ true
+    held_by true n holds none = refl
+    held_by false n holds none = absurd (none (grind arith))
+
+    by : (o : Option Event) → IfSome o IsAttended → IsSome o → ¬ IsSomeAnd o (λ e. 0 < e.notifiers) → IsSomeAnd o (λ e. e.held ≡ true)
+    by None held found none = absurd (cc found)
+    by (Some e) held found none = held_by e.held e.notifiers held.holder none
+
+-- and where it is let go, nothing stands
+pub alone_goes : (t u : EventTable) (n : ℕ) → ¬ IsSomeAnd (event_at t n) (λ e. 0 < e.notifiers) → DropsEventOf t u n without_listener → event_at u n ≡ None
+alone_goes t u n none dropped = by (event_at t n) none dropped
+  where
+    unheld : (n : ℕ) → ¬ (0 < n) → false || nat_lt 0 n ≡ false
+    unheld n none = is_false (nat_lt 0 n) (λ h. none (ltb_true 0 n h))
+
+    by : (o : Option Event) → ¬ IsSomeAnd o (λ e. 0 < e.notifiers) → IsSomeAnd o (λ e. DropsEvent u n (without_listener e)) → event_at u n ≡ None
+    by None none gone = absurd gone
+    by (Some e) none gone = gone (unheld e.notifiers none)
+
+-- where nobody holds it, none stands
+pub none_unheld : (t : EventTable) (n : ℕ) → IsKept t → ¬ IsSomeAnd (event_at t n) (λ e. e.held ≡ true) → ¬ IsSomeAnd (event_at t n) (λ e. 0 < e.notifiers) → event_at t n ≡ None
+none_unheld t n table no_listener no_notifier = by (event_at t n) refl
+  where
+    by : (o : Option Event) → event_at t n ≡ o → o ≡ None
+    by None h = refl
+    by (Some e) h = absurd (no_listener (listens_alone t n table (rw h refl) no_notifier))

@@ -1,5 +1,5 @@
 -- The table of events: what stands under a number and a name, and what the calls on it answer and leave.
-use Rattle.std.specs.Prelude.{◌≡◌, ◌≢◌, ◌≤◌, ◌<◌, IsSome, IsSomeAnd, ℕ, ◌+◌, ◌-◌, ◌*◌, ◌/◌, ◌^◌, Bool, true, false, ◌||◌, ◌==◌, not, nat_lt, if◌then◌else◌, List, [], length, Option, Some, None, Result, Ok, Err, refl}
+use Rattle.std.specs.Prelude.{◌≡◌, ◌≢◌, ◌≤◌, ◌<◌, IfSome, IsSome, IsSomeAnd, ℕ, ◌+◌, ◌-◌, ◌*◌, ◌/◌, ◌^◌, Bool, true, false, ◌||◌, ◌==◌, not, nat_lt, if◌then◌else◌, List, [], length, Option, Some, None, Result, Ok, Err, refl}
 use Rattle.std.specs.Coded.{Coded, code_by, coded×, coded_ℕ, coded_list}
 use Rattle.std.specs.Ordering.{nat_cmp}
 use Rattle.std.specs.Cmp.Lexicographic.{slice_cmp}
@@ -117,23 +117,30 @@ HoldsNameAt t k name n = IsSomeAnd (event_at t n) (HoldsName k name)
 abbrev pub NameStands : EventTable → EventKind → List ℕ → Type 0
 NameStands t k name = (n : ℕ) → at (names_of k t) name ≡ Some n → HoldsNameAt t k name n
 
--- the ids of every event: those of a set lie below 64 times its words, a queue has 512 at most, and a kind has none of the other's
+-- the ids of every event: those of a set are at most its greatest, a queue has 512 at most, and a kind has none of the other's
 pub record IsEvent (e : Event) : Type 0 where
-  pub low : (id : ℕ) → has e.pending id ≡ true → id < 64 * (e.max / 64 + 1)
+  pub sized : e.max < 2 ^ 64
+  pub low : (id : ℕ) → has e.pending id ≡ true → id ≤ e.max
   pub few : length e.queue ≤ 512
   pub set_alone : e.kind ≡ kind.Bits → e.queue ≡ []
   pub queue_alone : e.kind ≡ kind.Queue → e.pending ≡ set.empty
+
+-- who holds an event that stands: a listener or a notifier, and not so many notifiers that their count ends
+pub record IsAttended (e : Event) : Type 0 where
+  pub holder : has_holder e ≡ true
+  pub counted : e.notifiers ≤ 2 ^ 64 - 2
 
 -- the names ascend, so each stands once
 abbrev pub NamesAscend : List (List ℕ × ℕ) → Type 0
 NamesAscend names = IsStrictlySortedBy (slice_cmp nat_cmp) (keys_of names)
 
 -- what each call keeps: a held name has the number of an event that stands and holds it, no event has a number above the
--- last one drawn, and the ids of each event are as they may be
+-- last one drawn, the ids of each event are as they may be, and somebody holds each event
 pub record IsKept (t : EventTable) : Type 0 where
   pub named : (k : EventKind) (name : List ℕ) → NameStands t k name
   pub numbered : (n : ℕ) → IsSome (event_at t n) → n ≤ t.drawn
   pub sound : All IsEvent (values_of t.events)
+  pub attended : (n : ℕ) → IfSome (event_at t n) IsAttended
 
 -- what holds of every table of events: what each call keeps, and the numbers ascend, and the names of each kind, so each
 -- stands once
@@ -192,6 +199,10 @@ table_listened t k name max = record (with_name k t name (t.drawn + 1)) {
 abbrev pub notifier_of : ℕ → Event → Result ℕ NotifierCreateError
 notifier_of n e = if not e.held then Err notifier_error.DoesNotExist else if nat_lt e.notifiers (2 ^ 64 - 2) then Ok n else Err notifier_error.NumbersSpent
 
+-- the event under this number stands, and can have a notifier more
+abbrev pub HasRoomAt : EventTable → ℕ → Type 0
+HasRoomAt t n = IsSomeAnd (event_at t n) (λ e. e.notifiers < 2 ^ 64 - 2)
+
 -- by what stands under a name: the number of its event, which stands, or why there is no new notifier
 abbrev pub IsNotifierAnswer : EventTable → Result ℕ NotifierCreateError → Option ℕ → Type 0
 IsNotifierAnswer t result None = result ≡ Err notifier_error.DoesNotExist
@@ -204,6 +215,14 @@ FreesName old new n e = holds_name e ≡ false → at (names_of e.kind old) e.na
 -- the event under this number is left so, and where nobody holds its name any more, the name is free
 abbrev pub FreesNameOf : EventTable → EventTable → ℕ → (Event → Event) → Type 0
 FreesNameOf old new n f = IsSomeAnd (event_at old n) (λ e. FreesName old new n (f e))
+
+-- where nobody holds the event, none stands under its number
+abbrev pub DropsEvent : EventTable → ℕ → Event → Type 0
+DropsEvent t n e = has_holder e ≡ false → event_at t n ≡ None
+
+-- the event under this number is left so, and where nobody holds it any more, none stands under the number
+abbrev pub DropsEventOf : EventTable → EventTable → ℕ → (Event → Event) → Type 0
+DropsEventOf old new n f = IsSomeAnd (event_at old n) (λ e. DropsEvent new n (f e))
 
 -- ---- what the steps on the rows leave. No clause of a public call cites what follows
 

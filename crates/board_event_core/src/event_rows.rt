@@ -6,7 +6,7 @@ ghost use Rattle.std.specs.Map.{keys_of};
 ghost use Rattle.std.specs.Ordering.{nat_cmp};
 ghost use Rattle.board_event_model.specs.declared.kind.EventKind.{EventKind as Kind};
 ghost use Rattle.board_event_model.specs.EventMemory.{Event, IsRight, after};
-ghost use Rattle.board_event_core.specs.EventTable.{AreLeft, CanPerformAt, LosesName, NamesAreLeft, NamesAscend, SettlesName, changed, event_at, freed, table_listened, names_of, empty_table, settled, with_gone, with_name, with_name_freed, with_new_event, with_notifier, without_event, without_listener, without_name, without_notifier};
+ghost use Rattle.board_event_core.specs.EventTable.{AreLeft, CanPerformAt, DropsEvent, LosesName, NamesAreLeft, NamesAscend, SettlesName, changed, event_at, freed, table_listened, names_of, empty_table, settled, with_gone, with_name, with_name_freed, with_new_event, with_notifier, without_event, without_listener, without_name, without_notifier};
 
 use crate::event_memory::EventMemory;
 use board_event_model::{EventAccess, EventAnswer, EventKind};
@@ -216,6 +216,7 @@ impl EventRows {
         ensures settled { self.new ≡ settled self.old event }
         ensures left { AreLeft self.old self.new }
         ensures gone { IsSomeAnd (event_at self.old event) (λ e. LosesName e self.new event) }
+        ensures dropped { IsSomeAnd (event_at self.old event) (λ e. DropsEvent self.new event e) }
     {
         let is_held = self.standing(event).is_held();
         self.settle_name(event);
@@ -240,7 +241,8 @@ impl EventRows {
 
     /// Lets an event go.
     fn drop_event(&mut self, event: u64)
-        ensures { self.new ≡ without_event self.old event }
+        ensures after { self.new ≡ without_event self.old event }
+        ensures gone { event_at self.new event ≡ None }
     {
         self.events.remove(&event);
     }

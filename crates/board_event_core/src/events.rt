@@ -3,8 +3,8 @@ ghost use Rattle.std.specs.Prelude.{◌≡◌, ◌<◌, ◌^◌, ◌↔◌, ℕ,
 ghost use Rattle.board_layout.specs.Answer.{Answers, Refuses};
 ghost use Rattle.board_names.specs.Table.{at, name_at};
 ghost use Rattle.board_names.specs.declared.errors.event.ListenerCreateError.TheVariants.{OutOfMemory};
-ghost use Rattle.board_event_model.specs.EventMemory.{Event, IsRight, after};
-ghost use Rattle.board_event_core.specs.EventTable.{CanPerformAt, FreesNameOf, HoldsNameAt, IsEventTable, IsNotifierAnswer, NameStands, answer_to_listen, changed, event_at, table_listened, names_of, empty_table, notifier_of, settled, with_gone, with_notifier, without_listener, without_name, without_notifier};
+ghost use Rattle.board_event_model.specs.EventMemory.{Event, IsRight, after, new_event};
+ghost use Rattle.board_event_core.specs.EventTable.{CanPerformAt, DropsEventOf, FreesNameOf, HasRoomAt, HoldsNameAt, IsEventTable, IsNotifierAnswer, NameStands, answer_to_listen, changed, event_at, table_listened, names_of, empty_table, notifier_of, settled, with_gone, with_notifier, without_listener, without_name, without_notifier};
 
 use crate::event_rows::EventRows;
 use board_event_model::{EventAccess, EventAnswer, EventKind};
@@ -60,6 +60,7 @@ impl Events {
         ensures answer { Answers result OutOfMemory (answer_to_listen self.old kind name.now) }
         ensures refused { Refuses result (answer_to_listen self.old kind name.now) }
         ensures ok { OnOk result (self.new ≡ table_listened self.old kind name.now max) }
+        ensures stands { IfOk result (λ n. event_at self.new n ≡ Some (new_event kind name.now max)) }
         ensures err { OnErr result (self.new ≡ self.old) }
     {
         if self.holds(kind, name) {
@@ -121,6 +122,7 @@ impl Events {
     pub fn notifier(&mut self, kind: EventKind, name: &FilePath) -> Result<u64, NotifierCreateError>
         ensures answer { IsNotifierAnswer self.old result (at (names_of kind self.old) name.now) }
         ensures ok { IfOk result (λ n. self.new ≡ changed self.old n with_notifier) }
+        ensures stands { IfOk result (λ n. IsSomeAnd (event_at self.new n) (λ e. 0 < e.notifiers)) }
         ensures err { OnErr result (self.new ≡ self.old) }
     {
         let Some(number) = self.number_of(kind, name) else {
@@ -134,7 +136,8 @@ impl Events {
     /// The number of an event that can have a notifier more.
     fn open_event(&self, number: u64) -> Result<u64, NotifierCreateError>
         requires { IsSome (event_at self.now number) }
-        ensures { IsSomeAnd (event_at self.now number) (λ e. result ≡ notifier_of number e) }
+        ensures answer { IsSomeAnd (event_at self.now number) (λ e. result ≡ notifier_of number e) }
+        ensures room { IfOk result (HasRoomAt self.now) }
     {
         let memory = self.rows.standing(number);
         if !memory.has_listener() {
@@ -151,6 +154,7 @@ impl Events {
         requires { IsSomeAnd (event_at self.old event) (λ e. e.held ≡ true) }
         ensures after { self.new ≡ settled (changed self.old event without_listener) event }
         ensures free { FreesNameOf self.old self.new event without_listener }
+        ensures gone { DropsEventOf self.old self.new event without_listener }
     {
         self.rows.drop_listener(event);
         self.rows.settle(event)
@@ -161,6 +165,7 @@ impl Events {
         requires { IsSomeAnd (event_at self.old event) (λ e. 0 < e.notifiers) }
         ensures after { self.new ≡ settled (changed self.old event without_notifier) event }
         ensures free { FreesNameOf self.old self.new event without_notifier }
+        ensures gone { DropsEventOf self.old self.new event without_notifier }
     {
         self.rows.drop_notifier(event);
         self.rows.settle(event)
@@ -239,7 +244,7 @@ impl Events {
 }
 
 /// What holds of every table of events: numbers and names ascend and stand once, a held name leads to the event that holds
-/// it, and the ids of each event are as they may be.
+/// it, each event is held by a listener or a notifier, and its ids are as they may be.
 pub fn table_stands(events: &Events)
     ensures { IsEventTable events.now }
 {

@@ -13,8 +13,11 @@ use board_event_model::{EventAccess, EventAnswer, EventProgress, NotifyStage, Wa
 /// A step of a call: its access, the answer, and what the call has come to.
 #[derive(Clone, Copy, Debug, PartialEq, Eq)]
 pub struct EventStep {
+    /// The access that was owed.
     pub access: EventAccess,
+    /// What the event answered.
     pub answer: EventAnswer,
+    /// What the call has come to with it.
     pub progress: EventProgress,
 }
 

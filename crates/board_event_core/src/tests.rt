@@ -8,6 +8,7 @@ use std::process::Abort;
 
 mod abandoned;
 mod corners;
+mod lent;
 mod sets;
 
 /// An access, its answer, and what the call has come to.

@@ -1,6 +1,6 @@
 -- Files in memory after their changes.
-use Rattle.std.proofs.Common.{◌≡◌, ℕ, zero, suc, ◌+◌, ◌<◌, List, [], ◌∷◌, ◌++◌, length, take, get_or, refl, sym, ◌∙◌, ap}
-use Rattle.std.proofs.lemmas.List.{take_more}
+use Rattle.std.proofs.Common.{◌≡◌, ℕ, zero, suc, ◌+◌, ◌<◌, ◌≤◌, List, [], ◌∷◌, ◌++◌, length, take, get_or, refl, sym, ◌∙◌, ap, arith}
+use Rattle.std.proofs.lemmas.List.{take_all, take_more}
 use Rattle.board_files.specs.Files.{File, Held, Told, moved}
 use Rattle.board_files.specs.Changes.{applied, replayed, moments_from, told_after, last_moment, stopped_at}
 use Rattle.board_files.specs.declared.changes.Change.{Change}
@@ -31,6 +31,15 @@ moments-take (suc n) files (c ∷ changes) = ap (λ l. applied c files ∷ l) (m
 -- after the first changes the files are as they stood then
 pub told_after-take : (n : ℕ) (changes : List Change) → told_after (take n changes) ≡ stopped_at n (told_after changes)
 told_after-take n changes = rw (files-last [] (take n changes), moments-take n [] changes)
+
+length-moments_from : (files : Held) (changes : List Change) → length (moments_from files changes) ≡ length changes
+length-moments_from files [] = refl
+length-moments_from files (c ∷ changes) = ap suc (length-moments_from (applied c files) changes)
+
+-- after all changes they are as they are
+pub stopped-all : (n : ℕ) (changes : List Change) → length (told_after changes).moments ≤ n → stopped_at n (told_after changes) ≡ told_after changes
+stopped-all n changes most =
+    sym (told_after-take n changes) ∙ ap told_after (take_all n changes (omega (arith, most, length-moments_from [] changes)))
 
 -- one change more was made
 pub stopped-next : (front : List Change) (i : ℕ) (c : Change) (now next : Told) → i < length front → c ≡ get_or front i c →

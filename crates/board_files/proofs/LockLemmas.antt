@@ -1,5 +1,5 @@
 -- What `create` and `unlock` of a static storage over files answer and leave.
-use Rattle.std.proofs.Common.{◌≡◌, ◌≢◌, ℕ, ◌+◌, ◌<◌, ◌≤◌, List, [], ◌∷◌, ◌++◌, length, take, drop, refl, sym, ◌∙◌, ap, subst, arith, ⊎_elim}
+use Rattle.std.proofs.Common.{◌≡◌, ◌≢◌, ℕ, ◌+◌, ◌<◌, ◌≤◌, List, [], ◌∷◌, ◌++◌, length, take, drop, refl, sym, ◌∙◌, ap, subst, arith, inl, inr, ⊎_elim}
 use Rattle.std.specs.Prelude.{Bool, true, false, nat_lt, not, is_some, Option, Some, None, option_map, Result, Ok, Err, IfSome, IsSomeAnd, IsSome, OnOk, OnErr, IsErrOf, All, if◌then◌else◌}
 use Rattle.std.proofs.lemmas.Bool.{ltb-true, lt-ltb, cases_lt}
 use Rattle.std.proofs.lemmas.List.{take_all}
@@ -12,7 +12,7 @@ use Rattle.board_names.specs.declared.errors.static_storage.StaticStorageUnlockE
 use Rattle.board_names.specs.declared.errors.static_storage.StaticStorageUnlockError.TheVariants as unlocking
 use Rattle.board_names.proofs.TableLemmas.{at-putting}
 use Rattle.board_files.specs.Files.{File, Held, Told, new_file, final_file, lengthened, moved, created, written, written_by, finalized, HasRisen, Creates, Writes, Finalizes, CountsFaults, CountsShort, AddsMoments, SameOthers}
-use Rattle.board_files.specs.Storage.{AnswersOr, TellsFault, TellsShort, FromTo, locked_of, create_answer, IsOpen, IsFresh, IsWhole, HasFront, IsLockedMoment, IsUnlockMoment}
+use Rattle.board_files.specs.Storage.{AnswersOr, FromTo, locked_of, create_answer, LeftBy, UnlockLeaves, IsOpen, IsFresh, IsWhole, HasFront, IsLockedMoment, IsUnlockMoment}
 use Rattle.board_files.specs.Told.{create_told, write_told, final_told}
 use Rattle.board_files.specs.declared.files.FilesError.{FilesError}
 use Rattle.board_files.specs.declared.files.FilesError.TheVariants.{Failed, OutOfMemory}
@@ -57,14 +57,6 @@ create-locked name path old new (Ok false) h = if_some new (λ u. Unit {0}) (λ 
 create-locked name path old new (Err Failed) h = if_some new (λ u. Unit {0}) (λ u. tt)
 create-locked name path old new (Err OutOfMemory) h = if_some new (λ u. Unit {0}) (λ u. tt)
 
-pub create-err : (name path : List ℕ) (old new : Option Told) (made : Result Bool FilesError) → Creates path old new made → OnErr (create_told name made) (new ≡ old)
-create-err name path old new (Ok true) h = tt
-create-err name path None new (Ok false) h = h.after
-create-err name path (Some t) new (Ok false) h =
-    let held = held_from (at t.files path) h.answer in h.after ∙ ap Some (created-held path t held.0 held.1)
-create-err name path old new (Err Failed) h = h.after
-create-err name path old new (Err OutOfMemory) h = h.after
-
 locked_moment : (path : List ℕ) (files : Held) → IsLockedMoment path files (putting files path new_file)
 locked_moment path files = record {
   part = subst (λ o. IsSomeAnd o (λ f. f.is_final ≡ false)) (sym (at-putting files path new_file)) refl;
@@ -78,18 +70,15 @@ create-stop name path old new made h = create-cases (λ r t u. AddsMoments t.mom
     (AddsMoments-one t.moments (IsLockedMoment path t.files) (putting t.files path new_file) (locked_moment path t.files)))
     (λ t e. AddsMoments-none t.moments (IsLockedMoment path t.files))
 
+pub create-after : (name path : List ℕ) (old new : Option Told) (made : Result Bool FilesError) → Creates path old new made →
+    FromTo old new (λ t u. OnOk (create_told name made) (u ≡ created path t))
+create-after name path old new made h = create-cases (λ r t u. OnOk r (u ≡ created path t)) name path old new made h (λ t free. refl) (λ t e. tt)
+
 pub create-others : (name path : List ℕ) (old new : Option Told) (made : Result Bool FilesError) → Creates path old new made →
     FromTo old new (λ t u. SameOthers path t.files u.files)
 create-others name path old new made h = create-cases (λ r t u. SameOthers path t.files u.files) name path old new made h
     (λ t free. subst (λ u. SameOthers path t.files u.files) (sym (created-free path t free)) (SameOthers-putting path t.files new_file))
     (λ t e. SameOthers-none path t.files)
-
-pub create-fault : (name : List ℕ) (before now : ℕ) (made : Result Bool FilesError) → CountsFaults before now made →
-    TellsFault creating.Creation before now (create_told name made)
-create-fault name before now (Ok true) h = record { told = λ is. cc is; quiet = λ no. h }
-create-fault name before now (Ok false) h = record { told = λ is. cc is; quiet = λ no. h }
-create-fault name before now (Err Failed) h = record { told = λ is. h; quiet = λ no. absurd (no refl) }
-create-fault name before now (Err OutOfMemory) h = record { told = λ is. cc is; quiet = λ no. h }
 
 -- ---- unlock
 
@@ -105,6 +94,7 @@ open_of path bytes files held = subst (λ o. IsSomeAnd o (λ f. f.is_final ≡ f
 
 -- what stands after a write of these bytes to a file that was locked
 pub record IsWritten (path contents bytes : List ℕ) (t u : Told) : Type 0 where
+  pub after : u ≡ written path bytes t
   pub held : HasOnly path bytes u.files
   pub stop : AddsMoments t.moments u.moments (IsUnlockMoment path contents t.files)
   pub others : SameOthers path t.files u.files
@@ -112,6 +102,7 @@ pub record IsWritten (path contents bytes : List ℕ) (t u : Told) : Type 0 wher
 written-fresh : (path contents bytes : List ℕ) (t : Told) → IsFresh path t.files → IsWritten path contents bytes t (written path bytes t)
 written-fresh path contents [] t fresh =
     subst (IsWritten path contents [] t) (sym (written-none path t new_file fresh)) (record {
+      after = sym (written-none path t new_file fresh);
       held = fresh;
       stop = AddsMoments-none t.moments (IsUnlockMoment path contents t.files);
       others = SameOthers-none path t.files;
@@ -121,6 +112,7 @@ written-fresh path contents (b ∷ bytes) t fresh =
     let held = at-putting t.files path file in
     let moment : IsUnlockMoment path contents t.files (putting t.files path file) = record { part = part_of path contents (b ∷ bytes) (putting t.files path file) held; others = SameOthers-putting path t.files file } in
     subst (IsWritten path contents (b ∷ bytes) t) (sym (written-some path t new_file b bytes fresh)) (record {
+      after = sym (written-some path t new_file b bytes fresh);
       held = held;
       stop = AddsMoments-one t.moments (IsUnlockMoment path contents t.files) (putting t.files path file) moment;
       others = SameOthers-putting path t.files file;
@@ -128,6 +120,7 @@ written-fresh path contents (b ∷ bytes) t fresh =
 
 -- what stands after the file was made final
 pub record IsUnlocked (path contents : List ℕ) (t u : Told) : Type 0 where
+  pub after : u ≡ finalized path (written path contents t)
   pub whole : IsWhole path contents u.files
   pub stop : AddsMoments t.moments u.moments (IsUnlockMoment path contents t.files)
   pub others : SameOthers path t.files u.files
@@ -142,6 +135,7 @@ finalized-written : (path contents : List ℕ) (t u : Told) → IsWritten path c
 finalized-written path contents t u w =
     let files = putting u.files path (final_file contents) in
     subst (IsUnlocked path contents t) (sym (finalized-open path u contents w.held)) (record {
+      after = sym (finalized-open path u contents w.held) ∙ ap (finalized path) w.after;
       whole = at-putting u.files path (final_file contents);
       stop = AddsMoments-trans t.moments u.moments (u.moments ++ files ∷ []) (IsUnlockMoment path contents t.files) w.stop
           (AddsMoments-one u.moments (IsUnlockMoment path contents t.files) files (final_moment path contents t.files u.files w.others));
@@ -241,6 +235,27 @@ write-front path contents old new wrote e r fresh h is same =
     (λ t u taken less w taken' given' eq. let one : taken ≡ taken' = cc eq in subst (λ n. HasFront path contents n u.files) one w.held)
     (λ t e' fresh no taken given eq. let one : e' ≡ unlocking.NoSpaceLeft taken given = cc eq in absurd (no taken given one)))
 
+left_none : (e : StaticStorageUnlockError) (path contents : List ℕ) (t : Told) → ((taken given : ℕ) → e ≢ unlocking.NoSpaceLeft taken given) → LeftBy e path contents t t
+left_none (unlocking.NoSpaceLeft taken given) path contents t other = absurd (other taken given refl)
+left_none unlocking.InternalError path contents t other = inl refl
+left_none unlocking.OutOfMemory path contents t other = inl refl
+left_none unlocking.InsufficientPermissions path contents t other = inl refl
+
+left_all : (e : StaticStorageUnlockError) (path contents : List ℕ) (t u : Told) → ((taken given : ℕ) → e ≢ unlocking.NoSpaceLeft taken given) → u ≡ written path contents t →
+    LeftBy e path contents t u
+left_all (unlocking.NoSpaceLeft taken given) path contents t u other is = absurd (other taken given refl)
+left_all unlocking.InternalError path contents t u other is = inr is
+left_all unlocking.OutOfMemory path contents t u other is = inr is
+left_all unlocking.InsufficientPermissions path contents t u other is = inr is
+
+pub write-after : (path contents : List ℕ) (old new : Option Told) (wrote : Result ℕ FilesError) (e : StaticStorageUnlockError) (r : Unlocking) →
+    IfSome old (λ t. IsFresh path t.files) → Writes path contents old new wrote → write_told (length contents) wrote ≡ Err e → r ≡ refused e →
+    FromTo old new (UnlockLeaves r path contents)
+write-after path contents old new wrote e r fresh h is same =
+    subst (λ r'. FromTo old new (UnlockLeaves r' path contents)) (sym same)
+    (write-cases (λ e' t u. LeftBy e' path contents t u) path contents old new wrote e fresh h is
+    (λ t u taken less w. w.after) (λ t e' fresh no. left_none e' path contents t no))
+
 pub write-err : (path contents : List ℕ) (old new : Option Told) (wrote : Result ℕ FilesError) (e : StaticStorageUnlockError) (r : Unlocking) →
     IfSome old (λ t. IsFresh path t.files) → Writes path contents old new wrote → write_told (length contents) wrote ≡ Err e → r ≡ refused e →
     FromTo old new (λ t u. OnErr r (IsOpen path u.files))
@@ -262,6 +277,14 @@ pub write-others : (path contents : List ℕ) (old new : Option Told) (wrote : R
 write-others path contents old new wrote e fresh h is =
     write-cases (λ e' t u. SameOthers path t.files u.files) path contents old new wrote e fresh h is
     (λ t u taken less w. w.others) (λ t e' fresh no. SameOthers-none path t.files)
+
+pub open-after : (path contents : List ℕ) (old mid new : Option Told) (set : Result (Unit {0}) FilesError) (e : StaticStorageUnlockError) (r : Unlocking) →
+    IfSome old (λ t. IsFresh path t.files) → mid ≡ option_map (written path contents) old → Finalizes path mid new set → final_told set ≡ Err e → r ≡ refused e →
+    FromTo old new (UnlockLeaves r path contents)
+open-after path contents old mid new set e r fresh wrote h is same =
+    let failed = final-err set e is in
+    subst (λ r'. FromTo old new (UnlockLeaves r' path contents)) (sym same)
+    (open-cases (λ t u. LeftBy e path contents t u) path contents old mid new set failed.0 fresh wrote h failed.1 (λ t u w. left_all e path contents t u failed.2 w.after))
 
 pub open-err : (path contents : List ℕ) (old mid new : Option Told) (set : Result (Unit {0}) FilesError) (e : StaticStorageUnlockError) (r : Unlocking) →
     IfSome old (λ t. IsFresh path t.files) → mid ≡ option_map (written path contents) old → Finalizes path mid new set → final_told set ≡ Err e → r ≡ refused e →
@@ -294,6 +317,12 @@ whole-whole path contents old mid new set v r fresh wrote h is =
     on_ok : {P : Type 0} (r : Unlocking) → P → OnOk r P
     on_ok (Ok s) p = p
     on_ok (Err e) p = tt
+
+pub whole-after : (path contents : List ℕ) (old mid new : Option Told) (set : Result (Unit {0}) FilesError) (v : Unit {0}) (s : FileStorage) →
+    IfSome old (λ t. IsFresh path t.files) → mid ≡ option_map (written path contents) old → Finalizes path mid new set → final_told set ≡ Ok v →
+    FromTo old new (UnlockLeaves (Ok s) path contents)
+whole-after path contents old mid new set v s fresh wrote h is =
+    whole-cases (λ t u. u ≡ finalized path (written path contents t)) path contents old mid new set tt fresh wrote h (final-ok set v is) (λ t u w. w.after)
 
 pub whole-stop : (path contents : List ℕ) (old mid new : Option Told) (set : Result (Unit {0}) FilesError) (v : Unit {0}) →
     IfSome old (λ t. IsFresh path t.files) → mid ≡ option_map (written path contents) old → Finalizes path mid new set → final_told set ≡ Ok v →

@@ -86,10 +86,15 @@ leaves (Err e) change told = told
 
 -- ---- counts
 
--- how many faults there were, and how many writes that took less than they were given
+-- how many calls there were, how many faults, and how many writes that took less than they were given
 pub record Counts : Type 0 where
+  pub calls : ℕ
   pub faults : ℕ
   pub short_writes : ℕ
+
+-- a count after so many more, up to its last value
+abbrev pub raised : ℕ → ℕ → ℕ
+raised more count = min (count + more) (2 ^ 64 - 1)
 
 -- a count has risen; one that stands at its last value counts as risen
 pub record HasRisen (before now : ℕ) : Type 0 where
@@ -102,8 +107,9 @@ CountsFaults before now (Ok value) = now ≡ before
 CountsFaults before now (Err Failed) = HasRisen before now
 CountsFaults before now (Err OutOfMemory) = now ≡ before
 
--- a call that writes nothing counts its fault alone
+-- a call that writes nothing counts itself and its fault alone
 pub record CountsCall {T : Type 0} (before now : Counts) (result : Result T FilesError) : Type 0 where
+  pub calls : now.calls ≡ raised 1 before.calls
   pub faults : CountsFaults before.faults now.faults result
   pub short_writes : now.short_writes ≡ before.short_writes
 
@@ -112,8 +118,9 @@ abbrev pub CountsShort : ℕ → ℕ → ℕ → Result ℕ FilesError → Type 
 CountsShort given before now (Ok taken) = (taken ≤ given) × (taken < given → HasRisen before now) × (taken ≡ given → now ≡ before)
 CountsShort given before now (Err e) = now ≡ before
 
--- a write counts its fault, and that it was short
+-- a write counts itself, its fault, and that it was short
 pub record CountsWrite (given : ℕ) (before now : Counts) (result : Result ℕ FilesError) : Type 0 where
+  pub calls : now.calls ≡ raised 1 before.calls
   pub faults : CountsFaults before.faults now.faults result
   pub short_writes : CountsShort given before.short_writes now.short_writes result
 

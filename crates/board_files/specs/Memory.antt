@@ -1,20 +1,25 @@
 -- Files in memory that fail where they are told to.
-use Rattle.std.specs.Prelude.{◌≡◌, ℕ, ◌+◌, ◌-◌, ◌^◌, ◌==◌, List, min, Bool, Option, Some, None, find}
+use Rattle.std.specs.Prelude.{◌≡◌, ◌⊎◌, ℕ, ◌+◌, ◌-◌, ◌^◌, ◌==◌, List, min, Bool, Option, Some, None, find, IsTrue}
 use Rattle.std.specs.List.{list_any}
-use Rattle.board_files.specs.Files.{Counts}
+use Rattle.board_names.specs.Table.{IsFree}
+use Rattle.board_files.specs.Files.{Counts, raised}
 use Rattle.board_files.specs.declared.memory_files.MemoryFiles.{MemoryFiles}
 
 -- what files in memory counted
 abbrev pub counts_of : MemoryFiles → Counts
-counts_of m = record { faults = m.faults; short_writes = m.short_writes }
+counts_of m = record { calls = m.calls; faults = m.faults; short_writes = m.short_writes }
 
 -- one more, up to the last value of a count
 abbrev pub one_more : ℕ → ℕ
-one_more n = min (n + 1) (2 ^ 64 - 1)
+one_more n = raised 1 n
 
 -- whether the next call is to fail
 abbrev pub fails_next : MemoryFiles → Bool
 fails_next m = list_any (λ n. n == m.calls) m.fails.items
+
+-- why the next call on a name that must be held fails: it is to fail, or the name isn't held
+abbrev pub FailsAt : MemoryFiles → List ℕ → Type 0
+FailsAt m name = IsTrue (fails_next m) ⊎ IsFree m.held.files name
 
 abbrev pub room_in : ℕ → Option (ℕ × ℕ) → ℕ
 room_in given None = given
@@ -35,3 +40,8 @@ called m = record m { calls = one_more m.calls }
 -- after a fault was counted
 abbrev pub faulted : MemoryFiles → MemoryFiles
 faulted m = record m { faults = one_more m.faults }
+
+-- the lists of the calls that are to fail and of the writes that are to be short stay
+pub record SamePlan (before now : MemoryFiles) : Type 0 where
+  pub fails : now.fails ≡ before.fails
+  pub short : now.short ≡ before.short

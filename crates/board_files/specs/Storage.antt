@@ -1,20 +1,25 @@
 -- Static storage over files: what its calls answer, what they leave, and what others find at each moment.
-use Rattle.std.specs.Prelude.{◌≡◌, ◌≢◌, ◌⊎◌, ℕ, ◌<◌, ◌==◌, List, [], ◌∷◌, ◌++◌, length, take, drop, min, Bool, true, false, nat_lt, not, is_some, slice_get, Option, option_map, Some, None, ⊤, IsTrue, Result, Ok, Err, IfSome, IsSomeAnd, IsErrOf, OnOk, OnErr, if◌then◌else◌}
+use Rattle.std.specs.Prelude.{◌≡◌, ◌≢◌, ◌⊎◌, ℕ, ◌<◌, ◌==◌, List, [], ◌∷◌, ◌++◌, length, take, drop, min, Bool, true, false, nat_lt, not, is_some, slice_get, Option, option_map, Some, None, ⊤, IsTrue, Result, Ok, Err, IsOk, IfSome, IsSomeAnd, IsErrOf, OnOk, OnErr, option_to_list, if◌then◌else◌}
 use Rattle.std.specs.List.{filter}
 use Rattle.std.specs.Map.{keys_of}
 use Rattle.board_layout.specs.Answer.{with_value}
 use Rattle.board_names.specs.Configuration.{full_name}
+use Rattle.board_names.specs.Extraction.{Extracts}
 use Rattle.board_names.specs.Table.{at, taking}
 use Rattle.board_names.specs.declared.configuration.Configuration.{Configuration}
 use Rattle.board_names.specs.declared.errors.static_storage.StaticStorageCreateError.{StaticStorageCreateError}
-use Rattle.board_names.specs.declared.errors.static_storage.StaticStorageCreateError.TheVariants.{AlreadyExists}
+use Rattle.board_names.specs.declared.errors.static_storage.StaticStorageCreateError.TheVariants.{AlreadyExists, Creation}
+use Rattle.board_names.specs.declared.errors.static_storage.StaticStorageCreateError.TheVariants as creating
 use Rattle.board_names.specs.declared.errors.static_storage.StaticStorageOpenError.{StaticStorageOpenError}
 use Rattle.board_names.specs.declared.errors.static_storage.StaticStorageOpenError.TheVariants.{DoesNotExist, InitializationNotYetFinalized}
+use Rattle.board_names.specs.declared.errors.static_storage.StaticStorageOpenError.TheVariants as opening
 use Rattle.board_names.specs.declared.errors.static_storage.StaticStorageReadError.{StaticStorageReadError}
-use Rattle.board_names.specs.declared.errors.static_storage.StaticStorageReadError.TheVariants.{BufferTooSmall, StaticStorageWasModified}
+use Rattle.board_names.specs.declared.errors.static_storage.StaticStorageReadError.TheVariants.{BufferTooSmall, ReadError, StaticStorageWasModified}
+use Rattle.board_names.specs.declared.errors.static_storage.StaticStorageReadError.TheVariants as reading
 use Rattle.board_names.specs.declared.errors.static_storage.StaticStorageUnlockError.{StaticStorageUnlockError}
 use Rattle.board_names.specs.declared.errors.static_storage.StaticStorageUnlockError.TheVariants.{NoSpaceLeft}
-use Rattle.board_files.specs.Files.{File, Held, Told, new_file, final_file, HasRisen, AddsMoments, SameOthers}
+use Rattle.board_names.specs.declared.errors.static_storage.StaticStorageUnlockError.TheVariants as unlocking
+use Rattle.board_files.specs.Files.{File, Held, Told, Counts, new_file, final_file, written, finalized, HasRisen, AddsMoments, SameOthers}
 use Rattle.board_files.specs.declared.file_locked.FileLocked.{FileLocked}
 use Rattle.board_files.specs.declared.file_storage.FileStorage.{FileStorage}
 
@@ -24,10 +29,46 @@ use Rattle.board_files.specs.declared.file_storage.FileStorage.{FileStorage}
 abbrev pub AnswersOr : {T E : Type 0} → Result T E → E → E → Result T E → Type 0
 AnswersOr result fault out_of_memory answer = result ≢ Err fault → result ≢ Err out_of_memory → result ≡ answer
 
+-- no other errors are answered than a fault and want of memory
+abbrev pub IsOkOr : {T E : Type 0} → Result T E → E → E → Type 0
+IsOkOr result fault out_of_memory = result ≢ Err fault → result ≢ Err out_of_memory → IsOk result
+
+-- why `create` is refused
+abbrev pub IsCreateRefusal : StaticStorageCreateError → Type 0
+IsCreateRefusal AlreadyExists = ⊤
+IsCreateRefusal Creation = ⊤
+IsCreateRefusal creating.OutOfMemory = ⊤
+IsCreateRefusal creating.Write = ⊥
+IsCreateRefusal creating.InsufficientPermissions = ⊥
+IsCreateRefusal creating.InternalError = ⊥
+
+-- why `unlock` is refused
+abbrev pub IsUnlockRefusal : StaticStorageUnlockError → Type 0
+IsUnlockRefusal (NoSpaceLeft taken given) = ⊤
+IsUnlockRefusal unlocking.InternalError = ⊤
+IsUnlockRefusal unlocking.OutOfMemory = ⊤
+IsUnlockRefusal unlocking.InsufficientPermissions = ⊥
+
+-- why `open` is refused
+abbrev pub IsOpenRefusal : StaticStorageOpenError → Type 0
+IsOpenRefusal DoesNotExist = ⊤
+IsOpenRefusal InitializationNotYetFinalized = ⊤
+IsOpenRefusal opening.Read = ⊤
+IsOpenRefusal opening.OutOfMemory = ⊤
+IsOpenRefusal opening.InternalError = ⊥
+
+-- why `read` is refused
+abbrev pub IsReadRefusal : StaticStorageReadError → Type 0
+IsReadRefusal BufferTooSmall = ⊤
+IsReadRefusal (StaticStorageWasModified expected found) = ⊤
+IsReadRefusal ReadError = ⊤
+IsReadRefusal reading.OutOfMemory = ⊤
+IsReadRefusal reading.CreationNotComplete = ⊥
+
 -- a fault was counted where it is told, and only there
-pub record TellsFault {T E : Type 0} (fault : E) (before now : ℕ) (result : Result T E) : Type 0 where
-  pub told : IsErrOf result fault → HasRisen before now
-  pub quiet : result ≢ Err fault → now ≡ before
+pub record TellsFault {T E : Type 0} (fault : E) (before now : Counts) (result : Result T E) : Type 0 where
+  pub told : IsErrOf result fault → HasRisen before.faults now.faults
+  pub quiet : result ≢ Err fault → now.faults ≡ before.faults
 
 -- the files were told and still are, and this is so of them before and after
 abbrev pub FromTo : Option Told → Option Told → (Told → Told → Type 0) → Type 0
@@ -62,13 +103,27 @@ found_answer len found = if found == len then Ok tt else Err (StaticStorageWasMo
 abbrev pub read_answer : ℕ → ℕ → ℕ → Result (Unit {0}) StaticStorageReadError
 read_answer len room size = if nat_lt room len then Err BufferTooSmall else found_answer len (min room size)
 
+-- what `read` of a storage of `len` bytes answers, by the length of the buffer and by what stands under the name
+abbrev pub read_of : ℕ → ℕ → Option File → Result (Unit {0}) StaticStorageReadError
+read_of len room None = if nat_lt room len then Err BufferTooSmall else Err ReadError
+read_of len room (Some file) = read_answer len room (length file.bytes)
+
 -- the full names of the files that are final
 abbrev pub final_names : Held → List (List ℕ)
 final_names files = keys_of (filter (λ e. e.1.is_final) files)
 
+-- a full name, and whether its file is final
+abbrev pub and_final : List ℕ × File → List ℕ × Bool
+and_final e = (e.0, e.1.is_final)
+
 -- the full name at an index, and whether its file is final
 abbrev pub name_and_final : Held → ℕ → Option (List ℕ × Bool)
-name_and_final files index = option_map (λ e. (e.0, e.1.is_final)) (slice_get files index)
+name_and_final files index = option_map and_final (slice_get files index)
+
+-- the name that a full name is of is listed behind the others, where the file is final
+abbrev pub AddsName : Configuration → List ℕ → Bool → List (List ℕ) → List (List ℕ) → Type 0
+AddsName cfg path false before now = now ≡ before
+AddsName cfg path true before now = (one : Option (List ℕ)) × Extracts cfg path one × (now ≡ before ++ option_to_list one)
 
 -- ---- what is left
 
@@ -88,10 +143,24 @@ IsWhole path contents files = at files path ≡ Some (final_file contents)
 abbrev pub HasFront : List ℕ → List ℕ → ℕ → Held → Type 0
 HasFront path contents taken files = at files path ≡ Some (record { is_final = false; bytes = take taken contents })
 
--- where there was no room for all of the contents, it is told how many bytes the file has, which are fewer
-abbrev pub TellsShort : List ℕ → ℕ → ℕ → Result FileStorage StaticStorageUnlockError → Type 0
-TellsShort contents before now result =
-    (taken given : ℕ) → result ≡ Err (NoSpaceLeft taken given) → (given ≡ length contents) × (taken < given) × HasRisen before now
+-- what a refused `unlock` leaves: the front that was taken; else all or nothing of the contents, and no final file
+abbrev pub LeftBy : StaticStorageUnlockError → List ℕ → List ℕ → Told → Told → Type 0
+LeftBy (NoSpaceLeft taken given) path contents t u = u ≡ written path (take taken contents) t
+LeftBy unlocking.InternalError path contents t u = (u ≡ t) ⊎ (u ≡ written path contents t)
+LeftBy unlocking.OutOfMemory path contents t u = (u ≡ t) ⊎ (u ≡ written path contents t)
+LeftBy unlocking.InsufficientPermissions path contents t u = (u ≡ t) ⊎ (u ≡ written path contents t)
+
+-- what `unlock` leaves: the contents by one write and then a final file, or what its refusal leaves
+abbrev pub UnlockLeaves : Result FileStorage StaticStorageUnlockError → List ℕ → List ℕ → Told → Told → Type 0
+UnlockLeaves (Ok storage) path contents t u = u ≡ finalized path (written path contents t)
+UnlockLeaves (Err e) path contents t u = LeftBy e path contents t u
+
+-- where there was no room for all of the contents, it is told how many bytes the file has, which are fewer; with any other
+-- answer no write was short
+pub record TellsShort (contents : List ℕ) (before now : Counts) (result : Result FileStorage StaticStorageUnlockError) : Type 0 where
+  pub told : (taken given : ℕ) → result ≡ Err (NoSpaceLeft taken given)
+      → (given ≡ length contents) × (taken < given) × HasRisen before.short_writes now.short_writes
+  pub quiet : ((taken given : ℕ) → result ≢ Err (NoSpaceLeft taken given)) → now.short_writes ≡ before.short_writes
 
 -- ---- moments
 

@@ -1,10 +1,10 @@
 //! A static storage over files that is still to be filled.
-ghost use Rattle.std.specs.Prelude.{◌≡◌, ◌≢◌, ℕ, ◌<◌, List, length, Result, Ok, IfSome, IfOk, OnOk, OnErr};
+ghost use Rattle.std.specs.Prelude.{◌≡◌, ◌≢◌, ℕ, ◌<◌, List, length, Result, Ok, IfSome, IfOk, IfErr, OnOk, OnErr};
 ghost use Rattle.board_names.specs.Configuration.{full_name};
 ghost use Rattle.board_names.specs.declared.errors.static_storage.StaticStorageCreateError.TheVariants.{Creation, OutOfMemory};
 ghost use Rattle.board_names.specs.declared.errors.static_storage.StaticStorageUnlockError.TheVariants.{InternalError, OutOfMemory as NoMemory, NoSpaceLeft};
-ghost use Rattle.board_files.specs.Files.{AddsMoments, SameOthers};
-ghost use Rattle.board_files.specs.Storage.{AnswersOr, TellsFault, FromTo, locked_of, storage_of, create_answer, IsOpen, IsFresh, IsWhole, HasFront, TellsShort, IsLockedMoment, IsUnlockMoment};
+ghost use Rattle.board_files.specs.Files.{created, AddsMoments, SameOthers};
+ghost use Rattle.board_files.specs.Storage.{AnswersOr, IsCreateRefusal, IsUnlockRefusal, TellsFault, FromTo, locked_of, storage_of, create_answer, UnlockLeaves, IsOpen, IsFresh, IsWhole, HasFront, TellsShort, IsLockedMoment, IsUnlockMoment};
 ghost use Rattle.board_files.specs.Told.{create_told, write_told, final_told};
 
 use crate::file_storage::FileStorage;
@@ -36,14 +36,18 @@ impl FileLocked {
         ensures ok { IfOk result (λ locked. locked ≡ locked_of name.now) }
         ensures answer { IfSome (F.told files.old) (λ t.
             AnswersOr result Creation OutOfMemory (create_answer cfg.now name.now t.files)) }
+        ensures cause { IfErr result IsCreateRefusal }
         ensures locked { IfSome (F.told files.new) (λ u.
             OnOk result (IsFresh (full_name cfg.now name.now) u.files)) }
+        ensures after { FromTo (F.told files.old) (F.told files.new) (λ t u.
+            OnOk result (u ≡ created (full_name cfg.now name.now) t)) }
         ensures err { OnErr result (F.told files.new ≡ F.told files.old) }
         ensures stop { FromTo (F.told files.old) (F.told files.new) (λ t u.
-            AddsMoments t.moments u.moments (IsLockedMoment (full_name cfg.now name.now) t.files)) }
+            let path = full_name cfg.now name.now in
+            AddsMoments t.moments u.moments (IsLockedMoment path t.files)) }
         ensures others { FromTo (F.told files.old) (F.told files.new) (λ t u.
             SameOthers (full_name cfg.now name.now) t.files u.files) }
-        ensures fault { TellsFault Creation (F.counts files.old).faults (F.counts files.new).faults result }
+        ensures fault { TellsFault Creation (F.counts files.old) (F.counts files.new) result }
         ensures short { (F.counts files.new).short_writes ≡ (F.counts files.old).short_writes }
     {
         let made = files.create_exclusive(&cfg.path_for(name));
@@ -67,7 +71,10 @@ impl FileLocked {
         ensures ok { IfOk result (λ s. s ≡ storage_of self.name (length contents.now)) }
         ensures whole { FromTo (F.told files.old) (F.told files.new) (λ t u.
             OnOk result (IsWhole (full_name cfg.now self.name) contents.now u.files)) }
-        ensures space { TellsShort contents.now (F.counts files.old).short_writes (F.counts files.new).short_writes result }
+        ensures cause { IfErr result IsUnlockRefusal }
+        ensures after { let path = full_name cfg.now self.name in
+            FromTo (F.told files.old) (F.told files.new) (UnlockLeaves result path contents.now) }
+        ensures space { TellsShort contents.now (F.counts files.old) (F.counts files.new) result }
         ensures front { FromTo (F.told files.old) (F.told files.new) (λ t u. (taken given : ℕ)
             → result ≡ Err (NoSpaceLeft taken given)
             → HasFront (full_name cfg.now self.name) contents.now taken u.files) }
@@ -77,7 +84,7 @@ impl FileLocked {
             u.moments (IsUnlockMoment (full_name cfg.now self.name) contents.now t.files)) }
         ensures others { FromTo (F.told files.old) (F.told files.new) (λ t u.
             SameOthers (full_name cfg.now self.name) t.files u.files) }
-        ensures fault { TellsFault InternalError (F.counts files.old).faults (F.counts files.new).faults result }
+        ensures fault { TellsFault InternalError (F.counts files.old) (F.counts files.new) result }
     {
         let path = cfg.path_for(&self.name);
         let wrote = files.write(&path, contents);
@@ -96,7 +103,8 @@ fn lock_made(
     name: &FileName,
     made: Result<bool, FilesError>,
 ) -> Result<FileLocked, StaticStorageCreateError>
-    ensures { result ≡ create_told name.now made }
+    ensures value { result ≡ create_told name.now made }
+    ensures cause { IfErr result IsCreateRefusal }
 {
     match made {
         Ok(true) => Ok(FileLocked { name: *name }),
@@ -111,7 +119,8 @@ fn written_whole(
     wrote: Result<usize, FilesError>,
     given: usize,
 ) -> Result<(), StaticStorageUnlockError>
-    ensures { result ≡ write_told given wrote }
+    ensures value { result ≡ write_told given wrote }
+    ensures cause { IfErr result IsUnlockRefusal }
 {
     match wrote {
         Ok(taken) if taken < given => Err(StaticStorageUnlockError::NoSpaceLeft {
@@ -126,7 +135,8 @@ fn written_whole(
 
 /// Whether the file was made final, as `unlock` answers it.
 fn made_final(set: Result<(), FilesError>) -> Result<(), StaticStorageUnlockError>
-    ensures { result ≡ final_told set }
+    ensures value { result ≡ final_told set }
+    ensures cause { IfErr result IsUnlockRefusal }
 {
     match set {
         Ok(()) => Ok(()),

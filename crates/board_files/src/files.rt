@@ -18,8 +18,8 @@ pub enum FilesError {
 /// Files by their full names, which are made, written, made final, and removed.
 ///
 /// Contracts see what is `told` of the files, where something is known of them: the held files and what was held after
-/// each change so far, their moments. And they see the `counts` of faults and of short writes, which never fall. A call
-/// that answers an error leaves the files as they were.
+/// each change so far, their moments. And they see the `counts` of calls, of faults and of short writes, which never fall.
+/// A call that answers an error leaves the files as they were.
 pub trait Files {
     ghost told: { Self → Option Told };
 
@@ -40,7 +40,8 @@ pub trait Files {
     /// `Failed` where the count of faults rose, and always where the name isn't held; `OutOfMemory`.
     fn write(&mut self, name: &FilePath, bytes: &[u8]) -> Result<usize, FilesError>
         ensures files { Writes name.now bytes.now (told self.old) (told self.new) result }
-        ensures counts { CountsWrite (length bytes.now) (counts self.old) (counts self.new) result };
+        ensures counts { CountsWrite (length bytes.now)
+            (counts self.old) (counts self.new) result };
 
     /// Makes a file final.
     ///
@@ -72,7 +73,8 @@ pub trait Files {
     /// `Failed` where the count of faults rose, and always where the name isn't held; `OutOfMemory`. The buffer then holds
     /// any bytes.
     fn read(&mut self, name: &FilePath, buffer: &mut [u8]) -> Result<usize, FilesError>
-        ensures files { ReadsFile name.now buffer.old buffer.new (told self.old) (told self.new) result }
+        ensures files { ReadsFile name.now buffer.old buffer.new
+            (told self.old) (told self.new) result }
         ensures counts { CountsCall (counts self.old) (counts self.new) result };
 
     /// Removes a file, and tells whether the name was held.
@@ -83,7 +85,8 @@ pub trait Files {
         ensures files { Removes name.now (told self.old) (told self.new) result }
         ensures counts { CountsCall (counts self.old) (counts self.new) result };
 
-    /// The held name at an index, counted from 0 in the order of the names; `None` past the end.
+    /// The held name at an index, counted from 0 in the order of the names; `None` past the end. The names ascend by their
+    /// bytes, and are fewer than 2^63.
     ///
     /// # Errors
     /// `Failed` where the count of faults rose; `OutOfMemory`.

@@ -1,5 +1,5 @@
 //! The files in memory with their changes.
-ghost use Rattle.std.specs.Prelude.{◌≡◌, ◌<◌, ℕ, ◌^◌, List, [], Option, IfOk, OnOk, OnErr, is_some, option_map, IsSome};
+ghost use Rattle.std.specs.Prelude.{◌≡◌, ◌<◌, ◌≤◌, ℕ, ◌^◌, List, [], length, Option, IfOk, OnOk, OnErr, is_some, option_map, IsSome};
 ghost use Rattle.board_names.specs.Table.{at, name_at, NamesAscend, IsFree};
 ghost use Rattle.board_files.specs.Files.{is_free, created, written, finalized, removed, moved, AreListed};
 ghost use Rattle.board_files.specs.Changes.{applied, FreesName, told_after, stopped_at};
@@ -136,7 +136,8 @@ impl HeldFiles {
 
     /// The files as they stood after so many changes.
     pub fn stopped(&self, alloc: Global, count: usize) -> Result<HeldFiles, AllocError>
-        ensures { IfOk result (λ files. files ≡ stopped_at count self.now) }
+        ensures front { IfOk result (λ files. files ≡ stopped_at count self.now) }
+        ensures all { length self.now.moments ≤ count → IfOk result (λ files. files ≡ self.now) }
     {
         let mut stopped = HeldFiles::new(alloc);
         let front = &self.changes[..count.min(self.changes.len())];

@@ -6,7 +6,7 @@
 //!
 //! `FileLocked` and `FileStorage` are the static storage over any `Files` (`specs/Storage`). A storage is made by one
 //! write and then made final, so whoever stops between two calls leaves a name that isn't there, a file that isn't
-//! final, or the whole contents (`store_whole`).
+//! final, or the whole contents (`store_whole`, and `store_and_read` for a whole life).
 #![tactic(auto)]
 
 mod changes;
@@ -28,5 +28,5 @@ pub use board_names::{
 pub use file_locked::FileLocked;
 pub use file_storage::FileStorage;
 pub use files::{Files, FilesError};
-pub use laws::{StoreError, store_whole};
+pub use laws::{LifeError, StoreError, store_and_read, store_whole};
 pub use memory_files::MemoryFiles;

@@ -4,7 +4,7 @@ ghost use Rattle.std.specs.Option.{option_copied};
 ghost use Rattle.board_names.specs.Table.{at, IsFree};
 ghost use Rattle.board_files.specs.Files.{Creates, Writes, Finalizes, LooksAt, Measures, ReadsFile, FillsFront, Removes, TellsName, HasRisen, CountsCall, CountsWrite};
 ghost use Rattle.board_files.specs.Changes.{told_after, stopped_at};
-ghost use Rattle.board_files.specs.Memory.{counts_of, one_more, fails_next, planned_next, room_next, called, faulted};
+ghost use Rattle.board_files.specs.Memory.{counts_of, one_more, fails_next, FailsAt, planned_next, room_next, called, faulted, SamePlan};
 ghost use Rattle.board_files.specs.declared.files.FilesError.TheVariants.{Failed, OutOfMemory};
 
 use crate::files::{Files, FilesError};
@@ -47,7 +47,10 @@ impl MemoryFiles {
     /// `OutOfMemory`.
     pub fn stopped(&self, alloc: Global, changes: usize) -> Result<MemoryFiles, FilesError>
         ensures files { IfOk result (λ m. m.held ≡ stopped_at changes self.now.held) }
+        ensures all { length self.now.held.moments ≤ changes
+            → IfOk result (λ m. m.held ≡ self.now.held) }
         ensures plan { IfOk result (λ m. (m.fails.items ≡ []) × (m.short.items ≡ [])) }
+        ensures counts { IfOk result (λ m. (m.calls ≡ 0) × (m.faults ≡ 0) × (m.short_writes ≡ 0)) }
         ensures memory { IsOkUnless result OutOfMemory }
     {
         match self.held.stopped(alloc, changes) {
@@ -118,6 +121,7 @@ impl Files for MemoryFiles {
         ensures counts { CountsCall (counts_of self.old) (counts_of self.new) result }
         ensures fails { IsErrOf result Failed ↔ IsTrue (fails_next self.old) }
         ensures calls { self.new.calls ≡ one_more self.old.calls }
+        ensures plan { SamePlan self.old self.new }
     {
         self.begin()?;
         match self.held.create(name) {
@@ -127,11 +131,14 @@ impl Files for MemoryFiles {
     }
 
     fn write(&mut self, name: &FilePath, bytes: &[u8]) -> Result<usize, FilesError>
-        ensures files { Writes name.now bytes.now (Some self.old.held) (Some self.new.held) result }
-        ensures counts { CountsWrite (length bytes.now) (counts_of self.old) (counts_of self.new) result }
-        ensures fails { IsErrOf result Failed ↔ (IsTrue (fails_next self.old) ⊎ IsFree self.old.held.files name.now) }
+        ensures files { Writes name.now bytes.now
+            (Some self.old.held) (Some self.new.held) result }
+        ensures counts { CountsWrite (length bytes.now)
+            (counts_of self.old) (counts_of self.new) result }
+        ensures fails { IsErrOf result Failed ↔ FailsAt self.old name.now }
         ensures short { IfOk result (λ taken. taken ≡ room_next self.old (length bytes.now)) }
         ensures calls { self.new.calls ≡ one_more self.old.calls }
+        ensures plan { SamePlan self.old self.new }
     {
         let taken = self.room(bytes.len());
         self.begin()?;
@@ -150,8 +157,9 @@ impl Files for MemoryFiles {
     fn set_final(&mut self, name: &FilePath) -> Result<(), FilesError>
         ensures files { Finalizes name.now (Some self.old.held) (Some self.new.held) result }
         ensures counts { CountsCall (counts_of self.old) (counts_of self.new) result }
-        ensures fails { IsErrOf result Failed ↔ (IsTrue (fails_next self.old) ⊎ IsFree self.old.held.files name.now) }
+        ensures fails { IsErrOf result Failed ↔ FailsAt self.old name.now }
         ensures calls { self.new.calls ≡ one_more self.old.calls }
+        ensures plan { SamePlan self.old self.new }
     {
         self.begin()?;
         if !self.held.holds(name) {
@@ -169,6 +177,7 @@ impl Files for MemoryFiles {
         ensures fails { IsErrOf result Failed ↔ IsTrue (fails_next self.old) }
         ensures memory { IsOkUnless result Failed }
         ensures calls { self.new.calls ≡ one_more self.old.calls }
+        ensures plan { SamePlan self.old self.new }
     {
         self.begin()?;
         match self.held.get(name) {
@@ -180,9 +189,10 @@ impl Files for MemoryFiles {
     fn size(&mut self, name: &FilePath) -> Result<u64, FilesError>
         ensures files { Measures name.now (Some self.old.held) (Some self.new.held) result }
         ensures counts { CountsCall (counts_of self.old) (counts_of self.new) result }
-        ensures fails { IsErrOf result Failed ↔ (IsTrue (fails_next self.old) ⊎ IsFree self.old.held.files name.now) }
+        ensures fails { IsErrOf result Failed ↔ FailsAt self.old name.now }
         ensures memory { IsOkUnless result Failed }
         ensures calls { self.new.calls ≡ one_more self.old.calls }
+        ensures plan { SamePlan self.old self.new }
     {
         self.begin()?;
         match self.held.get(name) {
@@ -192,11 +202,13 @@ impl Files for MemoryFiles {
     }
 
     fn read(&mut self, name: &FilePath, buffer: &mut [u8]) -> Result<usize, FilesError>
-        ensures files { ReadsFile name.now buffer.old buffer.new (Some self.old.held) (Some self.new.held) result }
+        ensures files { ReadsFile name.now buffer.old buffer.new
+            (Some self.old.held) (Some self.new.held) result }
         ensures counts { CountsCall (counts_of self.old) (counts_of self.new) result }
-        ensures fails { IsErrOf result Failed ↔ (IsTrue (fails_next self.old) ⊎ IsFree self.old.held.files name.now) }
+        ensures fails { IsErrOf result Failed ↔ FailsAt self.old name.now }
         ensures memory { IsOkUnless result Failed }
         ensures calls { self.new.calls ≡ one_more self.old.calls }
+        ensures plan { SamePlan self.old self.new }
     {
         self.begin()?;
         match self.held.get(name) {
@@ -210,6 +222,7 @@ impl Files for MemoryFiles {
         ensures counts { CountsCall (counts_of self.old) (counts_of self.new) result }
         ensures fails { IsErrOf result Failed ↔ IsTrue (fails_next self.old) }
         ensures calls { self.new.calls ≡ one_more self.old.calls }
+        ensures plan { SamePlan self.old self.new }
     {
         self.begin()?;
         match self.held.remove(name) {
@@ -224,6 +237,7 @@ impl Files for MemoryFiles {
         ensures fails { IsErrOf result Failed ↔ IsTrue (fails_next self.old) }
         ensures memory { IsOkUnless result Failed }
         ensures calls { self.new.calls ≡ one_more self.old.calls }
+        ensures plan { SamePlan self.old self.new }
     {
         let name = self.held.name_at(index);
         self.begin()?;

@@ -1,6 +1,6 @@
 -- Cells that are lent and come back, and calls of the tables that are undone.
 use Rattle.std.proofs.Common.{◌≡◌, ℕ, zero, suc, ◌+◌, ◌<◌, Bool, true, false, cond, List, [], ◌∷◌, ◌++◌, length, set, Option, Some, None, refl, sym, ap, ◌∙◌, subst, arith}
-use Rattle.std.specs.Prelude.{slice_get, find, is_some, IsSome, if◌then◌else◌, nat_eq, Result, Ok, Err}
+use Rattle.std.specs.Prelude.{slice_get, find, is_some, IsSome, if◌then◌else◌, nat_eq, Result, Ok, Err, IsErr}
 use Rattle.std.proofs.lemmas.Bool.Decides.{Decides-eqb}
 use Rattle.board_names.specs.declared.errors.boards.EntryHandleError.TheVariants as entry_error
 use Rattle.board_names.specs.declared.errors.boards.EntryHandleMutError.TheVariants as entry_mut_error
@@ -65,7 +65,22 @@ answered (Some w) x y e = absurd (cc)
 pub ok_is_no_refusal : {A E : Type 0} (x : A) (e : E) → Ok x ≡ Err e → ⊥
 ok_is_no_refusal x e h = cc
 
+-- what is Ok is not refused
+pub no_refusal : {A E : Type 0} (r : Result A E) (x : A) → Ok x ≡ r → IsErr r → ⊥
+no_refusal (Ok y) x e refused = cc
+no_refusal (Err w) x e refused = cc
+
 -- ---- readers
+
+-- what was found for a reader is what the tables answer it
+pub read_was_asked : (d : Core) (keys v values : TypeDetail) (is_key : List ℕ → Bool) (width reader thing : ℕ) (x : Found) (b : Bool)
+    → v ≡ values → reader ≡ thing → b ≡ stands_as d keys reader Reader → b ≡ true
+    → Ok x ≡ entry_answer d (lent.entry_for d (lent.asked keys is_key v width) reader)
+    → Ok x ≡ lent.read_asked d (lent.asked keys is_key values width) thing
+read_was_asked d keys v values is_key width reader thing x b tv te is_b stands ans =
+    ans
+    ∙ sym (ap (λ c. if c then entry_answer d (lent.entry_for d (lent.asked keys is_key v width) reader) else Err (entry_error.ThingUnknown reader)) (sym is_b ∙ stands))
+    ∙ (λ k. lent.read_asked d (lent.asked keys is_key (tv k) width) (te k))
 
 -- a read handle that was made stands
 pub read_stands : (d : Core) (of : Thing ℕ ℕ) (f : Option (ℕ × Entry)) (x : Found) (t : Core) → Ok x ≡ entry_answer d f → t ≡ after_entry d of f → IsSome (find (is_thing x.thing) t.tables.things)
@@ -88,6 +103,16 @@ read_undone d keys v values is_key width reader thing board x why t b tv te tb i
     ∙ (λ k. lent.read_answer d (lent.asked keys is_key (tv k) width) (te k))
 
 -- ---- writers
+
+-- what was found for a writer is what the tables answer it
+pub write_was_asked : (d : Core) (keys v values : TypeDetail) (is_key : List ℕ → Bool) (width writer thing : ℕ) (x : Found) (b : Bool)
+    → v ≡ values → writer ≡ thing → b ≡ stands_as d keys writer Writer → b ≡ true
+    → Ok x ≡ entry_mut_answer d (held d writer) (lent.entry_for d (lent.asked keys is_key v width) writer)
+    → Ok x ≡ lent.write_asked d (lent.asked keys is_key values width) thing
+write_was_asked d keys v values is_key width writer thing x b tv te is_b stands ans =
+    ans
+    ∙ sym (ap (λ c. if c then entry_mut_answer d (held d writer) (lent.entry_for d (lent.asked keys is_key v width) writer) else Err (entry_mut_error.ThingUnknown writer)) (sym is_b ∙ stands))
+    ∙ (λ k. lent.write_asked d (lent.asked keys is_key (tv k) width) (te k))
 
 -- a write handle that was made stands
 pub write_stands : (d : Core) (of : Thing ℕ ℕ) (f : Option (ℕ × Entry)) (x : Found) (t : Core) → Ok x ≡ entry_mut_answer d of f → t ≡ after_entry_mut d of f → IsSome (find (is_thing x.thing) t.tables.things)

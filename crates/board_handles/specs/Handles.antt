@@ -37,6 +37,10 @@ pub record PortSeen : Type 0 where
 abbrev pub IsEndOf : CellSeen → TableId → ℕ → ℕ → Type 0
 IsEndOf cell own room width = (own ≡ cell.cell) × (room ≡ cell.width) × (cell.width ≡ width)
 
+-- a read handle's pass is of its cell, whose values have this many words
+abbrev pub IsOfCell : ReadSeen → ℕ → Type 0
+IsOfCell h width = (h.pass.cell ≡ h.cell.cell) × (h.cell.width ≡ width)
+
 -- ---- reads
 
 -- a get was accepted, whose words are those of this value

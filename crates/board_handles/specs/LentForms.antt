@@ -1,5 +1,5 @@
 -- What the lent forms of ports and handles answer over a domain's tables, and how they leave them.
-use Rattle.std.specs.Prelude.{◌≡◌, ℕ, ◌+◌, ◌⊎◌, Bool, if◌then◌else◌, List, Option, Some, None, Result, Ok, Err}
+use Rattle.std.specs.Prelude.{◌≡◌, ℕ, ◌+◌, ◌⊎◌, Bool, if◌then◌else◌, List, Option, Some, None, Result, Ok, Err, IsOk, IsErr}
 use Rattle.board_layout.specs.Answer.{Answers, Refuses, with_value}
 use Rattle.board_layout.specs.declared.type_detail.TypeDetail.{TypeDetail}
 use Rattle.board_model.specs.declared.tables.Entry.{Entry}
@@ -119,6 +119,14 @@ RefusesWriter result d a writer = Refuses (with_value write_found result) (write
 abbrev pub without_thing : Core → ℕ → Core
 without_thing d thing = after_release d thing (held d thing).board
 
+-- where this is refused, the tables stay
+abbrev pub StaysIfRefused : {A E : Type 0} → Result A E → Core → Core → Type 0
+StaysIfRefused asked before now = IsErr asked → now ≡ before
+
+-- where this is not refused, but the call is with this cause, what was made is gone again, and its number stays drawn
+abbrev pub IsUndone : {A B E : Type 0} → Result B E → E → Result A E → Core → Core → Core → Type 0
+IsUndone asked why result before made now = IsOk asked → result ≡ Err why → now ≡ without_thing made (before.last_thing + 1)
+
 -- the tables after a call: with Ok all is done, else nothing was made, or what was made is gone again and its number stays drawn
 abbrev pub Leaves : {A E : Type 0} → Result A E → Core → Core → Core → Core → Type 0
 Leaves (Ok x) before made after now = now ≡ after
@@ -143,6 +151,40 @@ LeavesRead result before a reader now = Leaves result before (with_read before a
 -- the tables after a writer's `entry`
 abbrev pub LeavesWritten : Result WriteSeen EntryHandleMutError → Core → Asked → ℕ → Core → Type 0
 LeavesWritten result before a writer now = Leaves result before (with_write before a writer) (with_write_taken before a writer) now
+
+-- what the tables refuse a reader leaves them as they were
+abbrev pub StaysUnread : Core → Asked → ℕ → Core → Type 0
+StaysUnread before a reader now = StaysIfRefused (read_asked before a reader) before now
+
+-- a read handle that the tables made, but whose cell isn't there, is gone again
+abbrev pub UndoesRead : Result ReadSeen EntryHandleError → Core → Asked → ℕ → Core → Type 0
+UndoesRead result before a reader now =
+    IsUndone (read_asked before a reader) (entry_error.ThingUnknown reader) result before (with_read before a reader) now
+
+-- what the tables refuse a writer leaves them as they were
+abbrev pub StaysUnwritten : Core → Asked → ℕ → Core → Type 0
+StaysUnwritten before a writer now = StaysIfRefused (write_asked before a writer) before now
+
+-- a write handle that the tables made, but whose end isn't parked, is gone again
+abbrev pub UndoesWritten : Result WriteSeen EntryHandleMutError → Core → Asked → ℕ → Core → Type 0
+UndoesWritten result before a writer now =
+    IsUndone (write_asked before a writer) (entry_mut_error.ThingUnknown writer) result before (with_write before a writer) now
+
+-- ---- typed calls: of what stands behind the lock nothing is known, so what they answer is said of some tables
+
+abbrev pub MakesReader : Result Made ReaderCreateError → TypeDetail → ℕ → Type 0
+MakesReader result keys factory =
+    (d : Core) × Answers result reader_error.OutOfMemory (reader_made d keys factory) × Refuses result (reader_made d keys factory)
+
+abbrev pub MakesWriter : Result Made WriterCreateError → TypeDetail → ℕ → Type 0
+MakesWriter result keys factory =
+    (d : Core) × Answers result writer_error.OutOfMemory (writer_made d keys factory) × Refuses result (writer_made d keys factory)
+
+abbrev pub FindsToRead : Result ReadSeen EntryHandleError → Asked → ℕ → Type 0
+FindsToRead result a reader = (d : Core) × AnswersReader result d a reader × RefusesReader result d a reader
+
+abbrev pub FindsToWrite : Result WriteSeen EntryHandleMutError → Asked → ℕ → Type 0
+FindsToWrite result a writer = (d : Core) × AnswersWriter result d a writer × RefusesWriter result d a writer
 
 -- ---- release
 

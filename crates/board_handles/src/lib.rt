@@ -6,10 +6,11 @@
 //! with what becomes of the cells' ends (`specs/LentForms`).
 //!
 //! What stands behind the lock is known by its type alone. So a call on a thing first asks whether that thing is held,
-//! and answers `ThingUnknown` where it isn't, which never comes where the typed calls alone are used.
+//! and answers `ThingUnknown` where it isn't. Where the typed calls alone are used, that comes of a builder of ports
+//! alone, whose factory was released before.
 //!
-//! A handle has an end of its entry's cell, and its calls but `get` take no lock, no memory and wait for nobody
-//! (`specs/Handles`).
+//! A handle has an end of its entry's cell. Its calls take no lock, no memory and wait for nobody (`specs/Handles`), but
+//! `get`, which may wait for a writer, and `release`, which locks.
 #![tactic(auto)]
 
 mod blackboard_value;
@@ -23,6 +24,7 @@ mod release;
 mod state;
 mod write_handle;
 mod writer;
+mod writing;
 
 pub use blackboard_value::BlackboardValue;
 pub use board_cells::{BoardCells, ReadEnd, WriteEnd};

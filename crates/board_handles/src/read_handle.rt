@@ -1,8 +1,8 @@
 //! Read handles of entries.
 ghost use Rattle.std.specs.Prelude.{◌≡◌, max, length, IfOk, IfErr};
 ghost use Rattle.std.specs.Arc.{arc_value};
-ghost use Rattle.board_cell.specs.Passes.{GivesUp};
-ghost use Rattle.board_handles.specs.Handles.{GetsValue, GetsValueWithin, LooksAt};
+ghost use Rattle.board_cell.specs.Passes.{GivesUp, NotesRise};
+ghost use Rattle.board_handles.specs.Handles.{GetsValue, GetsValueWithin, IsOfCell, LooksAt};
 
 use crate::blackboard_value::BlackboardValue;
 use crate::domain::Domain;
@@ -50,7 +50,9 @@ impl<K, V: ZeroCopySend, P> EntryHandle<K, V, P> {
     ) -> EntryHandle<K, V, P>
         requires buffer { length words.items ≡ V.WORDS }
         requires width { (arc_value end.cell).width ≡ V.WORDS }
-        ensures { result ≡ record { found = found; cell = arc_value end.cell; pass = end.pass } }
+        ensures handle { result
+            ≡ record { found = found; cell = arc_value end.cell; pass = end.pass } }
+        ensures tied { IsOfCell result V.WORDS }
     {
         let ReadEnd { cell, pass } = end;
         EntryHandle {
@@ -66,21 +68,14 @@ impl<K, V: ZeroCopySend, P> EntryHandle<K, V, P> {
     pub(crate) fn into_parts(self) -> (Found, Domain)
         ensures { result.0 ≡ self.found }
     {
-        let EntryHandle {
-            found,
-            cell: _,
-            pass: _,
-            words: _,
-            domain,
-            marker: _,
-        } = self;
-        (found, domain)
+        (self.found, self.domain)
     }
 
     /// Reads the value, in as many tries as it takes.
     pub fn get<R: Wait>(&mut self, rt: &R) -> BlackboardValue<V>
         ensures kept { self.new ≡ record self.old { pass = self.new.pass } }
         ensures got { GetsValue V.value_of result self.old.pass self.new.pass }
+        ensures rises { NotesRise self.new.pass.notes }
     {
         let cell = &*self.cell;
         let generation = cell.get(rt, &mut self.pass, &mut self.words);
@@ -97,6 +92,7 @@ impl<K, V: ZeroCopySend, P> EntryHandle<K, V, P> {
             IfOk result (λ v. GetsValueWithin most V.value_of v self.old.pass self.new.pass) }
         ensures again { let most = max tries 1 in
             IfErr result (λ e. GivesUp most e.before e.after self.old.pass self.new.pass) }
+        ensures rises { NotesRise self.new.pass.notes }
     {
         let cell = &*self.cell;
         match cell.try_get(&mut self.pass, tries, &mut self.words) {

@@ -7,6 +7,7 @@ ghost use Rattle.board_service.specs.Domain as calls;
 ghost use Rattle.board_cells.specs.Cells.{cell_width};
 ghost use Rattle.board_cells.specs.Ends.{IsUnread};
 ghost use Rattle.board_handles.specs.BoardEnds as ends;
+ghost use Rattle.board_handles.specs.Handles.{IsOfCell};
 ghost use Rattle.board_handles.specs.LentForms as lent;
 
 use crate::board_ends::{has_cell, read_end_of};
@@ -95,16 +96,10 @@ impl<K: BoardKey, P> PortFactoryReader<K, P> {
     fn into_reader(self, made: Made) -> Reader<K, P>
         ensures { result ≡ made }
     {
-        let PortFactoryReader {
-            factory: _,
-            alloc,
-            domain,
-            marker: _,
-        } = self;
         Reader {
             made,
-            alloc,
-            domain,
+            alloc: self.alloc,
+            domain: self.domain,
             marker: PhantomData,
         }
     }
@@ -130,13 +125,19 @@ impl<K: BoardKey, P> PortFactoryReader<K, P> {
         }
     }
 
-    /// Makes a reader.
+    /// Makes a reader, where the factory wasn't released meanwhile. The answer is that of `create_in` over some state.
     ///
     /// # Errors
     /// As for `create_in`.
-    pub fn create<R: Wait>(self, rt: &R) -> Result<Reader<K, P>, ReaderCreateError> {
-        let made = new_reader::<K>(&mut self.domain.lock(rt), self.factory)?;
-        Ok(self.into_reader(made))
+    pub fn create<R: Wait>(self, rt: &R) -> Result<Reader<K, P>, ReaderCreateError>
+        ensures answer { let keys = details K.type_bytes K.SIZE K.ALIGNMENT in
+            lent.MakesReader result keys self }
+    {
+        let made = new_reader::<K>(&mut self.domain.lock(rt), self.factory);
+        match made {
+            Ok(made) => Ok(self.into_reader(made)),
+            Err(why) => Err(why),
+        }
     }
 }
 
@@ -159,6 +160,7 @@ fn read_handle_of<K, V: ZeroCopySend, P>(
         let answer = lent.fitting unknown V.WORDS cell_width found cell in
         Refuses (with_value lent.read_given result) answer }
     ensures fresh { IfOk result (λ h. IsUnread h.pass) }
+    ensures tied { IfOk result (λ h. IsOfCell h V.WORDS) }
 {
     if !has_cell(tables, board, found.entry, V::WORDS as u64) {
         return Err(EntryHandleError::ThingUnknown(reader.0));
@@ -209,7 +211,18 @@ impl<K: BoardKey, P> Reader<K, P> {
             let values = details V.type_bytes V.SIZE V.ALIGNMENT in
             let asked = lent.asked keys is_it values V.WORDS in
             lent.LeavesRead result state.old.tables asked self.now.thing state.new.tables }
+        ensures stays { let keys = details K.type_bytes K.SIZE K.ALIGNMENT in
+            let is_it = is_key K.eq K.value_of K.SIZE K.WORDS key.now in
+            let values = details V.type_bytes V.SIZE V.ALIGNMENT in
+            let asked = lent.asked keys is_it values V.WORDS in
+            lent.StaysUnread state.old.tables asked self.now.thing state.new.tables }
+        ensures undone { let keys = details K.type_bytes K.SIZE K.ALIGNMENT in
+            let is_it = is_key K.eq K.value_of K.SIZE K.WORDS key.now in
+            let values = details V.type_bytes V.SIZE V.ALIGNMENT in
+            let asked = lent.asked keys is_it values V.WORDS in
+            lent.UndoesRead result state.old.tables asked self.now.thing state.new.tables }
         ensures fresh { IfOk result (λ h. IsUnread h.pass) }
+        ensures tied { IfOk result (λ h. IsOfCell h V.WORDS) }
         ensures nodes { state.new.nodes ≡ state.old.nodes }
     {
         let reader = self.made.thing;
@@ -239,7 +252,7 @@ impl<K: BoardKey, P> Reader<K, P> {
         }
     }
 
-    /// Makes a read handle of the entry with this key and values of type `V`.
+    /// Makes a read handle of the entry with this key and values of type `V`. The answer is that of `entry_in` over some state.
     ///
     /// # Errors
     /// As for `entry_in`.
@@ -248,7 +261,13 @@ impl<K: BoardKey, P> Reader<K, P> {
         rt: &R,
         key: &K,
     ) -> Result<EntryHandle<K, V, P>, EntryHandleError>
+        ensures answer { let keys = details K.type_bytes K.SIZE K.ALIGNMENT in
+            let is_it = is_key K.eq K.value_of K.SIZE K.WORDS key.now in
+            let values = details V.type_bytes V.SIZE V.ALIGNMENT in
+            let asked = lent.asked keys is_it values V.WORDS in
+            lent.FindsToRead result asked self.now.thing }
         ensures fresh { IfOk result (λ h. IsUnread h.pass) }
+        ensures tied { IfOk result (λ h. IsOfCell h V.WORDS) }
     {
         let mut state = self.domain.lock(rt);
         self.entry_in(&mut state, key)

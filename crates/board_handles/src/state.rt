@@ -1,10 +1,15 @@
 //! What a domain keeps behind its lock.
+ghost use Rattle.std.specs.Prelude.{◌≤◌};
+
 use board_cells::BoardCells;
 use board_service::DomainCore;
 
-/// What a domain keeps behind its lock: the tables with the cells of each board, and the number of the last node.
+/// What a domain keeps behind its lock.
 #[derive(Drop)]
 pub struct DomainState {
+    /// The tables with the cells of each board.
     pub tables: DomainCore<BoardCells>,
+    /// The number of the last node, at most 2^64 - 2.
     pub nodes: u64,
+    pub ghost few: { nodes ≤ 18446744073709551614 },
 }

@@ -1,5 +1,5 @@
 //! Writers of a board, and the write handles that they make.
-ghost use Rattle.std.specs.Prelude.{◌≡◌, OnOk, OnErr};
+ghost use Rattle.std.specs.Prelude.{◌≡◌, IfOk, OnOk, OnErr};
 ghost use Rattle.board_layout.specs.Answer.{Answers, Refuses, with_value};
 ghost use Rattle.board_layout.specs.Bytes.{details};
 ghost use Rattle.board_layout.specs.Keys.{is_key};
@@ -94,16 +94,10 @@ impl<K: BoardKey, P> PortFactoryWriter<K, P> {
     fn into_writer(self, made: Made) -> Writer<K, P>
         ensures { result ≡ made }
     {
-        let PortFactoryWriter {
-            factory: _,
-            alloc,
-            domain,
-            marker: _,
-        } = self;
         Writer {
             made,
-            alloc,
-            domain,
+            alloc: self.alloc,
+            domain: self.domain,
             marker: PhantomData,
         }
     }
@@ -129,13 +123,19 @@ impl<K: BoardKey, P> PortFactoryWriter<K, P> {
         }
     }
 
-    /// Makes a writer.
+    /// Makes a writer, where the factory wasn't released meanwhile. The answer is that of `create_in` over some state.
     ///
     /// # Errors
     /// As for `create_in`.
-    pub fn create<R: Wait>(self, rt: &R) -> Result<Writer<K, P>, WriterCreateError> {
-        let made = new_writer::<K>(&mut self.domain.lock(rt), self.factory)?;
-        Ok(self.into_writer(made))
+    pub fn create<R: Wait>(self, rt: &R) -> Result<Writer<K, P>, WriterCreateError>
+        ensures answer { let keys = details K.type_bytes K.SIZE K.ALIGNMENT in
+            lent.MakesWriter result keys self }
+    {
+        let made = new_writer::<K>(&mut self.domain.lock(rt), self.factory);
+        match made {
+            Ok(made) => Ok(self.into_writer(made)),
+            Err(why) => Err(why),
+        }
     }
 }
 
@@ -158,6 +158,7 @@ fn write_handle_of<K, V: ZeroCopySend, P>(
         Refuses (with_value lent.write_given result) answer }
     ensures ok { OnOk result (tables.new ≡ ends.taken tables.old board found.entry) }
     ensures err { OnErr result (tables.new ≡ tables.old) }
+    ensures width { IfOk result (λ h. h.held.cell.width ≡ V.WORDS) }
 {
     if !has_parked(tables, board, found.entry, V::WORDS as u64) {
         return Err(EntryHandleMutError::ThingUnknown(writer.0));
@@ -210,6 +211,17 @@ impl<K: BoardKey, P> Writer<K, P> {
             let values = details V.type_bytes V.SIZE V.ALIGNMENT in
             let asked = lent.asked keys is_it values V.WORDS in
             lent.LeavesWritten result state.old.tables asked self.now.thing state.new.tables }
+        ensures stays { let keys = details K.type_bytes K.SIZE K.ALIGNMENT in
+            let is_it = is_key K.eq K.value_of K.SIZE K.WORDS key.now in
+            let values = details V.type_bytes V.SIZE V.ALIGNMENT in
+            let asked = lent.asked keys is_it values V.WORDS in
+            lent.StaysUnwritten state.old.tables asked self.now.thing state.new.tables }
+        ensures undone { let keys = details K.type_bytes K.SIZE K.ALIGNMENT in
+            let is_it = is_key K.eq K.value_of K.SIZE K.WORDS key.now in
+            let values = details V.type_bytes V.SIZE V.ALIGNMENT in
+            let asked = lent.asked keys is_it values V.WORDS in
+            lent.UndoesWritten result state.old.tables asked self.now.thing state.new.tables }
+        ensures width { IfOk result (λ h. h.held.cell.width ≡ V.WORDS) }
         ensures nodes { state.new.nodes ≡ state.old.nodes }
     {
         let writer = self.made.thing;
@@ -239,7 +251,7 @@ impl<K: BoardKey, P> Writer<K, P> {
         }
     }
 
-    /// Makes the write handle of the entry with this key and values of type `V`.
+    /// Makes the write handle of the entry with this key and values of type `V`. The answer is that of `entry_in` over some state.
     ///
     /// # Errors
     /// As for `entry_in`.
@@ -247,7 +259,14 @@ impl<K: BoardKey, P> Writer<K, P> {
         &self,
         rt: &R,
         key: &K,
-    ) -> Result<EntryHandleMut<K, V, P>, EntryHandleMutError> {
+    ) -> Result<EntryHandleMut<K, V, P>, EntryHandleMutError>
+        ensures answer { let keys = details K.type_bytes K.SIZE K.ALIGNMENT in
+            let is_it = is_key K.eq K.value_of K.SIZE K.WORDS key.now in
+            let values = details V.type_bytes V.SIZE V.ALIGNMENT in
+            let asked = lent.asked keys is_it values V.WORDS in
+            lent.FindsToWrite result asked self.now.thing }
+        ensures width { IfOk result (λ h. h.held.cell.width ≡ V.WORDS) }
+    {
         let mut state = self.domain.lock(rt);
         self.entry_in(&mut state, key)
     }

@@ -9,6 +9,7 @@ mod handles;
 mod lent;
 mod open;
 mod ports;
+mod refusals;
 mod release;
 mod told;
 

@@ -21,7 +21,7 @@ use board_names::{BlackboardCreateError, BlackboardOpenError, ServiceName};
 /// The last number from which no other is drawn: 2^64 - 2.
 pub(crate) const LAST: u64 = 18446744073709551614;
 
-fn has_name(name: &ServiceName, boards: &[BoardRow]) -> bool
+pub(crate) fn has_name(name: &ServiceName, boards: &[BoardRow]) -> bool
     ensures { result ≡ list_any (tables.has_name name.now) boards.now }
 {
     boards.iter().any(|b| *b.name() == *name)

@@ -24,6 +24,8 @@ pub use board_names::{
 pub use builder::Builder;
 pub use content::Content;
 pub use locked::Locked;
-pub use static_storage::{StaticStorage, StaticStorageBuilder, StaticStorageLocked};
+pub use static_storage::{
+    StaticStorage, StaticStorageBuilder, StaticStorageContent, StaticStorageLocked,
+};
 pub use statics::{StaticRegistry, Statics, Stored};
 pub use storage::Storage;

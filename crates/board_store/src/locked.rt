@@ -90,6 +90,8 @@ impl NamedConcept for Locked {
 impl StaticStorageLocked for Locked {
     type Storage = Storage;
 
+    ghost is_to_own = { λ l. l.owns };
+
     fn unlock<R: Wait>(
         self,
         rt: &R,

@@ -12,42 +12,49 @@ use std::sync::Wait;
 /// The static storage of this process.
 pub type Local = crate::storage::Storage;
 
-/// A static storage that has its bytes.
-pub trait StaticStorage: NamedConceptMgmt + NamedConcept + Sized {
-    /// What makes it.
-    type Builder;
-
-    /// It, before it has its bytes.
-    type Locked;
-
+/// A named value with bytes, which may own its name.
+///
+/// A builder and a locked storage say by it what they make, and a `StaticStorage` names the two.
+pub trait StaticStorageContent: NamedConcept {
     ghost content_of: { Self → List ℕ };
 
     ghost is_owner: { Self → Bool };
+}
+
+/// A static storage that has its bytes.
+pub trait StaticStorage: NamedConceptMgmt + StaticStorageContent + Sized {
+    /// What makes it.
+    type Builder: StaticStorageBuilder<Storage = Self, Registry = Self::Registry>;
+
+    /// It, before it has its bytes.
+    type Locked: StaticStorageLocked<Storage = Self>;
 
     /// How many bytes there are.
     fn len(&self) -> u64
-        ensures { result ≡ length (content_of self.now) };
+        ensures { result ≡ length (Self.content_of self.now) };
 
     /// Whether there is no byte.
     fn is_empty(&self) -> bool
-        ensures { result ≡ (length (content_of self.now) == 0) };
+        ensures { result ≡ (length (Self.content_of self.now) == 0) };
 
     /// Fills the front of `buffer` with the bytes. The rest of it stays.
     ///
     /// # Errors
     /// `BufferTooSmall` where the buffer is shorter.
     fn read(&self, buffer: &mut [u8]) -> Result<(), StaticStorageReadError>
-        ensures { ReadsInto (content_of self.now) buffer.old buffer.new result };
+        ensures { ReadsInto (Self.content_of self.now) buffer.old buffer.new result };
 
     /// Leaves the name when the storage is released.
     fn release_ownership(&mut self)
-        ensures content { content_of self.new ≡ content_of self.old }
-        ensures owns { is_owner self.new ≡ false };
+        ensures name { Self.name_of self.new ≡ Self.name_of self.old }
+        ensures content { Self.content_of self.new ≡ Self.content_of self.old }
+        ensures owns { Self.is_owner self.new ≡ false };
 
     /// Lets the name go when the storage is released.
     fn acquire_ownership(&mut self)
-        ensures content { content_of self.new ≡ content_of self.old }
-        ensures owns { is_owner self.new ≡ true };
+        ensures name { Self.name_of self.new ≡ Self.name_of self.old }
+        ensures content { Self.content_of self.new ≡ Self.content_of self.old }
+        ensures owns { Self.is_owner self.new ≡ true };
 
     /// Gives the storage up, and its name where it owns it.
     ///
@@ -63,7 +70,7 @@ pub trait StaticStorage: NamedConceptMgmt + NamedConcept + Sized {
 /// A builder of a static storage, which owns its name unless told otherwise.
 pub trait StaticStorageBuilder: NamedConceptBuilder {
     /// What it makes.
-    type Storage: StaticStorage;
+    type Storage: StaticStorageContent;
 
     /// What it makes that is still to be filled.
     type Locked: StaticStorageLocked<Storage = Self::Storage>;
@@ -97,7 +104,8 @@ pub trait StaticStorageBuilder: NamedConceptBuilder {
         rt: &R,
         alloc: Global,
     ) -> Result<Self::Locked, StaticStorageCreateError>
-        ensures { IfOk result (λ l. Self.Locked.name_of l ≡ (Self.named self).name) };
+        ensures name { IfOk result (λ l. Self.Locked.name_of l ≡ (Self.named self).name) }
+        ensures owner { IfOk result (λ l. Self.Locked.is_to_own l ≡ owns_it self) };
 
     /// The storage that stands under the name. Looks `polls + 1` times at most, and gives the lock back in between.
     ///
@@ -112,7 +120,9 @@ pub trait StaticStorageBuilder: NamedConceptBuilder {
 /// A static storage that is still to be filled.
 pub trait StaticStorageLocked: NamedConcept + Sized {
     /// What it becomes.
-    type Storage: StaticStorage;
+    type Storage: StaticStorageContent;
+
+    ghost is_to_own: { Self → Bool };
 
     /// The storage with these bytes.
     ///
@@ -125,7 +135,8 @@ pub trait StaticStorageLocked: NamedConcept + Sized {
         contents: &[u8],
     ) -> Result<Self::Storage, StaticStorageUnlockError>
         ensures name { IfOk result (λ s. Self.Storage.name_of s ≡ Self.name_of self) }
-        ensures content { IfOk result (λ s. Self.Storage.content_of s ≡ contents.now) };
+        ensures content { IfOk result (λ s. Self.Storage.content_of s ≡ contents.now) }
+        ensures owner { IfOk result (λ s. Self.Storage.is_owner s ≡ is_to_own self) };
 
     /// Gives the storage up, and its name where it owns it.
     ///

@@ -5,7 +5,7 @@ ghost use Rattle.board_names.specs.Table.{let_go, IsFree};
 use crate::builder::Builder;
 use crate::content::Content;
 use crate::locked::Locked;
-use crate::static_storage::StaticStorage;
+use crate::static_storage::{StaticStorage, StaticStorageContent};
 use crate::statics::{StaticRegistry, Statics};
 use board_names::{FileName, NamePlace, NamedConcept, NamedConceptMgmt, StaticStorageReadError};
 use std::marker::Model;
@@ -67,14 +67,16 @@ impl NamedConceptMgmt for Storage {
     }
 }
 
+impl StaticStorageContent for Storage {
+    ghost content_of = { λ s. s.bytes };
+
+    ghost is_owner = { λ s. s.owns };
+}
+
 impl StaticStorage for Storage {
     type Builder = Builder;
 
     type Locked = Locked;
-
-    ghost content_of = { λ s. s.bytes };
-
-    ghost is_owner = { λ s. s.owns };
 
     fn len(&self) -> u64 {
         self.content.len()

@@ -19,22 +19,36 @@
 pub mod prelude {
     pub use board_concepts::{AttributeSpecifier, AttributeVerifier, Shared, Single};
     pub use board_domain::{CallbackProgression, MessagingPattern, Node};
+    pub use board_event::{BitEvent, QueueEvent, TriggerId};
     pub use board_handles::Domain;
     pub use board_layout::{BoardKey, ZeroCopySend};
-    pub use board_names::{EventId, NodeName, ServiceName};
+    pub use board_names::{EventId, FileName, NodeName, ServiceName};
 }
 
-/// Nodes of a domain.
+/// Nodes, and the domain that they share.
 pub mod node {
     pub use board_domain::Node;
     pub use board_handles::{Domain, DomainState};
-    pub use board_names::{DomainError, NodeName};
+    pub use board_names::DomainError;
     pub use board_service::NodeId;
+
+    /// The names of nodes.
+    pub mod node_name {
+        pub use board_names::NodeName;
+    }
+}
+
+/// The numbers of ports.
+pub mod identifiers {
+    pub use board_handles::{UniqueReaderId, UniqueWriterId};
 }
 
 /// Ports of a board, and the handles that they make.
 pub mod port {
-    pub use board_names::EventId;
+    /// The ids of entries.
+    pub mod event_id {
+        pub use board_names::EventId;
+    }
 
     /// Readers and read handles.
     pub mod reader {
@@ -49,17 +63,19 @@ pub mod port {
         pub use board_handles::{EntryHandleMut, EntryValueUninit, Writer};
         pub use board_names::{EntryHandleMutError, WriterCreateError};
     }
-
-    /// The numbers of ports.
-    pub mod port_identifiers {
-        pub use board_handles::{UniqueReaderId, UniqueWriterId};
-    }
 }
 
 /// Boards: how they are made and opened, and what is told of them.
 pub mod service {
-    pub use board_domain::{MessagingPattern, ServiceBuilder};
-    pub use board_names::ServiceName;
+    /// The names of boards.
+    pub mod service_name {
+        pub use board_names::ServiceName;
+    }
+
+    /// What kind of service a board is.
+    pub mod messaging_pattern {
+        pub use board_domain::MessagingPattern;
+    }
 
     /// The attributes of a board, and what an opener needs of them.
     pub mod attribute {
@@ -69,22 +85,67 @@ pub mod service {
 
     /// What makes and opens boards.
     pub mod builder {
-        pub use board_domain::{AddError, Creator, Opener};
-        pub use board_names::{BlackboardCreateError, BlackboardOpenError};
+        pub use board_domain::ServiceBuilder;
+
+        /// What makes and opens a board with keys of one type.
+        pub mod blackboard {
+            pub use board_domain::{AddError, Creator, Opener};
+            pub use board_layout::{KeyMemory, KeyMemoryError};
+            pub use board_names::{BlackboardCreateError, BlackboardOpenError};
+        }
     }
 
     /// What makes the ports of a board.
     pub mod port_factory {
-        pub use board_domain::PortFactory;
-        pub use board_handles::{PortFactoryReader, PortFactoryWriter};
+        /// Factories, which a creator or an opener gives.
+        pub mod blackboard {
+            pub use board_domain::PortFactory;
+        }
+
+        /// What makes a reader.
+        pub mod reader {
+            pub use board_handles::PortFactoryReader;
+        }
+
+        /// What makes a writer.
+        pub mod writer {
+            pub use board_handles::PortFactoryWriter;
+        }
     }
 
-    /// What is fixed of a board, and how much of it is taken.
-    pub mod config {
-        pub use board_service::{DynamicConfig, StaticConfig};
+    /// What is fixed of a board.
+    pub mod static_config {
+        /// The type of its keys, its limits, and how many entries it has.
+        pub mod blackboard {
+            pub use board_service::StaticConfig;
+        }
+    }
+
+    /// What is taken of a board.
+    pub mod dynamic_config {
+        /// How many readers, writer slots and nodes.
+        pub mod blackboard {
+            pub use board_service::DynamicConfig;
+        }
     }
 }
 
+/// Events: a notifier hands ids to a listener, as the id of an entry that changed.
+pub mod event {
+    pub use board_event::event::{
+        Event, Listener, ListenerBuilder, Local, Notifier, NotifierBuilder,
+    };
+    pub use board_event::{
+        BitEvent, BitRegistry, EventListener, EventListenerBuilder, EventNotifier,
+        EventNotifierBuilder, ListenerCreateError, ListenerWaitError, NotifierCreateError,
+        NotifierNotifyError, QueueEvent, QueueRegistry, TriggerId,
+    };
+    pub use board_names::{FileName, NamedConcept, NamedConceptBuilder, NamedConceptMgmt};
+}
+
+// A value between threads without keys; policies, static storage, monitoring and channels; types as words and keys; the
+// tables of boards as plain data.
 pub use board_cell as cell;
 pub use board_concepts as concepts;
 pub use board_layout as layout;
+pub use board_service as tables;

@@ -211,7 +211,7 @@ impl<C: BoardWords + Drop> BoardMachine<C> {
                 *name.as_text(),
                 key_type,
                 limits,
-                &attributes,
+                attributes,
                 &entries,
             ),
             TableTask::Open {
@@ -222,7 +222,7 @@ impl<C: BoardWords + Drop> BoardMachine<C> {
                 needs,
             } => self
                 .domain
-                .open(party, factory, *name.as_text(), key_type, limits, &needs),
+                .open(party, factory, *name.as_text(), key_type, limits, needs),
             TableTask::Reader { reader, factory } => self.domain.reader(reader, &factory),
             TableTask::Writer { writer, factory } => self.domain.writer(writer, &factory),
             TableTask::Entry {

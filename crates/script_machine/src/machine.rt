@@ -4,7 +4,7 @@ ghost use Rattle.board_model.specs.LineGrammar.{IsLine};
 ghost use Rattle.script_model.specs.declared.line.ScriptLine.TheVariants as script_line;
 ghost use Rattle.script_model.specs.ScriptGrammar.{IsScriptLine};
 ghost use Rattle.script_model.specs.ScriptSession.{Session, start};
-ghost use Rattle.script_loop.specs.Machines.{AnswersEach, SpellsNone, StandsFor, StandsStill};
+ghost use Rattle.script_loop.specs.Machines.{AnswersEach, SpellsNone, StandsFor};
 ghost use Rattle.script_boards.specs.Machine.{drawn_by};
 ghost use Rattle.script_machine.specs.ScriptMachine.{IsLed, StandsAfter, Tells};
 
@@ -94,7 +94,7 @@ impl<C: BoardWords + Drop> Machine<C> {
     /// Answers a line: `answer` then has the answer and its newline, and nothing else.
     ///
     /// # Errors
-    /// `Bad` exactly where the line is outside the grammar, and then nothing changes. After `OutOfMemory` the machine is
+    /// `Bad` exactly where the line is outside the grammar, and then the machine stays as it was. After `OutOfMemory` the machine is
     /// spent. On both `answer` is empty.
     pub fn line(&mut self, line: &[u8], answer: &mut Vec<u8>) -> Result<(), LineError>
         // The machine isn't spent, and it stands for a lawful session of fewer than 2^63 lines.
@@ -106,7 +106,7 @@ impl<C: BoardWords + Drop> Machine<C> {
 
         // A line outside the grammar is refused, no other one is, and nothing changes.
         ensures bad { IsErrOf result LineError.Bad → SpellsNone line.now }
-        ensures same { IsErrOf result LineError.Bad → StandsStill StandsAfter self.old self.new }
+        ensures same { IsErrOf result LineError.Bad → self.new ≡ self.old }
 
         ensures spent { IsErrOf result LineError.OutOfMemory → self.new.spent ≡ true }
         ensures err { OnErr result (answer.new.items ≡ []) }

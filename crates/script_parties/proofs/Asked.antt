@@ -40,7 +40,7 @@ answered_made rs last memory m made a =
     let by = made_by (first_of (rs ++ last ∷ [])) memory m made a in
     record { none = first_none rs last by.0; same = by.1 }
 
-unspent : {E : Type 0} (rs : List (Bool × E)) (last : Bool × E) → last.0 ≡ false → first_of (rs ++ last ∷ []) ≡ first_of rs
+pub unspent : {E : Type 0} (rs : List (Bool × E)) (last : Bool × E) → last.0 ≡ false → first_of (rs ++ last ∷ []) ≡ first_of rs
 unspent {E} [] last h = ap (λ c. let none : Option E = None in cond c (Some last.1) none) h
 unspent (r ∷ rs) last h = ap (λ o. cond r.0 (Some r.1) o) (unspent rs last h)
 

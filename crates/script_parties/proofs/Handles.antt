@@ -65,7 +65,7 @@ found-place d (Some f) = refl
 abbrev pub found_for : {C : Type 0} → Domain C → Held → (List ℕ → Bool) → TypeDetail → Option (ℕ × Entry)
 found_for d x is_key value = entry_found (board_at d.tables x.board) is_key value
 
-found_same : {C : Type 0} (nodes : List (List ℕ)) (d : Domain C) (x : Held) (number : ℕ) (is_key : List ℕ → Bool) (value : TypeDetail) → IsThing nodes d x number
+pub found_same : {C : Type 0} (nodes : List (List ℕ)) (d : Domain C) (x : Held) (number : ℕ) (is_key : List ℕ → Bool) (value : TypeDetail) → IsThing nodes d x number
     → entry_for d (held d number) is_key value ≡ found_for d x is_key value
 found_same nodes d x number is_key value i = ap (λ b. entry_found (board_at d.tables b) is_key value) i.board
 
@@ -122,7 +122,7 @@ handles_refused : (f : ℕ → List ℕ) (ts : List (Thing ℕ ℕ)) (xs : List 
 handles_refused f ts xs board None e = refl
 handles_refused f ts xs board (Some x) e = ap (λ b. if b then Some entry_mut_error.HandleAlreadyExists else None) (handles-same f board x.0 ts xs e)
 
-handle_tests : {C : Type 0} (nodes : List (List ℕ)) (numbers : List ℕ) (things : List Held) (d : Domain C) (x : Held) (number : ℕ) (o : Option (ℕ × Entry)) → IsNamed nodes numbers things d → IsThing nodes d x number
+pub handle_tests : {C : Type 0} (nodes : List (List ℕ)) (numbers : List ℕ) (things : List Held) (d : Domain C) (x : Held) (number : ℕ) (o : Option (ℕ × Entry)) → IsNamed nodes numbers things d → IsThing nodes d x number
     → first_of (entry_mut_refusals things x.board o) ≡ first_of (entry_mut_refusals d.tables.things (held d number).board o)
 handle_tests nodes numbers things d x number o h i =
     handles_refused (party_at nodes) d.tables.things things x.board o h.same ∙ ap (λ b. first_of (entry_mut_refusals d.tables.things b o)) (sym i.board)

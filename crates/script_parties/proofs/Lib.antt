@@ -13,5 +13,6 @@ pub mod Openings
 pub mod Overview
 pub mod Places
 pub mod Ports
+pub mod Refused
 pub mod Renaming
 pub mod WordLookups

@@ -55,11 +55,11 @@ all_nodes_same nodes party number ts xs b h n all e =
     ∙ ap (λ x. not x && nat_le b.max_nodes (nodes_taken bytes_eq b.number xs)) (node-same nodes b.number number ts xs h n.some n.most all e)
     ∙ ap (λ k. not (is_node nat_eq b.number number ts) && nat_le b.max_nodes k) (nodes-same nodes b.number ts xs h all e)
 
-open_refused : (nodes : List (List ℕ)) (party : List ℕ) (number : ℕ) (ts : List (Thing ℕ ℕ)) (xs : List Held) (o : Option Board) (key : TypeDetail) (limits : Limits) (needs : Requirements) → AreParties nodes → IsNode party nodes number
+pub factories_refused : (nodes : List (List ℕ)) (party : List ℕ) (number : ℕ) (ts : List (Thing ℕ ℕ)) (xs : List Held) (o : Option Board) (key : TypeDetail) (limits : Limits) (needs : Requirements) → AreParties nodes → IsNode party nodes number
     → AllByRecursion (IsOfNode (length nodes)) ts → AreSame (party_at nodes) ts xs
     → first_of (open_refusals bytes_eq xs party o key limits needs) ≡ first_of (open_refusals nat_eq ts number o key limits needs)
-open_refused nodes party number ts xs None key limits needs h n all e = refl
-open_refused nodes party number ts xs (Some b) key limits needs h n all e =
+factories_refused nodes party number ts xs None key limits needs h n all e = refl
+factories_refused nodes party number ts xs (Some b) key limits needs h n all e =
     ap (λ x. first_of (
     (false, open_error.DoesNotExist)
     ∷ (not (same_type b.key key), open_error.IncompatibleKeys)
@@ -100,7 +100,7 @@ open_made {C} list nodes numbers things d after party factory name key limits ne
     let told : Told (after_open d n name) (made d (number_of board)) =
     told_made (shown list d things) (shown list (after_open d n name) (things ++ factory_of party factory (number_of board) ∷ [])) (λ e. reply.OpenError e)
     (first_of (open_refusals bytes_eq things party board key limits needs)) (number_of board) (joined (shown list d things).tables party factory board)
-    (open_refused all party n d.tables.things things board key limits needs h'.parties is h'.holders h'.same ∙ by.none) refl refl (omega arith) in
+    (factories_refused all party n d.tables.things things board key limits needs h'.parties is h'.holders h'.same ∙ by.none) refl refl (omega arith) in
     let more : IsMore all d (after_open d n name) (record { holder = n; name = d.last_thing + 1; board = number_of board; kind = kind.Factory }) (factory_of party factory (number_of board)) =
     record { things = refl; last = refl; number = refl; holder = is.is; board = refl; kind = refl; node = record { some = is.some; most = is.most }; keys = h.keys } in
     let kept : Kept (after_open d n name) (made d (number_of board)) = named_more all numbers things d (after_open d n name) _ _ (d.last_thing + 1) h' more refl in
@@ -120,7 +120,7 @@ open_not_made {C} list nodes numbers things d after party factory name key limit
     let by = answered_refused (open_refusals nat_eq d.tables.things n board key limits needs) (spent d.last_thing, open_error.NumbersSpent) open_error.OutOfMemory why (made d (number_of board)) (one_left d.last_thing few) memory a' in
     subst (λ e. IsAsked (shown list d things) (shown list e things) (λ e. reply.OpenError e) (open_asked bytes_eq (shown list d things).tables party factory name key limits needs) (reply.OpenError why)) (sym err)
     (told_refused (shown list d things) (λ e. reply.OpenError e) (first_of (open_refusals bytes_eq things party board key limits needs)) (number_of board) (joined (shown list d things).tables party factory board) why
-    (open_refused all party n d.tables.things things board key limits needs h'.parties (node_of party nodes) h'.holders h'.same ∙ by))
+    (factories_refused all party n d.tables.things things board key limits needs h'.parties (node_of party nodes) h'.holders h'.same ∙ by))
 
 -- ---- new boards
 
@@ -152,10 +152,10 @@ number_told {E} error o n after before e = subst (λ (p : Option E). reply.Numbe
 tables_after : {E : Type 0} (o : Option E) (n : ℕ) (after before : Tables (List ℕ) (List ℕ)) → o ≡ None → after ≡ (asked o n after before).1
 tables_after {E} o n after before e = subst (λ (p : Option E). after ≡ (asked p n after before).1) (sym e) refl
 
-refusal_told : {E : Type 0} (error : E → Reply) (o : Option E) (n : ℕ) (after before : Tables (List ℕ) (List ℕ)) (why : E) → o ≡ Some why → error why ≡ number_or error (asked o n after before).0
+pub refusal_told : {E : Type 0} (error : E → Reply) (o : Option E) (n : ℕ) (after before : Tables (List ℕ) (List ℕ)) (why : E) → o ≡ Some why → error why ≡ number_or error (asked o n after before).0
 refusal_told {E} error o n after before why e = subst (λ (p : Option E). error why ≡ number_or error (asked p n after before).0) (sym e) refl
 
-tables_before : {E : Type 0} (o : Option E) (n : ℕ) (after before : Tables (List ℕ) (List ℕ)) (why : E) → o ≡ Some why → before ≡ (asked o n after before).1
+pub tables_before : {E : Type 0} (o : Option E) (n : ℕ) (after before : Tables (List ℕ) (List ℕ)) (why : E) → o ≡ Some why → before ≡ (asked o n after before).1
 tables_before {E} o n after before why e = subst (λ (p : Option E). before ≡ (asked p n after before).1) (sym e) refl
 
 -- the words of the entries' first values

@@ -48,7 +48,7 @@ readers_refused : (f : ℕ → List ℕ) (ts : List (Thing ℕ ℕ)) (xs : List 
 readers_refused f ts xs None e = refl
 readers_refused f ts xs (Some b) e = ap (λ n. if nat_le b.max_readers n then Some reader_error.ExceedsMaxSupportedReaders else None) (readers-same f b.number ts xs e)
 
-reader_tests : {C : Type 0} (nodes : List (List ℕ)) (numbers : List ℕ) (things : List Held) (d : Domain C) (x : Held) (number : ℕ) → IsNamed nodes numbers things d → IsThing nodes d x number
+pub reader_tests : {C : Type 0} (nodes : List (List ℕ)) (numbers : List ℕ) (things : List Held) (d : Domain C) (x : Held) (number : ℕ) → IsNamed nodes numbers things d → IsThing nodes d x number
     → first_of (reader_refusals things (board_at d.tables x.board)) ≡ first_of (reader_refusals d.tables.things (board_at d.tables (held d number).board))
 reader_tests nodes numbers things d x number h i =
     readers_refused (party_at nodes) d.tables.things things (board_at d.tables x.board) h.same
@@ -89,7 +89,7 @@ writers_refused : (f : ℕ → List ℕ) (ts : List (Thing ℕ ℕ)) (xs : List 
 writers_refused f ts xs None e = refl
 writers_refused f ts xs (Some b) e = ap (λ n. if nat_le b.max_writers n then Some writer_error.ExceedsMaxSupportedWriters else None) (writers-same f b.number ts xs e)
 
-writer_tests : {C : Type 0} (nodes : List (List ℕ)) (numbers : List ℕ) (things : List Held) (d : Domain C) (x : Held) (number : ℕ) → IsNamed nodes numbers things d → IsThing nodes d x number
+pub writer_tests : {C : Type 0} (nodes : List (List ℕ)) (numbers : List ℕ) (things : List Held) (d : Domain C) (x : Held) (number : ℕ) → IsNamed nodes numbers things d → IsThing nodes d x number
     → first_of (writer_refusals things (board_at d.tables x.board)) ≡ first_of (writer_refusals d.tables.things (board_at d.tables (held d number).board))
 writer_tests nodes numbers things d x number h i =
     writers_refused (party_at nodes) d.tables.things things (board_at d.tables x.board) h.same

@@ -1,3 +1,6 @@
 pub mod Named
 pub mod Overview
 pub mod Parties
+pub mod Refusals
+pub mod Keyed
+pub mod Shown

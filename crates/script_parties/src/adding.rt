@@ -38,29 +38,21 @@ pub(crate) fn entries_for(
     Ok(new)
 }
 
-/// The attributes of a new board.
-pub(crate) fn attributes_for(
-    alloc: Global,
-    attributes: &Attributes,
-) -> Result<AttributeSet, AllocError>
-    requires { AreAttributes attributes.now }
-    ensures { IfOk result (λ set. set ≡ attributes.now) }
+/// The attributes of a new board. Takes no memory.
+pub(crate) fn attributes_for(attributes: Attributes) -> AttributeSet
+    requires { AreAttributes attributes }
+    ensures { result ≡ attributes }
 {
-    let pairs = Vec::from_slice(alloc, attributes.as_slice())?;
-    Ok(AttributeSet::from_vec(pairs))
+    AttributeSet::from_vec(attributes.into_vec())
 }
 
-/// What an opener needs.
-pub(crate) fn needs_for(
-    alloc: Global,
-    needs: &Requirements,
-) -> Result<AttributeVerifier, AllocError>
-    requires { AreRequirements needs.now }
-    ensures { IfOk result (λ verifier. verifier ≡ needs.now) }
+/// What an opener needs. Takes no memory.
+pub(crate) fn needs_for(needs: Requirements) -> AttributeVerifier
+    requires { AreRequirements needs }
+    ensures { result ≡ needs }
 {
-    let pairs = attributes_for(alloc, &needs.pairs)?;
-    let keys = Vec::from_slice(alloc, needs.keys.as_slice())?;
-    Ok(AttributeVerifier::from_lists(pairs, keys))
+    let Requirements { pairs, keys } = needs;
+    AttributeVerifier::from_lists(attributes_for(pairs), keys.into_vec())
 }
 
 /// The key of this text, with zeros behind it.

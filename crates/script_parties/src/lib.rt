@@ -8,6 +8,7 @@
 #![tactic(auto)]
 
 mod adding;
+mod entry_tests;
 mod lists;
 mod lookups;
 mod party_domain;

@@ -25,7 +25,8 @@ pub(crate) fn keys_of(
 // Where a name is to stand among others, in the order of their bytes. None where it stands there already.
 fn place_for(name: &Name, names: &[Name]) -> Option<usize>
     ensures there { IfNone result (replies.placed_once name.now names.now ≡ names.now) }
-    ensures place { IfSome result (λ i. replies.placed_once name.now names.now ≡ take i names.now ++ name.now ∷ drop i names.now) }
+    ensures place { IfSome result (λ i. replies.placed_once name.now names.now
+        ≡ take i names.now ++ name.now ∷ drop i names.now) }
     ensures inside { IfSome result (λ i. i ≤ length names.now) }
 {
     for (i, other) in names.iter().enumerate() {

@@ -1,5 +1,5 @@
 //! What stands among the things and the nodes.
-ghost use Rattle.std.specs.Prelude.{◌≡◌, ◌+◌, ◌<◌, Some, length, map, option_map, vec_capacity, vec_len};
+ghost use Rattle.std.specs.Prelude.{◌≡◌, ◌+◌, ◌++◌, ◌∷◌, ◌<◌, [], Some, length, map, option_map, vec_capacity, vec_len};
 ghost use Rattle.std.specs.List.{position_from};
 ghost use Rattle.std.specs.Str.{bytes_eq};
 ghost use Rattle.board_model.specs.Tables as tables;
@@ -111,6 +111,17 @@ pub(crate) fn join(party: Name, nodes: &mut Vec<Name>)
         Some(_) => {}
         None => nodes.push_reserved(party),
     }
+}
+
+/// Keeps a thing, and the core's number for it, where room was made for both. Takes no memory.
+pub(crate) fn keep(thing: Held, number: ThingId, things: &mut Vec<Held>, numbers: &mut Vec<ThingId>)
+    requires room { vec_len things.old < vec_capacity things.old }
+    requires number_room { vec_len numbers.old < vec_capacity numbers.old }
+    ensures things { things.new.items ≡ things.old.items ++ thing ∷ [] }
+    ensures numbers { numbers.new.items ≡ numbers.old.items ++ number ∷ [] }
+{
+    things.push_reserved(thing);
+    numbers.push_reserved(number);
 }
 
 /// The number of a thing that stands, where these are the numbers of the things, in their order.

@@ -1,32 +1,29 @@
 //! A domain whose nodes are the parties of a script.
-ghost use Rattle.std.specs.Prelude.{◌≡◌, true, Some, IfOk, OnErr, IfNone, IfSome, IsSome, length, option_map, is_some};
+ghost use Rattle.std.specs.Prelude.{◌≡◌, true, IfOk, OnErr, IsSome, length, option_map, is_some};
 ghost use Rattle.board_model.specs.LawfulSession.{is_typed_key};
 ghost use Rattle.board_model.specs.LineGrammar.{AreAttributes, AreRequirements, is_board_name};
 ghost use Rattle.board_model.specs.Replies as replies;
 ghost use Rattle.board_model.specs.Tables as tables;
-ghost use Rattle.board_model.specs.Things as held;
-ghost use Rattle.script_parties.specs.Overview.{keys_shown, standing_with};
+ghost use Rattle.board_model.specs.Things.{of_kind};
+ghost use Rattle.script_parties.specs.Overview.{keys_shown};
 ghost use Rattle.script_parties.specs.Parties.{HasWord, IsCreate, IsEntry, IsEntryMut, IsFew, IsLoaded, IsOpen, IsReader, IsReleased, IsStored, IsWriter, IsStandingThing, board_words, no_parties};
+ghost use Rattle.script_parties.specs.Shown.{HasKeyType, id_shown, info_shown, party_thing, renamed};
+ghost use Rattle.script_parties.specs.Refusals.{IsUnrefused, create_refusal, entry_mut_refusal, entry_refusal, open_refusal, reader_refusal, writer_refusal};
 
-use crate::adding::{attributes_for, entries_for, needs_for};
+mod making;
+mod refusals;
+
+use crate::adding::{attributes_for, needs_for};
 use crate::lists::{keys_of, nodes_at};
-use crate::lookups::{
-    Held, entry_of, held_of_kind, join, name_text, node_for, number_of, place_of_thing, rename,
-    thing_of,
-};
-use crate::typed_calls::{create_in, entry_in, entry_mut_in, open_in};
+use crate::lookups::{Held, entry_of, held_of_kind, name_text, place_of_thing, rename, thing_of};
 use board_cell::Words;
 use board_layout::Text;
 use board_model::{
     AddedEntries, Attributes, Entry, Info, Key, KeyType, Keys, Kind, Limits, LongName, Name, Names,
-    NewLimits, Reply, Requirements, Thing, ThingKind, ValueType, key_detail, key_type_of,
-    same_type, type_of_key, value_detail,
+    NewLimits, Reply, Requirements, ThingKind, ValueType, key_detail, key_type_of, same_type,
+    type_of_key,
 };
-use board_names::{
-    BlackboardCreateError, BlackboardOpenError, EntryHandleError, EntryHandleMutError,
-    ReaderCreateError, ServiceName, WriterCreateError,
-};
-use board_service::{BoardWords, DomainCore, NodeId, ThingId, port_of};
+use board_service::{BoardWords, DomainCore, ThingId};
 use std::alloc::{AllocError, Global};
 use std::marker::Model;
 
@@ -45,13 +42,13 @@ pub struct PartyDomain<C: BoardWords> {
 impl<C: BoardWords> Model for PartyDomain<C> {
     ghost use Rattle.std.specs.Prelude.{map};
     ghost use Rattle.script_parties.specs.Named.{IsNamed};
-    ghost use Rattle.script_parties.specs.Overview.{keys_shown, standing_with};
     ghost use Rattle.script_parties.specs.Parties.{Parties};
+    ghost use Rattle.script_parties.specs.Shown.{named_tables};
 
     ghost Value = { Parties };
 
     ghost view = { λ d. record {
-      tables = record { boards = d.core.tables.boards; things = d.things.items; last_board = d.core.tables.last_board; last_port = d.core.tables.last_port };
+      tables = named_tables d.core.tables d.things.items;
       words = map C.list d.core.cells;
       drawn = d.core.last_thing;
     } };
@@ -88,21 +85,21 @@ impl<C: BoardWords + Drop> PartyDomain<C> {
 
     /// The thing that a party holds under a name.
     pub fn thing_of(&self, party: &Name, name: &Name) -> Option<&Held>
-        ensures { option_map (λ t. t.now) result ≡ held.thing_of self.now.tables.things party.now name.now }
+        ensures { option_map (λ t. t.now) result ≡ party_thing self.now party.now name.now }
     {
         thing_of(party, name, &self.things)
     }
 
     /// The same, where it is of this kind.
     pub fn held_of_kind(&self, kind: ThingKind, party: &Name, name: &Name) -> Option<Held>
-        ensures { result ≡ held.of_kind kind (held.thing_of self.now.tables.things party.now name.now) }
+        ensures { result ≡ of_kind kind (party_thing self.now party.now name.now) }
     {
         held_of_kind(kind, party, name, &self.things)
     }
 
     /// Gives the party's thing another name.
     pub fn rename(&mut self, party: &Name, old: &Name, new: &Name)
-        ensures { self.new ≡ record self.old { tables = held.with_name self.old.tables party.now old.now new.now } }
+        ensures { self.new ≡ renamed self.old party.now old.now new.now }
     {
         rename(party, old, new, &mut self.things);
     }
@@ -137,9 +134,11 @@ impl<C: BoardWords + Drop> PartyDomain<C> {
     /// The words of a board, where it stands, read one after another.
     ///
     /// # Errors
-    /// `AllocError` where memory is refused.
+    /// `AllocError` where memory is refused. Where no such board stands none is wanted.
     pub fn copy_words(&mut self, board: u64) -> Result<Option<Vec<u64>>, AllocError>
-        ensures words { IfOk result (λ found. option_map (λ ws. ws.items) found ≡ board_words self.old board) }
+        ensures words { IfOk result (λ found. option_map (λ ws. ws.items) found
+            ≡ board_words self.old board) }
+        ensures memory { OnErr result (IsSome (board_words self.old board)) }
         ensures same { self.new ≡ self.old }
     {
         let Some(cells) = self.core.cells_mut(board) else {
@@ -179,7 +178,7 @@ impl<C: BoardWords + Drop> PartyDomain<C> {
     /// Makes a board with its words, and a factory of it for the party. What it is told is a number or an error of the call.
     ///
     /// # Errors
-    /// `AllocError` where memory is refused. All stays as it was.
+    /// `AllocError` where memory is refused, which is taken only where nothing else refuses the call. All stays as it was.
     pub fn create(
         &mut self,
         party: Name,
@@ -187,51 +186,29 @@ impl<C: BoardWords + Drop> PartyDomain<C> {
         name: Text<255>,
         key_type: KeyType,
         limits: NewLimits,
-        attributes: &Attributes,
+        attributes: Attributes,
         entries: &AddedEntries,
     ) -> Result<Reply, AllocError>
         requires few { IsFew self.old }
         requires name { is_board_name name ≡ true }
-        requires attributes { AreAttributes attributes.now }
-        ensures asked { IfOk result (IsCreate self.old self.new party factory name key_type limits attributes.now entries.now) }
+        requires attributes { AreAttributes attributes }
+        ensures asked { IfOk result (IsCreate self.old self.new party factory name key_type limits
+            attributes entries.now) }
+        ensures memory { OnErr result (IsUnrefused
+            (create_refusal self.old name key_type entries.now)) }
         ensures err { OnErr result (self.new ≡ self.old) }
     {
-        let entries = entries_for(self.alloc, entries.as_slice())?;
-        let attributes = attributes_for(self.alloc, attributes)?;
-        self.nodes.reserve(1)?;
-        self.things.reserve(1)?;
-        self.numbers.reserve(1)?;
-        let node = NodeId(node_for(&party, &self.nodes));
-        let name = ServiceName::from_text(name);
-        match create_in(
-            &mut self.core,
-            key_type,
-            node,
-            &name,
-            limits,
-            attributes,
-            entries,
-        ) {
-            Ok(made) => {
-                join(party, &mut self.nodes);
-                self.things.push_reserved(Thing {
-                    holder: party,
-                    name: factory,
-                    board: made.number,
-                    kind: Kind::Factory,
-                });
-                self.numbers.push_reserved(made.thing);
-                Ok(Reply::Number(made.number))
-            }
-            Err(BlackboardCreateError::OutOfMemory) => Err(AllocError),
-            Err(why) => Ok(Reply::CreateError(why)),
+        let attributes = attributes_for(attributes);
+        match self.create_refusal(&name, key_type, entries.as_slice()) {
+            Some(why) => Ok(Reply::CreateError(why)),
+            None => self.add_board(party, factory, name, key_type, limits, attributes, entries),
         }
     }
 
     /// Makes a factory of a board that stands, for the party. What it is told is a number or an error of the call.
     ///
     /// # Errors
-    /// `AllocError` where memory is refused. All stays as it was.
+    /// `AllocError` where memory is refused, which is taken only where nothing else refuses the call. All stays as it was.
     pub fn open(
         &mut self,
         party: Name,
@@ -239,99 +216,62 @@ impl<C: BoardWords + Drop> PartyDomain<C> {
         name: Text<255>,
         key_type: KeyType,
         limits: Limits,
-        needs: &Requirements,
+        needs: Requirements,
     ) -> Result<Reply, AllocError>
         requires few { IsFew self.old }
         requires name { is_board_name name ≡ true }
-        requires needs { AreRequirements needs.now }
-        ensures asked { IfOk result (IsOpen self.old self.new party factory name key_type limits needs.now) }
+        requires needs { AreRequirements needs }
+        ensures asked { IfOk result (IsOpen self.old self.new party factory name key_type limits
+            needs) }
+        ensures memory { OnErr result (IsUnrefused
+            (open_refusal self.old party name key_type limits needs)) }
         ensures err { OnErr result (self.new ≡ self.old) }
     {
-        let needs = needs_for(self.alloc, needs)?;
-        self.nodes.reserve(1)?;
-        self.things.reserve(1)?;
-        self.numbers.reserve(1)?;
-        let node = NodeId(node_for(&party, &self.nodes));
-        let name = ServiceName::from_text(name);
-        match open_in(&mut self.core, key_type, node, &name, limits, &needs) {
-            Ok(made) => {
-                join(party, &mut self.nodes);
-                self.things.push_reserved(Thing {
-                    holder: party,
-                    name: factory,
-                    board: made.number,
-                    kind: Kind::Factory,
-                });
-                self.numbers.push_reserved(made.thing);
-                Ok(Reply::Number(made.number))
-            }
-            Err(BlackboardOpenError::OutOfMemory) => Err(AllocError),
-            Err(why) => Ok(Reply::OpenError(why)),
+        let needs = needs_for(needs);
+        match self.open_refusal(&party, &name, key_type, limits, &needs) {
+            Some(why) => Ok(Reply::OpenError(why)),
+            None => self.add_factory(party, factory, name, key_type, limits, &needs),
         }
     }
 
     /// Makes a reader, at a factory. What it is told is a number or an error of the call.
     ///
     /// # Errors
-    /// `AllocError` where memory is refused. All stays as it was.
+    /// `AllocError` where memory is refused, which is taken only where nothing else refuses the call. All stays as it was.
     pub fn reader(&mut self, name: Name, factory: &Held) -> Result<Reply, AllocError>
         requires few { IsFew self.old }
         requires stands { IsStandingThing self.old factory.now }
         ensures asked { IfOk result (IsReader self.old self.new name factory.now) }
+        ensures memory { OnErr result (IsUnrefused (reader_refusal self.old factory.now)) }
         ensures err { OnErr result (self.new ≡ self.old) }
     {
-        self.things.reserve(1)?;
-        self.numbers.reserve(1)?;
-        let number = number_of(factory, &self.things, &self.numbers);
-        match self.core.reader(number) {
-            Ok(made) => {
-                self.things.push_reserved(Thing {
-                    holder: factory.holder,
-                    name,
-                    board: factory.board,
-                    kind: Kind::Reader { port: made.number },
-                });
-                self.numbers.push_reserved(made.thing);
-                Ok(Reply::Number(made.number))
-            }
-            Err(ReaderCreateError::OutOfMemory) => Err(AllocError),
-            Err(why) => Ok(Reply::ReaderError(why)),
+        match self.reader_refusal(factory) {
+            Some(why) => Ok(Reply::ReaderError(why)),
+            None => self.add_reader(name, factory),
         }
     }
 
     /// Makes a writer, at a factory. What it is told is a number or an error of the call.
     ///
     /// # Errors
-    /// `AllocError` where memory is refused. All stays as it was.
+    /// `AllocError` where memory is refused, which is taken only where nothing else refuses the call. All stays as it was.
     pub fn writer(&mut self, name: Name, factory: &Held) -> Result<Reply, AllocError>
         requires few { IsFew self.old }
         requires stands { IsStandingThing self.old factory.now }
         ensures asked { IfOk result (IsWriter self.old self.new name factory.now) }
+        ensures memory { OnErr result (IsUnrefused (writer_refusal self.old factory.now)) }
         ensures err { OnErr result (self.new ≡ self.old) }
     {
-        self.things.reserve(1)?;
-        self.numbers.reserve(1)?;
-        let number = number_of(factory, &self.things, &self.numbers);
-        match self.core.writer(number) {
-            Ok(made) => {
-                self.things.push_reserved(Thing {
-                    holder: factory.holder,
-                    name,
-                    board: factory.board,
-                    kind: Kind::Writer { port: made.number },
-                });
-                self.numbers.push_reserved(made.thing);
-                Ok(Reply::Number(made.number))
-            }
-            Err(WriterCreateError::OutOfMemory) => Err(AllocError),
-            Err(why) => Ok(Reply::WriterError(why)),
+        match self.writer_refusal(factory) {
+            Some(why) => Ok(Reply::WriterError(why)),
+            None => self.add_writer(name, factory),
         }
     }
 
     /// Makes a read handle, at a reader. What it is told is a number or an error of the call.
     ///
     /// # Errors
-    /// `AllocError` where memory is refused. All stays as it was.
+    /// `AllocError` where memory is refused, which is taken only where nothing else refuses the call. All stays as it was.
     pub fn entry(
         &mut self,
         name: Name,
@@ -342,33 +282,23 @@ impl<C: BoardWords + Drop> PartyDomain<C> {
         requires few { IsFew self.old }
         requires stands { IsStandingThing self.old reader.now }
         requires kind { tables.kind_of reader.now.kind ≡ ThingKind.Reader }
-        requires key { is_typed_key (tables.board_at self.old.tables reader.now.board) key.now ≡ true }
-        ensures asked { IfOk result (IsEntry self.old self.new name reader.now key.now value_type) }
+        requires key { HasKeyType self.old reader.now key.now }
+        ensures asked { IfOk result (IsEntry self.old self.new name reader.now key.now
+            value_type) }
+        ensures memory { OnErr result (IsUnrefused
+            (entry_refusal self.old reader.now key.now value_type)) }
         ensures err { OnErr result (self.new ≡ self.old) }
     {
-        self.things.reserve(1)?;
-        self.numbers.reserve(1)?;
-        let number = number_of(reader, &self.things, &self.numbers);
-        match entry_in(&mut self.core, number, key, &value_detail(value_type)) {
-            Ok(found) => {
-                self.things.push_reserved(Thing {
-                    holder: reader.holder,
-                    name,
-                    board: reader.board,
-                    kind: Kind::ReadHandle { entry: found.entry },
-                });
-                self.numbers.push_reserved(found.thing);
-                Ok(Reply::Number(found.place))
-            }
-            Err(EntryHandleError::OutOfMemory) => Err(AllocError),
-            Err(why) => Ok(Reply::EntryError(why)),
+        match self.entry_refusal(reader, key, value_type) {
+            Some(why) => Ok(Reply::EntryError(why)),
+            None => self.add_read_handle(name, reader, key, value_type),
         }
     }
 
     /// Makes a write handle, at a writer. What it is told is a number or an error of the call.
     ///
     /// # Errors
-    /// `AllocError` where memory is refused. All stays as it was.
+    /// `AllocError` where memory is refused, which is taken only where nothing else refuses the call. All stays as it was.
     pub fn entry_mut(
         &mut self,
         name: Name,
@@ -379,29 +309,16 @@ impl<C: BoardWords + Drop> PartyDomain<C> {
         requires few { IsFew self.old }
         requires stands { IsStandingThing self.old writer.now }
         requires kind { tables.kind_of writer.now.kind ≡ ThingKind.Writer }
-        requires key { is_typed_key (tables.board_at self.old.tables writer.now.board) key.now ≡ true }
-        ensures asked { IfOk result (IsEntryMut self.old self.new name writer.now key.now value_type) }
+        requires key { HasKeyType self.old writer.now key.now }
+        ensures asked { IfOk result (IsEntryMut self.old self.new name writer.now key.now
+            value_type) }
+        ensures memory { OnErr result (IsUnrefused
+            (entry_mut_refusal self.old writer.now key.now value_type)) }
         ensures err { OnErr result (self.new ≡ self.old) }
     {
-        self.things.reserve(1)?;
-        self.numbers.reserve(1)?;
-        let number = number_of(writer, &self.things, &self.numbers);
-        match entry_mut_in(&mut self.core, number, key, &value_detail(value_type)) {
-            Ok(found) => {
-                self.things.push_reserved(Thing {
-                    holder: writer.holder,
-                    name,
-                    board: writer.board,
-                    kind: Kind::WriteHandle {
-                        entry: found.entry,
-                        port: port_of(&writer.kind),
-                    },
-                });
-                self.numbers.push_reserved(found.thing);
-                Ok(Reply::Number(found.place))
-            }
-            Err(EntryHandleMutError::OutOfMemory) => Err(AllocError),
-            Err(why) => Ok(Reply::EntryMutError(why)),
+        match self.entry_mut_refusal(writer, key, value_type) {
+            Some(why) => Ok(Reply::EntryMutError(why)),
+            None => self.add_write_handle(name, writer, key, value_type),
         }
     }
 
@@ -418,7 +335,7 @@ impl<C: BoardWords + Drop> PartyDomain<C> {
 
     /// The port number of a reader or writer, the entry id of a handle.
     pub fn id_of(&self, thing: &Held) -> u64
-        ensures { result ≡ replies.id_number (standing_with self.now.tables) thing.now thing.now.kind }
+        ensures { result ≡ id_shown self.now thing.now }
     {
         match &thing.kind {
             Kind::Reader { port } => *port,
@@ -461,7 +378,7 @@ impl<C: BoardWords + Drop> PartyDomain<C> {
     /// `AllocError` where memory is refused.
     pub fn info(&self, board: u64) -> Result<Info, AllocError>
         requires { is_some (tables.board_at self.now.tables board) ≡ true }
-        ensures { IfOk result (λ info. info ≡ replies.info_of self.now.tables.things (tables.board_at self.now.tables board)) }
+        ensures { IfOk result (λ info. info ≡ info_shown self.now board) }
     {
         match (
             self.core.name_of(board),

@@ -35,7 +35,8 @@ impl ThreadedCell {
         ensures kept { (writer.new ≡ writer.old) × (readers.new.items ≡ readers.old.items) }
         ensures generation { result.generation ≡ length writer.old.published }
         ensures legal { IsLegal (history_of writer.old readers.old.items) }
-        ensures publishes { publishes_in (history_of writer.old readers.old.items) ≡ writer.old.published }
+        ensures publishes { let history = history_of writer.old readers.old.items in
+            publishes_in history ≡ writer.old.published }
         ensures reads { TellsReadsOf readers.old.items (history_of writer.old readers.old.items) }
     {
         for i in 0..readers.len() {

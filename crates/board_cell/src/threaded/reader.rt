@@ -1,7 +1,7 @@
-ghost use Rattle.std.specs.Prelude.{ℕ, ◌≡◌, ◌==◌, ◌<◌, [], max, length, IfOk, IfErr};
+ghost use Rattle.std.specs.Prelude.{◌≡◌, ◌<◌, [], max, length, IfOk, IfErr};
 ghost use Rattle.board_cell_model.specs.OwedAccesses.{finished};
 ghost use Rattle.board_cell.specs.Calls.{words_of};
-ghost use Rattle.board_cell.specs.Passes.{threaded_shape, new_reader, reaching, NotesRise, Gets, GetsWithin, GivesUp, Looks};
+ghost use Rattle.board_cell.specs.Passes.{threaded_shape, new_reader, reaching, NotesRise, Gets, GetsWithin, GivesUp, LooksAt};
 ghost use Rattle.board_cell.specs.Views.{reader_of, IsTrying, AfterTries, AfterTriesWithin, AfterFailures};
 ghost use Rattle.board_cell.specs.declared.threaded.view.View.TheVariants.{Reader};
 
@@ -152,8 +152,10 @@ impl ThreadedCell {
         requires width { length out.old.items ≡ self.now.width }
         ensures width { length out.new.items ≡ self.now.width }
         ensures rises { NotesRise pass.new.notes }
-        ensures ok { IfOk result (λ g. GetsWithin (max tries 1) g out.new.items pass.old pass.new) }
-        ensures again { IfErr result (λ e. GivesUp (max tries 1) e.before e.after pass.old pass.new) }
+        ensures ok { let most = max tries 1 in
+            IfOk result (λ g. GetsWithin most g out.new.items pass.old pass.new) }
+        ensures again { let most = max tries 1 in
+            IfErr result (λ e. GivesUp most e.before e.after pass.old pass.new) }
     {
         let shape = self.shape();
         let buffer = mem::replace(out, Vec::new(*out.allocator()));
@@ -241,7 +243,7 @@ impl ThreadedCell {
     #[inline]
     pub fn fresh(&self, pass: &mut ReaderPass, generation: u64) -> bool
         requires { pass.old.cell ≡ self.now.cell }
-        ensures { (counter : ℕ) × Looks counter pass.old pass.new × (result ≡ (counter == generation)) }
+        ensures { LooksAt generation result pass.old pass.new }
     {
         let mut call = FreshCall::new(self.shape(), generation);
         self.glance(&mut pass.seat, &mut call);

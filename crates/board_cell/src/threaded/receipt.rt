@@ -1,5 +1,5 @@
 ghost use Rattle.std.specs.Prelude.{◌≡◌};
-ghost use Rattle.board_cell.specs.Passes.{reaching};
+ghost use Rattle.board_cell.specs.Passes.{new_reader, reaching};
 
 use crate::threaded::cell::ThreadedCell;
 use crate::threaded::reader::ReaderPass;
@@ -18,14 +18,13 @@ pub struct Receipt {
 impl Model for Receipt {
     ghost use Rattle.std.specs.Prelude.{◌≡◌, []};
     ghost use Rattle.board_cell.specs.Passes.{ReceiptSeen};
-    ghost use Rattle.board_cell.specs.Views.{reader_of};
-    ghost use Rattle.board_cell.specs.declared.threaded.view.View.TheVariants.{Reader};
+    ghost use Rattle.board_cell.specs.Views.{IsReceiptOf};
 
     ghost Value = { ReceiptSeen };
 
     ghost view = { λ s. record { cell = s.seat.table_id; generation = s.generation } };
 
-    ghost invariant = { λ s. (s.seat.me.0 ≡ Reader (reader_of s.seat.me.0)) × (s.seat.me.1 ≡ []) × ((reader_of s.seat.me.0).reached ≡ s.generation) };
+    ghost invariant = { λ s. IsReceiptOf s.generation s.seat.me.0 × (s.seat.me.1 ≡ []) };
 }
 
 impl Receipt {
@@ -35,6 +34,17 @@ impl Receipt {
         ensures { result ≡ self.now.generation }
     {
         self.generation
+    }
+
+    /// Becomes the pass of a new reader, who knows of the publication: its gets give that value or a later one. So a reader that is told of a publication needs no pass of its own.
+    pub fn into_pass(self) -> ReaderPass
+        ensures { result ≡ new_reader self.cell self.generation }
+    {
+        let Receipt {
+            seat,
+            generation: _,
+        } = self;
+        ReaderPass { seat }
     }
 }
 

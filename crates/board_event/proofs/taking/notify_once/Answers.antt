@@ -20,8 +20,12 @@ returns-in-Refused-clause-after c = λ e here. (notify_refuses c.args.kind c.arg
     c.in-Refused.why c.loop-call.invariant (subst (λ (p : EventProgress). IsNotifyAccess c.loop-call.events c.notify_access.new.events c.args.event c.loop-call.call c.notify_access.new.call p) c.in-Refused.is c.notify_access.ensures) e here).1
 
 pub returns-in-Refused-clause-gone : goal.returns-in-Refused-clause-gone
-returns-in-Refused-clause-gone c = λ none. notify_refuses_none c.args.kind c.args.max c.args.event c.args.id c.args.events.now c.loop-call.events c.notify_access.new.events c.loop-call.call c.notify_access.new.call
-    c.in-Refused.why c.loop-call.invariant (subst (λ (p : EventProgress). IsNotifyAccess c.loop-call.events c.notify_access.new.events c.args.event c.loop-call.call c.notify_access.new.call p) c.in-Refused.is c.notify_access.ensures) none
+returns-in-Refused-clause-gone c = λ none. (notify_refuses_none c.args.kind c.args.max c.args.event c.args.id c.args.events.now c.loop-call.events c.notify_access.new.events c.loop-call.call c.notify_access.new.call
+    c.in-Refused.why c.loop-call.invariant (subst (λ (p : EventProgress). IsNotifyAccess c.loop-call.events c.notify_access.new.events c.args.event c.loop-call.call c.notify_access.new.call p) c.in-Refused.is c.notify_access.ensures) none).0
+
+pub returns-in-Refused-clause-stays : goal.returns-in-Refused-clause-stays
+returns-in-Refused-clause-stays c = λ none. (notify_refuses_none c.args.kind c.args.max c.args.event c.args.id c.args.events.now c.loop-call.events c.notify_access.new.events c.loop-call.call c.notify_access.new.call
+    c.in-Refused.why c.loop-call.invariant (subst (λ (p : EventProgress). IsNotifyAccess c.loop-call.events c.notify_access.new.events c.args.event c.loop-call.call c.notify_access.new.call p) c.in-Refused.is c.notify_access.ensures) none).1
 
 pub returns-in_default-clause-answer : goal.returns-in_default-clause-answer
 returns-in_default-clause-answer c = λ e here. (notify_ends c.args.kind c.args.max c.args.event c.args.id c.args.events.now c.loop-call.events c.notify_access.new.events c.loop-call.call c.notify_access.new.call
@@ -35,6 +39,10 @@ pub returns-in_default-clause-gone : goal.returns-in_default-clause-gone
 returns-in_default-clause-gone c = λ none. absurd (notify_ends_none c.args.kind c.args.max c.args.event c.args.id c.args.events.now c.loop-call.events c.notify_access.new.events c.loop-call.call c.notify_access.new.call
     c.notify_access.result c.loop-call.invariant c.notify_access.ensures c.in_default.not-Refused none)
 
+pub returns-in_default-clause-stays : goal.returns-in_default-clause-stays
+returns-in_default-clause-stays c = λ none. absurd (notify_ends_none c.args.kind c.args.max c.args.event c.args.id c.args.events.now c.loop-call.events c.notify_access.new.events c.loop-call.call c.notify_access.new.call
+    c.notify_access.result c.loop-call.invariant c.notify_access.ensures c.in_default.not-Refused none)
+
 pub returns-clause-answer : goal.returns-clause-answer
 returns-clause-answer c = λ e here. absurd (notify_not_still c.args.kind c.args.max c.args.event c.args.id c.args.events.now c.loop-call.events c.loop-call.call c.loop-call.invariant (search rules) e here)
 
@@ -43,3 +51,6 @@ returns-clause-after c = λ e here. absurd (notify_not_still c.args.kind c.args.
 
 pub returns-clause-gone : goal.returns-clause-gone
 returns-clause-gone c = λ none. absurd ((c.loop-call.invariant.gone none).2 (search rules))
+
+pub returns-clause-stays : goal.returns-clause-stays
+returns-clause-stays c = λ none. absurd ((c.loop-call.invariant.gone none).2 (search rules))

@@ -6,7 +6,7 @@ use Rattle.board_event.proofs.TryLemmas.{made_in_range, not_taken, wait_fewer}
 use Rattle.board_event.proofs.taking.take_all.Goals as goal
 
 pub loop-call-init : goal.loop-call-init
-loop-call-init g c = (search of_calls, all_begins (λ p x q. goal.F-step g p x tt q) c.args.callback c.args.kind c.args.max c.args.event c.args.events.now c.wait_call-call.result c.ranges.max.fits c.table_stands.ensures c.wait_call-call.ensures)
+loop-call-init g c = (search of_calls, all_begins (λ p x q. goal.F-step g p x tt q) c.args.callback.now c.args.kind c.args.max c.args.event c.args.events.now c.wait_call-call.result c.ranges.max.fits c.table_stands.ensures c.wait_call-call.ensures)
 
 pub loop-call-smaller : goal.loop-call-smaller
 loop-call-smaller g c =
@@ -18,7 +18,7 @@ loop-call-preserved g c =
     let on : c.loop-call.call.stage ≢ wait.Finished = search rules in
     let range = made_in_range c.loop-call.events c.wait_access.new.events c.args.event c.loop-call.call c.wait_access.new.call _ c.in-Some.progress c.in-Some.ensures.0 c.loop-call.invariant.1.try c.in-Some.ensures.1 in (
       c.hand_over.ensures.callable,
-      all_goes_on (λ p x q. goal.F-step g p x tt q) c.args.callback c.loop-call.callback c.hand_over.new.callback c.args.kind c.args.max c.args.event c.args.events.now c.loop-call.events c.wait_access.new.events
+      all_goes_on (λ p x q. goal.F-step g p x tt q) c.args.callback.now c.loop-call.callback c.hand_over.new.callback c.args.kind c.args.max c.args.event c.args.events.now c.loop-call.events c.wait_access.new.events
           c.loop-call.call c.wait_access.new.call c.in-Some.progress c.in-Some.ensures.0 c.loop-call.invariant.1 on c.in-Some.ensures.1 (c.hand_over.ensures.calls range),
     )
 
@@ -26,16 +26,16 @@ pub returns-in_default-clause-calls : goal.returns-in_default-clause-calls
 returns-in_default-clause-calls g c = λ e here. (
     let on : c.loop-call.call.stage ≢ wait.Finished = search rules in
     let refused = not_taken c.loop-call.events c.wait_access.new.events c.args.event c.loop-call.call c.wait_access.new.call c.wait_access.result c.wait_access.ensures c.in_default.not-Some in
-    absurd (all_kept_from (λ p x q. goal.F-step g p x tt q) c.args.callback c.loop-call.callback c.args.kind c.args.max c.args.event c.args.events.now c.loop-call.events c.loop-call.call c.loop-call.invariant.1 on refused.0 e here))
+    absurd (all_kept_from (λ p x q. goal.F-step g p x tt q) c.args.callback.now c.loop-call.callback c.args.kind c.args.max c.args.event c.args.events.now c.loop-call.events c.loop-call.call c.loop-call.invariant.1 on refused.0 e here))
 
 pub returns-in_default-clause-after : goal.returns-in_default-clause-after
 returns-in_default-clause-after g c = λ e here. (
     let on : c.loop-call.call.stage ≢ wait.Finished = search rules in
     let refused = not_taken c.loop-call.events c.wait_access.new.events c.args.event c.loop-call.call c.wait_access.new.call c.wait_access.result c.wait_access.ensures c.in_default.not-Some in
-    absurd (all_kept_from (λ p x q. goal.F-step g p x tt q) c.args.callback c.loop-call.callback c.args.kind c.args.max c.args.event c.args.events.now c.loop-call.events c.loop-call.call c.loop-call.invariant.1 on refused.0 e here))
+    absurd (all_kept_from (λ p x q. goal.F-step g p x tt q) c.args.callback.now c.loop-call.callback c.args.kind c.args.max c.args.event c.args.events.now c.loop-call.events c.loop-call.call c.loop-call.invariant.1 on refused.0 e here))
 
 pub returns-clause-calls : goal.returns-clause-calls
-returns-clause-calls g c = all_called (λ p x q. goal.F-step g p x tt q) c.args.callback c.loop-call.callback c.args.kind c.args.max c.args.event c.args.events.now c.loop-call.events c.loop-call.call c.loop-call.invariant.1 (search rules)
+returns-clause-calls g c = all_called (λ p x q. goal.F-step g p x tt q) c.args.callback.now c.loop-call.callback c.args.kind c.args.max c.args.event c.args.events.now c.loop-call.events c.loop-call.call c.loop-call.invariant.1 (search rules)
 
 pub returns-clause-after : goal.returns-clause-after
-returns-clause-after g c = all_ends (λ p x q. goal.F-step g p x tt q) c.args.callback c.loop-call.callback c.args.kind c.args.max c.args.event c.args.events.now c.loop-call.events c.loop-call.call c.loop-call.invariant.1 (search rules)
+returns-clause-after g c = all_ends (λ p x q. goal.F-step g p x tt q) c.args.callback.now c.loop-call.callback c.args.kind c.args.max c.args.event c.args.events.now c.loop-call.events c.loop-call.call c.loop-call.invariant.1 (search rules)

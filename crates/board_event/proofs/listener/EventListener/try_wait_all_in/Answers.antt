@@ -5,4 +5,4 @@ use Rattle.board_event.proofs.listener.EventListener.try_wait_all_in.Goals as go
 pub returns-clause-calls : goal.returns-clause-calls
 returns-clause-calls g c =
     moved (λ k end t. OnEventAt k end.max end.event t (IsCalledOnAll (goal.F-step g) c.args.callback k)) c.kind.result g.K.KindOfEvents.which _ c.args.self.now c.state.inside.events c.args.state.now c.kind.ensures c.self.view_is c.state.view_is
-    c.take_all.ensures.calls
+    (λ e here. (let calls = c.take_all.ensures.calls e here in (calls.0, calls.1, c.take_all.new.callback, calls.2)))

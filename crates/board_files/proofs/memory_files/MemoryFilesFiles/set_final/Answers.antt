@@ -9,9 +9,11 @@ pub returns-in_err-begin-clause-counts : goal.returns-in_err-begin-clause-counts
 returns-in_err-begin-clause-counts c =
     let is : c.from_residual.result ≡ Err Failed = search rules in
     counts-failed (counts_of c.args.self.now) (counts_of c.begin.new.self) c.from_residual.result is c.in_err-begin.ensures.risen (ap (λ m. m.short_writes) c.in_err-begin.ensures.err)
+    (ap (λ m. m.calls) c.in_err-begin.ensures.err)
 
 pub returns-then-not-holds-clause-counts : goal.returns-then-not-holds-clause-counts
 returns-then-not-holds-clause-counts c =
     let risen = subst (λ n. HasRisen n c.fault.new.self.faults) (ap (λ m. m.faults) c.in_ok-begin.ensures.ok) c.fault.ensures.risen in
     counts-failed (counts_of c.args.self.now) (counts_of c.fault.new.self) (Err c.fault.result) (ap Err c.fault.ensures.error) risen
     (ap (λ m. m.short_writes) c.fault.ensures.after ∙ ap (λ m. m.short_writes) c.in_ok-begin.ensures.ok)
+    (ap (λ m. m.calls) c.fault.ensures.after ∙ ap (λ m. m.calls) c.in_ok-begin.ensures.ok)

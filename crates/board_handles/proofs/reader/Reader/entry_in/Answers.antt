@@ -4,7 +4,7 @@ use Rattle.board_layout.specs.Keys.{is_key}
 use Rattle.board_service.specs.declared.made.Made.{Made}
 use Rattle.board_service.specs.Domain.{held}
 use Rattle.board_handles.specs.LentForms as lent
-use Rattle.board_handles.proofs.LentLemmas.{ok_is_no_refusal, read_stands, read_undone}
+use Rattle.board_handles.proofs.LentLemmas.{ok_is_no_refusal, no_refusal, read_was_asked, read_stands, read_undone}
 use Rattle.board_handles.proofs.reader.Reader.entry_in.Goals as goal
 
 pub release-requires : goal.release-requires
@@ -27,3 +27,25 @@ returns-in-Err-read_handle_of-clause-answer g c = λ not_memory.
     c.in-Ok.found c.in-Err-read_handle_of.why c.entry.new.self c.is_held.result
     c.new-value.ensures (ap (λ (m : Made). m.thing) c.self.view_is) c.board_of-board.ensures.value c.is_held.ensures.value stands
     (c.in-Ok.ensures.answer (ok_is_no_refusal _ _)) c.in-Ok.ensures.ok (c.in-Err-read_handle_of.ensures.answer not_memory)
+
+pub returns-in-Ok-read_handle_of-clause-stays : goal.returns-in-Ok-read_handle_of-clause-stays
+returns-in-Ok-read_handle_of-clause-stays g c = λ refused.
+    let K = g.K.ZeroCopySend in
+    let V = g.V.ZeroCopySend in
+    let stands : c.is_held.result ≡ true = search rules in
+    absurd (no_refusal _ c.in-Ok.found
+    (read_was_asked c.args.state.now.tables (details K.type_bytes K.SIZE K.ALIGNMENT) c.new-value.result (details V.type_bytes V.SIZE V.ALIGNMENT)
+    (is_key g.K.PartialEq.eq K.value_of K.SIZE K.WORDS c.args.key.now) V.WORDS c.self.inside.made.thing c.args.self.now.thing c.in-Ok.found c.is_held.result
+    c.new-value.ensures (ap (λ (m : Made). m.thing) c.self.view_is) c.is_held.ensures.value stands
+    (c.in-Ok.ensures.answer (ok_is_no_refusal _ _))) refused)
+
+pub returns-in-Err-read_handle_of-clause-stays : goal.returns-in-Err-read_handle_of-clause-stays
+returns-in-Err-read_handle_of-clause-stays g c = λ refused.
+    let K = g.K.ZeroCopySend in
+    let V = g.V.ZeroCopySend in
+    let stands : c.is_held.result ≡ true = search rules in
+    absurd (no_refusal _ c.in-Ok.found
+    (read_was_asked c.args.state.now.tables (details K.type_bytes K.SIZE K.ALIGNMENT) c.new-value.result (details V.type_bytes V.SIZE V.ALIGNMENT)
+    (is_key g.K.PartialEq.eq K.value_of K.SIZE K.WORDS c.args.key.now) V.WORDS c.self.inside.made.thing c.args.self.now.thing c.in-Ok.found c.is_held.result
+    c.new-value.ensures (ap (λ (m : Made). m.thing) c.self.view_is) c.is_held.ensures.value stands
+    (c.in-Ok.ensures.answer (ok_is_no_refusal _ _))) refused)

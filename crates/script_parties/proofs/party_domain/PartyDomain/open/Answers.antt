@@ -1,52 +1,21 @@
-use Rattle.std.proofs.Common.{rules, ◌≢◌, List, [], ◌∷◌, ◌++◌, sym, ap, ◌∙◌, subst}
-use Rattle.board_model.specs.declared.answer.Reply.TheVariants as reply
-use Rattle.board_names.specs.declared.errors.boards.BlackboardOpenError.TheVariants as open_error
-use Rattle.board_model.specs.Things.{Held}
-use Rattle.board_model.specs.TypeTable.{key_detail}
-use Rattle.script_parties.specs.Named.{IsNamed, node_number, nodes_with}
-use Rattle.script_parties.specs.Parties.{IsFew, IsOpen}
-use Rattle.script_parties.proofs.Asked.{carried}
-use Rattle.script_parties.proofs.BoardNames.{service_name}
-use Rattle.script_parties.proofs.Openings.{IsOpened, factory_of, open_made, open_not_made}
-use Rattle.script_parties.proofs.Ports.{shown}
+use Rattle.std.proofs.Common.{ap, sym, subst, ◌∙◌}
+use Rattle.std.specs.Prelude.{IfOk}
+use Rattle.board_model.specs.declared.attributes.Requirements.{Requirements}
+use Rattle.script_parties.specs.Parties.{IsOpen}
+use Rattle.script_parties.specs.Refusals.{open_refusal}
+use Rattle.script_parties.proofs.Refused.{anyway, open_refused}
 use Rattle.script_parties.proofs.party_domain.PartyDomain.open.Goals as goal
 
-pub from_text-name-requires : goal.from_text-name-requires
-from_text-name-requires g c = service_name c.args.name c.requires.name
-
-pub invariant_of-self-in-Ok : goal.invariant_of-self-in-Ok
-invariant_of-self-in-Ok g c =
-    let s = c.self.inside in
-    let o : IsOpened c.args.party c.args.name c.args.needs.now s.nodes.items c.node_for.result c.from_text-name.result c.in_ok-needs.needs =
-    record { node_is = c.node_for.ensures ∙ ap (λ ns. node_number c.args.party ns) (c.deref.ensures.value ∙ c.reserve.ensures.items); title_is = c.from_text-name.ensures; wanted_is = c.in_ok-needs.ensures } in
-    let new = factory_of c.args.party c.args.factory c.in-Ok.made.number in
-    let both = open_made g.C.Words.list s.nodes.items s.numbers.items s.things.items s.core c.open_in.new.core c.args.party c.args.factory c.args.name (key_detail c.args.key_type) c.args.limits c.args.needs.now
-    c.node_for.result c.from_text-name.result c.in_ok-needs.needs c.in-Ok.made c.self.invariant o c.in-Ok.ensures.answer c.in-Ok.ensures.ok in
-    let named = carried (λ ns xs. IsNamed (nodes_with c.args.party s.nodes.items) ns xs c.open_in.new.core) (s.numbers.items ++ c.in-Ok.made.thing ∷ []) c.push_reserved-in-Ok.new.self.items (s.things.items ++ new ∷ []) c.push_reserved.new.self.items
-    (sym (c.push_reserved-in-Ok.ensures.items ∙ ap (λ ns. ns ++ c.in-Ok.made.thing ∷ []) c.reserve-3.ensures.items))
-    (c.push_reserved.ensures.items ∙ ap (λ (xs : List Held). xs ++ new ∷ []) c.reserve-2.ensures.items) both.1 in
-    subst (λ ps. IsNamed ps c.push_reserved-in-Ok.new.self.items c.push_reserved.new.self.items c.open_in.new.core) (sym (c.join.ensures ∙ ap (λ ps. nodes_with c.args.party ps) c.reserve.ensures.items)) named
-
-pub returns-in-Ok-clause-asked : goal.returns-in-Ok-clause-asked
-returns-in-Ok-clause-asked g c =
-    let s = c.self.inside in
-    let o : IsOpened c.args.party c.args.name c.args.needs.now s.nodes.items c.node_for.result c.from_text-name.result c.in_ok-needs.needs =
-    record { node_is = c.node_for.ensures ∙ ap (λ ns. node_number c.args.party ns) (c.deref.ensures.value ∙ c.reserve.ensures.items); title_is = c.from_text-name.ensures; wanted_is = c.in_ok-needs.ensures } in
-    let new = factory_of c.args.party c.args.factory c.in-Ok.made.number in
-    let both = open_made g.C.Words.list s.nodes.items s.numbers.items s.things.items s.core c.open_in.new.core c.args.party c.args.factory c.args.name (key_detail c.args.key_type) c.args.limits c.args.needs.now
-    c.node_for.result c.from_text-name.result c.in_ok-needs.needs c.in-Ok.made c.self.invariant o c.in-Ok.ensures.answer c.in-Ok.ensures.ok in
-    carried (λ now xs. IsOpen now (shown g.C.Words.list c.open_in.new.core xs) c.args.party c.args.factory c.args.name c.args.key_type c.args.limits c.args.needs.now (reply.Number c.in-Ok.made.number))
-    (shown g.C.Words.list s.core s.things.items) c.args.self.now (s.things.items ++ new ∷ []) c.push_reserved.new.self.items
-    c.self.view_is (c.push_reserved.ensures.items ∙ ap (λ (xs : List Held). xs ++ new ∷ []) c.reserve-2.ensures.items) both.0
+pub returns-in-Some-clause-asked : goal.returns-in-Some-clause-asked
+returns-in-Some-clause-asked g c =
+    let why = c.open_refusal.ensures ∙ ap (λ (needs : Requirements). open_refusal c.args.self.now c.args.party c.args.name c.args.key_type c.args.limits needs) c.needs_for-needs.ensures in
+    open_refused c.args.self.now c.args.party c.args.factory c.args.name c.args.key_type c.args.limits c.args.needs c.in-Some.why (sym why ∙ c.in-Some.is)
 
 pub returns-clause-asked : goal.returns-clause-asked
 returns-clause-asked g c =
-    let s = c.self.inside in
-    let o : IsOpened c.args.party c.args.name c.args.needs.now s.nodes.items c.node_for.result c.from_text-name.result c.in_ok-needs.needs =
-    record { node_is = c.node_for.ensures ∙ ap (λ ns. node_number c.args.party ns) (c.deref.ensures.value ∙ c.reserve.ensures.items); title_is = c.from_text-name.ensures; wanted_is = c.in_ok-needs.ensures } in
-    let few = subst (λ p. IsFew p) (sym c.self.view_is) c.requires.few in
-    let memory : c.in-Err.why ≢ open_error.OutOfMemory = search rules in
-    carried (λ now xs. IsOpen now (shown g.C.Words.list c.open_in.new.core xs) c.args.party c.args.factory c.args.name c.args.key_type c.args.limits c.args.needs.now (reply.OpenError c.in-Err.why))
-    (shown g.C.Words.list s.core s.things.items) c.args.self.now s.things.items c.reserve-2.new.self.items c.self.view_is c.reserve-2.ensures.items
-    (open_not_made g.C.Words.list s.nodes.items s.numbers.items s.things.items s.core c.open_in.new.core c.args.party c.args.factory c.args.name (key_detail c.args.key_type) c.args.limits c.args.needs.now
-    c.node_for.result c.from_text-name.result c.in_ok-needs.needs c.in-Err.why c.self.invariant o few.things memory c.in-Err.ensures.answer c.in-Err.ensures.err)
+    subst (λ (needs : Requirements). IfOk c.add_factory.result (IsOpen c.args.self.now c.add_factory.new.self c.args.party c.args.factory c.args.name c.args.key_type c.args.limits needs)) c.needs_for-needs.ensures c.add_factory.ensures.asked
+
+pub returns-clause-memory : goal.returns-clause-memory
+returns-clause-memory g c =
+    let why = c.open_refusal.ensures ∙ ap (λ (needs : Requirements). open_refusal c.args.self.now c.args.party c.args.name c.args.key_type c.args.limits needs) c.needs_for-needs.ensures in
+    anyway c.add_factory.result _ (sym why ∙ c.in-None.is)

@@ -1,0 +1,41 @@
+//! What a caller knows of a table that it is lent, and did not follow from `new`.
+ghost use Rattle.std.specs.Prelude.{◌≡◌, IsFalse, IsSome, IsTrue, None};
+ghost use Rattle.board_event_core.specs.EventTable.{event_at};
+
+use super::{Deed, full_name, tell};
+use crate::{EventKind, Events, table_stands};
+
+/// Whether nobody holds an event under this number. Then none stands there.
+fn is_unheld(events: &Events, event: u64) -> bool
+    ensures { IsTrue result → event_at events.now event ≡ None }
+{
+    table_stands(events);
+    !events.has_listener(event) && !events.has_notifier(event)
+}
+
+/// Lets the last holder of an event go, where its listener is the last, and tells whether it was. The event goes with it.
+fn last_goes(events: &mut Events, event: u64) -> bool
+    requires { IsSome (event_at events.old event) }
+    ensures gone { IsTrue result → event_at events.new event ≡ None }
+    ensures stays { IsFalse result → events.new ≡ events.old }
+{
+    table_stands(events);
+    if events.has_notifier(event) {
+        return false;
+    }
+    events.release_listener(event);
+    true
+}
+
+#[test]
+fn a_number_without_ends_has_no_event(rt: HostRuntime) {
+    let mut events = Events::new(rt.alloc());
+    let name = full_name(&rt, b"ev");
+    assert!(rt; is_unheld(&events, 1));
+    let _ = tell(&mut events, &name, Deed::Listen(EventKind::Bits, 63));
+    assert!(rt; !is_unheld(&events, 1));
+    if events.has_listener(1) {
+        assert!(rt; last_goes(&mut events, 1));
+    }
+    assert!(rt; is_unheld(&events, 1));
+}

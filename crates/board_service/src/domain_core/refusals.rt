@@ -1,0 +1,133 @@
+//! Why a call would be refused, for callers that keep lists of their own beside the core. None of these takes memory.
+ghost use Rattle.std.specs.Prelude.{◌≡◌, true};
+ghost use Rattle.std.specs.List.{list_any};
+ghost use Rattle.board_layout.specs.Keys.{is_key};
+ghost use Rattle.board_layout.specs.Bytes.{details};
+ghost use Rattle.board_model.specs.TableCalls.{first_of};
+ghost use Rattle.board_model.specs.Tables as tables;
+ghost use Rattle.board_service.specs.Domain as domain;
+
+use super::DomainCore;
+use crate::cells::Cells;
+use crate::counts::has_write_handle;
+use crate::ids::{NodeId, ThingId};
+use crate::lookups::{find_entry, has_all_readers, has_all_writers, thing_of};
+use crate::refusals::{LAST, has_name, open_refusal};
+use board_concepts::AttributeVerifier;
+use board_layout::{BoardKey, TypeDetail, TypeVariant};
+use board_model::{Limits, ThingKind};
+use board_names::{
+    BlackboardOpenError, EntryHandleError, EntryHandleMutError, ReaderCreateError, ServiceName,
+    WriterCreateError,
+};
+
+impl<C: Cells> DomainCore<C> {
+    /// Whether a board of this name stands.
+    pub fn has_board(&self, name: &ServiceName) -> bool
+        ensures { result ≡ list_any (tables.has_name name.now) self.now.tables.boards }
+    {
+        has_name(name, &self.boards)
+    }
+
+    /// Why `open` would be refused, want of memory aside.
+    pub fn open_refusal<K: BoardKey>(
+        &self,
+        node: NodeId,
+        name: &ServiceName,
+        limits: Limits,
+        verifier: &AttributeVerifier,
+    ) -> Option<BlackboardOpenError>
+        ensures { result ≡ first_of (domain.open_list self.now node name.now
+            (details K.type_bytes K.SIZE K.ALIGNMENT) limits verifier.now) }
+    {
+        let key = TypeDetail::new::<K>(TypeVariant::FixedSize);
+        open_refusal(
+            node,
+            name,
+            &key,
+            &limits,
+            verifier,
+            &self.boards,
+            &self.things,
+            self.last_thing,
+        )
+    }
+
+    /// Why `reader` would be refused, want of memory aside.
+    pub fn reader_refusal(&self, factory: ThingId) -> Option<ReaderCreateError>
+        requires { domain.Stands self.now factory }
+        ensures { result ≡ first_of (domain.reader_list self.now (domain.held self.now factory)) }
+    {
+        let of = thing_of(factory, &self.things);
+        if has_all_readers(of.board, &self.boards, &self.things) {
+            return Some(ReaderCreateError::ExceedsMaxSupportedReaders);
+        }
+        if self.last_port >= LAST || self.last_thing >= LAST {
+            return Some(ReaderCreateError::NumbersSpent);
+        }
+        None
+    }
+
+    /// Why `writer` would be refused, want of memory aside.
+    pub fn writer_refusal(&self, factory: ThingId) -> Option<WriterCreateError>
+        requires { domain.Stands self.now factory }
+        ensures { result ≡ first_of (domain.writer_list self.now (domain.held self.now factory)) }
+    {
+        let of = thing_of(factory, &self.things);
+        if has_all_writers(of.board, &self.boards, &self.things) {
+            return Some(WriterCreateError::ExceedsMaxSupportedWriters);
+        }
+        if self.last_port >= LAST || self.last_thing >= LAST {
+            return Some(WriterCreateError::NumbersSpent);
+        }
+        None
+    }
+
+    /// Why `entry` would be refused, want of memory aside.
+    pub fn entry_refusal<K: BoardKey>(
+        &self,
+        reader: ThingId,
+        key: &K,
+        value: &TypeDetail,
+    ) -> Option<EntryHandleError>
+        requires { domain.stands_as self.now (details K.type_bytes K.SIZE K.ALIGNMENT) reader
+            ThingKind.Reader ≡ true }
+        ensures { result ≡ first_of (domain.entry_list self.now (domain.entry_of_thing self.now
+            reader (is_key K.eq K.value_of K.SIZE K.WORDS key.now) value.now)) }
+    {
+        let of = thing_of(reader, &self.things);
+        let Some((_entry, _found)) = find_entry::<K>(of.board, key, value, &self.boards) else {
+            return Some(EntryHandleError::EntryDoesNotExist);
+        };
+        if self.last_thing >= LAST {
+            return Some(EntryHandleError::NumbersSpent);
+        }
+        None
+    }
+
+    /// Why `entry_mut` would be refused, want of memory aside.
+    pub fn entry_mut_refusal<K: BoardKey>(
+        &self,
+        writer: ThingId,
+        key: &K,
+        value: &TypeDetail,
+    ) -> Option<EntryHandleMutError>
+        requires { domain.stands_as self.now (details K.type_bytes K.SIZE K.ALIGNMENT) writer
+            ThingKind.Writer ≡ true }
+        ensures { result ≡ first_of (domain.entry_mut_list self.now (domain.held self.now writer)
+            (domain.entry_of_thing self.now writer
+            (is_key K.eq K.value_of K.SIZE K.WORDS key.now) value.now)) }
+    {
+        let of = thing_of(writer, &self.things);
+        let Some((entry, _found)) = find_entry::<K>(of.board, key, value, &self.boards) else {
+            return Some(EntryHandleMutError::EntryDoesNotExist);
+        };
+        if has_write_handle(of.board, entry, &self.things) {
+            return Some(EntryHandleMutError::HandleAlreadyExists);
+        }
+        if self.last_thing >= LAST {
+            return Some(EntryHandleMutError::NumbersSpent);
+        }
+        None
+    }
+}

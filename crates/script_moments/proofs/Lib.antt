@@ -1,0 +1,16 @@
+pub mod ChainLemmas
+pub mod WalkLemmas
+pub mod GetWalks
+pub mod RoundLemmas
+pub mod VectorLemmas
+pub mod BetweenLemmas
+pub mod CountLemmas
+pub mod SessionLemmas
+pub mod LineLemmas
+pub mod ReportLemmas
+pub mod WatchLemmas
+pub mod WatcherLineLemmas
+pub mod WorkedWatcher
+pub mod TurnLemmas
+pub mod WaitLemmas
+pub mod TakeLemmas

@@ -1,0 +1,14 @@
+pub mod Moments
+pub mod Gets
+pub mod Snapshots
+pub mod LawsOfSnapshots
+pub mod SnapshotLines
+pub mod WorkedSnapshots
+pub mod OneRound
+pub mod Reports
+pub mod LawsOfReports
+pub mod Watchers
+pub mod LawsOfWatchers
+pub mod WatcherLines
+pub mod LawsOfTurns
+pub mod WorkedWatchers

@@ -1,0 +1,16 @@
+//! What follows from lawful sessions for a party that is driven: snapshots of several entries, and watchers on ids and values.
+//!
+//! A program that feeds a party its lines needs no proof about the machine that answers them. It keeps, line by line, what the
+//! party's own lines have been, and the laws here give the rest: that a snapshot is that of one moment, and how many steps it
+//! may take; that the reports of a watcher rise, are items of their lists, and miss nothing that was notified.
+//!
+//! Begin with `specs/Moments`: the pairs of a session with the state that each met, and a party's own. `Gets` has gets and
+//! rounds of them, `Snapshots` and `Watchers` what a party does in turns, `SnapshotLines` and `WatcherLines` how that goes on
+//! by one line more, and `LawsOfTurns` how the next line is answered. The laws are public functions without a body.
+#![tactic(auto)]
+
+pub mod snapshot_laws;
+pub mod turn_laws;
+pub mod watcher_laws;
+pub mod worked_snapshots;
+pub mod worked_watchers;

@@ -1,0 +1,236 @@
+//! What the calls make, where nothing refuses them and memory is given.
+ghost use Rattle.std.specs.Prelude.{◌≡◌, true, IfOk, OnErr};
+ghost use Rattle.board_model.specs.LineGrammar.{is_board_name};
+ghost use Rattle.board_model.specs.Tables as tables;
+ghost use Rattle.script_parties.specs.Parties.{IsCreate, IsEntry, IsEntryMut, IsFew, IsOpen, IsReader, IsWriter, IsStandingThing};
+ghost use Rattle.script_parties.specs.Shown.{HasKeyType};
+
+use super::PartyDomain;
+use crate::adding::entries_for;
+use crate::lookups::{Held, join, keep, node_for, number_of};
+use crate::typed_calls::{create_in, entry_in, entry_mut_in, open_in};
+use board_concepts::{AttributeSet, AttributeVerifier};
+use board_layout::Text;
+use board_model::{
+    AddedEntries, Key, KeyType, Kind, Limits, Name, NewLimits, Reply, Thing, ThingKind, ValueType,
+    value_detail,
+};
+use board_names::{
+    BlackboardCreateError, BlackboardOpenError, EntryHandleError, EntryHandleMutError,
+    ReaderCreateError, ServiceName, WriterCreateError,
+};
+use board_service::{BoardWords, NodeId, port_of};
+use std::alloc::AllocError;
+
+impl<C: BoardWords + Drop> PartyDomain<C> {
+    /// The same as `create`, but want of memory may come in place of a refusal.
+    pub(super) fn add_board(
+        &mut self,
+        party: Name,
+        factory: Name,
+        name: Text<255>,
+        key_type: KeyType,
+        limits: NewLimits,
+        attributes: AttributeSet,
+        entries: &AddedEntries,
+    ) -> Result<Reply, AllocError>
+        requires few { IsFew self.old }
+        requires name { is_board_name name ≡ true }
+        ensures asked { IfOk result (IsCreate self.old self.new party factory name key_type limits
+            attributes entries.now) }
+        ensures err { OnErr result (self.new ≡ self.old) }
+    {
+        let entries = entries_for(self.alloc, entries.as_slice())?;
+        self.nodes.reserve(1)?;
+        self.things.reserve(1)?;
+        self.numbers.reserve(1)?;
+        let node = NodeId(node_for(&party, &self.nodes));
+        let name = ServiceName::from_text(name);
+        match create_in(
+            &mut self.core,
+            key_type,
+            node,
+            &name,
+            limits,
+            attributes,
+            entries,
+        ) {
+            Ok(made) => {
+                join(party, &mut self.nodes);
+                let thing = Thing {
+                    holder: party,
+                    name: factory,
+                    board: made.number,
+                    kind: Kind::Factory,
+                };
+                keep(thing, made.thing, &mut self.things, &mut self.numbers);
+                Ok(Reply::Number(made.number))
+            }
+            Err(BlackboardCreateError::OutOfMemory) => Err(AllocError),
+            Err(why) => Ok(Reply::CreateError(why)),
+        }
+    }
+
+    /// The same as `open`, but want of memory may come in place of a refusal.
+    pub(super) fn add_factory(
+        &mut self,
+        party: Name,
+        factory: Name,
+        name: Text<255>,
+        key_type: KeyType,
+        limits: Limits,
+        needs: &AttributeVerifier,
+    ) -> Result<Reply, AllocError>
+        requires few { IsFew self.old }
+        requires name { is_board_name name ≡ true }
+        ensures asked { IfOk result (IsOpen self.old self.new party factory name key_type limits
+            needs.now) }
+        ensures err { OnErr result (self.new ≡ self.old) }
+    {
+        self.nodes.reserve(1)?;
+        self.things.reserve(1)?;
+        self.numbers.reserve(1)?;
+        let node = NodeId(node_for(&party, &self.nodes));
+        let name = ServiceName::from_text(name);
+        match open_in(&mut self.core, key_type, node, &name, limits, needs) {
+            Ok(made) => {
+                join(party, &mut self.nodes);
+                let thing = Thing {
+                    holder: party,
+                    name: factory,
+                    board: made.number,
+                    kind: Kind::Factory,
+                };
+                keep(thing, made.thing, &mut self.things, &mut self.numbers);
+                Ok(Reply::Number(made.number))
+            }
+            Err(BlackboardOpenError::OutOfMemory) => Err(AllocError),
+            Err(why) => Ok(Reply::OpenError(why)),
+        }
+    }
+
+    /// The same as `reader`, but want of memory may come in place of a refusal.
+    pub(super) fn add_reader(&mut self, name: Name, factory: &Held) -> Result<Reply, AllocError>
+        requires few { IsFew self.old }
+        requires stands { IsStandingThing self.old factory.now }
+        ensures asked { IfOk result (IsReader self.old self.new name factory.now) }
+        ensures err { OnErr result (self.new ≡ self.old) }
+    {
+        self.things.reserve(1)?;
+        self.numbers.reserve(1)?;
+        let number = number_of(factory, &self.things, &self.numbers);
+        match self.core.reader(number) {
+            Ok(made) => {
+                let thing = Thing {
+                    holder: factory.holder,
+                    name,
+                    board: factory.board,
+                    kind: Kind::Reader { port: made.number },
+                };
+                keep(thing, made.thing, &mut self.things, &mut self.numbers);
+                Ok(Reply::Number(made.number))
+            }
+            Err(ReaderCreateError::OutOfMemory) => Err(AllocError),
+            Err(why) => Ok(Reply::ReaderError(why)),
+        }
+    }
+
+    /// The same as `writer`, but want of memory may come in place of a refusal.
+    pub(super) fn add_writer(&mut self, name: Name, factory: &Held) -> Result<Reply, AllocError>
+        requires few { IsFew self.old }
+        requires stands { IsStandingThing self.old factory.now }
+        ensures asked { IfOk result (IsWriter self.old self.new name factory.now) }
+        ensures err { OnErr result (self.new ≡ self.old) }
+    {
+        self.things.reserve(1)?;
+        self.numbers.reserve(1)?;
+        let number = number_of(factory, &self.things, &self.numbers);
+        match self.core.writer(number) {
+            Ok(made) => {
+                let thing = Thing {
+                    holder: factory.holder,
+                    name,
+                    board: factory.board,
+                    kind: Kind::Writer { port: made.number },
+                };
+                keep(thing, made.thing, &mut self.things, &mut self.numbers);
+                Ok(Reply::Number(made.number))
+            }
+            Err(WriterCreateError::OutOfMemory) => Err(AllocError),
+            Err(why) => Ok(Reply::WriterError(why)),
+        }
+    }
+
+    /// The same as `entry`, but want of memory may come in place of a refusal.
+    pub(super) fn add_read_handle(
+        &mut self,
+        name: Name,
+        reader: &Held,
+        key: &Key,
+        value_type: ValueType,
+    ) -> Result<Reply, AllocError>
+        requires few { IsFew self.old }
+        requires stands { IsStandingThing self.old reader.now }
+        requires kind { tables.kind_of reader.now.kind ≡ ThingKind.Reader }
+        requires key { HasKeyType self.old reader.now key.now }
+        ensures asked { IfOk result (IsEntry self.old self.new name reader.now key.now
+            value_type) }
+        ensures err { OnErr result (self.new ≡ self.old) }
+    {
+        self.things.reserve(1)?;
+        self.numbers.reserve(1)?;
+        let number = number_of(reader, &self.things, &self.numbers);
+        match entry_in(&mut self.core, number, key, &value_detail(value_type)) {
+            Ok(found) => {
+                let thing = Thing {
+                    holder: reader.holder,
+                    name,
+                    board: reader.board,
+                    kind: Kind::ReadHandle { entry: found.entry },
+                };
+                keep(thing, found.thing, &mut self.things, &mut self.numbers);
+                Ok(Reply::Number(found.place))
+            }
+            Err(EntryHandleError::OutOfMemory) => Err(AllocError),
+            Err(why) => Ok(Reply::EntryError(why)),
+        }
+    }
+
+    /// The same as `entry_mut`, but want of memory may come in place of a refusal.
+    pub(super) fn add_write_handle(
+        &mut self,
+        name: Name,
+        writer: &Held,
+        key: &Key,
+        value_type: ValueType,
+    ) -> Result<Reply, AllocError>
+        requires few { IsFew self.old }
+        requires stands { IsStandingThing self.old writer.now }
+        requires kind { tables.kind_of writer.now.kind ≡ ThingKind.Writer }
+        requires key { HasKeyType self.old writer.now key.now }
+        ensures asked { IfOk result (IsEntryMut self.old self.new name writer.now key.now
+            value_type) }
+        ensures err { OnErr result (self.new ≡ self.old) }
+    {
+        self.things.reserve(1)?;
+        self.numbers.reserve(1)?;
+        let number = number_of(writer, &self.things, &self.numbers);
+        match entry_mut_in(&mut self.core, number, key, &value_detail(value_type)) {
+            Ok(found) => {
+                let thing = Thing {
+                    holder: writer.holder,
+                    name,
+                    board: writer.board,
+                    kind: Kind::WriteHandle {
+                        entry: found.entry,
+                        port: port_of(&writer.kind),
+                    },
+                };
+                keep(thing, found.thing, &mut self.things, &mut self.numbers);
+                Ok(Reply::Number(found.place))
+            }
+            Err(EntryHandleMutError::OutOfMemory) => Err(AllocError),
+            Err(why) => Ok(Reply::EntryMutError(why)),
+        }
+    }
+}
