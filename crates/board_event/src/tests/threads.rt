@@ -62,6 +62,60 @@ fn three_ids_of_a_queue_come_from_another_thread(rt: HostRuntime) {
     assert_eq!(rt; three_between(&rt, ends), 123);
 }
 
+/// Hands each id on to the other thread and waits until it is back. Tells how many were.
+fn sends<R: Wait, N: Notifier, L: Listener>(rt: &R, there: &N, back: &L, count: usize) -> usize {
+    let mut right = 0usize;
+    for number in 0..count {
+        let id = TriggerId::new(number);
+        if there.notify(rt, id).is_ok() && back.blocking_wait_one(rt) == Ok(Some(id)) {
+            right = right.saturating_add(1);
+        }
+    }
+    right
+}
+
+/// Hands back each id that comes.
+fn returns<R: Wait, N: Notifier, L: Listener>(rt: &R, here: L, back: N, count: usize) {
+    for _ in 0..count {
+        if let Ok(Some(id)) = here.blocking_wait_one(rt) {
+            let _ = back.notify(rt, id);
+        }
+    }
+    here.release(rt);
+    back.release(rt);
+}
+
+/// An id goes to another thread by one event and comes back by another, so one thread always waits for the other.
+fn back_between<R: Threads + Wait + Abort + Sync, K: KindOfEvents + Drop + Send + Sync + 'static>(
+    rt: &R,
+    there: Ends<K>,
+    back: Ends<K>,
+    count: usize,
+) -> usize {
+    let (here, returner) = (there.listener, back.notifier);
+    let (sender, end) = (there.notifier, back.listener);
+    let ((), right) = thread::join(
+        rt,
+        move || returns(rt, here, returner, count),
+        || sends(rt, &sender, &end, count),
+    );
+    right
+}
+
+#[test]
+fn a_hundred_ids_of_sets_come_back(rt: HostRuntime) {
+    let there: Ends<SetOfIds> = make_ends(&rt, rt.alloc(), 127);
+    let back: Ends<SetOfIds> = make_ends(&rt, rt.alloc(), 127);
+    assert_eq!(rt; back_between(&rt, there, back, 100), 100);
+}
+
+#[test]
+fn a_hundred_ids_of_queues_come_back(rt: HostRuntime) {
+    let there: Ends<QueueOfIds> = make_ends(&rt, rt.alloc(), 0);
+    let back: Ends<QueueOfIds> = make_ends(&rt, rt.alloc(), 0);
+    assert_eq!(rt; back_between(&rt, there, back, 100), 100);
+}
+
 /// How many ids came in their order, until as many came as were sent.
 fn in_order<R: Wait, L: Listener>(rt: &R, listener: &L, last: usize) -> usize {
     let (mut came, mut right) = (0usize, 0usize);
