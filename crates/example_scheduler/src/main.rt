@@ -24,13 +24,15 @@ const STEPS: u64 = 5;
 
 type Table = PortFactory<u64, Shared>;
 
+type Changes = EventListener<QueueOfIds>;
+
 fn make_table<R: Wait>(rt: &R, alloc: Global) -> Result<Table> {
     let domain = Domain::new(alloc)?;
     let node = Node::new(rt, &domain, NodeName::new("scheduler")?)?;
     let service = node.service_builder(&ServiceName::new("tasks")?)?;
     let creator = service.blackboard_creator::<u64, Shared>(alloc);
-    let creator = creator.max_writers(2).add(1, STEPS)?;
-    Ok(creator.add(2, STEPS)?.create(rt)?)
+    let creator = creator.max_writers(2).add(1, STEPS)?.add(2, STEPS)?;
+    Ok(creator.create(rt)?)
 }
 
 // Whoever works on a task has its entry, and the event that tells of a change.
@@ -85,7 +87,7 @@ fn refresh<R: Wait>(rt: &R, rows: &mut [Row], changed: TriggerId) {
 }
 
 // Takes an id for each step of each task.
-fn schedule<R: Wait>(rt: &R, changes: EventListener<QueueOfIds>, rows: &mut [Row]) {
+fn schedule<R: Wait>(rt: &R, changes: Changes, rows: &mut [Row]) {
     for _ in 0..2 * STEPS {
         if let Ok(Some(changed)) = changes.blocking_wait_one(rt) {
             refresh(rt, rows, changed);
@@ -93,11 +95,7 @@ fn schedule<R: Wait>(rt: &R, changes: EventListener<QueueOfIds>, rows: &mut [Row
     }
 }
 
-fn listen<R: Wait>(
-    rt: &R,
-    alloc: Global,
-    events: &QueueRegistry,
-) -> Result<EventListener<QueueOfIds>> {
+fn listen<R: Wait>(rt: &R, alloc: Global, events: &QueueRegistry) -> Result<Changes> {
     let builder = EventListenerBuilder::new(&FileName::new(b"changed")?, events)?;
     Ok(builder.create(rt, alloc)?)
 }
