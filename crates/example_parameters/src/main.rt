@@ -19,18 +19,12 @@ use gullinsu::service::port_factory::blackboard::PortFactory;
 use std::alloc::Global;
 use std::sync::Wait;
 
-// The parameters: a rate in hertz, whether a filter is on, and the limits of its four channels.
-const RATE: F8 = F8 {
-    bytes: *b"rate    ",
-};
+// The keys of the parameters: a rate in hertz, whether a filter is on, and the limits of its four channels.
+const RATE: [u8; 8] = *b"rate    ";
 
-const FILTER: F8 = F8 {
-    bytes: *b"filter  ",
-};
+const FILTER: [u8; 8] = *b"filter  ";
 
-const LIMITS: F8 = F8 {
-    bytes: *b"limits  ",
-};
+const LIMITS: [u8; 8] = *b"limits  ";
 
 type Board = PortFactory<F8, Shared>;
 
@@ -40,8 +34,9 @@ fn builder<R: Wait>(rt: &R, domain: &Domain, name: &str) -> Result<ServiceBuilde
 }
 
 fn with_parameters(creator: Creator<F8, Shared>) -> Result<Creator<F8, Shared>> {
-    let creator = creator.add(RATE, 50u64)?.add(LIMITS, [1u64, 2, 3, 4])?;
-    Ok(creator.add_with_default::<bool>(FILTER)?)
+    let creator = creator.add(F8 { bytes: RATE }, 50u64)?;
+    let creator = creator.add(F8 { bytes: LIMITS }, [1u64, 2, 3, 4])?;
+    Ok(creator.add_with_default::<bool>(F8 { bytes: FILTER })?)
 }
 
 fn serve<R: Wait>(rt: &R, alloc: Global, domain: &Domain) -> Result<Board> {
@@ -57,23 +52,26 @@ fn connect<R: Wait>(rt: &R, alloc: Global, domain: &Domain, unit: &str) -> Resul
     Ok(opener.open_with_attributes(rt, &needs)?)
 }
 
-// The keys in the order of adding. Where memory ends, those that there was room for.
-fn keys_of<R: Wait>(rt: &R, alloc: Global, board: &Board) -> Vec<F8> {
+// Tells the keys in the order of adding. Where memory ends, those that there was room for.
+fn tell_keys<R: Wait + Print>(rt: &R, alloc: Global, board: &Board) -> Result<()> {
     let mut keys = Vec::new(alloc);
     board.list_keys(rt, |key| match keys.push(*key) {
         Ok(()) => CallbackProgression::Continue,
         Err(_) => CallbackProgression::Stop,
     });
-    keys
+    for key in &keys {
+        println!(rt; "parameter {}", str::from_utf8(&key.bytes)?.trim_end())?;
+    }
+    Ok(())
 }
 
 fn set<V: ZeroCopySend, R: Wait>(
     rt: &R,
     writer: &Writer<F8, Shared>,
-    key: F8,
+    key: [u8; 8],
     value: V,
 ) -> Result<()> {
-    let mut parameter = writer.entry::<V, R>(rt, &key)?;
+    let mut parameter = writer.entry::<V, R>(rt, &F8 { bytes: key })?;
     // A publication asks for room for one more generation.
     if parameter.generation() < u64::MAX {
         parameter.update_with_copy(value);
@@ -82,8 +80,8 @@ fn set<V: ZeroCopySend, R: Wait>(
     Ok(())
 }
 
-fn get<V: ZeroCopySend, R: Wait>(rt: &R, reader: &Reader<F8, Shared>, key: F8) -> Result<V> {
-    let mut parameter = reader.entry::<V, R>(rt, &key)?;
+fn get<V: ZeroCopySend, R: Wait>(rt: &R, reader: &Reader<F8, Shared>, key: [u8; 8]) -> Result<V> {
+    let mut parameter = reader.entry::<V, R>(rt, &F8 { bytes: key })?;
     Ok(*parameter.get(rt).get_ref())
 }
 
@@ -102,25 +100,12 @@ fn tune<R: Wait>(rt: &R, served: &Board) -> Result<()> {
     set(rt, &writer, FILTER, true)
 }
 
-// A client that needs other units is refused.
-fn refuse<R: Wait + Print>(rt: &R, alloc: Global, domain: &Domain) -> Result<()> {
-    if let Err(why) = connect(rt, alloc, domain, "miles") {
-        println!(rt; "with miles: {why}")?;
-    }
-    Ok(())
-}
-
-fn tell_keys<R: Wait + Print>(rt: &R, alloc: Global, board: &Board) -> Result<()> {
-    for key in &keys_of(rt, alloc, board) {
-        println!(rt; "parameter {}", str::from_utf8(&key.bytes)?.trim_end())?;
-    }
-    Ok(())
-}
-
 fn main(rt: HostRuntime) -> Result<()> {
     let domain = Domain::new(rt.alloc())?;
     let served = serve(&rt, rt.alloc(), &domain)?;
-    refuse(&rt, rt.alloc(), &domain)?;
+    if let Err(why) = connect(&rt, rt.alloc(), &domain, "miles") {
+        println!(rt; "with miles: {why}")?;
+    }
     let opened = connect(&rt, rt.alloc(), &domain, "si")?;
     tell_keys(&rt, rt.alloc(), &opened)?;
     let reader = opened.reader_builder()?.create(&rt)?;

@@ -1,8 +1,7 @@
 //! A scheduler's state table: two workers write how much of their tasks is left, and a scheduler reads what changed.
 //!
-//! Each worker has a writer of its own, of one board. After each update it notifies of the entry that changed, by the
-//! entry's id; the scheduler waits for an id and gets the value behind it. In iceoryx2 a board has one writer, so one
-//! process would write for all; board and event would be two services, tied by `entry_id` as they are here.
+//! Each worker has a writer of its own, and notifies of the entry that changed by its id; the scheduler waits for an id
+//! and gets the value behind it. In iceoryx2 one writer would write for all, and `entry_id` would tie two services.
 #![tactic(auto)]
 
 use anyhow::Result;
