@@ -1,0 +1,119 @@
+//! A parameter server: a board of three parameters of three types, which a server sets and a client reads.
+//!
+//! The board has the attribute `unit`. A client that needs another unit is refused, and so is one that asks for a
+//! parameter as another type than its own. In iceoryx2 server and client would be processes; they would see the same
+//! answers, and `list_keys` would tell the same keys.
+#![tactic(auto)]
+
+use anyhow::Result;
+use gullinsu::layout::F8;
+use gullinsu::port::reader::Reader;
+use gullinsu::port::writer::Writer;
+use gullinsu::prelude::{
+    AttributeSpecifier, AttributeVerifier, CallbackProgression, Domain, Node, NodeName,
+    ServiceName, Shared, ZeroCopySend,
+};
+use gullinsu::service::builder::ServiceBuilder;
+use gullinsu::service::builder::blackboard::Creator;
+use gullinsu::service::port_factory::blackboard::PortFactory;
+use std::alloc::Global;
+use std::sync::Wait;
+
+// The keys of the parameters: a rate in hertz, whether a filter is on, and the limits of its four channels.
+const RATE: [u8; 8] = *b"rate    ";
+
+const FILTER: [u8; 8] = *b"filter  ";
+
+const LIMITS: [u8; 8] = *b"limits  ";
+
+type Board = PortFactory<F8, Shared>;
+
+fn builder<R: Wait>(rt: &R, domain: &Domain, name: &str) -> Result<ServiceBuilder> {
+    let node = Node::new(rt, domain, NodeName::new(name)?)?;
+    Ok(node.service_builder(&ServiceName::new("parameters")?)?)
+}
+
+fn with_parameters(creator: Creator<F8, Shared>) -> Result<Creator<F8, Shared>> {
+    let creator = creator.add(F8 { bytes: RATE }, 50u64)?;
+    let creator = creator.add(F8 { bytes: LIMITS }, [1u64, 2, 3, 4])?;
+    Ok(creator.add_with_default::<bool>(F8 { bytes: FILTER })?)
+}
+
+fn serve<R: Wait>(rt: &R, alloc: Global, domain: &Domain) -> Result<Board> {
+    let unit = AttributeSpecifier::new(alloc).define("unit", "si")?;
+    let creator = builder(rt, domain, "server")?.blackboard_creator::<F8, Shared>(alloc);
+    Ok(with_parameters(creator)?.create_with_attributes(rt, unit)?)
+}
+
+// Opens the board as a client that needs this unit.
+fn connect<R: Wait>(rt: &R, alloc: Global, domain: &Domain, unit: &str) -> Result<Board> {
+    let needs = AttributeVerifier::new(alloc).require("unit", unit)?;
+    let opener = builder(rt, domain, "client")?.blackboard_opener::<F8, Shared>(alloc);
+    Ok(opener.open_with_attributes(rt, &needs)?)
+}
+
+// Tells the keys in the order of adding. Where memory ends, those that there was room for.
+fn tell_keys<R: Wait + Print>(rt: &R, alloc: Global, board: &Board) -> Result<()> {
+    let mut keys = Vec::new(alloc);
+    board.list_keys(rt, |key| match keys.push(*key) {
+        Ok(()) => CallbackProgression::Continue,
+        Err(_) => CallbackProgression::Stop,
+    });
+    for key in &keys {
+        println!(rt; "parameter {}", str::from_utf8(&key.bytes)?.trim_end())?;
+    }
+    Ok(())
+}
+
+fn set<V: ZeroCopySend, R: Wait>(
+    rt: &R,
+    writer: &Writer<F8, Shared>,
+    key: [u8; 8],
+    value: V,
+) -> Result<()> {
+    let mut parameter = writer.entry::<V, R>(rt, &F8 { bytes: key })?;
+    // A publication asks for room for one more generation.
+    if parameter.generation() < u64::MAX {
+        parameter.update_with_copy(value);
+    }
+    parameter.release(rt);
+    Ok(())
+}
+
+fn get<V: ZeroCopySend, R: Wait>(rt: &R, reader: &Reader<F8, Shared>, key: [u8; 8]) -> Result<V> {
+    let mut parameter = reader.entry::<V, R>(rt, &F8 { bytes: key })?;
+    Ok(*parameter.get(rt).get_ref())
+}
+
+fn show<R: Wait + Print>(rt: &R, reader: &Reader<F8, Shared>) -> Result<()> {
+    let rate = get::<u64, R>(rt, reader, RATE)?;
+    let filter = get::<bool, R>(rt, reader, FILTER)?;
+    let limits = get::<[u64; 4], R>(rt, reader, LIMITS)?;
+    println!(rt; "rate {rate}, filter {filter}, limits {limits:?}")?;
+    Ok(())
+}
+
+// The server sets two parameters.
+fn tune<R: Wait>(rt: &R, served: &Board) -> Result<()> {
+    let writer = served.writer_builder()?.create(rt)?;
+    set(rt, &writer, RATE, 100u64)?;
+    set(rt, &writer, FILTER, true)
+}
+
+fn main(rt: HostRuntime) -> Result<()> {
+    let domain = Domain::new(rt.alloc())?;
+    let served = serve(&rt, rt.alloc(), &domain)?;
+    if let Err(why) = connect(&rt, rt.alloc(), &domain, "miles") {
+        println!(rt; "with miles: {why}")?;
+    }
+    let opened = connect(&rt, rt.alloc(), &domain, "si")?;
+    tell_keys(&rt, rt.alloc(), &opened)?;
+    let reader = opened.reader_builder()?.create(&rt)?;
+    show(&rt, &reader)?;
+    tune(&rt, &served)?;
+    show(&rt, &reader)?;
+    if let Err(why) = get::<u32, HostRuntime>(&rt, &reader, RATE) {
+        println!(rt; "rate as u32: {why}")?;
+    }
+    Ok(())
+}
