@@ -1,4 +1,8 @@
 //! Channels by the typed calls, of which their clauses say little, and once by the lent forms.
+ghost use Rattle.std.specs.Prelude.{IsOkUnless};
+ghost use Rattle.board_names.specs.Table.{NamesAscend};
+ghost use Rattle.board_names.specs.declared.errors.communication_channel.CommunicationChannelCreateError.TheVariants.{OutOfMemory};
+
 use crate::{
     Channel, ChannelRegistry, Channels, CommunicationChannel, CommunicationChannelConnector,
     CommunicationChannelCreator, CommunicationChannelParticipant, CommunicationChannelReceiver,
@@ -7,7 +11,7 @@ use crate::{
 };
 use board_names::{
     CommunicationChannelCreateError, CommunicationChannelOpenError, CommunicationChannelSendError,
-    Configuration, FileName, NameTable, NamedConcept, NamedConceptBuilder,
+    Configuration, FileName, FilePath, NameTable, NamedConcept, NamedConceptBuilder,
     NamedConceptConfiguration, NamedConceptMgmt,
 };
 use std::alloc::Global;
@@ -149,23 +153,105 @@ fn channels_are_listed(rt: HostRuntime) -> Result<(), Fail> {
     Ok(())
 }
 
-fn size_made<R: Wait, C: CommunicationChannelCreator>(
+// Code over the trait alone: the two ends of a new channel.
+fn both_ends<R: Wait, C: CommunicationChannel>(
     rt: &R,
     alloc: Global,
-    creator: C,
-) -> Result<usize, CommunicationChannelCreateError>
+    registry: &C::Registry,
+    name: &FileName,
+) -> Result<(C::Receiver, C::Sender), Fail>
 where
     C::Receiver: Drop,
 {
-    let receiver = creator.buffer_size(3).create_receiver(rt, alloc)?;
-    Ok(receiver.buffer_size())
+    let receiver = C::Creator::new(name, registry)?.create_receiver(rt, alloc)?;
+    let sender = C::Connector::new(name, registry)?.open_sender(rt)?;
+    Ok((receiver, sender))
+}
+
+// Code over the trait alone: what is sent to a channel is received from it once, and from no other.
+fn goes_over<R: Wait + Abort, C: CommunicationChannel>(
+    rt: &R,
+    alloc: Global,
+    registry: &C::Registry,
+) -> Result<(), Fail>
+where
+    C::Receiver: Drop,
+    C::Sender: Drop,
+{
+    let (one, other) = (FileName::new(b"c")?, FileName::new(b"d")?);
+    let (receiver, sender) = both_ends::<_, C>(rt, alloc, registry, &one)?;
+    let (other_receiver, other_sender) = both_ends::<_, C>(rt, alloc, registry, &other)?;
+    assert_eq!(rt; sender.send(rt, &7), Ok(None));
+    assert_eq!(rt; other_sender.try_send(rt, &8), Ok(None));
+    assert_eq!(rt; receiver.receive(rt), Ok(Some(7)));
+    assert_eq!(rt; receiver.receive(rt), Ok(None));
+    assert_eq!(rt; other_receiver.receive(rt), Ok(Some(8)));
+    Ok(())
+}
+
+// Code over the trait alone: a name is removed once, and then nobody opens it and it can be taken again.
+fn is_removed<R: Wait + Abort, C: CommunicationChannel>(
+    rt: &R,
+    alloc: Global,
+    registry: &C::Registry,
+) -> Result<(), Fail>
+where
+    C::Receiver: Drop,
+    C::Sender: Drop,
+{
+    let (name, config) = (
+        FileName::new(b"e")?,
+        Configuration::with_suffix(&C::default_suffix()),
+    );
+    let _receiver = C::Creator::new(&name, registry)?.create_receiver(rt, alloc)?;
+    assert_eq!(rt; C::does_exist_cfg(rt, registry, &name, &config), Ok(true));
+    assert_eq!(rt; C::remove_cfg(rt, registry, &name, &config), Ok(true));
+    assert_eq!(rt; C::remove_cfg(rt, registry, &name, &config), Ok(false));
+    assert_eq!(rt; C::does_exist_cfg(rt, registry, &name, &config), Ok(false));
+    let gone = C::Connector::new(&name, registry)?.try_open_sender(rt);
+    assert_eq!(rt;
+        gone.err(),
+        Some(CommunicationChannelOpenError::DoesNotExist)
+    );
+    let again = C::Creator::new(&name, registry)?
+        .buffer_size(3)
+        .create_receiver(rt, alloc)?;
+    assert_eq!(rt; again.buffer_size(), 3);
+    Ok(())
 }
 
 #[test]
-fn any_channel_is_made_by_the_traits(rt: HostRuntime) -> Result<(), Fail> {
+fn any_channel_is_used_by_the_traits(rt: HostRuntime) -> Result<(), Fail> {
     let registry = ChannelRegistry::new(rt.alloc())?;
-    let creator = creator(b"c", &registry)?;
-    assert_eq!(rt; size_made(&rt, rt.alloc(), creator)?, 3);
+    goes_over::<_, Channel>(&rt, rt.alloc(), &registry)?;
+    is_removed::<_, Channel>(&rt, rt.alloc(), &registry)
+}
+
+// A caller's proof over channels that were lent, whoever made them: a removed name can be taken, want of memory aside.
+fn takes_a_removed_name(
+    state: &mut Channels,
+    name: &FilePath,
+) -> Result<SharedQueue, CommunicationChannelCreateError>
+    ensures { IsOkUnless result OutOfMemory }
+{
+    state.remove(name);
+    state.create(name, 1, false)
+}
+
+// And their names ascend, so they differ.
+fn count_of_names(state: &Channels) -> usize
+    ensures { NamesAscend state.now }
+{
+    state.name_count()
+}
+
+#[test]
+fn a_removed_name_is_taken_again(rt: HostRuntime) -> Result<(), Fail> {
+    let mut state = Channels::new(rt.alloc());
+    let name = channels().path_for(&FileName::new(b"c")?);
+    let _first = state.create(&name, 2, false)?;
+    let second = takes_a_removed_name(&mut state, &name)?;
+    assert_eq!(rt; (second.capacity(), count_of_names(&state)), (1, 1));
     Ok(())
 }
 

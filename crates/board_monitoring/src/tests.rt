@@ -132,29 +132,84 @@ fn a_name_is_taken_when_lent(rt: HostRuntime) -> Result<(), Fail> {
     Ok(())
 }
 
-// Code over the trait alone: a name is taken and seen alive.
-fn state_of<R: Wait, M: Monitoring>(
+// Code over the trait alone: a name is taken, seen alive, and let go.
+fn is_taken_and_released<R: Wait + Abort, M: Monitoring>(
     rt: &R,
     alloc: Global,
     registry: &M::Registry,
-) -> Result<State, Fail>
+) -> Result<(), Fail>
+where
+    M::Token: Drop,
+    M::Monitor: Drop,
+{
+    let (name, config) = (
+        FileName::new(b"t")?,
+        Configuration::with_suffix(&M::default_suffix()),
+    );
+    let token = M::Builder::new(&name, registry)?.token(rt, alloc)?;
+    let monitor = M::Builder::new(&name, registry)?.monitor()?;
+    assert_eq!(rt; monitor.state(rt), Ok(State::Alive));
+    assert_eq!(rt; M::does_exist_cfg(rt, registry, &name, &config), Ok(true));
+    token.release(rt);
+    assert_eq!(rt; monitor.state(rt), Ok(State::DoesNotExist));
+    assert_eq!(rt; M::does_exist_cfg(rt, registry, &name, &config), Ok(false));
+    Ok(())
+}
+
+// Code over the trait alone: a name is left dead, cleaned up after, left again, and let go.
+fn is_cleaned_up_after<R: Wait + Abort, M: Monitoring>(
+    rt: &R,
+    alloc: Global,
+    registry: &M::Registry,
+) -> Result<(), Fail>
 where
     M::Token: Drop,
     M::Monitor: Drop,
 {
     let name = FileName::new(b"t")?;
+    M::Builder::new(&name, registry)?
+        .token(rt, alloc)?
+        .abandon(rt);
+    let monitor = M::Builder::new(&name, registry)?.monitor()?;
+    M::Builder::new(&name, registry)?
+        .cleaner(rt)?
+        .relinquish(rt);
+    assert_eq!(rt; monitor.state(rt), Ok(State::Dead));
+    M::Builder::new(&name, registry)?.cleaner(rt)?.release(rt);
+    assert_eq!(rt; monitor.state(rt), Ok(State::DoesNotExist));
+    Ok(())
+}
+
+// Code over the trait alone: a name is removed once, and then it can be taken again.
+fn is_removed<R: Wait + Abort, M: Monitoring>(
+    rt: &R,
+    alloc: Global,
+    registry: &M::Registry,
+) -> Result<(), Fail>
+where
+    M::Token: Drop,
+{
+    let (name, config) = (
+        FileName::new(b"t")?,
+        Configuration::with_suffix(&M::default_suffix()),
+    );
     let token = M::Builder::new(&name, registry)?.token(rt, alloc)?;
-    let state = M::Builder::new(&name, registry)?.monitor()?.state(rt)?;
-    token.release(rt);
-    Ok(state)
+    assert_eq!(rt; M::remove_cfg(rt, registry, &name, &config), Ok(true));
+    assert_eq!(rt; M::remove_cfg(rt, registry, &name, &config), Ok(false));
+    token.abandon(rt);
+    assert_eq!(rt; M::does_exist_cfg(rt, registry, &name, &config), Ok(false));
+    M::Builder::new(&name, registry)?
+        .token(rt, alloc)?
+        .release(rt);
+    Ok(())
 }
 
 #[test]
-fn any_monitoring_is_asked_by_the_traits(rt: HostRuntime) -> Result<(), Fail> {
+fn any_monitoring_is_used_by_the_traits(rt: HostRuntime) -> Result<(), Fail> {
     let registry = MonitoringRegistry::new(rt.alloc())?;
-    let state = state_of::<_, ProcessLocalMonitoring>(&rt, rt.alloc(), &registry)?;
-    assert_eq!(rt; state, State::Alive);
-    Ok(())
+    is_taken_and_released::<_, ProcessLocalMonitoring>(&rt, rt.alloc(), &registry)?;
+    is_cleaned_up_after::<_, ProcessLocalMonitoring>(&rt, rt.alloc(), &registry)?;
+    is_removed::<_, ProcessLocalMonitoring>(&rt, rt.alloc(), &registry)
 }
 
 // A caller's proof over names that were lent, whoever took them: a removed name can be taken, want of memory aside.
