@@ -18,8 +18,49 @@ struct Abandoned {
     after: &'static [&'static [Part]],
 }
 
+// Another party makes the first board, reads it, and listens and waits.
+const C_MAKES_THE_FIRST_BOARD: Part = &[
+    ("begin c create g c u64 add u64:1 u64:5", "ok"),
+    ("step c", "table = ok 1"),
+    ("begin c reader r g", "ok"),
+    ("step c", "table = ok 1"),
+    ("begin c entry h r u64:1 u64", "ok"),
+    ("step c", "table = ok 0"),
+    ("begin c get h", "ok"),
+    ("step c", "read 1:0 1"),
+    ("step c", "read 1:2 5"),
+    ("step c", "read 1:0 1 = u64:5 gen 1"),
+    ("words 1", "words 1 0 5 0"),
+    ("begin c listen l bits other 0", "ok"),
+    ("step c", "table = ok"),
+    ("begin c wait l all try", "ok"),
+    ("step c", "signal bits:other no"),
+    ("step c", "swap bits:other 0 0 = none"),
+];
+
+// The same with the second board, where two ports were made.
+const C_MAKES_THE_SECOND_BOARD: Part = &[
+    ("begin c create g c u64 add u64:1 u64:5", "ok"),
+    ("step c", "table = ok 2"),
+    ("begin c reader r g", "ok"),
+    ("step c", "table = ok 3"),
+    ("begin c entry h r u64:1 u64", "ok"),
+    ("step c", "table = ok 0"),
+    ("begin c get h", "ok"),
+    ("step c", "read 2:0 1"),
+    ("step c", "read 2:2 5"),
+    ("step c", "read 2:0 1 = u64:5 gen 1"),
+    ("words 2", "words 1 0 5 0"),
+    ("begin c listen l bits other 0", "ok"),
+    ("step c", "table = ok"),
+    ("begin c wait l all try", "ok"),
+    ("step c", "signal bits:other no"),
+    ("step c", "swap bits:other 0 0 = none"),
+];
+
 impl Abandoned {
-    fn holds(&self, rt: &impl Abort, alloc: Global) -> Result<(), Fail> {
+    // Each run ends with these lines of another party.
+    fn holds(&self, rt: &impl Abort, alloc: Global, other: Part) -> Result<(), Fail> {
         let mut begun = joined(alloc, self.opening)?;
         for (n, line) in self.call.iter().enumerate() {
             begun.push(*line)?;
@@ -27,6 +68,7 @@ impl Abandoned {
             if let Some(after) = self.after.get(n).or(self.after.last()) {
                 lines.extend_from_slice(&joined(alloc, after)?)?;
             }
+            lines.extend_from_slice(other)?;
             Script {
                 name: line.0,
                 lines: &lines,
@@ -39,9 +81,9 @@ impl Abandoned {
     }
 }
 
-fn all_hold(rt: &impl Abort, alloc: Global, cases: &[Abandoned]) -> Result<(), Fail> {
+fn all_hold(rt: &impl Abort, alloc: Global, cases: &[Abandoned], other: Part) -> Result<(), Fail> {
     for case in cases {
-        case.holds(rt, alloc)?;
+        case.holds(rt, alloc, other)?;
     }
     Ok(())
 }

@@ -3,7 +3,12 @@ pub mod Places
 pub mod Small
 pub mod ShapeLemmas
 pub mod DrawnLemmas
+pub mod DifferentLemmas
+pub mod LimitLemmas
+pub mod HeldLemmas
+pub mod RoomLemmas
 pub mod TableLemmas
 pub mod StorageLemmas
 pub mod BoardLemmas
 pub mod NameLemmas
+pub mod CellLemmas

@@ -1,14 +1,16 @@
 -- What is true of the tables of every domain stays true when things and boards come and go.
 use Rattle.std.proofs.Common.{◌≡◌, ◌≢◌, ℕ, ◌+◌, ◌≤◌, Bool, true, false, cond, ◌==◌, ◌||◌, List, [], ◌∷◌, ◌++◌, refl, sym, ap, subst, ◌∙◌, Option, Some, None, arith}
-use Rattle.std.specs.Prelude.{find, is_some}
+use Rattle.std.specs.Prelude.{find, is_some, IfSome, ◌<◌}
 use Rattle.std.specs.List.{list_any, cons_option, AllByRecursion}
 use Rattle.std.proofs.lemmas.List.{append-nil}
 use Rattle.board_model.specs.declared.tables.Board.{Board}
 use Rattle.board_model.specs.declared.tables.Thing.{Thing}
-use Rattle.board_model.specs.Tables.{Tables, board_at, holds_at, is_numbered, is_of_board, port_of, without_first}
+use Rattle.board_model.specs.Tables.{Tables, board_at, holds_at, is_numbered, is_of_board, is_write_handle, port_of, without_first}
 use Rattle.board_model.specs.TableCalls.{with_thing}
 use Rattle.board_service.specs.Domain.{is_thing, thing_numbered, thing_or_none}
-use Rattle.board_service.specs.Facts.{AreDrawn, AreTables, HasPort, board_number, drawn_port, is_port, port_number, ports_of, thing_number}
+use Rattle.board_model.specs.declared.tables.Kind.TheVariants as kind
+use Rattle.board_service.specs.Facts.{AreDrawn, AreTables, HasEntry, HasPort, KeepsLimits, WritesAlone, board_number, drawn_port, entry_count, handle_entry, is_port, written_entry, port_number, ports_of, thing_number}
+use Rattle.board_service.proofs.LimitLemmas.{entries_less_board, entries_more_boards, limits_less, limits_less_board, limits_more, limits_more_board, writers_less, writers_more}
 use Rattle.board_service.proofs.DrawnLemmas.{drawn_more, drawn_raised, drawn_without, find-push, find-push-other, find-without, find-without-other, none_above, none_without, numbered_other, there}
 
 -- ---- lists
@@ -129,40 +131,65 @@ standing_more t last x are stands board = by_board ∙ sym (any_more (is_of_boar
 
 -- one thing of a board that stands, without a port of its own
 pub tables_more_thing : (t : Tables ℕ ℕ) (last : ℕ) (x : Thing ℕ ℕ) → AreTables t last → x.name ≡ last + 1 → is_some (board_at t x.board) ≡ true
-    → drawn_port x.kind ≡ None → port_of x.kind ≤ t.last_port → AreTables (with_thing t x) (last + 1)
-tables_more_thing t last x are named stands none port = record {
+    → drawn_port x.kind ≡ None → port_of x.kind ≤ t.last_port → HasEntry t.boards x → KeepsLimits t.boards (t.things ++ x ∷ []) x.board → WritesAlone t.things x → AreTables (with_thing t x) (last + 1)
+tables_more_thing t last x are named stands none port entry room alone = record {
   boards = are.boards;
   things = drawn_more thing_number is_thing (λ n y. refl) last t.things x are.things named;
   ports = subst (AreDrawn port_number is_port t.last_port) (sym (ports_more t.things x ∙ ap (λ o. ports_of t.things ++ cons_option o []) none ∙ append-nil (ports_of t.things))) are.ports;
   handles = all_more (HasPort t.last_port) t.things x are.handles port;
+  entries = all_more (HasEntry t.boards) t.things x are.entries entry;
   standing = λ board. standing_more t last x are stands board;
+  limits = limits_more t.boards t.things x are.limits room;
+  writers = writers_more t.things x are.writers alone;
 }
 
 -- one thing with the next port
 pub tables_more_port : (t : Tables ℕ ℕ) (last : ℕ) (x : Thing ℕ ℕ) → AreTables t last → x.name ≡ last + 1 → is_some (board_at t x.board) ≡ true
-    → drawn_port x.kind ≡ Some (t.last_port + 1) → port_of x.kind ≡ t.last_port + 1 → AreTables (with_thing (record t { last_port = t.last_port + 1 }) x) (last + 1)
-tables_more_port t last x are named stands drawn port = record {
+    → drawn_port x.kind ≡ Some (t.last_port + 1) → port_of x.kind ≡ t.last_port + 1 → HasEntry t.boards x → KeepsLimits t.boards (t.things ++ x ∷ []) x.board → WritesAlone t.things x
+    → AreTables (with_thing (record t { last_port = t.last_port + 1 }) x) (last + 1)
+tables_more_port t last x are named stands drawn port entry room alone = record {
   boards = are.boards;
   things = drawn_more thing_number is_thing (λ n y. refl) last t.things x are.things named;
   ports = subst (AreDrawn port_number is_port (t.last_port + 1)) (sym (ports_more t.things x ∙ ap (λ o. ports_of t.things ++ cons_option o []) drawn))
       (drawn_more port_number is_port (λ n y. refl) t.last_port (ports_of t.things) (t.last_port + 1) are.ports refl);
   handles = all_more (HasPort (t.last_port + 1)) t.things x (handles_raised t.last_port (t.last_port + 1) t.things (omega arith) are.handles) (omega (arith, port));
+  entries = all_more (HasEntry t.boards) t.things x are.entries entry;
   standing = λ board. standing_more t last x are stands board;
+  limits = limits_more t.boards t.things x are.limits room;
+  writers = writers_more t.things x are.writers alone;
 }
 
 -- ---- one board more, with a factory of it
 
 pub tables_more_board : (t : Tables ℕ ℕ) (last : ℕ) (b : Board) (x : Thing ℕ ℕ) → AreTables t last → b.number ≡ t.last_board + 1 → x.name ≡ last + 1 → x.board ≡ t.last_board + 1
-    → drawn_port x.kind ≡ None → port_of x.kind ≤ t.last_port
+    → x.kind ≡ kind.Factory → 1 ≤ b.max_nodes
     → AreTables (record { boards = t.boards ++ b ∷ []; things = t.things ++ x ∷ []; last_board = t.last_board + 1; last_port = t.last_port }) (last + 1)
-tables_more_board t last b x are numbered named of none port = record {
+tables_more_board t last b x are numbered named of factory least = record {
   boards = drawn_more board_number is_numbered (λ n y. refl) t.last_board t.boards b are.boards numbered;
   things = drawn_more thing_number is_thing (λ n y. refl) last t.things x are.things named;
   ports = subst (AreDrawn port_number is_port t.last_port) (sym (ports_more t.things x ∙ ap (λ o. ports_of t.things ++ cons_option o []) none ∙ append-nil (ports_of t.things))) are.ports;
-  handles = all_more (HasPort t.last_port) t.things x are.handles port;
+  handles = all_more (HasPort t.last_port) t.things x are.handles (omega (arith, port));
+  entries = all_more (HasEntry (t.boards ++ b ∷ [])) t.things x (entries_more_boards t.boards (b ∷ []) t.things are.entries) entry;
   standing = λ board. by_board board ∙ sym (any_more (is_of_board board) t.things x);
+  limits = limits_more_board t.boards t.things b x are.limits free (sym (are.standing b.number) ∙ ap (λ (o : Option Board). is_some o) free) (of ∙ sym numbered) factory least;
+  writers = writers_more t.things x are.writers alone;
 }
   where
+    none : drawn_port x.kind ≡ None
+    none = ap drawn_port factory
+
+    port : port_of x.kind ≡ 0
+    port = ap port_of factory
+
+    entry : HasEntry (t.boards ++ b ∷ []) x
+    entry = subst (λ (o : Option ℕ). IfSome o (λ e. e < entry_count (find (is_numbered x.board) (t.boards ++ b ∷ [])))) (sym (ap handle_entry factory)) tt
+
+    alone : WritesAlone t.things x
+    alone = subst (λ (o : Option ℕ). IfSome o (λ e. list_any (is_write_handle x.board e) t.things ≡ false)) (sym (ap written_entry factory)) tt
+
+    free : find (is_numbered b.number) t.boards ≡ None
+    free = none_above board_number is_numbered (λ n y. refl) t.last_board b.number t.boards are.boards (omega (arith, numbered))
+
     by_board : (board : ℕ) → is_some (find (is_numbered board) (t.boards ++ b ∷ [])) ≡ (list_any (is_of_board board) t.things || (x.board == board))
     by_board board = elim (x.board == board) as (λ c. (x.board == board) ≡ c → is_some (find (is_numbered board) (t.boards ++ b ∷ [])) ≡ (list_any (is_of_board board) t.things || c)) [
       | true ↦ λ h.
@@ -185,6 +212,9 @@ tables_less_thing t last n are some kept = record {
   things = drawn_without thing_number is_thing (is_thing n) last t.things are.things;
   ports = ports_without (is_thing n) t.last_port t.things are.ports;
   handles = all_without (HasPort t.last_port) (is_thing n) t.things are.handles;
+  entries = all_without (HasEntry t.boards) (is_thing n) t.things are.entries;
+  limits = limits_less t.boards t.things (is_thing n) are.limits;
+  writers = writers_less t.things (is_thing n) are.writers;
   standing = λ board.
       let of = (thing_numbered n t.things).board in
       elim (board == of) as (λ c. (board == of) ≡ c → is_some (board_at t board) ≡ list_any (is_of_board board) (without_first (is_thing n) t.things)) [
@@ -206,6 +236,10 @@ tables_less_board t last n are gone = record {
   things = drawn_without thing_number is_thing (is_thing n) last t.things are.things;
   ports = ports_without (is_thing n) t.last_port t.things are.ports;
   handles = all_without (HasPort t.last_port) (is_thing n) t.things are.handles;
+  entries = entries_less_board (thing_numbered n t.things).board t.boards (without_first (is_thing n) t.things) gone (all_without (HasEntry t.boards) (is_thing n) t.things are.entries);
+  writers = writers_less t.things (is_thing n) are.writers;
+  limits = limits_less_board t.boards (without_first (is_thing n) t.things) (thing_numbered n t.things).board (limits_less t.boards t.things (is_thing n) are.limits)
+      (find-without board_number is_numbered (λ m y. refl) t.last_board (thing_numbered n t.things).board t.boards are.boards);
   standing = λ board.
       let of = (thing_numbered n t.things).board in
       elim (board == of) as (λ c. (board == of) ≡ c → is_some (find (is_numbered board) (without_first (is_numbered of) t.boards)) ≡ list_any (is_of_board board) (without_first (is_thing n) t.things)) [

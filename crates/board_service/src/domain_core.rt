@@ -1,8 +1,8 @@
 //! The boards of a domain and the things of them, as plain data: one call is one step on the tables.
 ghost use Rattle.std.specs.Prelude.{◌≡◌, ◌+◌, ◌-◌, ◌^◌, ◌<◌, ◌≤◌, Some, None, IfOk, IsSome, OnOk, OnErr};
 ghost use Rattle.board_model.specs.Tables.{board_at, port_of};
-ghost use Rattle.board_service.specs.Domain.{empty, made, with_next, with_next_port};
-ghost use Rattle.board_service.specs.Facts.{IsDomain, drawn_port};
+ghost use Rattle.board_service.specs.Domain.{empty, made, next_thing, with_next, with_next_port};
+ghost use Rattle.board_service.specs.Facts.{HasEntry, HasRoomFor, IsDomain, WritesAlone, drawn_port};
 
 mod create;
 mod handles;
@@ -73,7 +73,7 @@ impl<C: Cells> DomainCore<C> {
         }
     }
 
-    /// What is true of every domain, for those who are lent one: the numbers of boards, of things, and of the ports of readers and writers differ, and none is above the last that was drawn; a board stands exactly while a thing of it does; and each board has its cells. A call of this does nothing.
+    /// What is true of every domain, for those who are lent one: the numbers of boards, of things, and of the ports of readers and writers differ, and none is above the last that was drawn; a board stands exactly while a thing of it does, and no more readers, writer slots and nodes of it are taken than it may have; a handle's entry is one of its board's, and has at most one write handle; and each board has its cells. A call of this does nothing.
     pub fn facts(&self)
         ensures { IsDomain self.now }
     {
@@ -86,6 +86,10 @@ impl<C: Cells> DomainCore<C> {
         requires stands { IsSome (board_at self.old.tables board) }
         requires none { drawn_port kind ≡ None }
         requires port { port_of kind ≤ self.old.tables.last_port }
+        requires entry { HasEntry self.old.tables.boards (next_thing self.old holder board kind) }
+        requires room { HasRoomFor self.old (next_thing self.old holder board kind) }
+        requires alone { let next = next_thing self.old holder board kind in
+            WritesAlone self.old.tables.things next }
         ensures number { IfOk result (λ thing. thing ≡ self.old.last_thing + 1) }
         ensures ok { OnOk result (self.new ≡ with_next self.old holder board kind) }
         ensures err { OnErr result (self.new ≡ self.old) }
@@ -109,6 +113,10 @@ impl<C: Cells> DomainCore<C> {
         requires stands { IsSome (board_at self.old.tables board) }
         requires drawn { drawn_port kind ≡ Some (self.old.tables.last_port + 1) }
         requires port { port_of kind ≡ self.old.tables.last_port + 1 }
+        requires entry { HasEntry self.old.tables.boards (next_thing self.old holder board kind) }
+        requires room { HasRoomFor self.old (next_thing self.old holder board kind) }
+        requires alone { let next = next_thing self.old holder board kind in
+            WritesAlone self.old.tables.things next }
         ensures made { IfOk result (λ m. m ≡ made self.old (self.old.tables.last_port + 1)) }
         ensures ok { OnOk result (self.new ≡ with_next_port self.old holder board kind) }
         ensures err { OnErr result (self.new ≡ self.old) }

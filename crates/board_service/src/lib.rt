@@ -8,6 +8,7 @@
 //! that they are those of the boards that stand.
 #![tactic(auto)]
 
+mod add_error;
 mod board_row;
 mod board_words;
 mod cells;
@@ -22,6 +23,7 @@ mod planned;
 mod refusals;
 mod told;
 
+pub use add_error::AddError;
 pub use board_model::{Limits, ThingKind, same_type};
 pub use cells::{BoardWords, Cells};
 pub use counts::port_of;

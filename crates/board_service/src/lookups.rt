@@ -6,6 +6,7 @@ ghost use Rattle.board_layout.specs.Keys as keys;
 ghost use Rattle.board_model.specs.Tables as tables;
 ghost use Rattle.board_model.specs.TypeTable as types;
 ghost use Rattle.board_service.specs.Domain as domain;
+ghost use Rattle.board_service.specs.Facts.{entry_count};
 
 use crate::board_row::BoardRow;
 use crate::counts::{Held, reader_slots, writer_slots};
@@ -170,8 +171,9 @@ pub(crate) fn has_details(board: u64, key: &TypeDetail, boards: &[BoardRow]) -> 
 
 fn entry_from<'a, K: BoardKey>(key: &K, entries: &'a [Entry]) -> Option<(u64, &'a Entry)>
     requires { K.SIZE ≤ 64 }
-    ensures { option_map (λ f. (f.0, f.1.now)) result
+    ensures found { option_map (λ f. (f.0, f.1.now)) result
         ≡ tables.entry_from 0 (keys.is_key K.eq K.value_of K.SIZE K.WORDS key.now) entries.now }
+    ensures inside { IfSome result (λ f. f.0 < length entries.now) }
 {
     for (i, entry) in entries.iter().enumerate() {
         if is_key::<K>(key, &entry.key) {
@@ -182,8 +184,9 @@ fn entry_from<'a, K: BoardKey>(key: &K, entries: &'a [Entry]) -> Option<(u64, &'
 }
 
 fn of_type<'a>(value: &TypeDetail, found: Option<(u64, &'a Entry)>) -> Option<(u64, &'a Entry)>
-    ensures { option_map (λ f. (f.0, f.1.now)) result
+    ensures same { option_map (λ f. (f.0, f.1.now)) result
         ≡ tables.of_type value.now (option_map (λ f. (f.0, f.1.now)) found.entry) }
+    ensures one { IfSome result (λ f. found.entry ≡ Some f) }
 {
     match found {
         Some(f) => {
@@ -206,9 +209,11 @@ pub(crate) fn find_entry<'a, K: BoardKey>(
 ) -> Option<(u64, &'a Entry)>
     requires { tables.holds_at (find (tables.is_numbered number) boards.now)
         (λ b. types.same_type b.key (details K.type_bytes K.SIZE K.ALIGNMENT)) ≡ true }
-    ensures { option_map (λ f. (f.0, f.1.now)) result
+    ensures found { option_map (λ f. (f.0, f.1.now)) result
         ≡ tables.entry_found (find (tables.is_numbered number) boards.now)
         (keys.is_key K.eq K.value_of K.SIZE K.WORDS key.now) value.now }
+    ensures inside { IfSome result
+        (λ f. f.0 < entry_count (find (tables.is_numbered number) boards.now)) }
 {
     match board_at(number, boards) {
         Some(board) => of_type(value, entry_with::<K>(key, board)),
@@ -219,9 +224,10 @@ pub(crate) fn find_entry<'a, K: BoardKey>(
 // The entry of a board with the key, with its place.
 fn entry_with<'a, K: BoardKey>(key: &K, board: &'a BoardRow) -> Option<(u64, &'a Entry)>
     requires { types.same_type board.now.key (details K.type_bytes K.SIZE K.ALIGNMENT) ≡ true }
-    ensures { option_map (λ f. (f.0, f.1.now)) result
+    ensures found { option_map (λ f. (f.0, f.1.now)) result
         ≡ tables.entry_from 0 (keys.is_key K.eq K.value_of K.SIZE K.WORDS key.now)
         board.now.entries }
+    ensures inside { IfSome result (λ f. f.0 < length board.now.entries) }
 {
     entry_from::<K>(key, board.entries.as_slice())
 }

@@ -1,9 +1,10 @@
 //! Why boards are not made and not opened. None of these functions takes memory.
-ghost use Rattle.std.specs.Prelude.{◌≡◌, ◌≤◌, ◌<◌, ◌-◌, ◌^◌, ◌||◌, ◌∷◌, [], ◌++◌, find, length, nat_eq, IfNone, IsSome};
+ghost use Rattle.std.specs.Prelude.{◌≡◌, ◌≤◌, ◌<◌, ◌-◌, ◌^◌, ◌||◌, ◌∷◌, [], ◌++◌, find, length, nat_eq, true, false, IfNone, IsSome};
 ghost use Rattle.std.specs.List.{list_any};
 ghost use Rattle.board_layout.specs.Keys as keys;
 ghost use Rattle.board_model.specs.Tables as tables;
 ghost use Rattle.board_model.specs.TableCalls as calls;
+ghost use Rattle.board_model.specs.TypeTable as types;
 ghost use Rattle.board_service.specs.Domain.{spent};
 ghost use Rattle.board_service.specs.Entries.{HaveShapes, added, payload_of};
 
@@ -119,6 +120,10 @@ pub(crate) fn open_refusal(
         (find (tables.has_name name.now) boards.now) key.now limits.now needs.now
         ++ (spent last_thing, BlackboardOpenError.NumbersSpent) ∷ []) }
     ensures stands { IfNone result (IsSome (find (tables.has_name name.now) boards.now)) }
+    ensures alike { IfNone result (tables.holds_at (find (tables.has_name name.now) boards.now)
+        (λ b. types.same_type b.key key.now) ≡ true) }
+    ensures room { IfNone result (tables.holds_at (find (tables.has_name name.now) boards.now)
+        (calls.has_all_nodes nat_eq node things.now) ≡ false) }
     ensures below { IfNone result (last_thing < 2 ^ 64 - 2) }
 {
     let Some(board) = board_named(name, boards) else {
@@ -160,7 +165,8 @@ pub(crate) fn number_of_named(name: &ServiceName, boards: &[BoardRow]) -> u64
 
 /// The limit that was asked for, raised to 1, or the default.
 pub(crate) fn limit_of(default: u64, asked: Option<u64>) -> u64
-    ensures { result ≡ tables.limit_of default asked }
+    ensures value { result ≡ tables.limit_of default asked }
+    ensures least { 1 ≤ default → 1 ≤ result }
 {
     match asked {
         Some(n) => n.max(1),

@@ -20,7 +20,35 @@ const B_LEFT: Part = &[
     ),
 ];
 
-const CALLS: [Part; 10] = [
+// Another party makes a board, reads the one that stands, and listens and waits.
+const C_GOES_ON: Part = &[
+    ("begin c create g c u64 add u64:1 u64:5", "ok"),
+    ("step c", "table = ok 2"),
+    ("begin c open f b u64", "ok"),
+    ("step c", "table = ok 1"),
+    ("begin c reader r f", "ok"),
+    ("step c", "table = ok 3"),
+    ("begin c entry h r u64:1 u64", "ok"),
+    ("step c", "table = ok 0"),
+    ("begin c get h", "ok"),
+    ("step c", "read 1:0 1"),
+    ("step c", "read 1:2 5"),
+    ("step c", "read 1:0 1 = u64:5 gen 1"),
+    ("begin c listen l bits other 0", "ok"),
+    ("step c", "table = ok"),
+    ("begin c wait l all try", "ok"),
+    ("step c", "signal bits:other no"),
+    ("step c", "swap bits:other 0 0 = none"),
+];
+
+const AS_IT_WAS: Part = &[("words 1", "words 1 0 5 0")];
+
+const A_WORD_WRITTEN: Part = &[("words 1", "words 1 0 5 6")];
+
+const UPDATE: Part = &[("begin b update m u64:6", "ok"), ("step b", "write 1:3 6")];
+
+// The calls that have written nothing when they are abandoned.
+const CALLS: [Part; 13] = [
     &[("begin b create g c u64 add u64:1 u64:5", "ok")],
     &[("begin b open g b u64", "ok")],
     &[("begin b reader s f", "ok")],
@@ -29,26 +57,35 @@ const CALLS: [Part; 10] = [
     &[("begin b entrymut n w u64:1 u64", "ok")],
     &[("begin b fresh h v", "ok")],
     &[("begin b gen m", "ok")],
+    &[("begin b id h", "ok")],
+    &[("begin b info f", "ok")],
+    &[("begin b nodes f", "ok")],
+    &[("begin b keys f", "ok")],
     &[
         ("begin b get h x", "ok"),
         ("step b", "read 1:0 1"),
         ("step b", "read 1:2 5"),
     ],
-    &[("begin b update m u64:6", "ok"), ("step b", "write 1:3 6")],
 ];
 
 const LEFT: Abandoned = Abandoned {
     opening: &[ONE_PARTY_READS_AND_WRITES],
     call: &[],
-    after: &[&[B_LEFT]],
+    after: &[&[B_LEFT, AS_IT_WAS]],
+};
+
+const UPDATE_LEFT: Abandoned = Abandoned {
+    call: UPDATE,
+    after: &[&[B_LEFT, AS_IT_WAS], &[B_LEFT, A_WORD_WRITTEN]],
+    ..LEFT
 };
 
 #[test]
 fn each_call_on_boards_is_abandoned_at_each_step(rt: HostRuntime) -> Result<(), Fail> {
     for call in CALLS {
-        Abandoned { call, ..LEFT }.holds(&rt, rt.alloc())?;
+        Abandoned { call, ..LEFT }.holds(&rt, rt.alloc(), C_GOES_ON)?;
     }
-    Ok(())
+    UPDATE_LEFT.holds(&rt, rt.alloc(), C_GOES_ON)
 }
 
 // After these lines both parties are abandoned, and do nothing more.

@@ -1,5 +1,5 @@
 //! Calls on events.
-use super::{Abandoned, all_hold};
+use super::{Abandoned, C_MAKES_THE_FIRST_BOARD, all_hold};
 use crate::openings::{A_QUEUE, A_SET_OF_128};
 use crate::row::Part;
 use std::test::Fail;
@@ -375,5 +375,5 @@ const CASES: [Abandoned; 13] = [
 
 #[test]
 fn each_call_on_events_is_abandoned_at_each_step(rt: HostRuntime) -> Result<(), Fail> {
-    all_hold(&rt, rt.alloc(), &CASES)
+    all_hold(&rt, rt.alloc(), &CASES, C_MAKES_THE_FIRST_BOARD)
 }

@@ -1,5 +1,5 @@
 //! Calls on loans.
-use super::{Abandoned, all_hold};
+use super::{Abandoned, C_MAKES_THE_SECOND_BOARD, all_hold};
 use crate::openings::{A_LOAN, FOUR_WORDS, FOURTH_WORD_PUT, THREE_WORDS_PUT};
 use crate::row::Part;
 use std::test::Fail;
@@ -107,5 +107,5 @@ const CASES: [Abandoned; 5] = [
 
 #[test]
 fn each_call_on_loans_is_abandoned_at_each_step(rt: HostRuntime) -> Result<(), Fail> {
-    all_hold(&rt, rt.alloc(), &CASES)
+    all_hold(&rt, rt.alloc(), &CASES, C_MAKES_THE_SECOND_BOARD)
 }

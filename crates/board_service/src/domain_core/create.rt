@@ -1,10 +1,11 @@
 //! New boards.
-ghost use Rattle.std.specs.Prelude.{◌≡◌, ◌≤◌, ◌<◌, ◌^◌, None, length, IfOk, IfSome, OnOk, OnErr};
+ghost use Rattle.std.specs.Prelude.{◌≡◌, true, ◌≤◌, ◌<◌, ◌^◌, None, length, IfOk, IfSome, OnOk, OnErr};
 ghost use Rattle.board_layout.specs.Answer.{Answers, Refuses};
 ghost use Rattle.board_layout.specs.Keys.{same_keys};
 ghost use Rattle.board_layout.specs.Bytes.{details};
 ghost use Rattle.board_service.specs.Domain.{new_limits};
 ghost use Rattle.board_service.specs.Domain as domain;
+ghost use Rattle.board_service.specs.Facts.{IsHeldAs, KeepsHeld};
 ghost use Rattle.board_service.specs.Entries.{HaveShapes, added, cells_for, first_words_at, payload_of};
 ghost use Rattle.board_names.specs.Table.{at, putting};
 ghost use Rattle.board_store.specs.declared.statics.Stored.TheVariants.{Final};
@@ -21,7 +22,7 @@ use crate::refusals::{create_refusal, limit_of};
 use board_cell::CellError;
 use board_concepts::{AttributeSet, Description};
 use board_layout::{BoardKey, Plan, TypeDetail, TypeVariant};
-use board_model::{Entries, Kind, Limits, Thing};
+use board_model::{Entries, Kind, Limits, Thing, ThingKind};
 use board_names::{BlackboardCreateError, FilePath, NameTable, ServiceName};
 use board_store::Statics;
 use std::alloc::{AllocError, Global};
@@ -84,6 +85,11 @@ impl<C: Cells> DomainCore<C> {
             (details K.type_bytes K.SIZE K.ALIGNMENT) (new_limits limits writers) attributes
             (added entries.items)) }
         ensures err { OnErr result (self.new ≡ self.old) }
+
+        // What was held is held still, and so is the factory: nobody has to ask.
+        ensures held { let keys = details K.type_bytes K.SIZE K.ALIGNMENT in
+            IfOk result (λ m. IsHeldAs self.new keys m.thing ThingKind.Factory) }
+        ensures kept { KeepsHeld self.old self.new }
     {
         let wanted = entries.as_slice();
         let refusal = create_refusal::<K>(

@@ -1,9 +1,10 @@
 //! Handles of entries.
-ghost use Rattle.std.specs.Prelude.{true, ◌≡◌, OnOk, OnErr};
+ghost use Rattle.std.specs.Prelude.{true, ◌≡◌, IfOk, OnOk, OnErr};
 ghost use Rattle.board_layout.specs.Answer.{Answers, Refuses};
 ghost use Rattle.board_layout.specs.Keys.{is_key};
 ghost use Rattle.board_layout.specs.Bytes.{details};
 ghost use Rattle.board_service.specs.Domain as domain;
+ghost use Rattle.board_service.specs.Facts.{IsHeldBeside, KeepsHeld};
 
 use super::DomainCore;
 use crate::cells::Cells;
@@ -40,6 +41,11 @@ impl<C: Cells> DomainCore<C> {
             (domain.entry_of_thing self.old reader
             (is_key K.eq K.value_of K.SIZE K.WORDS key.now) value.now)) }
         ensures err { OnErr result (self.new ≡ self.old) }
+
+        // What was held is held still, and so is what was made: nobody has to ask again.
+        ensures held { IfOk result
+            (λ f. IsHeldBeside self.old self.new reader f.thing ThingKind.ReadHandle) }
+        ensures kept { KeepsHeld self.old self.new }
     {
         let of = thing_of(reader, &self.things);
         let Some((entry, found)) = find_entry::<K>(of.board, key, value, &self.boards) else {
@@ -69,16 +75,23 @@ impl<C: Cells> DomainCore<C> {
         requires { domain.stands_as self.old (details K.type_bytes K.SIZE K.ALIGNMENT)
             writer ThingKind.Writer ≡ true }
         ensures answer { Answers result EntryHandleMutError.OutOfMemory
-            (domain.entry_mut_answer self.old (domain.held self.old writer) (domain.entry_of_thing self.old writer
+            (domain.entry_mut_answer self.old (domain.held self.old writer)
+            (domain.entry_of_thing self.old writer
             (is_key K.eq K.value_of K.SIZE K.WORDS key.now) value.now)) }
         ensures refused { Refuses result
-            (domain.entry_mut_answer self.old (domain.held self.old writer) (domain.entry_of_thing self.old writer
+            (domain.entry_mut_answer self.old (domain.held self.old writer)
+            (domain.entry_of_thing self.old writer
             (is_key K.eq K.value_of K.SIZE K.WORDS key.now) value.now)) }
         ensures ok { OnOk result
             (self.new ≡ domain.after_entry_mut self.old (domain.held self.old writer)
             (domain.entry_of_thing self.old writer
             (is_key K.eq K.value_of K.SIZE K.WORDS key.now) value.now)) }
         ensures err { OnErr result (self.new ≡ self.old) }
+
+        // What was held is held still, and so is what was made: nobody has to ask again.
+        ensures held { IfOk result
+            (λ f. IsHeldBeside self.old self.new writer f.thing ThingKind.WriteHandle) }
+        ensures kept { KeepsHeld self.old self.new }
     {
         let of = thing_of(writer, &self.things);
         let Some((entry, found)) = find_entry::<K>(of.board, key, value, &self.boards) else {

@@ -1,8 +1,9 @@
 //! Further factories of a board.
-ghost use Rattle.std.specs.Prelude.{◌≡◌, OnOk, OnErr};
+ghost use Rattle.std.specs.Prelude.{◌≡◌, true, IfOk, OnOk, OnErr};
 ghost use Rattle.board_layout.specs.Answer.{Answers, Refuses};
 ghost use Rattle.board_layout.specs.Bytes.{details};
 ghost use Rattle.board_service.specs.Domain as domain;
+ghost use Rattle.board_service.specs.Facts.{IsHeldAs, KeepsHeld};
 
 use super::DomainCore;
 use crate::cells::Cells;
@@ -11,7 +12,7 @@ use crate::made::Made;
 use crate::refusals::{number_of_named, open_refusal};
 use board_concepts::AttributeVerifier;
 use board_layout::{BoardKey, TypeDetail, TypeVariant};
-use board_model::{Kind, Limits};
+use board_model::{Kind, Limits, ThingKind};
 use board_names::{BlackboardOpenError, ServiceName};
 
 impl<C: Cells> DomainCore<C> {
@@ -34,6 +35,11 @@ impl<C: Cells> DomainCore<C> {
             (details K.type_bytes K.SIZE K.ALIGNMENT) limits verifier.now) }
         ensures ok { OnOk result (self.new ≡ domain.after_open self.old node name.now) }
         ensures err { OnErr result (self.new ≡ self.old) }
+
+        // What was held is held still, and so is the factory: nobody has to ask again.
+        ensures held { let keys = details K.type_bytes K.SIZE K.ALIGNMENT in
+            IfOk result (λ m. IsHeldAs self.new keys m.thing ThingKind.Factory) }
+        ensures kept { KeepsHeld self.old self.new }
     {
         let key = TypeDetail::new::<K>(TypeVariant::FixedSize);
         let refusal = open_refusal(

@@ -1,7 +1,8 @@
 //! Readers and writers.
-ghost use Rattle.std.specs.Prelude.{◌≡◌, OnOk, OnErr};
+ghost use Rattle.std.specs.Prelude.{◌≡◌, IfOk, OnOk, OnErr};
 ghost use Rattle.board_layout.specs.Answer.{Answers, Refuses};
 ghost use Rattle.board_service.specs.Domain as domain;
+ghost use Rattle.board_service.specs.Facts.{IsHeldBeside, KeepsHeld};
 
 use super::DomainCore;
 use crate::cells::Cells;
@@ -9,7 +10,7 @@ use crate::ids::ThingId;
 use crate::lookups::{has_all_readers, has_all_writers, thing_of};
 use crate::made::Made;
 use crate::refusals::LAST;
-use board_model::Kind;
+use board_model::{Kind, ThingKind};
 use board_names::{ReaderCreateError, WriterCreateError};
 
 impl<C: Cells> DomainCore<C> {
@@ -26,6 +27,11 @@ impl<C: Cells> DomainCore<C> {
         ensures ok { OnOk result
             (self.new ≡ domain.after_reader self.old (domain.held self.old factory)) }
         ensures err { OnErr result (self.new ≡ self.old) }
+
+        // What was held is held still, and so is what was made: nobody has to ask again.
+        ensures held { IfOk result
+            (λ m. IsHeldBeside self.old self.new factory m.thing ThingKind.Reader) }
+        ensures kept { KeepsHeld self.old self.new }
     {
         let of = thing_of(factory, &self.things);
         if has_all_readers(of.board, &self.boards, &self.things) {
@@ -54,6 +60,11 @@ impl<C: Cells> DomainCore<C> {
         ensures ok { OnOk result
             (self.new ≡ domain.after_writer self.old (domain.held self.old factory)) }
         ensures err { OnErr result (self.new ≡ self.old) }
+
+        // What was held is held still, and so is what was made: nobody has to ask again.
+        ensures held { IfOk result
+            (λ m. IsHeldBeside self.old self.new factory m.thing ThingKind.Writer) }
+        ensures kept { KeepsHeld self.old self.new }
     {
         let of = thing_of(factory, &self.things);
         if has_all_writers(of.board, &self.boards, &self.things) {

@@ -1,15 +1,18 @@
-//! What a caller knows of a domain that it is lent.
-ghost use Rattle.std.specs.Prelude.{◌≡◌, is_some};
+//! What a caller knows of a domain that it is lent, whatever that went through.
+ghost use Rattle.std.specs.Prelude.{◌≡◌, ◌+◌, true, is_some, IfOk, IfSome};
 ghost use Rattle.board_layout.specs.Bytes.{details};
-ghost use Rattle.board_service.specs.Domain.{stands_as};
+ghost use Rattle.board_model.specs.Tables.{board_at, reader_slots};
+ghost use Rattle.board_service.specs.Domain.{Stands, stands_as};
+ghost use Rattle.board_service.specs.Facts.{IsHeldAs};
 
 use crate::cells::Cells;
 use crate::domain_core::DomainCore;
 use crate::ids::ThingId;
-use board_layout::BoardKey;
+use crate::made::Found;
+use board_layout::{BoardKey, TypeDetail};
 use board_model::ThingKind;
 
-/// The cells of a thing's board. Whatever the domain went through, they are there where the thing is held.
+/// The cells of a thing's board. They are there where the thing is held.
 pub(super) fn cells_of<K: BoardKey, C: Cells>(
     core: &DomainCore<C>,
     thing: ThingId,
@@ -22,4 +25,46 @@ pub(super) fn cells_of<K: BoardKey, C: Cells>(
         return None;
     }
     core.cells(core.board_of(thing))
+}
+
+/// How many more readers the board may have. No more stand than it may have, so the difference is one.
+pub(super) fn free_readers<C: Cells>(core: &mut DomainCore<C>, board: u64) -> u64
+    ensures { IfSome (board_at core.old.tables board)
+        (λ b. result + reader_slots b.number core.old.tables.things ≡ b.max_readers) }
+{
+    core.facts();
+    let Some(config) = core.config_of(board) else {
+        return 0;
+    };
+    match core.use_of(board) {
+        Some(used) => config.max_readers - used.readers,
+        None => 0,
+    }
+}
+
+/// A read handle and a write handle, made by who holds a factory. Nothing is asked in between.
+pub(super) fn both_handles<K: BoardKey, C: Cells>(
+    core: &mut DomainCore<C>,
+    factory: ThingId,
+    key: &K,
+    value: &TypeDetail,
+) -> Option<(Found, Found)>
+    requires { IsHeldAs core.old (details K.type_bytes K.SIZE K.ALIGNMENT)
+        factory ThingKind.Factory }
+    ensures { let keys = details K.type_bytes K.SIZE K.ALIGNMENT in
+        IfSome result (λ r. stands_as core.new keys r.0.thing ThingKind.ReadHandle ≡ true) }
+{
+    let Ok(reader) = core.reader(factory) else {
+        return None;
+    };
+    let Ok(read) = core.entry::<K>(reader.thing, key, value) else {
+        return None;
+    };
+    let Ok(writer) = core.writer(factory) else {
+        return None;
+    };
+    match core.entry_mut::<K>(writer.thing, key, value) {
+        Ok(write) => Some((read, write)),
+        Err(_) => None,
+    }
 }

@@ -3,8 +3,8 @@ use Rattle.std.specs.Prelude.{is_some}
 use Rattle.board_model.specs.declared.tables.Thing.{Thing}
 use Rattle.board_model.specs.Tables.{board_at, port_of}
 use Rattle.board_service.specs.Descriptions.{IsCore}
-use Rattle.board_service.specs.Domain.{Domain}
-use Rattle.board_service.specs.Facts.{drawn_port}
+use Rattle.board_service.specs.Domain.{Domain, next_thing}
+use Rattle.board_service.specs.Facts.{HasEntry, HasRoomFor, WritesAlone, drawn_port}
 use Rattle.board_service.proofs.BoardLemmas.{core_port}
 use Rattle.board_service.proofs.domain_core.DomainCore.add_port.Goals as goal
 
@@ -15,6 +15,9 @@ invariant_of-self-2 g c =
     let stands = subst (λ (d : Domain g.row.C.Denot). is_some (board_at d.tables c.args.board) ≡ true) (sym c.self.view_is) c.requires.stands in
     let drawn : drawn_port c.args.kind ≡ Some (c.self.inside.last_port + 1) = subst (λ (d : Domain g.row.C.Denot). drawn_port c.args.kind ≡ Some (d.tables.last_port + 1)) (sym c.self.view_is) c.requires.drawn in
     let port : port_of c.args.kind ≡ c.self.inside.last_port + 1 = subst (λ (d : Domain g.row.C.Denot). port_of c.args.kind ≡ d.tables.last_port + 1) (sym c.self.view_is) c.requires.port in
-    let more = core_port x c.self.invariant refl stands drawn port in
+    let entry = subst (λ (d : Domain g.row.C.Denot). HasEntry d.tables.boards (next_thing d c.args.holder c.args.board c.args.kind)) (sym c.self.view_is) c.requires.entry in
+    let room = subst (λ (d : Domain g.row.C.Denot). HasRoomFor d (next_thing d c.args.holder c.args.board c.args.kind)) (sym c.self.view_is) c.requires.room in
+    let alone = subst (λ (d : Domain g.row.C.Denot). WritesAlone d.tables.things (next_thing d c.args.holder c.args.board c.args.kind)) (sym c.self.view_is) c.requires.alone in
+    let more = core_port x c.self.invariant refl stands drawn port entry room alone in
     subst (λ (ts : List (Thing ℕ ℕ)). IsCore (record { boards = s.boards.items; things = ts; last_board = s.last_board; last_port = s.last_port + 1 }) (s.last_thing + 1) s.cells.items s.descriptions)
     (sym (c.push_reserved.ensures.items ∙ ap (λ (ts : List (Thing ℕ ℕ)). ts ++ x ∷ []) c.in_ok-reserve.ensures.items)) more
