@@ -138,7 +138,7 @@ pub mod event {
     pub use board_event::{
         BitEvent, BitRegistry, EventListener, EventListenerBuilder, EventNotifier,
         EventNotifierBuilder, ListenerCreateError, ListenerWaitError, NotifierCreateError,
-        NotifierNotifyError, QueueEvent, QueueRegistry, TriggerId,
+        NotifierNotifyError, QueueEvent, QueueOfIds, QueueRegistry, SetOfIds, TriggerId,
     };
     pub use board_names::{FileName, NamedConcept, NamedConceptBuilder, NamedConceptMgmt};
 }
