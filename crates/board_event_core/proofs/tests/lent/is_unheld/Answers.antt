@@ -4,8 +4,8 @@ use Rattle.board_event_core.proofs.StandingLemmas.{none_unheld}
 use Rattle.board_event_core.proofs.tests.lent.is_unheld.Goals as goal
 
 not_both : (b : Bool) → not b ≡ true → b ≡ true → ⊥
-not_both true no yes = false≢true no
-not_both false no yes = false≢true yes
+not_both true absent held = false≢true absent
+not_both false absent held = false≢true held
 
 pub returns-then-not-has_listener : goal.returns-then-not-has_listener
 returns-then-not-has_listener c = λ nobody. none_unheld c.args.events.now c.args.event c.table_stands.ensures.kept (λ held. false≢true (c.if-not-has_listener.ensures.1 held))
