@@ -1,0 +1,114 @@
+//! A parameter server: a board of three parameters of three types, which a server sets and a client reads.
+//!
+//! The board has the attribute `unit`. A client that needs another unit is refused, and so is one that asks for a
+//! parameter as another type than its own. In iceoryx2 server and client would be processes; they would see the same
+//! answers, and `list_keys` would tell the same keys.
+#![tactic(auto)]
+
+use anyhow::Result;
+use gullinsu::layout::F8;
+use gullinsu::port::reader::Reader;
+use gullinsu::port::writer::Writer;
+use gullinsu::prelude::{
+    AttributeSpecifier, AttributeVerifier, CallbackProgression, Domain, Node, NodeName,
+    ServiceName, Shared, ZeroCopySend,
+};
+use gullinsu::service::builder::ServiceBuilder;
+use gullinsu::service::port_factory::blackboard::PortFactory;
+use std::alloc::Global;
+use std::sync::Wait;
+
+// The parameters: a rate in hertz, whether a filter is on, and the limits of its four channels.
+const RATE: F8 = F8 {
+    bytes: *b"rate    ",
+};
+
+const FILTER: F8 = F8 {
+    bytes: *b"filter  ",
+};
+
+const LIMITS: F8 = F8 {
+    bytes: *b"limits  ",
+};
+
+type Board = PortFactory<F8, Shared>;
+
+fn builder<R: Wait>(rt: &R, domain: &Domain, name: &str) -> Result<ServiceBuilder> {
+    let node = Node::new(rt, domain, NodeName::new(name)?)?;
+    Ok(node.service_builder(&ServiceName::new("parameters")?)?)
+}
+
+fn serve<R: Wait>(rt: &R, alloc: Global, domain: &Domain) -> Result<Board> {
+    let unit = AttributeSpecifier::new(alloc).define("unit", "si")?;
+    let creator = builder(rt, domain, "server")?.blackboard_creator::<F8, Shared>(alloc);
+    let creator = creator.add(RATE, 50u64)?.add(LIMITS, [1u64, 2, 3, 4])?;
+    let creator = creator.add_with_default::<bool>(FILTER)?;
+    Ok(creator.create_with_attributes(rt, unit)?)
+}
+
+// Opens the board as a client that needs this unit.
+fn connect<R: Wait>(rt: &R, alloc: Global, domain: &Domain, unit: &str) -> Result<Board> {
+    let needs = AttributeVerifier::new(alloc).require("unit", unit)?;
+    let opener = builder(rt, domain, "client")?.blackboard_opener::<F8, Shared>(alloc);
+    Ok(opener.open_with_attributes(rt, &needs)?)
+}
+
+// The keys in the order of adding. Where memory ends, those that there was room for.
+fn keys_of<R: Wait>(rt: &R, alloc: Global, board: &Board) -> Vec<F8> {
+    let mut keys = Vec::new(alloc);
+    board.list_keys(rt, |key| match keys.push(*key) {
+        Ok(()) => CallbackProgression::Continue,
+        Err(_) => CallbackProgression::Stop,
+    });
+    keys
+}
+
+fn set<V: ZeroCopySend, R: Wait>(
+    rt: &R,
+    writer: &Writer<F8, Shared>,
+    key: F8,
+    value: V,
+) -> Result<()> {
+    let mut parameter = writer.entry::<V, R>(rt, &key)?;
+    // A publication asks for room for one more generation.
+    if parameter.generation() < u64::MAX {
+        parameter.update_with_copy(value);
+    }
+    parameter.release(rt);
+    Ok(())
+}
+
+fn get<V: ZeroCopySend, R: Wait>(rt: &R, reader: &Reader<F8, Shared>, key: F8) -> Result<V> {
+    let mut parameter = reader.entry::<V, R>(rt, &key)?;
+    Ok(*parameter.get(rt).get_ref())
+}
+
+fn show<R: Wait + Print>(rt: &R, reader: &Reader<F8, Shared>) -> Result<()> {
+    let rate = get::<u64, R>(rt, reader, RATE)?;
+    let filter = get::<bool, R>(rt, reader, FILTER)?;
+    let limits = get::<[u64; 4], R>(rt, reader, LIMITS)?;
+    println!(rt; "rate {rate}, filter {filter}, limits {limits:?}")?;
+    Ok(())
+}
+
+fn main(rt: HostRuntime) -> Result<()> {
+    let domain = Domain::new(rt.alloc())?;
+    let served = serve(&rt, rt.alloc(), &domain)?;
+    if let Err(why) = connect(&rt, rt.alloc(), &domain, "miles") {
+        println!(rt; "with miles: {why}")?;
+    }
+    let opened = connect(&rt, rt.alloc(), &domain, "si")?;
+    for key in &keys_of(&rt, rt.alloc(), &opened) {
+        println!(rt; "parameter {}", str::from_utf8(&key.bytes)?.trim_end())?;
+    }
+    let reader = opened.reader_builder()?.create(&rt)?;
+    show(&rt, &reader)?;
+    let writer = served.writer_builder()?.create(&rt)?;
+    set(&rt, &writer, RATE, 100u64)?;
+    set(&rt, &writer, FILTER, true)?;
+    show(&rt, &reader)?;
+    if let Err(why) = get::<u32, HostRuntime>(&rt, &reader, RATE) {
+        println!(rt; "rate as u32: {why}")?;
+    }
+    Ok(())
+}
