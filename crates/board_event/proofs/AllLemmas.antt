@@ -1,5 +1,5 @@
 -- A wait for all that doesn't wait, on an event that nobody else has.
-use Rattle.std.specs.Prelude.{◌≡◌, ◌≢◌, ◌<◌, ◌≤◌, ℕ, ◌+◌, ◌-◌, ◌*◌, ◌/◌, ◌^◌, Bool, true, false, not, ◌&&◌, ◌||◌, nat_lt, if◌then◌else◌, List, [], ◌∷◌, ◌++◌, length, Option, Some, None, IsSomeAnd, drop, refl}
+use Rattle.std.specs.Prelude.{◌≡◌, ◌≢◌, ◌<◌, ◌≤◌, ℕ, ◌+◌, ◌-◌, ◌*◌, ◌/◌, ◌^◌, Bool, true, false, not, ◌||◌, nat_lt, if◌then◌else◌, List, [], ◌∷◌, ◌++◌, length, drop, refl}
 use Rattle.std.proofs.Common.{ap, sym, ◌∙◌, subst, arith, inl, inr, eqb}
 use Rattle.std.proofs.lemmas.Bool.{false≢true}
 use Rattle.std.proofs.lemmas.List.{append-nil}
@@ -13,14 +13,14 @@ use Rattle.board_event_model.specs.declared.call.WaitStage.{WaitStage}
 use Rattle.board_event_model.specs.declared.call.WaitStage.TheVariants as wait
 use Rattle.board_event_model.specs.declared.kind.EventKind.{EventKind}
 use Rattle.board_event_model.specs.declared.kind.EventKind.TheVariants as kind
-use Rattle.board_event_model.specs.Ids.{Ids, IsWord, has, ids_where, in_word}
+use Rattle.board_event_model.specs.Ids.{Ids, has, ids_where, in_word}
 use Rattle.board_event_model.specs.EventMemory.{CanPerform, Event, IsRight, after, kind_of_access, oldest, pop_answer, taken, yes_or_no}
 use Rattle.board_event_model.specs.EventCalls.{reported}
 use Rattle.board_event_model.specs.NotifyCalls.{is_yes}
-use Rattle.board_event_model.specs.WaitCalls.{Wait, first_word, nothing, popped, swapped, wait_owed, wait_turn, word_in}
+use Rattle.board_event_model.specs.WaitCalls.{Wait, first_word, popped, swapped, wait_owed, wait_turn, word_in}
 use Rattle.board_event_model.proofs.SetLemmas.{either, has_retain, has_retained, is_false}
 use Rattle.board_event_model.proofs.TrackLemmas.{ids_same, wait_told}
-use Rattle.board_event_core.specs.EventTable.{EventTable, IsEventTable, with_event, event_at, CanPerformAt}
+use Rattle.board_event_core.specs.EventTable.{EventTable, IsEventTable, with_event, CanPerformAt}
 use Rattle.board_event_core.proofs.BitLemmas.{empty_is}
 use Rattle.board_event.specs.Accesses.{WaitMade}
 use Rattle.board_event.specs.Ends.{NoneOfKind}
@@ -29,7 +29,7 @@ use Rattle.board_event.specs.Taking.{AllSoFar, NoneBelow, SameFrom, TryWait, to_
 use Rattle.board_event.proofs.OneLemmas.{IsOfKind, begun_kind, is_of_kind, not_made, wait_begins}
 use Rattle.board_event.proofs.TableLemmas.{Became, Became-first, Became-next, at_event, event_here}
 use Rattle.board_event.proofs.TryLemmas.{TryWait-made}
-use Rattle.board_event.proofs.WordLemmas.{IsListOf-below, differ, eqb_is, ids_where-parts, is_eqb}
+use Rattle.board_event.proofs.WordLemmas.{IsListOf-below, differ, eqb_is, ids_where-parts}
 
 -- ---- a word that is taken
 

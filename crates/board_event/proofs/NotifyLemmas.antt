@@ -1,7 +1,6 @@
 -- A notify, on an event that nobody else has.
-use Rattle.std.specs.Prelude.{◌≡◌, ◌≢◌, ◌<◌, ◌≤◌, ℕ, ◌+◌, ◌-◌, ◌^◌, Bool, true, false, not, ◌||◌, nat_lt, if◌then◌else◌, List, [], ◌∷◌, ◌++◌, length, Option, Some, None, Result, Ok, Err, IsSomeAnd, ◌⊎◌, refl}
+use Rattle.std.specs.Prelude.{◌≡◌, ◌≢◌, ◌<◌, ◌≤◌, ℕ, ◌+◌, ◌-◌, ◌^◌, Bool, true, false, nat_lt, Option, Some, None, Result, Ok, Err, IsSomeAnd, ◌⊎◌, refl}
 use Rattle.std.proofs.Common.{ap, sym, ◌∙◌, subst, arith, inl, inr}
-use Rattle.std.proofs.lemmas.Bool.{false≢true}
 use Rattle.std.specs.FinSet as set
 use Rattle.board_names.specs.declared.errors.event.NotifierNotifyError.{NotifierNotifyError}
 use Rattle.board_names.specs.declared.errors.event.NotifierNotifyError.TheVariants as error
@@ -17,10 +16,10 @@ use Rattle.board_event_model.specs.EventMemory.{CanPerform, Event, IsRight, afte
 use Rattle.board_event_model.specs.NotifyCalls.{Notify, is_yes, notify_owed, notify_turn, pushed}
 use Rattle.board_event_model.proofs.SetLemmas.{either}
 use Rattle.board_event_model.proofs.QuietLemmas.{ltb_false, ltb_true}
-use Rattle.board_event_core.specs.EventTable.{CanPerformAt, EventTable, with_event, event_at}
+use Rattle.board_event_core.specs.EventTable.{EventTable, with_event, event_at}
 use Rattle.board_event.specs.Accesses.{IsNotifyAccess, IsNotifyMade, NotifyLeft, NotifyMade, left_out}
 use Rattle.board_event.specs.Ends.{NoneOfKind}
-use Rattle.board_event.specs.LentForms.{OnKindAt, StandsAs, notified, notify_answer, posted, push_told}
+use Rattle.board_event.specs.LentForms.{OnKindAt, StandsAs, notified, notify_answer}
 use Rattle.board_event.specs.Taking.{NotifySoFar, notify_begun, notify_left}
 use Rattle.board_event.proofs.TableLemmas.{Became, Became-first, Became-next, at_event, event_here}
 

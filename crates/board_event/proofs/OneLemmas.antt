@@ -1,15 +1,13 @@
 -- A wait for one that doesn't wait, on an event that nobody else has.
-use Rattle.std.specs.Prelude.{◌≡◌, ◌≢◌, ◌<◌, ◌≤◌, ℕ, ◌+◌, ◌-◌, ◌*◌, ◌/◌, ◌^◌, Bool, true, false, not, ◌&&◌, ◌||◌, nat_lt, if◌then◌else◌, List, [], ◌∷◌, Option, Some, None, Result, Ok, IfSome, IsSomeAnd, drop, slice_get, refl}
+use Rattle.std.specs.Prelude.{◌≡◌, ◌≢◌, ◌<◌, ℕ, ◌+◌, ◌-◌, ◌/◌, ◌^◌, Bool, true, false, ◌||◌, nat_lt, if◌then◌else◌, List, [], ◌∷◌, Option, Some, None, Result, Ok, IfSome, IsSomeAnd, drop, refl}
 use Rattle.std.proofs.Common.{ap, sym, ◌∙◌, subst, arith, inl, inr, eqb}
 use Rattle.std.proofs.lemmas.Bool.{false≢true}
-use Rattle.std.specs.FinSet as set
 use Rattle.std.specs.List.{list_any}
 use Rattle.std.specs.Ordering.{nat_cmp}
 use Rattle.std.specs.BTreeMap.{is_at}
 use Rattle.std.proofs.lemmas.Map.Views.{IfSome-lookup_from_All}
 use Rattle.board_names.specs.declared.errors.event.ListenerWaitError.{ListenerWaitError}
 use Rattle.board_event_model.specs.declared.access.EventAnswer.{EventAnswer}
-use Rattle.board_event_model.specs.declared.access.EventAnswer.TheVariants as answer
 use Rattle.board_event_model.specs.declared.call.EventProgress.{EventProgress}
 use Rattle.board_event_model.specs.declared.call.EventProgress.TheVariants as progress
 use Rattle.board_event_model.specs.declared.call.WaitMode.TheVariants as mode
@@ -20,17 +18,15 @@ use Rattle.board_event_model.specs.declared.kind.EventKind.TheVariants as kind
 use Rattle.board_event_model.specs.Ids.{Ids, IsWord, has}
 use Rattle.board_event_model.specs.EventMemory.{CanPerform, Event, IsRight, after, is_pending, kind_of_access, pop_answer, yes_or_no}
 use Rattle.board_event_model.specs.NotifyCalls.{is_yes}
-use Rattle.board_event_model.specs.WaitCalls.{Wait, first_word, nothing, popped, scanned, wait_owed, wait_turn, word_in}
+use Rattle.board_event_model.specs.WaitCalls.{Wait, first_word, nothing, popped, scanned, wait_owed, wait_turn}
 use Rattle.board_event_model.proofs.SetLemmas.{either, has_empty, is_false, or_split}
-use Rattle.board_event_model.proofs.QuietLemmas.{word_empty}
 use Rattle.board_event_core.specs.EventTable.{CanPerformAt, EventTable, IsEvent, IsEventTable, event_at, with_event}
-use Rattle.board_event_core.specs.IdSets.{IsLeast}
 use Rattle.board_event.specs.Ends.{End, NoneOfKind}
 use Rattle.board_event.specs.Accesses.{WaitMade}
 use Rattle.board_event.specs.LentForms.{GivesNone, IsEventAt, IsNext, NoneWaits, OnEventAt, one_taken}
-use Rattle.board_event.specs.Taking.{NoneBelow, OneSoFar, OneTaken, TryStage, TryWait, wait_begun, with_signals}
+use Rattle.board_event.specs.Taking.{NoneBelow, OneSoFar, OneTaken, TryWait, wait_begun, with_signals}
 use Rattle.board_event.proofs.TableLemmas.{Became, Became-first, Became-next, at_event, event_here}
-use Rattle.board_event.proofs.TryLemmas.{TryWait-made, nothing_ends}
+use Rattle.board_event.proofs.TryLemmas.{TryWait-made}
 use Rattle.board_event.proofs.WordLemmas.{IsLeast-word, NoneBelow-more, differ, eqb_is}
 
 -- what a wait for one has come to: it gave an id and is at its end, or goes on so

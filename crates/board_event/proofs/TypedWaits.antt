@@ -1,20 +1,17 @@
 -- A typed wait, one hold of the lock after another: each id that it reports waited under that hold.
-use Rattle.std.specs.Prelude.{◌≡◌, ◌≢◌, ◌<◌, ◌≤◌, ℕ, zero, suc, ◌+◌, ◌-◌, ◌*◌, ◌/◌, ◌^◌, Bool, true, false, not, ◌&&◌, ◌||◌, ◌==◌, if◌then◌else◌, List, [], ◌∷◌, ◌++◌, Option, Some, None, IfSome, IsSomeAnd, ⊤, refl}
-use Rattle.std.proofs.Common.{ap, sym, ◌∙◌, subst, arith, inl, inr, eqb}
-use Rattle.std.specs.List.{FoldsTo, list_any}
+use Rattle.std.specs.Prelude.{◌≡◌, ◌≤◌, ℕ, zero, suc, ◌+◌, ◌*◌, ◌^◌, Bool, true, false, not, ◌&&◌, ◌||◌, if◌then◌else◌, List, [], ◌∷◌, ◌++◌, Option, Some, None, IfSome, IsSomeAnd, refl}
+use Rattle.std.proofs.Common.{sym, subst, arith, inl, inr, eqb}
+use Rattle.std.specs.List.{FoldsTo}
 use Rattle.std.specs.Ordering.{nat_cmp}
 use Rattle.std.specs.BTreeMap.{is_at}
 use Rattle.std.proofs.lemmas.Map.Views.{IfSome-lookup_from_All}
-use Rattle.board_event_model.specs.declared.access.EventAccess.{EventAccess}
-use Rattle.board_event_model.specs.declared.access.EventAccess.TheVariants as access
 use Rattle.board_event_model.specs.declared.access.EventAnswer.{EventAnswer}
 use Rattle.board_event_model.specs.declared.access.EventAnswer.TheVariants as answer
 use Rattle.board_event_model.specs.declared.call.EventProgress.{EventProgress}
 use Rattle.board_event_model.specs.declared.call.EventProgress.TheVariants as progress
-use Rattle.board_event_model.specs.declared.call.WaitMode.{WaitMode}
 use Rattle.board_event_model.specs.declared.call.WaitStage.{WaitStage}
 use Rattle.board_event_model.specs.declared.call.WaitStage.TheVariants as wait
-use Rattle.board_event_model.specs.Ids.{Ids, has, ids_where}
+use Rattle.board_event_model.specs.Ids.{has, ids_where}
 use Rattle.board_event_model.specs.EventCalls.{reported}
 use Rattle.board_event_model.specs.EventMemory.{CanPerform, Event, IsRight, is_pending, oldest, taken}
 use Rattle.board_event_model.specs.NotifyCalls.{is_yes}
@@ -22,7 +19,7 @@ use Rattle.board_event_model.specs.WaitCalls.{Wait, is_try, nothing, popped, sca
 use Rattle.board_event_model.proofs.SetLemmas.{either}
 use Rattle.board_event_model.proofs.TrackLemmas.{wait_told}
 use Rattle.board_event_core.specs.EventTable.{EventTable, IsEvent, IsEventTable, event_at}
-use Rattle.board_event.specs.Accesses.{IsInRange, IsWaitHold, WaitHeld, WaitMade}
+use Rattle.board_event.specs.Accesses.{IsInRange, IsWaitHold}
 use Rattle.board_event.specs.Ends.{End}
 use Rattle.board_event.specs.TypedCalls.{Each, Waited}
 use Rattle.board_event.proofs.WordLemmas.{is_eqb}

@@ -1,14 +1,12 @@
 -- The ids of a word and of many words.
-use Rattle.std.specs.Prelude.{◌≡◌, ◌<◌, ◌≤◌, ℕ, zero, suc, ◌+◌, ◌-◌, ◌*◌, ◌/◌, ◌%◌, ◌^◌, Bool, true, false, not, ◌==◌, if◌then◌else◌, List, [], ◌∷◌, ◌++◌, refl}
-use Rattle.std.proofs.Common.{ap, sym, ◌∙◌, subst, arith, inl, inr, rules, eqb, w64}
+use Rattle.std.specs.Prelude.{◌≡◌, ◌<◌, ◌≤◌, ℕ, zero, suc, ◌+◌, ◌-◌, ◌*◌, ◌/◌, ◌%◌, ◌^◌, Bool, true, false, ◌==◌, if◌then◌else◌, List, ◌∷◌, ◌++◌, refl}
+use Rattle.std.proofs.Common.{ap, sym, ◌∙◌, subst, arith, inl, inr, eqb, w64}
 use Rattle.std.proofs.lemmas.Bool.{false≢true}
 use Rattle.std.proofs.lemmas.Bool.Decides.{Decides-eqb}
-use Rattle.std.proofs.lemmas.List.{append-nil}
 use Rattle.std.proofs.lemmas.Nat.Bits.{bit_at-lt, bit_at-trailing_zeros}
 use Rattle.std.specs.Int.{bit_at, trailing_zeros}
 use Rattle.std.specs.List.{FoldsTo, list_any}
-use Rattle.std.specs.FinSet as set
-use Rattle.board_event_model.specs.Ids.{Ids, IsWord, has, ids_where, in_word}
+use Rattle.board_event_model.specs.Ids.{Ids, IsWord, has, ids_where}
 use Rattle.board_event_model.proofs.SetLemmas.{either, is_false, or_split, or_left, or_right}
 use Rattle.board_event_model.proofs.QuietLemmas.{bit_one, word_empty}
 use Rattle.board_event_core.specs.IdSets.{IsAscending, IsLeast, IsListOf}

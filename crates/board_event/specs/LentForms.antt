@@ -1,5 +1,5 @@
 -- What a notify and the waits that don't wait answer over a lent table, and what they leave.
-use Rattle.std.specs.Prelude.{◌≡◌, ◌↔◌, IfSome, ℕ, ◌+◌, ◌-◌, ◌^◌, Bool, true, false, not, ◌||◌, nat_lt, if◌then◌else◌, List, [], drop, slice_get, Option, Some, None, Result, Ok, Err}
+use Rattle.std.specs.Prelude.{◌≡◌, ◌↔◌, IfSome, ℕ, ◌+◌, ◌-◌, ◌^◌, false, not, ◌||◌, nat_lt, if◌then◌else◌, List, [], drop, slice_get, Option, Some, None, Result, Ok, Err}
 use Rattle.std.specs.List.{FoldsTo}
 use Rattle.std.specs.FinSet as set
 use Rattle.board_names.specs.declared.errors.event.NotifierNotifyError.{NotifierNotifyError}

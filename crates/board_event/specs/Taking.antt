@@ -1,6 +1,5 @@
 -- Calls that are driven to their end on events that nobody else has. No clause of a public call cites what follows.
-use Rattle.std.specs.Prelude.{◌≡◌, ◌<◌, ◌≤◌, ℕ, zero, ◌+◌, ◌-◌, ◌*◌, ◌/◌, ◌^◌, Bool, true, false, List, [], IfSome, Option, Some, None, length, ⊤}
-use Rattle.std.specs.List.{FoldsTo}
+use Rattle.std.specs.Prelude.{◌≡◌, ◌<◌, ◌≤◌, ℕ, ◌+◌, ◌-◌, ◌*◌, ◌/◌, ◌^◌, Bool, true, false, List, [], IfSome, Option, Some, None, length, ⊤}
 use Rattle.std.specs.FinSet as set
 use Rattle.board_event_model.specs.declared.call.NotifyStage.{NotifyStage}
 use Rattle.board_event_model.specs.declared.call.NotifyStage.TheVariants as notify
