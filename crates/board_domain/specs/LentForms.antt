@@ -17,6 +17,7 @@ use Rattle.board_domain.specs.Services.{CreatorSeen, OpenerSeen, FactorySeen, fa
 use Rattle.board_service.specs.Domain as calls
 use Rattle.board_service.specs.Domain.{stands_as, held, after_create, after_open}
 use Rattle.board_service.specs.declared.told.DynamicConfig.{DynamicConfig}
+use Rattle.board_service.specs.Facts.{IsDomain}
 use Rattle.board_service.specs.Told.{use_in}
 use Rattle.board_cells.specs.Cells.{PlaceSeen, AreNew}
 use Rattle.board_domain.specs.Walks.{nodes_in, keys_in}
@@ -62,10 +63,10 @@ LeavesMade (Err e) b old new = IsNotMade b old new
 abbrev pub StaysUnmade : NewBoard → (List ℕ → List ℕ → Bool) → Core → Core → Type 0
 StaysUnmade b same_key old new = StaysIfRefused (calls.create_answer old same_key b.name b.entries) old new
 
--- a typed `create` was made over some tables, of which nothing more is known, and left them in some way
+-- a typed `create` was made over the tables of some domain, of which nothing more is known, and left them in some way
 abbrev pub CreatesSomewhere : Result FactorySeen BlackboardCreateError → (List ℕ → List ℕ → Bool) → NewBoard → Type 0
 CreatesSomewhere result same_key b =
-    (old : Core) × (new : Core)
+    (old : Core) × (new : Core) × IsDomain old
     × Answers (with_value factory_made result) create_error.OutOfMemory (calls.create_answer old same_key b.name b.entries)
     × Refuses (with_value factory_made result) (calls.create_answer old same_key b.name b.entries)
     × LeavesMade result b old new × IfOk result (KeepsBoard new)
@@ -85,10 +86,10 @@ LeavesOpened (Err e) node name old new = (new ≡ old) ⊎ (new ≡ without_thin
 abbrev pub StaysUnopened : OpenerSeen → TypeDetail → Requirements → Core → Core → Type 0
 StaysUnopened o keys needs old new = StaysIfRefused (open_answer old keys o needs) old new
 
--- a typed `open` was made over some tables, of which nothing more is known, and left them in some way
+-- a typed `open` was made over the tables of some domain, of which nothing more is known, and left them in some way
 abbrev pub OpensSomewhere : Result FactorySeen BlackboardOpenError → OpenerSeen → TypeDetail → Requirements → Type 0
 OpensSomewhere result o keys needs =
-    (old : Core) × (new : Core)
+    (old : Core) × (new : Core) × IsDomain old
     × Answers (with_value factory_made result) open_error.OutOfMemory (open_answer old keys o needs)
     × Refuses (with_value factory_made result) (open_answer old keys o needs)
     × LeavesOpened result o.node o.name old new × IfOk result (KeepsBoard new)

@@ -15,7 +15,7 @@ use board_concepts::{AttributeSet, AttributeVerifier};
 use board_handles::{BoardCells, DomainState};
 use board_layout::BoardKey;
 use board_model::{Limits, NewLimits};
-use board_names::{BlackboardCreateError, BlackboardOpenError, ServiceName};
+use board_names::{AttributeError, BlackboardCreateError, BlackboardOpenError, ServiceName};
 use board_service::{DomainCore, Made, NewEntry, NodeId, StaticConfig};
 use std::alloc::AllocError;
 
@@ -46,7 +46,9 @@ fn kept_of(tables: &DomainCore<BoardCells>, made: Made) -> Result<Kept, AllocErr
             config,
             attributes,
         }),
-        Err(_) => Err(AllocError),
+        Err(AttributeError::OutOfMemory) => Err(AllocError),
+        // Only for want of memory is a copy refused.
+        Err(_) => unreachable!(),
     }
 }
 

@@ -51,9 +51,7 @@ impl Node {
         if state.nodes >= LAST {
             return Err(DomainError::NumbersSpent);
         }
-        let Ok(domain) = domain.share() else {
-            return Err(DomainError::OutOfMemory);
-        };
+        let domain = domain.share()?;
         state.nodes += 1;
         Ok(Node {
             id: NodeId(state.nodes),
@@ -96,9 +94,7 @@ impl Node {
         ensures ok { IfOk result (λ b. b ≡ record { node = self.now.id; name = name.now }) }
         ensures memory { IsOkUnless result OutOfMemory }
     {
-        match self.domain.share() {
-            Ok(domain) => Ok(ServiceBuilder::new(self.id, *name, domain)),
-            Err(_) => Err(DomainError::OutOfMemory),
-        }
+        let domain = self.domain.share()?;
+        Ok(ServiceBuilder::new(self.id, *name, domain))
     }
 }

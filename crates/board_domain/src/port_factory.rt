@@ -218,10 +218,8 @@ impl<K: BoardKey, P> PortFactory<K, P> {
         ensures ok { IfOk result (λ r. r ≡ self.now.made.thing) }
         ensures memory { IsOkUnless result OutOfMemory }
     {
-        match self.domain.share() {
-            Ok(domain) => Ok(PortFactoryReader::new(self.alloc, self.made.thing, domain)),
-            Err(_) => Err(DomainError::OutOfMemory),
-        }
+        let domain = self.domain.share()?;
+        Ok(PortFactoryReader::new(self.alloc, self.made.thing, domain))
     }
 
     /// What makes a writer of the board, while this factory stands.
@@ -232,10 +230,8 @@ impl<K: BoardKey, P> PortFactory<K, P> {
         ensures ok { IfOk result (λ w. w ≡ self.now.made.thing) }
         ensures memory { IsOkUnless result OutOfMemory }
     {
-        match self.domain.share() {
-            Ok(domain) => Ok(PortFactoryWriter::new(self.alloc, self.made.thing, domain)),
-            Err(_) => Err(DomainError::OutOfMemory),
-        }
+        let domain = self.domain.share()?;
+        Ok(PortFactoryWriter::new(self.alloc, self.made.thing, domain))
     }
 
     /// `release` over the domain's state itself.

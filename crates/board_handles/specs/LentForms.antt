@@ -18,6 +18,7 @@ use Rattle.board_cell.specs.Passes.{CellSeen}
 use Rattle.board_service.specs.declared.made.Made.{Made}
 use Rattle.board_service.specs.declared.made.Found.{Found}
 use Rattle.board_service.specs.Domain.{stands_as, held, entry_of_thing, reader_answer, writer_answer, entry_answer, after_entry, entry_mut_answer, after_entry_mut, after_release}
+use Rattle.board_service.specs.Facts.{IsDomain}
 use Rattle.board_cells.specs.Cells.{EndSeen, cell_width, end_width, fits}
 use Rattle.board_handles.specs.BoardEnds.{Core, cell_of, parked_of, taken, parked}
 use Rattle.board_handles.specs.Handles.{ReadSeen, WriteSeen}
@@ -170,21 +171,23 @@ abbrev pub UndoesWritten : Result WriteSeen EntryHandleMutError → Core → Ask
 UndoesWritten result before a writer now =
     IsUndone (write_asked before a writer) (entry_mut_error.ThingUnknown writer) result before (with_write before a writer) now
 
--- ---- typed calls: of what stands behind the lock nothing is known, so what they answer is said of some tables
+-- ---- typed calls: what stands behind the lock is some domain, of which nothing more is known
 
 abbrev pub MakesReader : Result Made ReaderCreateError → TypeDetail → ℕ → Type 0
 MakesReader result keys factory =
-    (d : Core) × Answers result reader_error.OutOfMemory (reader_made d keys factory) × Refuses result (reader_made d keys factory)
+    (d : Core) × IsDomain d
+    × Answers result reader_error.OutOfMemory (reader_made d keys factory) × Refuses result (reader_made d keys factory)
 
 abbrev pub MakesWriter : Result Made WriterCreateError → TypeDetail → ℕ → Type 0
 MakesWriter result keys factory =
-    (d : Core) × Answers result writer_error.OutOfMemory (writer_made d keys factory) × Refuses result (writer_made d keys factory)
+    (d : Core) × IsDomain d
+    × Answers result writer_error.OutOfMemory (writer_made d keys factory) × Refuses result (writer_made d keys factory)
 
 abbrev pub FindsToRead : Result ReadSeen EntryHandleError → Asked → ℕ → Type 0
-FindsToRead result a reader = (d : Core) × AnswersReader result d a reader × RefusesReader result d a reader
+FindsToRead result a reader = (d : Core) × IsDomain d × AnswersReader result d a reader × RefusesReader result d a reader
 
 abbrev pub FindsToWrite : Result WriteSeen EntryHandleMutError → Asked → ℕ → Type 0
-FindsToWrite result a writer = (d : Core) × AnswersWriter result d a writer × RefusesWriter result d a writer
+FindsToWrite result a writer = (d : Core) × IsDomain d × AnswersWriter result d a writer × RefusesWriter result d a writer
 
 -- ---- release
 

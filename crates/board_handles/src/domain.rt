@@ -1,10 +1,11 @@
 //! Domains: what many nodes share.
 ghost use Rattle.std.specs.Prelude.{IsOkUnless};
+ghost use Rattle.std.specs.Sync.Mutex.{mutex_guard_value};
 ghost use Rattle.board_names.specs.declared.errors.service.DomainError.TheVariants.{OutOfMemory};
+ghost use Rattle.board_service.specs.Facts.{IsDomain};
 
 use crate::state::DomainState;
 use board_names::DomainError;
-use board_service::DomainCore;
 use std::alloc::Global;
 use std::sync::{Arc, Mutex, MutexGuard, Wait};
 
@@ -22,11 +23,7 @@ impl Domain {
     pub fn new(alloc: Global) -> Result<Domain, DomainError>
         ensures memory { IsOkUnless result OutOfMemory }
     {
-        let state = DomainState {
-            tables: DomainCore::new(alloc),
-            nodes: 0,
-        };
-        match Arc::new(alloc, Mutex::new(state)) {
+        match Arc::new(alloc, Mutex::new(DomainState::new(alloc))) {
             Ok(state) => Ok(Domain { state }),
             Err(_) => Err(DomainError::OutOfMemory),
         }
@@ -46,7 +43,11 @@ impl Domain {
     }
 
     /// What stands behind the lock, once no one else has it.
-    pub fn lock<R: Wait>(&self, rt: &R) -> MutexGuard<'_, DomainState> {
-        self.state.lock(rt)
+    pub fn lock<R: Wait>(&self, rt: &R) -> MutexGuard<'_, DomainState>
+        ensures facts { IsDomain (mutex_guard_value result).tables }
+    {
+        let state = self.state.lock(rt);
+        state.tables.facts();
+        state
     }
 }

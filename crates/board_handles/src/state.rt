@@ -1,8 +1,10 @@
 //! What a domain keeps behind its lock.
-ghost use Rattle.std.specs.Prelude.{◌≤◌};
+ghost use Rattle.std.specs.Prelude.{◌≡◌, ◌≤◌};
+ghost use Rattle.board_service.specs.Domain.{empty};
 
 use board_cells::BoardCells;
 use board_service::DomainCore;
+use std::alloc::Global;
 
 /// What a domain keeps behind its lock.
 #[derive(Drop)]
@@ -12,4 +14,17 @@ pub struct DomainState {
     /// The number of the last node, at most 2^64 - 2.
     pub nodes: u64,
     pub ghost few: { nodes ≤ 18446744073709551614 },
+}
+
+impl DomainState {
+    /// No nodes and no boards.
+    pub fn new(alloc: Global) -> DomainState
+        ensures tables { result.tables ≡ empty }
+        ensures nodes { result.nodes ≡ 0 }
+    {
+        DomainState {
+            tables: DomainCore::new(alloc),
+            nodes: 0,
+        }
+    }
 }
