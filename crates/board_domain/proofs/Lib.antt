@@ -1,3 +1,4 @@
 pub mod EntryLemmas
 pub mod KeptLemmas
 pub mod WalkLemmas
+pub mod NodeLaws

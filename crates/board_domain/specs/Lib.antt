@@ -4,3 +4,4 @@ pub mod Kept
 pub mod Walks
 pub mod LentForms
 pub mod Factories
+pub mod LawsOfNodes
