@@ -1,5 +1,5 @@
 //! Why a call would be refused, for callers that keep lists of their own beside the core. None of these takes memory.
-ghost use Rattle.std.specs.Prelude.{◌≡◌, true};
+ghost use Rattle.std.specs.Prelude.{◌≡◌, ◌<◌, ◌-◌, ◌^◌, true, nat_eq, IfNone};
 ghost use Rattle.std.specs.List.{list_any};
 ghost use Rattle.board_layout.specs.Keys.{is_key};
 ghost use Rattle.board_layout.specs.Bytes.{details};
@@ -9,9 +9,9 @@ ghost use Rattle.board_service.specs.Domain as domain;
 
 use super::DomainCore;
 use crate::cells::Cells;
-use crate::counts::has_write_handle;
+use crate::held::thing_of;
 use crate::ids::{NodeId, ThingId};
-use crate::lookups::{find_entry, has_all_readers, has_all_writers, thing_of};
+use crate::lookups::{find_entry, has_all_readers, has_all_writers};
 use crate::refusals::{LAST, has_name, open_refusal};
 use board_concepts::AttributeVerifier;
 use board_layout::{BoardKey, TypeDetail, TypeVariant};
@@ -37,8 +37,12 @@ impl<C: Cells> DomainCore<C> {
         limits: Limits,
         verifier: &AttributeVerifier,
     ) -> Option<BlackboardOpenError>
-        ensures { result ≡ first_of (domain.open_list self.now node name.now
+        ensures first { result ≡ first_of (domain.open_list self.now node name.now
             (details K.type_bytes K.SIZE K.ALIGNMENT) limits verifier.now) }
+
+        // Where nothing refuses it, `open_unrefused` may be called.
+        ensures joins { IfNone result (domain.CanJoin nat_eq self.now.tables node name.now) }
+        ensures below { IfNone result (self.now.last_thing < 2 ^ 64 - 2) }
     {
         let key = TypeDetail::new::<K>(TypeVariant::FixedSize);
         open_refusal(
@@ -49,7 +53,7 @@ impl<C: Cells> DomainCore<C> {
             verifier,
             &self.boards,
             &self.things,
-            self.last_thing,
+            self.things.last(),
         )
     }
 
@@ -62,7 +66,7 @@ impl<C: Cells> DomainCore<C> {
         if has_all_readers(of.board, &self.boards, &self.things) {
             return Some(ReaderCreateError::ExceedsMaxSupportedReaders);
         }
-        if self.last_port >= LAST || self.last_thing >= LAST {
+        if self.last_port >= LAST || self.things.last() >= LAST {
             return Some(ReaderCreateError::NumbersSpent);
         }
         None
@@ -77,7 +81,7 @@ impl<C: Cells> DomainCore<C> {
         if has_all_writers(of.board, &self.boards, &self.things) {
             return Some(WriterCreateError::ExceedsMaxSupportedWriters);
         }
-        if self.last_port >= LAST || self.last_thing >= LAST {
+        if self.last_port >= LAST || self.things.last() >= LAST {
             return Some(WriterCreateError::NumbersSpent);
         }
         None
@@ -99,7 +103,7 @@ impl<C: Cells> DomainCore<C> {
         let Some((_entry, _found)) = find_entry::<K>(of.board, key, value, &self.boards) else {
             return Some(EntryHandleError::EntryDoesNotExist);
         };
-        if self.last_thing >= LAST {
+        if self.things.last() >= LAST {
             return Some(EntryHandleError::NumbersSpent);
         }
         None
@@ -122,10 +126,10 @@ impl<C: Cells> DomainCore<C> {
         let Some((entry, _found)) = find_entry::<K>(of.board, key, value, &self.boards) else {
             return Some(EntryHandleMutError::EntryDoesNotExist);
         };
-        if has_write_handle(of.board, entry, &self.things) {
+        if self.things.has_write_handle(of.board, entry) {
             return Some(EntryHandleMutError::HandleAlreadyExists);
         }
-        if self.last_thing >= LAST {
+        if self.things.last() >= LAST {
             return Some(EntryHandleMutError::NumbersSpent);
         }
         None
