@@ -1,7 +1,9 @@
 //! Further factories of a board.
-ghost use Rattle.std.specs.Prelude.{◌≡◌, true, IfOk, OnOk, OnErr};
+ghost use Rattle.std.specs.Prelude.{◌≡◌, ◌<◌, ◌-◌, ◌^◌, nat_eq, IfOk, OnOk, OnErr};
 ghost use Rattle.board_layout.specs.Answer.{Answers, Refuses};
 ghost use Rattle.board_layout.specs.Bytes.{details};
+ghost use Rattle.board_model.specs.TableCalls.{number_of};
+ghost use Rattle.board_model.specs.Tables.{board_named};
 ghost use Rattle.board_service.specs.Domain as domain;
 ghost use Rattle.board_service.specs.Facts.{IsHeldAs, KeepsHeld};
 
@@ -14,6 +16,7 @@ use board_concepts::AttributeVerifier;
 use board_layout::{BoardKey, TypeDetail, TypeVariant};
 use board_model::{Kind, Limits, ThingKind};
 use board_names::{BlackboardOpenError, ServiceName};
+use std::alloc::AllocError;
 
 impl<C: Cells> DomainCore<C> {
     /// Makes a factory of the board with this name, for a node. `number` is the board's. A limit of `None` or 0 asks nothing.
@@ -55,10 +58,26 @@ impl<C: Cells> DomainCore<C> {
         if let Some(why) = refusal {
             return Err(why);
         }
-        let number = number_of_named(name, &self.boards);
-        match self.add_thing(node, number, Kind::Factory) {
-            Ok(thing) => Ok(Made { thing, number }),
+        match self.open_unrefused(node, name) {
+            Ok(made) => Ok(made),
             Err(_) => Err(BlackboardOpenError::OutOfMemory),
         }
+    }
+
+    /// Makes a factory of the board with this name, for a node, after `open_refusal` told that nothing refuses it: nothing is looked at again. `number` is the board's.
+    ///
+    /// # Errors
+    /// `AllocError` where memory is refused. All stays as it was.
+    pub fn open_unrefused(&mut self, node: NodeId, name: &ServiceName) -> Result<Made, AllocError>
+        requires joins { domain.CanJoin nat_eq self.old.tables node name.now }
+        requires below { self.old.last_thing < 2 ^ 64 - 2 }
+        ensures made { IfOk result
+            (λ m. m ≡ domain.made self.old (number_of (board_named self.old.tables name.now))) }
+        ensures ok { OnOk result (self.new ≡ domain.after_open self.old node name.now) }
+        ensures err { OnErr result (self.new ≡ self.old) }
+    {
+        let number = number_of_named(name, &self.boards);
+        let thing = self.add_thing(node, number, Kind::Factory)?;
+        Ok(Made { thing, number })
     }
 }

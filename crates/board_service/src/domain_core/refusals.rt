@@ -1,5 +1,5 @@
 //! Why a call would be refused, for callers that keep lists of their own beside the core. None of these takes memory.
-ghost use Rattle.std.specs.Prelude.{◌≡◌, true};
+ghost use Rattle.std.specs.Prelude.{◌≡◌, ◌<◌, ◌-◌, ◌^◌, true, nat_eq, IfNone};
 ghost use Rattle.std.specs.List.{list_any};
 ghost use Rattle.board_layout.specs.Keys.{is_key};
 ghost use Rattle.board_layout.specs.Bytes.{details};
@@ -37,8 +37,12 @@ impl<C: Cells> DomainCore<C> {
         limits: Limits,
         verifier: &AttributeVerifier,
     ) -> Option<BlackboardOpenError>
-        ensures { result ≡ first_of (domain.open_list self.now node name.now
+        ensures first { result ≡ first_of (domain.open_list self.now node name.now
             (details K.type_bytes K.SIZE K.ALIGNMENT) limits verifier.now) }
+
+        // Where nothing refuses it, `open_unrefused` may be called.
+        ensures joins { IfNone result (domain.CanJoin nat_eq self.now.tables node name.now) }
+        ensures below { IfNone result (self.now.last_thing < 2 ^ 64 - 2) }
     {
         let key = TypeDetail::new::<K>(TypeVariant::FixedSize);
         open_refusal(

@@ -6,34 +6,34 @@ use Rattle.board_model.specs.declared.tables.Thing.{Thing}
 use Rattle.board_layout.specs.declared.type_detail.TypeDetail.{TypeDetail}
 use Rattle.board_model.specs.declared.tables.ThingKind.TheVariants as thing_kind
 use Rattle.board_model.specs.TypeTable.{same_type}
-use Rattle.board_model.specs.Tables.{board_at, has_name, holds_at, is_numbered}
-use Rattle.board_model.specs.TableCalls.{has_all_nodes, number_of}
+use Rattle.board_model.specs.Tables.{board_named, has_name, holds_at, is_numbered}
+use Rattle.board_model.specs.TableCalls.{number_of}
+use Rattle.board_service.specs.declared.made.Made.{Made}
 use Rattle.board_service.specs.Domain.{Domain, next_thing}
-use Rattle.board_service.specs.Facts.{HasRoomFor, IsDomain}
+use Rattle.board_service.specs.Facts.{IsDomain}
 use Rattle.board_service.proofs.BoardLemmas.{core_domain}
 use Rattle.board_service.proofs.HeldLemmas.{kept_next, next_held}
-use Rattle.board_service.proofs.RoomLemmas.{keys_found, open_room}
+use Rattle.board_service.proofs.RoomLemmas.{can_join, keys_found}
 use Rattle.board_service.proofs.domain_core.DomainCore.open.Goals as goal
 
-pub add_thing-requires-clause-room : goal.add_thing-requires-clause-room
-add_thing-requires-clause-room g c =
-    let known = subst (λ (d : Domain g.row.C.Denot). IsDomain d) c.self.view_is (core_domain c.self.invariant) in
+pub open_unrefused-requires-clause-joins : goal.open_unrefused-requires-clause-joins
+open_unrefused-requires-clause-joins g c =
     let things = ap (λ (d : Domain g.row.C.Denot). d.tables.things) c.self.view_is in
     let boards = ap (λ (d : Domain g.row.C.Denot). d.tables.boards) c.self.view_is in
-    let named = c.number_of_named-number.ensures.value ∙ ap (λ (bs : List Board). number_of (find (has_name c.args.name.now) bs)) (c.deref-3.ensures.value ∙ sym c.deref.ensures.value) in
-    open_room c.args.self.now c.args.node c.number_of_named-number.result c.args.name.now c.deref.result.now c.deref-2.result.now known
-    (c.deref.ensures.value ∙ boards) (c.deref-2.ensures.value ∙ things) named c.in_default.ensures.stands c.in_default.ensures.room
+    can_join c.args.self.now c.args.node c.args.name.now c.deref.result.now c.deref-2.result.now
+    (c.deref.ensures.value ∙ boards) (c.deref-2.ensures.value ∙ things) c.in_default.ensures.stands c.in_default.ensures.room
 
 pub returns-in-Ok-clause-held : goal.returns-in-Ok-clause-held
 returns-in-Ok-clause-held g c =
     let known = subst (λ (d : Domain g.row.C.Denot). IsDomain d) c.self.view_is (core_domain c.self.invariant) in
-    let boards = ap (λ (d : Domain g.row.C.Denot). d.tables.boards) c.self.view_is in
-    let same = c.number_of_named-number.ensures.value ∙ ap (λ (bs : List Board). number_of (find (has_name c.args.name.now) bs)) (c.deref-3.ensures.value ∙ sym c.deref.ensures.value) in
+    let boards = c.deref.ensures.value ∙ ap (λ (d : Domain g.row.C.Denot). d.tables.boards) c.self.view_is in
+    let number = number_of (board_named c.args.self.now.tables c.args.name.now) in
+    let same = ap (λ (bs : List Board). number_of (find (has_name c.args.name.now) bs)) (sym boards) in
     let alike = subst (λ (k : TypeDetail). holds_at (find (has_name c.args.name.now) c.deref.result.now) (λ b. same_type b.key k) ≡ true) c.new-key.ensures c.in_default.ensures.alike in
-    let keys = keys_found c.args.self.now c.number_of_named-number.result c.args.name.now c.deref.result.now _ known (c.deref.ensures.value ∙ boards) same alike in
-    let there = subst (λ (bs : List Board). holds_at (find (is_numbered c.number_of_named-number.result) bs) (λ b. same_type b.key _) ≡ true) (sym (ap (λ (d : Domain g.row.C.Denot). d.tables.boards) c.in-Ok.ensures.ok)) keys in
-    next_held c.args.self.now c.add_thing.new.self (next_thing c.args.self.now c.args.node c.number_of_named-number.result kind.Factory) _ _ thing_kind.Factory known
-    (ap (λ (d : Domain g.row.C.Denot). d.tables.things) c.in-Ok.ensures.ok) refl c.in-Ok.ensures.number refl there
+    let keys = keys_found c.args.self.now number c.args.name.now c.deref.result.now _ known boards same alike in
+    let there = subst (λ (bs : List Board). holds_at (find (is_numbered number) bs) (λ b. same_type b.key _) ≡ true) (sym (ap (λ (d : Domain g.row.C.Denot). d.tables.boards) c.in-Ok.ensures.ok)) keys in
+    next_held c.args.self.now c.open_unrefused.new.self (next_thing c.args.self.now c.args.node number kind.Factory) _ _ thing_kind.Factory known
+    (ap (λ (d : Domain g.row.C.Denot). d.tables.things) c.in-Ok.ensures.ok) refl (ap (λ (m : Made). m.thing) c.in-Ok.ensures.made) refl there
 
 pub returns-in-Ok-clause-kept : goal.returns-in-Ok-clause-kept
-returns-in-Ok-clause-kept g c = kept_next c.args.self.now c.add_thing.new.self _ _ _ c.in-Ok.ensures.ok
+returns-in-Ok-clause-kept g c = kept_next c.args.self.now c.open_unrefused.new.self _ _ _ c.in-Ok.ensures.ok

@@ -1,0 +1,226 @@
+//! The things of a domain.
+ghost use Rattle.std.specs.Prelude.{◌≡◌, ◌≤◌, ◌<◌, ◌-◌, ◌+◌, ◌^◌, ◌++◌, ◌∷◌, [], find, option_map, IsSome, IfSome, IfNone, OnOk, None, nat_eq};
+ghost use Rattle.std.specs.List.{list_any};
+ghost use Rattle.board_model.specs.Tables as tables;
+ghost use Rattle.board_things.specs.Things.{HasThing, is_thing, next_thing, thing_numbered};
+ghost use Rattle.board_things.specs.Kept as kept;
+
+use crate::uses::{
+    Use, count_at, is_only_of_port, lower, lower_at, lower_handle, lower_port, raise, raise_at,
+    raise_handle, raise_port, use_of,
+};
+use board_model::{Kind, Thing};
+use std::alloc::{AllocError, Global};
+use std::collections::HashMap;
+use std::marker::Model;
+
+/// A thing under its number, held by the node with a number.
+pub type Held = Thing<u64, u64>;
+
+/// The things of a domain, in the order of their numbers, with the numbers that the limits of boards are compared with.
+#[derive(Drop)]
+pub struct Things {
+    items: Vec<Held>,
+    last: u64,
+    /// By board.
+    uses: HashMap<u64, Use>,
+    /// How many things of a board a node has, by board and node.
+    held: HashMap<(u64, u64), u64>,
+    /// How many things keep a writer's port, by board and port.
+    ports: HashMap<(u64, u64), u64>,
+    /// How many write handles an entry has, by board and entry.
+    written: HashMap<(u64, u64), u64>,
+}
+
+impl Model for Things {
+    ghost use Rattle.board_things.specs.Things.{Numbered};
+    ghost use Rattle.board_things.specs.Kept.{AreHeld, ArePorts, AreRising, AreUses, AreWritten};
+    ghost use Rattle.std.specs.Prelude.{◌-◌, min};
+    ghost use Rattle.std.specs.Vec.{vec_capacity, vec_len};
+    ghost use Rattle.std.specs.HashMap.{spare};
+
+    ghost Value = { Numbered };
+
+    ghost view = { λ d. record {
+      things = d.items.items;
+      last = d.last;
+      room = min (vec_capacity d.items - vec_len d.items)
+          (min (spare d.uses) (min (spare d.held) (min (spare d.ports) (spare d.written))));
+    } };
+
+    ghost invariant = { λ d. AreRising 0 d.last d.items.items
+        × AreUses d.uses d.items.items
+        × AreHeld d.held d.items.items
+        × ArePorts d.ports d.items.items
+        × AreWritten d.written d.items.items };
+}
+
+// Where the thing with the number stands. The numbers are up to `_last`.
+fn place_of(number: u64, things: &[Held], _last: u64) -> Option<usize>
+    requires { kept.AreRising 0 _last things.now }
+    ensures found { IfSome result (kept.IsFirst (is_thing number) things.now) }
+    ensures absent { IfNone result (find (is_thing number) things.now ≡ None) }
+{
+    match things.binary_search_by_key(&number, |t| t.name) {
+        Ok(place) => Some(place),
+        Err(_) => None,
+    }
+}
+
+impl Things {
+    /// No things. Takes no memory.
+    pub fn new(alloc: Global) -> Things
+        ensures things { result.things ≡ [] }
+        ensures last { result.last ≡ 0 }
+    {
+        Things {
+            items: Vec::new(alloc),
+            last: 0,
+            uses: HashMap::new(alloc),
+            held: HashMap::new(alloc),
+            ports: HashMap::new(alloc),
+            written: HashMap::new(alloc),
+        }
+    }
+
+    /// The thing with the number.
+    pub fn at(&self, number: u64) -> Option<&Held>
+        ensures { option_map (λ t. t.now) result ≡ find (is_thing number) self.now.things }
+    {
+        match place_of(number, &self.items, self.last) {
+            Some(place) => Some(&self.items[place]),
+            None => None,
+        }
+    }
+
+    /// The thing with the number, which stands.
+    pub fn of(&self, number: u64) -> Held
+        requires { HasThing self.now number }
+        ensures { result ≡ thing_numbered number self.now.things }
+    {
+        match self.at(number) {
+            Some(t) => *t,
+            // The thing stands.
+            None => unreachable!(),
+        }
+    }
+
+    /// The readers of the board.
+    pub fn reader_slots(&self, board: u64) -> u64
+        ensures { result ≡ tables.reader_slots board self.now.things }
+    {
+        use_of(board, &self.uses).readers
+    }
+
+    /// The different ports of the board's writers and of the handles made from them.
+    pub fn writer_slots(&self, board: u64) -> u64
+        ensures { result ≡ tables.writer_slots board self.now.things }
+    {
+        use_of(board, &self.uses).writers
+    }
+
+    /// The different nodes with a thing of the board.
+    pub fn nodes_taken(&self, board: u64) -> u64
+        ensures { result ≡ tables.nodes_taken nat_eq board self.now.things }
+    {
+        use_of(board, &self.uses).nodes
+    }
+
+    /// Whether a thing of the board stands.
+    pub fn has_thing_of(&self, board: u64) -> bool
+        ensures { result ≡ list_any (tables.is_of_board board) self.now.things }
+    {
+        use_of(board, &self.uses).things >= 1
+    }
+
+    /// Whether the node has a thing of the board.
+    pub fn is_node(&self, board: u64, node: u64) -> bool
+        ensures { result ≡ tables.is_node nat_eq board node self.now.things }
+    {
+        count_at(board, node, &self.held) >= 1
+    }
+
+    /// Whether a write handle of the entry stands.
+    pub fn has_write_handle(&self, board: u64, entry: u64) -> bool
+        ensures { result ≡ list_any (tables.is_write_handle board entry) self.now.things }
+    {
+        count_at(board, entry, &self.written) >= 1
+    }
+
+    /// The things, in the order of their numbers.
+    pub fn as_slice(&self) -> &[Held]
+        ensures { result.now ≡ self.now.things }
+    {
+        &self.items
+    }
+
+    /// The number that was drawn last.
+    pub fn last(&self) -> u64
+        ensures { result ≡ self.now.last }
+    {
+        self.last
+    }
+
+    /// Makes room for one thing more.
+    ///
+    /// # Errors
+    /// `AllocError` where memory is refused. The things stay.
+    pub fn reserve(&mut self) -> Result<(), AllocError>
+        ensures things { self.new.things ≡ self.old.things }
+        ensures last { self.new.last ≡ self.old.last }
+        ensures room { OnOk result (0 < self.new.room) }
+    {
+        self.items.reserve(1)?;
+        self.uses.reserve(1)?;
+        self.held.reserve(1)?;
+        self.ports.reserve(1)?;
+        self.written.reserve(1)
+    }
+
+    /// Adds a thing under the next number. Takes no memory: there is room.
+    pub fn push_reserved(&mut self, holder: u64, board: u64, kind: Kind)
+        requires below { self.old.last < 2 ^ 64 - 2 }
+        requires room { 0 < self.old.room }
+        ensures things { self.new.things
+            ≡ self.old.things ++ next_thing self.old holder board kind ∷ [] }
+        ensures last { self.new.last ≡ self.old.last + 1 }
+    {
+        let node = count_at(board, holder, &self.held) == 0;
+        let port = is_only_of_port(board, &kind, &self.ports);
+        raise_at(board, holder, &mut self.held);
+        raise_port(board, &kind, &mut self.ports);
+        raise_handle(board, &kind, &mut self.written);
+        raise(board, &kind, node, port, &mut self.uses);
+        self.last += 1;
+        self.items.push_reserved(Thing {
+            holder,
+            name: self.last,
+            board,
+            kind,
+        });
+    }
+
+    /// Takes the thing with the number out, which stands. Takes no memory.
+    pub fn take(&mut self, number: u64) -> Held
+        requires { HasThing self.old number }
+        ensures taken { result ≡ thing_numbered number self.old.things }
+        ensures rest { self.new.things
+            ≡ tables.without_first (is_thing number) self.old.things }
+        ensures last { self.new.last ≡ self.old.last }
+    {
+        match place_of(number, &self.items, self.last) {
+            Some(place) => {
+                let gone = self.items.remove(place);
+                lower_at(gone.board, gone.holder, &mut self.held);
+                lower_port(gone.board, &gone.kind, &mut self.ports);
+                lower_handle(gone.board, &gone.kind, &mut self.written);
+                let node = count_at(gone.board, gone.holder, &self.held) == 0;
+                let port = is_only_of_port(gone.board, &gone.kind, &self.ports);
+                lower(gone.board, &gone.kind, node, port, &mut self.uses);
+                gone
+            }
+            // The thing stands.
+            None => unreachable!(),
+        }
+    }
+}
