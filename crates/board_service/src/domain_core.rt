@@ -15,12 +15,13 @@ mod told;
 
 use crate::board_row::BoardRow;
 use crate::cells::Cells;
-use crate::counts::Held;
+use crate::held::add;
 use crate::ids::{NodeId, ThingId};
 use crate::made::Made;
-use board_model::{Kind, Thing};
+use board_model::Kind;
 use board_names::NameTable;
 use board_store::Statics;
+use board_things::Things;
 use std::alloc::{AllocError, Global};
 use std::marker::Model;
 
@@ -30,12 +31,11 @@ use std::marker::Model;
 #[derive(Drop)]
 pub struct DomainCore<C: Cells> {
     boards: Vec<BoardRow>,
-    things: Vec<Held>,
+    things: Things,
     cells: Vec<C>,
     descriptions: Statics,
     last_board: u64,
     last_port: u64,
-    last_thing: u64,
     alloc: Global,
 }
 
@@ -46,14 +46,14 @@ impl<C: Cells> Model for DomainCore<C> {
     ghost Value = { Domain C };
 
     ghost view = { λ d. record {
-      tables = record { boards = d.boards.items; things = d.things.items; last_board = d.last_board; last_port = d.last_port };
-      last_thing = d.last_thing;
+      tables = record { boards = d.boards.items; things = d.things.things; last_board = d.last_board; last_port = d.last_port };
+      last_thing = d.things.last;
       cells = d.cells.items;
     } };
 
     ghost invariant = { λ d. IsCore
-        (record { boards = d.boards.items; things = d.things.items; last_board = d.last_board; last_port = d.last_port })
-        d.last_thing d.cells.items d.descriptions };
+        (record { boards = d.boards.items; things = d.things.things; last_board = d.last_board; last_port = d.last_port })
+        d.things.last d.cells.items d.descriptions };
 }
 
 impl<C: Cells> DomainCore<C> {
@@ -63,12 +63,11 @@ impl<C: Cells> DomainCore<C> {
     {
         DomainCore {
             boards: Vec::new(alloc),
-            things: Vec::new(alloc),
+            things: Things::new(alloc),
             cells: Vec::new(alloc),
             descriptions: Statics::new(alloc),
             last_board: 0,
             last_port: 0,
-            last_thing: 0,
             alloc,
         }
     }
@@ -94,16 +93,8 @@ impl<C: Cells> DomainCore<C> {
         ensures ok { OnOk result (self.new ≡ with_next self.old holder board kind) }
         ensures err { OnErr result (self.new ≡ self.old) }
     {
-        self.things.reserve(1)?;
-        self.last_thing += 1;
-        let name = ThingId(self.last_thing);
-        self.things.push_reserved(Thing {
-            holder,
-            name,
-            board,
-            kind,
-        });
-        Ok(name)
+        let thing = add(holder, board, kind, &mut self.things)?;
+        Ok(thing)
     }
 
     // Adds a reader or a writer of a board that stands, with the next number and the next port, which it keeps.
@@ -121,16 +112,8 @@ impl<C: Cells> DomainCore<C> {
         ensures ok { OnOk result (self.new ≡ with_next_port self.old holder board kind) }
         ensures err { OnErr result (self.new ≡ self.old) }
     {
-        self.things.reserve(1)?;
-        self.last_thing += 1;
+        let thing = add(holder, board, kind, &mut self.things)?;
         self.last_port += 1;
-        let thing = ThingId(self.last_thing);
-        self.things.push_reserved(Thing {
-            holder,
-            name: thing,
-            board,
-            kind,
-        });
         Ok(Made {
             thing,
             number: self.last_port,

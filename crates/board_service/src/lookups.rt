@@ -5,15 +5,13 @@ ghost use Rattle.board_layout.specs.Bytes.{details};
 ghost use Rattle.board_layout.specs.Keys as keys;
 ghost use Rattle.board_model.specs.Tables as tables;
 ghost use Rattle.board_model.specs.TypeTable as types;
-ghost use Rattle.board_service.specs.Domain as domain;
 ghost use Rattle.board_service.specs.Facts.{entry_count};
 
 use crate::board_row::BoardRow;
-use crate::counts::{Held, reader_slots, writer_slots};
-use crate::ids::ThingId;
 use board_layout::{BoardKey, TypeDetail, is_key};
 use board_model::{Entry, Kind, ThingKind, same_type};
 use board_names::ServiceName;
+use board_things::Things;
 
 /// The board with the number.
 pub(crate) fn board_at(number: u64, boards: &[BoardRow]) -> Option<&BoardRow>
@@ -49,50 +47,6 @@ fn position_of_board(number: u64, boards: &[BoardRow]) -> Option<usize>
     None
 }
 
-/// The thing with the number, where it stands.
-pub(crate) fn thing_at(number: ThingId, things: &[Held]) -> Option<&Held>
-    ensures { option_map (λ t. t.now) result ≡ find (domain.is_thing number) things.now }
-{
-    things.iter().find(|t| t.name == number)
-}
-
-/// The thing with the number, which stands.
-pub(crate) fn thing_of(number: ThingId, things: &[Held]) -> Held
-    requires { IsSome (find (domain.is_thing number) things.now) }
-    ensures { result ≡ domain.thing_numbered number things.now }
-{
-    match thing_at(number, things) {
-        Some(t) => *t,
-        // The thing stands.
-        None => unreachable!(),
-    }
-}
-
-fn place_of_thing(number: ThingId, things: &[Held]) -> Option<usize>
-    ensures { result ≡ position_from (domain.is_thing number) 0 things.now }
-{
-    for (i, thing) in things.iter().enumerate() {
-        if thing.name == number {
-            return Some(i);
-        }
-    }
-    None
-}
-
-/// Takes the thing with the number out.
-pub(crate) fn take_thing(number: ThingId, things: &mut Vec<Held>) -> Held
-    requires { IsSome (find (domain.is_thing number) things.old.items) }
-    ensures taken { result ≡ domain.thing_numbered number things.old.items }
-    ensures rest { things.new.items
-        ≡ tables.without_first (domain.is_thing number) things.old.items }
-{
-    match place_of_thing(number, things) {
-        Some(i) => things.remove(i),
-        // The thing stands.
-        None => unreachable!(),
-    }
-}
-
 /// Takes the board with the number out, which stands, and tells where it stood.
 pub(crate) fn take_board(number: u64, boards: &mut Vec<BoardRow>) -> usize
     requires { IsSome (find (tables.is_numbered number) boards.old.items) }
@@ -123,23 +77,23 @@ pub(crate) fn take_cells<C>(place: usize, cells: &mut Vec<C>) -> C
 }
 
 /// Whether the board has as many readers as it may have.
-pub(crate) fn has_all_readers(board: u64, boards: &[BoardRow], things: &[Held]) -> bool
+pub(crate) fn has_all_readers(board: u64, boards: &[BoardRow], things: &Things) -> bool
     ensures { result ≡ tables.holds_at (find (tables.is_numbered board) boards.now)
-        (λ b. nat_le b.max_readers (tables.reader_slots b.number things.now)) }
+        (λ b. nat_le b.max_readers (tables.reader_slots b.number things.now.things)) }
 {
     match board_at(board, boards) {
-        Some(b) => b.max_readers() <= reader_slots(b.number(), things),
+        Some(b) => b.max_readers() <= things.reader_slots(b.number()),
         None => false,
     }
 }
 
 /// Whether as many writer slots of the board are taken as it has.
-pub(crate) fn has_all_writers(board: u64, boards: &[BoardRow], things: &[Held]) -> bool
+pub(crate) fn has_all_writers(board: u64, boards: &[BoardRow], things: &Things) -> bool
     ensures { result ≡ tables.holds_at (find (tables.is_numbered board) boards.now)
-        (λ b. nat_le b.max_writers (tables.writer_slots b.number things.now)) }
+        (λ b. nat_le b.max_writers (tables.writer_slots b.number things.now.things)) }
 {
     match board_at(board, boards) {
-        Some(b) => b.max_writers() <= writer_slots(b.number(), things),
+        Some(b) => b.max_writers() <= things.writer_slots(b.number()),
         None => false,
     }
 }

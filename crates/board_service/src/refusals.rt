@@ -9,7 +9,7 @@ ghost use Rattle.board_service.specs.Domain.{spent};
 ghost use Rattle.board_service.specs.Entries.{HaveShapes, added, payload_of};
 
 use crate::board_row::BoardRow;
-use crate::counts::{Held, is_node, nodes_taken};
+use crate::held::is_node;
 use crate::ids::NodeId;
 use crate::lookups::board_named;
 use crate::new_entry::NewEntry;
@@ -18,6 +18,7 @@ use board_concepts::AttributeVerifier;
 use board_layout::{BoardKey, KeyMemory, TypeDetail, same_keys};
 use board_model::{Limits, same_type};
 use board_names::{BlackboardCreateError, BlackboardOpenError, ServiceName};
+use board_things::Things;
 
 /// The last number from which no other is drawn: 2^64 - 2.
 pub(crate) const LAST: u64 = 18446744073709551614;
@@ -97,11 +98,11 @@ fn asks_above(asked: Option<u64>, limit: u64) -> bool
 }
 
 // Whether the node has no thing of the board, and as many have one as may.
-fn has_all_nodes(node: NodeId, board: &BoardRow, things: &[Held]) -> bool
-    ensures { result ≡ calls.has_all_nodes nat_eq node things.now board.now }
+fn has_all_nodes(node: NodeId, board: &BoardRow, things: &Things) -> bool
+    ensures { result ≡ calls.has_all_nodes nat_eq node things.now.things board.now }
 {
     !is_node(board.number(), node, things)
-        && board.max_nodes() <= nodes_taken(board.number(), things)
+        && board.max_nodes() <= things.nodes_taken(board.number())
 }
 
 /// Why a board is not opened.
@@ -112,18 +113,18 @@ pub(crate) fn open_refusal(
     limits: &Limits,
     needs: &AttributeVerifier,
     boards: &[BoardRow],
-    things: &[Held],
+    things: &Things,
     last_thing: u64,
 ) -> Option<BlackboardOpenError>
     ensures first { result ≡ calls.first_of
-        (calls.open_refusals nat_eq things.now node
+        (calls.open_refusals nat_eq things.now.things node
         (find (tables.has_name name.now) boards.now) key.now limits.now needs.now
         ++ (spent last_thing, BlackboardOpenError.NumbersSpent) ∷ []) }
     ensures stands { IfNone result (IsSome (find (tables.has_name name.now) boards.now)) }
     ensures alike { IfNone result (tables.holds_at (find (tables.has_name name.now) boards.now)
         (λ b. types.same_type b.key key.now) ≡ true) }
     ensures room { IfNone result (tables.holds_at (find (tables.has_name name.now) boards.now)
-        (calls.has_all_nodes nat_eq node things.now) ≡ false) }
+        (calls.has_all_nodes nat_eq node things.now.things) ≡ false) }
     ensures below { IfNone result (last_thing < 2 ^ 64 - 2) }
 {
     let Some(board) = board_named(name, boards) else {

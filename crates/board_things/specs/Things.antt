@@ -25,6 +25,6 @@ thing_numbered number things = thing_or_none (find (is_thing number) things)
 abbrev pub HasThing : Numbered → ℕ → Type 0
 HasThing n number = IsSome (find (is_thing number) n.things)
 
--- the thing under the next number
-abbrev pub next_thing : Numbered → ℕ → ℕ → Kind → Thing ℕ ℕ
-next_thing n holder board k = record { holder = holder; name = n.last + 1; board = board; kind = k }
+-- a thing under a number
+abbrev pub new_thing : ℕ → ℕ → ℕ → Kind → Thing ℕ ℕ
+new_thing number holder board k = record { holder = holder; name = number; board = board; kind = k }

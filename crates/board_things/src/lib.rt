@@ -10,3 +10,6 @@ mod things;
 mod uses;
 
 pub use things::{Held, Things};
+
+#[cfg(test)]
+mod tests;

@@ -2,7 +2,7 @@
 ghost use Rattle.std.specs.Prelude.{◌≡◌, ◌≤◌, ◌<◌, ◌-◌, ◌+◌, ◌^◌, ◌++◌, ◌∷◌, [], find, option_map, IsSome, IfSome, IfNone, OnOk, None, nat_eq};
 ghost use Rattle.std.specs.List.{list_any};
 ghost use Rattle.board_model.specs.Tables as tables;
-ghost use Rattle.board_things.specs.Things.{HasThing, is_thing, next_thing, thing_numbered};
+ghost use Rattle.board_things.specs.Things.{HasThing, is_thing, new_thing, thing_numbered};
 ghost use Rattle.board_things.specs.Kept as kept;
 
 use crate::uses::{
@@ -182,7 +182,7 @@ impl Things {
         requires below { self.old.last < 2 ^ 64 - 2 }
         requires room { 0 < self.old.room }
         ensures things { self.new.things
-            ≡ self.old.things ++ next_thing self.old holder board kind ∷ [] }
+            ≡ self.old.things ++ new_thing (self.old.last + 1) holder board kind ∷ [] }
         ensures last { self.new.last ≡ self.old.last + 1 }
     {
         let node = count_at(board, holder, &self.held) == 0;

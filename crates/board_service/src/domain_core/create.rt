@@ -14,7 +14,8 @@ use super::DomainCore;
 use crate::board_row::BoardRow;
 use crate::cells::Cells;
 use crate::descriptions::{keep, path_of, spell};
-use crate::ids::{NodeId, ThingId};
+use crate::held::push;
+use crate::ids::NodeId;
 use crate::made::Made;
 use crate::new_entry::NewEntry;
 use crate::planned::{entries_for, plan_for};
@@ -22,7 +23,7 @@ use crate::refusals::{create_refusal, limit_of};
 use board_cell::CellError;
 use board_concepts::{AttributeSet, Description};
 use board_layout::{BoardKey, Plan, TypeDetail, TypeVariant};
-use board_model::{Entries, Kind, Limits, Thing, ThingKind};
+use board_model::{Entries, Kind, Limits, ThingKind};
 use board_names::{BlackboardCreateError, FilePath, NameTable, ServiceName};
 use board_store::Statics;
 use std::alloc::{AllocError, Global};
@@ -97,7 +98,7 @@ impl<C: Cells> DomainCore<C> {
             wanted,
             &self.boards,
             self.last_board,
-            self.last_thing,
+            self.things.last(),
         );
         if let Some(why) = refusal {
             return Err(why);
@@ -109,7 +110,7 @@ impl<C: Cells> DomainCore<C> {
             return Err(BlackboardCreateError::OutOfMemory);
         };
         if self.boards.reserve(1).is_err()
-            || self.things.reserve(1).is_err()
+            || self.things.reserve().is_err()
             || self.cells.reserve(1).is_err()
         {
             return Err(BlackboardCreateError::OutOfMemory);
@@ -139,8 +140,6 @@ impl<C: Cells> DomainCore<C> {
             return Err(BlackboardCreateError::OutOfMemory);
         };
         self.last_board += 1;
-        self.last_thing += 1;
-        let thing = ThingId(self.last_thing);
         self.cells.push_reserved(cells);
         self.boards.push_reserved(BoardRow {
             number: self.last_board,
@@ -152,12 +151,7 @@ impl<C: Cells> DomainCore<C> {
             attributes: description.attributes,
             entries: Entries::from_vec(kept),
         });
-        self.things.push_reserved(Thing {
-            holder: node,
-            name: thing,
-            board: self.last_board,
-            kind: Kind::Factory,
-        });
+        let thing = push(node, self.last_board, Kind::Factory, &mut self.things);
         Ok(Made {
             thing,
             number: self.last_board,

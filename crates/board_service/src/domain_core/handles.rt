@@ -8,9 +8,10 @@ ghost use Rattle.board_service.specs.Facts.{IsHeldBeside, KeepsHeld};
 
 use super::DomainCore;
 use crate::cells::Cells;
-use crate::counts::{has_write_handle, port_of};
-use crate::ids::ThingId;
-use crate::lookups::{find_entry, thing_of};
+use crate::counts::port_of;
+use crate::held::thing_of;
+use crate::ids::{NodeId, ThingId};
+use crate::lookups::find_entry;
 use crate::made::Found;
 use crate::refusals::LAST;
 use board_layout::{BoardKey, TypeDetail};
@@ -52,11 +53,11 @@ impl<C: Cells> DomainCore<C> {
             return Err(EntryHandleError::EntryDoesNotExist);
         };
         let cell = found.cell;
-        if self.last_thing >= LAST {
+        if self.things.last() >= LAST {
             return Err(EntryHandleError::NumbersSpent);
         }
         let kind = Kind::ReadHandle { entry };
-        match self.add_thing(of.holder, of.board, kind) {
+        match self.add_thing(NodeId(of.holder), of.board, kind) {
             Ok(thing) => Ok(Found::at(thing, entry, &cell)),
             Err(_) => Err(EntryHandleError::OutOfMemory),
         }
@@ -98,17 +99,17 @@ impl<C: Cells> DomainCore<C> {
             return Err(EntryHandleMutError::EntryDoesNotExist);
         };
         let cell = found.cell;
-        if has_write_handle(of.board, entry, &self.things) {
+        if self.things.has_write_handle(of.board, entry) {
             return Err(EntryHandleMutError::HandleAlreadyExists);
         }
-        if self.last_thing >= LAST {
+        if self.things.last() >= LAST {
             return Err(EntryHandleMutError::NumbersSpent);
         }
         let kind = Kind::WriteHandle {
             entry,
             port: port_of(&of.kind),
         };
-        match self.add_thing(of.holder, of.board, kind) {
+        match self.add_thing(NodeId(of.holder), of.board, kind) {
             Ok(thing) => Ok(Found::at(thing, entry, &cell)),
             Err(_) => Err(EntryHandleMutError::OutOfMemory),
         }

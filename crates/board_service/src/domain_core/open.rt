@@ -53,7 +53,7 @@ impl<C: Cells> DomainCore<C> {
             verifier,
             &self.boards,
             &self.things,
-            self.last_thing,
+            self.things.last(),
         );
         if let Some(why) = refusal {
             return Err(why);

@@ -6,8 +6,9 @@ ghost use Rattle.board_service.specs.Facts.{IsHeldBeside, KeepsHeld};
 
 use super::DomainCore;
 use crate::cells::Cells;
-use crate::ids::ThingId;
-use crate::lookups::{has_all_readers, has_all_writers, thing_of};
+use crate::held::thing_of;
+use crate::ids::{NodeId, ThingId};
+use crate::lookups::{has_all_readers, has_all_writers};
 use crate::made::Made;
 use crate::refusals::LAST;
 use board_model::{Kind, ThingKind};
@@ -37,11 +38,11 @@ impl<C: Cells> DomainCore<C> {
         if has_all_readers(of.board, &self.boards, &self.things) {
             return Err(ReaderCreateError::ExceedsMaxSupportedReaders);
         }
-        if self.last_port >= LAST || self.last_thing >= LAST {
+        if self.last_port >= LAST || self.things.last() >= LAST {
             return Err(ReaderCreateError::NumbersSpent);
         }
         let port = self.last_port + 1;
-        match self.add_port(of.holder, of.board, Kind::Reader { port }) {
+        match self.add_port(NodeId(of.holder), of.board, Kind::Reader { port }) {
             Ok(made) => Ok(made),
             Err(_) => Err(ReaderCreateError::OutOfMemory),
         }
@@ -70,11 +71,11 @@ impl<C: Cells> DomainCore<C> {
         if has_all_writers(of.board, &self.boards, &self.things) {
             return Err(WriterCreateError::ExceedsMaxSupportedWriters);
         }
-        if self.last_port >= LAST || self.last_thing >= LAST {
+        if self.last_port >= LAST || self.things.last() >= LAST {
             return Err(WriterCreateError::NumbersSpent);
         }
         let port = self.last_port + 1;
-        match self.add_port(of.holder, of.board, Kind::Writer { port }) {
+        match self.add_port(NodeId(of.holder), of.board, Kind::Writer { port }) {
             Ok(made) => Ok(made),
             Err(_) => Err(WriterCreateError::OutOfMemory),
         }

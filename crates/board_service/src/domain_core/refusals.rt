@@ -9,9 +9,9 @@ ghost use Rattle.board_service.specs.Domain as domain;
 
 use super::DomainCore;
 use crate::cells::Cells;
-use crate::counts::has_write_handle;
+use crate::held::thing_of;
 use crate::ids::{NodeId, ThingId};
-use crate::lookups::{find_entry, has_all_readers, has_all_writers, thing_of};
+use crate::lookups::{find_entry, has_all_readers, has_all_writers};
 use crate::refusals::{LAST, has_name, open_refusal};
 use board_concepts::AttributeVerifier;
 use board_layout::{BoardKey, TypeDetail, TypeVariant};
@@ -53,7 +53,7 @@ impl<C: Cells> DomainCore<C> {
             verifier,
             &self.boards,
             &self.things,
-            self.last_thing,
+            self.things.last(),
         )
     }
 
@@ -66,7 +66,7 @@ impl<C: Cells> DomainCore<C> {
         if has_all_readers(of.board, &self.boards, &self.things) {
             return Some(ReaderCreateError::ExceedsMaxSupportedReaders);
         }
-        if self.last_port >= LAST || self.last_thing >= LAST {
+        if self.last_port >= LAST || self.things.last() >= LAST {
             return Some(ReaderCreateError::NumbersSpent);
         }
         None
@@ -81,7 +81,7 @@ impl<C: Cells> DomainCore<C> {
         if has_all_writers(of.board, &self.boards, &self.things) {
             return Some(WriterCreateError::ExceedsMaxSupportedWriters);
         }
-        if self.last_port >= LAST || self.last_thing >= LAST {
+        if self.last_port >= LAST || self.things.last() >= LAST {
             return Some(WriterCreateError::NumbersSpent);
         }
         None
@@ -103,7 +103,7 @@ impl<C: Cells> DomainCore<C> {
         let Some((_entry, _found)) = find_entry::<K>(of.board, key, value, &self.boards) else {
             return Some(EntryHandleError::EntryDoesNotExist);
         };
-        if self.last_thing >= LAST {
+        if self.things.last() >= LAST {
             return Some(EntryHandleError::NumbersSpent);
         }
         None
@@ -126,10 +126,10 @@ impl<C: Cells> DomainCore<C> {
         let Some((entry, _found)) = find_entry::<K>(of.board, key, value, &self.boards) else {
             return Some(EntryHandleMutError::EntryDoesNotExist);
         };
-        if has_write_handle(of.board, entry, &self.things) {
+        if self.things.has_write_handle(of.board, entry) {
             return Some(EntryHandleMutError::HandleAlreadyExists);
         }
-        if self.last_thing >= LAST {
+        if self.things.last() >= LAST {
             return Some(EntryHandleMutError::NumbersSpent);
         }
         None

@@ -4,10 +4,10 @@ ghost use Rattle.board_service.specs.Domain as domain;
 
 use super::DomainCore;
 use crate::cells::Cells;
-use crate::counts::has_thing_of;
 use crate::descriptions::let_go;
+use crate::held::take_thing;
 use crate::ids::ThingId;
-use crate::lookups::{take_board, take_cells, take_thing};
+use crate::lookups::{take_board, take_cells};
 
 impl<C: Cells> DomainCore<C> {
     /// Ends a thing. Where it was its board's last, and there alone, the board goes, and its cells are handed back. Takes no memory.
@@ -20,7 +20,7 @@ impl<C: Cells> DomainCore<C> {
             ≡ domain.after_release self.old thing (domain.board_of self.old thing) }
     {
         let gone = take_thing(thing, &mut self.things);
-        if has_thing_of(gone.board, &self.things) {
+        if self.things.has_thing_of(gone.board) {
             return None;
         }
         let place = take_board(gone.board, &mut self.boards);

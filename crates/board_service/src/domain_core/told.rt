@@ -9,10 +9,11 @@ ghost use Rattle.board_service.specs.Told as told;
 
 use super::DomainCore;
 use crate::cells::Cells;
-use crate::counts::{node_at, nodes_taken, reader_slots, writer_slots};
+use crate::counts::node_at;
 use crate::descriptions::path_of;
+use crate::held::{thing_at, thing_of};
 use crate::ids::{NodeId, ThingId};
-use crate::lookups::{board_at, has_details, is_kind, thing_at, thing_of};
+use crate::lookups::{board_at, has_details, is_kind};
 use crate::told::{DynamicConfig, StaticConfig};
 use board_concepts::AttributeSet;
 use board_layout::{BoardKey, KeyMemory, TypeDetail, TypeVariant};
@@ -83,9 +84,9 @@ impl<C: Cells> DomainCore<C> {
     {
         match board_at(board, &self.boards) {
             Some(b) => Some(DynamicConfig {
-                readers: reader_slots(b.number(), &self.things),
-                writers: writer_slots(b.number(), &self.things),
-                nodes: nodes_taken(b.number(), &self.things),
+                readers: self.things.reader_slots(b.number()),
+                writers: self.things.writer_slots(b.number()),
+                nodes: self.things.nodes_taken(b.number()),
             }),
             None => None,
         }
@@ -116,7 +117,7 @@ impl<C: Cells> DomainCore<C> {
             ≡ told.node_in index self.now.tables.things (board_at self.now.tables board) }
     {
         match board_at(board, &self.boards) {
-            Some(b) => node_at(b.number(), index, &self.things),
+            Some(b) => node_at(b.number(), index, self.things.as_slice()),
             None => None,
         }
     }

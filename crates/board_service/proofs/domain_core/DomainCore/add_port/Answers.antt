@@ -1,4 +1,4 @@
-use Rattle.std.proofs.Common.{◌≡◌, ◌+◌, ℕ, true, List, [], ◌∷◌, ◌++◌, Some, refl, sym, ap, subst, ◌∙◌}
+use Rattle.std.proofs.Common.{◌≡◌, ◌+◌, ℕ, true, List, Some, refl, sym, subst}
 use Rattle.std.specs.Prelude.{is_some}
 use Rattle.board_model.specs.declared.tables.Thing.{Thing}
 use Rattle.board_model.specs.Tables.{board_at, port_of}
@@ -11,7 +11,7 @@ use Rattle.board_service.proofs.domain_core.DomainCore.add_port.Goals as goal
 pub invariant_of-self-2 : goal.invariant_of-self-2
 invariant_of-self-2 g c =
     let s = c.self.inside in
-    let x : Thing ℕ ℕ = record { holder = c.args.holder; name = s.last_thing + 1; board = c.args.board; kind = c.args.kind } in
+    let x : Thing ℕ ℕ = record { holder = c.args.holder; name = s.things.last + 1; board = c.args.board; kind = c.args.kind } in
     let stands = subst (λ (d : Domain g.row.C.Denot). is_some (board_at d.tables c.args.board) ≡ true) (sym c.self.view_is) c.requires.stands in
     let drawn : drawn_port c.args.kind ≡ Some (c.self.inside.last_port + 1) = subst (λ (d : Domain g.row.C.Denot). drawn_port c.args.kind ≡ Some (d.tables.last_port + 1)) (sym c.self.view_is) c.requires.drawn in
     let port : port_of c.args.kind ≡ c.self.inside.last_port + 1 = subst (λ (d : Domain g.row.C.Denot). port_of c.args.kind ≡ d.tables.last_port + 1) (sym c.self.view_is) c.requires.port in
@@ -19,5 +19,5 @@ invariant_of-self-2 g c =
     let room = subst (λ (d : Domain g.row.C.Denot). HasRoomFor d (next_thing d c.args.holder c.args.board c.args.kind)) (sym c.self.view_is) c.requires.room in
     let alone = subst (λ (d : Domain g.row.C.Denot). WritesAlone d.tables.things (next_thing d c.args.holder c.args.board c.args.kind)) (sym c.self.view_is) c.requires.alone in
     let more = core_port x c.self.invariant refl stands drawn port entry room alone in
-    subst (λ (ts : List (Thing ℕ ℕ)). IsCore (record { boards = s.boards.items; things = ts; last_board = s.last_board; last_port = s.last_port + 1 }) (s.last_thing + 1) s.cells.items s.descriptions)
-    (sym (c.push_reserved.ensures.items ∙ ap (λ (ts : List (Thing ℕ ℕ)). ts ++ x ∷ []) c.in_ok-reserve.ensures.items)) more
+    let added : List (Thing ℕ ℕ) → ℕ → Type 0 = λ ts last. IsCore (record { boards = s.boards.items; things = ts; last_board = s.last_board; last_port = s.last_port + 1 }) last s.cells.items s.descriptions in
+    subst (λ last. added c.add.new.things.things last) (sym c.in_ok-thing.ensures.last) (subst (λ ts. added ts (s.things.last + 1)) (sym c.in_ok-thing.ensures.ok) more)

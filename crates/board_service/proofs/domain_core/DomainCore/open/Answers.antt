@@ -1,8 +1,7 @@
-use Rattle.std.proofs.Common.{◌≡◌, ℕ, true, false, List, refl, sym, ap, subst, ◌∙◌}
-use Rattle.std.specs.Prelude.{find, is_some, nat_eq}
+use Rattle.std.proofs.Common.{◌≡◌, true, List, refl, sym, ap, subst, ◌∙◌}
+use Rattle.std.specs.Prelude.{find}
 use Rattle.board_model.specs.declared.tables.Board.{Board}
 use Rattle.board_model.specs.declared.tables.Kind.TheVariants as kind
-use Rattle.board_model.specs.declared.tables.Thing.{Thing}
 use Rattle.board_layout.specs.declared.type_detail.TypeDetail.{TypeDetail}
 use Rattle.board_model.specs.declared.tables.ThingKind.TheVariants as thing_kind
 use Rattle.board_model.specs.TypeTable.{same_type}
@@ -20,8 +19,8 @@ pub open_unrefused-requires-clause-joins : goal.open_unrefused-requires-clause-j
 open_unrefused-requires-clause-joins g c =
     let things = ap (λ (d : Domain g.row.C.Denot). d.tables.things) c.self.view_is in
     let boards = ap (λ (d : Domain g.row.C.Denot). d.tables.boards) c.self.view_is in
-    can_join c.args.self.now c.args.node c.args.name.now c.deref.result.now c.deref-2.result.now
-    (c.deref.ensures.value ∙ boards) (c.deref-2.ensures.value ∙ things) c.in_default.ensures.stands c.in_default.ensures.room
+    can_join c.args.self.now c.args.node c.args.name.now c.deref.result.now c.self.inside.things.things
+    (c.deref.ensures.value ∙ boards) things c.in_default.ensures.stands c.in_default.ensures.room
 
 pub returns-in-Ok-clause-held : goal.returns-in-Ok-clause-held
 returns-in-Ok-clause-held g c =

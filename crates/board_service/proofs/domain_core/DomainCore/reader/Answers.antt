@@ -17,7 +17,7 @@ pub add_port-requires-clause-stands : goal.add_port-requires-clause-stands
 add_port-requires-clause-stands g c =
     let known = subst (λ (d : Domain g.row.C.Denot). IsDomain d) c.self.view_is (core_domain c.self.invariant) in
     let same : c.thing_of-of.result ≡ held c.args.self.now c.args.factory =
-    c.thing_of-of.ensures ∙ ap (λ (ts : List (Thing ℕ ℕ)). thing_numbered c.args.factory ts) (c.deref.ensures.value ∙ ap (λ (d : Domain g.row.C.Denot). d.tables.things) c.self.view_is) in
+    c.thing_of-of.ensures ∙ ap (λ (ts : List (Thing ℕ ℕ)). thing_numbered c.args.factory ts) (ap (λ (d : Domain g.row.C.Denot). d.tables.things) c.self.view_is) in
     subst (λ (n : ℕ). is_some (board_at c.args.self.now.tables n) ≡ true) (sym (ap (λ (t : Thing ℕ ℕ). t.board) same)) (held_stands c.args.self.now c.args.factory known c.requires)
 
 pub add_port-requires-clause-room : goal.add_port-requires-clause-room
@@ -25,15 +25,15 @@ add_port-requires-clause-room g c =
     let known = subst (λ (d : Domain g.row.C.Denot). IsDomain d) c.self.view_is (core_domain c.self.invariant) in
     let things = ap (λ (d : Domain g.row.C.Denot). d.tables.things) c.self.view_is in
     let boards = ap (λ (d : Domain g.row.C.Denot). d.tables.boards) c.self.view_is in
-    let same : c.thing_of-of.result ≡ held c.args.self.now c.args.factory = c.thing_of-of.ensures ∙ ap (λ (ts : List (Thing ℕ ℕ)). thing_numbered c.args.factory ts) (c.deref.ensures.value ∙ things) in
-    read_room c.args.self.now c.args.factory (c.self.inside.last_port + 1) c.thing_of-of.result c.deref-2.result.now c.deref-3.result.now known c.requires same
-    (c.deref-2.ensures.value ∙ boards) (c.deref-3.ensures.value ∙ things) (sym c.has_all_readers.ensures ∙ c.if-has_all_readers.false)
+    let same : c.thing_of-of.result ≡ held c.args.self.now c.args.factory = c.thing_of-of.ensures ∙ ap (λ (ts : List (Thing ℕ ℕ)). thing_numbered c.args.factory ts) things in
+    read_room c.args.self.now c.args.factory (c.self.inside.last_port + 1) c.thing_of-of.result c.deref.result.now c.self.inside.things.things known c.requires same
+    (c.deref.ensures.value ∙ boards) things (sym c.has_all_readers.ensures ∙ c.if-has_all_readers.false)
 
 pub returns-in-Ok-clause-held : goal.returns-in-Ok-clause-held
 returns-in-Ok-clause-held g c =
     let known = subst (λ (d : Domain g.row.C.Denot). IsDomain d) c.self.view_is (core_domain c.self.invariant) in
     let things = ap (λ (d : Domain g.row.C.Denot). d.tables.things) c.self.view_is in
-    let same : c.thing_of-of.result ≡ held c.args.self.now c.args.factory = c.thing_of-of.ensures ∙ ap (λ (ts : List (Thing ℕ ℕ)). thing_numbered c.args.factory ts) (c.deref.ensures.value ∙ things) in
+    let same : c.thing_of-of.result ≡ held c.args.self.now c.args.factory = c.thing_of-of.ensures ∙ ap (λ (ts : List (Thing ℕ ℕ)). thing_numbered c.args.factory ts) things in
     beside_next_port c.args.self.now c.add_port.new.self c.args.factory c.thing_of-of.result _ thing_kind.Reader _ known same c.in-Ok.ensures.ok (ap (λ (m : Made). m.thing) c.in-Ok.ensures.made) refl
 
 pub returns-in-Ok-clause-kept : goal.returns-in-Ok-clause-kept

@@ -17,46 +17,48 @@ invariant_of-self g c =
     let s = c.self.inside in
     let rest = c.take_thing-gone.ensures.rest in
     let taken = c.take_thing-gone.ensures.taken in
-    let some : is_some (find (is_thing c.args.thing) s.things.items) ≡ true = subst (λ (d : Domain g.row.C.Denot). is_some (find (is_thing c.args.thing) d.tables.things) ≡ true) (sym c.self.view_is) c.requires in
-    let any : list_any (is_of_board c.take_thing-gone.result.board) c.take_thing-gone.new.things.items ≡ true =
-    ap (λ (ts : List (Thing ℕ ℕ)). list_any (is_of_board c.take_thing-gone.result.board) ts) (sym c.deref.ensures.value) ∙ sym c.has_thing_of.ensures ∙ c.if-has_thing_of.true in
-    let kept : list_any (is_of_board (thing_numbered c.args.thing s.things.items).board) (without_first (is_thing c.args.thing) s.things.items) ≡ true =
-    ap (λ (ts : List (Thing ℕ ℕ)). list_any (is_of_board (thing_numbered c.args.thing s.things.items).board) ts) (sym rest)
-    ∙ ap (λ (t : Thing ℕ ℕ). list_any (is_of_board t.board) c.take_thing-gone.new.things.items) (sym taken) ∙ any in
-    subst (λ (ts : List (Thing ℕ ℕ)). IsCore (record { boards = s.boards.items; things = ts; last_board = s.last_board; last_port = s.last_port }) s.last_thing s.cells.items s.descriptions)
-    (sym rest) (core_released c.args.thing c.self.invariant some kept)
+    let some : is_some (find (is_thing c.args.thing) s.things.things) ≡ true = subst (λ (d : Domain g.row.C.Denot). is_some (find (is_thing c.args.thing) d.tables.things) ≡ true) (sym c.self.view_is) c.requires in
+    let any : list_any (is_of_board c.take_thing-gone.result.board) c.take_thing-gone.new.things.things ≡ true =
+    sym c.has_thing_of.ensures ∙ c.if-has_thing_of.true in
+    let kept : list_any (is_of_board (thing_numbered c.args.thing s.things.things).board) (without_first (is_thing c.args.thing) s.things.things) ≡ true =
+    ap (λ (ts : List (Thing ℕ ℕ)). list_any (is_of_board (thing_numbered c.args.thing s.things.things).board) ts) (sym rest)
+    ∙ ap (λ (t : Thing ℕ ℕ). list_any (is_of_board t.board) c.take_thing-gone.new.things.things) (sym taken) ∙ any in
+    subst (λ (n : ℕ). IsCore (record { boards = s.boards.items; things = c.take_thing-gone.new.things.things; last_board = s.last_board; last_port = s.last_port }) n s.cells.items s.descriptions) (sym c.take_thing-gone.ensures.last)
+    (subst (λ (ts : List (Thing ℕ ℕ)). IsCore (record { boards = s.boards.items; things = ts; last_board = s.last_board; last_port = s.last_port }) s.things.last s.cells.items s.descriptions)
+    (sym rest) (core_released c.args.thing c.self.invariant some kept))
 
 pub take_board-place-requires : goal.take_board-place-requires
 take_board-place-requires g c =
     let s = c.self.inside in
-    let some : is_some (find (is_thing c.args.thing) s.things.items) ≡ true = subst (λ (d : Domain g.row.C.Denot). is_some (find (is_thing c.args.thing) d.tables.things) ≡ true) (sym c.self.view_is) c.requires in
+    let some : is_some (find (is_thing c.args.thing) s.things.things) ≡ true = subst (λ (d : Domain g.row.C.Denot). is_some (find (is_thing c.args.thing) d.tables.things) ≡ true) (sym c.self.view_is) c.requires in
     ap (λ (t : Thing ℕ ℕ). is_some (find (is_numbered t.board) s.boards.items)) c.take_thing-gone.ensures.taken
-    ∙ board_stands (record { boards = s.boards.items; things = s.things.items; last_board = s.last_board; last_port = s.last_port }) s.last_thing c.args.thing c.self.invariant.tables some
+    ∙ board_stands (record { boards = s.boards.items; things = s.things.things; last_board = s.last_board; last_port = s.last_port }) s.things.last c.args.thing c.self.invariant.tables some
 
 pub invariant_of-self-2 : goal.invariant_of-self-2
 invariant_of-self-2 g c =
     let s = c.self.inside in
     let rest = c.take_thing-gone.ensures.rest in
     let taken = c.take_thing-gone.ensures.taken in
-    let board : c.take_thing-gone.result.board ≡ (thing_numbered c.args.thing s.things.items).board = ap (λ (t : Thing ℕ ℕ). t.board) taken in
-    let none : list_any (is_of_board c.take_thing-gone.result.board) c.take_thing-gone.new.things.items ≡ false =
-    ap (λ (ts : List (Thing ℕ ℕ)). list_any (is_of_board c.take_thing-gone.result.board) ts) (sym c.deref.ensures.value) ∙ sym c.has_thing_of.ensures ∙ c.if-has_thing_of.false in
-    let gone : list_any (is_of_board (thing_numbered c.args.thing s.things.items).board) (without_first (is_thing c.args.thing) s.things.items) ≡ false =
-    ap (λ (ts : List (Thing ℕ ℕ)). list_any (is_of_board (thing_numbered c.args.thing s.things.items).board) ts) (sym rest)
-    ∙ ap (λ (n : ℕ). list_any (is_of_board n) c.take_thing-gone.new.things.items) (sym board) ∙ none in
+    let board : c.take_thing-gone.result.board ≡ (thing_numbered c.args.thing s.things.things).board = ap (λ (t : Thing ℕ ℕ). t.board) taken in
+    let none : list_any (is_of_board c.take_thing-gone.result.board) c.take_thing-gone.new.things.things ≡ false =
+    sym c.has_thing_of.ensures ∙ c.if-has_thing_of.false in
+    let gone : list_any (is_of_board (thing_numbered c.args.thing s.things.things).board) (without_first (is_thing c.args.thing) s.things.things) ≡ false =
+    ap (λ (ts : List (Thing ℕ ℕ)). list_any (is_of_board (thing_numbered c.args.thing s.things.things).board) ts) (sym rest)
+    ∙ ap (λ (n : ℕ). list_any (is_of_board n) c.take_thing-gone.new.things.things) (sym board) ∙ none in
     let fewer = c.take_board-place.ensures.rest in
     let left = c.take_cells.new.cells.items in
     let cells : length left ≡ length (without_first (is_numbered c.take_thing-gone.result.board) s.boards.items) =
     omega (arith, c.take_cells.ensures.shorter, c.take_board-place.ensures.shorter, ap (λ (bs : List Board). length bs) fewer, c.self.invariant.cells) in
     let Left : ℕ → Type 0 = λ n. length left ≡ length (without_first (is_numbered n) s.boards.items) in
     let less = core_less c.args.thing c.self.invariant gone (subst (λ (n : ℕ). n < 2 ^ 64) board c.let_go.ensures.range) (subst Left board cells) in
-    let Core : ℕ → Type 0 = λ n. IsCore (record { boards = without_first (is_numbered n) s.boards.items; things = without_first (is_thing c.args.thing) s.things.items; last_board = s.last_board; last_port = s.last_port })
-    s.last_thing left (without s.descriptions (storage_name n)) in
+    let Core : ℕ → Type 0 = λ n. IsCore (record { boards = without_first (is_numbered n) s.boards.items; things = without_first (is_thing c.args.thing) s.things.things; last_board = s.last_board; last_port = s.last_port })
+    s.things.last left (without s.descriptions (storage_name n)) in
     let there = subst Core (sym board) less in
-    let Boards : List Board → Type 0 = λ bs. IsCore (record { boards = bs; things = without_first (is_thing c.args.thing) s.things.items; last_board = s.last_board; last_port = s.last_port })
-    s.last_thing left (without s.descriptions (storage_name c.take_thing-gone.result.board)) in
+    let Boards : List Board → Type 0 = λ bs. IsCore (record { boards = bs; things = without_first (is_thing c.args.thing) s.things.things; last_board = s.last_board; last_port = s.last_port })
+    s.things.last left (without s.descriptions (storage_name c.take_thing-gone.result.board)) in
     let Things : List (Thing ℕ ℕ) → Type 0 = λ ts. IsCore (record { boards = c.take_board-place.new.boards.items; things = ts; last_board = s.last_board; last_port = s.last_port })
-    s.last_thing left (without s.descriptions (storage_name c.take_thing-gone.result.board)) in
-    let Kept : Storages → Type 0 = λ ds. IsCore (record { boards = c.take_board-place.new.boards.items; things = c.take_thing-gone.new.things.items; last_board = s.last_board; last_port = s.last_port })
-    s.last_thing left ds in
-    subst Kept (sym c.let_go.ensures.after) (subst Things (sym rest) (subst Boards (sym fewer) there))
+    s.things.last left (without s.descriptions (storage_name c.take_thing-gone.result.board)) in
+    let Kept : Storages → Type 0 = λ ds. IsCore (record { boards = c.take_board-place.new.boards.items; things = c.take_thing-gone.new.things.things; last_board = s.last_board; last_port = s.last_port })
+    s.things.last left ds in
+    let Last : ℕ → Type 0 = λ n. IsCore (record { boards = c.take_board-place.new.boards.items; things = c.take_thing-gone.new.things.things; last_board = s.last_board; last_port = s.last_port }) n left c.let_go.new.descriptions in
+    subst Last (sym c.take_thing-gone.ensures.last) (subst Kept (sym c.let_go.ensures.after) (subst Things (sym rest) (subst Boards (sym fewer) there)))

@@ -14,3 +14,15 @@ invariant_of-self-2 c =
       λ b n. ap (λ o. number_or_none o) (c.reserve-4.ensures.entries.2 (b, n)) ∙ h.3 b n,
       λ b n. ap (λ o. number_or_none o) (c.reserve-5.ensures.entries.2 (b, n)) ∙ h.4 b n,
     )
+
+pub invariant_of-self-in_err-reserve-4 : goal.invariant_of-self-in_err-reserve-4
+invariant_of-self-in_err-reserve-4 c =
+    let ts = c.self.inside.items.items in
+    let h = c.self.invariant in
+    subst (λ (xs : List (Thing ℕ ℕ)). AreRising 0 c.self.inside.last xs × AreUses c.reserve-2.new.self xs × AreHeld c.reserve-3.new.self xs × ArePorts c.reserve-4.new.self xs × AreWritten c.self.inside.written xs) (sym c.reserve.ensures.items) (
+      h.0,
+      λ b. subst (λ u. IsUse b ts u) (sym (ap (λ o. use_or_none o) (c.reserve-2.ensures.entries.2 b))) (h.1 b),
+      λ b n. ap (λ o. number_or_none o) (c.reserve-3.ensures.entries.2 (b, n)) ∙ h.2 b n,
+      λ b n. ap (λ o. number_or_none o) (c.reserve-4.ensures.entries.2 (b, n)) ∙ h.3 b n,
+      h.4,
+    )
