@@ -27,16 +27,16 @@ use Rattle.board_model.specs.declared.value.KeyType.{KeyType}
 use Rattle.board_model.specs.Memory.{opening_of}
 use Rattle.board_model.specs.Replies.{added_of, number_or}
 use Rattle.board_model.specs.Tables.{Added, Tables, board_named, entries_of, holds_at, is_node, meets, new_board, nodes_taken, shapes_of}
-use Rattle.board_model.specs.TableCalls.{asked, asks_above, create_refusals, created, first_of, has_all_nodes, joined, number_of, open_asked, open_refusals}
+use Rattle.board_model.specs.TableCalls.{asked, asks_above, create_refusals, created, first_of, has_all_nodes, joined, number_of, open_refusals}
 use Rattle.board_model.specs.Things.{Held}
 use Rattle.board_model.specs.TypeTable.{key_detail, same_key, same_type, value_words}
 use Rattle.script_parties.specs.Named.{AreParties, HasShortKey, HasShortKeys, IsNamed, IsOfNode, node_number, nodes_with, party_at}
 use Rattle.board_model.specs.ShortKeys.{IsShortKey}
 use Rattle.script_parties.specs.Parties.{IsCreate, IsJoined, IsOpen, Parties, words_with}
-use Rattle.script_parties.proofs.Asked.{answered_made, answered_refused, err_of, ok_of, told_made, told_refused}
+use Rattle.script_parties.proofs.Asked.{answered_made, answered_refused, err_of, ok_of, told_made}
 use Rattle.script_parties.proofs.Counts.{AreSame, node-same, nodes-same}
 use Rattle.script_parties.proofs.Growth.{IsMore, IsNode, all_more, named_more, named_with, node_of}
-use Rattle.script_parties.proofs.Ports.{few_left, one_left, shown}
+use Rattle.script_parties.proofs.Ports.{few_left, shown}
 use Rattle.board_service.specs.declared.made.Made.{Made}
 use Rattle.board_service.specs.Domain.{CanJoin, Domain, after_create, after_open, create_answer, made, spent}
 use Rattle.board_service.specs.Entries.{IsOpening, first_words}
@@ -71,13 +71,13 @@ factories_refused nodes party number ts xs (Some b) key limits needs h n all e =
 
 -- what is in the way of none is in the way of no later one
 others_none : {E : Type 0} (c : Bool) (e : E) (o : Option E) → cond c (Some e) o ≡ None → (c ≡ false) × (o ≡ None)
-others_none true e o h = absurd cc
+others_none {E} true e o h = absurd (let s : ◌≡◌ {A = Option E} (Some e) None = h in cc)
 others_none false e o h = (refl, h)
 
 -- who is refused no factory can join
 unrefused_joins : (xs : List Held) (party : List ℕ) (o : Option Board) (key : TypeDetail) (limits : Limits) (needs : Requirements) → first_of (open_refusals bytes_eq xs party o key limits needs) ≡ None
     → (is_some o ≡ true) × (holds_at o (has_all_nodes bytes_eq party xs) ≡ false)
-unrefused_joins xs party None key limits needs h = absurd cc
+unrefused_joins xs party None key limits needs h = absurd (let s : ◌≡◌ {A = Option BlackboardOpenError} (Some open_error.DoesNotExist) None = h in cc)
 unrefused_joins xs party (Some b) key limits needs h =
     let keys = others_none (not (same_type b.key key)) open_error.IncompatibleKeys _ h in
     let attributes = others_none (not (meets needs b.attributes)) open_error.IncompatibleAttributes _ keys.1 in

@@ -4,7 +4,7 @@ use Rattle.board_model.specs.declared.answer.Reply.TheVariants as reply
 use Rattle.board_model.specs.Things.{Held}
 use Rattle.board_service.specs.Domain.{CanJoin}
 use Rattle.script_parties.specs.Named.{IsNamed, node_number, nodes_with}
-use Rattle.script_parties.specs.Parties.{IsFew, IsJoined, Parties}
+use Rattle.script_parties.specs.Parties.{IsJoined, Parties}
 use Rattle.script_parties.proofs.Asked.{carried}
 use Rattle.script_parties.proofs.BoardNames.{service_name}
 use Rattle.script_parties.proofs.Openings.{factory_of, node_joins, open_made}
