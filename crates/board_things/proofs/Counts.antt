@@ -1,10 +1,11 @@
 -- The kept numbers of a board, as things come and go.
 use Rattle.std.proofs.Common.{◌≡◌, ℕ, ◌+◌, ◌<◌, ◌≤◌, ◌^◌, ◌==◌, ◌&&◌, ◌||◌, Bool, true, false, cond, List, [], ◌∷◌, ◌++◌, length, Option, Some, None, refl, sym, ap, ◌∙◌, subst, arith, if◌then◌else◌}
-use Rattle.std.specs.Prelude.{find, count_by, nat_le, nat_eq, not}
+use Rattle.std.specs.Prelude.{find, count_by, is_some, nat_le, nat_eq, not}
 use Rattle.std.specs.List.{list_any}
 use Rattle.std.specs.HashMap.{HashMap, get}
 use Rattle.std.proofs.lemmas.List.Sums.{count_by-le-length}
 use Rattle.std.proofs.lemmas.Bool.Decides.{nat_tests}
+use Rattle.board_model.specs.declared.tables.Kind.{Kind}
 use Rattle.board_model.specs.declared.tables.Thing.{Thing}
 use Rattle.board_model.specs.Tables.{holds_at, is_of_board, is_of_port, is_last_of_port, is_reader, is_reader_of, is_held_by, is_node, is_write_handle, writes_entry, nodes_taken, writer_port, writer_slots, without_first}
 use Rattle.board_model.proofs.ListLemmas.{any_counts, count_none, count_push, count_without}

@@ -10,6 +10,3 @@ mod things;
 mod uses;
 
 pub use things::{Held, Things};
-
-#[cfg(test)]
-mod tests;

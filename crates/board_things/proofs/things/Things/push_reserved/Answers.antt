@@ -1,4 +1,4 @@
-use Rattle.std.proofs.Common.{rules, ◌∙◌, ◌+◌, ℕ, List, sym, refl, subst}
+use Rattle.std.proofs.Common.{rules, ◌≡◌, ◌∙◌, ◌+◌, ◌∷◌, ◌++◌, [], ℕ, List, sym, ap, refl, subst}
 use Rattle.std.specs.Prelude.{nat_eq}
 use Rattle.board_model.specs.Tables.{is_held_by, is_of_port, is_write_handle, writer_port}
 use Rattle.board_model.specs.declared.tables.Thing.{Thing}

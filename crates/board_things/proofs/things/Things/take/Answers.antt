@@ -1,4 +1,4 @@
-use Rattle.std.proofs.Common.{◌≡◌, ◌∙◌, ℕ, List, Option, Some, sym, ap, refl, subst}
+use Rattle.std.proofs.Common.{rules, ◌≡◌, ◌∙◌, ℕ, List, Option, Some, sym, ap, refl, subst}
 use Rattle.std.specs.Prelude.{find, nat_eq}
 use Rattle.board_model.specs.Tables.{is_held_by, is_of_port, is_write_handle, without_first, writer_port}
 use Rattle.board_model.specs.declared.tables.Thing.{Thing}
