@@ -60,5 +60,5 @@ invariant_of-self-2 g c =
     s.things.last left (without s.descriptions (storage_name c.take_thing-gone.result.board)) in
     let Kept : Storages → Type 0 = λ ds. IsCore (record { boards = c.take_board-place.new.boards.items; things = c.take_thing-gone.new.things.things; last_board = s.last_board; last_port = s.last_port })
     s.things.last left ds in
-    let Last : ℕ → Type 0 = λ n. IsCore (record { boards = c.take_board-place.new.boards.items; things = c.take_thing-gone.new.things.things; last_board = s.last_board; last_port = s.last_port }) n left c.let_go.new.descriptions in
+    let Last : ℕ → Type 0 = λ n. IsCore (record { boards = c.take_board-place.new.boards.items; things = c.take_thing-gone.new.things.things; last_board = s.last_board; last_port = s.last_port }) n left c.let_go.new.statics in
     subst Last (sym c.take_thing-gone.ensures.last) (subst Kept (sym c.let_go.ensures.after) (subst Things (sym rest) (subst Boards (sym fewer) there)))
