@@ -1,6 +1,6 @@
 -- Factories, of new boards and of boards that stand.
-use Rattle.std.proofs.Common.{◌≡◌, ◌≢◌, ℕ, ◌+◌, ◌^◌, ◌<◌, false, not, ◌&&◌, ◌||◌, List, [], ◌∷◌, ◌++◌, length, map, arith, refl, sym, ap, ◌∙◌, subst, Option, Some, None}
-use Rattle.std.specs.Prelude.{nat_eq, nat_le}
+use Rattle.std.proofs.Common.{◌≡◌, ◌≢◌, ℕ, ◌+◌, ◌^◌, ◌<◌, Bool, true, false, cond, not, ◌&&◌, ◌||◌, List, [], ◌∷◌, ◌++◌, length, map, arith, refl, sym, ap, ◌∙◌, subst, Option, Some, None}
+use Rattle.std.specs.Prelude.{is_some, nat_eq, nat_le}
 use Rattle.std.specs.List.{AllByRecursion}
 use Rattle.std.specs.Str.{bytes_eq}
 use Rattle.std.proofs.lemmas.List.{map-append}
@@ -26,19 +26,19 @@ use Rattle.board_model.specs.declared.value.AddedEntry.{AddedEntry}
 use Rattle.board_model.specs.declared.value.KeyType.{KeyType}
 use Rattle.board_model.specs.Memory.{opening_of}
 use Rattle.board_model.specs.Replies.{added_of, number_or}
-use Rattle.board_model.specs.Tables.{Added, Tables, board_named, entries_of, is_node, meets, new_board, nodes_taken, shapes_of}
-use Rattle.board_model.specs.TableCalls.{asked, asks_above, create_refusals, created, first_of, has_all_nodes, joined, number_of, open_asked, open_refusals}
+use Rattle.board_model.specs.Tables.{Added, Tables, board_named, entries_of, holds_at, is_node, meets, new_board, nodes_taken, shapes_of}
+use Rattle.board_model.specs.TableCalls.{asked, asks_above, create_refusals, created, first_of, has_all_nodes, joined, number_of, open_refusals}
 use Rattle.board_model.specs.Things.{Held}
 use Rattle.board_model.specs.TypeTable.{key_detail, same_key, same_type, value_words}
 use Rattle.script_parties.specs.Named.{AreParties, HasShortKey, HasShortKeys, IsNamed, IsOfNode, node_number, nodes_with, party_at}
 use Rattle.board_model.specs.ShortKeys.{IsShortKey}
-use Rattle.script_parties.specs.Parties.{IsAsked, IsCreate, words_with}
-use Rattle.script_parties.proofs.Asked.{answered_made, answered_refused, err_of, ok_of, told_made, told_refused}
+use Rattle.script_parties.specs.Parties.{IsCreate, IsJoined, IsOpen, Parties, words_with}
+use Rattle.script_parties.proofs.Asked.{answered_made, answered_refused, err_of, ok_of, told_made}
 use Rattle.script_parties.proofs.Counts.{AreSame, node-same, nodes-same}
 use Rattle.script_parties.proofs.Growth.{IsMore, IsNode, all_more, named_more, named_with, node_of}
-use Rattle.script_parties.proofs.Ports.{few_left, one_left, shown}
+use Rattle.script_parties.proofs.Ports.{few_left, shown}
 use Rattle.board_service.specs.declared.made.Made.{Made}
-use Rattle.board_service.specs.Domain.{Domain, after_create, after_open, create_answer, made, open_answer, spent}
+use Rattle.board_service.specs.Domain.{CanJoin, Domain, after_create, after_open, create_answer, made, spent}
 use Rattle.board_service.specs.Entries.{IsOpening, first_words}
 
 -- a factory that a party has of a board
@@ -69,58 +69,69 @@ factories_refused nodes party number ts xs (Some b) key limits needs h n all e =
     ∷ (x, open_error.ExceedsMaxNumberOfNodes)
     ∷ [])) (all_nodes_same nodes party number ts xs b h n all e)
 
--- what the party asks, and what the core is asked
-pub record IsOpened (party name : List ℕ) (needs : Requirements) (nodes : List (List ℕ)) (node : ℕ) (title : List ℕ) (wanted : Requirements) : Type 0 where
-  pub node_is : node ≡ node_number party nodes
-  pub title_is : title ≡ name
-  pub wanted_is : wanted ≡ needs
+-- what is in the way of none is in the way of no later one
+others_none : {E : Type 0} (c : Bool) (e : E) (o : Option E) → cond c (Some e) o ≡ None → (c ≡ false) × (o ≡ None)
+others_none {E} true e o h = absurd (let s : ◌≡◌ {A = Option E} (Some e) None = h in cc)
+others_none false e o h = (refl, h)
 
-opened_so : {name : List ℕ} {party : List ℕ} {needs : Requirements} {nodes : List (List ℕ)} (P : ℕ → List ℕ → Requirements → Type 0) (node : ℕ) (title : List ℕ) (wanted : Requirements)
-    → IsOpened party name needs nodes node title wanted → P node title wanted → P (node_number party nodes) name needs
-opened_so {name} {party} {needs} {nodes} P node title wanted o h =
-    subst (λ w. P (node_number party nodes) name w) o.wanted_is (subst (λ t. P (node_number party nodes) t wanted) o.title_is (subst (λ n. P n title wanted) o.node_is h))
+-- who is refused no factory can join
+unrefused_joins : (xs : List Held) (party : List ℕ) (o : Option Board) (key : TypeDetail) (limits : Limits) (needs : Requirements) → first_of (open_refusals bytes_eq xs party o key limits needs) ≡ None
+    → (is_some o ≡ true) × (holds_at o (has_all_nodes bytes_eq party xs) ≡ false)
+unrefused_joins xs party None key limits needs h = absurd (let s : ◌≡◌ {A = Option BlackboardOpenError} (Some open_error.DoesNotExist) None = h in cc)
+unrefused_joins xs party (Some b) key limits needs h =
+    let keys = others_none (not (same_type b.key key)) open_error.IncompatibleKeys _ h in
+    let attributes = others_none (not (meets needs b.attributes)) open_error.IncompatibleAttributes _ keys.1 in
+    let readers = others_none (asks_above limits.max_readers b.max_readers) open_error.DoesNotSupportRequestedAmountOfReaders _ attributes.1 in
+    let nodes = others_none (asks_above limits.max_nodes b.max_nodes) open_error.DoesNotSupportRequestedAmountOfNodes _ readers.1 in
+    let all = others_none (has_all_nodes bytes_eq party xs b) open_error.ExceedsMaxNumberOfNodes None nodes.1 in
+    (refl, all.0)
 
-pub open_made : {C : Type 0} (list : C → List ℕ) (nodes : List (List ℕ)) (numbers : List ℕ) (things : List Held) (d after : Domain C) (party factory name : List ℕ) (key : TypeDetail) (limits : Limits) (needs : Requirements)
-    (node : ℕ) (title : List ℕ) (wanted : Requirements) (m : Made)
-    → IsNamed nodes numbers things d → IsOpened party name needs nodes node title wanted
-    → Answers (ok_of m) open_error.OutOfMemory (open_answer d node title key limits wanted) → after ≡ after_open d node title
-    → IsAsked (shown list d things) (shown list after (things ++ factory_of party factory m.number ∷ [])) (λ e. reply.OpenError e) (open_asked bytes_eq (shown list d things).tables party factory name key limits needs) (reply.Number m.number)
+pub party_joins : (p : Parties) (party name : List ℕ) (key : TypeDetail) (limits : Limits) (needs : Requirements) → first_of (open_refusals bytes_eq p.tables.things party (board_named p.tables name) key limits needs) ≡ None
+    → CanJoin bytes_eq p.tables party name
+party_joins p party name key limits needs h =
+    let both = unrefused_joins p.tables.things party (board_named p.tables name) key limits needs h in
+    record { stands = both.0; nodes = both.1 }
+
+-- a party can join where its number can
+pub node_joins : {C : Type 0} (list : C → List ℕ) (nodes : List (List ℕ)) (numbers : List ℕ) (things : List Held) (d : Domain C) (party name : List ℕ) (node : ℕ) (title : List ℕ) → IsNamed nodes numbers things d
+    → node ≡ node_number party nodes → title ≡ name → CanJoin bytes_eq (shown list d things).tables party name → CanJoin nat_eq d.tables node title
+node_joins list nodes numbers things d party name node title h node_is title_is may =
+    let h' = named_with party nodes numbers things d h in
+    let same : (o : Option Board) → holds_at o (has_all_nodes nat_eq (node_number party nodes) d.tables.things) ≡ holds_at o (has_all_nodes bytes_eq party things) =
+    λ o. elim o as (λ o. holds_at o (has_all_nodes nat_eq (node_number party nodes) d.tables.things) ≡ holds_at o (has_all_nodes bytes_eq party things)) [
+      | None ↦ refl
+      | Some b ↦ sym (all_nodes_same (nodes_with party nodes) party (node_number party nodes) d.tables.things things b h'.parties (node_of party nodes) h'.holders h'.same)
+    ] in
+    subst (λ n. CanJoin nat_eq d.tables n title) (sym node_is) (subst (λ t. CanJoin nat_eq d.tables (node_number party nodes) t) (sym title_is)
+    (record { stands = may.stands; nodes = same (board_named d.tables name) ∙ may.nodes }))
+
+pub open_made : {C : Type 0} (list : C → List ℕ) (nodes : List (List ℕ)) (numbers : List ℕ) (things : List Held) (d after : Domain C) (party factory name : List ℕ) (node : ℕ) (title : List ℕ) (m : Made)
+    → IsNamed nodes numbers things d → node ≡ node_number party nodes → title ≡ name → m ≡ made d (number_of (board_named d.tables title)) → after ≡ after_open d node title
+    → IsJoined (shown list d things) (shown list after (things ++ factory_of party factory m.number ∷ [])) party factory name (reply.Number m.number)
     × IsNamed (nodes_with party nodes) (numbers ++ m.thing ∷ []) (things ++ factory_of party factory m.number ∷ []) after
-open_made {C} list nodes numbers things d after party factory name key limits needs node title wanted m h o a ok =
+open_made {C} list nodes numbers things d after party factory name node title m h node_is title_is made_is ok =
     let n = node_number party nodes in
     let all = nodes_with party nodes in
     let h' = named_with party nodes numbers things d h in
     let is = node_of party nodes in
     let board = board_named d.tables name in
-    let a' : Answers (ok_of m) open_error.OutOfMemory (open_answer d n name key limits needs) = opened_so (λ k t w. Answers (ok_of m) open_error.OutOfMemory (open_answer d k t key limits w)) node title wanted o a in
-    let ok' : after ≡ after_open d n name = opened_so (λ k t w. after ≡ after_open d k t) node title wanted o ok in
-    let by = answered_made (open_refusals nat_eq d.tables.things n board key limits needs) (spent d.last_thing, open_error.NumbersSpent) open_error.OutOfMemory m (made d (number_of board)) a' in
-    let Told : Domain C → Made → Type 0 = λ e k. IsAsked (shown list d things) (shown list e (things ++ factory_of party factory k.number ∷ [])) (λ e. reply.OpenError e) (open_asked bytes_eq (shown list d things).tables party factory name key limits needs) (reply.Number k.number) in
+    let made_is' : m ≡ made d (number_of board) = made_is ∙ ap (λ t. made d (number_of (board_named d.tables t))) title_is in
+    let ok' : after ≡ after_open d n name = ok ∙ ap (λ k. after_open d k title) node_is ∙ ap (λ t. after_open d n t) title_is in
+    let Told : Domain C → Made → Type 0 = λ e k. IsJoined (shown list d things) (shown list e (things ++ factory_of party factory k.number ∷ [])) party factory name (reply.Number k.number) in
     let Kept : Domain C → Made → Type 0 = λ e k. IsNamed all (numbers ++ k.thing ∷ []) (things ++ factory_of party factory k.number ∷ []) e in
-    let told : Told (after_open d n name) (made d (number_of board)) =
-    told_made (shown list d things) (shown list (after_open d n name) (things ++ factory_of party factory (number_of board) ∷ [])) (λ e. reply.OpenError e)
-    (first_of (open_refusals bytes_eq things party board key limits needs)) (number_of board) (joined (shown list d things).tables party factory board)
-    (factories_refused all party n d.tables.things things board key limits needs h'.parties is h'.holders h'.same ∙ by.none) refl refl (omega arith) in
+    let told : Told (after_open d n name) (made d (number_of board)) = record { told_is = refl; tables = refl; words = refl; drawn = omega arith } in
     let more : IsMore all d (after_open d n name) (record { holder = n; name = d.last_thing + 1; board = number_of board; kind = kind.Factory }) (factory_of party factory (number_of board)) =
     record { things = refl; last = refl; number = refl; holder = is.is; board = refl; kind = refl; node = record { some = is.some; most = is.most }; keys = h.keys } in
     let kept : Kept (after_open d n name) (made d (number_of board)) = named_more all numbers things d (after_open d n name) _ _ (d.last_thing + 1) h' more refl in
-    (subst (λ e. Told e m) (sym ok') (subst (λ k. Told (after_open d n name) k) (sym by.same) told), subst (λ e. Kept e m) (sym ok') (subst (λ k. Kept (after_open d n name) k) (sym by.same) kept))
+    (subst (λ e. Told e m) (sym ok') (subst (λ k. Told (after_open d n name) k) (sym made_is') told), subst (λ e. Kept e m) (sym ok') (subst (λ k. Kept (after_open d n name) k) (sym made_is') kept))
 
-pub open_not_made : {C : Type 0} (list : C → List ℕ) (nodes : List (List ℕ)) (numbers : List ℕ) (things : List Held) (d after : Domain C) (party factory name : List ℕ) (key : TypeDetail) (limits : Limits) (needs : Requirements)
-    (node : ℕ) (title : List ℕ) (wanted : Requirements) (why : BlackboardOpenError)
-    → IsNamed nodes numbers things d → IsOpened party name needs nodes node title wanted → d.last_thing < 2 ^ 63 → why ≢ open_error.OutOfMemory
-    → Answers (err_of why) open_error.OutOfMemory (open_answer d node title key limits wanted) → after ≡ d
-    → IsAsked (shown list d things) (shown list after things) (λ e. reply.OpenError e) (open_asked bytes_eq (shown list d things).tables party factory name key limits needs) (reply.OpenError why)
-open_not_made {C} list nodes numbers things d after party factory name key limits needs node title wanted why h o few memory a err =
-    let n = node_number party nodes in
-    let all = nodes_with party nodes in
-    let h' = named_with party nodes numbers things d h in
-    let board = board_named d.tables name in
-    let a' : Answers (err_of why) open_error.OutOfMemory (open_answer d n name key limits needs) = opened_so (λ k t w. Answers (err_of why) open_error.OutOfMemory (open_answer d k t key limits w)) node title wanted o a in
-    let by = answered_refused (open_refusals nat_eq d.tables.things n board key limits needs) (spent d.last_thing, open_error.NumbersSpent) open_error.OutOfMemory why (made d (number_of board)) (one_left d.last_thing few) memory a' in
-    subst (λ e. IsAsked (shown list d things) (shown list e things) (λ e. reply.OpenError e) (open_asked bytes_eq (shown list d things).tables party factory name key limits needs) (reply.OpenError why)) (sym err)
-    (told_refused (shown list d things) (λ e. reply.OpenError e) (first_of (open_refusals bytes_eq things party board key limits needs)) (number_of board) (joined (shown list d things).tables party factory board) why
-    (factories_refused all party n d.tables.things things board key limits needs h'.parties (node_of party nodes) h'.holders h'.same ∙ by))
+-- a factory is made where nothing refuses it
+pub opened_joined : (old new : Parties) (party factory name : List ℕ) (k : KeyType) (limits : Limits) (needs : Requirements) (told : Reply) → first_of (open_refusals bytes_eq old.tables.things party (board_named old.tables name) (key_detail k) limits needs) ≡ None
+    → IsJoined old new party factory name told → IsOpen old new party factory name k limits needs told
+opened_joined old new party factory name k limits needs told none j =
+    subst (λ r. IsOpen old new party factory name k limits needs r) (sym j.told_is)
+    (told_made old new (λ e. reply.OpenError e) (first_of (open_refusals bytes_eq old.tables.things party (board_named old.tables name) (key_detail k) limits needs)) (number_of (board_named old.tables name))
+    (joined old.tables party factory (board_named old.tables name)) none j.tables j.words j.drawn)
 
 -- ---- new boards
 

@@ -14,8 +14,8 @@ use Rattle.board_model.specs.declared.value.Key.{Key}
 use Rattle.board_model.specs.declared.value.KeyType.{KeyType}
 use Rattle.board_model.specs.declared.value.ValueType.{ValueType}
 use Rattle.board_model.specs.LawfulSession.{no_tables}
-use Rattle.board_model.specs.Tables.{Tables, board_at, entry_found, is_numbered}
-use Rattle.board_model.specs.TableCalls.{create_asked, entry_asked, entry_mut_asked, open_asked, reader_asked, writer_asked}
+use Rattle.board_model.specs.Tables.{Tables, board_at, board_named, entry_found, is_numbered}
+use Rattle.board_model.specs.TableCalls.{create_asked, entry_asked, entry_mut_asked, joined, number_of, open_asked, reader_asked, writer_asked}
 use Rattle.board_model.specs.Memory.{opening_of}
 use Rattle.board_model.specs.Things.{Held, thing_of}
 use Rattle.board_model.specs.TypeTable.{key_detail, same_key, value_detail}
@@ -52,6 +52,13 @@ pub record IsAsked {E : Type 0} (old new : Parties) (error : E → Reply) (asked
 -- a board is opened, or not, as the definitions say
 abbrev pub IsOpen : Parties → Parties → List ℕ → List ℕ → List ℕ → KeyType → Limits → Requirements → Reply → Type 0
 IsOpen old new party factory name k limits needs told = IsAsked old new reply.OpenError (open_asked bytes_eq old.tables party factory name (key_detail k) limits needs) told
+
+-- a factory is made for the party, of the board with this name
+pub record IsJoined (old new : Parties) (party factory name : List ℕ) (told : Reply) : Type 0 where
+  pub told_is : told ≡ reply.Number (number_of (board_named old.tables name))
+  pub tables : new.tables ≡ joined old.tables party factory (board_named old.tables name)
+  pub words : new.words ≡ old.words
+  pub drawn : new.drawn ≤ old.drawn + 1
 
 -- a reader is made, or not, as the definitions say
 abbrev pub IsReader : Parties → Parties → List ℕ → Held → Reply → Type 0

@@ -230,7 +230,7 @@ impl<C: BoardWords + Drop> PartyDomain<C> {
         let needs = needs_for(needs);
         match self.open_refusal(&party, &name, key_type, limits, &needs) {
             Some(why) => Ok(Reply::OpenError(why)),
-            None => self.add_factory(party, factory, name, key_type, limits, &needs),
+            None => self.add_factory(party, factory, name),
         }
     }
 

@@ -59,27 +59,7 @@ pub(crate) fn create_in<C: Cells>(
     }
 }
 
-/// A further factory of a board whose keys are to be of this type.
-pub(crate) fn open_in<C: Cells>(
-    core: &mut DomainCore<C>,
-    key_type: KeyType,
-    node: NodeId,
-    name: &ServiceName,
-    limits: Limits,
-    needs: &AttributeVerifier,
-) -> Result<Made, BlackboardOpenError>
-    ensures answer { Answers result BlackboardOpenError.OutOfMemory
-        (domain.open_answer core.old node name.now (types.key_detail key_type) limits needs.now) }
-    ensures ok { OnOk result (core.new ≡ domain.after_open core.old node name.now) }
-    ensures err { OnErr result (core.new ≡ core.old) }
-{
-    match key_type {
-        KeyType::U64 => core.open::<u64>(node, name, limits, needs),
-        KeyType::F8 => core.open::<F8>(node, name, limits, needs),
-    }
-}
-
-/// Why such a factory would be refused.
+/// Why a further factory of a board whose keys are to be of this type would be refused.
 pub(crate) fn open_refusal_in<C: Cells>(
     core: &DomainCore<C>,
     key_type: KeyType,

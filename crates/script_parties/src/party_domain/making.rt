@@ -1,23 +1,25 @@
 //! What the calls make, where nothing refuses them and memory is given.
 ghost use Rattle.std.specs.Prelude.{◌≡◌, true, IfOk, OnErr};
+ghost use Rattle.std.specs.Str.{bytes_eq};
 ghost use Rattle.board_model.specs.LineGrammar.{is_board_name};
 ghost use Rattle.board_model.specs.Tables as tables;
-ghost use Rattle.script_parties.specs.Parties.{IsCreate, IsEntry, IsEntryMut, IsFew, IsOpen, IsReader, IsWriter, IsStandingThing};
+ghost use Rattle.script_parties.specs.Parties.{IsCreate, IsEntry, IsEntryMut, IsFew, IsJoined, IsReader, IsWriter, IsStandingThing};
 ghost use Rattle.script_parties.specs.Shown.{HasKeyType};
+ghost use Rattle.board_service.specs.Domain.{CanJoin};
 
 use super::PartyDomain;
 use crate::adding::entries_for;
 use crate::lookups::{Held, join, keep, node_for, number_of};
-use crate::typed_calls::{create_in, entry_in, entry_mut_in, open_in};
-use board_concepts::{AttributeSet, AttributeVerifier};
+use crate::typed_calls::{create_in, entry_in, entry_mut_in};
+use board_concepts::AttributeSet;
 use board_layout::Text;
 use board_model::{
-    AddedEntries, Key, KeyType, Kind, Limits, Name, NewLimits, Reply, Thing, ThingKind, ValueType,
+    AddedEntries, Key, KeyType, Kind, Name, NewLimits, Reply, Thing, ThingKind, ValueType,
     value_detail,
 };
 use board_names::{
-    BlackboardCreateError, BlackboardOpenError, EntryHandleError, EntryHandleMutError,
-    ReaderCreateError, ServiceName, WriterCreateError,
+    BlackboardCreateError, EntryHandleError, EntryHandleMutError, ReaderCreateError, ServiceName,
+    WriterCreateError,
 };
 use board_service::{BoardWords, NodeId, port_of};
 use std::alloc::AllocError;
@@ -71,20 +73,17 @@ impl<C: BoardWords + Drop> PartyDomain<C> {
         }
     }
 
-    /// The same as `open`, but want of memory may come in place of a refusal.
+    /// Makes a factory of the board with this name, for the party, which `open_refusal` refuses nothing.
     pub(super) fn add_factory(
         &mut self,
         party: Name,
         factory: Name,
         name: Text<255>,
-        key_type: KeyType,
-        limits: Limits,
-        needs: &AttributeVerifier,
     ) -> Result<Reply, AllocError>
         requires few { IsFew self.old }
         requires name { is_board_name name ≡ true }
-        ensures asked { IfOk result (IsOpen self.old self.new party factory name key_type limits
-            needs.now) }
+        requires joins { CanJoin bytes_eq self.old.tables party name }
+        ensures joined { IfOk result (IsJoined self.old self.new party factory name) }
         ensures err { OnErr result (self.new ≡ self.old) }
     {
         self.nodes.reserve(1)?;
@@ -92,7 +91,7 @@ impl<C: BoardWords + Drop> PartyDomain<C> {
         self.numbers.reserve(1)?;
         let node = NodeId(node_for(&party, &self.nodes));
         let name = ServiceName::from_text(name);
-        match open_in(&mut self.core, key_type, node, &name, limits, needs) {
+        match self.core.open_unrefused(node, &name) {
             Ok(made) => {
                 join(party, &mut self.nodes);
                 let thing = Thing {
@@ -104,8 +103,7 @@ impl<C: BoardWords + Drop> PartyDomain<C> {
                 keep(thing, made.thing, &mut self.things, &mut self.numbers);
                 Ok(Reply::Number(made.number))
             }
-            Err(BlackboardOpenError::OutOfMemory) => Err(AllocError),
-            Err(why) => Ok(Reply::OpenError(why)),
+            Err(error) => Err(error),
         }
     }
 
