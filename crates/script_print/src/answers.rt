@@ -1,5 +1,5 @@
 //! The bytes of answers, which are added to a buffer of the caller's.
-ghost use Rattle.std.specs.Prelude.{◌≡◌, ◌++◌, ◌∷◌, [], OnOk, codes, decimal, take};
+ghost use Rattle.std.specs.Prelude.{◌≡◌, ◌<◌, ◌≤◌, ◌++◌, ◌∷◌, [], OnOk, codes, decimal, take};
 ghost use Rattle.std.specs.List.{flat_map};
 ghost use Rattle.board_model.specs.declared.answer.Answer.TheVariants as answer;
 ghost use Rattle.board_model.specs.AnswerGrammar.{access_text, answer_line, answer_text, number_text, place_text, reply_text, told_text};
@@ -11,7 +11,8 @@ use board_model::{Answer, Reason, Reply};
 use itoa::Buffer;
 use std::alloc::AllocError;
 
-// Adds the digits of the number.
+// Adds the digits of a number. That of a number below ten is added in place.
+#[inline(always)]
 pub(crate) fn push_digits(n: u64, out: &mut Vec<u8>) -> Result<(), AllocError>
     ensures { OnOk result (out.new.items ≡ out.old.items ++ decimal n) }
 {
@@ -19,8 +20,32 @@ pub(crate) fn push_digits(n: u64, out: &mut Vec<u8>) -> Result<(), AllocError>
         out.push(b'0' + n as u8)?;
         return Ok(());
     }
+    push_more_digits(n, out)
+}
+
+// Adds the digits of a number of two digits or more. Apart, so that `push_digits` is short.
+#[inline(never)]
+fn push_more_digits(n: u64, out: &mut Vec<u8>) -> Result<(), AllocError>
+    requires { 10 ≤ n }
+    ensures { OnOk result (out.new.items ≡ out.old.items ++ decimal n) }
+{
+    if n < 100 {
+        return push_two_digits(n, out);
+    }
     let mut buffer = Buffer::new();
     out.extend_from_slice(buffer.format(n).as_bytes())
+}
+
+// Adds both digits of a number of two.
+#[inline(always)]
+fn push_two_digits(n: u64, out: &mut Vec<u8>) -> Result<(), AllocError>
+    requires low { 10 ≤ n }
+    requires high { n < 100 }
+    ensures { OnOk result (out.new.items ≡ out.old.items ++ decimal n) }
+{
+    out.push(b'0' + (n / 10) as u8)?;
+    out.push(b'0' + (n % 10) as u8)?;
+    Ok(())
 }
 
 // Adds a space and the number.
@@ -31,6 +56,7 @@ pub(crate) fn push_number(n: u64, out: &mut Vec<u8>) -> Result<(), AllocError>
     push_digits(n, out)
 }
 
+#[inline(always)]
 fn push_place(board: u64, word: u64, value: u64, out: &mut Vec<u8>) -> Result<(), AllocError>
     ensures { OnOk result (out.new.items ≡ out.old.items ++ place_text board word value) }
 {
@@ -40,6 +66,7 @@ fn push_place(board: u64, word: u64, value: u64, out: &mut Vec<u8>) -> Result<()
     push_number(value, out)
 }
 
+#[inline(always)]
 fn push_access(access: Access, out: &mut Vec<u8>) -> Result<(), AllocError>
     ensures { OnOk result (out.new.items ≡ out.old.items ++ access_text access) }
 {
