@@ -44,6 +44,7 @@ use Rattle.script_boards.specs.Loans.{lent_words}
 use Rattle.script_parties.specs.Parties.{words_of_boards}
 use Rattle.script_boards.specs.Machine.{AreRowsOf, Represents, is_row_of, kept, tables_of, updating}
 use Rattle.script_boards.specs.Steps.{HasCounter, IsCounter}
+use Rattle.script_boards.specs.Wants.{takes_memory}
 use Rattle.script_boards.proofs.Bounds.{IsBounded}
 use Rattle.script_boards.proofs.PartyRows.{started}
 use Rattle.script_boards.proofs.TableSteps.{counter_at}
@@ -69,6 +70,19 @@ refused_for result why refusal h e =
 -- the reason that there is for a refusal
 pub reason_for : (reason : Option Reason) (request : Option Request) (e : NotBegun) (why : Reason) → e ≡ not_begun.Refused why → IsChecked reason request (Err e) → reason ≡ Some why
 reason_for reason request e why q h = subst (λ (x : NotBegun). IsChecked reason request (Err x)) q h
+
+-- there is none where memory was wanted
+pub wanted_for : (reason : Option Reason) (request : Option Request) (e : NotBegun) → e ≡ not_begun.OutOfMemory → IsChecked reason request (Err e) → reason ≡ None
+wanted_for reason request e q h = subst (λ (x : NotBegun). IsChecked reason request (Err x)) q h
+
+pub wanted_by : (result : Result Task NotBegun) → IsErrAnd result (λ e. e ≡ not_begun.OutOfMemory) → result ≡ Err not_begun.OutOfMemory
+wanted_by result h =
+    let p = err_from_is_err_and result h in
+    p.1 ∙ ap (λ (x : NotBegun). Err x) p.2
+
+-- the beginning of a call takes memory
+pub begin_takes : (s : State) (party : List ℕ) (c : Call) → s.parties party ≡ free → call_reason s.standing party c (request_of s.standing s.published party c) ≡ None → takes_memory s (line.Begin party c) ≡ true
+begin_takes s party c e h = rw e (rw h refl)
 
 -- ---- what a party holds
 

@@ -16,6 +16,7 @@ pub mod Releases
 pub mod Rows
 pub mod Shown
 pub mod StepRefusals
+pub mod StepWants
 pub mod TableSteps
 pub mod Takes
 pub mod WriteSteps

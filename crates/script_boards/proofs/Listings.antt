@@ -1,10 +1,11 @@
 -- The words of a board, and the facts of a lawful session.
 use Rattle.std.proofs.Common.{◌≡◌, ℕ, ◌^◌, ◌<◌, true, false, List, [], length, get_or, arith, refl, sym, ap, ◌∙◌, Option, Some, None}
-use Rattle.std.specs.Prelude.{find, is_some, option_map, IfNone, IfOk, IfSome, OnOk, Result, Ok, Err}
+use Rattle.std.specs.Prelude.{find, is_some, option_map, IfNone, IfOk, IfSome, IsSome, OnErr, OnOk, Result, Ok, Err}
 use Rattle.std.specs.List.{position_from}
 use Rattle.std.proofs.lemmas.List.{length-map}
 use Rattle.std.proofs.lemmas.Option.{get_or_from_slice_get, slice_get-get_or}
 use Rattle.board_model.specs.declared.tables.Board.{Board}
+use Rattle.board_model.specs.declared.line.Line.TheVariants as line
 use Rattle.board_model.specs.Tables.{board_at, is_numbered}
 use Rattle.board_model.specs.LawfulSession.{IsLawful, Session, State, start, state_after}
 use Rattle.board_model.proofs.DrawLemmas.{session_within}
@@ -15,6 +16,7 @@ use Rattle.script_parties.specs.Parties.{board_words}
 use Rattle.board_service.specs.Domain.{at}
 use Rattle.script_boards.specs.declared.machine.BoardMachine.{BoardMachine}
 use Rattle.script_boards.specs.Machine.{IsReached, Represents}
+use Rattle.script_boards.specs.Wants.{MayWant, takes_memory}
 use Rattle.script_boards.proofs.Memories.{words_at}
 use Rattle.script_boards.proofs.Rows.{first_at, place_found, place_missing}
 
@@ -52,6 +54,11 @@ module _ {C : Type 0} (m : BoardMachine C) (s : State) (rep : Represents m s) (n
       by (Some k) p h =
           let there : Some (get_or m.domain.words k []) ≡ None = sym (slice_get-get_or m.domain.words k [] (place_inside k (sym p))) ∙ h in
           absurd cc
+
+  -- and words stand where it has some
+  pub words_stand : (o : Option (List ℕ)) → board_words m.domain n ≡ o → IsSome o → takes_memory s (line.Words n) ≡ true
+  words_stand None e h = absurd cc
+  words_stand (Some ws) e h = rw (words_found ws e).0 refl
 
 -- ---- words that were copied
 
@@ -97,3 +104,8 @@ reached_by session h lt = record {
   numbers = session_numbers session h lt;
   formed = session_formed session h;
 }
+
+-- the copy wants memory only where the board stands
+pub copy_wants : {C V E : Type 0} (m : BoardMachine C) (n : ℕ) (r : Result (Option V) E) → OnErr r (IsSome (board_words m.domain n)) → OnErr r (MayWant m (line.Words n))
+copy_wants m n (Ok found) h = h
+copy_wants m n (Err e) h = λ s rep reached. words_stand m s rep n (board_words m.domain n) refl h

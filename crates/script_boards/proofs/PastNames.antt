@@ -76,6 +76,14 @@ module _ (s : State) (party : List ℕ) (c : Call) where
       some (Some q) k = refl
       some None k = absurd k
 
+  -- and where memory was wanted
+  pub past_wanted : s.parties party ≡ free → call_reason s.standing party c request ≡ None → finds_all (s.parties party) request ≡ true
+  past_wanted h k = rw h (some request k)
+    where
+      some : (q : Option Request) → call_reason s.standing party c q ≡ None → finds_all free q ≡ true
+      some (Some q) k = refl
+      some None k = absurd (let u : some_reason reason.Unknown ≡ None = k in cc)
+
   -- it is refused
   pub past_refused : (why : Reason) → s.parties party ≡ free → call_reason s.standing party c request ≡ Some why → IsPastNames s party c (past_names why)
   past_refused why h k = by (past_names why) refl

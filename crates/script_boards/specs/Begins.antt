@@ -16,6 +16,7 @@ use Rattle.board_model.specs.LineGrammar.{IsLine}
 use Rattle.board_model.specs.Parties.{Party, free, gone, running}
 use Rattle.board_model.specs.LawfulSession.{IsRight, State, call_reason}
 use Rattle.board_model.specs.Sound.{Sound}
+use Rattle.board_model.specs.declared.tables.ThingKind.{ThingKind}
 use Rattle.board_model.specs.declared.tables.ThingKind.TheVariants as thing_kind
 use Rattle.board_model.specs.Things.{Held, of_kind, thing_of}
 use Rattle.script_boards.specs.declared.machine.BoardMachine.{BoardMachine}
@@ -90,6 +91,10 @@ has_id (kind.Writer port) is_lent = true
 has_id (kind.ReadHandle i) is_lent = true
 has_id (kind.WriteHandle i port) is_lent = not is_lent
 
+-- the thing of this kind that a party holds under a name
+abbrev pub thing_held : {C : Type 0} → BoardMachine C → ThingKind → List ℕ → List ℕ → Option Held
+thing_held m kind party name = of_kind kind (thing_of m.domain.tables.things party name)
+
 -- ---- checks
 
 -- the task is what the call has to do
@@ -107,11 +112,11 @@ abbrev pub IsRequired : Bool → Reason → Result ⊤ Reason → Type 0
 IsRequired holds refusal (Ok done) = holds ≡ true
 IsRequired holds refusal (Err why) = (holds ≡ false) × (why ≡ refusal)
 
--- begun, or refused with the reason that there is; nothing is said where memory was refused
+-- begun, or refused with the reason that there is; where memory was refused there is none
 abbrev pub IsChecked : Option Reason → Option Request → Result Task NotBegun → Type 0
 IsChecked reason request (Ok t) = (reason ≡ None) × IsTaskFor t request
 IsChecked reason request (Err (not_begun.Refused why)) = reason ≡ Some why
-IsChecked reason request (Err not_begun.OutOfMemory) = ⊤
+IsChecked reason request (Err not_begun.OutOfMemory) = reason ≡ None
 
 -- a call of the party is looked at so, in each state that the machine stands for
 abbrev pub Checks : {C : Type 0} → BoardMachine C → List ℕ → Call → Result Task NotBegun → Type 0

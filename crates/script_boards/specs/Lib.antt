@@ -4,3 +4,6 @@ pub mod Loans
 pub mod Machine
 pub mod Steps
 pub mod TableCalls
+pub mod TaskWants
+pub mod Wants
+pub mod Listings

@@ -1,8 +1,9 @@
 //! Lines `abandon P`.
-ghost use Rattle.std.specs.Prelude.{◌≡◌, ◌+◌, ◌<◌, ◌≤◌, IfOk, OnOk, length};
+ghost use Rattle.std.specs.Prelude.{◌≡◌, ◌+◌, ◌<◌, ◌≤◌, IfOk, OnErr, OnOk, length};
 ghost use Rattle.board_model.specs.declared.line.Line.TheVariants as line;
 ghost use Rattle.script_boards.specs.Machine.{IsLed, Serves};
 ghost use Rattle.script_boards.specs.Steps.{HoldsAsBefore, IsGoneAt};
+ghost use Rattle.script_boards.specs.Wants.{MayWant};
 
 use crate::lookups::place_of_party;
 use crate::machine::{BoardMachine, PartyRow, Task};
@@ -21,9 +22,13 @@ impl<C: BoardWords + Drop> BoardMachine<C> {
     }
 
     /// A line `abandon P`. The call of the party runs no more, and what it holds stands for good.
+    ///
+    /// # Errors
+    /// `AllocError` where memory is refused: only for a party that runs no call, and isn't gone. The machine stays as it was.
     pub fn abandon(&mut self, party: Name) -> Result<Answer, AllocError>
         requires { IsLed self.old }
         ensures serves { IfOk result (λ a. Serves self.old self.new (line.Abandon party) a) }
+        ensures memory { OnErr result (MayWant self.old (line.Abandon party)) }
         ensures drawn { OnOk result (self.new.domain.drawn ≤ self.old.domain.drawn + 1) }
     {
         let Some(at) = place_of_party(&party, &self.parties) else {

@@ -1,17 +1,17 @@
 //! Lines `begin P CALL`.
-ghost use Rattle.std.specs.Prelude.{◌≡◌, ◌+◌, ◌<◌, ◌≤◌, ◌^◌, ◌||◌, true, Some, IfOk, OnOk, find, is_some, not};
+ghost use Rattle.std.specs.Prelude.{◌≡◌, ◌+◌, ◌<◌, ◌≤◌, ◌^◌, ◌||◌, true, Some, IfOk, OnErr, OnOk, find, is_some, not};
 ghost use Rattle.std.specs.List.{list_all};
 ghost use Rattle.board_layout.specs.Layout.{cell_shape};
 ghost use Rattle.board_model.specs.LawfulSession.{has_key_type};
 ghost use Rattle.board_model.specs.Tables as tables;
-ghost use Rattle.board_model.specs.Things.{of_kind, thing_of};
 ghost use Rattle.board_model.specs.TypeTable as types;
 ghost use Rattle.board_model.specs.declared.answer.Reason.TheVariants as reason;
 ghost use Rattle.board_model.specs.declared.line.Call.TheVariants as call;
 ghost use Rattle.board_model.specs.declared.line.Line.TheVariants as line;
 ghost use Rattle.script_boards.specs.Machine.{IsLed, Serves, kept, tables_of};
-ghost use Rattle.script_boards.specs.Begins.{Checks, HasGeneration, HasNoRow, IsHandle, IsRequired, IsUsed, handle_held, has_id, holds, holds_any, written_by};
+ghost use Rattle.script_boards.specs.Begins.{Checks, HasGeneration, HasNoRow, IsHandle, IsRequired, IsUsed, handle_held, has_id, holds, holds_any, thing_held, written_by};
 ghost use Rattle.script_boards.specs.Loans.{lent_words};
+ghost use Rattle.script_boards.specs.Wants.{MayWant};
 
 use crate::loans::words_lent;
 use crate::lookups::value_of;
@@ -137,8 +137,7 @@ impl<C: BoardWords + Drop> BoardMachine<C> {
 
     // The thing of this kind that the party holds under the name.
     fn thing_used(&self, kind: ThingKind, party: &Name, name: &Name) -> Result<Held, Reason>
-        ensures { IsUsed (of_kind kind (thing_of self.now.domain.tables.things party.now name.now))
-            result }
+        ensures { IsUsed (thing_held self.now kind party.now name.now) result }
     {
         self.domain
             .held_of_kind(kind, party, name)
@@ -400,6 +399,7 @@ impl<C: BoardWords + Drop> BoardMachine<C> {
         requires led { IsLed self.old }
         requires free { HasNoRow self.old party }
         ensures serves { IfOk result (λ a. Serves self.old self.new (line.Begin party call) a) }
+        ensures memory { OnErr result (MayWant self.old (line.Begin party call)) }
         ensures drawn { OnOk result (self.new.domain.drawn ≤ self.old.domain.drawn + 1) }
     {
         let generation = self.generation_for(&party, &call);
@@ -414,9 +414,13 @@ impl<C: BoardWords + Drop> BoardMachine<C> {
     }
 
     /// A line `begin P CALL`.
+    ///
+    /// # Errors
+    /// `AllocError` where memory is refused, and the line isn't. The machine stands for no state from then on.
     pub fn begin(&mut self, party: Name, call: Call) -> Result<Answer, AllocError>
         requires { IsLed self.old }
         ensures serves { IfOk result (λ a. Serves self.old self.new (line.Begin party call) a) }
+        ensures memory { OnErr result (MayWant self.old (line.Begin party call)) }
         ensures drawn { OnOk result (self.new.domain.drawn ≤ self.old.domain.drawn + 1) }
     {
         match self.refusal_of_party(&party) {

@@ -1,5 +1,5 @@
 //! Refusals that no name has to do with, and names that parties hold.
-ghost use Rattle.std.specs.Prelude.{◌≡◌, None, IfNone, IfOk};
+ghost use Rattle.std.specs.Prelude.{◌≡◌, None, IfNone};
 ghost use Rattle.board_model.specs.LawfulSession.{free_reason};
 ghost use Rattle.board_model.specs.Things as held;
 ghost use Rattle.script_boards.specs.Begins.{HasNoRow, LooksPastNames, past_names};
@@ -10,7 +10,6 @@ use crate::machine::BoardMachine;
 use crate::not_begun::NotBegun;
 use board_model::{Call, Name, Reason};
 use board_service::BoardWords;
-use std::alloc::AllocError;
 
 // The reason, where it is that a call doesn't find all that it uses.
 fn past_names(why: Reason) -> Option<Reason>
@@ -46,26 +45,21 @@ impl<C: BoardWords + Drop> BoardMachine<C> {
     }
 
     /// Why a call may not begin, whatever names are held. None where its party is free and holds all that the call uses.
-    ///
-    /// # Errors
-    /// `AllocError` where memory is refused.
-    pub fn refusal_past_names(
-        &mut self,
-        party: &Name,
-        call: Call,
-    ) -> Result<Option<Reason>, AllocError>
+    /// That is known also where memory is refused, so no want of it is told.
+    pub fn refusal_past_names(&mut self, party: &Name, call: Call) -> Option<Reason>
         requires { IsLed self.old }
-        ensures told { IfOk result (LooksPastNames self.old party.now call) }
+        ensures told { LooksPastNames self.old party.now call result }
         ensures same { self.new ≡ self.old }
     {
         if let Some(why) = self.refusal_of_party(party) {
-            return Ok(Some(why));
+            return Some(why);
         }
         let generation = self.generation_for(party, &call);
         match self.check(party, call, generation) {
-            Ok(_) => Ok(None),
-            Err(NotBegun::Refused(why)) => Ok(past_names(why)),
-            Err(NotBegun::OutOfMemory) => Err(AllocError),
+            Ok(_) => None,
+            Err(NotBegun::Refused(why)) => past_names(why),
+            // A call that may begin.
+            Err(NotBegun::OutOfMemory) => None,
         }
     }
 }

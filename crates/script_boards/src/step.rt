@@ -1,5 +1,5 @@
 //! Lines `step P`.
-ghost use Rattle.std.specs.Prelude.{◌≡◌, ◌+◌, ◌<◌, ◌≤◌, ◌^◌, ◌==◌, IfOk, OnOk, length, slice_set, slice_index_or};
+ghost use Rattle.std.specs.Prelude.{◌≡◌, ◌+◌, ◌<◌, ◌≤◌, ◌^◌, ◌==◌, true, IfOk, OnErr, OnOk, length, slice_set, slice_index_or};
 ghost use Rattle.std.specs.List.{remove};
 ghost use Rattle.board_cell.specs.Calls.{progress_of};
 ghost use Rattle.board_model.specs.AnswerGrammar.{IsReply};
@@ -8,6 +8,8 @@ ghost use Rattle.script_parties.specs.Parties.{HasWord, IsLoaded};
 ghost use Rattle.script_boards.specs.Machine.{IsLed, Serves};
 ghost use Rattle.script_boards.specs.Steps as steps;
 ghost use Rattle.script_boards.specs.Steps.{CanGoOn, CanGoOnAt, CanRun, GoesOnAt, HasCounter, HasRead, HoldsAsBefore, IsCounter, IsOwedBy, IsReadTold, IsSame, IsTold, IsWordSet, OwesAt, owed_on, ticked};
+ghost use Rattle.script_boards.specs.TaskWants.{TaskMayWant, keeps_value};
+ghost use Rattle.script_boards.specs.Wants.{MayWant};
 ghost use Rattle.script_boards.specs.declared.step.OwedAccess.TheVariants as owed;
 
 use crate::lookups::place_of_party;
@@ -195,6 +197,7 @@ impl<C: BoardWords + Drop> BoardMachine<C> {
     fn run_table(&mut self, party: Name, task: TableTask) -> Result<Reply, AllocError>
         requires { CanRun self.old party task }
         ensures told { IfOk result (IsTold self.old self.new party task) }
+        ensures memory { OnErr result (TaskMayWant self.old party task) }
         ensures drawn { OnOk result (self.new.domain.drawn ≤ self.old.domain.drawn + 1) }
     {
         match task {
@@ -261,6 +264,7 @@ impl<C: BoardWords + Drop> BoardMachine<C> {
     fn tell_read(&mut self, party: Name, task: Task) -> Result<Reply, AllocError>
         requires { HasRead task }
         ensures told { IfOk result (IsReadTold self.old self.new party task) }
+        ensures memory { OnErr result (keeps_value task ≡ true) }
         ensures is_reply { IfOk result IsReply }
     {
         match task {
@@ -299,6 +303,7 @@ impl<C: BoardWords + Drop> BoardMachine<C> {
         requires led { IsLed self.old }
         requires owes { OwesAt self.old party.now at owed.Table }
         ensures serves { IfOk result (λ a. Serves self.old self.new (line.Step party.now) a) }
+        ensures memory { OnErr result (MayWant self.old (line.Step party.now)) }
         ensures drawn { OnOk result (self.new.domain.drawn ≤ self.old.domain.drawn + 1) }
     {
         let PartyRow { name, task } = self.parties.remove(at);
@@ -320,6 +325,7 @@ impl<C: BoardWords + Drop> BoardMachine<C> {
         requires led { IsLed self.old }
         requires owes { OwesAt self.old party.now at (owed.Read read) }
         ensures serves { IfOk result (λ a. Serves self.old self.new (line.Step party.now) a) }
+        ensures memory { OnErr result (MayWant self.old (line.Step party.now)) }
         ensures drawn { OnOk result (self.new.domain.drawn ≤ self.old.domain.drawn + 1) }
     {
         let value = self.read_word(read.board, read.word);
@@ -374,9 +380,14 @@ impl<C: BoardWords + Drop> BoardMachine<C> {
     }
 
     /// A line `step P`.
+    ///
+    /// # Errors
+    /// `AllocError` where memory is refused: only for a step that makes or lends something, tells a list, or keeps a value. The
+    /// machine stands for no state from then on.
     pub fn step(&mut self, party: &Name) -> Result<Answer, AllocError>
         requires { IsLed self.old }
         ensures serves { IfOk result (λ a. Serves self.old self.new (line.Step party.now) a) }
+        ensures memory { OnErr result (MayWant self.old (line.Step party.now)) }
         ensures drawn { OnOk result (self.new.domain.drawn ≤ self.old.domain.drawn + 1) }
     {
         let Some(at) = place_of_party(party, &self.parties) else {

@@ -1,7 +1,10 @@
 //! A new machine, and the words of a board.
-ghost use Rattle.std.specs.Prelude.{◌≡◌, true, false, IfNone, IfOk, IfSome};
+ghost use Rattle.std.specs.Prelude.{◌≡◌, IfNone, IfOk, IfSome, OnErr};
+ghost use Rattle.board_model.specs.declared.line.Line.TheVariants as line;
 ghost use Rattle.board_model.specs.LawfulSession.{start};
-ghost use Rattle.script_boards.specs.Machine.{OfEach, Represents, drawn_by, has_board};
+ghost use Rattle.script_boards.specs.Listings.{AreWordsOf, HasBoard, HasNoBoard};
+ghost use Rattle.script_boards.specs.Machine.{Represents, drawn_by};
+ghost use Rattle.script_boards.specs.Wants.{MayWant};
 
 use crate::machine::BoardMachine;
 use board_service::BoardWords;
@@ -26,15 +29,14 @@ impl<C: BoardWords + Drop> BoardMachine<C> {
     /// The words of a board, where it stands.
     ///
     /// # Errors
-    /// `AllocError` where memory is refused.
+    /// `AllocError` where memory is refused, and the board stands.
     pub fn words_of(&mut self, number: u64) -> Result<Option<Vec<u64>>, AllocError>
         ensures same { self.new ≡ self.old }
-        ensures none { IfOk result (λ found. IfNone found
-            (OfEach self.old (λ s. has_board s number ≡ false))) }
-        ensures stands { IfOk result (λ found. IfSome found
-            (λ words. OfEach self.old (λ s. has_board s number ≡ true))) }
+        ensures none { IfOk result (λ found. IfNone found (HasNoBoard self.old number)) }
+        ensures stands { IfOk result (λ found. IfSome found (λ words. HasBoard self.old number)) }
         ensures words { IfOk result (λ found. IfSome found
-            (λ words. OfEach self.old (λ s. words.items ≡ s.memory number))) }
+            (λ words. AreWordsOf self.old number words.items)) }
+        ensures memory { OnErr result (MayWant self.old (line.Words number)) }
     {
         self.domain.copy_words(number)
     }

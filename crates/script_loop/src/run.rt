@@ -36,6 +36,9 @@ pub trait RunsLines {
         ensures err { OnErr result (answer.new.items ≡ []) };
 }
 
+// Room for the longest refusal, which is taken before the first line: so a refused line needs none of its own.
+const SHORT_ANSWER: usize = 19;
+
 // A reader with nothing in hand, or none where memory is refused.
 fn new_reader(alloc: Global) -> Option<LineReader>
     ensures hand { IfSome result (λ reader. in_hand reader ≡ []) }
@@ -79,7 +82,9 @@ pub fn run_lines<M: RunsLines, S: Source, K: Sink>(
     let Some(mut reader) = new_reader(alloc) else {
         return Err(ScriptError::OutOfMemory);
     };
-    let mut answer = Vec::new(alloc);
+    let Ok(mut answer) = Vec::with_capacity(alloc, SHORT_ANSWER) else {
+        return Err(ScriptError::OutOfMemory);
+    };
     for n in 0..limit {
         match reader.next(source) {
             Err(_) => return Err(ScriptError::ReadFault),

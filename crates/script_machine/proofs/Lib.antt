@@ -1,3 +1,4 @@
 pub mod CounterLemmas
 pub mod Sessions
 pub mod Turns
+pub mod Wants

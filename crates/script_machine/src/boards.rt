@@ -1,5 +1,5 @@
 //! Lines of boards, and those that boards and events share.
-ghost use Rattle.std.specs.Prelude.{◌≡◌, ◌+◌, ◌++◌, ◌≤◌, [], true, OnOk};
+ghost use Rattle.std.specs.Prelude.{◌≡◌, ◌+◌, ◌++◌, ◌≤◌, [], true, OnErr, OnOk};
 ghost use Rattle.std.specs.List.{AllByRecursion};
 ghost use Rattle.board_model.specs.declared.answer.Answer.TheVariants as answer;
 ghost use Rattle.board_model.specs.declared.line.Line.TheVariants as board_line;
@@ -11,6 +11,7 @@ ghost use Rattle.script_model.specs.ScriptTurns.{takes_event_name};
 ghost use Rattle.script_boards.specs.Machine.{drawn_by};
 ghost use Rattle.script_events.specs.PartyEvents as events;
 ghost use Rattle.script_machine.specs.ScriptMachine.{IsLed, OfEachState, TellsOfBoards, is_gone_answer};
+ghost use Rattle.script_machine.specs.Wants.{BoardMayWant};
 
 use crate::machine::Machine;
 use board_cell_model::Access;
@@ -80,13 +81,15 @@ impl<C: BoardWords + Drop> Machine<C> {
         requires empty { out.old.items ≡ [] }
         ensures tells { OnOk result (TellsOfBoards self.old self.new (board_line.Begin party call)
             out.new.items) }
+        ensures memory { OnErr result (BoardMayWant self.old (board_line.Begin party call)
+            out.old) }
         ensures drawn { OnOk result (drawn_by self.new.boards ≤ drawn_by self.old.boards + 1) }
     {
         if self.events.runs(&party) {
             return push_refused(Reason::Busy, out);
         }
         if self.takes_event_name(&party, &call) {
-            return match self.boards.refusal_past_names(&party, call)? {
+            return match self.boards.refusal_past_names(&party, call) {
                 Some(why) => push_refused(why, out),
                 None => push_refused(Reason::Taken, out),
             };
@@ -102,6 +105,7 @@ impl<C: BoardWords + Drop> Machine<C> {
         requires empty { out.old.items ≡ [] }
         ensures tells { OnOk result (TellsOfBoards self.old self.new (board_line.Step party.now)
             out.new.items) }
+        ensures memory { OnErr result (BoardMayWant self.old (board_line.Step party.now) out.old) }
         ensures drawn { OnOk result (drawn_by self.new.boards ≤ drawn_by self.old.boards + 1) }
     {
         if self.events.runs(party) {
@@ -119,6 +123,7 @@ impl<C: BoardWords + Drop> Machine<C> {
         requires empty { out.old.items ≡ [] }
         ensures tells { OnOk result (TellsOfBoards self.old self.new (board_line.Step party.now)
             out.new.items) }
+        ensures memory { OnErr result (BoardMayWant self.old (board_line.Step party.now) out.old) }
         ensures drawn { drawn_by self.new.boards ≡ drawn_by self.old.boards }
     {
         match self.events.step(party)? {
@@ -151,6 +156,8 @@ impl<C: BoardWords + Drop> Machine<C> {
         requires empty { out.old.items ≡ [] }
         ensures tells { OnOk result (TellsOfBoards self.old self.new
             (board_line.Release party.now name.now) out.new.items) }
+        ensures memory { OnErr result (BoardMayWant self.old
+            (board_line.Release party.now name.now) out.old) }
         ensures drawn { OnOk result (drawn_by self.new.boards ≤ drawn_by self.old.boards + 1) }
     {
         if self.events.runs(party) {
@@ -177,6 +184,7 @@ impl<C: BoardWords + Drop> Machine<C> {
         requires empty { out.old.items ≡ [] }
         ensures tells { OnOk result (TellsOfBoards self.old self.new (board_line.Abandon party)
             out.new.items) }
+        ensures memory { OnErr result (BoardMayWant self.old (board_line.Abandon party) out.old) }
         ensures drawn { OnOk result (drawn_by self.new.boards ≤ drawn_by self.old.boards + 1) }
     {
         let answer = self.boards.abandon(party)?;
@@ -194,6 +202,7 @@ impl<C: BoardWords + Drop> Machine<C> {
         requires empty { out.old.items ≡ [] }
         ensures tells { OnOk result (TellsOfBoards self.old self.new (board_line.Words board)
             out.new.items) }
+        ensures memory { OnErr result (BoardMayWant self.old (board_line.Words board) out.old) }
         ensures drawn { OnOk result (drawn_by self.new.boards ≤ drawn_by self.old.boards + 1) }
     {
         match self.boards.words_of(board)? {

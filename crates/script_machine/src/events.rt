@@ -1,11 +1,12 @@
 //! Lines of events.
-ghost use Rattle.std.specs.Prelude.{◌≡◌, ◌+◌, [], OnOk};
+ghost use Rattle.std.specs.Prelude.{◌≡◌, ◌+◌, [], OnErr, OnOk};
 ghost use Rattle.script_model.specs.declared.line.ScriptLine.TheVariants as line;
 ghost use Rattle.script_model.specs.ScriptEvents.{name_made};
 ghost use Rattle.script_model.specs.ScriptGrammar.{IsScriptLine};
 ghost use Rattle.script_boards.specs.Machine.{drawn_by};
 ghost use Rattle.script_events.specs.PartyEvents.{takes_board_name};
 ghost use Rattle.script_machine.specs.ScriptMachine.{IsLed, OfEachState, Tells, no_wait};
+ghost use Rattle.script_machine.specs.Wants.{MayWant};
 
 use crate::machine::Machine;
 use board_model::{Answer, Name, Reason};
@@ -60,6 +61,7 @@ impl<C: BoardWords + Drop> Machine<C> {
         requires empty { out.old.items ≡ [] }
         ensures tells { OnOk result (Tells self.old self.new (line.Event party request)
             out.new.items) }
+        ensures memory { OnErr result (MayWant self.old (line.Event party request) out.old) }
         ensures drawn { drawn_by self.new.boards ≡ drawn_by self.old.boards }
     {
         if self.events.runs(&party) {
@@ -82,6 +84,7 @@ impl<C: BoardWords + Drop> Machine<C> {
         requires empty { out.old.items ≡ [] }
         ensures tells { OnOk result (Tells self.old self.new (line.Expire party.now)
             out.new.items) }
+        ensures memory { OnErr result (MayWant self.old (line.Expire party.now) out.old) }
         ensures drawn { drawn_by self.new.boards ≡ drawn_by self.old.boards }
     {
         if let Some(why) = self.boards.refusal_of_party(party) {

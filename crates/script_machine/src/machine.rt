@@ -1,5 +1,5 @@
 //! The machine's one call: the line of a script, and the answer to it.
-ghost use Rattle.std.specs.Prelude.{◌≡◌, ◌+◌, ◌≤◌, [], true, IsErrOf, OnErr, OnOk};
+ghost use Rattle.std.specs.Prelude.{◌≡◌, ◌+◌, ◌≤◌, [], true, IsErrOf, OnErr, OnOk, vec_capacity};
 ghost use Rattle.board_model.specs.LineGrammar.{IsLine};
 ghost use Rattle.script_model.specs.declared.line.ScriptLine.TheVariants as script_line;
 ghost use Rattle.script_model.specs.ScriptGrammar.{IsScriptLine};
@@ -7,6 +7,7 @@ ghost use Rattle.script_model.specs.ScriptSession.{Session, start};
 ghost use Rattle.script_loop.specs.Machines.{AnswersEach, SpellsNone, StandsFor};
 ghost use Rattle.script_boards.specs.Machine.{drawn_by};
 ghost use Rattle.script_machine.specs.ScriptMachine.{IsLed, StandsAfter, Tells};
+ghost use Rattle.script_machine.specs.Wants.{SpellsTaking, MayWant, SpellsSome, short_room};
 
 use board_model::Line;
 use board_service::BoardWords;
@@ -54,6 +55,7 @@ impl<C: BoardWords + Drop> Machine<C> {
         requires empty { out.old.items ≡ [] }
         ensures tells { OnOk result (Tells self.old self.new (script_line.Board line)
             out.new.items) }
+        ensures memory { OnErr result (MayWant self.old (script_line.Board line) out.old) }
         ensures drawn { OnOk result (drawn_by self.new.boards ≤ drawn_by self.old.boards + 1) }
     {
         match line {
@@ -71,6 +73,7 @@ impl<C: BoardWords + Drop> Machine<C> {
         requires line { IsScriptLine line }
         requires empty { out.old.items ≡ [] }
         ensures tells { OnOk result (Tells self.old self.new line out.new.items) }
+        ensures memory { OnErr result (MayWant self.old line out.old) }
         ensures drawn { OnOk result (drawn_by self.new.boards ≤ drawn_by self.old.boards + 1) }
     {
         match line {
@@ -94,8 +97,10 @@ impl<C: BoardWords + Drop> Machine<C> {
     /// Answers a line: `answer` then has the answer and its newline, and nothing else.
     ///
     /// # Errors
-    /// `Bad` exactly where the line is outside the grammar, and then the machine stays as it was. After `OutOfMemory` the machine is
-    /// spent. On both `answer` is empty.
+    /// `Bad` exactly where the line is outside the grammar, and then the machine stays as it was. After `OutOfMemory` the
+    /// machine is spent. On both `answer` is empty. Where `answer` has room for 19 bytes, `OutOfMemory` comes neither for a
+    /// line outside the grammar, nor for a drop, an expiry or an abandonment of a party whose call runs, nor for a refused
+    /// line without the name of a board or an event.
     pub fn line(&mut self, line: &[u8], answer: &mut Vec<u8>) -> Result<(), LineError>
         // The machine isn't spent, and it stands for a lawful session of fewer than 2^63 lines.
         requires { (session : Session) × StandsFor StandsAfter self.old session }
@@ -107,6 +112,12 @@ impl<C: BoardWords + Drop> Machine<C> {
         // A line outside the grammar is refused, no other one is, and nothing changes.
         ensures bad { IsErrOf result LineError.Bad → SpellsNone line.now }
         ensures same { IsErrOf result LineError.Bad → self.new ≡ self.old }
+
+        // A line outside the grammar wants no memory. Nor does a line that takes none, where `answer` has room for a short
+        // answer and the line hasn't the name of a board or an event, which is kept.
+        ensures spelled { IsErrOf result LineError.OutOfMemory → SpellsSome line.now }
+        ensures memory { IsErrOf result LineError.OutOfMemory
+            → short_room ≤ vec_capacity answer.old → SpellsTaking self.old line.now }
 
         ensures spent { IsErrOf result LineError.OutOfMemory → self.new.spent ≡ true }
         ensures err { OnErr result (answer.new.items ≡ []) }

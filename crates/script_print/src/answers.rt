@@ -1,8 +1,11 @@
 //! The bytes of answers, which are added to a buffer of the caller's.
-ghost use Rattle.std.specs.Prelude.{◌≡◌, ◌<◌, ◌≤◌, ◌++◌, ◌∷◌, [], OnOk, codes, decimal, take};
+ghost use Rattle.std.specs.Prelude.{◌≡◌, ◌<◌, ◌≤◌, ◌++◌, ◌∷◌, [], true, Some, OnErr, OnOk, codes, decimal, take};
 ghost use Rattle.std.specs.List.{flat_map};
+ghost use Rattle.board_cell_model.specs.declared.access.Access.TheVariants as access;
 ghost use Rattle.board_model.specs.declared.answer.Answer.TheVariants as answer;
+ghost use Rattle.board_model.specs.declared.answer.Reply.TheVariants as reply;
 ghost use Rattle.board_model.specs.AnswerGrammar.{access_text, answer_line, answer_text, number_text, place_text, reply_text, told_text};
+ghost use Rattle.script_print.specs.ShortAnswers.{IsShort, LacksRoom, is_dropped};
 
 use crate::names::refusal_line;
 use crate::replies::push_reply;
@@ -109,9 +112,10 @@ pub(crate) fn push_numbers(numbers: &[u64], out: &mut Vec<u8>) -> Result<(), All
 /// Adds the line of an accepted begin.
 ///
 /// # Errors
-/// `AllocError` where memory is refused; then a front of the line may have been added.
+/// `AllocError` where memory is refused, which it isn't where the buffer has room for 19 bytes; then nothing is added.
 pub fn push_begun(out: &mut Vec<u8>) -> Result<(), AllocError>
-    ensures { OnOk result (out.new.items ≡ out.old.items ++ answer_line answer.Begun) }
+    ensures ok { OnOk result (out.new.items ≡ out.old.items ++ answer_line answer.Begun) }
+    ensures room { OnErr result (LacksRoom out.old) }
 {
     out.extend_from_slice(b"ok\n")
 }
@@ -119,9 +123,10 @@ pub fn push_begun(out: &mut Vec<u8>) -> Result<(), AllocError>
 /// Adds the line of an accepted abandon.
 ///
 /// # Errors
-/// `AllocError` where memory is refused; then a front of the line may have been added.
+/// `AllocError` where memory is refused, which it isn't where the buffer has room for 19 bytes; then nothing is added.
 pub fn push_gone(out: &mut Vec<u8>) -> Result<(), AllocError>
-    ensures { OnOk result (out.new.items ≡ out.old.items ++ answer_line answer.Gone) }
+    ensures ok { OnOk result (out.new.items ≡ out.old.items ++ answer_line answer.Gone) }
+    ensures room { OnErr result (LacksRoom out.old) }
 {
     out.extend_from_slice(b"gone\n")
 }
@@ -129,18 +134,37 @@ pub fn push_gone(out: &mut Vec<u8>) -> Result<(), AllocError>
 /// Adds the line of a refusal.
 ///
 /// # Errors
-/// `AllocError` where memory is refused; then a front of the line may have been added.
+/// `AllocError` where memory is refused, which it isn't where the buffer has room for 19 bytes, as many as the longest refusal has; then nothing is added.
 pub fn push_refused(reason: Reason, out: &mut Vec<u8>) -> Result<(), AllocError>
-    ensures { OnOk result (out.new.items ≡ out.old.items ++ answer_line (answer.Refused reason)) }
+    ensures ok { OnOk result (out.new.items
+        ≡ out.old.items ++ answer_line (answer.Refused reason)) }
+    ensures room { OnErr result (LacksRoom out.old) }
 {
     out.extend_from_slice(refusal_line(reason))
 }
 
-/// Adds the line of a step.
-///
-/// # Errors
-/// `AllocError` where memory is refused; then a front of the line may have been added.
-pub fn push_step(access: Access, reply: &Option<Reply>, out: &mut Vec<u8>) -> Result<(), AllocError>
+// Whether the step dropped a thing.
+fn is_dropped(access: Access, reply: &Option<Reply>) -> bool
+    ensures { result ≡ is_dropped access reply.now }
+{
+    matches!(access, Access::Table) && matches!(reply, Some(Reply::Done))
+}
+
+// Adds the line of a step that dropped a thing.
+fn push_dropped(out: &mut Vec<u8>) -> Result<(), AllocError>
+    ensures ok { OnOk result (out.new.items
+        ≡ out.old.items ++ answer_line (answer.Step access.Table (Some reply.Done))) }
+    ensures room { OnErr result (LacksRoom out.old) }
+{
+    out.extend_from_slice(b"table = ok\n")
+}
+
+// Adds the line of a step, piece by piece.
+fn push_access_line(
+    access: Access,
+    reply: &Option<Reply>,
+    out: &mut Vec<u8>,
+) -> Result<(), AllocError>
     ensures { OnOk result (out.new.items
         ≡ out.old.items ++ answer_line (answer.Step access reply.now)) }
 {
@@ -148,6 +172,21 @@ pub fn push_step(access: Access, reply: &Option<Reply>, out: &mut Vec<u8>) -> Re
     push_told(reply, out)?;
     out.push(b'\n')?;
     Ok(())
+}
+
+/// Adds the line of a step.
+///
+/// # Errors
+/// `AllocError` where memory is refused, which it isn't for a drop where the buffer has room for 19 bytes; then a front of the line may have been added.
+pub fn push_step(access: Access, reply: &Option<Reply>, out: &mut Vec<u8>) -> Result<(), AllocError>
+    ensures ok { OnOk result (out.new.items
+        ≡ out.old.items ++ answer_line (answer.Step access reply.now)) }
+    ensures room { OnErr result (is_dropped access reply.now ≡ true → LacksRoom out.old) }
+{
+    if is_dropped(access, reply) {
+        return push_dropped(out);
+    }
+    push_access_line(access, reply, out)
 }
 
 /// Adds the line that lists these words.
@@ -166,9 +205,10 @@ pub fn push_words(words: &[u64], out: &mut Vec<u8>) -> Result<(), AllocError>
 /// Adds the line of any answer.
 ///
 /// # Errors
-/// `AllocError` where memory is refused; then a front of the line may have been added.
+/// `AllocError` where memory is refused, which it isn't for a short answer where the buffer has room for 19 bytes; then a front of the line may have been added.
 pub fn push_answer(answer: &Answer, out: &mut Vec<u8>) -> Result<(), AllocError>
     ensures ok { OnOk result (out.new.items ≡ out.old.items ++ answer_line answer.now) }
+    ensures room { OnErr result (IsShort answer.now → LacksRoom out.old) }
 {
     match answer {
         Answer::Begun => push_begun(out),

@@ -1,9 +1,10 @@
 //! The bytes of answers to lines of events, which are added to a buffer of the caller's.
-ghost use Rattle.std.specs.Prelude.{◌≡◌, ◌++◌, OnOk};
+ghost use Rattle.std.specs.Prelude.{◌≡◌, ◌++◌, OnErr, OnOk};
 ghost use Rattle.std.specs.Option.{option_map};
 ghost use Rattle.board_event_model.specs.WaitCalls.{word_in};
 ghost use Rattle.board_model.specs.AnswerGrammar.{number_text};
 ghost use Rattle.script_model.specs.ScriptAnswers.{event_access_text, event_reply_text, event_text, event_told_text, expired, found_text, of_ask, of_event, popped_text, script_answer_line};
+ghost use Rattle.script_print.specs.ShortAnswers.{LacksRoom};
 
 use crate::answers::{push_number, push_numbers};
 use crate::names::{event_kind_name, notify_error_path};
@@ -182,9 +183,10 @@ pub fn push_event_asked(reply: &EventReply, out: &mut Vec<u8>) -> Result<(), All
 /// Adds the line of a wait that expired.
 ///
 /// # Errors
-/// `AllocError` where memory is refused; then a front of the line may have been added.
+/// `AllocError` where memory is refused, which it isn't where the buffer has room for 19 bytes; then nothing is added.
 pub fn push_expired(out: &mut Vec<u8>) -> Result<(), AllocError>
-    ensures { OnOk result (out.new.items ≡ out.old.items ++ script_answer_line expired) }
+    ensures ok { OnOk result (out.new.items ≡ out.old.items ++ script_answer_line expired) }
+    ensures room { OnErr result (LacksRoom out.old) }
 {
     out.extend_from_slice(b"= none\n")
 }

@@ -20,6 +20,9 @@ loop-n-init g c = record {
 pub returns-in_default-clause-runs : goal.returns-in_default-clause-runs
 returns-in_default-clause-runs g c = gave_up _ _ _ refl refl (spent_at_once _ _ _ refl)
 
+pub returns-in_default-2-clause-runs : goal.returns-in_default-2-clause-runs
+returns-in_default-2-clause-runs g c = gave_up _ _ _ refl refl (spent_at_once _ _ _ refl)
+
 pub returns-in-Ok-Long-clause-runs : goal.returns-in-Ok-Long-clause-runs
 returns-in-Ok-Long-clause-runs g c =
     let f = rw c.in-Ok-Long.field-0-is at c.in-Ok-Long.ensures.fetched in

@@ -5,6 +5,7 @@ use Rattle.script_boards.specs.Steps.{is_gone}
 use Rattle.script_boards.proofs.Abandonments.{abandon_again, free_leaves, running_leaves}
 use Rattle.script_boards.proofs.PartyRows.{gone_at, is_free, runs_at}
 use Rattle.script_boards.proofs.Rows.{first_at}
+use Rattle.script_boards.proofs.StepWants.{anyway}
 use Rattle.script_boards.proofs.machine.BoardMachine.abandon.Goals as goal
 
 abbrev a_place : ℕ → Option ℕ
@@ -40,3 +41,8 @@ returns-clause-serves g c =
     λ s rep reached l.
     running_leaves c.args.self.now c.end_call.new.self s rep c.args.party l c.end_call.ensures.held c.in-Some.at c.index.result.now
     (runs_at c.args.self.now.parties.items s.parties rep.parties c.args.party c.in-Some.at c.index.result.now place c.index.ensures not_gone) (c.end_call.ensures.gone c.index.result.now c.index.ensures)
+
+pub returns-in_err-push-clause-memory : goal.returns-in_err-push-clause-memory
+returns-in_err-push-clause-memory g c =
+    let none : None ≡ position_from (is_row_of c.args.party) 0 c.args.self.now.parties.items = search rules in
+    anyway c.from_residual.result _ (λ s rep reached. rw (is_free c.args.self.now.parties.items s.parties rep.parties c.args.party none) refl)

@@ -1,5 +1,5 @@
 use Rattle.std.specs.Prelude.{option_map}
-use Rattle.std.proofs.Common.{◌≡◌, ℕ, ◌+◌, ◌<◌, ◌^◌, List, length, rules, sym, ap, subst, ◌∙◌, Option, Some, true, false}
+use Rattle.std.proofs.Common.{◌≡◌, ℕ, ◌+◌, ◌<◌, ◌^◌, List, length, rules, refl, sym, ap, subst, ◌∙◌, Option, Some, true, false}
 use Rattle.board_layout.specs.declared.shape.CellShape.{CellShape}
 use Rattle.board_layout.specs.Layout.{cell_end, cell_shape}
 use Rattle.board_cell.specs.Calls.{Updating}
@@ -9,7 +9,7 @@ use Rattle.board_model.specs.Things.{Held}
 use Rattle.board_model.specs.TypeTable.{same_type, type_of, value_detail, value_words}
 use Rattle.script_boards.specs.Begins.{IsGenerationOf, holds, loan_held}
 use Rattle.script_boards.proofs.Bounds.{bounded}
-use Rattle.script_boards.proofs.CallChecks.{cell_is_low, counter_is_low, refused_for, value_fits}
+use Rattle.script_boards.proofs.CallChecks.{cell_is_low, counter_is_low, refused_for, value_fits, wanted_by}
 use Rattle.script_boards.proofs.LoanChecks.{a_loan, lent_width, loan_counter, fill_begins, fill_mistyped}
 use Rattle.board_ports.specs.Loans.{LoanSeen}
 use Rattle.script_boards.proofs.PartyRows.{is_free}
@@ -77,3 +77,19 @@ returns-in_err-require g c =
     let refused = refused_for c.from_residual-in_err-require.result c.in_err-require.field-0.0 reason.Type c.from_residual-in_err-require.ensures.1 c.in_err-require.ensures.1 in
     λ s rep sound.
     rw refused (fill_mistyped m s rep party sound x entry c.entry_held-entry.ensures c.args.loan words held c.args.handle c.args.value untaken t)
+
+pub returns-in_err-words : goal.returns-in_err-words
+returns-in_err-words g c =
+    let m = c.args.self.now in
+    let party = c.args.party.now in
+    let x = c.in-Some.found in
+    let entry = c.entry_held-entry.result.now in
+    let words = c.in-Some.put.now.items in
+    let v = c.args.value in
+    let held : loan_held m party c.args.loan ≡ a_loan x words = search rules in
+    let counter = loan_counter m party c.args.loan x words held c.args.generation c.requires.generation in
+    let untaken : holds m party c.args.handle ≡ false = search rules in
+    let t : same_type (value_detail (type_of v)) entry.value ≡ true = search rules in
+    let wanted = wanted_by c.from_residual-in_err-words.result c.from_residual-in_err-words.ensures.1 in
+    λ s rep sound.
+    rw wanted (fill_begins m s rep party sound x entry c.entry_held-entry.ensures c.args.loan words held c.args.handle v untaken t c.args.generation counter (a_fill (cell_shape entry.cell) c.args.generation (value_words v)) refl).0

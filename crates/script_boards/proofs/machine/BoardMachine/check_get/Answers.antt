@@ -1,6 +1,7 @@
 use Rattle.std.proofs.Common.{◌≡◌, ◌<◌, ◌^◌, rules, refl, sym, ap, subst, ◌∙◌, Option, Some, true, false}
 use Rattle.board_layout.specs.declared.shape.CellShape.{CellShape}
-use Rattle.board_layout.specs.Layout.{cell_end}
+use Rattle.board_layout.specs.Layout.{cell_end, cell_shape}
+use Rattle.board_model.specs.TypeTable.{value_type_of}
 use Rattle.board_cell_model.specs.OwedAccesses.{opening}
 use Rattle.board_cell.specs.Calls.{Getting}
 use Rattle.board_model.specs.declared.answer.Reason.TheVariants as reason
@@ -8,7 +9,7 @@ use Rattle.board_model.specs.declared.tables.ThingKind.TheVariants as thing_kind
 use Rattle.board_model.specs.Tables.{entry_of}
 use Rattle.board_model.specs.Things.{Held, of_kind, thing_of}
 use Rattle.script_boards.specs.Begins.{holds_any}
-use Rattle.script_boards.proofs.CallChecks.{cell_is_low, get_begins, get_taken, not_false, read_handle, refused_for}
+use Rattle.script_boards.proofs.CallChecks.{cell_is_low, get_begins, get_taken, not_false, read_handle, refused_for, wanted_by}
 use Rattle.script_boards.proofs.machine.BoardMachine.check_get.Goals as goal
 
 abbrev a_get : CellShape → Getting
@@ -42,3 +43,14 @@ pub entry_held-entry-requires-clause-held : goal.entry_held-entry-requires-claus
 entry_held-entry-requires-clause-held g c =
     let h : of_kind thing_kind.ReadHandle (thing_of c.args.self.now.domain.tables.things c.args.party.now c.args.handle.now) ≡ a_thing c.in_ok-found.found = search rules in
     read_handle c.args.self.now c.args.party.now c.args.handle.now c.in_ok-found.found h
+
+pub returns-in_err-buffer : goal.returns-in_err-buffer
+returns-in_err-buffer g c =
+    let m = c.args.self.now in
+    let x = c.in_ok-found.found in
+    let e = c.entry_held-entry.result.now in
+    let h : of_kind thing_kind.ReadHandle (thing_of m.domain.tables.things c.args.party.now c.args.handle.now) ≡ a_thing x = search rules in
+    let free : holds_any m c.args.party.now c.args.value ≡ false = search rules in
+    let wanted = wanted_by c.from_residual-in_err-buffer.result c.from_residual-in_err-buffer.ensures.1 in
+    λ s rep sound.
+    rw wanted (get_begins m s rep sound x.board (entry_of x.kind) e c.entry_held-entry.ensures c.args.party.now c.args.handle.now x refl refl h c.args.value (a_get (cell_shape e.cell)) (value_type_of e.value) refl free refl).0

@@ -1,13 +1,13 @@
 use Rattle.std.proofs.Common.{◌≡◌, ℕ, ◌+◌, ◌<◌, ◌^◌, List, length, rules, refl, sym, ap, subst, ◌∙◌, Option, Some, true}
 use Rattle.board_layout.specs.declared.shape.CellShape.{CellShape}
-use Rattle.board_layout.specs.Layout.{cell_end}
+use Rattle.board_layout.specs.Layout.{cell_end, cell_shape}
 use Rattle.board_cell.specs.Calls.{Updating}
 use Rattle.board_model.specs.Tables.{entry_of}
 use Rattle.board_model.specs.Things.{Held}
 use Rattle.board_model.specs.TypeTable.{same_type, type_of, value_detail, value_words}
 use Rattle.script_boards.specs.Begins.{IsGenerationOf, handle_held}
 use Rattle.script_boards.proofs.Bounds.{bounded}
-use Rattle.script_boards.proofs.CallChecks.{cell_is_low, counter_is_low, update_begins, unlent_handle, value_fits}
+use Rattle.script_boards.proofs.CallChecks.{cell_is_low, counter_is_low, update_begins, unlent_handle, value_fits, wanted_by}
 use Rattle.script_boards.proofs.machine.BoardMachine.check_update.Goals as goal
 
 abbrev an_update : CellShape → ℕ → List ℕ → Updating
@@ -52,3 +52,16 @@ pub entry_held-entry-requires-clause-held : goal.entry_held-entry-requires-claus
 entry_held-entry-requires-clause-held g c =
     let h : handle_held c.args.self.now c.args.party.now c.args.handle.now ≡ a_thing c.in_ok-found.found = search rules in
     unlent_handle c.args.self.now c.args.party.now c.args.handle.now c.in_ok-found.found h
+
+pub returns-in_err-words : goal.returns-in_err-words
+returns-in_err-words g c =
+    let m = c.args.self.now in
+    let x = c.in_ok-found.found in
+    let e = c.entry_held-entry.result.now in
+    let v = c.args.value in
+    let t : same_type (value_detail (type_of v)) e.value ≡ true = search rules in
+    let h : handle_held m c.args.party.now c.args.handle.now ≡ a_thing x = search rules in
+    let wanted = wanted_by c.from_residual-in_err-words.result c.from_residual-in_err-words.ensures.1 in
+    λ s rep sound.
+    rw wanted (update_begins m s rep sound x.board (entry_of x.kind) e c.entry_held-entry.ensures c.args.party.now c.args.handle.now x v c.args.generation (value_words v) (an_update (cell_shape e.cell) c.args.generation (value_words v)) refl refl refl h t
+    (subst (λ (o : Option Held). IsGenerationOf m o c.args.generation) h c.requires.generation) refl).0

@@ -1,12 +1,16 @@
-use Rattle.std.proofs.Common.{◌≡◌, ℕ, ◌<◌, ◌^◌, List, length, get_or, set, rules, sym, ap, subst, ◌∙◌}
+use Rattle.std.proofs.Common.{◌≡◌, ℕ, ◌<◌, ◌^◌, List, length, get_or, set, true, rules, sym, ap, subst, ◌∙◌}
 use Rattle.std.specs.List.{remove}
 use Rattle.script_parties.specs.Parties.{Parties}
 use Rattle.script_boards.specs.declared.machine.PartyRow.{PartyRow}
+use Rattle.script_boards.specs.declared.machine.Task.{Task}
 use Rattle.script_boards.specs.declared.step.OwedAccess.TheVariants as owed
+use Rattle.script_boards.specs.TaskWants.{keeps_value}
+use Rattle.board_model.specs.Replies.{ask}
 use Rattle.script_boards.specs.Steps.{CanGoOn, IsReadTold, ends_call, ticked}
 use Rattle.script_boards.proofs.OwedRows.{done_is, more_is, owed_row, row_inside, row_is, row_owes, row_runs}
 use Rattle.script_boards.proofs.ReadSteps.{read_ends, read_goes_on, row_has_read}
 use Rattle.script_boards.proofs.Rows.{set-there}
+use Rattle.script_boards.proofs.StepWants.{anyway, get_takes}
 use Rattle.script_boards.proofs.OwedWords.{row_goes_on}
 use Rattle.script_boards.proofs.machine.BoardMachine.step_read.Goals as goal
 
@@ -94,3 +98,28 @@ returns-in_ok-told-in-Done-clause-serves g c =
     let told = subst (λ (p : List ℕ). IsReadTold mid c.tell_read.new.self p (ticked row.task v) c.in_ok-told-in-Done.told) name (subst (λ z. IsReadTold mid c.tell_read.new.self y.name z c.in_ok-told-in-Done.told) ticks told_y) in
     read_ends m s rep reached.sound party at row runs c.args.read (row_owes m party at o owes) v c.read_word-value.ensures.value board word value l mid c.tell_read.new.self
     y ticks (ap (λ (z : PartyRow). ends_call z.task v) (sym is) ∙ last) (ap (λ (d : Parties). d.tables) same.domain) (ap (λ (d : Parties). d.words) same.domain) same.rest.values same.rest.loans rows c.in_ok-told-in-Done.told told c.in_ok-told-in-Done.ensures.is_reply
+
+pub returns-in_err-told-in-Done-clause-memory : goal.returns-in_err-told-in-Done-clause-memory
+returns-in_err-told-in-Done-clause-memory g c =
+    let m = c.args.self.now in
+    let party = c.args.party.now in
+    let at = c.args.at in
+    let o = owed.Read c.args.read in
+    let owes = c.requires.owes in
+    let row = owed_row m party at o owes in
+    let same = c.read_word-value.ensures.same in
+    let v = c.read_word-value.result in
+    let x = c.index_mut.result.now in
+    let is = row_is m party at o owes x (c.index_mut.ensures.value ∙ ap (λ (xs : List PartyRow). get_or xs at x) same.rest.parties) in
+    let y : PartyRow = record { name = x.name; task = c.took.new.self } in
+    let ticks : y.task ≡ ticked row.task v = c.took.ensures.call ∙ ap (λ (z : PartyRow). ticked z.task v) is in
+    let last = done_is (ends_call x.task v) c.in-Done.ensures.progress in
+    let inside = subst (λ (xs : List PartyRow). at < length xs) (sym same.rest.parties) (row_inside m party at o owes) in
+    let gone = c.remove-name.result in
+    let gone_is : gone ≡ y = c.remove-name.ensures.value ∙ set-there c.read_word-value.new.self.parties.items at y gone inside in
+    let keeps : keeps_value (ticked row.task v) ≡ true =
+    subst (λ (t : Task). keeps_value t ≡ true) ticks (subst (λ (z : PartyRow). keeps_value z.task ≡ true) gone_is c.in_err-told-in-Done.ensures.memory) in
+    anyway c.from_residual.result _ (λ s rep reached.
+    let runs = row_runs m party at o owes s rep in
+    rw runs.runs
+    (get_takes (ask s.standing s.published party runs.r.request).reply runs.r.request runs.r.so_far row.task v runs.task keeps (row_goes_on m s rep reached.sound party at row runs) (ap (λ (z : PartyRow). ends_call z.task v) (sym is) ∙ last)))

@@ -1,8 +1,9 @@
 use Rattle.std.proofs.Common.{sym, subst}
-use Rattle.std.specs.Prelude.{OnOk}
+use Rattle.std.specs.Prelude.{OnErr, OnOk}
 use Rattle.board_model.specs.declared.line.Line.{Line}
 use Rattle.script_model.specs.declared.line.ScriptLine.TheVariants as script_line
 use Rattle.script_machine.specs.ScriptMachine.{Tells}
+use Rattle.script_machine.specs.Wants.{MayWant}
 use Rattle.script_machine.proofs.machine.Machine.board_line.Goals as goal
 
 pub returns-in-Begin-clause-tells : goal.returns-in-Begin-clause-tells
@@ -19,3 +20,18 @@ returns-in-Abandon-clause-tells g c = subst (λ (l : Line). OnOk c.abandon.resul
 
 pub returns-in-Words-clause-tells : goal.returns-in-Words-clause-tells
 returns-in-Words-clause-tells g c = subst (λ (l : Line). OnOk c.tell_words.result (Tells c.args.self.now c.tell_words.new.self (script_line.Board l) c.tell_words.new.out.items)) (sym c.in-Words.is) c.tell_words.ensures.tells
+
+pub returns-in-Begin-clause-memory : goal.returns-in-Begin-clause-memory
+returns-in-Begin-clause-memory g c = subst (λ (l : Line). OnErr c.begin.result (MayWant c.args.self.now (script_line.Board l) c.args.out.now)) (sym c.in-Begin.is) c.begin.ensures.memory
+
+pub returns-in-Step-clause-memory : goal.returns-in-Step-clause-memory
+returns-in-Step-clause-memory g c = subst (λ (l : Line). OnErr c.step.result (MayWant c.args.self.now (script_line.Board l) c.args.out.now)) (sym c.in-Step.is) c.step.ensures.memory
+
+pub returns-in-Release-clause-memory : goal.returns-in-Release-clause-memory
+returns-in-Release-clause-memory g c = subst (λ (l : Line). OnErr c.release.result (MayWant c.args.self.now (script_line.Board l) c.args.out.now)) (sym c.in-Release.is) c.release.ensures.memory
+
+pub returns-in-Abandon-clause-memory : goal.returns-in-Abandon-clause-memory
+returns-in-Abandon-clause-memory g c = subst (λ (l : Line). OnErr c.abandon.result (MayWant c.args.self.now (script_line.Board l) c.args.out.now)) (sym c.in-Abandon.is) c.abandon.ensures.memory
+
+pub returns-in-Words-clause-memory : goal.returns-in-Words-clause-memory
+returns-in-Words-clause-memory g c = subst (λ (l : Line). OnErr c.tell_words.result (MayWant c.args.self.now (script_line.Board l) c.args.out.now)) (sym c.in-Words.is) c.tell_words.ensures.memory

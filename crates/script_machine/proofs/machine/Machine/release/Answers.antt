@@ -12,13 +12,15 @@ use Rattle.script_model.specs.ScriptAnswers.{of_boards}
 use Rattle.script_model.specs.ScriptEvents.{holds_event, runs_on_events}
 use Rattle.script_model.specs.ScriptTurns.{board_turn, drops}
 use Rattle.script_machine.proofs.Turns.{from_nothing, none_is, release_busy, release_held, release_unfree, release_unheld, told_alone, told_refused, told_turn}
+use Rattle.script_machine.specs.Wants.{TakesMemory}
+use Rattle.script_machine.proofs.Wants.{answered_wants, dropped_short, refused_wants}
 use Rattle.script_machine.proofs.machine.Machine.release.Goals.{else-is_none-via-then-is_none+else-holds, else-is_none-via-else-is_none}
 use Rattle.script_machine.proofs.machine.Machine.release.Goals as goal
 
 pub returns-then-runs-clause-tells : goal.returns-then-runs-clause-tells
 returns-then-runs-clause-tells g c = on_ok (λ e s count rep reached.
     let runs : runs_on_events s.events c.args.party.now ≡ true = sym (c.runs.ensures s.events count reached.few reached.sound.events rep.events) ∙ c.if-runs.true in
-    told_refused _ s (line.Board (board_line.Release c.args.party.now c.args.name.now)) reason.Busy _ (release_busy s c.args.party.now c.args.name.now runs) c.requires.line rep (from_nothing _ _ _ c.requires.empty e)) c.push_refused.result c.push_refused.ensures
+    told_refused _ s (line.Board (board_line.Release c.args.party.now c.args.name.now)) reason.Busy _ (release_busy s c.args.party.now c.args.name.now runs) c.requires.line rep (from_nothing _ _ _ c.requires.empty e)) c.push_refused.result c.push_refused.ensures.ok
 
 pub release-requires-clause-held : goal.release-requires-clause-held
 release-requires-clause-held g c = λ x count few sound rep. sym (c.holds.ensures x count few sound rep) ∙ c.if-holds.true
@@ -41,3 +43,14 @@ returns-clause-tells g c = on_ok (λ e s count rep reached.
     let served = c.release-answer.ensures.serves s.boards rep.boards reached.boards c.requires.line in
     told_alone _ s (board_line.Release c.args.party.now c.args.name.now) c.release-answer.result _ alone c.requires.line served.0
     (record { alive = rep.alive; boards = served.1; events = rep.events }) (from_nothing _ _ _ c.requires.empty e)) c.push_answer-2.result c.push_answer-2.ensures.ok
+
+pub returns-then-runs-clause-memory : goal.returns-then-runs-clause-memory
+returns-then-runs-clause-memory g c = refused_wants c.push_refused.result c.args.out.now (TakesMemory c.args.self.now (line.Board (board_line.Release c.args.party.now c.args.name.now))) c.push_refused.ensures.room
+
+pub returns-then-holds-clause-memory : goal.returns-then-holds-clause-memory
+returns-then-holds-clause-memory g c = answered_wants c.push_answer.result c.args.out.now (answer.Step access.Table (Some reply.Done)) (TakesMemory c.args.self.now (line.Board (board_line.Release c.args.party.now c.args.name.now))) c.push_answer.ensures.room (λ no. absurd (no refl))
+
+pub returns-clause-memory : goal.returns-clause-memory
+returns-clause-memory g c = answered_wants c.push_answer-2.result c.args.out.now c.release-answer.result (TakesMemory c.args.self.now (line.Board (board_line.Release c.args.party.now c.args.name.now))) c.push_answer-2.ensures.room (λ no s count rep reached.
+    let served = c.release-answer.ensures.serves s.boards rep.boards reached.boards c.requires.line in
+    absurd (no (dropped_short s.boards c.args.party.now c.args.name.now c.release-answer.result served.0)))

@@ -1,4 +1,4 @@
-use Rattle.std.proofs.Common.{◌≡◌, ℕ, true, ap, subst, ◌∙◌, List, ◌++◌, Option}
+use Rattle.std.proofs.Common.{◌≡◌, ℕ, true, refl, ap, subst, ◌∙◌, List, ◌++◌, Option}
 use Rattle.std.specs.Prelude.{option_map}
 use Rattle.script_model.specs.declared.reply.EventReply.{EventReply}
 use Rattle.board_model.specs.declared.line.Line.TheVariants as board_line
@@ -12,6 +12,8 @@ use Rattle.script_model.specs.ScriptEvents.{runs_on_events}
 use Rattle.script_model.specs.ScriptTurns.{steps}
 use Rattle.script_model.proofs.FormedLemmas.{step_formed_so}
 use Rattle.script_machine.proofs.Turns.{from_nothing, step_taken, told_turn}
+use Rattle.script_machine.specs.Wants.{BoardMayWant}
+use Rattle.script_machine.proofs.Wants.{anyway, turn_accepted}
 use Rattle.script_machine.proofs.machine.Machine.step_on_events.Goals as goal
 
 pub step-requires-clause-runs : goal.step-requires-clause-runs
@@ -41,3 +43,18 @@ returns-in-Acted-clause-tells g c = on_ok (λ e s count rep reached.
     ∙ ap (λ (t : Option EventReply). c.args.out.now.items ++ script_answer_line (of_event c.kind_of.result c.name_of.result.now c.in-Acted.access c.in-Acted.answer t)) c.as_ref.ensures.value in
     told_turn _ s (line.Board (board_line.Step c.args.party.now)) (steps c.args.party.now) (of_event c.kind_of.result c.name_of.result.now c.in-Acted.access c.in-Acted.answer c.in-Acted.told) _ (step_taken s c.args.party.now runs) c.requires.line shown.right (step_formed_so s (line.Board (board_line.Step c.args.party.now)) count c.args.party.now _ reached.sound reached.few shown.right)
     (record { alive = rep.alive; boards = rep.boards; events = shown.represents }) (from_nothing _ _ _ c.requires.empty printed)) c.push_event_step.result c.push_event_step.ensures
+
+pub returns-in_err-reply-clause-memory : goal.returns-in_err-reply-clause-memory
+returns-in_err-reply-clause-memory g c = anyway c.from_residual.result _ (λ room s count rep reached.
+    let runs : runs_on_events s.events c.args.party.now ≡ true = c.requires.runs s.events count reached.few reached.sound.events rep.events in
+    turn_accepted s (line.Board (board_line.Step c.args.party.now)) (steps c.args.party.now) (step_taken s c.args.party.now runs) refl)
+
+pub returns-in-Asked-clause-memory : goal.returns-in-Asked-clause-memory
+returns-in-Asked-clause-memory g c = anyway c.push_event_asked.result (BoardMayWant c.args.self.now (board_line.Step c.args.party.now) c.args.out.now) (λ room s count rep reached.
+    let runs : runs_on_events s.events c.args.party.now ≡ true = c.requires.runs s.events count reached.few reached.sound.events rep.events in
+    turn_accepted s (line.Board (board_line.Step c.args.party.now)) (steps c.args.party.now) (step_taken s c.args.party.now runs) refl)
+
+pub returns-in-Acted-clause-memory : goal.returns-in-Acted-clause-memory
+returns-in-Acted-clause-memory g c = anyway c.push_event_step.result (BoardMayWant c.args.self.now (board_line.Step c.args.party.now) c.args.out.now) (λ room s count rep reached.
+    let runs : runs_on_events s.events c.args.party.now ≡ true = c.requires.runs s.events count reached.few reached.sound.events rep.events in
+    turn_accepted s (line.Board (board_line.Step c.args.party.now)) (steps c.args.party.now) (step_taken s c.args.party.now runs) refl)

@@ -8,6 +8,10 @@ use Rattle.board_model.specs.Tables.{board_at}
 use Rattle.script_boards.specs.Machine as boards
 use Rattle.script_boards.proofs.Listings.{on_ok}
 use Rattle.script_machine.proofs.Turns.{from_nothing, listed_right, same_boards, told_alone, unlisted_right}
+use Rattle.script_boards.proofs.StepWants.{takes_unrefused}
+use Rattle.script_model.specs.declared.line.ScriptLine.TheVariants as line
+use Rattle.script_machine.specs.Wants.{TakesMemory, BoardMayWant}
+use Rattle.script_machine.proofs.Wants.{alone_accepted, anyway, refused_wants}
 use Rattle.script_machine.proofs.machine.Machine.tell_words.Goals as goal
 
 pub returns-in-Some-clause-tells : goal.returns-in-Some-clause-tells
@@ -31,4 +35,18 @@ returns-in-None-clause-tells g c =
     on_ok (λ e s count rep reached.
     told_alone _ s (board_line.Words n) (answer.Refused reason.NoBoard) _ refl c.requires.line
     (unlisted_right s.boards n (none s.boards rep.boards) c.requires.line)
-    (same_boards c.args.self.now s c.words_of.new.self found.same rep) (from_nothing _ _ _ c.requires.empty e)) c.push_refused.result c.push_refused.ensures
+    (same_boards c.args.self.now s c.words_of.new.self found.same rep) (from_nothing _ _ _ c.requires.empty e)) c.push_refused.result c.push_refused.ensures.ok
+
+pub returns-in_err-words-clause-memory : goal.returns-in_err-words-clause-memory
+returns-in_err-words-clause-memory g c = anyway c.from_residual.result _ (λ room s count rep reached.
+    alone_accepted s (board_line.Words c.args.board) refl (takes_unrefused s.boards (board_line.Words c.args.board) (c.in_err-words.ensures.memory s.boards rep.boards reached.boards)))
+
+pub returns-in-Some-clause-memory : goal.returns-in-Some-clause-memory
+returns-in-Some-clause-memory g c =
+    let m = c.args.self.now.boards in
+    let n = c.args.board in
+    let stands = subst (λ (o : Option (Vec ℕ Global)). IfSome o (λ ws. (s : State) → boards.Represents m s → is_some (board_at s.standing.tables n) ≡ true)) c.in-Some.is c.in_ok-words.ensures.stands in
+    anyway c.push_listing.result (BoardMayWant c.args.self.now (board_line.Words n) c.args.out.now) (λ room s count rep reached. alone_accepted s (board_line.Words n) refl (rw (stands s.boards rep.boards) refl))
+
+pub returns-in-None-clause-memory : goal.returns-in-None-clause-memory
+returns-in-None-clause-memory g c = refused_wants c.push_refused.result c.args.out.now (TakesMemory c.args.self.now (line.Board (board_line.Words c.args.board))) c.push_refused.ensures.room
