@@ -20,8 +20,8 @@ loop-n-init g c = record {
 pub returns-in_default-clause-runs : goal.returns-in_default-clause-runs
 returns-in_default-clause-runs g c = gave_up _ _ _ refl refl (spent_at_once _ _ _ refl)
 
-pub returns-in_default-2-clause-runs : goal.returns-in_default-2-clause-runs
-returns-in_default-2-clause-runs g c = gave_up _ _ _ refl refl (spent_at_once _ _ _ refl)
+pub returns-in_default-with_capacity-clause-runs : goal.returns-in_default-with_capacity-clause-runs
+returns-in_default-with_capacity-clause-runs g c = gave_up _ _ _ refl refl (spent_at_once _ _ _ refl)
 
 pub returns-in-Ok-Long-clause-runs : goal.returns-in-Ok-Long-clause-runs
 returns-in-Ok-Long-clause-runs g c =
@@ -44,7 +44,7 @@ returns-in-Err-write_whole-clause-runs g c =
     let f = rw c.in-Ok-Line.field-0-is at c.in-Ok-Line.ensures.fetched in
     let one = rw c.in-Ok-Line.field-0-is at c.in-Ok-Line.ensures.short in
     let s = stands_for _ _ _ c.args.limit _ _ _ _ c.loop-n-test.true c.requires.limit r in
-    let a = c.in-Ok.ensures.ok r.session s in
+    let a = c.in-Ok-line.ensures.ok r.session s in
     let w = c.in-Err-write_whole.ensures.err in
     unwritten _ _ _ (search rules) (search rules) (write_cut _ _ _ _ c.args.limit _ _ _ _ _ _ _ w.0 r c.loop-n-test.true (takes_line _ _ _ _ one.0 f) (rw c.line.ensures at a) (rw c.deref.ensures.value at w.1)) (search rules)
 
@@ -54,7 +54,7 @@ returns-in-Err-write_whole-clause-writes g c = λ room takes fits same.
     let f = rw c.in-Ok-Line.field-0-is at c.in-Ok-Line.ensures.fetched in
     let one = rw c.in-Ok-Line.field-0-is at c.in-Ok-Line.ensures.short in
     let s = stands_for _ _ _ c.args.limit _ _ _ _ c.loop-n-test.true c.requires.limit on.run in
-    let a = c.in-Ok.ensures.ok on.run.session s in
+    let a = c.in-Ok-line.ensures.ok on.run.session s in
     let both = fits_one_more _ _ _ _ c.args.limit _ _ _ _ _ _ _ room on.run c.loop-n-test.true (takes_line _ _ _ _ one.0 f) (rw c.line.ensures at a) fits in
     let behind = on.room room takes (omega (arith, both)) in
     let done = c.in-Err-write_whole.ensures.unfailing (room - length (output_of on.run.session)) behind (omega (arith, both, ap length c.deref.ensures.value)) in
@@ -66,7 +66,7 @@ loop-n-preserved g c =
     let f = rw c.in-Ok-Line.field-0-is at c.in-Ok-Line.ensures.fetched in
     let one = rw c.in-Ok-Line.field-0-is at c.in-Ok-Line.ensures.short in
     let s = stands_for _ _ _ c.args.limit _ _ _ _ c.loop-n-test.true c.requires.limit on.run in
-    let a = c.in-Ok.ensures.ok on.run.session s in
+    let a = c.in-Ok-line.ensures.ok on.run.session s in
     record {
       on = goes_further _ _ _ _ _ _ _ _ _ _ _ _ _ _ _ _ _ on c.next.ensures.unended f one.0 (rw c.line.ensures at a) (rw c.deref.ensures.value at c.in-Ok-write_whole.ensures.ok) (rw c.deref.ensures.value at c.write_whole.ensures.never_later);
       one_source = c.next.ensures.one_source;
