@@ -41,6 +41,10 @@ with_bytes storages name bytes = putting storages name (Final bytes)
 abbrev pub create_answer : Option Stored → Result (Unit {0}) StaticStorageCreateError
 create_answer = taking tt AlreadyExists
 
+-- what `create` answers, by what stands under the name
+abbrev pub whole_answer : List ℕ → Option Stored → Result (List ℕ) StaticStorageCreateError
+whole_answer contents = taking contents AlreadyExists
+
 -- what `try_open` answers
 abbrev pub open_answer : Option Stored → Result (List ℕ) StaticStorageOpenError
 open_answer None = Err DoesNotExist

@@ -1,5 +1,5 @@
 -- What clauses see of a builder and of what it makes, and what their calls answer.
-use Rattle.std.specs.Prelude.{◌≡◌, ◌⊎◌, ℕ, ◌∷◌, List, Bool, true, false, Option, Some, None, Result, Ok, Err, codes}
+use Rattle.std.specs.Prelude.{ℕ, List, Bool, true, false, Option, Some, None, Result, Ok, Err, codes}
 use Rattle.board_names.specs.Concept.{Named, Placed, path_of, placed, starting}
 use Rattle.board_names.specs.Table.{at, putting, taking}
 use Rattle.board_layout.specs.Answer.{with_value}
@@ -60,10 +60,6 @@ create_of b contents storages = taking (storage_of b contents) AlreadyExists (at
 -- the content that `create` keeps
 abbrev pub bytes_made : BuilderView → List ℕ → Storages → Result (List ℕ) StaticStorageCreateError
 bytes_made b contents storages = taking contents AlreadyExists (at storages (path_of b.named))
-
--- the storages stay, or a builder's name is locked
-abbrev pub StaysOrLocks : BuilderView → Storages → Storages → Type 0
-StaysOrLocks b old new = (new ≡ old) ⊎ (new ≡ storing old b Locked)
 
 -- what `create_locked` answers over these storages
 abbrev pub lock_of : BuilderView → Storages → Result LockedView StaticStorageCreateError

@@ -1,9 +1,9 @@
 //! How a static storage is made or opened.
-ghost use Rattle.std.specs.Prelude.{◌≡◌, ℕ, ◌∷◌, ◌++◌, List, Some, None, true, IfOk, OnOk, OnErr, IsErrOf};
+ghost use Rattle.std.specs.Prelude.{◌≡◌, ℕ, ◌∷◌, ◌++◌, List, Some, None, true, IfOk, OnOk, OnErr};
 ghost use Rattle.board_layout.specs.Answer.{Answers, Refuses};
 ghost use Rattle.board_names.specs.declared.errors.static_storage.StaticStorageCreateError.TheVariants.{AlreadyExists, OutOfMemory};
 ghost use Rattle.board_names.specs.declared.errors.static_storage.StaticStorageOpenError.TheVariants.{OutOfMemory as NoMemory};
-ghost use Rattle.board_store.specs.Storage.{storage_of, started_builder, storing, look_answer, create_of, bytes_made, locked_of_builder, StaysOrLocks, lock_of, open_of};
+ghost use Rattle.board_store.specs.Storage.{storage_of, started_builder, storing, look_answer, create_of, bytes_made, locked_of_builder, lock_of, open_of};
 ghost use Rattle.board_store.specs.declared.statics.Stored.TheVariants.{Locked as Stood, Final};
 
 use crate::content::Content;
@@ -38,7 +38,7 @@ impl Builder {
     /// `create` over the storages themselves.
     ///
     /// # Errors
-    /// `AlreadyExists` where the name is held. `OutOfMemory`; the name may then be held, locked.
+    /// `AlreadyExists` where the name is held; `OutOfMemory`. The storages stay as they were.
     pub fn create_in(
         self,
         state: &mut Statics,
@@ -48,8 +48,7 @@ impl Builder {
         ensures answer { Answers result OutOfMemory (create_of self contents.now state.old) }
         ensures refused { Refuses result (create_of self contents.now state.old) }
         ensures ok { OnOk result (state.new ≡ storing state.old self (Final contents.now)) }
-        ensures already { IsErrOf result AlreadyExists → state.new ≡ state.old }
-        ensures memory { IsErrOf result OutOfMemory → StaysOrLocks self state.old state.new }
+        ensures err { OnErr result (state.new ≡ state.old) }
     {
         let content = self.create_content(state, contents)?;
         Ok(self.into_storage(content))
@@ -107,15 +106,9 @@ impl Builder {
         ensures answer { Answers result OutOfMemory (bytes_made self.now contents.now state.old) }
         ensures refused { Refuses result (bytes_made self.now contents.now state.old) }
         ensures ok { OnOk result (state.new ≡ storing state.old self.now (Final contents.now)) }
-        ensures already { IsErrOf result AlreadyExists → state.new ≡ state.old }
-        ensures memory { IsErrOf result OutOfMemory → StaysOrLocks self.now state.old state.new }
+        ensures err { OnErr result (state.new ≡ state.old) }
     {
-        let path = self.request.path();
-        state.create_locked(&path)?;
-        match state.fill(&path, contents) {
-            Ok(content) => Ok(content),
-            Err(_) => Err(StaticStorageCreateError::OutOfMemory),
-        }
+        state.create(&self.request.path(), contents)
     }
 
     fn look_in(&self, state: &mut Statics) -> Result<Content, StaticStorageOpenError>

@@ -84,7 +84,7 @@ pub trait StaticStorageBuilder: NamedConceptBuilder {
     /// A storage with these bytes.
     ///
     /// # Errors
-    /// `AlreadyExists` where the name is held. `OutOfMemory`; the name may then be held, locked.
+    /// `AlreadyExists` where the name is held; `OutOfMemory`. The storages stay as they were.
     fn create<R: Wait>(
         self,
         rt: &R,

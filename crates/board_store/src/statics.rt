@@ -2,7 +2,7 @@
 ghost use Rattle.std.specs.Prelude.{◌≡◌, ◌≢◌, ℕ, ◌+◌, ◌-◌, ◌<◌, ◌≤◌, ◌==◌, ◌↔◌, List, [], ◌∷◌, ◌++◌, length, Some, None, true, is_some, IfOk, IsErrOf, OnOk, OnErr, IsTrue, IsSome, IfSome, option_map};
 ghost use Rattle.board_layout.specs.Answer.{Answers, Refuses};
 ghost use Rattle.board_names.specs.Table.{at, putting, without, name_at};
-ghost use Rattle.board_store.specs.Statics.{bytes_of, locked_of, with_bytes, create_answer, open_answer, unlock_answer};
+ghost use Rattle.board_store.specs.Statics.{bytes_of, locked_of, with_bytes, create_answer, whole_answer, open_answer, unlock_answer};
 ghost use Rattle.board_store.specs.Storage.{exists_answer};
 
 use crate::content::Content;
@@ -58,6 +58,37 @@ impl Statics {
         }
         match self.names.insert(*name, Stored::Locked) {
             Ok(_) => Ok(()),
+            Err(_) => Err(StaticStorageCreateError::OutOfMemory),
+        }
+    }
+
+    /// Takes a name for a storage with these bytes, and hands them back, shared.
+    ///
+    /// # Errors
+    /// `AlreadyExists` where the name is held; `OutOfMemory`. The storages stay as they were.
+    pub fn create(
+        &mut self,
+        name: &FilePath,
+        contents: &[u8],
+    ) -> Result<Content, StaticStorageCreateError>
+        ensures value { IfOk result (λ content. content ≡ contents.now) }
+        ensures answer { let whole = whole_answer contents.now (at self.old name.now) in
+            Answers result StaticStorageCreateError.OutOfMemory whole }
+        ensures refused { Refuses result (whole_answer contents.now (at self.old name.now)) }
+        ensures ok { OnOk result (self.new ≡ with_bytes self.old name.now contents.now) }
+        ensures err { OnErr result (self.new ≡ self.old) }
+    {
+        if self.names.contains_key(name) {
+            return Err(StaticStorageCreateError::AlreadyExists);
+        }
+        let Ok(content) = Content::of(self.alloc, contents) else {
+            return Err(StaticStorageCreateError::OutOfMemory);
+        };
+        let Ok(shared) = content.share() else {
+            return Err(StaticStorageCreateError::OutOfMemory);
+        };
+        match self.names.insert(*name, Stored::Final(content)) {
+            Ok(_) => Ok(shared),
             Err(_) => Err(StaticStorageCreateError::OutOfMemory),
         }
     }

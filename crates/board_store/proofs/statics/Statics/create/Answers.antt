@@ -1,0 +1,21 @@
+use Rattle.std.proofs.Common.{rules, ◌≡◌, is_some, false}
+use Rattle.board_layout.proofs.AnswerLemmas.{Refuses-value}
+use Rattle.board_names.specs.Table.{at}
+use Rattle.board_names.proofs.TableLemmas.{taking-free}
+use Rattle.board_names.specs.declared.errors.static_storage.StaticStorageCreateError.TheVariants.{AlreadyExists}
+use Rattle.board_store.proofs.statics.Statics.create.Goals as goal
+
+pub returns-in_default-clause-refused : goal.returns-in_default-clause-refused
+returns-in_default-clause-refused c =
+    let free : is_some (at c.args.self.now c.args.name.now) ≡ false = search rules in
+    Refuses-value _ _ c.args.contents.now (taking-free c.args.contents.now AlreadyExists _ free)
+
+pub returns-in_default-share-clause-refused : goal.returns-in_default-share-clause-refused
+returns-in_default-share-clause-refused c =
+    let free : is_some (at c.args.self.now c.args.name.now) ≡ false = search rules in
+    Refuses-value _ _ c.args.contents.now (taking-free c.args.contents.now AlreadyExists _ free)
+
+pub returns-clause-refused : goal.returns-clause-refused
+returns-clause-refused c =
+    let free : is_some (at c.args.self.now c.args.name.now) ≡ false = search rules in
+    Refuses-value _ _ c.args.contents.now (taking-free c.args.contents.now AlreadyExists _ free)
