@@ -13,18 +13,18 @@ returns-in-Ok-clause-ok g c =
     let spelled = subst (λ (o : Option ScriptLine). IfSome o (λ l. SpellsLine c.args.line.now l)) c.in-Ok-Some.field-0-is c.in-Ok-Some.ensures.found in
     λ session h. has_answered c.args.self.now c.answer.new.self session c.args.line.now c.answer.new.out.items c.in-Ok-Some.parsed h spelled c.in-Ok.ensures.tells c.in-Ok.ensures.drawn
 
-pub returns-in-Err-clause-spelled : goal.returns-in-Err-clause-spelled
-returns-in-Err-clause-spelled g c =
+pub returns-in-Err-answer-clause-spelled : goal.returns-in-Err-answer-clause-spelled
+returns-in-Err-answer-clause-spelled g c =
     let spelled = subst (λ (o : Option ScriptLine). IfSome o (λ l. SpellsLine c.args.line.now l)) c.in-Ok-Some.field-0-is c.in-Ok-Some.ensures.found in
     λ _. (c.in-Ok-Some.parsed, spelled)
 
-pub returns-in-Err-clause-memory : goal.returns-in-Err-clause-memory
-returns-in-Err-clause-memory g c =
+pub returns-in-Err-answer-clause-memory : goal.returns-in-Err-answer-clause-memory
+returns-in-Err-answer-clause-memory g c =
     let spelled = subst (λ (o : Option ScriptLine). IfSome o (λ l. SpellsLine c.args.line.now l)) c.in-Ok-Some.field-0-is c.in-Ok-Some.ensures.found in
-    λ _ room. (c.in-Ok-Some.parsed, spelled, inr (c.in-Err.ensures.memory (omega (arith, c.clear.ensures.len, c.clear.ensures.capacity, room))))
+    λ _ room. (c.in-Ok-Some.parsed, spelled, inr (c.in-Err-answer.ensures.memory (omega (arith, c.clear.ensures.len, c.clear.ensures.capacity, room))))
 
-pub returns-in-Err-parse_line-clause-spelled : goal.returns-in-Err-parse_line-clause-spelled
-returns-in-Err-parse_line-clause-spelled g c = λ _. (let k = c.in-Err-parse_line.ensures.memory in (k.0, k.1))
+pub returns-in-Err-clause-spelled : goal.returns-in-Err-clause-spelled
+returns-in-Err-clause-spelled g c = λ _. (let k = c.in-Err.ensures.memory in (k.0, k.1))
 
-pub returns-in-Err-parse_line-clause-memory : goal.returns-in-Err-parse_line-clause-memory
-returns-in-Err-parse_line-clause-memory g c = λ _ _. (let k = c.in-Err-parse_line.ensures.memory in (k.0, k.1, inl k.2))
+pub returns-in-Err-clause-memory : goal.returns-in-Err-clause-memory
+returns-in-Err-clause-memory g c = λ _ _. (let k = c.in-Err.ensures.memory in (k.0, k.1, inl k.2))
