@@ -51,6 +51,14 @@ MayNotify k end id (Err notify_error.TriggerIdOutOfBounds) = (k ≡ kind.Bits) �
 MayNotify k end id (Err notify_error.FailedToDeliverSignal) = k ≡ kind.Queue
 MayNotify k end id (Err _) = ⊥
 
+-- what a notify of an id may answer, of whatever kind: an id that is refused as out of bounds is above the greatest
+abbrev pub IsNotifyAnswer : ℕ → ℕ → Result (Unit {0}) NotifierNotifyError → Type 0
+IsNotifyAnswer greatest id (Ok done) = ⊤
+IsNotifyAnswer greatest id (Err notify_error.Disconnected) = ⊤
+IsNotifyAnswer greatest id (Err notify_error.TriggerIdOutOfBounds) = greatest < id
+IsNotifyAnswer greatest id (Err notify_error.FailedToDeliverSignal) = ⊤
+IsNotifyAnswer greatest id (Err _) = ⊥
+
 -- ---- a wait
 
 -- the id waited at the end's event in this table

@@ -1,5 +1,6 @@
 //! What an event does: a notifier hands ids to a listener, which takes them one by one or all at once.
 ghost use Rattle.std.specs.Prelude.{◌≡◌, ℕ, List, ◌<◌, ◌-◌, ◌^◌, codes, IfOk, IsOk};
+ghost use Rattle.board_event.specs.TypedCalls.{IsNotifyAnswer};
 
 use board_names::{
     FileName, ListenerCreateError, ListenerWaitError, NamedConcept, NamedConceptBuilder,
@@ -49,7 +50,8 @@ pub trait Notifier: NamedConcept + Sized {
     /// # Errors
     /// `Disconnected` where the listener is gone; `TriggerIdOutOfBounds` where the id is above the greatest;
     /// `FailedToDeliverSignal` where as many ids wait as a queue holds.
-    fn notify<R: Wait>(&self, rt: &R, id: TriggerId) -> Result<(), NotifierNotifyError>;
+    fn notify<R: Wait>(&self, rt: &R, id: TriggerId) -> Result<(), NotifierNotifyError>
+        ensures answer { IsNotifyAnswer (greatest self.now) id result };
 
     /// Gives this end up. The event goes with its last end.
     fn release<R: Wait>(self, rt: &R);

@@ -3,7 +3,7 @@ ghost use Rattle.std.specs.Prelude.{◌≡◌, ◌≢◌, ℕ, List, Err};
 ghost use Rattle.board_names.specs.declared.errors.event.NotifierNotifyError.TheVariants.{Disconnected};
 ghost use Rattle.board_event.specs.Ends.{FreesNotifiersName, HasNotifier, IsGone, notifier_gone};
 ghost use Rattle.board_event.specs.Accesses.{IsNotifyHold};
-ghost use Rattle.board_event.specs.TypedCalls.{MayNotify};
+ghost use Rattle.board_event.specs.TypedCalls.{IsNotifyAnswer, MayNotify};
 ghost use Rattle.board_event.specs.LentForms.{AnswersNotify, Notifies};
 
 use crate::accesses::notify_access;
@@ -137,7 +137,8 @@ impl<K: KindOfEvents + Drop> Notifier for EventNotifier<K> {
     }
 
     fn notify<R: Wait>(&self, rt: &R, id: TriggerId) -> Result<(), NotifierNotifyError>
-        ensures { MayNotify K.which self.now id result }
+        ensures may { MayNotify K.which self.now id result }
+        ensures answer { IsNotifyAnswer self.now.max id result }
     {
         let answer = self.drive(rt, id.as_value() as u64);
         self.arrived.notify_all();

@@ -1,5 +1,9 @@
 //! Events that many values share.
+ghost use Rattle.std.specs.Sync.Mutex.{mutex_guard_value};
+ghost use Rattle.board_event_core.specs.EventTable.{IsEventTable};
+
 use crate::events_of::{EventsOf, KindOfEvents, QueueOfIds, SetOfIds};
+use board_event_core::table_stands;
 use board_names::{Registry, RegistryError};
 use std::alloc::Global;
 use std::sync::{Arc, Condvar, MutexGuard, Wait};
@@ -35,8 +39,12 @@ impl<K: KindOfEvents + Drop> EventRegistry<K> {
     }
 
     /// The events themselves, once no one else has them.
-    pub fn lock<R: Wait>(&self, rt: &R) -> MutexGuard<'_, EventsOf<K>> {
-        self.names.lock(rt)
+    pub fn lock<R: Wait>(&self, rt: &R) -> MutexGuard<'_, EventsOf<K>>
+        ensures table { IsEventTable (mutex_guard_value result) }
+    {
+        let state = self.names.lock(rt);
+        table_stands(state.events());
+        state
     }
 }
 
