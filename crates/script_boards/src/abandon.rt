@@ -24,7 +24,7 @@ impl<C: BoardWords + Drop> BoardMachine<C> {
     /// A line `abandon P`. The call of the party runs no more, and what it holds stands for good.
     ///
     /// # Errors
-    /// `AllocError` where memory is refused: only for a party that runs no call, and isn't gone. The machine stays as it was.
+    /// `AllocError` where memory is refused: only for a party that runs no call, and isn't gone.
     pub fn abandon(&mut self, party: Name) -> Result<Answer, AllocError>
         requires { IsLed self.old }
         ensures serves { IfOk result (λ a. Serves self.old self.new (line.Abandon party) a) }

@@ -416,7 +416,7 @@ impl<C: BoardWords + Drop> BoardMachine<C> {
     /// A line `begin P CALL`.
     ///
     /// # Errors
-    /// `AllocError` where memory is refused, and the line isn't. The machine stands for no state from then on.
+    /// `AllocError` where memory is refused, and the line isn't. Of the machine nothing is said then.
     pub fn begin(&mut self, party: Name, call: Call) -> Result<Answer, AllocError>
         requires { IsLed self.old }
         ensures serves { IfOk result (λ a. Serves self.old self.new (line.Begin party call) a) }

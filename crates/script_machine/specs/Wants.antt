@@ -26,7 +26,7 @@ refusal_at s (line.Expire party) None = None
 abbrev pub refusal : ScriptState → ScriptLine → Option Reason
 refusal s l = refusal_at s l (turn_of s l)
 
--- a line of boards takes memory: no drop does, nor an abandonment of a party whose call runs, nor a line that is refused
+-- a line of boards takes memory: no drop does, nor an abandonment of a party whose call on boards runs, nor a line that is refused
 abbrev pub board_line_takes : ScriptState → Line → Bool
 board_line_takes s (board_line.Release party name) = false
 board_line_takes s (board_line.Abandon party) = boards.takes_memory s.boards (board_line.Abandon party)

@@ -99,7 +99,7 @@ impl<C: BoardWords + Drop> Machine<C> {
     /// # Errors
     /// `Bad` exactly where the line is outside the grammar, and then the machine stays as it was. After `OutOfMemory` the
     /// machine is spent. On both `answer` is empty. Where `answer` has room for 19 bytes, `OutOfMemory` comes neither for a
-    /// line outside the grammar, nor for a drop, an expiry or an abandonment of a party whose call runs, nor for a refused
+    /// line outside the grammar, nor for a drop, an expiry or an abandonment of a party whose call on boards runs, nor for a refused
     /// line without the name of a board or an event.
     pub fn line(&mut self, line: &[u8], answer: &mut Vec<u8>) -> Result<(), LineError>
         // The machine isn't spent, and it stands for a lawful session of fewer than 2^63 lines.
