@@ -144,8 +144,9 @@ pub mod event {
 }
 
 // A value between threads without keys; policies, static storage, monitoring and channels; types as words and keys; the
-// tables of boards as plain data.
+// tables of boards as plain data, and whole calls on their entries for a thread that has them alone.
 pub use board_cell as cell;
 pub use board_concepts as concepts;
 pub use board_layout as layout;
+pub use board_seats as seats;
 pub use board_service as tables;

@@ -1,0 +1,5 @@
+use Rattle.board_service.proofs.CellLemmas.{same_cells}
+use Rattle.board_seats.proofs.seats.fresh.Goals as goal
+
+pub returns-in-Some-clause-same : goal.returns-in-Some-clause-same
+returns-in-Some-clause-same g c = same_cells c.args.domain.now c.board_of-board.result c.fresh_in.new.words c.in-Some.words.now c.in-Some.ensures.value c.fresh_in.ensures.same
