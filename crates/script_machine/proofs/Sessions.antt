@@ -12,7 +12,7 @@ use Rattle.script_model.specs.ScriptSession.{IsLawful, Session, start, state_aft
 use Rattle.script_model.proofs.PartLemmas.{boards_law_holds}
 use Rattle.script_model.proofs.ScriptSoundLemmas.{sessions_sound}
 use Rattle.script_machine.specs.declared.machine.Machine.{Machine}
-use Rattle.script_machine.specs.ScriptMachine.{IsLed, IsReached, StandsAfter, Tells}
+use Rattle.script_machine.specs.ScriptMachine.{IsAnswered, IsLed, IsReached, StandsAfter, Tells}
 
 pub session_reached : (session : Session) → IsLawful session → length session < 2 ^ 63 → IsReached (state_after start session) (length session)
 session_reached session h lt =
@@ -45,3 +45,7 @@ has_answered old new session bytes text l h spelled tells drawn =
       state = record { represents = t.represents; drawn = omega (arith, h.state.drawn, drawn) };
       told = t.told;
     }
+
+-- the same of bytes
+pub has_answered_bytes : {C : Type 0} (old new : Machine C) (session : Session) (bytes text : List ℕ) → StandsFor StandsAfter old session → IsAnswered old new bytes text → HasAnswered StandsAfter new session bytes text
+has_answered_bytes old new session bytes text h a = has_answered old new session bytes text a.line h a.spelled a.tells a.drawn

@@ -1,5 +1,5 @@
 -- The state of a script that a machine stands for.
-use Rattle.std.specs.Prelude.{◌≡◌, ℕ, ◌<◌, ◌≤◌, ◌^◌, Bool, true, false, List}
+use Rattle.std.specs.Prelude.{◌≡◌, ℕ, ◌+◌, ◌<◌, ◌≤◌, ◌^◌, Bool, true, false, List, []}
 use Rattle.board_model.specs.declared.answer.Answer.{Answer}
 use Rattle.board_model.specs.declared.answer.Answer.TheVariants as answer
 use Rattle.board_model.specs.declared.answer.Reason.{Reason}
@@ -11,9 +11,11 @@ use Rattle.script_events.specs.PartyEvents as events
 use Rattle.script_model.specs.declared.line.ScriptLine.{ScriptLine}
 use Rattle.script_model.specs.declared.line.ScriptLine.TheVariants as line
 use Rattle.script_model.specs.ScriptAnswers.{ScriptAnswer, script_answer_line}
+use Rattle.script_model.specs.ScriptGrammar.{SpellsLine}
 use Rattle.script_model.specs.ScriptTurns.{ScriptState}
 use Rattle.script_model.specs.ScriptSession.{IsRight, after}
 use Rattle.script_model.specs.SoundEvents.{IsSoundScript}
+use Rattle.script_loop.specs.Machines.{SpellsNone}
 use Rattle.script_machine.specs.declared.machine.Machine.{Machine}
 
 -- the machine stands for the state, and isn't spent
@@ -59,6 +61,31 @@ Tells old new l text = OfEachState old (IsTelling new l text)
 -- so it is of a line of boards
 abbrev pub TellsOfBoards : {C : Type 0} → Machine C → Machine C → Line → List ℕ → Type 0
 TellsOfBoards old new l text = Tells old new (line.Board l) text
+
+-- ---- bytes
+
+-- the bytes spell a line, the text is that of its right answers, and at most one thing more was made of boards
+pub record IsAnswered {C : Type 0} (old new : Machine C) (bytes text : List ℕ) : Type 0 where
+  pub line : ScriptLine
+  pub spelled : SpellsLine bytes line
+  pub tells : Tells old new line text
+  pub drawn : drawn_by new.boards ≤ drawn_by old.boards + 1
+
+-- so it is where the bytes spell a line
+abbrev pub TellsOfBytes : {C : Type 0} → Machine C → Machine C → Bool → List ℕ → List ℕ → Type 0
+TellsOfBytes old new true bytes text = IsAnswered old new bytes text
+TellsOfBytes old new false bytes text = Unit {0}
+
+-- the bytes spell no line, nothing is told and the machine is the same
+pub record IsUnknown {C : Type 0} (old new : Machine C) (bytes text : List ℕ) : Type 0 where
+  pub spells : SpellsNone bytes
+  pub same : new ≡ old
+  pub untold : text ≡ []
+
+-- so it is where the bytes spell no line
+abbrev pub LeavesUnknown : {C : Type 0} → Machine C → Machine C → Bool → List ℕ → List ℕ → Type 0
+LeavesUnknown old new true bytes text = Unit {0}
+LeavesUnknown old new false bytes text = IsUnknown old new bytes text
 
 -- ---- answers of the machine of boards
 

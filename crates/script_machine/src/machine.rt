@@ -1,20 +1,20 @@
 //! The machine's one call: the line of a script, and the answer to it.
-ghost use Rattle.std.specs.Prelude.{◌≡◌, ◌+◌, ◌≤◌, [], true, IsErrOf, OnErr, OnOk};
+ghost use Rattle.std.specs.Prelude.{◌≡◌, ◌+◌, ◌≤◌, [], true, IfOk, IsErrOf, OnErr, OnOk};
 ghost use Rattle.board_model.specs.LineGrammar.{IsLine};
 ghost use Rattle.script_model.specs.declared.line.ScriptLine.TheVariants as script_line;
 ghost use Rattle.script_model.specs.ScriptGrammar.{IsScriptLine};
 ghost use Rattle.script_model.specs.ScriptSession.{Session, start};
 ghost use Rattle.script_loop.specs.Machines.{AnswersEach, SpellsNone, StandsFor};
 ghost use Rattle.script_boards.specs.Machine.{drawn_by};
-ghost use Rattle.script_machine.specs.ScriptMachine.{IsLed, StandsAfter, Tells};
+ghost use Rattle.script_machine.specs.ScriptMachine.{IsLed, LeavesUnknown, StandsAfter, Tells, TellsOfBytes};
 
-use board_model::Line;
+use board_model::{Call, Line};
 use board_service::BoardWords;
 use script_boards::BoardMachine;
 use script_events::PartyEvents;
 use script_loop::{LineError, RunsLines};
 use script_model::ScriptLine;
-use script_parse::parse_line;
+use script_parse::{get_of, parse_line, step_of, update_of};
 use std::alloc::{AllocError, Global};
 
 /// Runs the lines of one script, one after another. The words of its boards are held by `C`.
@@ -80,6 +80,63 @@ impl<C: BoardWords + Drop> Machine<C> {
         }
     }
 
+    // Answers any line, by the whole parser, and gives whether the bytes spell one.
+    #[inline(never)]
+    fn answer_parsed(&mut self, bytes: &[u8], out: &mut Vec<u8>) -> Result<bool, AllocError>
+        requires led { IsLed self.old }
+        requires empty { out.old.items ≡ [] }
+        ensures tells { IfOk result (λ spelled.
+            TellsOfBytes self.old self.new spelled bytes.now out.new.items) }
+        ensures unknown { IfOk result (λ spelled.
+            LeavesUnknown self.old self.new spelled bytes.now out.new.items) }
+    {
+        match parse_line(self.alloc, bytes)? {
+            Some(line) => {
+                self.answer(line, out)?;
+                Ok(true)
+            }
+            None => Ok(false),
+        }
+    }
+
+    // The same, with short ways for gets and updates that begin.
+    #[inline(never)]
+    fn answer_begun(&mut self, bytes: &[u8], out: &mut Vec<u8>) -> Result<bool, AllocError>
+        requires led { IsLed self.old }
+        requires empty { out.old.items ≡ [] }
+        ensures tells { IfOk result (λ spelled.
+            TellsOfBytes self.old self.new spelled bytes.now out.new.items) }
+        ensures unknown { IfOk result (λ spelled.
+            LeavesUnknown self.old self.new spelled bytes.now out.new.items) }
+    {
+        if let Some((party, handle, value)) = update_of(bytes) {
+            self.begin(party, Call::Update { handle, value }, out)?;
+            return Ok(true);
+        }
+        if let Some((party, handle, value)) = get_of(bytes) {
+            self.begin(party, Call::Get { handle, value }, out)?;
+            return Ok(true);
+        }
+        self.answer_parsed(bytes, out)
+    }
+
+    // The same, with a short way for steps. The other lines are apart, so that a step doesn't pay for them.
+    #[inline(always)]
+    fn answer_bytes(&mut self, bytes: &[u8], out: &mut Vec<u8>) -> Result<bool, AllocError>
+        requires led { IsLed self.old }
+        requires empty { out.old.items ≡ [] }
+        ensures tells { IfOk result (λ spelled.
+            TellsOfBytes self.old self.new spelled bytes.now out.new.items) }
+        ensures unknown { IfOk result (λ spelled.
+            LeavesUnknown self.old self.new spelled bytes.now out.new.items) }
+    {
+        let Some(party) = step_of(bytes) else {
+            return self.answer_begun(bytes, out);
+        };
+        self.step(&party, out)?;
+        Ok(true)
+    }
+
     // Memory was refused: no line can be answered any more, and what stood in the answer is dropped.
     fn give_up(&mut self, begun: &mut Vec<u8>) -> LineError
         ensures error { result ≡ LineError.OutOfMemory }
@@ -112,12 +169,9 @@ impl<C: BoardWords + Drop> Machine<C> {
         ensures err { OnErr result (answer.new.items ≡ []) }
     {
         answer.clear();
-        match parse_line(self.alloc, line) {
-            Ok(Some(parsed)) => match self.answer(parsed, answer) {
-                Ok(()) => Ok(()),
-                Err(_) => Err(self.give_up(answer)),
-            },
-            Ok(None) => Err(LineError::Bad),
+        match self.answer_bytes(line, answer) {
+            Ok(true) => Ok(()),
+            Ok(false) => Err(LineError::Bad),
             Err(_) => Err(self.give_up(answer)),
         }
     }
