@@ -5,4 +5,21 @@ pub answer_bytes-requires-clause-led : goal.answer_bytes-requires-clause-led
 answer_bytes-requires-clause-led g c = led c.args.self.now c.requires.0 c.requires.1
 
 pub returns-in-Ok-true-clause-ok : goal.returns-in-Ok-true-clause-ok
-returns-in-Ok-true-clause-ok g c = λ session h. has_answered_bytes c.args.self.now c.answer_bytes.new.self session c.args.line.now c.answer_bytes.new.out.items h ?
+returns-in-Ok-true-clause-ok g c =
+    let answered = rw c.in-Ok-true.field-0-test at c.in-Ok-true.ensures.tells in
+    λ session h. has_answered_bytes c.args.self.now c.answer_bytes.new.self session c.args.line.now c.answer_bytes.new.out.items h answered
+
+pub returns-in-Ok-false-clause-bad : goal.returns-in-Ok-false-clause-bad
+returns-in-Ok-false-clause-bad g c =
+    let unknown = rw c.in-Ok-false.field-0-test at c.in-Ok-false.ensures.unknown in
+    λ is. unknown.spells
+
+pub returns-in-Ok-false-clause-same : goal.returns-in-Ok-false-clause-same
+returns-in-Ok-false-clause-same g c =
+    let unknown = rw c.in-Ok-false.field-0-test at c.in-Ok-false.ensures.unknown in
+    λ is. unknown.same
+
+pub returns-in-Ok-false-clause-err : goal.returns-in-Ok-false-clause-err
+returns-in-Ok-false-clause-err g c =
+    let unknown = rw c.in-Ok-false.field-0-test at c.in-Ok-false.ensures.unknown in
+    unknown.untold
