@@ -1,0 +1,9 @@
+pub mod CountLemmas
+pub mod Joined
+pub mod Choices
+pub mod ItemLemmas
+pub mod ReplyTexts
+pub mod AnswerTexts
+pub mod ReplyTokens
+pub mod AnswerTokens
+pub mod AnswerLemmas
