@@ -1,11 +1,13 @@
 -- A text is read as an answer exactly where it is one.
-use Rattle.std.proofs.Common.{◌≡◌, ℕ, ◌+◌, ◌*◌, ◌<◌, ◌≤◌, Bool, true, false, List, length, arith, refl, sym, ap, subst, ◌∙◌}
-use Rattle.std.specs.Prelude.{◌↔◌, IsTrue, ◌==◌}
-use Rattle.std.specs.List.{join_with_byte, slice_split}
+use Rattle.std.proofs.Common.{◌≡◌, ℕ, ◌+◌, ◌*◌, ◌<◌, ◌≤◌, Bool, true, false, List, length, arith, None, refl, sym, ap, subst, ◌∙◌}
+use Rattle.std.specs.Prelude.{◌↔◌, IsTrue}
 use Rattle.std.proofs.lemmas.List.Splits.{join_with_byte-slice_split}
 use Rattle.script_grammar.proofs.SplitLemmas.{split_free}
 use Rattle.script_rules.specs.AnswerGroups.{tokens_of}
+use Rattle.script_model.specs.declared.line.ScriptLine.{ScriptLine}
+use Rattle.script_rules.specs.BrokenRules.{broken_rule}
 use Rattle.script_rules.specs.PrintedAnswers.{SpellsAnswer}
+use Rattle.script_rules.proofs.GroupLemmas.{self_none}
 use Rattle.script_answers.specs.AnswerReading.{reads_answer}
 use Rattle.script_answers.proofs.AnswerTexts.{answer_read}
 use Rattle.script_answers.proofs.AnswerTokens.{IsAnswerText, answer_of}
@@ -29,3 +31,8 @@ read_where_spelled n text false short e = (λ h. absurd cc, λ h. let k : false 
 -- one that is too long
 pub long_spells_none : (n : ℕ) (text : List ℕ) → 1048576 + 17 * n < length text → IsTrue false ↔ SpellsAnswer n text
 long_spells_none n text long = (λ h. absurd cc, λ h. absurd (omega (arith, h.short, long)))
+
+-- ---- the rule that an answer breaks
+
+pub same_breaks_none : (l : ScriptLine) (right text : List ℕ) → right ≡ text → None ≡ broken_rule l right text
+same_breaks_none l right text e = sym (ap (λ (x : List ℕ). broken_rule l x text) e ∙ self_none l text)

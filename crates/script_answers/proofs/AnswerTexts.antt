@@ -1,7 +1,7 @@
 -- Each answer of the grammar is read.
-use Rattle.std.proofs.Common.{◌≡◌, ℕ, true, List, [], ◌∷◌, ◌++◌, length, arith, refl, sym, ap, subst, ◌∙◌, append_assoc, map, Option, Some, None}
-use Rattle.std.specs.Prelude.{codes, decimal, IfSome}
-use Rattle.std.specs.List.{join_with_byte, AllByRecursion}
+use Rattle.std.proofs.Common.{◌≡◌, ℕ, true, List, [], ◌∷◌, ◌++◌, arith, refl, sym, ap, subst, ◌∙◌, append_assoc, map, Option, None}
+use Rattle.std.specs.Prelude.{codes, decimal}
+use Rattle.std.specs.List.{join_with_byte}
 use Rattle.board_cell_model.specs.declared.access.Access.{Access}
 use Rattle.board_cell_model.specs.declared.access.Access.TheVariants as access
 use Rattle.board_event_model.specs.declared.access.EventAccess.{EventAccess}
@@ -15,10 +15,10 @@ use Rattle.board_model.specs.declared.answer.Reason.TheVariants as reason
 use Rattle.board_model.specs.LineGrammar.{IsNumber}
 use Rattle.board_model.specs.AnswerGrammar.{IsAccess, access_text, reason_text}
 use Rattle.script_model.specs.ScriptAnswers.{IsFormedAccess, event_access_text}
-use Rattle.script_rules.specs.PrintedAnswers.{IsPrinted, IsStepReply, Printed, StepReply, a_begin, a_list, a_refusal, a_step, an_end, an_expiry, board_access, event_access, printed_text, step_told_text}
+use Rattle.script_rules.specs.PrintedAnswers.{IsPrinted, Printed, StepReply, a_begin, a_list, a_refusal, a_step, an_end, an_expiry, board_access, event_access, printed_text, step_told_text}
 use Rattle.script_rules.specs.StepGroups.{place_token}
-use Rattle.script_grammar.proofs.SplitLemmas.{IsFree, free_event_name}
-use Rattle.script_answers.specs.AnswerReading.{is_number, is_reason, reads_answer, reads_event_step, reads_last, reads_one, reads_step, reads_told, reads_two}
+use Rattle.script_grammar.proofs.SplitLemmas.{free_event_name}
+use Rattle.script_answers.specs.AnswerReading.{is_number, is_reason, reads_answer, reads_event_step, reads_last, reads_one, reads_step, reads_two}
 use Rattle.script_answers.proofs.Joined.{AreFree, IsTaken, free_both, joined_each}
 use Rattle.script_answers.proofs.ItemLemmas.{bits_taken, free_decimals, free_numeral, free_place, number_or, number_taken, place_taken, queue_taken}
 use Rattle.script_answers.proofs.ReplyTexts.{IsReadTold, all_pass, told_read}

@@ -1,22 +1,19 @@
 -- What is read as an answer is one.
-use Rattle.std.proofs.Common.{◌≡◌, ℕ, Bool, true, false, List, [], ◌∷◌, ◌++◌, drop, refl, sym, ap, subst, ◌∙◌, append_assoc, map, Option, Some, None, ◌⊎◌, inl, inr}
-use Rattle.std.specs.Prelude.{codes, decimal, IfSome, ◌&&◌, ◌||◌, if◌then◌else◌}
-use Rattle.std.specs.List.{join_with_byte, list_all, list_any}
+use Rattle.std.proofs.Common.{◌≡◌, ℕ, true, List, [], ◌∷◌, ◌++◌, drop, refl, sym, ap, subst, ◌∙◌, append_assoc, None, ◌⊎◌, inl, inr}
+use Rattle.std.specs.Prelude.{codes, decimal, ◌&&◌}
+use Rattle.std.specs.List.{join_with_byte, list_all, AllByRecursion}
 use Rattle.std.specs.Str.{bytes_eq}
-use Rattle.board_cell_model.specs.declared.access.Access.{Access}
 use Rattle.board_cell_model.specs.declared.access.Access.TheVariants as access
 use Rattle.board_event_model.specs.declared.access.EventAccess.{EventAccess}
 use Rattle.board_event_model.specs.declared.access.EventAccess.TheVariants as event_access
 use Rattle.board_event_model.specs.declared.access.EventAnswer.{EventAnswer}
 use Rattle.board_event_model.specs.declared.access.EventAnswer.TheVariants as event_answer
 use Rattle.board_event_model.specs.EventMemory.{kind_of_access}
-use Rattle.board_model.specs.declared.answer.Reason.{Reason}
 use Rattle.board_model.specs.declared.answer.Reason.TheVariants as reason
 use Rattle.board_model.specs.LineGrammar.{IsNumber}
-use Rattle.board_model.specs.AnswerGrammar.{access_text}
 use Rattle.script_model.specs.ScriptGrammar.{is_event_name}
 use Rattle.script_model.specs.ScriptAnswers.{IsFormedAccess, event_access_text}
-use Rattle.script_rules.specs.PrintedAnswers.{IsPrinted, IsStepAccess, Printed, StepAccess, a_begin, a_list, a_refusal, a_step, an_end, an_expiry, board_access, event_access, printed_text, step_access_text}
+use Rattle.script_rules.specs.PrintedAnswers.{IsPrinted, IsStepAccess, Printed, StepAccess, a_begin, a_list, a_refusal, a_step, an_end, an_expiry, board_access, event_access, printed_text, step_access_text, step_told_text}
 use Rattle.script_rules.specs.StepGroups.{place_token}
 use Rattle.script_grammar.specs.LineReading.{begins_with}
 use Rattle.script_grammar.specs.TokenReading.{is_end}
@@ -24,7 +21,7 @@ use Rattle.script_grammar.proofs.ReaderLemmas.{both, end_takes, word_is}
 use Rattle.script_answers.specs.declared.item.Item.{Item}
 use Rattle.script_answers.specs.declared.item.Item.TheVariants as item
 use Rattle.script_answers.specs.AnswerReading.{begins_so, is_item, is_number, is_reason, reads_answer, reads_event_step, reads_last, reads_one, reads_step, reads_told, reads_two, reason_words}
-use Rattle.script_answers.proofs.Choices.{either, either_word, has_first, has_word, word_at, words_at}
+use Rattle.script_answers.proofs.Choices.{among_at, either, either_word, has_first, has_word, word_at, words_at}
 use Rattle.script_answers.proofs.Joined.{joined_each}
 use Rattle.script_answers.proofs.ItemLemmas.{event_token_of, numeral, place_token_of}
 use Rattle.script_answers.proofs.ReplyTokens.{IsTold, numbers_left, told_of}
@@ -51,7 +48,7 @@ printed_is p h = record { printed = p; formed = h; same = refl }
 
 -- an access of these tokens, with what is told behind it
 step_with : (a : StepAccess) (t : List ℕ) (us rest : List (List ℕ)) → IsStepAccess a → step_access_text a ≡ join_with_byte 32 (t ∷ us) → IsTold rest → AreAnswerTokens ((t ∷ us) ++ rest)
-step_with a t us rest h e k = record { printed = a_step a k.told; formed = (h, k.is); same = k.joined t us ∙ ap (λ (x : List ℕ). x ++ _) (sym e) }
+step_with a t us rest h e k = record { printed = a_step a k.told; formed = (h, k.is); same = k.joined t us ∙ ap (λ (x : List ℕ). x ++ step_told_text k.told) (sym e) }
 
 -- one token, and what is told behind it
 record HasOne (i : Item) (ts : List (List ℕ)) : Type 0 where
@@ -73,7 +70,7 @@ record HasTwo (i j : Item) (ts : List (List ℕ)) : Type 0 where
   one : List ℕ
   two : List ℕ
   is : is_item i one ≡ true
-  then : is_item j two ≡ true
+  is_two : is_item j two ≡ true
   rest : List (List ℕ)
   all : ts ≡ one ∷ two ∷ rest
   told : IsTold rest
@@ -84,12 +81,12 @@ has_two i j ts h =
     let p = both (begins_so i ts) (reads_one j (drop 1 ts)) h in
     let a = has_first (is_item i) ts p.0 in
     let b = has_one j (drop 1 ts) p.1 in
-    record { one = a.first; two = b.one; is = a.passes; then = b.is; rest = b.rest; all = a.all ∙ ap (λ (x : List (List ℕ)). a.first ∷ x) b.all; told = b.told }
+    record { one = a.first; two = b.one; is = a.passes; is_two = b.is; rest = b.rest; all = a.all ∙ ap (λ (x : List (List ℕ)). a.first ∷ x) b.all; told = b.told }
 
 -- ---- accesses to boards
 
 swapped : (word p n : List ℕ) (q m : List ℕ) (ts rest : List (List ℕ)) → ts ≡ p ∷ n ∷ rest → p ≡ q → n ≡ m → AreAnswerTokens (word ∷ q ∷ m ∷ rest) → AreAnswerTokens (word ∷ ts)
-swapped word p n q m ts rest e f g h = of_rest word ts (q ∷ m ∷ rest) cc h
+swapped word p n q m ts rest e f g h = of_rest word ts (q ∷ m ∷ rest) (cc) h
 
 place_text_is : (word : List ℕ) (b w v : ℕ) → word ++ 32 ∷ (decimal b ++ (58 ∷ (decimal w ++ (32 ∷ decimal v)))) ≡ word ++ 32 ∷ (place_token b w ++ 32 ∷ decimal v)
 place_text_is word b w v = ap (λ (x : List ℕ). word ++ 32 ∷ x) (sym (append_assoc (decimal b) (58 ∷ decimal w) (32 ∷ decimal v)))
@@ -98,7 +95,7 @@ read_of : (ts : List (List ℕ)) → reads_two item.Place item.Number ts ≡ tru
 read_of ts h =
     let k = has_two item.Place item.Number ts h in
     let p = place_token_of k.one k.is in
-    let n = numeral k.two k.then in
+    let n = numeral k.two k.is_two in
     swapped (codes "read") k.one k.two (place_token p.board p.word) (decimal n.value) ts k.rest k.all p.token n.token
     (step_with (board_access (access.Read p.board p.word n.value)) (codes "read") (place_token p.board p.word ∷ decimal n.value ∷ []) k.rest (p.board_fits, p.word_fits, n.fits) (place_text_is (codes "read") p.board p.word n.value) k.told)
 
@@ -106,7 +103,7 @@ write_of : (ts : List (List ℕ)) → reads_two item.Place item.Number ts ≡ tr
 write_of ts h =
     let k = has_two item.Place item.Number ts h in
     let p = place_token_of k.one k.is in
-    let n = numeral k.two k.then in
+    let n = numeral k.two k.is_two in
     swapped (codes "write") k.one k.two (place_token p.board p.word) (decimal n.value) ts k.rest k.all p.token n.token
     (step_with (board_access (access.Write p.board p.word n.value)) (codes "write") (place_token p.board p.word ∷ decimal n.value ∷ []) k.rest (p.board_fits, p.word_fits, n.fits) (place_text_is (codes "write") p.board p.word n.value) k.told)
 
@@ -126,12 +123,12 @@ abbrev queue : List ℕ → List ℕ
 queue name = codes "queue:" ++ name
 
 yes_or_no : (word : List ℕ) (ts : List (List ℕ)) → ((name : List ℕ) (rest : List (List ℕ)) → is_event_name name ≡ true → IsTold rest → AreAnswerTokens (word ∷ bits name ∷ codes "yes" ∷ rest)) → ((name : List ℕ) (rest : List (List ℕ)) → is_event_name name ≡ true → IsTold rest → AreAnswerTokens (word ∷ bits name ∷ codes "no" ∷ rest)) → reads_two item.BitsEvent item.YesOrNo ts ≡ true → AreAnswerTokens (word ∷ ts)
-yes_or_no word ts yes no_ h =
+yes_or_no word ts for_yes for_no h =
     let k = has_two item.BitsEvent item.YesOrNo ts h in
     let e = event_token_of (codes "bits:") k.one k.is in
-    elim (either_word k.two (codes "yes") (codes "no") k.then) [
-      | inl y ↦ swapped word k.one k.two (bits e.name) (codes "yes") ts k.rest k.all e.token y (yes e.name k.rest e.named k.told)
-      | inr y ↦ swapped word k.one k.two (bits e.name) (codes "no") ts k.rest k.all e.token y (no_ e.name k.rest e.named k.told)
+    elim (either_word k.two (codes "yes") (codes "no") k.is_two) [
+      | inl y ↦ swapped word k.one k.two (bits e.name) (codes "yes") ts k.rest k.all e.token y (for_yes e.name k.rest e.named k.told)
+      | inr y ↦ swapped word k.one k.two (bits e.name) (codes "no") ts k.rest k.all e.token y (for_no e.name k.rest e.named k.told)
     ]
 
 listener_of : (ts : List (List ℕ)) → reads_two item.BitsEvent item.YesOrNo ts ≡ true → AreAnswerTokens (codes "listener" ∷ ts)
@@ -150,7 +147,7 @@ set_of : (ts : List (List ℕ)) → reads_two item.BitsEvent item.Number ts ≡ 
 set_of ts h =
     let k = has_two item.BitsEvent item.Number ts h in
     let e = event_token_of (codes "bits:") k.one k.is in
-    let n = numeral k.two k.then in
+    let n = numeral k.two k.is_two in
     swapped (codes "set") k.one k.two (bits e.name) (decimal n.value) ts k.rest k.all e.token n.token
     (event_with e.name (event_access.Set n.value) event_answer.Done (codes "set") (bits e.name ∷ decimal n.value ∷ []) k.rest (record { text = e.named; numbers = n.fits; answers = tt; reply = tt }) refl k.told)
 
@@ -158,7 +155,7 @@ clear_of : (ts : List (List ℕ)) → reads_two item.BitsEvent item.Number ts �
 clear_of ts h =
     let k = has_two item.BitsEvent item.Number ts h in
     let e = event_token_of (codes "bits:") k.one k.is in
-    let n = numeral k.two k.then in
+    let n = numeral k.two k.is_two in
     swapped (codes "clear") k.one k.two (bits e.name) (decimal n.value) ts k.rest k.all e.token n.token
     (event_with e.name (event_access.Clear n.value) event_answer.Done (codes "clear") (bits e.name ∷ decimal n.value ∷ []) k.rest (record { text = e.named; numbers = n.fits; answers = tt; reply = tt }) refl k.told)
 
@@ -170,7 +167,7 @@ two_numbers word ts made h =
     let e = event_token_of (codes "bits:") a.first a.passes in
     let k = has_two item.Number item.Number (drop 1 ts) p.1 in
     let w = numeral k.one k.is in
-    let v = numeral k.two k.then in
+    let v = numeral k.two k.is_two in
     let numbers : drop 1 ts ≡ decimal w.value ∷ decimal v.value ∷ k.rest = three k.one k.two (decimal w.value) (decimal v.value) (drop 1 ts) k.rest k.all w.token v.token in
     of_rest word ts (bits e.name ∷ decimal w.value ∷ decimal v.value ∷ k.rest) (two_heads ts (drop 1 ts) _ a.first (bits e.name) a.all e.token numbers) (made e.name w.value v.value k.rest e.named w.fits v.fits k.told)
   where
@@ -211,7 +208,7 @@ pop_of : (ts : List (List ℕ)) → reads_two item.QueueEvent item.NumberOrNone 
 pop_of ts h =
     let k = has_two item.QueueEvent item.NumberOrNone ts h in
     let e = event_token_of (codes "queue:") k.one k.is in
-    elim (either (bytes_eq k.two (codes "none")) (is_number k.two) k.then) [
+    elim (either (bytes_eq k.two (codes "none")) (is_number k.two) k.is_two) [
       | inl y ↦
           swapped (codes "pop") k.one k.two (queue e.name) (codes "none") ts k.rest k.all e.token (word_is k.two (codes "none") y)
           (event_with e.name event_access.Pop event_answer.Empty (codes "pop") (queue e.name ∷ codes "none" ∷ []) k.rest (record { text = e.named; numbers = tt; answers = tt; reply = tt }) refl k.told)
@@ -269,26 +266,39 @@ module _ (word : List ℕ) (ts : List (List ℕ)) where
 abbrev IsReasonText : List ℕ → Type 0
 IsReasonText t = AreAnswerTokens (codes "refused" ∷ t ∷ [])
 
-reason_at : (t v : List ℕ) (vs : List (List ℕ)) → list_any (bytes_eq t) (v ∷ vs) ≡ true → IsReasonText v → (list_any (bytes_eq t) vs ≡ true → IsReasonText t) → IsReasonText t
-reason_at t v vs h here more = at (either (bytes_eq t v) (list_any (bytes_eq t) vs) h)
-  where
-    at : (bytes_eq t v ≡ true) ⊎ (list_any (bytes_eq t) vs ≡ true) → IsReasonText t
-    at (inl e) = subst IsReasonText (sym (word_is t v e)) here
-    at (inr e) = more e
+each_reason : AllByRecursion IsReasonText reason_words
+each_reason = (
+  printed_is (a_refusal reason.Abandoned) tt,
+  (
+    printed_is (a_refusal reason.Busy) tt,
+    (
+      printed_is (a_refusal reason.Idle) tt,
+      (
+        printed_is (a_refusal reason.Unknown) tt,
+        (
+          printed_is (a_refusal reason.Taken) tt,
+          (
+            printed_is (a_refusal reason.Type) tt,
+            (
+              printed_is (a_refusal reason.Index) tt,
+              (
+                printed_is (a_refusal reason.Unfilled) tt,
+                (
+                  printed_is (a_refusal reason.NotWaiting) tt,
+                  (printed_is (a_refusal reason.NoBoard) tt, tt),
+                ),
+              ),
+            ),
+          ),
+        ),
+      ),
+    ),
+  ),
+)
 
 reason_of : (t : List ℕ) → is_reason t ≡ true → IsReasonText t
 unfolding is_reason
-reason_of t h =
-    reason_at t _ _ h (printed_is (a_refusal reason.Abandoned) tt) (λ h1.
-    reason_at t _ _ h1 (printed_is (a_refusal reason.Busy) tt) (λ h2.
-    reason_at t _ _ h2 (printed_is (a_refusal reason.Idle) tt) (λ h3.
-    reason_at t _ _ h3 (printed_is (a_refusal reason.Unknown) tt) (λ h4.
-    reason_at t _ _ h4 (printed_is (a_refusal reason.Taken) tt) (λ h5.
-    reason_at t _ _ h5 (printed_is (a_refusal reason.Type) tt) (λ h6.
-    reason_at t _ _ h6 (printed_is (a_refusal reason.Index) tt) (λ h7.
-    reason_at t _ _ h7 (printed_is (a_refusal reason.Unfilled) tt) (λ h8.
-    reason_at t _ _ h8 (printed_is (a_refusal reason.NotWaiting) tt) (λ h9.
-    reason_at t _ _ h9 (printed_is (a_refusal reason.NoBoard) tt) (λ h10. absurd cc))))))))))
+reason_of t h = among_at IsReasonText t reason_words each_reason h
 
 refusal_of : (ts : List (List ℕ)) → reads_last item.Reason ts ≡ true → AreAnswerTokens (codes "refused" ∷ ts)
 unfolding reads_last

@@ -1,10 +1,10 @@
 -- Which way the tests of a reader went.
-use Rattle.std.proofs.Common.{◌≡◌, ℕ, Bool, true, false, List, [], ◌∷◌, drop, refl, ◌⊎◌, inl, inr}
-use Rattle.std.specs.Prelude.{◌&&◌, ◌||◌, if◌then◌else◌}
-use Rattle.std.specs.List.{list_any}
+use Rattle.std.proofs.Common.{◌≡◌, ℕ, Bool, true, false, List, [], ◌∷◌, drop, refl, sym, subst, ◌⊎◌, inl, inr}
+use Rattle.std.specs.Prelude.{◌||◌, if◌then◌else◌}
+use Rattle.std.specs.List.{list_any, AllByRecursion}
 use Rattle.std.specs.Str.{bytes_eq}
 use Rattle.script_grammar.specs.LineReading.{begins_with}
-use Rattle.script_grammar.proofs.ReaderLemmas.{both, word_is}
+use Rattle.script_grammar.proofs.ReaderLemmas.{word_is}
 use Rattle.script_answers.specs.AnswerReading.{first_is}
 
 pub either : (a b : Bool) → (a || b) ≡ true → (a ≡ true) ⊎ (b ≡ true)
@@ -51,3 +51,12 @@ has_first test (t ∷ ts) e = record { first = t; passes = e; all = refl }
 pub has_word : (word : List ℕ) (ts : List (List ℕ)) → begins_with word ts ≡ true → ts ≡ word ∷ drop 1 ts
 has_word word [] e = absurd cc
 has_word word (t ∷ ts) e = let h : t ≡ word = word_is t word e in cc
+
+-- what holds of each of the words holds of one that is among them
+pub among_at : (P : List ℕ → Type 0) (t : List ℕ) (words : List (List ℕ)) → AllByRecursion P words → list_any (bytes_eq t) words ≡ true → P t
+among_at P t [] h e = absurd cc
+among_at P t (v ∷ vs) h e = at (either (bytes_eq t v) (list_any (bytes_eq t) vs) e) (λ more. among_at P t vs h.1 more)
+  where
+    at : (bytes_eq t v ≡ true) ⊎ (list_any (bytes_eq t) vs ≡ true) → (list_any (bytes_eq t) vs ≡ true → P t) → P t
+    at (inl is) go = subst P (sym (word_is t v is)) h.0
+    at (inr more) go = go more

@@ -1,6 +1,6 @@
 -- Tokens by themselves, both ways.
-use Rattle.std.proofs.Common.{◌≡◌, ℕ, ◌<◌, ◌^◌, Bool, true, false, List, [], ◌∷◌, ◌++◌, drop, length, arith, refl, sym, ap, subst, ◌∙◌, eqb, Option, Some, None, ◌⊎◌, inl, inr, lit<, map}
-use Rattle.std.specs.Prelude.{◌&&◌, ◌||◌, codes, decimal, if◌then◌else◌, slice_index}
+use Rattle.std.proofs.Common.{◌≡◌, ℕ, Bool, true, false, List, [], ◌∷◌, ◌++◌, drop, length, arith, refl, sym, ap, ◌∙◌, eqb, Option, Some, None, ◌⊎◌, inl, inr, lit<, map}
+use Rattle.std.specs.Prelude.{◌||◌, codes, decimal, if◌then◌else◌, slice_index}
 use Rattle.std.specs.Option.{is_some}
 use Rattle.std.specs.List.{join_with_byte, slice_split, AllByRecursion}
 use Rattle.std.specs.Str.{bytes_eq}
@@ -11,13 +11,13 @@ use Rattle.board_model.specs.declared.value.KeyType.{KeyType}
 use Rattle.board_model.specs.declared.value.KeyType.TheVariants as key_type
 use Rattle.board_model.specs.declared.value.ValueType.{ValueType}
 use Rattle.board_model.specs.declared.value.ValueType.TheVariants as type
-use Rattle.board_model.specs.LineGrammar.{IsKey, IsNumber, is_visible, key_text, key_type_text}
+use Rattle.board_model.specs.LineGrammar.{IsKey, IsNumber, key_text, key_type_text}
 use Rattle.board_model.specs.AnswerGrammar.{words_text}
 use Rattle.board_model.specs.TypeTable.{word_count}
 use Rattle.script_model.specs.ScriptGrammar.{is_event_name}
-use Rattle.script_grammar.specs.TokenReading.{behind, is_end, read_number}
+use Rattle.script_grammar.specs.TokenReading.{behind, read_number}
 use Rattle.script_grammar.proofs.NumeralLemmas.{number_again, number_takes}
-use Rattle.script_grammar.proofs.ReaderLemmas.{both, end_takes, word_is}
+use Rattle.script_grammar.proofs.ReaderLemmas.{both, end_takes}
 use Rattle.script_grammar.proofs.SplitLemmas.{IsFree, free_append, free_joined, free_number, free_visible, split_free, split_four}
 use Rattle.script_grammar.proofs.TokenLemmas.{behind_is}
 use Rattle.script_rules.specs.StepGroups.{place_token}

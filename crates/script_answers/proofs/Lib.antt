@@ -1,4 +1,5 @@
 pub mod CountLemmas
+pub mod GroupParts
 pub mod Joined
 pub mod Choices
 pub mod ItemLemmas

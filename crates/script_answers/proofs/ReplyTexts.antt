@@ -1,5 +1,5 @@
 -- Each reply is read.
-use Rattle.std.proofs.Common.{◌≡◌, ℕ, ◌<◌, Bool, true, false, List, [], ◌∷◌, ◌++◌, length, arith, refl, sym, ap, ◌∙◌, map, Option, Some, None}
+use Rattle.std.proofs.Common.{◌≡◌, ℕ, Bool, true, false, List, [], ◌∷◌, ◌++◌, arith, refl, sym, ap, ◌∙◌, map, Option, Some, None}
 use Rattle.std.specs.Prelude.{codes, decimal, IfSome, if◌then◌else◌, slice_index, ◌==◌}
 use Rattle.std.proofs.lemmas.List.{append-nil}
 use Rattle.board_model.specs.declared.value.ValueType.{ValueType}
@@ -29,10 +29,9 @@ use Rattle.script_model.specs.declared.reply.EventReply.TheVariants as event_rep
 use Rattle.script_model.specs.ScriptAnswers.{IsFormedReply, event_reply_text, notify_error_text}
 use Rattle.script_rules.specs.PrintedAnswers.{IsGivenReply, IsStepReply, IsWholeReply, StepReply, board_reply, events_reply, is_notify_reply, step_reply_text, step_told_text}
 use Rattle.script_grammar.proofs.SplitLemmas.{IsFree, free_name, free_visible}
-use Rattle.script_answers.specs.declared.item.Item.TheVariants as item
-use Rattle.script_answers.specs.AnswerReading.{is_item, is_key, is_number, is_whole_reply, labelled, reads_counts, reads_got, reads_info, reads_limits, reads_number, reads_reply, reads_told, is_value, reads_last_reply, reads_reply_of}
+use Rattle.script_answers.specs.AnswerReading.{is_key, is_number, is_whole_reply, labelled, reads_counts, reads_got, reads_info, reads_limits, reads_number, reads_reply, reads_told, is_value, reads_last_reply, reads_reply_of}
 use Rattle.script_answers.proofs.Joined.{AreFree, IsTaken, free_each, joined_append, joined_cons, joined_each}
-use Rattle.script_answers.proofs.ItemLemmas.{IsWhole, free_decimals, free_key, free_key_type, free_numeral, free_words, key_taken, key_type_taken, number_taken, words_taken}
+use Rattle.script_answers.proofs.ItemLemmas.{IsWhole, free_key, free_key_type, free_numeral, free_words, key_taken, key_type_taken, number_taken, words_taken}
 
 -- a reply that is read
 abbrev IsReadReply : List ℕ → Type 0
@@ -104,14 +103,14 @@ generation_read n h = record { parts = codes "gen" ∷ decimal n ∷ []; some = 
 
 -- ---- values
 
+bool_got : (b : Bool) (g : ℕ) → IsNumber g → reads_reply ((codes "bool:" ++ (if b then codes "false" else codes "true")) ∷ codes "gen" ∷ decimal g ∷ []) ≡ true
+unfolding reads_reply reads_reply_of reads_last_reply reads_got labelled is_value
+bool_got true g k = rw (number_taken g k) refl
+bool_got false g k = rw (number_taken g k) refl
+
 got_parts : (t : ValueType) (words : List ℕ) (g : ℕ) → IsWhole t words → IsNumber g → reads_reply (words_text t words ∷ codes "gen" ∷ decimal g ∷ []) ≡ true
 unfolding reads_reply reads_reply_of reads_last_reply reads_got labelled
-got_parts type.Bool words g h k = bool_got (slice_index words 0 == 0)
-  where
-    bool_got : (b : Bool) → reads_reply ((codes "bool:" ++ (if b then codes "false" else codes "true")) ∷ codes "gen" ∷ decimal g ∷ []) ≡ true
-    unfolding reads_reply reads_reply_of reads_last_reply reads_got labelled is_value
-    bool_got true = rw (number_taken g k) refl
-    bool_got false = rw (number_taken g k) refl
+got_parts type.Bool words g h k = bool_got (slice_index words 0 == 0) g k
 got_parts type.U64 words g h k = rw (words_taken type.U64 words h, number_taken g k) refl
 got_parts type.Q4 words g h k = rw (words_taken type.Q4 words h, number_taken g k) refl
 

@@ -1,15 +1,11 @@
 -- What is read as a reply is one.
-use Rattle.std.proofs.Common.{◌≡◌, ℕ, Bool, true, false, List, [], ◌∷◌, ◌++◌, drop, length, arith, refl, sym, ap, subst, ◌∙◌, map, Option, Some, None, ◌⊎◌, inl, inr}
-use Rattle.std.specs.Prelude.{codes, decimal, IfSome, ◌&&◌, ◌||◌, if◌then◌else◌}
-use Rattle.std.specs.List.{join_with_byte, list_all, list_any, AllByRecursion}
-use Rattle.std.specs.Str.{bytes_eq}
+use Rattle.std.proofs.Common.{◌≡◌, ℕ, Bool, true, false, List, [], ◌∷◌, ◌++◌, drop, arith, refl, sym, ap, subst, ◌∙◌, map, Option, Some, None, ◌⊎◌, inl, inr}
+use Rattle.std.specs.Prelude.{codes, decimal, IfSome, ◌&&◌, ◌||◌}
+use Rattle.std.specs.List.{join_with_byte, list_all, AllByRecursion}
 use Rattle.std.proofs.lemmas.List.{append-nil}
-use Rattle.board_model.specs.declared.answer.Reply.{Reply}
 use Rattle.board_model.specs.declared.answer.Reply.TheVariants as reply
 use Rattle.board_model.specs.declared.answer.Info.{Info}
-use Rattle.board_model.specs.declared.value.Key.{Key}
 use Rattle.board_model.specs.LineGrammar.{IsKey, IsNumber, is_board_name, is_name, key_text, key_type_text}
-use Rattle.board_model.specs.AnswerGrammar.{IsInfo, info_text, reply_text, words_text}
 use Rattle.board_names.specs.declared.errors.boards.BlackboardCreateError.TheVariants as create_error
 use Rattle.board_names.specs.declared.errors.boards.BlackboardOpenError.TheVariants as open_error
 use Rattle.board_names.specs.declared.errors.boards.ReaderCreateError.TheVariants as reader_error
@@ -21,11 +17,11 @@ use Rattle.script_model.specs.declared.reply.EventReply.TheVariants as event_rep
 use Rattle.script_rules.specs.PrintedAnswers.{IsStepReply, StepReply, board_reply, events_reply, step_reply_text, step_told_text}
 use Rattle.script_grammar.specs.LineReading.{begins_with}
 use Rattle.script_grammar.specs.TokenReading.{is_end}
-use Rattle.script_grammar.proofs.ReaderLemmas.{both, end_takes, word_is}
+use Rattle.script_grammar.proofs.ReaderLemmas.{both, end_takes}
 use Rattle.script_answers.specs.declared.item.Item.TheVariants as item
 use Rattle.script_answers.specs.AnswerReading.{begins_so, first_is, is_item, is_key, is_number, is_value, is_whole_reply, labelled, reads_counts, reads_got, reads_info, reads_last_reply, reads_limits, reads_number, reads_reply, reads_reply_of, reads_told, reply_words}
-use Rattle.script_answers.proofs.Choices.{either, has_first, has_word, test_at, word_at, words_at}
-use Rattle.script_answers.proofs.Joined.{joined_append, joined_cons, joined_each}
+use Rattle.script_answers.proofs.Choices.{among_at, either, has_first, has_word, test_at, word_at, words_at}
+use Rattle.script_answers.proofs.Joined.{joined_append, joined_each}
 use Rattle.script_answers.proofs.ItemLemmas.{key_token_of, key_type_of, numeral, value_token_of}
 
 -- the text is that of a reply
@@ -39,44 +35,78 @@ AreReplyTokens ts = IsReplyText (join_with_byte 32 ts)
 
 -- ---- words alone
 
-whole_at : (t : List ℕ) (v : List ℕ) (vs : List (List ℕ)) → list_any (bytes_eq t) (v ∷ vs) ≡ true → IsReplyText v → (list_any (bytes_eq t) vs ≡ true → IsReplyText t) → IsReplyText t
-whole_at t v vs h here more = at (either (bytes_eq t v) (list_any (bytes_eq t) vs) h)
-  where
-    at : (bytes_eq t v ≡ true) ⊎ (list_any (bytes_eq t) vs ≡ true) → IsReplyText t
-    at (inl e) = subst IsReplyText (sym (word_is t v e)) here
-    at (inr e) = more e
-
 by_reply : (r : StepReply) → IsStepReply r → IsReplyText (step_reply_text r)
 by_reply r h = record { reply = r; is = h; same = refl }
 
+each_word : AllByRecursion IsReplyText reply_words
+each_word = (
+  by_reply (board_reply (reply.Fresh true)) (tt, tt),
+  (
+    by_reply (board_reply (reply.Fresh false)) (tt, tt),
+    (
+      by_reply (events_reply event_reply.Nothing) (tt, tt),
+      (
+        by_reply (board_reply (reply.CreateError create_error.AlreadyExists)) (refl, tt),
+        (
+          by_reply (board_reply (reply.CreateError create_error.NoEntriesProvided)) (refl, tt),
+          (
+            by_reply (board_reply (reply.CreateError create_error.ServiceInCorruptedState)) (refl, tt),
+            (
+              by_reply (board_reply (reply.OpenError open_error.DoesNotExist)) (refl, tt),
+              (
+                by_reply (board_reply (reply.OpenError open_error.IncompatibleKeys)) (refl, tt),
+                (
+                  by_reply (board_reply (reply.OpenError open_error.IncompatibleAttributes)) (refl, tt),
+                  (
+                    by_reply (board_reply (reply.OpenError open_error.DoesNotSupportRequestedAmountOfReaders)) (refl, tt),
+                    (
+                      by_reply (board_reply (reply.OpenError open_error.DoesNotSupportRequestedAmountOfNodes)) (refl, tt),
+                      (
+                        by_reply (board_reply (reply.OpenError open_error.ExceedsMaxNumberOfNodes)) (refl, tt),
+                        (
+                          by_reply (board_reply (reply.ReaderError reader_error.ExceedsMaxSupportedReaders)) (refl, tt),
+                          (
+                            by_reply (board_reply (reply.WriterError writer_error.ExceedsMaxSupportedWriters)) (refl, tt),
+                            (
+                              by_reply (board_reply (reply.EntryError entry_error.EntryDoesNotExist)) (refl, tt),
+                              (
+                                by_reply (board_reply (reply.EntryMutError entry_mut_error.EntryDoesNotExist)) (refl, tt),
+                                (
+                                  by_reply (board_reply (reply.EntryMutError entry_mut_error.HandleAlreadyExists)) (refl, tt),
+                                  (
+                                    by_reply (events_reply event_reply.AlreadyExists) (tt, tt),
+                                    (
+                                      by_reply (events_reply event_reply.DoesNotExist) (tt, tt),
+                                      (
+                                        by_reply (events_reply (event_reply.NotNotified notify_error.FailedToDeliverSignal)) (tt, refl),
+                                        (
+                                          by_reply (events_reply (event_reply.NotNotified notify_error.TriggerIdOutOfBounds)) (tt, refl),
+                                          (by_reply (events_reply (event_reply.NotNotified notify_error.Disconnected)) (tt, refl), tt),
+                                        ),
+                                      ),
+                                    ),
+                                  ),
+                                ),
+                              ),
+                            ),
+                          ),
+                        ),
+                      ),
+                    ),
+                  ),
+                ),
+              ),
+            ),
+          ),
+        ),
+      ),
+    ),
+  ),
+)
+
 whole_reply : (t : List ℕ) → is_whole_reply t ≡ true → IsReplyText t
 unfolding is_whole_reply
-whole_reply t h =
-    whole_at t _ _ h (by_reply (board_reply (reply.Fresh true)) (tt, tt)) (λ h1.
-    whole_at t _ _ h1 (by_reply (board_reply (reply.Fresh false)) (tt, tt)) (λ h2.
-    whole_at t _ _ h2 (by_reply (events_reply event_reply.Nothing) (tt, tt)) (λ h3.
-    whole_at t _ _ h3 (by_reply (board_reply (reply.CreateError create_error.AlreadyExists)) (refl, tt)) (λ h4.
-    whole_at t _ _ h4 (by_reply (board_reply (reply.CreateError create_error.NoEntriesProvided)) (refl, tt)) (λ h5.
-    whole_at t _ _ h5 (by_reply (board_reply (reply.CreateError create_error.ServiceInCorruptedState)) (refl, tt)) (λ h6.
-    whole_at t _ _ h6 (by_reply (board_reply (reply.OpenError open_error.DoesNotExist)) (refl, tt)) (λ h7.
-    whole_at t _ _ h7 (by_reply (board_reply (reply.OpenError open_error.IncompatibleKeys)) (refl, tt)) (λ h8.
-    whole_at t _ _ h8 (by_reply (board_reply (reply.OpenError open_error.IncompatibleAttributes)) (refl, tt)) (λ h9.
-    whole_at t _ _ h9 (by_reply (board_reply (reply.OpenError open_error.DoesNotSupportRequestedAmountOfReaders)) (refl, tt)) (λ h10.
-    whole_at t _ _ h10 (by_reply (board_reply (reply.OpenError open_error.DoesNotSupportRequestedAmountOfNodes)) (refl, tt)) (whole_reply_more t)))))))))))
-  where
-    whole_reply_more : (t : List ℕ) → list_any (bytes_eq t) (drop 11 reply_words) ≡ true → IsReplyText t
-    whole_reply_more t h =
-        whole_at t _ _ h (by_reply (board_reply (reply.OpenError open_error.ExceedsMaxNumberOfNodes)) (refl, tt)) (λ h1.
-        whole_at t _ _ h1 (by_reply (board_reply (reply.ReaderError reader_error.ExceedsMaxSupportedReaders)) (refl, tt)) (λ h2.
-        whole_at t _ _ h2 (by_reply (board_reply (reply.WriterError writer_error.ExceedsMaxSupportedWriters)) (refl, tt)) (λ h3.
-        whole_at t _ _ h3 (by_reply (board_reply (reply.EntryError entry_error.EntryDoesNotExist)) (refl, tt)) (λ h4.
-        whole_at t _ _ h4 (by_reply (board_reply (reply.EntryMutError entry_mut_error.EntryDoesNotExist)) (refl, tt)) (λ h5.
-        whole_at t _ _ h5 (by_reply (board_reply (reply.EntryMutError entry_mut_error.HandleAlreadyExists)) (refl, tt)) (λ h6.
-        whole_at t _ _ h6 (by_reply (events_reply event_reply.AlreadyExists) (tt, tt)) (λ h7.
-        whole_at t _ _ h7 (by_reply (events_reply event_reply.DoesNotExist) (tt, tt)) (λ h8.
-        whole_at t _ _ h8 (by_reply (events_reply (event_reply.NotNotified notify_error.FailedToDeliverSignal)) (tt, refl)) (λ h9.
-        whole_at t _ _ h9 (by_reply (events_reply (event_reply.NotNotified notify_error.TriggerIdOutOfBounds)) (tt, refl)) (λ h10.
-        whole_at t _ _ h10 (by_reply (events_reply (event_reply.NotNotified notify_error.Disconnected)) (tt, refl)) (λ h11. absurd cc)))))))))))
+whole_reply t h = among_at IsReplyText t reply_words each_word h
 
 -- ---- a word and a number
 
@@ -272,8 +302,8 @@ info_reply ts h =
       nodes = l.counts.nodes;
     } in
     let tail : drop 1 (drop 1 ts) ≡ codes "readers" ∷ decimal l.readers ∷ codes "nodes" ∷ decimal l.nodes ∷ codes "writers" ∷ decimal l.writers
-        ∷ codes "entries" ∷ decimal l.counts.entries ∷ codes "attrs" ∷ decimal l.counts.attributes ∷ codes "taken" ∷ decimal l.counts.readers ∷ decimal l.counts.writers ∷ decimal l.counts.nodes ∷ []
-        = l.all ∙ ap (λ (x : List (List ℕ)). codes "readers" ∷ decimal l.readers ∷ codes "nodes" ∷ decimal l.nodes ∷ codes "writers" ∷ decimal l.writers ∷ x) l.counts.all in
+    ∷ codes "entries" ∷ decimal l.counts.entries ∷ codes "attrs" ∷ decimal l.counts.attributes ∷ codes "taken" ∷ decimal l.counts.readers ∷ decimal l.counts.writers ∷ decimal l.counts.nodes ∷ []
+    = l.all ∙ ap (λ (x : List (List ℕ)). codes "readers" ∷ decimal l.readers ∷ codes "nodes" ∷ decimal l.nodes ∷ codes "writers" ∷ decimal l.writers ∷ x) l.counts.all in
     let all = heads ts (drop 1 ts) _ a.first a.first a.all refl (heads (drop 1 ts) (drop 1 (drop 1 ts)) _ b.first (key_type_text k.0) b.all k.1 tail) in
     record {
       reply = board_reply (reply.Info i);

@@ -1,5 +1,5 @@
 -- The groups of an answer, as cursors into its text.
-use Rattle.std.specs.Prelude.{◌≡◌, not, if◌then◌else◌, List, ℕ, Option, Some, None}
+use Rattle.std.specs.Prelude.{◌≡◌, not, if◌then◌else◌, Option, Some, None}
 use Rattle.script_rules.specs.declared.rule.Rule.{Rule}
 use Rattle.script_rules.specs.declared.rule.Rule.TheVariants as rule
 use Rattle.script_rules.specs.AnswerGroups.{same_tokens}

@@ -1,5 +1,5 @@
 //! Whether a text is an answer.
-ghost use Rattle.std.specs.Prelude.{◌≡◌, ◌≤◌, ◌↔◌, IsTrue};
+ghost use Rattle.std.specs.Prelude.{◌≡◌, ◌≤◌, ◌+◌, ◌*◌, ◌↔◌, IsTrue};
 ghost use Rattle.script_grammar.specs.TokenReading.{split_tokens};
 ghost use Rattle.script_rules.specs.PrintedAnswers.{SpellsAnswer};
 ghost use Rattle.script_answers.specs.AnswerReading.{reads_answer, reads_last};
@@ -56,5 +56,8 @@ pub fn is_answer(n: u64, text: &[u8]) -> bool
     requires { n ≤ 4294967296 }
     ensures { IsTrue result ↔ SpellsAnswer n text.now }
 {
-    text.len() as u64 <= most_bytes(n) && are_of_answer(&mut Tokens::between(text, b' '))
+    if text.len() as u64 > most_bytes(n) {
+        return false;
+    }
+    are_of_answer(&mut Tokens::between(text, b' '))
 }

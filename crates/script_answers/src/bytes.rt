@@ -58,8 +58,7 @@ pub(crate) fn is_visible(text: &[u8], most: usize) -> bool
 fn has_name_bytes(text: &[u8]) -> bool
     ensures { result ≡ list_all is_name_byte text.now }
 {
-    text.iter()
-        .all(|b| (*b >= b'a' && *b <= b'z') || (*b >= b'0' && *b <= b'9'))
+    text.iter().all(|b| (*b >= b'a' && *b <= b'z') || (*b >= b'0' && *b <= b'9'))
 }
 
 pub(crate) fn is_name(text: &[u8]) -> bool

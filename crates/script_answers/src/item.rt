@@ -99,6 +99,7 @@ fn is_value(text: &[u8]) -> bool
     }
 }
 
+#[tactic(auto, unfolding(crate::specs::AnswerReading::is_reason))]
 fn is_reason(text: &[u8]) -> bool
     ensures { result ≡ reading.is_reason text.now }
 {
@@ -119,6 +120,7 @@ fn is_reason(text: &[u8]) -> bool
     )
 }
 
+#[tactic(auto, unfolding(crate::specs::AnswerReading::is_whole_reply))]
 fn is_whole_reply(text: &[u8]) -> bool
     ensures { result ≡ reading.is_whole_reply text.now }
 {

@@ -1,6 +1,6 @@
 //! The tokens of steps.
 ghost use Rattle.std.specs.Prelude.{◌≡◌};
-ghost use Rattle.script_answers.specs.AnswerReading.{reads_board_step, reads_event_step, reads_one, reads_step, reads_two};
+ghost use Rattle.script_answers.specs.AnswerReading.{reads_event_step, reads_one, reads_step, reads_two};
 
 use crate::bytes::is_word;
 use crate::item::Item;

@@ -163,14 +163,15 @@ impl<'a> Tokens<'a> {
     pub(crate) fn count_before_reply(&self) -> usize
         ensures { result ≡ length (before_reply self.now) }
     {
+        let most = self.most;
         let mut left = self.again();
-        for count in 0..self.most {
+        for count in 0..most {
             match left.next() {
                 Some(token) if !is_word(token, b"=") => {}
                 _ => return count,
             }
         }
-        self.most
+        most
     }
 
     // Whether these are the same tokens.

@@ -100,21 +100,21 @@ known limit bs (Err ReadFault) h past = record {
   too_long = past;
   lawful = λ n le k e. cc;
   broken = λ n r le k e. cc;
-  goes_on = λ k. tt;
+  goes_on = λ k. refl;
 }
 known limit bs (Err OutOfMemory) h past = record {
   verdict = h;
   too_long = past;
   lawful = λ n le k e. cc;
   broken = λ n r le k e. cc;
-  goes_on = λ k. tt;
+  goes_on = λ k. refl;
 }
 known limit bs (Err TooLong) h past = record {
   verdict = h;
   too_long = past;
   lawful = λ n le k. absurd (past_not_lawful (lines_of bs) limit n le (past refl) k);
   broken = λ n r le k. absurd (past_not_broken (lines_of bs) limit n r le (past refl) k);
-  goes_on = λ k. tt;
+  goes_on = λ k. refl;
 }
 
 pub both_ways : (limit : ℕ) (bytes : Option (List ℕ)) (result : Result Verdict CheckError) → IfOk result (IsVerdict limit bytes) → (IsErrOf result TooLong → GoesOnIn limit bytes) → Checks limit bytes result
@@ -126,3 +126,9 @@ both_ways limit None result h past = record {
   goes_on = λ k. absurd k;
 }
 both_ways limit (Some bs) result h past = known limit bs result h past
+
+pub told_ok : (limit : ℕ) (bytes : Option (List ℕ)) (v : Verdict) → IsVerdict limit bytes v → Checks limit bytes (Ok v)
+told_ok limit bytes v h = both_ways limit bytes (Ok v) h (λ e. absurd cc)
+
+pub told_past : (limit : ℕ) (bytes : Option (List ℕ)) → GoesOnIn limit bytes → Checks limit bytes (Err TooLong)
+told_past limit bytes h = both_ways limit bytes (Err TooLong) tt (λ e. h)

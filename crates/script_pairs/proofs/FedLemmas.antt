@@ -1,7 +1,8 @@
 -- Pairs that were read, and what is still to come.
-use Rattle.std.proofs.Common.{◌≡◌, ℕ, ◌+◌, ◌*◌, ◌<◌, ◌≤◌, List, [], ◌∷◌, ◌++◌, length, arith, refl, sym, ap, subst, ◌∙◌, append_assoc, Option, Some, None}
+use Rattle.std.proofs.Common.{◌≡◌, ℕ, ◌+◌, ◌-◌, ◌*◌, ◌<◌, ◌≤◌, List, [], ◌∷◌, ◌++◌, length, take, arith, refl, sym, ap, subst, ◌∙◌, append_assoc, Option, Some, None}
+use Rattle.std.specs.Prelude.{⊤}
 use Rattle.std.specs.Io.KnownBytes.{IsAtEnd, prepend_known}
-use Rattle.std.proofs.lemmas.List.{append-nil, length-append}
+use Rattle.std.proofs.lemmas.List.{append-nil, length-append, take-append-le, take_all}
 use Rattle.board_model.specs.Lines.{TakesLine, lines_of}
 use Rattle.script_model.specs.declared.line.ScriptLine.{ScriptLine}
 use Rattle.script_model.specs.ScriptGrammar.{SpellsLine}
@@ -18,8 +19,10 @@ use Rattle.script_rules.specs.PrintedAnswers.{SpellsAnswer}
 use Rattle.script_rules.specs.BrokenRules.{Breaks, Differs, IsAnswerText, IsLineText, broken_rule}
 use Rattle.script_rules.specs.SessionPairs.{AreLawful, BreaksAt, SpellsPairs, next_line}
 use Rattle.script_rules.proofs.GroupLemmas.{none_same, not_answer, not_line}
-use Rattle.script_rules.proofs.VerdictLemmas.{lawful_push, pairs_push}
-use Rattle.script_pairs.specs.PairLines.{HasLonger, IsLonger}
+use Rattle.script_rules.proofs.VerdictLemmas.{lawful_push, sessions_go_on}
+use Rattle.script_pairs.specs.declared.pair_lines.Found.{Found}
+use Rattle.script_pairs.specs.declared.pair_lines.Found.TheVariants as found
+use Rattle.script_pairs.specs.PairLines.{HasLonger, IsFound, IsLonger}
 use Rattle.script_pairs.specs.Checks.{AreLawfulIn, BreaksIn, GoOnAfter, GoesOnIn, HasTold}
 
 -- the first lines are the pairs of the session, and the others are those of what is left
@@ -158,6 +161,12 @@ module _ {T : Type 0} (stands : T → ℕ → ScriptState → Type 0) (t : T) (c
       numbered stands t count bytes left j rule.Answer (answer_breaks bytes left mid j.session text (Some answer) rule.Answer j.read j.lawful took (next_taken mid rest answer k)
       ((l, spelled), λ (x : SpellsAnswer (length j.session + 1) answer). none (subst (λ (n : ℕ). SpellsAnswer n answer) (sym count_is) x)))
 
+  -- nothing, too much, or no answer follows the line
+  pub is_unanswered : (f : Found) (most : ℕ) (rest : Option (List ℕ)) (answer : List ℕ) → most ≡ 1048576 + 17 * (count + 1) → IsFound f most answer mid rest → (f ≡ found.Line → SpellsAnswer (count + 1) answer → ⊥) → BreaksIn bytes (count + 1) rule.Answer
+  is_unanswered found.Line most rest answer e h none = is_no_answer rest answer h.0 (none refl)
+  is_unanswered found.Long most rest answer e h none = is_too_long (subst (λ (m : ℕ). HasLonger m mid) e h)
+  is_unanswered found.End most rest answer e h none = is_missing h
+
   -- the answer differs from the right one
   differs : (new : T) (line printed : List ℕ) (r : Rule) → (k : HasTold stands new j.session l line) → SpellsAnswer (count + 1) printed → broken_rule l (script_answer_text k.answer) printed ≡ Some r → Differs (state_after start j.session) (length j.session + 1) text (Some printed) r
   differs new line printed r k formed e = record {
@@ -182,22 +191,23 @@ differs_breaks s n text answer rule.Event h = h
 differs_breaks s n text answer rule.Reply h = h
 
 -- the pair was read
-pair_read : (bytes left mid rest : Option (List ℕ)) (session : Session) (text answer : List ℕ) (p : ScriptLine × ScriptAnswer) → HasRead bytes left session → TakesLine left mid text → TakesLine mid rest answer → SpellsLine text p.0 → answer ≡ script_answer_text p.1 → SpellsAnswer (1 + length session) answer → HasRead bytes rest (session ++ p ∷ [])
-pair_read None left mid rest session text answer p h t u l e k = tt
-pair_read (Some bs) None mid rest session text answer p h t u l e k = absurd h
-pair_read (Some bs) (Some ls) None rest session text answer p h t u l e k = absurd t
-pair_read (Some bs) (Some ls) (Some ms) None session text answer p h t u l e k = absurd u
-pair_read (Some bs) (Some ls) (Some ms) (Some rs) session text answer p h t u l e k = record {
+pair_read : (bytes left mid rest : Option (List ℕ)) (session : Session) (text answer : List ℕ) (l : ScriptLine) (right : ScriptAnswer) → HasRead bytes left session → IsLawful session → TakesLine left mid text → TakesLine mid rest answer → SpellsLine text l → IsRight (state_after start session) l right → answer ≡ script_answer_text right → SpellsAnswer (1 + length session) answer
+    → HasRead bytes rest (session ++ (l, right) ∷ [])
+pair_read None left mid rest session text answer l right h ok t u spelled is_right e k = tt
+pair_read (Some bs) None mid rest session text answer l right h ok t u spelled is_right e k = absurd h
+pair_read (Some bs) (Some ls) None rest session text answer l right h ok t u spelled is_right e k = absurd t
+pair_read (Some bs) (Some ls) (Some ms) None session text answer l right h ok t u spelled is_right e k = absurd u
+pair_read (Some bs) (Some ls) (Some ms) (Some rs) session text answer l right h ok t u spelled is_right e k = record {
   lines = h.lines ++ text ∷ answer ∷ [];
   all = h.all ∙ ap (λ (x : List (List ℕ)). h.lines ++ x) (t ∙ ap (λ (x : List (List ℕ)). text ∷ x) u) ∙ sym (append_assoc h.lines (text ∷ answer ∷ []) (lines_of rs));
-  spelled = pairs_push 1 h.lines session text answer p h.spelled l e k;
+  spelled = (sessions_go_on 1 h.lines session text answer l right ok h.spelled spelled is_right e k).1;
 }
 
-module _ {T : Type 0} (stands : T → ℕ → ScriptState → Type 0) (t new : T) (count : ℕ) (bytes left mid rest : Option (List ℕ)) (text answer line right : List ℕ) (j : HasJudged stands t count bytes left) (took : TakesLine left mid text) (l : ScriptLine) (spelled : SpellsLine text l) (then : TakesLine mid rest answer) (formed : SpellsAnswer (count + 1) answer) (k : HasTold stands new j.session l line) (is : right ≡ script_answer_text k.answer) where
+module _ {T : Type 0} (stands : T → ℕ → ScriptState → Type 0) (t new : T) (count : ℕ) (bytes left mid rest : Option (List ℕ)) (text answer line right : List ℕ) (j : HasJudged stands t count bytes left) (took : TakesLine left mid text) (l : ScriptLine) (spelled : SpellsLine text l) (answered : TakesLine mid rest answer) (formed : SpellsAnswer (count + 1) answer) (k : HasTold stands new j.session l line) (is : right ≡ script_answer_text k.answer) where
   pub is_broken : (r : Rule) → broken_rule l right answer ≡ Some r → BreaksIn bytes (count + 1) r
   is_broken r e =
       let d = differs stands t count bytes left mid text j took l spelled new line answer r k formed (subst (λ (x : List ℕ). broken_rule l x answer ≡ Some r) is e) in
-      numbered stands t count bytes left j r (answer_breaks bytes left mid j.session text (Some answer) r j.read j.lawful took (next_taken mid rest answer then) (differs_breaks (state_after start j.session) (length j.session + 1) text (Some answer) r d))
+      numbered stands t count bytes left j r (answer_breaks bytes left mid j.session text (Some answer) r j.read j.lawful took (next_taken mid rest answer answered) (differs_breaks (state_after start j.session) (length j.session + 1) text (Some answer) r d))
 
   -- one right pair more
   pub goes_on : broken_rule l right answer ≡ None → HasJudged stands new (count + 1) bytes rest
@@ -206,10 +216,10 @@ module _ {T : Type 0} (stands : T → ℕ → ScriptState → Type 0) (t new : T
       let p : ScriptLine × ScriptAnswer = (l, k.answer) in
       record {
         session = j.session ++ p ∷ [];
-        lawful = lawful_push start j.session p j.lawful k.right;
+        lawful = lawful_push j.session start p j.lawful k.right;
         state = subst (λ n. stands new n (state_after start (j.session ++ p ∷ []))) (sym (length_more j.session p)) (subst (stands new (length j.session + 1)) (sym (state_more start j.session p)) k.state);
         counted = length_more j.session p ∙ ap (λ n. n + 1) j.counted;
-        read = pair_read bytes left mid rest j.session text answer p j.read took then spelled same (subst (λ (n : ℕ). SpellsAnswer n answer) (omega (arith, j.counted)) formed);
+        read = pair_read bytes left mid rest j.session text answer l k.answer j.read j.lawful took answered spelled k.right same (subst (λ (n : ℕ). SpellsAnswer n answer) (omega (arith, j.counted)) formed);
       }
 
 -- ---- another line follows
@@ -233,3 +243,9 @@ past_read limit (Some bs) (Some ls) session h ok e more =
 
 pub is_past : {T : Type 0} (stands : T → ℕ → ScriptState → Type 0) (t : T) (count limit : ℕ) (bytes left : Option (List ℕ)) → HasJudged stands t count bytes left → count ≡ limit → HasMore left → GoesOnIn limit bytes
 is_past stands t count limit bytes left j e more = past_read limit bytes left j.session j.read j.lawful (j.counted ∙ e) more
+
+-- a line without its newline
+pub cut_line : (line text : List ℕ) → line ≡ text ++ 10 ∷ [] → take (length line - 1) line ≡ text
+cut_line line text e =
+    let n : length line - 1 ≡ length text = omega (arith, ap length e, length-append text (10 ∷ [])) in
+    rw (n, e) (take-append-le (length text) text (10 ∷ []) (omega arith) ∙ take_all (length text) text (omega arith))

@@ -1,10 +1,12 @@
 //! Pairs that are judged one after another.
-ghost use Rattle.std.specs.Prelude.{◌≡◌, ◌≢◌, ◌≤◌, ◌+◌, ◌<◌, ◌++◌, ◌∷◌, [], Err, IfOk, IsErrOf, OnOk, length, take, ◌-◌, ℕ};
+ghost use Rattle.std.specs.Prelude.{◌≡◌, ◌≢◌, ◌≤◌, ◌-◌, Err, IsErrOf, IsTrue, OnOk, false, length, take, ℕ};
 ghost use Rattle.board_model.specs.Lines.{Rose};
 ghost use Rattle.script_model.specs.ScriptGrammar.{IsScriptLine};
 ghost use Rattle.script_model.specs.ScriptSession.{Session, start};
 ghost use Rattle.script_model.specs.ScriptTurns.{ScriptState};
 ghost use Rattle.script_loop.specs.Machines.{StandsFor};
+ghost use Rattle.script_rules.specs.BrokenRules.{broken_rule};
+ghost use Rattle.script_rules.specs.PrintedAnswers.{SpellsAnswer};
 ghost use Rattle.script_pairs.specs.Checks.{Checks, TellsEach};
 
 use crate::pair_lines::{Found, PairLines};
@@ -44,6 +46,28 @@ fn without_newline(line: &[u8]) -> &[u8]
         [] => line,
         [text @ .., _] => text,
     }
+}
+
+// Whether a line was found that is an answer to the n-th line.
+fn is_answered(found: Found, n: u64, answer: &Vec<u8>) -> bool
+    requires { n ≤ 4294967296 }
+    ensures right { IsTrue result → SpellsAnswer n answer.now.items }
+    ensures line { IsTrue result → found ≡ Found.Line }
+    ensures wrong { result ≡ false → found ≡ Found.Line → SpellsAnswer n answer.now.items → ⊥ }
+{
+    match found {
+        Found::Line => is_answer(n, answer),
+        Found::Long => false,
+        Found::End => false,
+    }
+}
+
+// The rule that the answer breaks, where the line of the right one is this.
+fn rule_broken(asked: &ScriptLine, right: &Vec<u8>, answer: &Vec<u8>) -> Option<Rule>
+    ensures { result ≡ broken_rule asked.now
+        (take (length right.now.items - 1) right.now.items) answer.now.items }
+{
+    broken_rule_of(asked, without_newline(right), answer)
 }
 
 /// Judges the lines of the source in turn, a line of a script and then its answer, for at most `limit` pairs.
@@ -93,21 +117,20 @@ pub fn check_pairs<T: KnowsAnswers, S: Source>(
                 rule: Rule::Line,
             });
         };
-        match reader.next(source, most_bytes(pair) as usize, &mut answer)? {
-            Found::Line if is_answer(pair, &answer) => {}
-            _ => {
-                return Ok(Verdict::No {
-                    pair,
-                    rule: Rule::Answer,
-                });
-            }
+        let found = reader.next(source, most_bytes(pair) as usize, &mut answer)?;
+        if !is_answered(found, pair, &answer) {
+            return Ok(Verdict::No {
+                pair,
+                rule: Rule::Answer,
+            });
         }
         tables.right_answer(&asked, &mut right)?;
-        if let Some(rule) = broken_rule_of(&asked, without_newline(&right), &answer) {
+        if let Some(rule) = rule_broken(&asked, &right, &answer) {
             return Ok(Verdict::No { pair, rule });
         }
     }
-    if reader.is_at_end(source)? {
+    let ended = reader.is_at_end(source)?;
+    if ended {
         Ok(Verdict::Lawful { pairs: limit })
     } else {
         Err(CheckError::TooLong)
