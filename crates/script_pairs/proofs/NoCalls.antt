@@ -1,5 +1,5 @@
 -- What the tables of the tests tell is right.
-use Rattle.std.proofs.Common.{◌≡◌, ℕ, List, refl, sym, subst}
+use Rattle.std.proofs.Common.{◌≡◌, ℕ, List, [], ◌++◌, refl, sym, ap, ◌∙◌, subst}
 use Rattle.board_model.specs.declared.line.Line.TheVariants as board_line
 use Rattle.board_model.specs.declared.answer.Reason.TheVariants as reason
 use Rattle.board_model.specs.declared.answer.Answer.TheVariants as answer
@@ -36,3 +36,9 @@ told old new session party text h s e = record {
   state = subst (λ (x : ScriptState). after x (a_step party) is_idle ≡ start) (sym s.state) refl;
   told = e;
 }
+
+-- the answer to a step, written into what was cleared
+pub told_after : {T : Type 0} (old new : T) (session : Session) (l : ScriptLine) (party before text : List ℕ) → l ≡ a_step party → IsScriptLine l → StandsFor {M = T} (λ t n s. s ≡ start) old session → before ≡ [] → text ≡ before ++ script_answer_line is_idle → HasTold {T = T} (λ t n s. s ≡ start) new session l text
+told_after {T = T} old new session l party before text is h s none e =
+    subst (λ (x : ScriptLine). HasTold {T = T} (λ t n s. s ≡ start) new session x text) (sym is)
+    (told {T = T} old new session party text (subst IsScriptLine is h) s (e ∙ ap (λ (b : List ℕ). b ++ script_answer_line is_idle) none))

@@ -137,7 +137,6 @@ impl PairLines {
         most: usize,
         line: &mut Vec<u8>,
     ) -> Result<Found, CheckError>
-      
         requires one_source { has_ended self.old ≡ true → IsAtEnd (S.left source.old) }
         requires none { has_ended self.old ≡ true → in_hand self.old ≡ [] }
         ensures found { IfOk result (λ found. IsFound found most line.new.items
