@@ -1,21 +1,64 @@
-//! The life of a board, by typed calls.
+//! The life of a board, by typed calls under both policies and by lent forms.
+//!
+//! Each row is run twice, with the same expected answers. The steps are small, since each is proved before it is run.
+mod attributes;
+mod lent;
+mod loans;
+mod receipts;
+mod typed;
+
+use crate::callback_progression::CallbackProgression;
+use crate::creator::Creator;
 use crate::node::Node;
-use board_concepts::Shared;
+use crate::opener::Opener;
+use crate::service_builder::ServiceBuilder;
+use board_concepts::Policy;
 use board_handles::Domain;
 use board_names::{NodeName, ServiceName};
+use board_service::DynamicConfig;
+use std::alloc::Global;
 use std::process::Abort;
-use std::test::Fail;
 
-#[test]
-fn a_factory_tells_of_its_board(rt: HostRuntime) -> Result<(), Fail> {
-    let alloc = rt.alloc();
-    let domain = Domain::new(alloc)?;
-    let node = Node::new(&rt, &domain, NodeName::new("one")?)?;
-    let name = ServiceName::new("board")?;
-    let creator = node
-        .service_builder(&name)?
-        .blackboard_creator::<u64, Shared>(alloc);
-    let factory = creator.max_writers(2).add(1, 7u64)?.create(&rt)?;
-    assert_eq!(rt; factory.static_config().max_writers, 2);
-    Ok(())
+fn new_domain<R: Abort>(rt: &R, alloc: Global) -> Domain {
+    Domain::new(alloc).expect(rt, "memory")
+}
+
+fn node_name<R: Abort>(rt: &R, name: &str) -> NodeName {
+    NodeName::new(name).expect(rt, "a name")
+}
+
+fn builder<R: Abort>(rt: &R, node: &Node) -> ServiceBuilder {
+    let name = ServiceName::new("board").expect(rt, "a name");
+    node.service_builder(&name).expect(rt, "memory")
+}
+
+// What makes a board of a number and of a truth value, under the keys 1 and 2.
+fn creator<P: Policy, R: Abort>(rt: &R, alloc: Global, node: &Node) -> Creator<u64, P> {
+    let creator = builder(rt, node).blackboard_creator::<u64, P>(alloc);
+    let creator = creator.max_readers(1).max_nodes(2).max_writers(1);
+    let creator = creator.add(1, 7u64).expect(rt, "memory");
+    creator.add_with_default::<bool>(2).expect(rt, "memory")
+}
+
+fn opener<P: Policy, R: Abort>(rt: &R, alloc: Global, node: &Node) -> Opener<u64, P> {
+    let opener = builder(rt, node).blackboard_opener::<u64, P>(alloc);
+    opener.max_readers(1).max_nodes(2)
+}
+
+// One more digit, and whether a walk goes on: it does until it meets `last`.
+fn note(digits: &mut u64, digit: u64, last: u64) -> CallbackProgression {
+    *digits = digits.wrapping_mul(10).wrapping_add(digit);
+    if digit == last {
+        return CallbackProgression::Stop;
+    }
+    CallbackProgression::Continue
+}
+
+// How many readers, writer slots and nodes are taken.
+fn taken(readers: u64, writers: u64, nodes: u64) -> DynamicConfig {
+    DynamicConfig {
+        readers,
+        writers,
+        nodes,
+    }
 }

@@ -1,0 +1,240 @@
+//! By typed calls.
+use super::loans::publish_copy;
+use super::{creator, new_domain, node_name, note, opener, taken};
+use crate::messaging_pattern::MessagingPattern;
+use crate::node::Node;
+use crate::port_factory::PortFactory;
+use board_concepts::{Policy, Shared, Single};
+use board_handles::{Domain, EntryHandle, EntryHandleMut, Reader, Writer};
+use board_names::{EntryHandleError, EntryHandleMutError, ReaderCreateError, WriterCreateError};
+use std::alloc::Global;
+use std::process::Abort;
+use std::sync::Wait;
+
+pub(super) fn new_node<R: Wait + Abort>(rt: &R, domain: &Domain, name: &str) -> Node {
+    Node::new(rt, domain, node_name(rt, name)).expect(rt, "memory")
+}
+
+pub(super) fn new_board<P: Policy, R: Wait + Abort>(
+    rt: &R,
+    alloc: Global,
+    node: &Node,
+) -> PortFactory<u64, P> {
+    let made = creator::<P, R>(rt, alloc, node).create(rt);
+    made.expect(rt, "a free name")
+}
+
+fn open_board<P: Policy, R: Wait + Abort>(
+    rt: &R,
+    alloc: Global,
+    node: &Node,
+) -> PortFactory<u64, P> {
+    let opened = opener::<P, R>(rt, alloc, node).open(rt);
+    opened.expect(rt, "a board")
+}
+
+// The board as one node made it, and as another opened it.
+#[derive(Drop)]
+struct Boards<P> {
+    made: PortFactory<u64, P>,
+    opened: PortFactory<u64, P>,
+}
+
+fn make_boards<P: Policy, R: Wait + Abort>(rt: &R, alloc: Global) -> Boards<P> {
+    let domain = new_domain(rt, alloc);
+    let first = new_node(rt, &domain, "first");
+    let second = new_node(rt, &domain, "second");
+    let made = new_board::<P, R>(rt, alloc, &first);
+    let opened = open_board::<P, R>(rt, alloc, &second);
+    Boards { made, opened }
+}
+
+pub(super) fn new_reader<P, R: Wait + Abort>(
+    rt: &R,
+    factory: &PortFactory<u64, P>,
+) -> Reader<u64, P> {
+    let builder = factory.reader_builder().expect(rt, "memory");
+    builder.create(rt).expect(rt, "room for a reader")
+}
+
+pub(super) fn new_writer<P, R: Wait + Abort>(
+    rt: &R,
+    factory: &PortFactory<u64, P>,
+) -> Writer<u64, P> {
+    let builder = factory.writer_builder().expect(rt, "memory");
+    builder.create(rt).expect(rt, "room for a writer")
+}
+
+pub(super) fn read_handle<P, R: Wait + Abort>(
+    rt: &R,
+    reader: &Reader<u64, P>,
+) -> EntryHandle<u64, u64, P> {
+    reader.entry::<u64, R>(rt, &1).expect(rt, "an entry")
+}
+
+pub(super) fn write_handle<P, R: Wait + Abort>(
+    rt: &R,
+    writer: &Writer<u64, P>,
+) -> EntryHandleMut<u64, u64, P> {
+    writer.entry::<u64, R>(rt, &1).expect(rt, "a free entry")
+}
+
+// The digits of the nodes, those of the keys, and those of the keys up to the first.
+fn walks<P, R: Wait>(rt: &R, factory: &PortFactory<u64, P>) -> (u64, u64, u64) {
+    let (mut nodes, mut keys, mut first) = (0, 0, 0);
+    factory.nodes(rt, |node| note(&mut nodes, node.0, 9));
+    factory.list_keys(rt, |key| note(&mut keys, *key, 9));
+    factory.list_keys(rt, |key| note(&mut first, *key, 1));
+    (nodes, keys, first)
+}
+
+// The SHA-1 of `Blackboard/board`.
+const HASH: &[u8; 40] = b"081dc64409fb18fc57b4c36aa849ea376ffb7f25";
+
+// What is fixed of a board, both factories tell alike.
+fn are_of_one_board<P, R: Abort>(rt: &R, made: &PortFactory<u64, P>, opened: &PortFactory<u64, P>) {
+    assert_eq!(rt; made.unique_service_id(), 1);
+    assert_eq!(rt; opened.unique_service_id(), 1);
+    assert_eq!(rt; opened.name(), made.name());
+    assert_eq!(rt; opened.static_config(), made.static_config());
+    let hash = made.service_hash().as_base64url();
+    assert_eq!(rt; hash.as_bytes(), HASH.as_slice());
+}
+
+fn limits_are_told<P, R: Abort>(rt: &R, board: &PortFactory<u64, P>) {
+    let config = *board.static_config();
+    assert_eq!(rt; config.entries, 2);
+    assert_eq!(rt; (config.max_readers, config.max_writers), (1, 1));
+    let pattern = MessagingPattern::Blackboard(config);
+    assert!(rt; pattern.is_same_pattern(&MessagingPattern::Blackboard(config)));
+}
+
+fn ports_are_counted<P, R: Wait + Abort>(
+    rt: &R,
+    made: &PortFactory<u64, P>,
+    opened: &PortFactory<u64, P>,
+) {
+    let writer = new_writer(rt, made);
+    let reader = new_reader(rt, opened);
+    assert_eq!(rt; (writer.id().0, reader.id().0), (1, 2));
+    assert_eq!(rt; made.dynamic_config(rt), taken(1, 1, 2));
+    reader.release(rt);
+    assert_eq!(rt; made.dynamic_config(rt), taken(0, 1, 2));
+    writer.release(rt);
+}
+
+fn told<P: Policy, R: Wait + Abort>(rt: &R, alloc: Global) {
+    let Boards { made, opened } = make_boards::<P, R>(rt, alloc);
+    are_of_one_board(rt, &made, &opened);
+    limits_are_told(rt, &opened);
+    assert_eq!(rt; walks(rt, &opened), (12, 12, 1));
+    ports_are_counted(rt, &made, &opened);
+    made.release(rt);
+    assert_eq!(rt; opened.dynamic_config(rt), taken(0, 0, 1));
+    opened.release(rt);
+}
+
+#[test]
+fn a_board_is_told_under_both_policies(rt: HostRuntime) {
+    told::<Shared, HostRuntime>(&rt, rt.alloc());
+    told::<Single, HostRuntime>(&rt, rt.alloc());
+}
+
+// Publishes 9, which a reader sees at once.
+fn update<P, R: Wait + Abort>(
+    rt: &R,
+    write: &mut EntryHandleMut<u64, u64, P>,
+    read: &mut EntryHandle<u64, u64, P>,
+) {
+    let before = read.get(rt);
+    assert_eq!(rt; (*before.get_ref(), before.generation()), (7, 1));
+    assert!(rt; read.is_up_to_date(&before), "nothing was published");
+    publish_copy(write, 9);
+    assert!(rt; !read.is_up_to_date(&before), "it was published");
+    let after = read.get(rt);
+    assert_eq!(rt; (*after.get_ref(), after.generation()), (9, 2));
+}
+
+// Asks for what there is not.
+fn refusals<P, R: Wait + Abort>(rt: &R, reader: &Reader<u64, P>, writer: &Writer<u64, P>) {
+    let second = writer.entry::<u64, R>(rt, &1).err();
+    assert_eq!(rt; second, Some(EntryHandleMutError::HandleAlreadyExists));
+    let missing = reader.entry::<u64, R>(rt, &3).err();
+    assert_eq!(rt; missing, Some(EntryHandleError::EntryDoesNotExist));
+    let other_type = reader.entry::<u32, R>(rt, &1).err();
+    assert_eq!(rt; other_type, Some(EntryHandleError::EntryDoesNotExist));
+}
+
+// A number's entry begins the board's cells, and the truth value's comes after it.
+fn places<P, R: Wait + Abort>(
+    rt: &R,
+    reader: &Reader<u64, P>,
+    write: &EntryHandleMut<u64, u64, P>,
+) {
+    let number = read_handle(rt, reader);
+    assert_eq!(rt; write.entry_id(), number.entry_id());
+    let truth = reader.entry::<bool, R>(rt, &2).expect(rt, "an entry");
+    assert_eq!(rt; truth.entry_id().as_value(), 32);
+}
+
+fn copied<P: Policy, R: Wait + Abort>(rt: &R, alloc: Global) {
+    let Boards { made, opened } = make_boards::<P, R>(rt, alloc);
+    let writer = new_writer(rt, &made);
+    let reader = new_reader(rt, &opened);
+    let mut write = write_handle(rt, &writer);
+    let mut read = read_handle(rt, &reader);
+    places(rt, &reader, &write);
+    update(rt, &mut write, &mut read);
+    refusals(rt, &reader, &writer);
+    write.release(rt);
+    let again = write_handle(rt, &writer);
+    assert_eq!(rt; again.generation(), 2, "its end was parked");
+}
+
+#[test]
+fn values_are_copied_under_both_policies(rt: HostRuntime) {
+    copied::<Shared, HostRuntime>(&rt, rt.alloc());
+    copied::<Single, HostRuntime>(&rt, rt.alloc());
+}
+
+// What may go to another thread.
+fn is_send<T: Send>(value: T) -> T {
+    value
+}
+
+#[test]
+fn ports_and_handles_go_to_other_threads(rt: HostRuntime) {
+    let Boards { made, opened } = make_boards::<Shared, HostRuntime>(&rt, rt.alloc());
+    let writer = is_send(new_writer(&rt, &made));
+    let reader = is_send(new_reader(&rt, &opened));
+    let write = is_send(write_handle(&rt, &writer));
+    is_send(read_handle(&rt, &reader)).release(&rt);
+    if write.generation() < u64::MAX {
+        is_send(write.loan_uninit()).release(&rt);
+    }
+    is_send(made).release(&rt);
+}
+
+#[test]
+fn a_builder_goes_with_its_factory(rt: HostRuntime) {
+    let Boards { made, opened } = make_boards::<Shared, HostRuntime>(&rt, rt.alloc());
+    let reader = made.reader_builder().expect(&rt, "memory");
+    let writer = made.writer_builder().expect(&rt, "memory");
+    made.release(&rt);
+    let no_reader = reader.create(&rt).err();
+    assert_eq!(rt; no_reader, Some(ReaderCreateError::ThingUnknown(1)));
+    let no_writer = writer.create(&rt).err();
+    assert_eq!(rt; no_writer, Some(WriterCreateError::ThingUnknown(1)));
+    opened.release(&rt);
+}
+
+#[test]
+fn nodes_are_numbered(rt: HostRuntime) {
+    let domain = new_domain(&rt, rt.alloc());
+    let first = new_node(&rt, &domain, "first");
+    let shared = domain.share().expect(&rt, "memory");
+    let second = new_node(&rt, &shared, "second");
+    assert_eq!(rt; (first.id().0, second.id().0), (1, 2));
+    assert_eq!(rt; second.name().as_bytes(), b"second".as_slice());
+    assert_eq!(rt; domain.lock(&rt).nodes, 2);
+}
