@@ -53,14 +53,14 @@ pub mod port {
     /// Readers and read handles.
     pub mod reader {
         pub use board_cell::GetAgain;
-        pub use board_handles::{BlackboardValue, EntryHandle, Reader};
+        pub use board_handles::{BlackboardValue, EntryHandle, ReadEnd, Reader};
         pub use board_names::{EntryHandleError, ReaderCreateError};
     }
 
     /// Writers, write handles and loans.
     pub mod writer {
         pub use board_cell::Receipt;
-        pub use board_handles::{EntryHandleMut, EntryValueUninit, Writer};
+        pub use board_handles::{EntryHandleMut, EntryValueUninit, SentReceipt, Writer};
         pub use board_names::{EntryHandleMutError, WriterCreateError};
     }
 }
@@ -144,8 +144,9 @@ pub mod event {
 }
 
 // A value between threads without keys; policies, static storage, monitoring and channels; types as words and keys; the
-// tables of boards as plain data.
+// tables of boards as plain data, and whole calls on their entries for a thread that has them alone.
 pub use board_cell as cell;
 pub use board_concepts as concepts;
 pub use board_layout as layout;
+pub use board_seats as seats;
 pub use board_service as tables;
