@@ -1,0 +1,2 @@
+pub mod DriveEndings
+pub mod DriveSteps

@@ -1,0 +1,5 @@
+pub mod DriveGrammar
+pub mod DrivenParties
+pub mod Drivers
+pub mod DriveRuns
+pub mod Exchanges

@@ -1,0 +1,4 @@
+pub mod AnswerLooks
+pub mod DriveReading
+pub mod Given
+pub mod KeptOf

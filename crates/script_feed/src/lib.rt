@@ -1,0 +1,19 @@
+//! What programs that drive parties have in common: lines from bytes, lines that are given to a machine of scripts and
+//! their answers, and what is kept of each driven party.
+//!
+//! `parse_drive` reads a line. `give` gives one to a machine, and writes it with its answer; `is_refusal` and `got_of` look
+//! at an answer. `write_step` and `write_get` make the lines of a get. `Parties` keeps something for each party.
+#![tactic(auto)]
+
+mod answers;
+mod give;
+mod lines;
+mod parse;
+mod parties;
+mod words;
+
+pub use answers::{got_of, is_refusal};
+pub use give::{give, say};
+pub use lines::{abandoned_by, held_back, write_get, write_step};
+pub use parse::parse_drive;
+pub use parties::Parties;

@@ -1,0 +1,55 @@
+//! What is kept of parties.
+ghost use Rattle.std.specs.Prelude.{◌≡◌, List, ℕ, None, Some, OnOk, if◌then◌else◌, option_copied};
+ghost use Rattle.std.specs.Str.{bytes_eq};
+ghost use Rattle.script_feed.specs.KeptOf.{kept_of};
+
+use board_model::Name;
+use std::alloc::{AllocError, AllocFailed, Global};
+use std::collections::HashMap;
+
+/// Something for each of some parties, found by the party's name.
+#[derive(Drop)]
+pub struct Parties<T> {
+    rows: HashMap<Name, T>,
+}
+
+impl<T: Drop> Parties<T> {
+    /// Nothing is kept. Takes no memory.
+    pub fn new(alloc: Global) -> Parties<T>
+        ensures { (p : List ℕ) → kept_of result p ≡ None }
+    {
+        Parties {
+            rows: HashMap::new(alloc),
+        }
+    }
+
+    /// What is kept of the party.
+    pub fn of(&self, party: &Name) -> Option<&T>
+        ensures { option_copied result ≡ kept_of self.now party.now }
+    {
+        self.rows.get(party)
+    }
+
+    /// Takes out what is kept of the party.
+    pub fn take(&mut self, party: &Name) -> Option<T>
+        ensures taken { result ≡ kept_of self.old party.now }
+        ensures rest { (p : List ℕ) → kept_of self.new p
+            ≡ (if bytes_eq p party.now then None else kept_of self.old p) }
+    {
+        self.rows.remove(party)
+    }
+
+    /// Keeps this of the party from now on.
+    ///
+    /// # Errors
+    /// `AllocError` where memory is refused.
+    pub fn keep(&mut self, party: Name, kept: T) -> Result<(), AllocError>
+        ensures { OnOk result ((p : List ℕ) → kept_of self.new p
+            ≡ (if bytes_eq p party then Some kept else kept_of self.old p)) }
+    {
+        match self.rows.insert(party, kept) {
+            Ok(_) => Ok(()),
+            Err(_) => Err(AllocError),
+        }
+    }
+}

@@ -1,0 +1,4 @@
+pub mod AliveLemmas
+pub mod FedLemmas
+pub mod TakingLaws
+pub mod TakingLemmas

@@ -1,0 +1,3 @@
+pub mod LawsOfTakings
+pub mod SnapshotExchanges
+pub mod Takings
