@@ -1,3 +1,1 @@
-pub mod MachineLemmas
-pub mod ShotLemmas
-pub mod TurnLemmas
+pub mod TopLemmas

@@ -1,3 +1,1 @@
-pub mod Machines
-pub mod Shots
 pub mod Top

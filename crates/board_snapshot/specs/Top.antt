@@ -4,10 +4,10 @@ use Rattle.script_model.specs.ScriptSession as script
 use Rattle.script_loop.specs.declared.error.ScriptError.{ScriptError}
 use Rattle.script_loop.specs.Runs.{Gains, Stream}
 use Rattle.board_script.specs.Top.{IsNoted, note_of, status_of}
-use Rattle.script_drive.specs.declared.line.Drive.TheVariants.{Snapshots}
-use Rattle.script_drive.specs.declared.line.DriveLine.TheVariants.{Turn}
+use Rattle.script_exchanges.specs.declared.line.Drive.TheVariants.{Snapshots}
+use Rattle.script_exchanges.specs.declared.line.DriveLine.TheVariants.{Turn}
 use Rattle.script_drive.specs.DriveRuns.{DriveRuns}
-use Rattle.script_drive.specs.Exchanges.{AreLinesOf, Exchanges, Told, fed_session, output_of}
+use Rattle.script_exchanges.specs.Exchanges.{AreLinesOf, Exchanges, Told, fed_session, output_of}
 use Rattle.script_snapshots.specs.LawsOfTakings.{IsOfOneMoment, IsShortTaking, IsWhole}
 use Rattle.script_snapshots.specs.Takings.{Taking}
 use Rattle.script_snapshots.specs.SnapshotExchanges.{IsLawful, Leads, Takings, no_takings}

@@ -4,14 +4,11 @@
 //! gives P its next line. P gets the entries in rounds; the first round whose generations are those of the round before
 //! ends the snapshot, and is written. So the values are those of one moment, right after the round before.
 //!
-//! `snapshot_words` runs a script from a source to a sink. `SnapshotMachine` answers its lines, over any machine of scripts.
+//! `snapshot_words` runs a script from a source to a sink. The definitions stand in `script_snapshots`.
 #![tactic(auto)]
 
-mod machine;
-mod shot;
 #[cfg(test)]
 mod tests;
 mod top;
 
-pub use machine::SnapshotMachine;
 pub use top::{run_program, snapshot_words};

@@ -6,12 +6,12 @@ ghost use Rattle.board_script.specs.Top.{IsNoted};
 ghost use Rattle.script_loop.specs.Runs.{stream_of};
 ghost use Rattle.board_snapshot.specs.Top.{IsAnswered, IsSnapshotRun, usage_note};
 
-use crate::machine::SnapshotMachine;
 use board_cell::SeatWords;
 use script_drive::run_driven;
 use script_endings::{end_with, refuse_words};
 use script_loop::{Sink, Source};
 use script_machine::Machine;
+use script_shots::SnapshotMachine;
 use std::alloc::Global;
 use std::process::ExitCode;
 

@@ -11,12 +11,12 @@ use Rattle.script_loop.specs.declared.error.ScriptError.{ScriptError}
 use Rattle.script_loop.specs.declared.error.ScriptError.TheVariants.{ReadFault, WriteFault, BadLine, TooLong, OutOfMemory}
 use Rattle.script_loop.specs.Reader.{HasLongLine}
 use Rattle.script_loop.specs.Runs.{CountStays, CountsOn, HasFailed, Stream}
-use Rattle.script_drive.specs.declared.line.Drive.{Drive}
-use Rattle.script_drive.specs.declared.line.DriveLine.{DriveLine}
-use Rattle.script_drive.specs.DriveGrammar.{SpellsDrive, SpellsNoDrive}
+use Rattle.script_exchanges.specs.declared.line.Drive.{Drive}
+use Rattle.script_exchanges.specs.declared.line.DriveLine.{DriveLine}
+use Rattle.script_exchanges.specs.DriveGrammar.{SpellsDrive, SpellsNoDrive}
 use Rattle.script_drive.specs.DriveRuns.{DriveRuns, IsBadAt, IsPast, IsReadCut, IsRunOf, IsSpent, IsWriteCut}
 use Rattle.script_drive.specs.Drivers.{HasRun, HasTold}
-use Rattle.script_drive.specs.Exchanges.{Answered, AreLinesOf, BeginsWith, Exchange, Exchanges, FollowedBy, GoesOnAfter, IsDriveScript, LeavesGrammarAfter, SpellsAll, output_of, text_of}
+use Rattle.script_exchanges.specs.Exchanges.{Answered, AreLinesOf, BeginsWith, Exchange, Exchanges, FollowedBy, GoesOnAfter, IsDriveScript, LeavesGrammarAfter, SpellsAll, output_of, text_of}
 use Rattle.script_drive.proofs.DriveSteps.{HasRunOn, answered_more, length_more, output_more, whole_kept}
 
 -- ---- where the input is known, what is left says what follows

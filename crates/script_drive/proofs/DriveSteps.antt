@@ -7,11 +7,11 @@ use Rattle.std.proofs.lemmas.List.{append-nil, length-append}
 use Rattle.board_model.specs.Lines.{IsOneLine, lines_of, TakesLine}
 use Rattle.script_loop.specs.WholeLines.{LosesLine, with_newlines}
 use Rattle.script_loop.proofs.LineLemmas.{takes_line}
-use Rattle.script_drive.specs.declared.line.Drive.{Drive}
-use Rattle.script_drive.specs.DriveGrammar.{SpellsDrive}
+use Rattle.script_exchanges.specs.declared.line.Drive.{Drive}
+use Rattle.script_exchanges.specs.DriveGrammar.{SpellsDrive}
 use Rattle.script_drive.specs.DriveRuns.{HasWholeLines}
 use Rattle.script_drive.specs.Drivers.{HasRun, HasTold, StandsFor}
-use Rattle.script_drive.specs.Exchanges.{Answered, Exchange, Exchanges, SpellsAll, output_of, text_of}
+use Rattle.script_exchanges.specs.Exchanges.{Answered, Exchange, Exchanges, SpellsAll, output_of, text_of}
 
 -- ---- one exchange more
 

@@ -7,8 +7,8 @@ use Rattle.script_loop.specs.declared.error.ScriptError.{ScriptError}
 use Rattle.script_loop.specs.declared.error.ScriptError.TheVariants.{ReadFault, WriteFault, BadLine, TooLong, OutOfMemory}
 use Rattle.script_loop.specs.Runs.{CountStays, CountsOn, Gains, HasFailed, Stream}
 use Rattle.script_loop.specs.WholeLines.{with_newlines}
-use Rattle.script_drive.specs.declared.line.Drive.{Drive}
-use Rattle.script_drive.specs.Exchanges.{AreLinesOf, BeginsWith, Exchanges, GoesOnAfter, IsDriveScript, LeavesGrammarAfter, SpellsAll, output_of}
+use Rattle.script_exchanges.specs.declared.line.Drive.{Drive}
+use Rattle.script_exchanges.specs.Exchanges.{AreLinesOf, BeginsWith, Exchanges, GoesOnAfter, IsDriveScript, LeavesGrammarAfter, SpellsAll, output_of}
 
 -- ---- lines that were whole when they were read
 

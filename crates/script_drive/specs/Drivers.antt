@@ -1,10 +1,10 @@
 -- Drivers that answer lines, and how far a run of one has come.
 use Rattle.std.specs.Prelude.{◌≡◌, ℕ, ◌<◌, ◌^◌, List, [], ◌∷◌, ◌++◌, length, Option}
 use Rattle.std.specs.Io.KnownBytes.{Appends}
-use Rattle.script_drive.specs.declared.line.Drive.{Drive}
-use Rattle.script_drive.specs.declared.line.DriveLine.{DriveLine}
-use Rattle.script_drive.specs.DriveGrammar.{SpellsDrive}
-use Rattle.script_drive.specs.Exchanges.{Answered, Exchanges, Told, output_of, text_of}
+use Rattle.script_exchanges.specs.declared.line.Drive.{Drive}
+use Rattle.script_exchanges.specs.declared.line.DriveLine.{DriveLine}
+use Rattle.script_exchanges.specs.DriveGrammar.{SpellsDrive}
+use Rattle.script_exchanges.specs.Exchanges.{Answered, Exchanges, Told, output_of, text_of}
 
 -- the driver stands for these exchanges, which are lawful and few
 pub record StandsFor {M : Type 0} (Lawful : Exchanges → Type 0) (stands : M → Exchanges → Type 0) (m : M) (xs : Exchanges) : Type 0 where

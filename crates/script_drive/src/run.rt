@@ -2,11 +2,11 @@
 ghost use Rattle.std.specs.Prelude.{◌≡◌, ◌≢◌, ◌≤◌, ◌<◌, [], IfSome, IsErrOf, OnErr, OnOk, false};
 ghost use Rattle.script_loop.specs.Reader.{in_hand, source_ended};
 ghost use Rattle.script_loop.specs.Runs.{stream_of};
-ghost use Rattle.script_drive.specs.declared.line.Drive.{Drive};
-ghost use Rattle.script_drive.specs.DriveGrammar.{SpellsNoDrive};
+ghost use Rattle.script_exchanges.specs.declared.line.Drive.{Drive};
+ghost use Rattle.script_exchanges.specs.DriveGrammar.{SpellsNoDrive};
 ghost use Rattle.script_drive.specs.DriveRuns.{DriveRuns};
 ghost use Rattle.script_drive.specs.Drivers.{StandsFor, StandsStill, TellsEach};
-ghost use Rattle.script_drive.specs.Exchanges.{Exchanges};
+ghost use Rattle.script_exchanges.specs.Exchanges.{Exchanges};
 
 use script_loop::{Fetched, LineError, LineReader, ScriptError, Sink, Source, write_whole};
 use std::alloc::Global;
@@ -102,6 +102,7 @@ pub fn run_driven<D: Drives, S: Source, K: Sink>(
     match reader.next(source) {
         Err(_) => Err(ScriptError::ReadFault),
         Ok(Fetched::End) => Ok(()),
-        Ok(_) => Err(ScriptError::TooLong),
+        Ok(Fetched::Long) => Err(ScriptError::TooLong),
+        Ok(Fetched::Line) => Err(ScriptError::TooLong),
     }
 }

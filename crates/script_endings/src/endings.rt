@@ -14,23 +14,29 @@ fn note<N: Sink>(notes: &mut N, text: &[u8])
     let _ = write_whole(notes, text);
 }
 
-// The note of an error, with its newline.
-fn note_text(error: ScriptError) -> Text<80>
-    ensures { result ≡ note_of (Err error) }
+// The note of a line outside the grammar.
+fn bad_line(n: u64) -> Text<80>
+    ensures { result ≡ note_of (Err (ScriptError.BadLine n)) }
 {
-    let mut text = Text::of(b"");
-    match error {
-        ScriptError::ReadFault => text.push(b"read fault\n"),
-        ScriptError::WriteFault => text.push(b"write fault\n"),
-        ScriptError::TooLong => text.push(b"too long\n"),
-        ScriptError::OutOfMemory => text.push(b"out of memory\n"),
-        ScriptError::BadLine(n) => {
-            text.push(b"line ");
-            text.push(Buffer::new().format(n).as_bytes());
-            text.push(b": not in the grammar\n");
-        }
-    }
+    let mut buffer = Buffer::new();
+    let mut text: Text<80> = Text::of(b"line ");
+    text.push(buffer.format(n).as_bytes());
+    text.push(b": not in the grammar\n");
     text
+}
+
+// The status of an error, and its note with the newline.
+fn ending_of(error: ScriptError) -> (u8, Text<80>)
+    ensures status { result.0 ≡ status_of (Err error) }
+    ensures note { result.1 ≡ note_of (Err error) }
+{
+    match error {
+        ScriptError::ReadFault => (3, Text::of(b"read fault\n")),
+        ScriptError::WriteFault => (4, Text::of(b"write fault\n")),
+        ScriptError::BadLine(n) => (5, bad_line(n)),
+        ScriptError::TooLong => (6, Text::of(b"too long\n")),
+        ScriptError::OutOfMemory => (7, Text::of(b"out of memory\n")),
+    }
 }
 
 /// The status of a run's answer. An error is noted.
@@ -38,16 +44,13 @@ pub fn end_with<N: Sink>(answer: Result<(), ScriptError>, notes: &mut N) -> u8
     ensures is { result ≡ status_of answer }
     ensures noted { IsNoted (stream_of N.held N.faults notes.old notes.new) (note_of answer) }
 {
-    let Err(error) = answer else {
-        return 0;
-    };
-    note(notes, note_text(error).as_bytes());
-    match error {
-        ScriptError::ReadFault => 3,
-        ScriptError::WriteFault => 4,
-        ScriptError::BadLine(_) => 5,
-        ScriptError::TooLong => 6,
-        ScriptError::OutOfMemory => 7,
+    match answer {
+        Ok(()) => 0,
+        Err(error) => {
+            let (status, text) = ending_of(error);
+            note(notes, text.as_bytes());
+            status
+        }
     }
 }
 

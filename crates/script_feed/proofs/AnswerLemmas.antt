@@ -23,8 +23,8 @@ use Rattle.script_model.specs.declared.reply.EventReply.{EventReply}
 use Rattle.script_model.specs.ScriptAnswers.{ScriptAnswer, expired, of_ask, of_boards, of_event, script_answer_line}
 use Rattle.script_grammar.specs.TokenReading.{read_number}
 use Rattle.script_grammar.proofs.NumeralLemmas.{number_again}
-use Rattle.script_grammar.proofs.SplitLemmas.{IsFree, bare, free_append, free_joined, free_number}
-use Rattle.script_drive.specs.DrivenParties.{Got, is_refused}
+use Rattle.script_grammar.proofs.SplitLemmas.{IsFree, free_append, free_joined, free_lacks, free_number}
+use Rattle.script_exchanges.specs.DrivenParties.{Got, is_refused}
 use Rattle.script_feed.specs.AnswerLooks.{EndsGet, GoesOnGet, HasGot, lacks}
 
 -- ---- refusals
@@ -57,6 +57,9 @@ refusal_is (of_event k name x a told) = event_refusal k name x a told
 refusal_is expired = refl
 
 -- ---- the first place of a byte
+
+bare : (c : ℕ) (text : List ℕ) → lacks c text ≡ true → AllByRecursion (λ b. eqb b c ≡ false) text
+bare c text h = recursion_from_All (λ b. eqb b c ≡ false) text (free_lacks c text h)
 
 -- where a byte stands behind a text that lacks it
 first_place : (c : ℕ) (a b : List ℕ) (at : ℕ) → eqb c c ≡ true → AllByRecursion (λ x. eqb x c ≡ false) a → get_or (a ++ c ∷ b) at 0 ≡ c → AllByRecursion (λ x. eqb x c ≡ false) (take at (a ++ c ∷ b)) → at < length (a ++ c ∷ b) → at ≡ length a

@@ -1,14 +1,14 @@
 -- The lines of scripts whose parties can be driven are read back from their bytes, and what is read is spelled so.
-use Rattle.std.proofs.Common.{◌≡◌, ℕ, ◌<◌, ◌≤◌, Bool, true, false, List, [], ◌∷◌, ◌++◌, length, eqb, refl, sym, ap, subst, ◌∙◌, arith, Option, Some, None}
-use Rattle.std.specs.Prelude.{◌&&◌, ◌||◌, codes, nat_le, IfNone, IfSome}
+use Rattle.std.proofs.Common.{◌≡◌, ℕ, ◌+◌, ◌<◌, ◌≤◌, Bool, true, false, List, [], ◌∷◌, ◌++◌, length, eqb, refl, sym, ap, subst, ◌∙◌, arith, zero-add, Option, Some, None}
+use Rattle.std.specs.Prelude.{◌&&◌, ◌||◌, codes, nat_le, IfNone, IfOk, IfSome, Result, Ok, Err}
 use Rattle.std.specs.Str.{bytes_eq}
 use Rattle.std.specs.List.{AllByRecursion, join_with_byte, list_all, slice_split}
-use Rattle.std.proofs.lemmas.Bool.{false≢true, leb-true, le-leb}
+use Rattle.std.proofs.lemmas.Bool.{false≢true}
 use Rattle.std.proofs.lemmas.List.Splits.{join_with_byte-slice_split, length-slice_split}
 use Rattle.board_model.specs.LineGrammar.{is_name}
 use Rattle.board_model.specs.declared.line.Line.{Line}
 use Rattle.board_model.specs.declared.line.Line.TheVariants as board_line
-use Rattle.board_model.proofs.ThingLemmas.{same_bytes, same_to_itself}
+use Rattle.std.proofs.lemmas.Slice.Eq.{bytes_eq-Decides}
 use Rattle.script_model.specs.declared.line.ScriptLine.{ScriptLine}
 use Rattle.script_model.specs.declared.line.ScriptLine.TheVariants as line
 use Rattle.script_model.specs.ScriptGrammar.{SpellsLine, script_tokens}
@@ -17,13 +17,16 @@ use Rattle.script_grammar.proofs.ReaderLemmas.{bind_some, both, end_takes, first
 use Rattle.script_grammar.proofs.SpaceLemmas.{split_script}
 use Rattle.script_grammar.proofs.SplitLemmas.{IsFree, free_name, split_free}
 use Rattle.script_grammar.proofs.TokenLemmas.{name_again, name_takes}
-use Rattle.script_drive.specs.declared.line.Drive.{Drive}
-use Rattle.script_drive.specs.declared.line.Drive.TheVariants.{Snapshots, Watchers}
-use Rattle.script_drive.specs.declared.line.DriveLine.{DriveLine}
-use Rattle.script_drive.specs.declared.line.DriveLine.TheVariants.{Script, Start, Turn}
-use Rattle.script_drive.specs.DriveGrammar.{AreThings, IsDriveLine, SpellsDrive, SpellsNoDrive, drive_tokens, least_things, most_things, start_word}
-use Rattle.script_feed.specs.DriveReading.{IsPlainLine, has_place_for, read_start, read_turn}
-use Rattle.script_feed.proofs.WordLemmas.{each_named, named_each}
+use Rattle.script_exchanges.specs.declared.line.Drive.{Drive}
+use Rattle.script_exchanges.specs.declared.line.Drive.TheVariants.{Snapshots, Watchers}
+use Rattle.script_exchanges.specs.declared.line.DriveLine.{DriveLine}
+use Rattle.script_exchanges.specs.declared.line.DriveLine.TheVariants.{Script, Start, Turn}
+use Rattle.script_exchanges.specs.DriveGrammar.{AreThings, IsDriveLine, SpellsDrive, SpellsNoDrive, drive_tokens, least_things, most_things, start_word}
+use Rattle.script_feed.specs.DriveReading.{IsPlainLine, are_things, has_place_for, read_start, read_turn}
+use Rattle.script_feed.proofs.WordLemmas.{each_named, is_place, named_each, place_is}
+
+pub same_bytes : (a b : List ℕ) → bytes_eq a b ≡ true → a ≡ b
+same_bytes a b e = (bytes_eq-Decides a b).0 e
 
 -- ---- a turn
 
@@ -51,14 +54,6 @@ turn_again party h = rw (name_again party h) refl
 
 -- ---- the line that starts to drive a party
 
-place_is : (d : Drive) (n : ℕ) → has_place_for d n ≡ true → (least_things d ≤ n) × (n ≤ most_things d)
-place_is d n e =
-    let k = both (nat_le (least_things d) n) (nat_le n (most_things d)) e in
-    (leb-true (least_things d) n k.0, leb-true n (most_things d) k.1)
-
-is_place : (d : Drive) (n : ℕ) → least_things d ≤ n → n ≤ most_things d → has_place_for d n ≡ true
-is_place d n low high = rw (le-leb (least_things d) n low, le-leb n (most_things d) high) refl
-
 pub record IsStartOf (d : Drive) (ts : List (List ℕ)) (l : DriveLine) : Type 0 where
   pub party : List ℕ
   pub things : List (List ℕ)
@@ -69,12 +64,12 @@ pub record IsStartOf (d : Drive) (ts : List (List ℕ)) (l : DriveLine) : Type 0
 
 start_takes : (d : Drive) (ts : List (List ℕ)) (l : DriveLine) → read_start d ts ≡ Some l → IsStartOf d ts l
 start_takes d ts l e =
-    let p = bind_some (first_by read_name ts) (λ p. guard (list_all is_name p.1 && has_place_for d (length p.1)) (Some (Start p.0 p.1))) l e in
+    let p = bind_some (first_by read_name ts) (λ p. guard (are_things d 0 p.1) (Some (Start p.0 p.1))) l e in
     let t = first_takes read_name ts p.0 p.1 in
     let n = name_takes t.token p.0.0 t.is in
-    let g = guard_some (list_all is_name p.0.1 && has_place_for d (length p.0.1)) (Some (Start p.0.0 p.0.1)) l p.2 in
-    let b = both (list_all is_name p.0.1) (has_place_for d (length p.0.1)) g.0 in
-    let place = place_is d (length p.0.1) b.1 in
+    let g = guard_some (are_things d 0 p.0.1) (Some (Start p.0.0 p.0.1)) l p.2 in
+    let b = both (list_all is_name p.0.1) (has_place_for d (0 + length p.0.1)) g.0 in
+    let place = place_is d (length p.0.1) (subst (λ (n : ℕ). has_place_for d n ≡ true) (zero-add (length p.0.1)) b.1) in
     record {
       party = p.0.0;
       things = p.0.1;
@@ -85,7 +80,7 @@ start_takes d ts l e =
     }
 
 start_again : (d : Drive) (party : List ℕ) (things : List (List ℕ)) → is_name party ≡ true → AreThings d things → read_start d (party ∷ things) ≡ Some (Start party things)
-start_again d party things h are = rw (name_again party h, each_named things are.named, is_place d (length things) are.least are.most) refl
+start_again d party things h are = rw (name_again party h, each_named things are.named, zero-add (length things), is_place d (length things) are.least are.most) refl
 
 -- ---- tokens
 
@@ -220,3 +215,10 @@ module _ (d : Drive) (bytes : List ℕ) (short : length bytes ≤ 4096) (word : 
       none (Script l) s = h l (record { line = s.line; bytes = s.bytes; short = s.short })
       none (Start party things) s = no_start (head_is word (start_word d) ts (party ∷ things) (sym words ∙ split_drive d bytes (Start party things) s))
       none (Turn party) s = no_turn (head_is word (codes "turn") ts (party ∷ []) (sym words ∙ split_drive d bytes (Turn party) s))
+
+-- ---- results
+
+-- what holds of a result that is Ok leads to more
+pub ok_so : {A E : Type 0} (r : Result A E) (Q P : A → Type 0) → ((x : A) → Q x → P x) → IfOk r Q → IfOk r P
+ok_so (Ok x) Q P f h = f x h
+ok_so (Err e) Q P f h = tt

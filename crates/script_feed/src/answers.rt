@@ -1,6 +1,6 @@
 //! What is looked at in answers.
 ghost use Rattle.std.specs.Prelude.{◌≡◌, ◌+◌, ◌++◌, ◌∷◌, [], ℕ, List, true, IsNone, IsSomeAnd, length};
-ghost use Rattle.script_drive.specs.DrivenParties.{Got, is_refused};
+ghost use Rattle.script_exchanges.specs.DrivenParties.{Got, is_refused};
 ghost use Rattle.script_feed.specs.AnswerLooks.{EndsGet, GoesOnGet, HasGot, IsAnswerOf, lacks};
 ghost use Rattle.script_model.specs.ScriptAnswers.{ScriptAnswer};
 
@@ -20,7 +20,7 @@ fn behind(text: &[u8], byte: u8, skipped: usize) -> Option<&[u8]>
     ensures none { lacks byte text.now ≡ true → IsNone result }
 {
     let at = place_of(text, byte)?;
-    if text.len() < at + skipped {
+    if text.len() - at < skipped {
         return None;
     }
     Some(&text[at + skipped..])

@@ -6,14 +6,14 @@
 #![tactic(auto)]
 
 mod answers;
-mod give;
+mod giving;
 mod lines;
 mod parse;
 mod parties;
 mod words;
 
 pub use answers::{got_of, is_refusal};
-pub use give::{give, say};
+pub use giving::{give, say};
 pub use lines::{abandoned_by, held_back, write_get, write_step};
 pub use parse::parse_drive;
 pub use parties::Parties;

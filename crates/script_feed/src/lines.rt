@@ -3,7 +3,7 @@ ghost use Rattle.std.specs.Prelude.{◌≡◌, None, OnOk};
 ghost use Rattle.board_model.specs.declared.line.Call.TheVariants as calls;
 ghost use Rattle.board_model.specs.declared.line.Line.TheVariants as lines;
 ghost use Rattle.board_model.specs.LineGrammar.{spell};
-ghost use Rattle.script_drive.specs.DrivenParties as driven;
+ghost use Rattle.script_exchanges.specs.DrivenParties as driven;
 
 use board_model::{Line, Name};
 use script_model::ScriptLine;

@@ -1,12 +1,12 @@
 //! Lines, from their bytes.
 ghost use Rattle.std.specs.Prelude.{◌≡◌, IfNone, IfOk, IfSome};
 ghost use Rattle.std.specs.Str.{bytes_eq};
-ghost use Rattle.script_drive.specs.DriveGrammar.{SpellsDrive, SpellsNoDrive, start_word};
-ghost use Rattle.script_feed.specs.DriveReading.{IsPlainLine, has_place_for, read_start, read_turn};
+ghost use Rattle.script_exchanges.specs.DriveGrammar.{SpellsDrive, SpellsNoDrive, start_word};
+ghost use Rattle.script_feed.specs.DriveReading.{IsPlainLine, read_start, read_turn};
 ghost use Rattle.script_loop.specs.Machines.{SpellsNone};
 
 use crate::words::Words;
-use script_drive::{Drive, DriveLine};
+use script_exchanges::{Drive, DriveLine};
 use script_parse::parse_line;
 use std::alloc::{AllocError, Global};
 
@@ -29,16 +29,6 @@ fn is_start_word(drive: Drive, word: &[u8]) -> bool
     }
 }
 
-// Whether so many things may be named.
-fn has_place_for(drive: Drive, things: usize) -> bool
-    ensures { result ≡ has_place_for drive things }
-{
-    match drive {
-        Drive::Snapshots => things >= 1 && things <= 16,
-        Drive::Watchers => things >= 2 && things <= 17,
-    }
-}
-
 fn turn_of(words: &mut Words) -> Option<DriveLine>
     ensures { result ≡ read_turn words.old }
 {
@@ -50,20 +40,13 @@ fn turn_of(words: &mut Words) -> Option<DriveLine>
 }
 
 // Memory is taken for the names alone.
-fn start_of(
-    alloc: Global,
-    drive: Drive,
-    words: &mut Words,
-) -> Result<Option<DriveLine>, AllocError>
+fn start_of(alloc: Global, drive: Drive, words: &mut Words) -> Result<Option<DriveLine>, AllocError>
     ensures { IfOk result (λ o. o ≡ read_start drive words.old) }
 {
     let Some(party) = words.name() else {
         return Ok(None);
     };
-    let Some(count) = words.again().count_names() else {
-        return Ok(None);
-    };
-    if !has_place_for(drive, count) {
+    if !words.again().are_things(drive) {
         return Ok(None);
     }
     let things = words.names(alloc)?;

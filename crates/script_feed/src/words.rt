@@ -1,12 +1,14 @@
 //! The words of a line, taken from the front.
-ghost use Rattle.std.specs.Prelude.{◌≡◌, ◌==◌, ◌∷◌, [], MatchOption, Some, IfOk, length, true};
-ghost use Rattle.std.specs.List.{list_all, slice_split};
+ghost use Rattle.std.specs.Prelude.{◌≡◌, ◌∷◌, [], MatchOption, IfOk, true};
+ghost use Rattle.std.specs.List.{list_all};
 ghost use Rattle.board_model.specs.LineGrammar.{is_name, is_name_byte};
-ghost use Rattle.script_grammar.specs.TokenReading.{first_by, guard, is_end, read_name, split_tokens};
+ghost use Rattle.script_grammar.specs.TokenReading.{first_by, is_end, read_name, split_tokens};
+ghost use Rattle.script_feed.specs.DriveReading.{are_things, has_place_for};
 ghost use Rattle.script_parse.specs.Tokens.{parts_left, with_rest};
 
 use board_layout::Text;
 use board_model::{Name, Names};
+use script_exchanges::Drive;
 use script_parse::place_of;
 use std::alloc::{AllocError, Global};
 use std::marker::Model;
@@ -26,10 +28,32 @@ impl<'a> Model for Words<'a> {
     ghost view = { λ t. parts_left 32 t.rest };
 }
 
-fn is_name_byte(b: u8) -> bool
-    ensures { result ≡ is_name_byte b }
+// The most things that a line names.
+const MOST_THINGS: usize = 17;
+
+// Whether so many things may be named.
+fn has_place_for(drive: Drive, things: usize) -> bool
+    ensures { result ≡ has_place_for drive things }
 {
-    (b >= b'a' && b <= b'z') || (b >= b'0' && b <= b'9')
+    match drive {
+        Drive::Snapshots => things >= 1 && things <= 16,
+        Drive::Watchers => things >= 2 && things <= MOST_THINGS,
+    }
+}
+
+fn has_name_bytes(text: &[u8]) -> bool
+    ensures { result ≡ list_all is_name_byte text.now }
+{
+    text.iter().all(|b| (*b >= b'a' && *b <= b'z') || (*b >= b'0' && *b <= b'9'))
+}
+
+fn is_name(text: &[u8]) -> bool
+    ensures { result ≡ is_name text.now }
+{
+    if text.is_empty() || text.len() > 16 {
+        return false;
+    }
+    has_name_bytes(text)
 }
 
 // The name that the text is.
@@ -37,10 +61,7 @@ fn is_name_byte(b: u8) -> bool
 fn name_of(text: &[u8]) -> Option<Name>
     ensures { result ≡ read_name text.now }
 {
-    if text.is_empty() || text.len() > 16 {
-        return None;
-    }
-    if !text.iter().all(|b| is_name_byte(*b)) {
+    if !is_name(text) {
         return None;
     }
     Some(Text::of(text))
@@ -93,19 +114,25 @@ impl<'a> Words<'a> {
         self.rest.is_none()
     }
 
-    // How many words are left, where all of them are names.
-    pub(crate) fn count_names(&mut self) -> Option<usize>
-        ensures { result ≡ guard (list_all is_name self.old) (Some (length self.old)) }
+    // Whether all words that are left are names, and as many as may be.
+    pub(crate) fn are_things(&mut self, drive: Drive) -> bool
+        ensures { result ≡ are_things drive 0 self.old }
     {
         let mut count = 0;
         while let Some(word) = self.next() {
-            name_of(word)?;
+            if !is_name(word) {
+                return false;
+            }
+            if count >= MOST_THINGS {
+                return false;
+            }
             count += 1;
         }
-        Some(count)
+        has_place_for(drive, count)
     }
 
     // The names that are left.
+    #[tactic(auto, unfolding(script_grammar::specs::TokenReading::read_name))]
     pub(crate) fn names(&mut self, alloc: Global) -> Result<Names, AllocError>
         requires { list_all is_name self.old ≡ true }
         ensures { IfOk result (λ names. names ≡ self.old) }

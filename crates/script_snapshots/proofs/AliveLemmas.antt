@@ -1,19 +1,16 @@
 -- A party that isn't gone: lines of others leave it so, and so do its own gets; its abandonment isn't refused.
-use Rattle.std.proofs.Common.{◌≡◌, ℕ, Bool, true, false, List, [], ◌∷◌, ◌++◌, refl, sym, ap, subst, ◌∙◌, Option, Some, None}
+use Rattle.std.proofs.Common.{◌≡◌, ℕ, false, List, [], ◌∷◌, ◌++◌, refl, sym, ap, subst, ◌∙◌, Option, Some, None}
 use Rattle.board_cell_model.specs.declared.access.Access.{Access}
 use Rattle.board_model.specs.declared.answer.Answer.{Answer}
 use Rattle.board_model.specs.declared.answer.Answer.TheVariants as answer
-use Rattle.board_model.specs.declared.answer.Reason.{Reason}
 use Rattle.board_model.specs.declared.answer.Reply.{Reply}
 use Rattle.board_model.specs.declared.line.Call.TheVariants as call
 use Rattle.board_model.specs.declared.line.Line.TheVariants as board_line
 use Rattle.board_model.specs.LawfulSession as boards
 use Rattle.board_model.specs.LawfulSession.{IsReasoned, abandon_reason, after_step}
-use Rattle.board_model.specs.LawsOfOthers.{IsLeft}
-use Rattle.board_model.specs.Parties.{Party, Running, begun, free, gone, running}
+use Rattle.board_model.specs.Parties.{Party, Running, begun, free, gone, notice, running}
 use Rattle.board_model.specs.Requests.{Request, request_of}
 use Rattle.board_model.proofs.KeptLemmas.{party_here}
-use Rattle.script_model.specs.declared.line.ScriptLine.{ScriptLine}
 use Rattle.script_model.specs.declared.line.ScriptLine.TheVariants as line
 use Rattle.script_model.specs.ScriptAnswers.{ScriptAnswer, of_boards}
 use Rattle.script_model.specs.ScriptTurns.{ScriptState}
@@ -21,12 +18,12 @@ use Rattle.script_model.specs.ScriptSession.{IsLawful, IsRight, Session, after}
 use Rattle.script_model.specs.LawsOfComposition.{Pair, of_pair, state_met}
 use Rattle.script_model.specs.LawsOfLines.{names}
 use Rattle.script_model.specs.LawsOfRules.{IsBoardAnswer}
-use Rattle.script_model.proofs.CompositionLemmas.{sound_at}
 use Rattle.script_model.proofs.LineLaws.{lines_leave}
 use Rattle.script_model.proofs.RuleLemmas.{ruled}
 use Rattle.script_moments.specs.Moments.{Moment, left}
 use Rattle.script_moments.proofs.GetWalks.{own_begin, own_step}
-use Rattle.script_drive.specs.DrivenParties.{is_refused}
+use Rattle.script_moments.proofs.RoundLemmas.{sound_at}
+use Rattle.script_exchanges.specs.DrivenParties.{is_refused}
 use Rattle.script_snapshots.proofs.FedLemmas.{met_more}
 
 -- the party isn't gone
@@ -46,7 +43,7 @@ left_there gone new stays runs there g = there refl
 pub others_leave_alive : (fed : Session) (party : List ℕ) (pair : Pair) → IsLawful fed → IsRight (state_met fed) pair.0 pair.1 → names party pair.0 ≡ false → IsAlive fed party → IsAlive (fed ++ pair ∷ []) party
 others_leave_alive fed party pair ok right off alive =
     let s : ScriptState = state_met fed in
-    let k = (lines_leave s pair.0 pair.1 party (sound_at fed ok).boards right off).boards in
+    let k = (lines_leave s pair.0 pair.1 party (sound_at fed ok) right off).boards in
     let there : IsThere ((after s pair.0 pair.1).boards.parties party) = left_there (s.boards.parties party) ((after s pair.0 pair.1).boards.parties party) k.stays_free k.runs alive in
     subst (λ (t : ScriptState). IsThere (t.boards.parties party)) (sym (met_more fed pair)) there
 
@@ -67,10 +64,10 @@ begin_alive m party h is right =
 stepped_there : (s : boards.State) (party : List ℕ) (x : Party) (a : Access) (told : Option Reply) → s.parties party ≡ x → IsThere x → IsThere ((after_step s party x a told).parties party)
 stepped_there s party free a told e there g = let k : free ≡ gone = sym e ∙ g in cc
 stepped_there s party (running r) a None e there g =
-    let k : running (record r { so_far = r.so_far ++ a ∷ [] }) ≡ gone = sym (party_here (λ p. boards.notice a (s.parties p)) party (running (record r { so_far = r.so_far ++ a ∷ [] }))) ∙ g in
+    let k : running (record r { so_far = r.so_far ++ a ∷ [] }) ≡ gone = sym (party_here (λ p. notice a (s.parties p)) party (running (record r { so_far = r.so_far ++ a ∷ [] }))) ∙ g in
     cc
 stepped_there s party (running r) a (Some t) e there g =
-    let k : free ≡ gone = sym (party_here (λ p. boards.notice a (s.parties p)) party free) ∙ g in
+    let k : free ≡ gone = sym (party_here (λ p. notice a (s.parties p)) party free) ∙ g in
     cc
 stepped_there s party gone a told e there g = there refl
 

@@ -1,12 +1,9 @@
 -- Whatever exchanges there are, the fed session is lawful, and each snapshot is sound.
-use Rattle.std.proofs.Common.{◌≡◌, ℕ, ◌+◌, ◌<◌, ◌≤◌, Bool, true, false, cond, List, [], ◌∷◌, ◌++◌, length, arith, refl, sym, ap, subst, ◌∙◌, append_assoc, Option, Some, None}
+use Rattle.std.proofs.Common.{◌≡◌, ℕ, ◌+◌, ◌<◌, ◌≤◌, Bool, true, false, List, [], ◌∷◌, ◌++◌, length, arith, refl, sym, ap, subst, ◌∙◌, append_assoc, Option, Some, None}
 use Rattle.std.specs.Prelude.{if◌then◌else◌, is_some}
 use Rattle.std.specs.Str.{bytes_eq}
-use Rattle.std.proofs.lemmas.Bool.{false≢true}
 use Rattle.std.proofs.lemmas.List.{append-nil, length-append}
-use Rattle.board_model.specs.declared.line.Line.{Line}
 use Rattle.board_model.specs.declared.line.Line.TheVariants as board_line
-use Rattle.board_model.proofs.ThingLemmas.{same_bytes, same_to_itself}
 use Rattle.script_model.specs.declared.line.ScriptLine.{ScriptLine}
 use Rattle.script_model.specs.declared.line.ScriptLine.TheVariants as line
 use Rattle.script_model.specs.ScriptAnswers.{ScriptAnswer}
@@ -17,16 +14,14 @@ use Rattle.script_moments.specs.Moments.{Moment}
 use Rattle.script_moments.specs.Snapshots.{steps_of_snapshot}
 use Rattle.script_moments.proofs.CountLemmas.{alone_two, are_short}
 use Rattle.script_moments.proofs.RoundLemmas.{of_one_moment}
-use Rattle.script_drive.specs.declared.line.Drive.TheVariants.{Snapshots}
-use Rattle.script_drive.specs.declared.line.DriveLine.{DriveLine}
-use Rattle.script_drive.specs.declared.line.DriveLine.TheVariants.{Script, Start, Turn}
-use Rattle.script_drive.specs.DriveGrammar.{AreThings}
-use Rattle.script_drive.specs.DrivenParties.{abandoned_by, held_back, is_refused, kept_with}
-use Rattle.script_drive.specs.Exchanges.{Exchanges, Told, fed_by, fed_session, given, said}
+use Rattle.script_exchanges.specs.declared.line.DriveLine.{DriveLine}
+use Rattle.script_exchanges.specs.declared.line.DriveLine.TheVariants.{Script, Start, Turn}
+use Rattle.script_exchanges.specs.DrivenParties.{abandoned_by, held_back, is_refused, kept_with}
+use Rattle.script_exchanges.specs.Exchanges.{Exchanges, Told, fed_by, fed_session, given, said}
 use Rattle.script_snapshots.specs.Takings.{Outcome, Taking, ended, goes_on, new_taking, next_line, next_of, next_handle, taken, whole}
 use Rattle.script_snapshots.specs.LawsOfTakings.{FedSessionsAreLawful, IsShortTaking, TakingsAreShort, WrittenSnapshotsAreOfOneMoment}
-use Rattle.script_snapshots.specs.SnapshotExchanges.{IsExchange, IsGiven, IsTurn, Leads, OfScript, OfTurn, Takings, fed_with, if_taking, kept_of, let_go, no_takings, said_of, started}
-use Rattle.script_snapshots.proofs.FedLemmas.{fed_lawful}
+use Rattle.script_snapshots.specs.SnapshotExchanges.{IsExchange, Leads, OfScript, OfTurn, Takings, fed_with, if_taking, kept_of, let_go, no_takings, said_of, started}
+use Rattle.script_snapshots.proofs.FedLemmas.{fed_lawful, same_bytes}
 use Rattle.script_snapshots.proofs.TakingLemmas.{IsBegunIf, IsOutcome, IsSound, IsWholeNow, new_sound, next_pair, others_sound, outcome, refused_sound}
 
 -- what holds after exchanges
@@ -60,7 +55,7 @@ others_so s l a h right off = record {
 }
 
 abandon_so : (s : Takings) (q : List ℕ) (a : ScriptAnswer) (refused : Bool) → IsKept s → IsRight (state_met s.fed) (line.Board (board_line.Abandon q)) a → is_refused a ≡ refused → IsKept (fed_with s (line.Board (board_line.Abandon q)) a (if refused then s.of else kept_with s.of q None))
-abandon_so s q a true h right no = record {
+abandon_so s q a true h right refusal = record {
   lawful = fed_lawful s.fed (line.Board (board_line.Abandon q), a) h.lawful right;
   sound = λ p x e. at p x e (bytes_eq p q) refl;
 }
@@ -68,9 +63,9 @@ abandon_so s q a true h right no = record {
     at : (p : List ℕ) (x : Taking) → s.of p ≡ Some x → (b : Bool) → bytes_eq p q ≡ b → IsSound (s.fed ++ (line.Board (board_line.Abandon q), a) ∷ []) p x
     at p x e true k =
         let same : p ≡ q = same_bytes p q k in
-        subst (λ (r : List ℕ). IsSound (s.fed ++ (line.Board (board_line.Abandon q), a) ∷ []) r x) (sym same) (refused_sound s.fed q x a right no (h.sound q x (sym (ap s.of same) ∙ e)))
+        subst (λ (r : List ℕ). IsSound (s.fed ++ (line.Board (board_line.Abandon q), a) ∷ []) r x) (sym same) (refused_sound s.fed q x a right refusal (h.sound q x (sym (ap s.of same) ∙ e)))
     at p x e false k = others_sound s.fed p x (line.Board (board_line.Abandon q), a) h.lawful right k (h.sound p x e)
-abandon_so s q a false h right no = record {
+abandon_so s q a false h right accepts = record {
   lawful = fed_lawful s.fed (line.Board (board_line.Abandon q), a) h.lawful right;
   sound = λ p x e. here_or_there s.of q None p x (λ r y. IsSound (s.fed ++ (line.Board (board_line.Abandon q), a) ∷ []) r y) e (λ k. absurd cc)
       (λ apart k. others_sound s.fed p x (line.Board (board_line.Abandon q), a) h.lawful right apart (h.sound p x k));
@@ -190,7 +185,7 @@ fed_lawful_law = record {
 
 -- ---- counts
 
-short_if : (fed : Session) (party : List ℕ) (x : Taking) (b : Option Session) → IsBegunIf fed party x b → IsShortTaking fed party x b
+short_if : (fed : Session) (party : List ℕ) (x : Taking) (b : Option Session) → IsBegunIf fed party x.handles x.shot b → IsShortTaking fed party x b
 short_if fed party x None h = ap steps_of_snapshot h
 short_if fed party x (Some before) h = record { since = h.since; fed_is = h.fed_is; short = are_short before h.since party x.handles x.shot h.snapshot }
 

@@ -1,23 +1,22 @@
 -- A snapshot that a party takes goes on line by line: what holds of it after each.
-use Rattle.std.proofs.Common.{◌≡◌, ℕ, zero, suc, ◌+◌, ◌<◌, ◌≤◌, Bool, true, false, eqb, List, [], ◌∷◌, ◌++◌, length, get_or, arith, refl, sym, ap, subst, ◌∙◌, append_assoc, inl, inr, Option, Some, None}
+use Rattle.std.proofs.Common.{◌≡◌, ℕ, zero, suc, ◌+◌, ◌<◌, Bool, true, false, eqb, List, [], ◌∷◌, ◌++◌, length, get_or, arith, refl, sym, ap, subst, ◌∙◌, append_assoc, inl, inr, Option, Some, None}
 use Rattle.std.specs.Prelude.{◌⊎◌, if◌then◌else◌, slice_get, unwrap_or}
 use Rattle.std.specs.Str.{bytes_eq}
 use Rattle.std.proofs.lemmas.Bool.{eqb-true, eqb-false, false≢true}
 use Rattle.std.proofs.lemmas.List.{append-nil, length-append}
-use Rattle.board_cell_model.specs.declared.access.Access.{Access}
 use Rattle.board_model.specs.declared.answer.Answer.TheVariants as answer
 use Rattle.board_model.specs.declared.answer.Reason.{Reason}
 use Rattle.board_model.specs.declared.answer.Reply.TheVariants as reply
 use Rattle.board_model.specs.declared.line.Call.TheVariants as call
 use Rattle.board_model.specs.declared.line.Line.TheVariants as board_line
 use Rattle.board_model.specs.declared.value.ValueType.{ValueType}
-use Rattle.board_model.proofs.ThingLemmas.{same_bytes, different_bytes, same_to_itself}
+use Rattle.board_model.proofs.ThingLemmas.{same_to_itself}
 use Rattle.script_model.specs.declared.line.ScriptLine.{ScriptLine}
 use Rattle.script_model.specs.declared.line.ScriptLine.TheVariants as line
 use Rattle.script_model.specs.ScriptAnswers.{ScriptAnswer, of_boards}
 use Rattle.script_model.specs.ScriptTurns.{ScriptState}
 use Rattle.script_model.specs.ScriptSession.{IsLawful, IsRight, Session, after}
-use Rattle.script_model.specs.LawsOfComposition.{Pair, of_pair, state_met}
+use Rattle.script_model.specs.LawsOfComposition.{Pair, state_met}
 use Rattle.script_model.specs.LawsOfLines.{names}
 use Rattle.script_moments.specs.Moments.{Moment, left, next_moment}
 use Rattle.script_moments.specs.Gets.{Ends, GoesOn, IsBegin, Round, ended_get, generations}
@@ -25,28 +24,28 @@ use Rattle.script_moments.specs.Snapshots.{AreUnlike, IsSnapshot, IsWritten, Sna
 use Rattle.script_moments.specs.SnapshotLines.{snapshot_at}
 use Rattle.script_moments.proofs.LineLemmas.{go_on}
 use Rattle.script_moments.proofs.TurnLemmas.{begun_or_refused, pair_is, snapshots_step}
-use Rattle.script_drive.specs.DrivenParties.{Got, got_by, is_refused}
+use Rattle.script_exchanges.specs.DrivenParties.{Got, got_by, is_refused}
 use Rattle.script_moments.specs.LawsOfTurns.{StepsOn}
-use Rattle.script_snapshots.specs.Takings.{Outcome, Taking, after_get, after_round, begun_get, ended, goes_on, is_alike, moment_of, new_taking, next_handle, next_line, next_of, shot_so, stepped_get, taken, taken_on, whole}
+use Rattle.script_snapshots.specs.Takings.{Outcome, Taking, after_round, ended, goes_on, is_alike, moment_of, new_taking, next_handle, next_line, next_of, shot_so, stepped_get, taken, taken_on, whole}
 use Rattle.script_snapshots.proofs.AliveLemmas.{IsAlive, IsThere, abandon_accepted, begin_alive, others_leave_alive, step_alive}
-use Rattle.script_snapshots.proofs.FedLemmas.{met_more}
+use Rattle.script_snapshots.proofs.FedLemmas.{met_more, same_bytes}
 
 -- ---- what holds of a snapshot that a party takes
 
 -- the session since its first get began
-pub record IsBegun (fed : Session) (party : List ℕ) (x : Taking) (before : Session) : Type 0 where
+pub record IsBegun (fed : Session) (party : List ℕ) (handles : List (List ℕ)) (shot : Snapshot) (before : Session) : Type 0 where
   pub since : Session
   pub fed_is : fed ≡ before ++ since
-  pub snapshot : IsSnapshot before since party x.handles x.shot
+  pub snapshot : IsSnapshot before since party handles shot
   pub alive : IsAlive fed party
 
-abbrev pub IsBegunIf : Session → List ℕ → Taking → Option Session → Type 0
-IsBegunIf fed party x None = x.shot ≡ snapshot_at [] [] None
-IsBegunIf fed party x (Some before) = IsBegun fed party x before
+abbrev pub IsBegunIf : Session → List ℕ → List (List ℕ) → Snapshot → Option Session → Type 0
+IsBegunIf fed party handles shot None = shot ≡ snapshot_at [] [] None
+IsBegunIf fed party handles shot (Some before) = IsBegun fed party handles shot before
 
 pub record IsSound (fed : Session) (party : List ℕ) (x : Taking) : Type 0 where
   pub room : length x.shot.gets < length x.handles
-  pub begun : IsBegunIf fed party x x.before
+  pub begun : IsBegunIf fed party x.handles x.shot x.before
 
 -- a snapshot that is whole, and the session since its first get began
 pub record IsWholeNow (fed : Session) (party : List ℕ) (y : Taking) : Type 0 where
@@ -65,7 +64,7 @@ new_sound fed party handles some = record { room = some; begun = refl }
 
 -- ---- lines of others, and refused abandonments
 
-others_if : (fed : Session) (party : List ℕ) (x : Taking) (b : Option Session) (pair : Pair) → IsLawful fed → IsRight (state_met fed) pair.0 pair.1 → names party pair.0 ≡ false → IsBegunIf fed party x b → IsBegunIf (fed ++ pair ∷ []) party x b
+others_if : (fed : Session) (party : List ℕ) (x : Taking) (b : Option Session) (pair : Pair) → IsLawful fed → IsRight (state_met fed) pair.0 pair.1 → names party pair.0 ≡ false → IsBegunIf fed party x.handles x.shot b → IsBegunIf (fed ++ pair ∷ []) party x.handles x.shot b
 others_if fed party x None pair ok right off h = h
 others_if fed party x (Some before) pair ok right off h = record {
   since = h.since ++ pair ∷ [];
@@ -77,12 +76,12 @@ others_if fed party x (Some before) pair ok right off h = record {
 pub others_sound : (fed : Session) (party : List ℕ) (x : Taking) (pair : Pair) → IsLawful fed → IsRight (state_met fed) pair.0 pair.1 → names party pair.0 ≡ false → IsSound fed party x → IsSound (fed ++ pair ∷ []) party x
 others_sound fed party x pair ok right off h = record { room = h.room; begun = others_if fed party x x.before pair ok right off h.begun }
 
-refused_if : (fed : Session) (party : List ℕ) (x : Taking) (b : Option Session) (a : ScriptAnswer) → IsRight (state_met fed) (line.Board (board_line.Abandon party)) a → is_refused a ≡ true → IsBegunIf fed party x b → IsBegunIf (fed ++ (line.Board (board_line.Abandon party), a) ∷ []) party x b
-refused_if fed party x None a right no h = h
-refused_if fed party x (Some before) a right no h = absurd (false≢true (sym (abandon_accepted (state_met fed) party a right h.alive) ∙ no))
+refused_if : (fed : Session) (party : List ℕ) (x : Taking) (b : Option Session) (a : ScriptAnswer) → IsRight (state_met fed) (line.Board (board_line.Abandon party)) a → is_refused a ≡ true → IsBegunIf fed party x.handles x.shot b → IsBegunIf (fed ++ (line.Board (board_line.Abandon party), a) ∷ []) party x.handles x.shot b
+refused_if fed party x None a right refusal h = h
+refused_if fed party x (Some before) a right refusal h = absurd (false≢true (sym (abandon_accepted (state_met fed) party a right h.alive) ∙ refusal))
 
 pub refused_sound : (fed : Session) (party : List ℕ) (x : Taking) (a : ScriptAnswer) → IsRight (state_met fed) (line.Board (board_line.Abandon party)) a → is_refused a ≡ true → IsSound fed party x → IsSound (fed ++ (line.Board (board_line.Abandon party), a) ∷ []) party x
-refused_sound fed party x a right no h = record { room = h.room; begun = refused_if fed party x x.before a right no h.begun }
+refused_sound fed party x a right refusal h = record { room = h.room; begun = refused_if fed party x x.before a right refusal h.begun }
 
 -- ---- rounds that are alike
 
@@ -107,13 +106,13 @@ unlike_more (one ∷ two ∷ more) gets e u = (u.0, unlike_more (two ∷ more) g
 
 -- ---- small facts
 
-alive_at : (fed : Session) (pair : Pair) → {party : List ℕ} → IsThere ((after (state_met fed) pair.0 pair.1).boards.parties party) → IsAlive (fed ++ pair ∷ []) party
-alive_at fed pair {party} there = subst (λ (t : ScriptState). IsThere (t.boards.parties party)) (sym (met_more fed pair)) there
+alive_at : (fed : Session) (pair : Pair) (party : List ℕ) → IsThere ((after (state_met fed) pair.0 pair.1).boards.parties party) → IsAlive (fed ++ pair ∷ []) party
+alive_at fed pair party there = subst (λ (t : ScriptState). IsThere (t.boards.parties party)) (sym (met_more fed pair)) there
 
 -- an accepted begin has begun
 accepted_begin : (a : ScriptAnswer) → (a ≡ of_boards answer.Begun) ⊎ ((why : Reason) × (a ≡ of_boards (answer.Refused why))) → is_refused a ≡ false → a ≡ of_boards answer.Begun
-accepted_begin a (inl e) no = e
-accepted_begin a (inr e) no = absurd (false≢true (sym no ∙ ap is_refused e.1))
+accepted_begin a (inl e) accepts = e
+accepted_begin a (inr e) accepts = absurd (false≢true (sym accepts ∙ ap is_refused e.1))
 
 -- the next handle stands in the line
 slice_is : (hs : List (List ℕ)) (n : ℕ) → n < length hs → slice_get hs n ≡ Some (get_or hs n [])
@@ -130,7 +129,7 @@ next_pair party x a = (next_line party x, a)
 module _ (party : List ℕ) (x : Taking) (a : ScriptAnswer) (room : length x.shot.gets < length x.handles) where
   -- a get has begun
   abbrev Begins : Session → Session → Type 0
-  Begins fed before = IsBegun (fed ++ next_pair party x a ∷ []) party (shot_so x x.shot.rounds x.shot.gets (Some (moment_of fed party x a, []))) before
+  Begins fed before = IsBegun (fed ++ next_pair party x a ∷ []) party x.handles (snapshot_at x.shot.rounds x.shot.gets (Some (moment_of fed party x a, []))) before
 
   begins : (before since : Session) → x.shot.begun ≡ None → IsSnapshot before since party x.handles (snapshot_at x.shot.rounds x.shot.gets None) → IsRight (state_met (before ++ since)) (next_line party x) a → a ≡ of_boards answer.Begun → Begins (before ++ since) before
   begins before since none k right accepted =
@@ -140,10 +139,10 @@ module _ (party : List ℕ) (x : Taking) (a : ScriptAnswer) (room : length x.sho
         since = since ++ pair ∷ [];
         fed_is = append_assoc before since (pair ∷ []);
         snapshot = go_on.begins before since party (next_handle x) x.handles x.shot.rounds x.shot.gets pair k right (slice_is x.handles (length x.shot.gets) room) b;
-        alive = alive_at (before ++ since) pair (begin_alive (next_moment before since pair) party (next_handle x) b right);
+        alive = alive_at (before ++ since) pair party (begin_alive (next_moment before since pair) party (next_handle x) b right);
       }
 
-  begins_if : (fed : Session) (b : Option Session) → IsLawful fed → x.shot.begun ≡ None → IsBegunIf fed party x b → IsRight (state_met fed) (next_line party x) a → a ≡ of_boards answer.Begun → Begins fed (unwrap_or b fed)
+  begins_if : (fed : Session) (b : Option Session) → IsLawful fed → x.shot.begun ≡ None → IsBegunIf fed party x.handles x.shot b → IsRight (state_met fed) (next_line party x) a → a ≡ of_boards answer.Begun → Begins fed (unwrap_or b fed)
   begins_if fed None ok none h right accepted =
       let start : IsSnapshot fed [] party x.handles (snapshot_at [] [] None) = go_on.start fed party x.handles ok in
       let rounds : [] ≡ x.shot.rounds = sym (ap (λ (y : Snapshot). y.rounds) h) in
@@ -168,11 +167,11 @@ module _ (party : List ℕ) (x : Taking) (a : ScriptAnswer) (room : length x.sho
     sound_so : (y : Taking) → y.before ≡ x.before → length y.shot.gets < length y.handles → IsSnapshot before (since ++ next_pair party x a ∷ []) party y.handles y.shot → IsThere ((left Here).boards.parties party) → IsSound Now party y
     sound_so y e lt s there = record {
       room = lt;
-      begun = subst (IsBegunIf Now party y) (sym (e ∙ x_before)) (record {
+      begun = subst (IsBegunIf Now party y.handles y.shot) (sym (e ∙ x_before)) (record {
         since = since ++ next_pair party x a ∷ [];
         fed_is = append_assoc before since (next_pair party x a ∷ []);
         snapshot = s;
-        alive = alive_at (before ++ since) (next_pair party x a) there;
+        alive = alive_at (before ++ since) (next_pair party x a) party there;
       });
     }
 
@@ -224,21 +223,21 @@ module _ (party : List ℕ) (x : Taking) (a : ScriptAnswer) (room : length x.sho
 
   -- ---- with the answer
 
-  steps_if : (fed : Session) (get : Moment × List Moment) (b : Option Session) → x.shot.begun ≡ Some get → x.before ≡ b → IsBegunIf fed party x b → IsRight (state_met fed) (next_line party x) a → IsOutcome (fed ++ next_pair party x a ∷ []) party (stepped_get x get (moment_of fed party x a) (got_by a))
+  steps_if : (fed : Session) (get : Moment × List Moment) (b : Option Session) → x.shot.begun ≡ Some get → x.before ≡ b → IsBegunIf fed party x.handles x.shot b → IsRight (state_met fed) (next_line party x) a → IsOutcome (fed ++ next_pair party x a ∷ []) party (stepped_get x get (moment_of fed party x a) (got_by a))
   steps_if fed get None begun e h right = absurd (let none : x.shot.begun ≡ None = ap (λ (y : Snapshot). y.begun) h in cc)
   steps_if fed get (Some before) begun e h right =
       let k : IsSnapshot before h.since party x.handles (snapshot_at x.shot.rounds x.shot.gets (Some get)) = subst (λ (o : Option (Moment × List Moment)). IsSnapshot before h.since party x.handles (snapshot_at x.shot.rounds x.shot.gets o)) begun h.snapshot in
       let core = steps before h.since get begun e k (subst (λ (s : Session). IsRight (state_met s) (next_line party x) a) h.fed_is right) (subst (λ (s : Session). IsAlive s party) h.fed_is h.alive) in
       subst (λ (s : Session). IsOutcome (s ++ next_pair party x a ∷ []) party (stepped_get x get (moment_of s party x a) (got_by a))) (sym h.fed_is) core
 
-  taken_so : (fed : Session) (o : Option (Moment × List Moment)) → IsLawful fed → x.shot.begun ≡ o → IsBegunIf fed party x x.before → IsRight (state_met fed) (next_line party x) a → is_refused a ≡ false → IsOutcome (fed ++ next_pair party x a ∷ []) party (taken_on fed x o (moment_of fed party x a) (got_by a))
+  taken_so : (fed : Session) (o : Option (Moment × List Moment)) → IsLawful fed → x.shot.begun ≡ o → IsBegunIf fed party x.handles x.shot x.before → IsRight (state_met fed) (next_line party x) a → is_refused a ≡ false → IsOutcome (fed ++ next_pair party x a ∷ []) party (taken_on fed x o (moment_of fed party x a) (got_by a))
   taken_so fed None ok none h right accepted = record {
     room = room;
     begun = begins_if fed x.before ok none h right (accepted_begin a (begun_or_refused (state_met fed) party (call.Get (next_handle x) None) a (subst (λ (l : ScriptLine). IsRight (state_met fed) l a) (ap (next_of party (next_handle x)) none) right)) accepted);
   }
   taken_so fed (Some get) ok begun h right accepted = steps_if fed get x.before begun refl h right
 
-  taken_if : (fed : Session) (refused : Bool) → IsLawful fed → is_refused a ≡ refused → IsBegunIf fed party x x.before → IsRight (state_met fed) (next_line party x) a → IsOutcome (fed ++ next_pair party x a ∷ []) party (if refused then ended else taken_on fed x x.shot.begun (moment_of fed party x a) (got_by a))
+  taken_if : (fed : Session) (refused : Bool) → IsLawful fed → is_refused a ≡ refused → IsBegunIf fed party x.handles x.shot x.before → IsRight (state_met fed) (next_line party x) a → IsOutcome (fed ++ next_pair party x a ∷ []) party (if refused then ended else taken_on fed x x.shot.begun (moment_of fed party x a) (got_by a))
   taken_if fed true ok e h right = tt
   taken_if fed false ok e h right = taken_so fed x.shot.begun ok refl h right e
 
@@ -253,7 +252,7 @@ abbrev pub FitsTaking : Session → List ℕ → Taking → ScriptAnswer → Opt
 FitsTaking fed party x a None = Unit {0}
 FitsTaking fed party x a (Some get) = StepsOn party (moment_of fed party x a)
 
-fits_if : (fed : Session) (party : List ℕ) (x : Taking) (a : ScriptAnswer) (get : Moment × List Moment) (b : Option Session) → x.shot.begun ≡ Some get → IsBegunIf fed party x b → IsRight (state_met fed) (next_line party x) a → StepsOn party (moment_of fed party x a)
+fits_if : (fed : Session) (party : List ℕ) (x : Taking) (a : ScriptAnswer) (get : Moment × List Moment) (b : Option Session) → x.shot.begun ≡ Some get → IsBegunIf fed party x.handles x.shot b → IsRight (state_met fed) (next_line party x) a → StepsOn party (moment_of fed party x a)
 fits_if fed party x a get None begun h right = absurd (let none : x.shot.begun ≡ None = ap (λ (y : Snapshot). y.begun) h in cc)
 fits_if fed party x a get (Some before) begun h right =
     let k : IsSnapshot before h.since party x.handles (snapshot_at x.shot.rounds x.shot.gets (Some get)) = subst (λ (o : Option (Moment × List Moment)). IsSnapshot before h.since party x.handles (snapshot_at x.shot.rounds x.shot.gets o)) begun h.snapshot in

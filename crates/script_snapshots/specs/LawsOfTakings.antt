@@ -9,8 +9,7 @@ use Rattle.script_moments.specs.Moments.{end_of, moments}
 use Rattle.script_moments.specs.Gets.{moments_of, named_entry}
 use Rattle.script_moments.specs.Snapshots.{IsWritten, Snapshot, steps_of_snapshot}
 use Rattle.script_moments.specs.LawsOfSnapshots.{AreLastValues, published_of, steps_again, steps_alone}
-use Rattle.script_drive.specs.declared.line.DriveLine.TheVariants.{Turn}
-use Rattle.script_drive.specs.Exchanges.{Exchanges, fed_session}
+use Rattle.script_exchanges.specs.Exchanges.{Exchanges, fed_session}
 use Rattle.script_snapshots.specs.Takings.{Taking, next_line, taken, whole}
 use Rattle.script_snapshots.specs.SnapshotExchanges.{Leads, Takings, no_takings}
 

@@ -4,12 +4,12 @@ use Rattle.script_model.specs.declared.line.ScriptLine.{ScriptLine}
 use Rattle.script_model.specs.ScriptAnswers.{ScriptAnswer}
 use Rattle.script_model.specs.ScriptSession.{IsRight, Session}
 use Rattle.script_model.specs.LawsOfComposition.{state_met}
-use Rattle.script_drive.specs.declared.line.Drive.TheVariants.{Snapshots}
-use Rattle.script_drive.specs.declared.line.DriveLine.{DriveLine}
-use Rattle.script_drive.specs.declared.line.DriveLine.TheVariants.{Script, Start, Turn}
-use Rattle.script_drive.specs.DriveGrammar.{IsDriveLine}
-use Rattle.script_drive.specs.DrivenParties.{abandoned_by, held_back, is_refused, kept_with, party_text}
-use Rattle.script_drive.specs.Exchanges.{Exchanges, Told, given, said}
+use Rattle.script_exchanges.specs.declared.line.Drive.TheVariants.{Snapshots}
+use Rattle.script_exchanges.specs.declared.line.DriveLine.{DriveLine}
+use Rattle.script_exchanges.specs.declared.line.DriveLine.TheVariants.{Script, Start, Turn}
+use Rattle.script_exchanges.specs.DriveGrammar.{IsDriveLine}
+use Rattle.script_exchanges.specs.DrivenParties.{abandoned_by, held_back, is_refused, kept_with, party_text}
+use Rattle.script_exchanges.specs.Exchanges.{Exchanges, Told, given, said}
 use Rattle.script_snapshots.specs.Takings.{Outcome, Taking, ended, goes_on, new_taking, next_line, snapshot_text, taken, whole}
 
 -- after a script: the session that was fed, and the snapshots that parties take

@@ -14,7 +14,7 @@ use Rattle.script_moments.specs.Moments.{Moment}
 use Rattle.script_moments.specs.Gets.{Get, Round, ended_get, generations}
 use Rattle.script_moments.specs.Snapshots.{Snapshot}
 use Rattle.script_moments.specs.SnapshotLines.{snapshot_at}
-use Rattle.script_drive.specs.DrivenParties.{Got, got_by, is_refused, party_text}
+use Rattle.script_exchanges.specs.DrivenParties.{Got, got_by, is_refused, party_text}
 
 -- its handles; the session before its first get, once that has begun; and the snapshot so far
 pub record Taking : Type 0 where

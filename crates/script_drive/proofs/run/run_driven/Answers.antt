@@ -1,8 +1,8 @@
-use Rattle.std.proofs.Common.{subst, rules, arith}
+use Rattle.std.proofs.Common.{refl, subst, rules, arith}
 use Rattle.script_loop.specs.Reader.{line_given}
 use Rattle.script_loop.proofs.LineLemmas.{takes_line}
-use Rattle.script_drive.specs.DriveGrammar.{SpellsNoDrive}
-use Rattle.script_drive.proofs.DriveEndings.{bad_at, gave_up, is_long_past, is_past, is_spent, left_grammar, long_at, ran, spent_at_once, unread, unwritten, was_long, write_cut}
+use Rattle.script_exchanges.specs.DriveGrammar.{SpellsNoDrive}
+use Rattle.script_drive.proofs.DriveEndings.{bad_at, cut_short, ends, gave_up, is_long_past, is_past, is_spent, left_grammar, long_at, ran, spent_at_once, unread, unwritten, was_long, write_cut}
 use Rattle.script_drive.proofs.DriveSteps.{goes_on, stands_for, starts_on}
 use Rattle.script_drive.proofs.run.run_driven.Goals as goal
 

@@ -1,0 +1,3 @@
+pub mod DriveGrammar
+pub mod DrivenParties
+pub mod Exchanges

@@ -1,0 +1,61 @@
+-- What a machine of snapshots stands for.
+use Rattle.std.specs.Prelude.{◌≡◌, ℕ, ◌<◌, ◌^◌, if◌then◌else◌, List, length, Option, Some, None, is_some, ⊤}
+use Rattle.script_model.specs.ScriptTurns.{ScriptState}
+use Rattle.script_model.specs.LawsOfComposition.{state_met}
+use Rattle.script_feed.specs.KeptOf.{kept_of}
+use Rattle.script_exchanges.specs.declared.line.DriveLine.{DriveLine}
+use Rattle.script_exchanges.specs.Exchanges.{Exchanges, Told, text_of}
+use Rattle.script_snapshots.specs.Takings.{Taking}
+use Rattle.script_snapshots.specs.SnapshotExchanges.{IsExchange, Leads, Takings, no_takings}
+use Rattle.script_shots.specs.declared.machine.SnapshotMachine.{SnapshotMachine}
+use Rattle.script_shots.specs.declared.shot.Shot.{Shot}
+use Rattle.script_shots.specs.Shots.{Keeps}
+
+-- a party's snapshot is kept, if it takes one
+abbrev pub KeepsIfAny : Option Shot → Option Taking → Type 0
+KeepsIfAny None None = ⊤
+KeepsIfAny (Some c) None = ⊥
+KeepsIfAny None (Some x) = ⊥
+KeepsIfAny (Some c) (Some x) = Keeps c x
+
+-- the party, where something is kept of it
+abbrev pub if_kept : {A : Type 0} → (List ℕ → Option A) → Option (List ℕ) → Option (List ℕ)
+if_kept of None = None
+if_kept of (Some party) = if is_some (of party) then Some party else None
+
+-- the machine of scripts stands for the fed session, and each snapshot is kept
+pub record Represents {M : Type 0} (stands : M → ℕ → ScriptState → Type 0) (m : SnapshotMachine M) (s : Takings) : Type 0 where
+  pub machine : stands m.machine (length s.fed) (state_met s.fed)
+  pub shots : (party : List ℕ) → KeepsIfAny (kept_of m.shots party) (s.of party)
+
+-- the exchanges led there, and are few
+pub record IsLed (xs : Exchanges) (s : Takings) : Type 0 where
+  pub leads : Leads no_takings xs s
+  pub few : length xs < 2 ^ 32
+
+-- the machine stands for what exchanges led to
+pub record StandsNow {M : Type 0} (stands : M → ℕ → ScriptState → Type 0) (m : SnapshotMachine M) (xs : Exchanges) (s : Takings) : Type 0 where
+  pub led : IsLed xs s
+  pub represents : Represents stands m s
+
+-- the machine stands for exchanges
+pub record StandsAfter {M : Type 0} (stands : M → ℕ → ScriptState → Type 0) (m : SnapshotMachine M) (xs : Exchanges) : Type 0 where
+  pub state : Takings
+  pub leads : Leads no_takings xs state
+  pub represents : Represents stands m state
+
+-- some exchanges led to what the machine stands for
+abbrev pub IsAtWork : {M : Type 0} → (M → ℕ → ScriptState → Type 0) → SnapshotMachine M → Type 0
+IsAtWork stands m = (xs : Exchanges) × (s : Takings) × StandsNow stands m xs s
+
+-- the text is what is rightly told of the line, and the machine stands for what follows
+pub record IsTelling {M : Type 0} (stands : M → ℕ → ScriptState → Type 0) (new : SnapshotMachine M) (s : Takings) (l : DriveLine) (text : List ℕ) : Type 0 where
+  pub told : List Told
+  pub state : Takings
+  pub exchange : IsExchange s l told state
+  pub represents : Represents stands new state
+  pub text_is : text ≡ text_of told
+
+-- so it is, whatever exchanges led there
+abbrev pub Tells : {M : Type 0} → (M → ℕ → ScriptState → Type 0) → SnapshotMachine M → SnapshotMachine M → DriveLine → List ℕ → Type 0
+Tells stands old new l text = (xs : Exchanges) (s : Takings) → StandsNow stands old xs s → IsTelling stands new s l text
