@@ -1,13 +1,12 @@
 -- Runs of a driver that end, and what they come to.
 use Rattle.std.proofs.Common.{◌≡◌, ℕ, suc, ◌+◌, ◌<◌, ◌≤◌, Bool, false, List, [], ◌∷◌, ◌++◌, length, take, arith, refl, sym, ap, subst, ◌∙◌, Option, Some, None}
-use Rattle.std.specs.Prelude.{◌≢◌, IsSomeAnd, Result, Ok, Err, slice_get}
+use Rattle.std.specs.Prelude.{IsSomeAnd, Ok, Err, slice_get}
 use Rattle.std.specs.List.{AllByRecursion}
 use Rattle.std.specs.Io.KnownBytes.{Appends, IsAtEnd, Keeps, prepend_known}
 use Rattle.std.proofs.KnownBytes.{Appends-trans, Appends-nil}
 use Rattle.std.proofs.lemmas.List.{append-nil, length-append}
 use Rattle.std.proofs.Math.Seq.{take-append-add}
 use Rattle.board_model.specs.Lines.{IsOneLine, lines_of, TakesLine}
-use Rattle.script_loop.specs.declared.error.ScriptError.{ScriptError}
 use Rattle.script_loop.specs.declared.error.ScriptError.TheVariants.{ReadFault, WriteFault, BadLine, TooLong, OutOfMemory}
 use Rattle.script_loop.specs.Reader.{HasLongLine}
 use Rattle.script_loop.specs.Runs.{CountStays, CountsOn, HasFailed, Stream}

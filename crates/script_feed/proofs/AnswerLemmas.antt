@@ -1,8 +1,8 @@
 -- What is looked at in answers.
-use Rattle.std.proofs.Common.{◌≡◌, ℕ, zero, suc, ◌+◌, ◌-◌, ◌<◌, ◌≤◌, ◌^◌, Bool, true, false, List, [], ◌∷◌, ◌++◌, length, take, drop, get_or, refl, sym, ap, subst, ◌∙◌, arith, append_assoc, eqb, All, Option, Some, None}
-use Rattle.std.specs.Prelude.{IsSomeAnd, codes, decimal, if◌then◌else◌, map, nat_eq, slice_index, ◌==◌}
-use Rattle.std.specs.List.{AllByRecursion, join_with_byte, starts_with}
-use Rattle.std.proofs.lemmas.List.{append-nil, length-append, take-append-le, take_all}
+use Rattle.std.proofs.Common.{◌≡◌, ℕ, zero, suc, ◌+◌, ◌-◌, ◌<◌, ◌≤◌, Bool, true, false, List, [], ◌∷◌, ◌++◌, length, take, drop, get_or, refl, sym, ap, subst, ◌∙◌, arith, append_assoc, eqb, All, Option, Some}
+use Rattle.std.specs.Prelude.{codes, decimal, if◌then◌else◌, map, nat_eq, slice_index, ◌==◌}
+use Rattle.std.specs.List.{AllByRecursion, starts_with}
+use Rattle.std.proofs.lemmas.List.{length-append, take-append-le, take_all}
 use Rattle.std.proofs.Math.Seq.{drop-append_seam}
 use Rattle.std.proofs.lemmas.List.Elements.{recursion_from_All}
 use Rattle.board_cell_model.specs.declared.access.Access.{Access}
@@ -11,13 +11,12 @@ use Rattle.board_event_model.specs.declared.access.EventAccess.{EventAccess}
 use Rattle.board_event_model.specs.declared.access.EventAccess.TheVariants as event_access
 use Rattle.board_event_model.specs.declared.access.EventAnswer.{EventAnswer}
 use Rattle.board_event_model.specs.declared.kind.EventKind.{EventKind}
-use Rattle.board_model.specs.declared.answer.Answer.{Answer}
 use Rattle.board_model.specs.declared.answer.Answer.TheVariants as answer
 use Rattle.board_model.specs.declared.answer.Reply.{Reply}
 use Rattle.board_model.specs.declared.answer.Reply.TheVariants as reply
 use Rattle.board_model.specs.declared.value.ValueType.{ValueType}
 use Rattle.board_model.specs.declared.value.ValueType.TheVariants as type
-use Rattle.board_model.specs.AnswerGrammar.{IsAccess, IsAnswer, access_text, answer_line, number_text, place_text, reply_text, words_text}
+use Rattle.board_model.specs.AnswerGrammar.{IsAccess, access_text, place_text, reply_text, words_text}
 use Rattle.board_model.specs.LineGrammar.{IsNumber}
 use Rattle.script_model.specs.declared.reply.EventReply.{EventReply}
 use Rattle.script_model.specs.ScriptAnswers.{ScriptAnswer, expired, of_ask, of_boards, of_event, script_answer_line}
@@ -25,7 +24,7 @@ use Rattle.script_grammar.specs.TokenReading.{read_number}
 use Rattle.script_grammar.proofs.NumeralLemmas.{number_again}
 use Rattle.script_grammar.proofs.SplitLemmas.{IsFree, free_append, free_joined, free_lacks, free_number}
 use Rattle.script_exchanges.specs.DrivenParties.{Got, is_refused}
-use Rattle.script_feed.specs.AnswerLooks.{EndsGet, GoesOnGet, HasGot, lacks}
+use Rattle.script_feed.specs.AnswerLooks.{EndsGet, GoesOnGet, lacks}
 
 -- ---- refusals
 

@@ -1,12 +1,11 @@
 -- The lines of scripts whose parties can be driven are read back from their bytes, and what is read is spelled so.
-use Rattle.std.proofs.Common.{◌≡◌, ℕ, ◌+◌, ◌<◌, ◌≤◌, Bool, true, false, List, [], ◌∷◌, ◌++◌, length, eqb, refl, sym, ap, subst, ◌∙◌, arith, zero-add, Option, Some, None}
-use Rattle.std.specs.Prelude.{◌&&◌, ◌||◌, codes, nat_le, IfNone, IfOk, IfSome, Result, Ok, Err}
+use Rattle.std.proofs.Common.{◌≡◌, ℕ, ◌+◌, ◌<◌, ◌≤◌, Bool, true, false, List, [], ◌∷◌, length, eqb, refl, sym, ap, subst, ◌∙◌, arith, zero-add, Option, Some, None}
+use Rattle.std.specs.Prelude.{◌||◌, codes, IfNone, IfOk, IfSome, Result, Ok, Err}
 use Rattle.std.specs.Str.{bytes_eq}
-use Rattle.std.specs.List.{AllByRecursion, join_with_byte, list_all, slice_split}
+use Rattle.std.specs.List.{AllByRecursion, join_with_byte, list_all}
 use Rattle.std.proofs.lemmas.Bool.{false≢true}
 use Rattle.std.proofs.lemmas.List.Splits.{join_with_byte-slice_split, length-slice_split}
 use Rattle.board_model.specs.LineGrammar.{is_name}
-use Rattle.board_model.specs.declared.line.Line.{Line}
 use Rattle.board_model.specs.declared.line.Line.TheVariants as board_line
 use Rattle.std.proofs.lemmas.Slice.Eq.{bytes_eq-Decides}
 use Rattle.script_model.specs.declared.line.ScriptLine.{ScriptLine}
@@ -21,7 +20,7 @@ use Rattle.script_exchanges.specs.declared.line.Drive.{Drive}
 use Rattle.script_exchanges.specs.declared.line.Drive.TheVariants.{Snapshots, Watchers}
 use Rattle.script_exchanges.specs.declared.line.DriveLine.{DriveLine}
 use Rattle.script_exchanges.specs.declared.line.DriveLine.TheVariants.{Script, Start, Turn}
-use Rattle.script_exchanges.specs.DriveGrammar.{AreThings, IsDriveLine, SpellsDrive, SpellsNoDrive, drive_tokens, least_things, most_things, start_word}
+use Rattle.script_exchanges.specs.DriveGrammar.{AreThings, SpellsDrive, SpellsNoDrive, drive_tokens, start_word}
 use Rattle.script_feed.specs.DriveReading.{IsPlainLine, are_things, has_place_for, read_start, read_turn}
 use Rattle.script_feed.proofs.WordLemmas.{each_named, is_place, named_each, place_is}
 

@@ -6,7 +6,7 @@ use Rattle.board_model.specs.declared.answer.Answer.TheVariants as answer
 use Rattle.board_model.specs.declared.answer.Reply.TheVariants as reply
 use Rattle.board_model.specs.AnswerGrammar.{IsAnswer, answer_line, reply_text}
 use Rattle.script_exchanges.specs.DrivenParties.{Got}
-use Rattle.script_model.specs.ScriptAnswers.{IsScriptAnswer, ScriptAnswer, script_answer_line}
+use Rattle.script_model.specs.ScriptAnswers.{ScriptAnswer, script_answer_line}
 
 -- the byte doesn't stand in the text
 abbrev pub lacks : ℕ → List ℕ → Bool

@@ -1,14 +1,13 @@
 -- What a machine of snapshots stands for after a line.
-use Rattle.std.proofs.Common.{◌≡◌, ℕ, ◌+◌, ◌<◌, ◌≤◌, ◌^◌, Bool, true, false, cond, List, [], ◌∷◌, ◌++◌, length, arith, refl, sym, ap, subst, ◌∙◌, append_assoc, Option, Some, None}
+use Rattle.std.proofs.Common.{◌≡◌, ℕ, ◌+◌, ◌<◌, Bool, true, false, List, [], ◌∷◌, ◌++◌, length, arith, refl, sym, ap, subst, ◌∙◌, Option, Some, None}
 use Rattle.std.specs.Prelude.{codes, if◌then◌else◌, is_some}
 use Rattle.std.specs.Str.{bytes_eq}
-use Rattle.board_model.proofs.ThingLemmas.{same_bytes}
-use Rattle.std.proofs.lemmas.Bool.{false≢true}
 use Rattle.std.proofs.lemmas.List.{append-nil, length-append}
+use Rattle.board_model.specs.LineGrammar.{is_name}
 use Rattle.script_model.specs.declared.line.ScriptLine.{ScriptLine}
 use Rattle.script_model.specs.ScriptAnswers.{ScriptAnswer, script_answer_line}
 use Rattle.script_model.specs.ScriptGrammar.{SpellsLine, script_spell}
-use Rattle.script_model.specs.ScriptSession.{IsRight, Session, after, start}
+use Rattle.script_model.specs.ScriptSession.{IsRight, after, start}
 use Rattle.script_model.specs.ScriptTurns.{ScriptState}
 use Rattle.script_model.specs.LawsOfComposition.{state_met}
 use Rattle.script_grammar.proofs.ScriptLineLemmas.{one_line}
@@ -23,20 +22,36 @@ use Rattle.script_exchanges.specs.DriveGrammar.{IsDriveLine, SpellsDrive}
 use Rattle.script_exchanges.specs.DrivenParties.{abandoned_by, held_back, is_refused, kept_with, party_text}
 use Rattle.script_drive.specs.Drivers.{HasTold}
 use Rattle.script_exchanges.specs.Exchanges.{Exchanges, Told, given, said, text_of, told_text}
-use Rattle.script_snapshots.specs.Takings.{Outcome, Taking, new_taking, next_line, taken}
+use Rattle.script_snapshots.specs.Takings.{Outcome, Taking, new_taking, next_line, snapshot_text, taken}
 use Rattle.script_snapshots.specs.SnapshotExchanges.{IsExchange, IsLawful, Leads, OfScript, OfTurn, Takings, fed_with, if_taking, kept_of, let_go, no_takings, said_of, started}
-use Rattle.script_snapshots.proofs.FedLemmas.{met_more}
+use Rattle.script_snapshots.proofs.FedLemmas.{met_more, same_bytes}
 use Rattle.script_snapshots.proofs.TakingLaws.{IsKept, leads_few, leads_kept, leads_more, none_kept}
 use Rattle.script_shots.specs.declared.machine.SnapshotMachine.{SnapshotMachine}
 use Rattle.script_shots.specs.declared.shot.Shot.{Shot}
-use Rattle.script_shots.specs.Machines.{IsAtWork, IsLed, IsTelling, KeepsIfAny, Represents, StandsAfter, StandsNow, Tells, if_kept}
-use Rattle.script_shots.specs.Shots.{Keeps}
+use Rattle.script_shots.specs.Machines.{IsTelling, KeepsIfAny, Represents, StandsAfter, StandsNow, if_kept}
+use Rattle.script_shots.specs.declared.shot.Progress.{Progress}
+use Rattle.script_shots.specs.declared.shot.Progress.TheVariants.{GoesOn, Refused, Whole}
+use Rattle.script_shots.specs.Shots.{Follows, IsProgress, Keeps, SaysWhole, whole_line}
+use Rattle.script_shots.proofs.ShotLemmas.{gets_length}
+use Rattle.script_shots.proofs.TurnLemmas.{goes_kept, goes_said, next_spelled, refused_kept, refused_said, right_fits, whole_kept, whole_said}
 
 -- ---- what is kept, if anything
 
 pub none_keeps : (o : Option Shot) → o ≡ None → KeepsIfAny o None
 none_keeps None e = tt
 none_keeps (Some c) e = absurd cc
+
+pub keeps_none : (x : Option Taking) → x ≡ None → KeepsIfAny None x
+keeps_none None e = tt
+keeps_none (Some x) e = absurd cc
+
+-- taken out, and kept again
+pub put_back : (f g h : List ℕ → Option Shot) (party : List ℕ) (c : Shot) → ((p : List ℕ) → g p ≡ kept_with f party None p) → ((p : List ℕ) → h p ≡ kept_with g party (Some c) p) → (p : List ℕ) → h p ≡ kept_with f party (Some c) p
+put_back f g h party c taken kept p = kept p ∙ at (bytes_eq p party) refl
+  where
+    at : (b : Bool) → bytes_eq p party ≡ b → (if b then Some c else g p) ≡ (if b then Some c else f p)
+    at true e = refl
+    at false e = taken p ∙ ap (λ (b : Bool). if b then None else f p) e
 
 -- a party takes a snapshot exactly where one is kept
 pub not_kept : (o : Option Shot) (x : Option Taking) → KeepsIfAny o x → o ≡ None → x ≡ None
@@ -207,6 +222,56 @@ module _ {M : Type 0} (stands : M → ℕ → ScriptState → Type 0) where
         };
         text_is = e ∙ ap (λ (b : List ℕ). b ++ rest) g.told ∙ ap (λ (b : List ℕ). told_text (given (l, g.answer)) ++ b) (sym texts ∙ ap text_of (sym tells));
       }
+
+  -- ---- the answer to a turn
+
+  -- the snapshot that is kept has room for a get
+  pub room_at : (m : SnapshotMachine M) (xs : Exchanges) (s : Takings) (party : List ℕ) (c : Shot) → StandsNow stands m xs s → Some c ≡ map.kept_of m.shots party → length c.generations.items < length c.handles.items
+  room_at m xs s party c h e =
+      let k = kept_as (map.kept_of m.shots party) (s.of party) c (h.represents.shots party) (sym e) in
+      let sound = (is_kept m xs s h).sound party k.taking k.is in
+      omega (arith, sound.room, gets_length c k.taking k.keeps, ap (λ (l : List (List ℕ)). length l) k.keeps.handles)
+
+  -- and its next line is one of the grammar
+  pub spelled_at : (m : SnapshotMachine M) (xs : Exchanges) (s : Takings) (party : List ℕ) (c : Shot) (line : List ℕ) → StandsNow stands m xs s → Some c ≡ map.kept_of m.shots party → is_name party ≡ true → ((x : Taking) → Keeps c x → line ≡ script_spell (next_line party x)) → (l : ScriptLine) × SpellsLine line l
+  spelled_at m xs s party c line h e named is =
+      let k = kept_as (map.kept_of m.shots party) (s.of party) c (h.represents.shots party) (sym e) in
+      let sound = (is_kept m xs s h).sound party k.taking k.is in
+      (next_line party k.taking, next_spelled c party k.taking line k.keeps sound.room named (is k.taking k.keeps))
+
+  -- what was answered to it, and what became of the snapshot
+  pub record IsTurned (m : M) (s : Takings) (party : List ℕ) (new : Shot) (p : Progress) (line text : List ℕ) : Type 0 where
+    pub taking : Taking
+    pub takes : s.of party ≡ Some taking
+    pub answered : HasGiven m s (next_line party taking) line text
+    pub progress : IsProgress new p (taken s.fed party taking answered.answer)
+
+  pub turned : (old : SnapshotMachine M) (m : M) (xs : Exchanges) (s : Takings) (party : List ℕ) (c new : Shot) (p : Progress) (line bytes text : List ℕ) → StandsNow stands old xs s → Some c ≡ map.kept_of old.shots party → is_name party ≡ true → ((x : Taking) → Keeps c x → line ≡ script_spell (next_line party x)) → HasAnswered stands m s.fed line text → bytes ≡ text → Follows c new bytes p → IsTurned m s party new p line text
+  turned old m xs s party c new p line bytes text h e named is answered same follows =
+      let k = kept_as (map.kept_of old.shots party) (s.of party) c (h.represents.shots party) (sym e) in
+      let sound = (is_kept old xs s h).sound party k.taking k.is in
+      let g = has_given m s (next_line party k.taking) line text (next_spelled c party k.taking line k.keeps sound.room named (is k.taking k.keeps)) answered in
+      record { taking = k.taking; takes = k.is; answered = g; progress = follows s.fed party k.taking g.answer k.keeps (right_fits s.fed party k.taking g.answer sound g.right) (same ∙ g.text_is) }
+
+  -- it goes on
+  pub goes_so : (old new : SnapshotMachine M) (xs : Exchanges) (s : Takings) (party : List ℕ) (c : Shot) (line text out : List ℕ) → StandsNow stands old xs s → IsDriveLine Snapshots (Turn party) → IsTurned new.machine s party c GoesOn line text → ((p : List ℕ) → map.kept_of new.shots p ≡ kept_with (map.kept_of old.shots) party (Some c) p) → out ≡ given_text line text → IsTelling stands new s (Turn party) out
+  goes_so old new xs s party c line text out h is t shots e =
+      let o : Outcome = taken s.fed party t.taking t.answered.answer in
+      turn_so old new xs s party t.taking line text [] out (Some c) [] h is t.takes t.answered (goes_kept c o t.progress) (goes_said c party o t.progress) refl shots (e ∙ sym (append-nil (given_text line text)))
+
+  -- it was refused
+  pub refused_so : (old new : SnapshotMachine M) (xs : Exchanges) (s : Takings) (party : List ℕ) (c : Shot) (line text out : List ℕ) → StandsNow stands old xs s → IsDriveLine Snapshots (Turn party) → IsTurned new.machine s party c Refused line text → ((p : List ℕ) → map.kept_of new.shots p ≡ kept_with (map.kept_of old.shots) party None p) → out ≡ given_text line text ++ told_text (said (party_text (codes "unsnapped") party)) → IsTelling stands new s (Turn party) out
+  refused_so old new xs s party c line text out h is t shots e =
+      let o : Outcome = taken s.fed party t.taking t.answered.answer in
+      let told : Told = said (party_text (codes "unsnapped") party) in
+      turn_so old new xs s party t.taking line text (told_text told) out None (told ∷ []) h is t.takes t.answered (keeps_none (kept_of o) (refused_kept c o t.progress)) (refused_said c party o t.progress) (append-nil (told_text told)) shots e
+
+  -- it is whole
+  pub whole_so : (old new : SnapshotMachine M) (xs : Exchanges) (s : Takings) (party : List ℕ) (c : Shot) (line text out : List ℕ) → StandsNow stands old xs s → IsDriveLine Snapshots (Turn party) → IsTurned new.machine s party c Whole line text → ((p : List ℕ) → map.kept_of new.shots p ≡ kept_with (map.kept_of old.shots) party None p) → ((y : Taking) → SaysWhole c y → out ≡ given_text line text ++ whole_line party y) → IsTelling stands new s (Turn party) out
+  whole_so old new xs s party c line text out h is t shots e =
+      let o : Outcome = taken s.fed party t.taking t.answered.answer in
+      let w = whole_said c party o t.progress in
+      turn_so old new xs s party t.taking line text (whole_line party w.taking) out None (said (snapshot_text party w.taking) ∷ []) h is t.takes t.answered (keeps_none (kept_of o) (whole_kept c o t.progress)) w.said_is (append-nil (whole_line party w.taking)) shots (e w.taking w.says)
 
   -- ---- exchanges
 

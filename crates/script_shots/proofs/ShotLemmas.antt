@@ -1,14 +1,12 @@
 -- A snapshot that is kept follows the answers.
-use Rattle.std.proofs.Common.{◌≡◌, ℕ, zero, suc, ◌+◌, ◌<◌, ◌≤◌, Bool, true, false, cond, eqb, List, [], ◌∷◌, ◌++◌, length, map, get_or, arith, refl, sym, ap, subst, ◌∙◌, append_assoc, inl, inr, Option, Some, None}
-use Rattle.std.specs.Prelude.{◌⊎◌, ◌&&◌, IsNone, IsSomeAnd, codes, if◌then◌else◌, is_some}
+use Rattle.std.proofs.Common.{◌≡◌, ℕ, zero, suc, ◌<◌, ◌≤◌, Bool, true, false, eqb, List, [], ◌∷◌, ◌++◌, length, get_or, arith, refl, sym, ap, subst, ◌∙◌, append_assoc, inl, inr, Option, Some, None}
+use Rattle.std.specs.Prelude.{◌&&◌, IfOk, OnOk, Result, Ok, Err, codes, if◌then◌else◌, is_some}
 use Rattle.std.specs.Str.{bytes_eq}
 use Rattle.std.specs.List.{AllByRecursion}
 use Rattle.std.proofs.lemmas.Bool.{eqb-true, false≢true}
 use Rattle.std.proofs.lemmas.List.{append-nil, length-append, length-map, map-append}
-use Rattle.board_model.specs.declared.answer.Reply.TheVariants as reply
 use Rattle.board_model.specs.declared.line.Call.TheVariants as call
 use Rattle.board_model.specs.declared.line.Line.TheVariants as board_line
-use Rattle.board_model.specs.AnswerGrammar.{reply_text}
 use Rattle.board_model.specs.LineGrammar.{is_name, spell}
 use Rattle.script_model.specs.ScriptAnswers.{ScriptAnswer, script_answer_line}
 use Rattle.script_model.specs.ScriptGrammar.{script_spell}
@@ -17,11 +15,11 @@ use Rattle.script_moments.specs.Moments.{Moment}
 use Rattle.script_moments.specs.Gets.{Get, Round, ended_get, generations}
 use Rattle.script_exchanges.specs.DrivenParties.{Got, got_by, is_refused}
 use Rattle.script_feed.specs.AnswerLooks.{EndsGet, GoesOnGet, HasGot}
-use Rattle.script_snapshots.specs.Takings.{Outcome, Taking, after_get, after_round, begun_get, ended, get_text, gets_text, goes_on, is_alike, moment_of, new_taking, next_handle, next_line, next_of, shot_so, stepped_get, taken, taken_on, whole}
+use Rattle.script_snapshots.specs.Takings.{Taking, after_round, begun_get, ended, get_text, gets_text, goes_on, is_alike, moment_of, new_taking, next_handle, next_line, next_of, shot_so, stepped_get, taken, taken_on}
 use Rattle.script_shots.specs.declared.shot.Progress.{Progress}
 use Rattle.script_shots.specs.declared.shot.Progress.TheVariants.{GoesOn, Refused, Whole}
 use Rattle.script_shots.specs.declared.shot.Shot.{Shot}
-use Rattle.script_shots.specs.Shots.{Fits, FitsGet, IsGetting, IsGoingOn, IsProgress, Keeps, SaysWhole, last_generations}
+use Rattle.script_shots.specs.Shots.{Fits, FitsGet, IsGetting, IsGoingOn, IsProgress, Keeps, last_generations}
 
 -- ---- what is written of gets
 
@@ -236,3 +234,14 @@ module _ (old new : Shot) (fed : Session) (party : List ℕ) (x : Taking) (a : S
       by : (get : Moment × List Moment) → FitsGet (Some get) a → IsProgress new p (stepped_get x get (moment_of fed party x a) (got_by a))
       by get (inl g) = absurd (some (going_bytes g))
       by get (inr g) = subst (λ (o : Option Got). IsProgress new p (stepped_get x get (moment_of fed party x a) o)) (sym (getting_some g)) (follows g.1 (has g.1 (ending_bytes g)) x get (moment_of fed party x a) k)
+
+-- ---- results
+
+-- what holds of a result that is Ok leads to more
+pub ok_so : {A E : Type 0} (r : Result A E) (Q P : A → Type 0) → ((x : A) → Q x → P x) → IfOk r Q → IfOk r P
+ok_so (Ok x) Q P f h = f x h
+ok_so (Err e) Q P f h = tt
+
+pub on_so : {A E : Type 0} (r : Result A E) (Q P : Type 0) → (Q → P) → OnOk r Q → OnOk r P
+on_so (Ok x) Q P f h = f h
+on_so (Err e) Q P f h = tt

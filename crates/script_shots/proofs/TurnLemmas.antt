@@ -1,31 +1,27 @@
 -- The answers that a machine of snapshots meets, and what is told of them.
-use Rattle.std.proofs.Common.{◌≡◌, ℕ, ◌+◌, ◌<◌, ◌≤◌, ◌^◌, Bool, true, false, List, [], ◌∷◌, ◌++◌, length, arith, refl, sym, ap, subst, ◌∙◌, append_assoc, inl, inr, Option, Some, None}
-use Rattle.std.specs.Prelude.{◌⊎◌, get_or, codes}
-use Rattle.std.specs.List.{AllByRecursion}
-use Rattle.std.proofs.lemmas.Bool.{false≢true}
+use Rattle.std.proofs.Common.{◌≡◌, ℕ, zero, suc, ◌<◌, ◌≤◌, Bool, true, false, eqb, List, [], ◌∷◌, ◌++◌, length, length-append, get_or, arith, refl, sym, ap, subst, inl, inr, Option, Some, None}
+use Rattle.std.specs.Prelude.{◌⊎◌, ◌&&◌, codes, nat_le, not}
+use Rattle.std.specs.List.{AllByRecursion, list_all}
+use Rattle.std.proofs.lemmas.Bool.{leb-true}
 use Rattle.board_model.specs.declared.answer.Answer.TheVariants as answer
 use Rattle.board_model.specs.declared.answer.Reply.TheVariants as reply
-use Rattle.board_model.specs.declared.line.Call.TheVariants as call
-use Rattle.board_model.specs.declared.line.Line.TheVariants as board_line
-use Rattle.board_model.specs.AnswerGrammar.{IsAnswer}
-use Rattle.board_model.specs.LineGrammar.{is_name}
-use Rattle.script_model.specs.ScriptAnswers.{IsScriptAnswer, ScriptAnswer, of_boards, script_answer_line}
+use Rattle.board_model.specs.LineGrammar.{is_name, is_name_byte}
+use Rattle.script_model.specs.ScriptAnswers.{IsScriptAnswer, ScriptAnswer, of_boards}
 use Rattle.script_model.specs.ScriptGrammar.{IsScriptLine, SpellsLine, script_spell}
 use Rattle.script_model.specs.ScriptSession.{IsRight, Session}
 use Rattle.script_model.specs.LawsOfComposition.{Pair, state_met}
+use Rattle.script_grammar.proofs.ReaderLemmas.{both}
 use Rattle.script_moments.specs.Moments.{Moment}
 use Rattle.script_moments.specs.LawsOfTurns.{StepsOn}
 use Rattle.script_exchanges.specs.DrivenParties.{Got, is_refused, party_text}
-use Rattle.script_exchanges.specs.Exchanges.{Told, given, said, text_of, told_text}
+use Rattle.script_exchanges.specs.Exchanges.{said}
 use Rattle.script_snapshots.specs.Takings.{Outcome, Taking, ended, goes_on, moment_of, next_handle, next_line, next_of, snapshot_text, whole}
 use Rattle.script_snapshots.specs.SnapshotExchanges.{kept_of, said_of}
 use Rattle.script_snapshots.proofs.TakingLemmas.{FitsTaking, IsSound, fits}
-use Rattle.script_shots.specs.declared.shot.Progress.{Progress}
 use Rattle.script_shots.specs.declared.shot.Progress.TheVariants.{GoesOn, Refused, Whole}
 use Rattle.script_shots.specs.declared.shot.Shot.{Shot}
 use Rattle.script_shots.specs.Machines.{KeepsIfAny}
-use Rattle.script_shots.specs.Shots.{Fits, FitsGet, IsGetting, IsGoingOn, IsProgress, Keeps, SaysWhole, whole_line}
-use Rattle.script_shots.proofs.ShotLemmas.{gets_length}
+use Rattle.script_shots.specs.Shots.{Fits, FitsGet, IsGetting, IsGoingOn, IsProgress, Keeps, SaysWhole}
 
 -- ---- a right answer fits
 

@@ -1,4 +1,4 @@
-use Rattle.std.proofs.Common.{◌+◌, ◌≤◌, length, arith, rules}
+use Rattle.std.proofs.Common.{◌+◌, ◌≤◌, length, arith}
 use Rattle.std.proofs.lemmas.List.{take_rest}
 use Rattle.script_feed.proofs.AnswerLemmas.{IsPlace, behind_fits, behind_is, has_place}
 use Rattle.script_feed.proofs.answers.behind.Goals as goal

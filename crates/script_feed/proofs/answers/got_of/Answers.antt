@@ -1,9 +1,7 @@
-use Rattle.std.proofs.Common.{◌≡◌, ℕ, List, ◌∷◌, ◌++◌, [], sym, ap, ◌∙◌, arith, Some, None}
-use Rattle.std.specs.Prelude.{Option, codes, decimal}
+use Rattle.std.proofs.Common.{◌≡◌, ℕ, List, ◌∷◌, ◌++◌, [], ap, ◌∙◌, arith, Some, None}
+use Rattle.std.specs.Prelude.{codes, decimal}
 use Rattle.board_model.specs.AnswerGrammar.{words_text}
-use Rattle.script_exchanges.specs.DrivenParties.{Got}
 use Rattle.script_grammar.specs.TokenReading.{read_number}
-use Rattle.script_feed.specs.AnswerLooks.{EndsGet}
 use Rattle.script_feed.proofs.AnswerLemmas.{before_lacks, before_reply, ending_is, going_lacks, number_is, told_is, told_of, words_lack}
 use Rattle.script_feed.proofs.answers.got_of.Goals as goal
 

@@ -1,7 +1,6 @@
-use Rattle.std.proofs.Common.{◌≡◌, ℕ, List, [], ◌∷◌, sym, ap, ◌∙◌, rules}
+use Rattle.std.proofs.Common.{◌≡◌, sym, ◌∙◌}
 use Rattle.std.specs.Prelude.{codes}
 use Rattle.script_exchanges.specs.DriveGrammar.{start_word}
-use Rattle.script_grammar.specs.TokenReading.{split_tokens}
 use Rattle.script_feed.proofs.DriveLines.{ok_so, same_bytes, some_word, start_found, start_only, turn_found, turn_only}
 use Rattle.script_feed.proofs.parse.parse_drive.Goals as goal
 
