@@ -62,7 +62,10 @@ const H_AT_2: Part = &[
 ];
 
 const AN_UPDATE: Part = &[
-    ("begin a update m u64:9", &["> begin a update m u64:9", "ok"]),
+    (
+        "begin a update m u64:9",
+        &["> begin a update m u64:9", "ok"],
+    ),
     ("step a", &["> step a", "write 1:3 9"]),
     ("step a", &["> step a", "write 1:0 2 = ok"]),
 ];
