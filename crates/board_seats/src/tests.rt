@@ -43,11 +43,7 @@ fn new_board(alloc: Global, domain: &mut Words) -> Result<(Found, Found), Fail> 
 }
 
 // The generation that is read, and the last word.
-fn last_word(
-    alloc: Global,
-    domain: &mut Words,
-    entry: &Found,
-) -> Result<Option<(u64, u64)>, Fail> {
+fn last_word(alloc: Global, domain: &mut Words, entry: &Found) -> Result<Option<(u64, u64)>, Fail> {
     let mut words = vec![in alloc; 0; entry.shape.words as usize]?;
     match get::<u64>(domain, entry, &mut words) {
         Some(generation) => Ok(Some((generation, words.last().copied().unwrap_or(0)))),
