@@ -7,3 +7,4 @@ mod NotifyLemmas
 mod OpenLemmas
 mod TypedNotify
 mod TypedWaits
+pub mod CallerLemmas

@@ -22,7 +22,7 @@ use Rattle.board_event_model.specs.WaitCalls.{Wait, is_try, nothing, popped, sca
 use Rattle.board_event_model.proofs.SetLemmas.{either}
 use Rattle.board_event_model.proofs.TrackLemmas.{wait_told}
 use Rattle.board_event_core.specs.EventTable.{EventTable, IsEvent, IsEventTable, event_at}
-use Rattle.board_event.specs.Accesses.{IsInRange, IsWaitHold, WaitHeld, WaitMade}
+use Rattle.board_event.specs.Accesses.{IsHoldBehind, IsInRange, IsWaitHold, WaitHeld, WaitMade}
 use Rattle.board_event.specs.Ends.{End}
 use Rattle.board_event.specs.TypedCalls.{Each, Waited}
 use Rattle.board_event.proofs.WordLemmas.{is_eqb}
@@ -79,9 +79,14 @@ hold_waited end call next p hold = by (event_at hold.0 end.event) refl hold.3.ma
         rw told (Each-to (λ id. is_pending e id ≡ true) (Waited end) (taken e (wait_owed call.stage)) (λ id pending. (hold.0, record { table = hold.3.table; waits = (rw h pending) }))
         (taken_pending e call.stage hold.2 right))
 
+-- the hold without the looks that were left out
+pub hold_behind : (n : ℕ) (call next : Wait) (p : EventProgress) → (behind : IsHoldBehind n call next p) → IsWaitHold n behind.0 next p
+hold_behind n call next p behind = (behind.1, behind.2, behind.3, behind.5)
+
 -- the one id of a step
-pub hold_gives : (end : End) (call next : Wait) (p : EventProgress) (id : ℕ) (last : Bool) → IsWaitHold end.event call next p → p ≡ progress.Id id last → Waited end id
-hold_gives end call next p id last hold is = (subst (λ (q : EventProgress). Each (Waited end) (reported q)) is (hold_waited end call next p hold)).0
+pub hold_gives : (end : End) (call next : Wait) (p : EventProgress) (id : ℕ) (last : Bool) → IsHoldBehind end.event call next p → p ≡ progress.Id id last → Waited end id
+hold_gives end call next p id last behind is =
+    (subst (λ (q : EventProgress). Each (Waited end) (reported q)) is (hold_waited end behind.0 next p (hold_behind end.event call next p behind))).0
 
 -- ---- the ids that it reports are numbers of 64 bits
 

@@ -13,6 +13,7 @@ use Rattle.board_event_model.specs.NotifyCalls.{Notify, notify_owed, notify_turn
 use Rattle.board_event_model.specs.WaitCalls.{Wait, wait_owed, wait_turn}
 use Rattle.board_event_core.specs.EventTable.{CanPerformAt, EventTable, IsEventTable, changed, event_at}
 use Rattle.board_event_core.specs.Turns.{notify_went_on, wait_went_on}
+use Rattle.board_event_core.specs.Passing.{PassesOver, ids_at}
 
 -- the access that a wait owes was made, and answered so
 pub record WaitMade (old new : EventTable) (n : ℕ) (call next : Wait) (p : EventProgress) (a : EventAnswer) : Type 0 where
@@ -67,6 +68,11 @@ pub record WaitHeld (old new : EventTable) (n : ℕ) (call next : Wait) (p : Eve
 
 abbrev pub IsWaitHold : ℕ → Wait → Wait → EventProgress → Type 0
 IsWaitHold n call next p = (old : EventTable) × (new : EventTable) × (a : EventAnswer) × WaitHeld old new n call next p a
+
+-- the same behind looks at words without ids, which were left out under that hold
+abbrev pub IsHoldBehind : ℕ → Wait → Wait → EventProgress → Type 0
+IsHoldBehind n call next p =
+    (mid : Wait) × (old : EventTable) × (new : EventTable) × (a : EventAnswer) × PassesOver (ids_at (event_at old n)) call mid × WaitHeld old new n mid next p a
 
 -- ---- the ids of a step
 

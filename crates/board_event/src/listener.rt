@@ -1,7 +1,7 @@
 //! The end of an event that takes ids.
 ghost use Rattle.std.specs.Prelude.{◌≡◌, ◌≢◌, ℕ, List, None, Ok, IfOk, IfSome, IsOk};
 ghost use Rattle.board_event.specs.Ends.{FreesListenersName, HasListener, IsGone, listener_gone};
-ghost use Rattle.board_event.specs.Accesses.{IsWaitHold};
+ghost use Rattle.board_event.specs.Accesses.{IsHoldBehind};
 ghost use Rattle.board_event.specs.TypedCalls.{GivesWaited, IsCalledOnWaited, Waited};
 ghost use Rattle.board_event.specs.LentForms.{Changes, GivesNext, GivesNone, HandsOver, OnEvent, after_one, all_taken};
 
@@ -11,7 +11,8 @@ use crate::events_of::{EventsOf, KindOfEvents};
 use crate::patience::{Forever, Patience, Until};
 use crate::taking::{take_all, take_one, wait_call};
 use board_event_core::{
-    EventProgress, ListenerWaitError, TriggerId, WaitCall, WaitMode, WaitStage, table_stands,
+    EventProgress, ListenerWaitError, TriggerId, WaitCall, WaitMode, WaitStage, pass_empty_words,
+    table_stands,
 };
 use board_names::{FileName, NamePlace, NamedConcept};
 use std::alloc::Global;
@@ -125,8 +126,8 @@ impl<K: KindOfEvents + Drop> EventListener<K> {
         }
     }
 
-    /// One access of a wait, under one hold of the lock. A look that found nothing sleeps before it lets go of the lock,
-    /// so no notify comes between the look and the sleep.
+    /// One access of a wait, under one hold of the lock. Looks at words without ids are left out under the same hold. A
+    /// look that found nothing sleeps before it lets go of the lock, so no notify comes between the look and the sleep.
     fn access<R: Wait, P: Patience<R>>(
         &self,
         rt: &R,
@@ -134,10 +135,11 @@ impl<K: KindOfEvents + Drop> EventListener<K> {
         patience: &P,
     ) -> Option<EventProgress>
         requires { call.old.stage ≢ WaitStage.Finished }
-        ensures { IfSome result (IsWaitHold self.now.event call.old call.new) }
+        ensures { IfSome result (IsHoldBehind self.now.event call.old call.new) }
     {
         let mut state = self.place.lock(rt);
         table_stands(&state.events);
+        pass_empty_words(&state.events, self.event, call);
         let progress = wait_access(&mut state.events, self.event, call)?;
         if progress == EventProgress::Waiting && !patience.sleep(rt, &self.arrived, state) {
             return None;

@@ -10,6 +10,7 @@ use std::process::Abort;
 mod lent;
 mod limits;
 mod threads;
+mod timed;
 mod typed;
 
 /// A call of a row. The event's name is `e`.

@@ -3,3 +3,4 @@ mod TableLemmas
 mod RowLemmas
 mod EventLemmas
 mod StandingLemmas
+pub mod PassLemmas

@@ -3,6 +3,7 @@ ghost use Rattle.std.specs.Prelude.{◌≡◌, ◌≤◌, ◌<◌, ◌+◌, ◌*
 ghost use Rattle.std.specs.FinSet as set;
 ghost use Rattle.board_event_model.specs.Ids.{has, IsWord};
 ghost use Rattle.board_event_core.specs.IdSets.{IdSet, IsAcquired, IsCalledOnEach, IsLeastIn, with_id, without_word};
+ghost use Rattle.board_event_core.specs.Passing.{NoneBetween};
 
 use crate::id_tracker::IdTracker;
 use board_names::{ListenerCreateError, NotifierNotifyError, TriggerId};
@@ -81,6 +82,21 @@ impl BitSet {
         ensures { IsWord self.now.ids word result }
     {
         self.words[word as usize]
+    }
+
+    /// The first word that has ids, from this one on, and else the last.
+    pub fn next_word(&self, word: u64) -> u64
+        requires { word < self.now.max / 64 + 1 }
+        ensures behind { word ≤ result }
+        ensures within { result < self.now.max / 64 + 1 }
+        ensures none { NoneBetween self.now.ids word result }
+    {
+        let last = self.words.len() - 1;
+        let mut at = word as usize;
+        while at < last && self.words[at] == 0 {
+            at += 1;
+        }
+        at as u64
     }
 
     /// The ids of a word, as bits, which it takes out.

@@ -2,6 +2,7 @@
 ghost use Rattle.std.specs.Prelude.{◌≡◌, ◌≤◌, ◌<◌, ◌+◌, ◌-◌, ◌^◌, ◌/◌, ℕ, IfOk, [], true, false, IsTrue, ◌↔◌};
 ghost use Rattle.std.specs.FinSet as set;
 ghost use Rattle.board_event_model.specs.EventMemory.{CanPerform, Event, IsRight, after, holds_name, has_holder, new_event, pop_answer, push_answer, yes_or_no};
+ghost use Rattle.board_event_core.specs.Passing.{NoneBetween};
 ghost use Rattle.board_event_core.specs.EventTable.{with_gone, with_notifier, without_listener, without_notifier};
 
 use crate::bit_set::BitSet;
@@ -178,6 +179,19 @@ impl EventMemory {
                 EventAccess::Push(_) | EventAccess::Pop => false,
             },
             Pending::Queue(_) => matches!(access, EventAccess::Push(_) | EventAccess::Pop),
+        }
+    }
+
+    /// The first word that has ids, from this one on, and else the last.
+    pub fn next_word(&self, word: u64) -> u64
+        requires { CanPerform self.now (EventAccess.Scan word) }
+        ensures behind { word ≤ result }
+        ensures none { NoneBetween self.now.pending word result }
+    {
+        match &self.pending {
+            Pending::Bits(bits) => bits.next_word(word),
+            // `CanPerform`: a queue has no words.
+            Pending::Queue(_) => unreachable!(),
         }
     }
 

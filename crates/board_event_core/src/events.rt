@@ -1,9 +1,10 @@
 //! Events by their numbers and names.
-ghost use Rattle.std.specs.Prelude.{◌≡◌, ◌<◌, ◌^◌, ◌↔◌, ℕ, true, is_some, IfOk, IfSome, IsSome, IsSomeAnd, IsTrue, None, OnOk, OnErr, Some};
+ghost use Rattle.std.specs.Prelude.{◌≡◌, ◌≤◌, ◌<◌, ◌^◌, ◌↔◌, ℕ, true, is_some, IfOk, IfSome, IsSome, IsSomeAnd, IsTrue, None, OnOk, OnErr, Some};
 ghost use Rattle.board_layout.specs.Answer.{Answers, Refuses};
 ghost use Rattle.board_names.specs.Table.{at, name_at};
 ghost use Rattle.board_names.specs.declared.errors.event.ListenerCreateError.TheVariants.{OutOfMemory};
 ghost use Rattle.board_event_model.specs.EventMemory.{Event, IsRight, after, new_event};
+ghost use Rattle.board_event_core.specs.Passing.{NoneBetween, ids_at};
 ghost use Rattle.board_event_core.specs.EventTable.{CanPerformAt, DropsEventOf, FreesNameOf, HasRoomAt, HoldsNameAt, IsEventTable, IsNotifierAnswer, NameStands, answer_to_listen, changed, event_at, table_listened, names_of, empty_table, notifier_of, settled, with_gone, with_notifier, without_listener, without_name, without_notifier};
 
 use crate::event_rows::EventRows;
@@ -199,6 +200,15 @@ impl Events {
             None => false,
             Some(memory) => memory.allows(access),
         }
+    }
+
+    /// The first word of an event that has ids, from this one on, and else the last.
+    pub fn next_word(&self, event: u64, word: u64) -> u64
+        requires { CanPerformAt self.now event (EventAccess.Scan word) }
+        ensures behind { word ≤ result }
+        ensures none { NoneBetween (ids_at (event_at self.now event)) word result }
+    {
+        self.rows.standing(event).next_word(word)
     }
 
     /// The kind of an event.

@@ -1,8 +1,9 @@
-//! One step of a call: the access that it owes, made on the events.
+//! One step of a call: the access that it owes, made on the events; and the looks at words without ids, which a wait may leave out.
 ghost use Rattle.std.specs.Prelude.{◌≡◌, ◌≢◌};
 ghost use Rattle.board_event_model.specs.NotifyCalls.{notify_owed};
 ghost use Rattle.board_event_model.specs.WaitCalls.{wait_owed};
-ghost use Rattle.board_event_core.specs.EventTable.{CanPerformAt};
+ghost use Rattle.board_event_core.specs.EventTable.{CanPerformAt, event_at};
+ghost use Rattle.board_event_core.specs.Passing.{PassesOver, ids_at};
 ghost use Rattle.board_event_core.specs.Steps.{IsNotifyStep, IsWaitStep};
 
 use crate::events::Events;
@@ -50,5 +51,18 @@ pub fn wait_step(events: &mut Events, event: u64, call: &mut WaitCall) -> EventS
         access,
         answer,
         progress,
+    }
+}
+
+/// Leaves out the looks that a wait owes at words without ids, up to a word that has some, or to the last: it goes on as it would with the answers to them.
+pub fn pass_empty_words(events: &Events, event: u64, call: &mut WaitCall)
+    ensures passes { PassesOver (ids_at (event_at events.now event)) call.old call.new }
+    ensures on { call.old.stage ≢ WaitStage.Finished → call.new.stage ≢ WaitStage.Finished }
+{
+    let Some(word) = call.word() else {
+        return;
+    };
+    if events.allows(event, EventAccess::Scan(word)) {
+        call.go_on_to(events.next_word(event, word));
     }
 }

@@ -2,6 +2,7 @@
 ghost use Rattle.std.specs.Prelude.{◌≡◌, ◌≢◌, ◌≤◌, ◌<◌, ◌^◌, IsTrue, ◌↔◌};
 ghost use Rattle.board_event_model.specs.NotifyCalls.{is_yes};
 ghost use Rattle.board_event_model.specs.WaitCalls.{word_in, wait_bits, wait_queue, wait_owed, wait_turn, nothing, scanned, swapped, popped, least_id, first_word};
+ghost use Rattle.board_event_core.specs.Passing.{GoesOnTo, word_at, word_of};
 ghost use Rattle.board_event_core.specs.Turns.{wait_went_on};
 
 use board_event_model::{EventAccess, EventAnswer, EventProgress, WaitMode, WaitStage};
@@ -73,6 +74,31 @@ impl WaitCall {
         ensures { IsTrue result ↔ (self.now.stage ≡ WaitStage.Finished) }
     {
         self.stage == WaitStage::Finished
+    }
+
+    /// The word that it is to look at, where it is to look at one.
+    pub fn word(&self) -> Option<u64>
+        ensures { result ≡ word_of self.now.stage }
+    {
+        match self.stage {
+            WaitStage::Scan { word } => Some(word),
+            WaitStage::Swap { word, some: _ } => Some(word),
+            _ => None,
+        }
+    }
+
+    /// Goes on as it would with answers that words have no ids, to this word or to its last.
+    pub(crate) fn go_on_to(&mut self, other: u64)
+        requires { word_at self.old.stage ≤ other }
+        ensures to { GoesOnTo other self.old self.new }
+        ensures on { self.old.stage ≢ WaitStage.Finished → self.new.stage ≢ WaitStage.Finished }
+    {
+        let word = other.min(self.words - 1);
+        match self.stage {
+            WaitStage::Scan { word: _ } => self.stage = WaitStage::Scan { word },
+            WaitStage::Swap { word: _, some } => self.stage = WaitStage::Swap { word, some },
+            _ => {}
+        }
     }
 
     /// The access that is owed.

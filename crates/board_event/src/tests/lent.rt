@@ -1,11 +1,13 @@
 //! The rows by lent forms.
+ghost use Rattle.std.specs.Prelude.{◌≡◌, None};
+
 use super::{
     Deed, Told, configuration, file_name, is_told, list_told, listens, one_told, opens,
     row_of_names, row_of_queues, row_of_sets, with_id,
 };
 use crate::{
-    EventListener, EventNotifier, EventRegistry, EventsOf, KindOfEvents, ListenerBuilder,
-    LocalEvent, NotifierNotifyError, QueueOfIds, SetOfIds, TriggerId,
+    EventListener, EventListenerBuilder, EventNotifier, EventRegistry, EventsOf, KindOfEvents,
+    ListenerBuilder, LocalEvent, NotifierNotifyError, QueueOfIds, SetOfIds, TriggerId,
 };
 use board_names::{NameTable, NamedConceptMgmt};
 use std::alloc::Global;
@@ -128,4 +130,31 @@ fn a_lent_event_goes_with_its_last_end(rt: HostRuntime) {
     assert_eq!(rt; state.name_at(0), None);
     assert!(rt; !state.events().has_listener(1));
     assert!(rt; !state.events().has_notifier(1));
+}
+
+/// What the first wait on a new event gives, whatever the events were before: nothing. No one tests it here.
+fn first_wait<K: KindOfEvents + Drop>(
+    state: &mut EventsOf<K>,
+    builder: EventListenerBuilder<K>,
+    alloc: Global,
+) -> Option<TriggerId>
+    ensures { result ≡ None }
+{
+    let Ok(listener) = builder.create_in(state, alloc) else {
+        return None;
+    };
+    match listener.try_wait_one_in(state) {
+        Ok(one) => one,
+        Err(_) => None,
+    }
+}
+
+#[test]
+fn a_new_event_gives_nothing(rt: HostRuntime) {
+    let mut sets: Lent<SetOfIds> = make_lent(&rt, rt.alloc());
+    let builder = listens(&rt, b"new", &sets.registry);
+    assert_eq!(rt; first_wait(&mut sets.state, builder, rt.alloc()), None);
+    let mut queues: Lent<QueueOfIds> = make_lent(&rt, rt.alloc());
+    let builder = listens(&rt, b"new", &queues.registry);
+    assert_eq!(rt; first_wait(&mut queues.state, builder, rt.alloc()), None);
 }

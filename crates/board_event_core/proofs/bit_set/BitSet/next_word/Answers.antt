@@ -1,0 +1,18 @@
+use Rattle.std.proofs.Common.{◌≡◌, ◌<◌, ◌+◌, ◌/◌, ℕ, ap, sym, subst, arith}
+use Rattle.board_event_core.specs.IdSets.{IdSet}
+use Rattle.board_event_core.proofs.BitLemmas.{scan_view}
+use Rattle.board_event_core.proofs.bit_set.BitSet.next_word.Goals as goal
+
+pub returns-else-index-eq0-clause-none : goal.returns-else-index-eq0-clause-none
+returns-else-index-eq0-clause-none c = λ k from low.
+    let same : c.self.inside.max ≡ c.args.self.now.max = ap (λ (s : IdSet). s.max) c.self.view_is in
+    let within : k < c.self.inside.max / 64 + 1 = omega (arith, c.loop-at.invariant.1, c.len-last.ensures, c.self.invariant, low) in
+    scan_view c.self.inside.words.items c.self.inside.max k 0 c.args.self.now c.self.view_is c.self.invariant
+    (subst (λ (m : ℕ). k < m / 64 + 1) same within) (sym (c.loop-at.invariant.2 k from low)) (omega arith)
+
+pub returns-after-loop-at-clause-none : goal.returns-after-loop-at-clause-none
+returns-after-loop-at-clause-none c = λ k from low.
+    let same : c.self.inside.max ≡ c.args.self.now.max = ap (λ (s : IdSet). s.max) c.self.view_is in
+    let within : k < c.self.inside.max / 64 + 1 = omega (arith, c.loop-at.invariant.1, c.len-last.ensures, c.self.invariant, low) in
+    scan_view c.self.inside.words.items c.self.inside.max k 0 c.args.self.now c.self.view_is c.self.invariant
+    (subst (λ (m : ℕ). k < m / 64 + 1) same within) (sym (c.loop-at.invariant.2 k from low)) (omega arith)
