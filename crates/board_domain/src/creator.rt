@@ -5,19 +5,18 @@ ghost use Rattle.board_layout.specs.Bytes.{details};
 ghost use Rattle.board_layout.specs.Keys.{same_keys};
 ghost use Rattle.board_service.specs.Domain as calls;
 ghost use Rattle.board_domain.specs.LentForms as lent;
-ghost use Rattle.board_domain.specs.Services.{AddsEntry, IsEntryOf, new_creator, allowing_readers, allowing_nodes, allowing_writers, factory_made};
+ghost use Rattle.board_service.specs.Entries.{IsEntryOf};
+ghost use Rattle.board_domain.specs.Services.{AddsEntry, new_creator, allowing_readers, allowing_nodes, allowing_writers, factory_made};
 ghost use Rattle.board_domain.specs.Factories.{KeepsBoard};
 
-use crate::add_error::AddError;
 use crate::kept::new_board;
-use crate::new_entry::new_entry;
 use crate::port_factory::PortFactory;
 use board_concepts::AttributeSpecifier;
 use board_handles::{Domain, DomainState};
 use board_layout::{BoardKey, KeyMemoryError, ZeroCopySend};
 use board_model::{Limits, NewLimits};
 use board_names::{BlackboardCreateError, ServiceName};
-use board_service::{NewEntry, NodeId};
+use board_service::{AddError, NewEntry, NodeId};
 use std::alloc::Global;
 use std::marker::{Model, PhantomData};
 use std::sync::Wait;
@@ -116,10 +115,10 @@ impl<K: BoardKey, P> Creator<K, P> {
         ensures aligned { let why = AddError.Key KeyMemoryError.ValueAlignmentTooLarge in
             IsErrOf result why ↔ ((K.SIZE ≤ 64) × (8 < K.ALIGNMENT)) }
         ensures ok { let values = details V.type_bytes V.SIZE V.ALIGNMENT in
-            let is_it = IsEntryOf K.value_of K.words_of K.SIZE K.WORDS key values in
+            let is_it = IsEntryOf K.value_of K.SIZE K.WORDS key (K.words_of key) values in
             IfOk result (λ more. AddsEntry self more (is_it (V.words_of value))) }
     {
-        let added = match new_entry(self.alloc, &key, &value) {
+        let added = match NewEntry::of(self.alloc, &key, &value) {
             Ok(added) => added,
             Err(why) => return Err(why),
         };
@@ -140,7 +139,7 @@ impl<K: BoardKey, P> Creator<K, P> {
         ensures aligned { let why = AddError.Key KeyMemoryError.ValueAlignmentTooLarge in
             IsErrOf result why ↔ ((K.SIZE ≤ 64) × (8 < K.ALIGNMENT)) }
         ensures ok { let values = details V.type_bytes V.SIZE V.ALIGNMENT in
-            let is_it = IsEntryOf K.value_of K.words_of K.SIZE K.WORDS key values in
+            let is_it = IsEntryOf K.value_of K.SIZE K.WORDS key (K.words_of key) values in
             let words = V.words_of in
             IfOk result (λ more. (v : V) × V.is_default v × AddsEntry self more (is_it (words v))) }
     {
