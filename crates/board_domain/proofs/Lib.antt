@@ -1,4 +1,5 @@
 pub mod EntryLemmas
+pub mod AskedLemmas
 pub mod KeptLemmas
 pub mod WalkLemmas
 pub mod NodeLaws

@@ -1,9 +1,10 @@
 //! What makes a board.
-ghost use Rattle.std.specs.Prelude.{◌≡◌, ◌≤◌, ◌<◌, ◌↔◌, [], Some, IfOk, IsErrOf};
+ghost use Rattle.std.specs.Prelude.{◌≡◌, ◌≤◌, ◌<◌, ◌↔◌, [], Some, length, IfOk, IsErrOf};
 ghost use Rattle.board_layout.specs.Answer.{Answers, Refuses, with_value};
 ghost use Rattle.board_layout.specs.Bytes.{details};
 ghost use Rattle.board_layout.specs.Keys.{same_keys};
 ghost use Rattle.board_service.specs.Domain as calls;
+ghost use Rattle.board_domain.specs.Asked.{config_asked};
 ghost use Rattle.board_domain.specs.LentForms as lent;
 ghost use Rattle.board_service.specs.Entries.{IsEntryOf};
 ghost use Rattle.board_domain.specs.Services.{AddsEntry, new_creator, allowing_readers, allowing_nodes, allowing_writers, factory_made};
@@ -170,6 +171,10 @@ impl<K: BoardKey, P> Creator<K, P> {
             lent.StaysUnmade asked same_key state.old.tables state.new.tables }
         ensures kept { IfOk result (λ f. KeepsBoard state.new.tables f) }
         ensures named { IfOk result (λ f. f.name ≡ self.name) }
+        ensures config { let keys = details K.type_bytes K.SIZE K.ALIGNMENT in
+            let config = config_asked keys self.limits (length self.entries) in
+            IfOk result (λ f. f.config ≡ config) }
+        ensures attributes { IfOk result (λ f. f.attributes ≡ attributes) }
         ensures nodes { state.new.nodes ≡ state.old.nodes }
     {
         let Creator {
@@ -210,6 +215,10 @@ impl<K: BoardKey, P> Creator<K, P> {
             lent.StaysUnmade asked same_key state.old.tables state.new.tables }
         ensures kept { IfOk result (λ f. KeepsBoard state.new.tables f) }
         ensures named { IfOk result (λ f. f.name ≡ self.name) }
+        ensures config { let keys = details K.type_bytes K.SIZE K.ALIGNMENT in
+            let config = config_asked keys self.limits (length self.entries) in
+            IfOk result (λ f. f.config ≡ config) }
+        ensures attributes { IfOk result (λ f. f.attributes ≡ []) }
         ensures nodes { state.new.nodes ≡ state.old.nodes }
     {
         let none = AttributeSpecifier::new(self.alloc);
@@ -229,6 +238,10 @@ impl<K: BoardKey, P> Creator<K, P> {
             let same_key = same_keys K.eq K.value_of K.SIZE K.WORDS in
             lent.CreatesSomewhere result same_key (lent.asked_board self keys attributes) }
         ensures named { IfOk result (λ f. f.name ≡ self.name) }
+        ensures config { let keys = details K.type_bytes K.SIZE K.ALIGNMENT in
+            let config = config_asked keys self.limits (length self.entries) in
+            IfOk result (λ f. f.config ≡ config) }
+        ensures attributes { IfOk result (λ f. f.attributes ≡ attributes) }
     {
         let Creator {
             node,
@@ -259,6 +272,10 @@ impl<K: BoardKey, P> Creator<K, P> {
             let same_key = same_keys K.eq K.value_of K.SIZE K.WORDS in
             lent.CreatesSomewhere result same_key (lent.asked_board self keys []) }
         ensures named { IfOk result (λ f. f.name ≡ self.name) }
+        ensures config { let keys = details K.type_bytes K.SIZE K.ALIGNMENT in
+            let config = config_asked keys self.limits (length self.entries) in
+            IfOk result (λ f. f.config ≡ config) }
+        ensures attributes { IfOk result (λ f. f.attributes ≡ []) }
     {
         let none = AttributeSpecifier::new(self.alloc);
         self.create_with_attributes(rt, none)
