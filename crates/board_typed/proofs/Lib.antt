@@ -1,0 +1,7 @@
+pub mod Beside
+pub mod Places
+pub mod Changed
+pub mod Left
+pub mod Calls
+pub mod Made
+pub mod Known

@@ -1,0 +1,26 @@
+//! The laws. A call of one does nothing.
+ghost use Rattle.board_typed.specs.Laws.{CallsKeepOrder, HandlesShareTheCell, KeysAreShort, PortsAreKnown};
+
+/// The cells of a new domain are in order, and each call leaves them so.
+pub fn calls_keep_order()
+    ensures { CallsKeepOrder }
+{
+}
+
+/// Where the cells are in order, a port that is held is never answered `ThingUnknown`.
+pub fn ports_are_known()
+    ensures { PortsAreKnown }
+{
+}
+
+/// Where the cells are in order, whoever holds a thing has keys of at most 64 bytes.
+pub fn keys_are_short()
+    ensures { KeysAreShort }
+{
+}
+
+/// Where the cells are in order, the handles that readers and writers are given of an entry have its one cell.
+pub fn handles_share_the_cell()
+    ensures { HandlesShareTheCell }
+{
+}
