@@ -5,8 +5,8 @@ use Rattle.board_model.specs.declared.tables.Board.{Board}
 use Rattle.board_model.specs.Tables.{board_at, is_numbered}
 use Rattle.board_service.specs.Domain.{cells_of, place_of_board, set_at, with_cells}
 use Rattle.board_service.proofs.DrawnLemmas.{numbered_other}
-use Rattle.board_cells.specs.Cells.{PlaceSeen}
-use Rattle.board_handles.specs.BoardEnds.{Core}
+use Rattle.board_cells.specs.Cells.{PlaceSeen, cell_at}
+use Rattle.board_handles.specs.BoardEnds.{Core, cell_in, cell_of}
 use Rattle.board_typed.specs.Order.{AreInOrder, IsInOrder, is_written}
 use Rattle.board_typed.proofs.Beside.{beside, is_beside, beside-set, beside-set-other}
 
@@ -47,6 +47,13 @@ module _ (d : Core) (board : ℕ) (ps qs : List PlaceSeen) (stand : cells_of d b
       is_beside (is_numbered b) d.tables.boards (set_at d.cells (place_of_board d board) qs)
       ∙ beside-set-other (is_numbered board) (is_numbered b) (apart board b ne) d.tables.boards d.cells qs
       ∙ sym (cells_beside d b)
+
+  -- no cell changes where those of its places are the same
+  pub cell_changed : ((i : ℕ) → cell_at qs i ≡ cell_at ps i) → (b i : ℕ) → cell_of (with_cells d board qs) b i ≡ cell_of d b i
+  cell_changed same b i = by_number _ board b
+      (λ here. subst (λ n. cell_of (with_cells d board qs) n i ≡ cell_of d n i) here
+      (ap (λ o. cell_in o i) set_own ∙ same i ∙ sym (ap (λ o. cell_in o i) stand)))
+      (λ ne. ap (λ o. cell_in o i) (set_other b ne))
 
   pub order_changed : ((b : ℕ) → board ≢ b → AreInOrder (board_at d.tables b) (cells_of d b) (is_written d b))
       → AreInOrder (board_at d.tables board) (Some qs) (is_written d board) → IsInOrder (with_cells d board qs)

@@ -33,11 +33,11 @@ module _ (d : Core) (facts : IsDomain d) (thing board : ℕ) where
   left = after_release d thing board
 
   -- the board and its cells are as they were
-  abbrev Stays : ℕ → Type 0
+  abbrev pub Stays : ℕ → Type 0
   Stays b = (board_at left.tables b ≡ board_at d.tables b) × (cells_of left b ≡ cells_of d b)
 
   -- the board isn't there, nor its cells
-  abbrev Goes : ℕ → Type 0
+  abbrev pub Goes : ℕ → Type 0
   Goes b = (board_at left.tables b ≡ None) × (cells_of left b ≡ None)
 
   abbrev boards_if : Bool → List Board
@@ -50,7 +50,7 @@ module _ (d : Core) (facts : IsDomain d) (thing board : ℕ) where
   none_found b same = subst (λ n. find (is_numbered n) (without_first (is_numbered board) d.tables.boards) ≡ None) same
       (find-without board_number is_numbered (λ n y. refl) d.tables.last_board board d.tables.boards facts.tables.boards)
 
-  each : (b : ℕ) → Stays b ⊎ Goes b
+  pub each : (b : ℕ) → Stays b ⊎ Goes b
   each b = by (is_kept d thing board) refl
     where
       found_if : (k : Bool) → is_kept d thing board ≡ k → board_at left.tables b ≡ find (is_numbered b) (boards_if k)

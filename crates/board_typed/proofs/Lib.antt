@@ -4,4 +4,5 @@ pub mod Changed
 pub mod Left
 pub mod Calls
 pub mod Made
+pub mod Keeps
 pub mod Known

@@ -19,7 +19,7 @@ use Rattle.board_typed.specs.Laws.{TakesItsWords}
 use Rattle.board_typed.proofs.Beside.{beside-push, is_beside, none_before}
 use Rattle.board_typed.proofs.Changed.{cells_beside, none_order, order_as, order_more}
 
-found-push : {A : Type 0} (p : A → Bool) (xs : List A) (x : A) → find p (xs ++ x ∷ []) ≡ cond (is_some (find p xs)) (find p xs) (cond (p x) (there x) None)
+pub found-push : {A : Type 0} (p : A → Bool) (xs : List A) (x : A) → find p (xs ++ x ∷ []) ≡ cond (is_some (find p xs)) (find p xs) (cond (p x) (there x) None)
 found-push p [] x = refl
 found-push p (y ∷ ys) x = elim (p y) as (λ b. cond b (there y) (find p (ys ++ x ∷ [])) ≡ cond (is_some (cond b (there y) (find p ys))) (cond b (there y) (find p ys)) (cond (p x) (there x) None)) [
   | true ↦ refl
@@ -47,14 +47,34 @@ there_new (a ∷ more) [] new i = absurd new
 there_new (a ∷ more) (p ∷ ps) new zero = ap is_some new.0.parked
 there_new (a ∷ more) (p ∷ ps) new (suc i) = there_new more ps new.1 i
 
-module _ (b : lent.NewBoard) (d : Core) (facts : IsDomain d) (o : IsInOrder d) (short : b.keys.size ≤ 64) (typed : AllByRecursion TakesItsWords b.entries) (cells : List PlaceSeen) (new : AreNew b.entries cells) where
+module _ (b : lent.NewBoard) (d : Core) (cells : List PlaceSeen) where
   abbrev the_board : Board
   the_board = new_board (d.tables.last_board + 1) b.name b.keys b.limits b.attributes b.entries
 
   abbrev made : Core
   made = after_create d b.node b.name b.keys b.limits b.attributes b.entries cells
 
-  new_order : (written : ℕ → Bool) → AreInOrder (Some the_board) (Some cells) written
+  -- what stands under a number after the board was made
+  pub board_as : (n : ℕ) → board_at made.tables n ≡ cond (is_some (find (is_numbered n) d.tables.boards)) (board_at d.tables n) (cond (is_numbered n the_board) (Some the_board) None)
+  board_as n = found-push (is_numbered n) d.tables.boards the_board
+
+  -- and its cells
+  pub cells_as : IsDomain d → (n : ℕ) → cells_of made n ≡ cond (is_some (find (is_numbered n) d.tables.boards)) (cells_of d n) (cond (is_numbered n the_board) (Some cells) None)
+  cells_as facts n =
+      is_beside (is_numbered n) (d.tables.boards ++ the_board ∷ []) (d.cells ++ cells ∷ [])
+      ∙ beside-push (is_numbered n) d.tables.boards d.cells the_board cells facts.cells
+      ∙ ap (λ c. cond (is_some (find (is_numbered n) d.tables.boards)) c (cond (is_numbered n the_board) (Some cells) None)) (sym (cells_beside d n))
+
+  -- a board that stood is as it was
+  pub board_was : (n : ℕ) → is_some (board_at d.tables n) ≡ true → board_at made.tables n ≡ board_at d.tables n
+  board_was n e = board_as n ∙ ap (λ k. cond k (board_at d.tables n) (cond (is_numbered n the_board) (Some the_board) None)) e
+
+  -- so are its cells
+  pub cells_were : IsDomain d → (n : ℕ) → is_some (board_at d.tables n) ≡ true → cells_of made n ≡ cells_of d n
+  cells_were facts n e = cells_as facts n ∙ ap (λ k. cond k (cells_of d n) (cond (is_numbered n the_board) (Some cells) None)) e
+
+module _ (b : lent.NewBoard) (d : Core) (facts : IsDomain d) (o : IsInOrder d) (short : b.keys.size ≤ 64) (typed : AllByRecursion TakesItsWords b.entries) (cells : List PlaceSeen) (new : AreNew b.entries cells) where
+  new_order : (written : ℕ → Bool) → AreInOrder (Some (the_board b d cells)) (Some cells) written
   new_order written = record {
     keys = short;
     cells = fits_new (places_from 0 (shapes_of b.entries)) b.entries cells new typed;
@@ -62,34 +82,23 @@ module _ (b : lent.NewBoard) (d : Core) (facts : IsDomain d) (o : IsInOrder d) (
     there = λ i h. there_new b.entries cells new i;
   }
 
-  each : (n : ℕ) → AreInOrder (board_at made.tables n) (cells_of made n) (is_written made n)
-  each n = by (is_some (find (is_numbered n) d.tables.boards)) (is_numbered n the_board) refl refl
+  each : (n : ℕ) → AreInOrder (board_at (made b d cells).tables n) (cells_of (made b d cells) n) (is_written (made b d cells) n)
+  each n = by (is_some (find (is_numbered n) d.tables.boards)) (is_numbered n (the_board b d cells)) refl refl
     where
-      board_as : board_at made.tables n ≡ cond (is_some (find (is_numbered n) d.tables.boards)) (board_at d.tables n) (cond (is_numbered n the_board) (Some the_board) None)
-      board_as = found-push (is_numbered n) d.tables.boards the_board
-
-      cells_as : cells_of made n ≡ cond (is_some (find (is_numbered n) d.tables.boards)) (cells_of d n) (cond (is_numbered n the_board) (Some cells) None)
-      cells_as =
-          is_beside (is_numbered n) (d.tables.boards ++ the_board ∷ []) (d.cells ++ cells ∷ [])
-          ∙ beside-push (is_numbered n) d.tables.boards d.cells the_board cells facts.cells
-          ∙ ap (λ c. cond (is_some (find (is_numbered n) d.tables.boards)) c (cond (is_numbered n the_board) (Some cells) None)) (sym (cells_beside d n))
-
-      less : (i : ℕ) → is_written made n i ≡ false → is_written d n i ≡ false
+      less : (i : ℕ) → is_written (made b d cells) n i ≡ false → is_written d n i ≡ false
       less i h = (none_before (is_write_handle n i) d.tables.things _ h).0
 
-      by : (k m : Bool) → is_some (find (is_numbered n) d.tables.boards) ≡ k → is_numbered n the_board ≡ m → AreInOrder (board_at made.tables n) (cells_of made n) (is_written made n)
-      by true m e f = order_as (board_at d.tables n) (board_at made.tables n) (cells_of d n) (cells_of made n) (is_written made n)
-          (board_as ∙ ap (λ j. cond j (board_at d.tables n) (cond (is_numbered n the_board) (Some the_board) None)) e)
-          (cells_as ∙ ap (λ j. cond j (cells_of d n) (cond (is_numbered n the_board) (Some cells) None)) e)
-          (order_more (board_at d.tables n) (cells_of d n) (is_written d n) (is_written made n) (o n) less)
-      by false true e f = order_as (Some the_board) (board_at made.tables n) (Some cells) (cells_of made n) (is_written made n)
-          (board_as ∙ (λ k. cond (e k) (board_at d.tables n) (cond (f k) (Some the_board) None)))
-          (cells_as ∙ (λ k. cond (e k) (cells_of d n) (cond (f k) (Some cells) None)))
-          (new_order (is_written made n))
-      by false false e f = order_as None (board_at made.tables n) None (cells_of made n) (is_written made n)
-          (board_as ∙ (λ k. cond (e k) (board_at d.tables n) (cond (f k) (Some the_board) None)))
-          (cells_as ∙ (λ k. cond (e k) (cells_of d n) (cond (f k) (Some cells) None)))
-          (none_order (is_written made n))
+      boards_if : (k m : Bool) → is_some (find (is_numbered n) d.tables.boards) ≡ k → is_numbered n (the_board b d cells) ≡ m → board_at (made b d cells).tables n ≡ cond k (board_at d.tables n) (cond m (Some (the_board b d cells)) None)
+      boards_if k m e f = board_as b d cells n ∙ (λ j. cond (e j) (board_at d.tables n) (cond (f j) (Some (the_board b d cells)) None))
+
+      cells_if : (k m : Bool) → is_some (find (is_numbered n) d.tables.boards) ≡ k → is_numbered n (the_board b d cells) ≡ m → cells_of (made b d cells) n ≡ cond k (cells_of d n) (cond m (Some cells) None)
+      cells_if k m e f = cells_as b d cells facts n ∙ (λ j. cond (e j) (cells_of d n) (cond (f j) (Some cells) None))
+
+      by : (k m : Bool) → is_some (find (is_numbered n) d.tables.boards) ≡ k → is_numbered n (the_board b d cells) ≡ m → AreInOrder (board_at (made b d cells).tables n) (cells_of (made b d cells) n) (is_written (made b d cells) n)
+      by true m e f = order_as _ _ _ _ (is_written (made b d cells) n) (boards_if true m e f) (cells_if true m e f)
+          (order_more (board_at d.tables n) (cells_of d n) (is_written d n) (is_written (made b d cells) n) (o n) less)
+      by false true e f = order_as _ _ _ _ (is_written (made b d cells) n) (boards_if false true e f) (cells_if false true e f) (new_order (is_written (made b d cells) n))
+      by false false e f = order_as _ _ _ _ (is_written (made b d cells) n) (boards_if false false e f) (cells_if false false e f) (none_order (is_written (made b d cells) n))
 
 pub creates : (b : lent.NewBoard) (d t : Core) → IsDomain d → IsInOrder d → b.keys.size ≤ 64 → AllByRecursion TakesItsWords b.entries → lent.IsMade b d t → IsInOrder t
 creates b d t facts o short typed is = subst IsInOrder (sym is.2) (each b d facts o short typed is.0 is.1)

@@ -1,9 +1,15 @@
 //! The laws. A call of one does nothing.
-ghost use Rattle.board_typed.specs.Laws.{CallsKeepOrder, HandlesShareTheCell, KeysAreShort, PortsAreKnown};
+ghost use Rattle.board_typed.specs.Laws.{CallsKeepOrder, CallsKeepOthers, HandlesShareTheCell, KeysAreShort, PortsAreKnown};
 
 /// The cells of a new domain are in order, and each call leaves them so.
 pub fn calls_keep_order()
     ensures { CallsKeepOrder }
+{
+}
+
+/// Each call leaves every other thing as it was, with its board and the cells of that.
+pub fn calls_keep_others()
+    ensures { CallsKeepOthers }
 {
 }
 

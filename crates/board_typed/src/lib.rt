@@ -9,4 +9,6 @@
 
 mod laws;
 
-pub use laws::{calls_keep_order, handles_share_the_cell, keys_are_short, ports_are_known};
+pub use laws::{
+    calls_keep_order, calls_keep_others, handles_share_the_cell, keys_are_short, ports_are_known,
+};
