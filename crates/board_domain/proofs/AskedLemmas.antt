@@ -96,13 +96,13 @@ no_less (Some n) limit e = not_above n limit e
 
 type_is : (a b : TypeDetail) → same_type a b ≡ true → a ≡ b
 type_is a b e =
-    let variant = both_hold _ _ e in
-    let name = both_hold _ _ variant.1 in
-    let sizes = both_hold _ _ name.1 in
-    let same_variant_too = same_variant_is a.variant b.variant variant.0 in
-    let same_name = (bytes_eq-Decides a.type_name b.type_name).0 name.0 in
-    let same_size : a.size ≡ b.size = grind (arith, sizes.0) in
-    let same_alignment : a.alignment ≡ b.alignment = grind (arith, sizes.1) in
+    let aligned = both_hold (same_variant a.variant b.variant && bytes_eq a.type_name b.type_name && (a.size == b.size)) (a.alignment == b.alignment) e in
+    let sized = both_hold (same_variant a.variant b.variant && bytes_eq a.type_name b.type_name) (a.size == b.size) aligned.0 in
+    let named = both_hold (same_variant a.variant b.variant) (bytes_eq a.type_name b.type_name) sized.0 in
+    let same_variant_too = same_variant_is a.variant b.variant named.0 in
+    let same_name = (bytes_eq-Decides a.type_name b.type_name).0 named.1 in
+    let same_size : a.size ≡ b.size = grind (arith, sized.1) in
+    let same_alignment : a.alignment ≡ b.alignment = grind (arith, aligned.1) in
     λ k. record { variant = same_variant_too k; type_name = same_name k; size = same_size k; alignment = same_alignment k }
 
 -- what isn't refused passes each test
@@ -121,20 +121,19 @@ clash (Some y) x e n = absurd cc
 -- a board that is found by any test is found under its number
 found_own : (p : Board → Bool) (last : ℕ) (xs : List Board) (b : Board) → AreDrawn board_number is_numbered last xs → find p xs ≡ Some b → find (is_numbered b.number) xs ≡ Some b
 found_own p last [] b h e = absurd cc
-found_own p last (x ∷ xs) b h e = at (p x) e
+found_own p last (x ∷ xs) b h e = at (p x) e (found_own p last xs b h.2)
   where
-    at : (c : Bool) → cond c (there x) (find p xs) ≡ Some b → cond (x.number == b.number) (there x) (find (is_numbered b.number) xs) ≡ Some b
-    at true f =
+    at : (c : Bool) → cond c (there x) (find p xs) ≡ Some b → (find p xs ≡ Some b → find (is_numbered b.number) xs ≡ Some b) → cond (x.number == b.number) (there x) (find (is_numbered b.number) xs) ≡ Some b
+    at true f later =
         let same : x ≡ b = cc in
         let own : (x.number == b.number) ≡ true = ap (λ (y : Board). y.number == b.number) same ∙ is_same b.number in
         rw own f
-    at false f =
-        let later = found_own p last xs b h.2 f in
+    at false f later =
         elim (x.number == b.number) as (λ q. (x.number == b.number) ≡ q → cond q (there x) (find (is_numbered b.number) xs) ≡ Some b) [
           | true ↦ λ t.
               let same : x.number ≡ b.number = grind (arith, t) in
-              absurd (clash (find (is_numbered b.number) xs) b later (subst (λ n. find (is_numbered n) xs ≡ None) same h.1))
-          | false ↦ λ t. later
+              absurd (clash (find (is_numbered b.number) xs) b (later f) (subst (λ n. find (is_numbered n) xs ≡ None) same h.1))
+          | false ↦ λ t. later f
         ] refl
 
 module _ (d : Core) (node : ℕ) (name : List ℕ) (keys : TypeDetail) (limits : Limits) (needs : Requirements) (x : Made) (facts : IsDomain d) (c : StaticConfig) (attributes : List Attribute) where

@@ -57,19 +57,19 @@ same_keeps gone d m e k tables cells = record {
   cells = λ n i ne stands. cells (held d n).board i ∙ k.cells n i ne stands;
 }
 
-taken_same : (m : Core) (board entry : ℕ) → ((taken m board entry).tables ≡ m.tables) × ((b i : ℕ) → cell_of (taken m board entry) b i ≡ cell_of m b i)
+pub taken_same : (m : Core) (board entry : ℕ) → ((taken m board entry).tables ≡ m.tables) × ((b i : ℕ) → cell_of (taken m board entry) b i ≡ cell_of m b i) × ((taken m board entry).last_thing ≡ m.last_thing)
 taken_same m board entry = by (cells_of m board) refl
   where
-    by : (c : Option (List PlaceSeen)) → cells_of m board ≡ c → ((taken_from m board c entry).tables ≡ m.tables) × ((b i : ℕ) → cell_of (taken_from m board c entry) b i ≡ cell_of m b i)
-    by None e = (refl, λ b i. refl)
-    by (Some ps) e = (refl, cell_changed m board ps (without_end ps entry) e (cell_without ps entry))
+    by : (c : Option (List PlaceSeen)) → cells_of m board ≡ c → ((taken_from m board c entry).tables ≡ m.tables) × ((b i : ℕ) → cell_of (taken_from m board c entry) b i ≡ cell_of m b i) × ((taken_from m board c entry).last_thing ≡ m.last_thing)
+    by None e = (refl, (λ b i. refl), refl)
+    by (Some ps) e = (refl, cell_changed m board ps (without_end ps entry) e (cell_without ps entry), refl)
 
-parked_same : (m : Core) (board entry : ℕ) (end : EndSeen) → ((parked m board entry end).tables ≡ m.tables) × ((b i : ℕ) → cell_of (parked m board entry end) b i ≡ cell_of m b i)
+pub parked_same : (m : Core) (board entry : ℕ) (end : EndSeen) → ((parked m board entry end).tables ≡ m.tables) × ((b i : ℕ) → cell_of (parked m board entry end) b i ≡ cell_of m b i) × ((parked m board entry end).last_thing ≡ m.last_thing)
 parked_same m board entry end = by (cells_of m board) refl
   where
-    by : (c : Option (List PlaceSeen)) → cells_of m board ≡ c → ((parked_to m board c entry end).tables ≡ m.tables) × ((b i : ℕ) → cell_of (parked_to m board c entry end) b i ≡ cell_of m b i)
-    by None e = (refl, λ b i. refl)
-    by (Some ps) e = (refl, cell_changed m board ps (with_end ps entry end) e (cell_with end ps entry))
+    by : (c : Option (List PlaceSeen)) → cells_of m board ≡ c → ((parked_to m board c entry end).tables ≡ m.tables) × ((b i : ℕ) → cell_of (parked_to m board c entry end) b i ≡ cell_of m b i) × ((parked_to m board c entry end).last_thing ≡ m.last_thing)
+    by None e = (refl, (λ b i. refl), refl)
+    by (Some ps) e = (refl, cell_changed m board ps (with_end ps entry end) e (cell_with end ps entry), refl)
 
 pub entry_mut_keeps : (gone : ℕ) (d : Core) (a : lent.Asked) (writer : ℕ) → KeepsOthers gone d (lent.with_write_taken d a writer)
 entry_mut_keeps gone d a writer =

@@ -25,7 +25,7 @@ use Rattle.board_handles.specs.BoardEnds.{Core, cell_in, cell_of, parked_in, par
 use Rattle.board_handles.specs.LentForms as lent
 use Rattle.board_typed.specs.Order.{AreInOrder, FitsEntry, HasShortKeys, HoldsValues, IsInOrder, IsOwn, is_written}
 
-some_is : {A : Type 0} (x y : A) → Some x ≡ Some y → x ≡ y
+pub some_is : {A : Type 0} (x y : A) → Some x ≡ Some y → x ≡ y
 some_is x y e = cc
 
 -- ---- the entry that was found
@@ -201,6 +201,11 @@ handed_there unknown width width_of at (Err w) g x e = absurd cc
 handed_there unknown width width_of at (Ok f) g x e =
     let there = fitting_there unknown width width_of f (at f.entry) g x e in
     subst (λ (h : Found). at h.entry ≡ Some x) there.0 there.1
+
+-- and the tables found it
+pub handed_found : {A E : Type 0} (unknown : E) (width : ℕ) (width_of : A → ℕ) (at : ℕ → Option A) (r : Result Found E) (g : Found) (x : A) → lent.handed unknown width width_of at r ≡ Ok (g, x) → r ≡ Ok g
+handed_found unknown width width_of at (Err w) g x e = absurd cc
+handed_found unknown width width_of at (Ok f) g x e = ap Ok (fitting_there unknown width width_of f (at f.entry) g x e).0
 
 -- the cell that a reader's handle is given is the entry's
 pub read_cell : (d : Core) (a : lent.Asked) (reader : ℕ) (f : Found) (c : CellSeen) → lent.read_answer d a reader ≡ Ok (f, c) → cell_of d (held d reader).board f.entry ≡ Some c

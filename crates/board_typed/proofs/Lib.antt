@@ -5,4 +5,5 @@ pub mod Left
 pub mod Calls
 pub mod Made
 pub mod Keeps
+pub mod Running
 pub mod Known

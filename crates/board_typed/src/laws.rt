@@ -1,5 +1,6 @@
 //! The laws. A call of one does nothing.
 ghost use Rattle.board_typed.specs.Laws.{CallsKeepOrder, CallsKeepOthers, HandlesShareTheCell, KeysAreShort, PortsAreKnown};
+ghost use Rattle.board_typed.specs.Runs.{TypedCallsAlone};
 
 /// The cells of a new domain are in order, and each call leaves them so.
 pub fn calls_keep_order()
@@ -28,5 +29,11 @@ pub fn keys_are_short()
 /// Where the cells are in order, the handles that readers and writers are given of an entry have its one cell.
 pub fn handles_share_the_cell()
     ensures { HandlesShareTheCell }
+{
+}
+
+/// Wherever typed calls alone lead, each value that was not given back stands, no reader or writer is answered `ThingUnknown`, and handles of an entry have one cell. A builder of ports is left out: its factory may be given back before it.
+pub fn typed_calls_alone()
+    ensures { TypedCallsAlone }
 {
 }
