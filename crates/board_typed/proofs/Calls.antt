@@ -20,7 +20,7 @@ pub new_order : IsInOrder empty
 new_order b = none_order (is_written empty b)
 
 -- one thing more, with the same boards and cells
-more_order : (d e : Core) (x : Thing ℕ ℕ) → IsInOrder d → e.tables.boards ≡ d.tables.boards → e.cells ≡ d.cells → e.tables.things ≡ d.tables.things ++ x ∷ [] → IsInOrder e
+pub more_order : (d e : Core) (x : Thing ℕ ℕ) → IsInOrder d → e.tables.boards ≡ d.tables.boards → e.cells ≡ d.cells → e.tables.things ≡ d.tables.things ++ x ∷ [] → IsInOrder e
 more_order d e x o boards cells things b =
     order_as (board_at d.tables b) (board_at e.tables b) (cells_of d b) (cells_of e b) (is_written e b)
     (ap (find (is_numbered b)) boards) (λ k. at (cells k) (position_from (is_numbered b) 0 (boards k)))

@@ -28,7 +28,7 @@ found_before : {A : Type 0} (p : A → Bool) (xs : List A) (x : A) → is_some (
 found_before p xs x e = found-push p xs x ∙ ap (λ b. cond b (find p xs) (cond (p x) (Some x) None)) e
 
 -- one thing more, with the same boards and cells
-more_keeps : (gone : ℕ) (d e : Core) (x : Thing ℕ ℕ) → e.tables.boards ≡ d.tables.boards → ((b i : ℕ) → cell_of e b i ≡ cell_of d b i) → e.tables.things ≡ d.tables.things ++ x ∷ [] → KeepsOthers gone d e
+pub more_keeps : (gone : ℕ) (d e : Core) (x : Thing ℕ ℕ) → e.tables.boards ≡ d.tables.boards → ((b i : ℕ) → cell_of e b i ≡ cell_of d b i) → e.tables.things ≡ d.tables.things ++ x ∷ [] → KeepsOthers gone d e
 more_keeps gone d e x same_boards cells things = record {
   things = λ n ne stands. ap (find (is_thing n)) things ∙ found_before (is_thing n) d.tables.things x stands;
   boards = λ n ne stands. ap (find (is_numbered (held d n).board)) same_boards;

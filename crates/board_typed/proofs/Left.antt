@@ -24,7 +24,7 @@ use Rattle.board_typed.proofs.Beside.{any_without, beside_none, beside-without-o
 use Rattle.board_typed.proofs.Changed.{apart, by_number, cells_beside, none_order, order_as, order_changed, order_more}
 use Rattle.board_typed.proofs.Places.{cell_with, kept_or, parked_with, parked_with_other}
 
-and_false : (a : Bool) → (a && false) ≡ false
+pub and_false : (a : Bool) → (a && false) ≡ false
 and_false true = refl
 and_false false = refl
 
@@ -72,9 +72,9 @@ module _ (d : Core) (facts : IsDomain d) (thing board : ℕ) where
           ))
 
   -- each board that is left is in order where it was, with no fewer write handles
-  pub board_left : (b : ℕ) (written : ℕ → Bool) → AreInOrder (board_at d.tables b) (cells_of d b) (is_written d b) → ((i : ℕ) → written i ≡ false → is_written d b i ≡ false) → AreInOrder (board_at left.tables b) (cells_of left b) written
-  board_left b written o less =
-      ⊎_elim (λ (s : Stays b). order_as _ (board_at left.tables b) _ (cells_of left b) written s.0 s.1 (order_more _ _ (is_written d b) written o less))
+  pub board_left : (b : ℕ) (was written : ℕ → Bool) → AreInOrder (board_at d.tables b) (cells_of d b) was → ((i : ℕ) → written i ≡ false → was i ≡ false) → AreInOrder (board_at left.tables b) (cells_of left b) written
+  board_left b was written o less =
+      ⊎_elim (λ (s : Stays b). order_as _ (board_at left.tables b) _ (cells_of left b) written s.0 s.1 (order_more _ _ was written o less))
       (λ (g : Goes b). order_as None (board_at left.tables b) None (cells_of left b) written g.0 g.1 (none_order written)) (each b)
 
   pub written_left : (b i : ℕ) → holds_at (find (is_thing thing) d.tables.things) (is_write_handle b i) ≡ false → is_written left b i ≡ is_written d b i
@@ -96,7 +96,7 @@ module _ (d : Core) (facts : IsDomain d) (thing board : ℕ) where
 
   -- where what went was no write handle
   pub order_left : IsInOrder d → ((b i : ℕ) → holds_at (find (is_thing thing) d.tables.things) (is_write_handle b i) ≡ false) → IsInOrder left
-  order_left o other b = board_left b (is_written left b) (o b) (λ i h. sym (written_left b i (other b i)) ∙ h)
+  order_left o other b = board_left b (is_written d b) (is_written left b) (o b) (λ i h. sym (written_left b i (other b i)) ∙ h)
 
 -- ---- what is no write handle of an entry
 
@@ -148,7 +148,7 @@ module _ (d : Core) (facts : IsDomain d) (o : IsInOrder d) (thing entry : ℕ) (
   after = after_release d thing board
 
   others : (b : ℕ) → board ≢ b → AreInOrder (board_at after.tables b) (cells_of after b) (is_written after b)
-  others b ne = board_left d facts thing board b (is_written after b) (o b)
+  others b ne = board_left d facts thing board b (is_written d b) (is_written after b) (o b)
       (λ i h. sym (written_left d facts thing board b i (other_board b i (find (is_thing thing) d.tables.things) ne)) ∙ h)
 
   some_kept : (p : Option PlaceSeen) → is_some (kept_or e p) ≡ is_some (option_map places.cell_of p)

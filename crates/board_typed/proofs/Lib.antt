@@ -5,5 +5,6 @@ pub mod Left
 pub mod Calls
 pub mod Made
 pub mod Keeps
+pub mod Undone
 pub mod Running
 pub mod Known

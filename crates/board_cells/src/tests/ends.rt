@@ -5,7 +5,7 @@ ghost use Rattle.board_model.specs.Tables.{shapes_of};
 ghost use Rattle.board_service.specs.Entries.{as_added};
 
 use crate::cells::BoardCells;
-use crate::ends::WriteEnd;
+use crate::ends::{ReadEnd, WriteEnd};
 use board_concepts::AttributeSet;
 use board_model::Limits;
 use board_names::ServiceName;
@@ -68,10 +68,10 @@ fn an_end_is_taken_once_and_parked_once(rt: HostRuntime) -> Result<(), Fail> {
 fn read_beside(alloc: Global, cells: &mut BoardCells) -> Result<(Option<u64>, bool), Fail> {
     let mut out = vec![in alloc; 0u64; 1]?;
     let second = cells.read_end(1)?.is_some();
-    let Some(mut end) = cells.read_end(0)? else {
+    let Some(ReadEnd { cell, mut pass }) = cells.read_end(0)? else {
         return Ok((None, second));
     };
-    if end.cell.words() == 1 && end.cell.try_get(&mut end.pass, 1, &mut out).is_ok() {
+    if cell.words() == 1 && cell.try_get(&mut pass, 1, &mut out).is_ok() {
         return Ok((Some(out[0]), second));
     }
     Ok((None, second))

@@ -3,7 +3,7 @@ ghost use Rattle.std.specs.Prelude.{◌≤◌, IfSome};
 
 use super::ends::one_board;
 use crate::cells::BoardCells;
-use crate::ends::{SentReceipt, WriteEnd};
+use crate::ends::{ReadEnd, SentReceipt, WriteEnd};
 use board_cell::a_get_is_no_older;
 use board_service::DomainCore;
 use std::collections::VecDeque;
@@ -23,11 +23,11 @@ fn read_at<R: Wait>(rt: &R, sent: SentReceipt, out: &mut Vec<u64>) -> Option<u64
     ensures { IfSome result (λ g. sent.receipt.generation ≤ g) }
 {
     a_get_is_no_older();
-    let mut end = sent.into_read_end();
-    if end.cell.words() != out.len() as u64 {
+    let ReadEnd { cell, mut pass } = sent.into_read_end();
+    if cell.words() != out.len() as u64 {
         return None;
     }
-    Some(end.cell.get(rt, &mut end.pass, out))
+    Some(cell.get(rt, &mut pass, out))
 }
 
 // Publishes a value of one word and sends the receipt of it, where there is room.
