@@ -1,6 +1,6 @@
 -- What stands beside the first element that passes a test, as elements come and go.
-use Rattle.std.proofs.Common.{◌≡◌, ℕ, zero, suc, ◌+◌, Bool, true, false, cond, List, [], ◌∷◌, ◌++◌, length, set, Option, Some, None, refl, sym, ap, ◌∙◌, arith}
-use Rattle.std.specs.Prelude.{◌||◌, find, is_some, remove, slice_get, option_map}
+use Rattle.std.proofs.Common.{◌≡◌, ℕ, zero, suc, ◌+◌, Bool, true, false, cond, List, [], ◌∷◌, ◌++◌, length, Option, Some, None, refl, ap, ◌∙◌, arith}
+use Rattle.std.specs.Prelude.{◌||◌, find, is_some, option_map}
 use Rattle.std.specs.List.{position_from, list_any}
 use Rattle.board_model.specs.Tables.{without_first, holds_at}
 use Rattle.board_service.specs.Domain.{at, but_at, set_at}

@@ -1,6 +1,6 @@
 -- A domain whose cells are in order, after the places of one board changed.
 use Rattle.std.proofs.Common.{◌≡◌, ◌≢◌, ℕ, Bool, true, false, List, Option, Some, None, refl, sym, ap, ◌∙◌, subst, arith}
-use Rattle.std.specs.Prelude.{◌==◌, is_some, option_map}
+use Rattle.std.specs.Prelude.{◌==◌, option_map}
 use Rattle.board_model.specs.declared.tables.Board.{Board}
 use Rattle.board_model.specs.Tables.{board_at, is_numbered}
 use Rattle.board_service.specs.Domain.{cells_of, place_of_board, set_at, with_cells}

@@ -1,14 +1,13 @@
 -- Each call leaves every other thing as it was, with its board and the cells of that.
-use Rattle.std.proofs.Common.{◌≡◌, ◌≢◌, ℕ, Bool, true, false, cond, ◌+◌, ◌++◌, List, [], ◌∷◌, Option, Some, None, refl, sym, ap, ◌∙◌, subst, ⊎_elim, arith}
-use Rattle.std.specs.Prelude.{find, is_some, IsSome, if◌then◌else◌}
+use Rattle.std.proofs.Common.{◌≡◌, ◌≢◌, ℕ, Bool, true, false, cond, ◌++◌, List, [], ◌∷◌, Option, Some, None, refl, sym, ap, ◌∙◌, subst, ⊎_elim}
+use Rattle.std.specs.Prelude.{find, is_some, if◌then◌else◌}
 use Rattle.board_layout.specs.declared.type_detail.TypeDetail.{TypeDetail}
-use Rattle.board_model.specs.declared.tables.Board.{Board}
 use Rattle.board_model.specs.declared.tables.Thing.{Thing}
 use Rattle.board_model.specs.declared.tables.ThingKind.{ThingKind}
 use Rattle.board_model.specs.declared.tables.ThingKind.TheVariants.{WriteHandle}
-use Rattle.board_model.specs.Tables.{board_at, is_numbered, new_board}
+use Rattle.board_model.specs.Tables.{board_at, is_numbered}
 use Rattle.board_model.specs.TableCalls.{place_of}
-use Rattle.board_service.specs.Domain.{Stands, after_create, after_open, after_reader, after_writer, after_release, cells_of, held, is_thing, stands_as, thing_or_none, with_cells}
+use Rattle.board_service.specs.Domain.{Stands, after_open, after_reader, after_writer, after_release, cells_of, held, is_thing, stands_as, thing_or_none}
 use Rattle.board_service.specs.Facts.{IsDomain, thing_number}
 use Rattle.board_service.proofs.DrawnLemmas.{find-without-other}
 use Rattle.board_service.proofs.TableLemmas.{board_stands}
@@ -100,10 +99,10 @@ left_keeps d thing board facts after = record {
     stays : (n : ℕ) → n ≢ thing → Stands d n → Stays d facts thing board (held d n).board
     stays n ne stands = ⊎_elim (λ (s : Stays d facts thing board (held d n).board). s)
         (λ (g : Goes d facts thing board (held d n).board). (
-            let there : is_some (board_at (after_release d thing board).tables (held (after_release d thing board) n).board) ≡ true = board_stands (after_release d thing board).tables (after_release d thing board).last_thing n after.tables (ap is_some (found_left n ne) ∙ stands) in
-            let same : held (after_release d thing board) n ≡ held d n = ap thing_or_none (found_left n ne) in
-            let none : false ≡ true = sym (ap is_some g.0) ∙ ap (λ (t : Thing ℕ ℕ). is_some (board_at (after_release d thing board).tables t.board)) (sym same) ∙ there in
-            absurd cc
+        let there : is_some (board_at (after_release d thing board).tables (held (after_release d thing board) n).board) ≡ true = board_stands (after_release d thing board).tables (after_release d thing board).last_thing n after.tables (ap is_some (found_left n ne) ∙ stands) in
+        let same : held (after_release d thing board) n ≡ held d n = ap thing_or_none (found_left n ne) in
+        let none : false ≡ true = sym (ap is_some g.0) ∙ ap (λ (t : Thing ℕ ℕ). is_some (board_at (after_release d thing board).tables t.board)) (sym same) ∙ there in
+        absurd cc
         )) (each d facts thing board (held d n).board)
 
 stayed : (gone : ℕ) (d : Core) → KeepsOthers gone d d

@@ -1,7 +1,6 @@
 -- A port that is held, of a domain whose cells are in order, is no unknown thing.
-use Rattle.std.proofs.Common.{◌≡◌, ℕ, zero, suc, Bool, true, false, cond, ◌+◌, List, [], ◌∷◌, Option, Some, None, refl, sym, ap, ◌∙◌, subst, arith}
+use Rattle.std.proofs.Common.{◌≡◌, ℕ, suc, Bool, true, false, ◌+◌, List, [], ◌∷◌, Option, Some, None, refl, sym, ap, ◌∙◌, subst, arith}
 use Rattle.std.specs.Prelude.{◌&&◌, ◌==◌, ◌*◌, ◌<◌, ◌≤◌, find, slice_get, is_some, if◌then◌else◌, Result, Ok, Err}
-use Rattle.std.specs.List.{list_any}
 use Rattle.board_layout.specs.declared.type_detail.TypeDetail.{TypeDetail}
 use Rattle.board_layout.specs.Words.{IsWordCount}
 use Rattle.board_cell.specs.Passes.{CellSeen}
@@ -10,8 +9,8 @@ use Rattle.board_model.specs.declared.tables.Entry.{Entry}
 use Rattle.board_model.specs.declared.tables.ThingKind.TheVariants.{Reader, Writer}
 use Rattle.board_model.specs.declared.tables.Thing.{Thing}
 use Rattle.board_model.specs.declared.tables.ThingKind.{ThingKind}
-use Rattle.board_model.specs.Tables.{board_at, holds_at, kind_of, same_kind, entry_found, entry_from, entry_in, is_write_handle, of_type}
-use Rattle.board_model.specs.TableCalls.{answer_of, first_of}
+use Rattle.board_model.specs.Tables.{board_at, holds_at, kind_of, same_kind, entry_found, entry_from, entry_in, of_type}
+use Rattle.board_model.specs.TableCalls.{answer_of}
 use Rattle.board_model.specs.TypeTable.{same_type, same_variant}
 use Rattle.std.specs.Str.{bytes_eq}
 use Rattle.board_names.specs.declared.errors.boards.EntryHandleError.{EntryHandleError}
@@ -19,11 +18,11 @@ use Rattle.board_names.specs.declared.errors.boards.EntryHandleError.TheVariants
 use Rattle.board_names.specs.declared.errors.boards.EntryHandleMutError.{EntryHandleMutError}
 use Rattle.board_names.specs.declared.errors.boards.EntryHandleMutError.TheVariants as entry_mut_error
 use Rattle.board_service.specs.declared.made.Found.{Found}
-use Rattle.board_service.specs.Domain.{cells_of, entry_answer, entry_mut_answer, found_at, held, is_thing, spent, stands_as}
-use Rattle.board_cells.specs.Cells.{EndSeen, PlaceSeen, cell_width, end_width, fits}
-use Rattle.board_handles.specs.BoardEnds.{Core, cell_in, cell_of, parked_in, parked_of}
+use Rattle.board_service.specs.Domain.{entry_answer, entry_mut_answer, found_at, held, is_thing, spent, stands_as}
+use Rattle.board_cells.specs.Cells.{EndSeen, cell_width, end_width, fits}
+use Rattle.board_handles.specs.BoardEnds.{Core, cell_of, parked_of}
 use Rattle.board_handles.specs.LentForms as lent
-use Rattle.board_typed.specs.Order.{AreInOrder, FitsEntry, HasShortKeys, HoldsValues, IsInOrder, IsOwn, is_written}
+use Rattle.board_typed.specs.Order.{FitsEntry, HasShortKeys, IsInOrder, IsOwn, is_written}
 
 pub some_is : {A : Type 0} (x y : A) → Some x ≡ Some y → x ≡ y
 some_is x y e = cc

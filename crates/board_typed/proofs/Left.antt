@@ -1,7 +1,7 @@
 -- A domain after a thing went, with its board where it was the last of that.
-use Rattle.std.proofs.Common.{◌≡◌, ◌≢◌, ℕ, Bool, true, false, List, Option, Some, None, refl, sym, ap, ◌∙◌, subst, inl, inr, ⊎_elim, ◌⊎◌, arith}
+use Rattle.std.proofs.Common.{◌≡◌, ◌≢◌, ℕ, Bool, true, false, List, Option, Some, None, refl, sym, ap, ◌∙◌, subst, inl, inr, ⊎_elim, ◌⊎◌}
 use Rattle.std.specs.Prelude.{◌&&◌, find, slice_get, option_map, is_some, if◌then◌else◌}
-use Rattle.std.specs.List.{list_any, position_from}
+use Rattle.std.specs.List.{position_from}
 use Rattle.board_layout.specs.declared.type_detail.TypeDetail.{TypeDetail}
 use Rattle.board_cell.specs.Passes.{CellSeen}
 use Rattle.board_model.specs.declared.tables.Board.{Board}
@@ -64,11 +64,11 @@ module _ (d : Core) (facts : IsDomain d) (thing board : ℕ) where
       by false e = by_number (Stays b ⊎ Goes b) board b
           (λ same. inr (
             found_if false e ∙ none_found b same,
-            beside_if false e ∙ is_beside (is_numbered b) (boards_if false) (cells_if false) ∙ beside_none (is_numbered b) (boards_if false) (cells_if false) (none_found b same)
+            beside_if false e ∙ is_beside (is_numbered b) (boards_if false) (cells_if false) ∙ beside_none (is_numbered b) (boards_if false) (cells_if false) (none_found b same),
           ))
           (λ ne. inl (
             found_if false e ∙ find-without-other board_number is_numbered (λ n y. refl) board b d.tables.boards (λ f. ne (sym f)),
-            beside_if false e ∙ is_beside (is_numbered b) (boards_if false) (cells_if false) ∙ beside-without-other (is_numbered board) (is_numbered b) (apart board b ne) d.tables.boards d.cells ∙ sym (cells_beside d b)
+            beside_if false e ∙ is_beside (is_numbered b) (boards_if false) (cells_if false) ∙ beside-without-other (is_numbered board) (is_numbered b) (apart board b ne) d.tables.boards d.cells ∙ sym (cells_beside d b),
           ))
 
   -- each board that is left is in order where it was, with no fewer write handles

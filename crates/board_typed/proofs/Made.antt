@@ -1,12 +1,11 @@
 -- A board that is made has its cells in order.
-use Rattle.std.proofs.Common.{◌≡◌, ℕ, zero, suc, Bool, true, false, cond, ◌+◌, List, [], ◌∷◌, ◌++◌, Option, Some, None, refl, sym, ap, ◌∙◌, subst, arith}
-use Rattle.std.specs.Prelude.{◌==◌, ◌≤◌, find, slice_get, is_some}
-use Rattle.std.specs.List.{list_any, AllByRecursion}
+use Rattle.std.proofs.Common.{◌≡◌, ℕ, zero, suc, Bool, true, false, cond, ◌+◌, List, [], ◌∷◌, ◌++◌, Some, None, refl, sym, ap, ◌∙◌, subst}
+use Rattle.std.specs.Prelude.{◌≤◌, find, slice_get, is_some}
+use Rattle.std.specs.List.{AllByRecursion}
 use Rattle.board_layout.specs.declared.shape.CellPlace.{CellPlace}
 use Rattle.board_layout.specs.Layout.{places_from}
 use Rattle.board_layout.specs.Words.{IsWordCount}
 use Rattle.board_model.specs.declared.tables.Board.{Board}
-use Rattle.board_model.specs.declared.tables.Thing.{Thing}
 use Rattle.board_model.specs.Tables.{Added, board_at, entries_of, is_numbered, is_write_handle, new_board, shapes_of}
 use Rattle.board_service.specs.Domain.{after_create, cells_of}
 use Rattle.board_service.specs.Facts.{IsDomain}

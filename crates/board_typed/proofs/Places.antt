@@ -1,7 +1,7 @@
 -- What is seen at a place after an end was taken or parked at one.
-use Rattle.std.proofs.Common.{◌≡◌, ◌≢◌, ℕ, zero, suc, List, [], ◌∷◌, set, Option, Some, None, refl, sym, ap, ◌∙◌}
+use Rattle.std.proofs.Common.{◌≡◌, ◌≢◌, ℕ, zero, suc, List, [], ◌∷◌, Option, Some, None, refl, ap, ◌∙◌}
 use Rattle.std.specs.Prelude.{slice_get, option_map}
-use Rattle.board_cells.specs.Cells.{PlaceSeen, EndSeen, cell_at, parked_at, parked_in, emptied, without_end, or_else, filled, with_end}
+use Rattle.board_cells.specs.Cells.{PlaceSeen, EndSeen, cell_at, parked_at, emptied, without_end, or_else, filled, with_end}
 
 without_behind : (z : PlaceSeen) (zs : List PlaceSeen) (i : ℕ) → without_end (z ∷ zs) (suc i) ≡ z ∷ without_end zs i
 without_behind z zs i = step (slice_get zs i)

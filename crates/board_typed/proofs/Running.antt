@@ -4,21 +4,18 @@ use Rattle.std.specs.Prelude.{◌&&◌, ◌==◌, find, is_some, IfSome, if◌th
 use Rattle.std.specs.List.{AllByRecursion}
 use Rattle.board_layout.specs.declared.type_detail.TypeDetail.{TypeDetail}
 use Rattle.board_cell.specs.Passes.{CellSeen}
-use Rattle.board_model.specs.declared.tables.Board.{Board}
 use Rattle.board_model.specs.declared.tables.Entry.{Entry}
 use Rattle.board_model.specs.declared.tables.Thing.{Thing}
 use Rattle.board_model.specs.declared.tables.Kind.TheVariants as kind
 use Rattle.board_model.specs.declared.tables.ThingKind.{ThingKind}
 use Rattle.board_model.specs.declared.tables.ThingKind.TheVariants as thing_kind
 use Rattle.board_model.specs.Tables.{board_at, holds_at, kind_of, port_of, same_kind, without_first}
-use Rattle.board_model.specs.TableCalls.{answer_of, first_of, place_of}
+use Rattle.board_model.specs.TableCalls.{first_of, place_of}
 use Rattle.board_model.specs.TypeTable.{same_type}
-use Rattle.board_names.specs.declared.errors.boards.EntryHandleError.{EntryHandleError}
 use Rattle.board_names.specs.declared.errors.boards.EntryHandleError.TheVariants as entry_error
-use Rattle.board_names.specs.declared.errors.boards.EntryHandleMutError.{EntryHandleMutError}
 use Rattle.board_names.specs.declared.errors.boards.EntryHandleMutError.TheVariants as entry_mut_error
 use Rattle.board_service.specs.declared.made.Found.{Found}
-use Rattle.board_service.specs.Domain.{Stands, after_open, after_reader, after_writer, entry_answer, entry_list, entry_mut_answer, entry_mut_list, found, held, is_thing, stands_as, thing_or_none}
+use Rattle.board_service.specs.Domain.{Stands, after_open, entry_answer, entry_list, entry_mut_answer, entry_mut_list, found, held, is_thing, stands_as, thing_or_none}
 use Rattle.board_service.specs.Facts.{AreDrawn, IsDomain, handle_entry}
 use Rattle.board_service.proofs.DrawnLemmas.{drawn_more, drawn_raised, drawn_without, find-without, none_above, there}
 use Rattle.board_service.proofs.HeldLemmas.{next_found}
@@ -29,7 +26,7 @@ use Rattle.board_handles.specs.LentForms as lent
 use Rattle.board_handles.proofs.LentLemmas.{answered}
 use Rattle.board_typed.specs.Order.{IsInOrder}
 use Rattle.board_typed.specs.Laws.{KeepsAll, KeepsOthers}
-use Rattle.board_typed.specs.Runs.{Call, Comes, Happens, Holds, IsGood, IsUndone, Value, World, a_value, has_thing, start, value_thing}
+use Rattle.board_typed.specs.Runs.{Call, Comes, Happens, Holds, IsGood, IsUndone, Value, World, a_value, has_thing, value_thing}
 use Rattle.board_typed.specs.Runs.{Creates, Opens, MakesReader, MakesWriter, Reads, Writes, GivesUp, GivesUpWriting, UndoesCreate, UndoesOpen, UndoesRead, UndoesWrite}
 use Rattle.board_typed.proofs.Calls.{new_order, opens, makes_reader, makes_writer, reads, writes}
 use Rattle.board_typed.proofs.Left.{gives_up, gives_up_writing}
@@ -209,11 +206,10 @@ step (Reads v a f c) old new facts s h =
     (subst IsInOrder (sym h.3) (reads d a v.thing s.order)) (λ gone. subst (KeepsOthers gone d) (sym h.3) (entry_keeps gone d a v.thing))
     record {
       stands = h.4.as_kind v.keys v.kind (good_of old v s h.0).stands;
-      end = subst (λ (e : Core). (handle_entry (held e (d.last_thing + 1)).kind ≡ Some f.entry) × (cell_of e (held e (d.last_thing + 1)).board f.entry ≡ Some c)) (sym h.3)
-          (
-            ap (λ (t : Thing ℕ ℕ). handle_entry t.kind) is_x ∙ ap Some (sym (read_place d a v.thing f c h.2)),
-            ap (λ (t : Thing ℕ ℕ). cell_of (lent.with_read d a v.thing) t.board f.entry) is_x ∙ read_cell d a v.thing f c h.2,
-          );
+      end = subst (λ (e : Core). (handle_entry (held e (d.last_thing + 1)).kind ≡ Some f.entry) × (cell_of e (held e (d.last_thing + 1)).board f.entry ≡ Some c)) (sym h.3) (
+        ap (λ (t : Thing ℕ ℕ). handle_entry t.kind) is_x ∙ ap Some (sym (read_place d a v.thing f c h.2)),
+        ap (λ (t : Thing ℕ ℕ). cell_of (lent.with_read d a v.thing) t.board f.entry) is_x ∙ read_cell d a v.thing f c h.2,
+      );
     }
     refl (ap (λ (e : Core). e.last_thing) h.3) h.5
 step (Writes v a f p) old new facts s h =
@@ -227,11 +223,10 @@ step (Writes v a f p) old new facts s h =
     (subst IsInOrder (sym h.3) (writes d a v.thing s.order)) (λ gone. subst (KeepsOthers gone d) (sym h.3) (entry_mut_keeps gone d a v.thing))
     record {
       stands = h.4.as_kind v.keys v.kind (good_of old v s h.0).stands;
-      end = subst (λ (e : Core). (handle_entry (held e (d.last_thing + 1)).kind ≡ Some f.entry) × (cell_of e (held e (d.last_thing + 1)).board f.entry ≡ Some p.cell)) (sym h.3)
-          (
-            ap (λ (t : Thing ℕ ℕ). handle_entry t.kind) is_x ∙ ap Some (sym (write_place d a v.thing f p h.2)),
-            ap (λ (t : Thing ℕ ℕ). cell_of (lent.with_write_taken d a v.thing) t.board f.entry) is_x ∙ same.1 of.board f.entry ∙ write_cell d a v.thing f p s.order h.2,
-          );
+      end = subst (λ (e : Core). (handle_entry (held e (d.last_thing + 1)).kind ≡ Some f.entry) × (cell_of e (held e (d.last_thing + 1)).board f.entry ≡ Some p.cell)) (sym h.3) (
+        ap (λ (t : Thing ℕ ℕ). handle_entry t.kind) is_x ∙ ap Some (sym (write_place d a v.thing f p h.2)),
+        ap (λ (t : Thing ℕ ℕ). cell_of (lent.with_write_taken d a v.thing) t.board f.entry) is_x ∙ same.1 of.board f.entry ∙ write_cell d a v.thing f p s.order h.2,
+      );
     }
     refl (ap (λ (e : Core). e.last_thing) h.3 ∙ same.2) h.5
 step (GivesUp v) old new facts s h =

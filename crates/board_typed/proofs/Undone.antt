@@ -1,17 +1,16 @@
 -- A thing that was made, and is gone again for want of memory.
-use Rattle.std.proofs.Common.{◌≡◌, ◌≢◌, ℕ, Bool, true, false, cond, ◌+◌, ◌++◌, List, [], ◌∷◌, Option, Some, None, refl, sym, ap, ◌∙◌, subst, arith}
-use Rattle.std.specs.Prelude.{◌&&◌, ◌==◌, find, is_some}
+use Rattle.std.proofs.Common.{◌≡◌, ◌≢◌, ℕ, Bool, true, false, cond, ◌+◌, ◌++◌, List, [], ◌∷◌, Some, None, refl, ap, ◌∙◌, subst, arith}
+use Rattle.std.specs.Prelude.{◌&&◌, find, is_some}
 use Rattle.std.specs.List.{list_any, position_from}
 use Rattle.board_model.specs.declared.tables.Thing.{Thing}
-use Rattle.board_model.specs.declared.tables.Kind.{Kind}
 use Rattle.board_model.specs.Tables.{board_at, holds_at, is_numbered, is_of_board, is_write_handle, without_first, writes_entry}
-use Rattle.board_service.specs.Domain.{Stands, after_release, at, cells_of, held, is_thing, thing_or_none}
+use Rattle.board_service.specs.Domain.{Stands, at, cells_of, held, is_thing, thing_or_none}
 use Rattle.board_service.specs.Facts.{IsDomain, thing_number}
 use Rattle.board_service.proofs.DrawnLemmas.{none_above, there}
 use Rattle.board_service.proofs.HeldLemmas.{next_found}
 use Rattle.board_handles.specs.BoardEnds.{Core, cell_of}
 use Rattle.board_handles.specs.LentForms as lent
-use Rattle.board_typed.specs.Order.{AreInOrder, IsInOrder, is_written}
+use Rattle.board_typed.specs.Order.{IsInOrder, is_written}
 use Rattle.board_typed.specs.Laws.{KeepsAll, KeepsOthers}
 use Rattle.board_typed.proofs.Changed.{order_as}
 use Rattle.board_typed.proofs.Keeps.{left_keeps}

@@ -100,7 +100,6 @@ Happens (GivesUp v) old new =
 Happens (GivesUpWriting v h) old new =
     Holds old v × (v.kind ≡ WriteHandle) × (h.found.thing ≡ v.thing) × (v.end ≡ Some (h.found.entry, h.held.cell))
     × (new.tables ≡ write_given_up old.tables v.keys h) × IsDomain (without_thing old.tables v.thing) × Loses old new v
-
 Happens (UndoesCreate b made) old new =
     (b.keys.size ≤ 64) × AllByRecursion TakesItsWords b.entries × IsMade b old.tables made × IsUndone old new made
 Happens (UndoesOpen node name) old new = IsUndone old new (after_open old.tables node name)

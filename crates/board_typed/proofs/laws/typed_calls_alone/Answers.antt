@@ -7,7 +7,7 @@ use Rattle.board_service.specs.Facts.{handle_entry}
 use Rattle.board_handles.specs.BoardEnds.{cell_of}
 use Rattle.board_typed.specs.Runs.{Call, CellsAreShared, Comes, IsGood, NothingIsUnknown, Value, ValuesStand, World}
 use Rattle.board_typed.proofs.Known.{reader_known, some_is, writer_known}
-use Rattle.board_typed.proofs.Running.{Sound, good_of, sound}
+use Rattle.board_typed.proofs.Running.{good_of, sound}
 use Rattle.board_typed.proofs.laws.typed_calls_alone.Goals as goal
 
 stand : (calls : List Call) (w : World) → Comes calls w → ValuesStand w
