@@ -7,22 +7,16 @@
 //! generations, which iceoryx2 keeps to itself.
 #![tactic(auto)]
 
+mod motion;
+
 use gullinsu::port::reader::EntryHandle;
 use gullinsu::port::writer::EntryHandleMut;
 use gullinsu::prelude::{Domain, Node, NodeName, ServiceName, Shared};
 use gullinsu::service::port_factory::blackboard::PortFactory;
+use motion::Motion;
 use std::alloc::Global;
 use std::sync::Wait;
 use std::thread;
-
-// How fast the car goes, in kilometres an hour, and how far it came, in metres.
-type Motion = [u64; 2];
-
-type Board = PortFactory<u64, Shared>;
-
-type Car = EntryHandleMut<u64, Motion, Shared>;
-
-type Display = EntryHandle<u64, Motion, Shared>;
 
 // The key of the car.
 const CAR: u64 = 1;
@@ -33,37 +27,43 @@ const LAST: u64 = 200;
 // How many metres the car comes for each kilometre an hour that it gains.
 const METRES: u64 = 5;
 
-fn make_board<R: Wait>(rt: &R, alloc: Global) -> anyhow::Result<Board> {
+fn make_board<R: Wait>(rt: &R, alloc: Global) -> anyhow::Result<PortFactory<u64, Shared>> {
     let domain = Domain::new(alloc)?;
     let node = Node::new(rt, &domain, NodeName::new("car")?)?;
     let service = node.service_builder(&ServiceName::new("telemetry")?)?;
     let creator = service.blackboard_creator::<u64, Shared>(alloc);
-    Ok(creator.add(CAR, [0u64, 0])?.create(rt)?)
+    Ok(creator.add(CAR, Motion::STILL)?.create(rt)?)
 }
 
-// What the car writes by, and what each display reads by. The ports aren't wanted any more.
-fn take_handles<R: Wait>(rt: &R, board: &Board) -> anyhow::Result<(Car, Display, Display)> {
+// What the car writes by, and what each display reads by.
+#[derive(Drop)]
+struct Ends {
+    car: EntryHandleMut<u64, Motion, Shared>,
+    first: EntryHandle<u64, Motion, Shared>,
+    second: EntryHandle<u64, Motion, Shared>,
+}
+
+fn take_ends<R: Wait>(rt: &R, board: &PortFactory<u64, Shared>) -> anyhow::Result<Ends> {
     let writer = board.writer_builder()?.create(rt)?;
     let reader = board.reader_builder()?.create(rt)?;
-    let car = writer.entry::<Motion, R>(rt, &CAR)?;
-    let first = reader.entry::<Motion, R>(rt, &CAR)?;
-    let second = reader.entry::<Motion, R>(rt, &CAR)?;
-    writer.release(rt);
-    reader.release(rt);
-    Ok((car, first, second))
+    Ok(Ends {
+        car: writer.entry::<Motion, R>(rt, &CAR)?,
+        first: reader.entry::<Motion, R>(rt, &CAR)?,
+        second: reader.entry::<Motion, R>(rt, &CAR)?,
+    })
 }
 
 // The car goes faster and faster. It tells how many values were published in all.
-fn drive<R: Wait>(rt: &R, mut car: Car) -> u64 {
+fn drive(car: EntryHandleMut<u64, Motion, Shared>) -> u64 {
+    let mut car = car;
     for speed in 1..=LAST {
         // A publication asks for room for one more generation.
         if car.generation() < u64::MAX {
-            car.update_with_copy([speed, METRES * speed]);
+            let distance = METRES * speed;
+            car.update_with_copy(Motion { speed, distance });
         }
     }
-    let published = car.generation();
-    car.release(rt);
-    published
+    car.generation()
 }
 
 // What a display tells in the end.
@@ -76,21 +76,21 @@ struct Seen {
 }
 
 // A display reads until it shows the last speed.
-fn watch<R: Wait>(rt: &R, mut display: Display) -> Seen {
+fn watch<R: Wait>(rt: &R, display: EntryHandle<u64, Motion, Shared>) -> Seen {
+    let mut display = display;
     let (mut whole, mut rises) = (true, true);
     let mut shown = display.get(rt);
     for _ in rt.forever() {
-        if shown.get_ref()[0] >= LAST {
+        if shown.get_ref().speed >= LAST {
             break;
         }
         let next = display.get(rt);
-        whole = whole && next.get_ref()[1] / METRES == next.get_ref()[0];
+        whole = whole && next.get_ref().distance / METRES == next.get_ref().speed;
         rises = rises && shown.generation() <= next.generation();
         shown = next;
     }
-    let last = shown.get_ref()[0];
+    let last = shown.get_ref().speed;
     let is_up_to_date = display.is_up_to_date(&shown);
-    display.release(rt);
     Seen {
         whole,
         rises,
@@ -101,17 +101,19 @@ fn watch<R: Wait>(rt: &R, mut display: Display) -> Seen {
 
 fn main(rt: HostRuntime) -> anyhow::Result<()> {
     let board = make_board(&rt, rt.alloc())?;
-    let (car, first, second) = take_handles(&rt, &board)?;
+    let Ends { car, first, second } = take_ends(&rt, &board)?;
     let (published, (first, second)) = thread::join(
         &rt,
-        || drive(&rt, car),
+        move || drive(car),
         || thread::join(&rt, || watch(&rt, first), || watch(&rt, second)),
     );
-    board.release(&rt);
     println!(rt; "{published} values were published")?;
-    for s in [first, second] {
-        println!(rt; "a display: whole {}, rising {}", s.whole, s.rises)?;
-        println!(rt; "the last is {}, up to date {}", s.last, s.is_up_to_date)?;
+    for seen in [first, second] {
+        println!(rt; "a display: whole {}, rising {}", seen.whole, seen.rises)?;
+        println!(rt;
+            "the last is {}, up to date {}",
+            seen.last, seen.is_up_to_date
+        )?;
     }
     Ok(())
 }
