@@ -59,8 +59,8 @@ module _ (places : List Place) (v : List PlaceSeen) (is : places_seen places ≡
   pub parked_there : (x : Place) → i < length places → x ≡ get_or places i x → (end : Option WriteEnd) → end ≡ x.parked → option_map end_seen end ≡ parked_at v i
   parked_there x h e end was = ap (option_map end_seen) was ∙ sym (ap parked_in (at_place x h e))
 
-  pub taken : (x : Place) → i < length places → x ≡ get_or places i x → (now : Option WriteEnd) → now ≡ None → places_seen (set places i record { read = x.read; parked = now }) ≡ without_end v i
-  taken x h e now none = written record { read = x.read; parked = now } ∙ (λ k. set v i record { cell = (place_seen x).cell; parked = option_map end_seen (none k) }) ∙ sym (ap (emptied v i) (at_place x h e))
+  pub taken : (x y : Place) → i < length places → x ≡ get_or places i x → place_seen y ≡ record { cell = (place_seen x).cell; parked = None } → places_seen (set places i y) ≡ without_end v i
+  taken x y h e f = written y ∙ ap (set v i) f ∙ sym (ap (emptied v i) (at_place x h e))
 
   is_free : (o : Option WriteEnd) → false ≡ is_some o → o ≡ None
   is_free None f = refl
@@ -69,10 +69,11 @@ module _ (places : List Place) (v : List PlaceSeen) (is : places_seen places ≡
   pub free_there : (x : Place) → i < length places → x ≡ get_or places i x → false ≡ is_some x.parked → IsFree v i
   free_there x h e free = subst IsFreePlace (sym (at_place x h e)) (ap (option_map end_seen) (is_free x.parked free))
 
-  pub parks : (x : Place) → i < length places → x ≡ get_or places i x → false ≡ is_some x.parked → (end : WriteEnd)
-      → places_seen (set places i record { read = x.read; parked = Some end }) ≡ with_end v i (end_seen end)
-  parks x h e free end =
-      written record { read = x.read; parked = Some end }
+  pub parks : (x y : Place) → i < length places → x ≡ get_or places i x → false ≡ is_some x.parked → (end : WriteEnd) → place_seen y ≡ record { cell = (place_seen x).cell; parked = Some (end_seen end) }
+      → places_seen (set places i y) ≡ with_end v i (end_seen end)
+  parks x y h e free end f =
+      written y
+      ∙ ap (set v i) f
       ∙ (λ k. set v i record { cell = (place_seen x).cell; parked = Some (or_else (option_map end_seen (sym (is_free x.parked free) k)) (end_seen end)) })
       ∙ sym (ap (λ p. filled v i p (end_seen end)) (at_place x h e))
 

@@ -1,4 +1,6 @@
 pub mod EntryLemmas
+pub mod AskedLemmas
 pub mod KeptLemmas
+pub mod SomewhereLemmas
 pub mod WalkLemmas
 pub mod NodeLaws

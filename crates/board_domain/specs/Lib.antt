@@ -1,4 +1,5 @@
 pub mod Services
+pub mod Asked
 pub mod ServiceHash
 pub mod Kept
 pub mod Walks

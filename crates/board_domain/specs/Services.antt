@@ -1,9 +1,6 @@
 -- What callers see of nodes, builders and factories.
 use Rattle.std.specs.Prelude.{◌≡◌, ℕ, ◌+◌, if◌then◌else◌, List, [], ◌∷◌, ◌++◌, Some, None, Result, Ok, Err}
 use Rattle.board_layout.specs.Answer.{Answers, Refuses}
-use Rattle.board_layout.specs.declared.type_detail.TypeDetail.{TypeDetail}
-use Rattle.board_layout.specs.Bytes.{BeginsWithBytes}
-use Rattle.board_layout.specs.Keys.{key_value}
 use Rattle.board_model.specs.declared.attributes.Attribute.{Attribute}
 use Rattle.board_model.specs.declared.attributes.Requirements.{Requirements}
 use Rattle.board_model.specs.declared.tables.Limits.{Limits}
@@ -100,13 +97,6 @@ abbrev pub no_requirements : Requirements
 no_requirements = record { pairs = []; keys = [] }
 
 -- ---- entries
-
--- an entry of this key and these words of a first value: the key's bytes are those of its words with zeros behind, and read back as the key
-pub record IsEntryOf {K : Type 0} (value_of : List ℕ → K) (words_of : K → List ℕ) (size count : ℕ) (key : K) (values : TypeDetail) (words : List ℕ) (a : Added) : Type 0 where
-  pub bytes : BeginsWithBytes a.key (words_of key) size
-  pub reads_back : key_value value_of size count a.key ≡ key
-  pub typed : a.value ≡ values
-  pub holds : a.words ≡ words
 
 -- the same creator with one entry more
 abbrev pub AddsEntry : CreatorSeen → CreatorSeen → (Added → Type 0) → Type 0

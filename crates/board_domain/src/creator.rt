@@ -1,23 +1,23 @@
 //! What makes a board.
-ghost use Rattle.std.specs.Prelude.{◌≡◌, ◌≤◌, ◌<◌, ◌↔◌, [], Some, IfOk, IsErrOf};
+ghost use Rattle.std.specs.Prelude.{◌≡◌, ◌≤◌, ◌<◌, ◌↔◌, [], Some, length, IfOk, IsErrOf};
 ghost use Rattle.board_layout.specs.Answer.{Answers, Refuses, with_value};
 ghost use Rattle.board_layout.specs.Bytes.{details};
 ghost use Rattle.board_layout.specs.Keys.{same_keys};
 ghost use Rattle.board_service.specs.Domain as calls;
+ghost use Rattle.board_domain.specs.Asked.{config_asked};
 ghost use Rattle.board_domain.specs.LentForms as lent;
-ghost use Rattle.board_domain.specs.Services.{AddsEntry, IsEntryOf, new_creator, allowing_readers, allowing_nodes, allowing_writers, factory_made};
+ghost use Rattle.board_service.specs.Entries.{IsEntryOf};
+ghost use Rattle.board_domain.specs.Services.{AddsEntry, new_creator, allowing_readers, allowing_nodes, allowing_writers, factory_made};
 ghost use Rattle.board_domain.specs.Factories.{KeepsBoard};
 
-use crate::add_error::AddError;
 use crate::kept::new_board;
-use crate::new_entry::new_entry;
 use crate::port_factory::PortFactory;
 use board_concepts::AttributeSpecifier;
 use board_handles::{Domain, DomainState};
 use board_layout::{BoardKey, KeyMemoryError, ZeroCopySend};
 use board_model::{Limits, NewLimits};
 use board_names::{BlackboardCreateError, ServiceName};
-use board_service::{NewEntry, NodeId};
+use board_service::{AddError, NewEntry, NodeId};
 use std::alloc::Global;
 use std::marker::{Model, PhantomData};
 use std::sync::Wait;
@@ -116,10 +116,10 @@ impl<K: BoardKey, P> Creator<K, P> {
         ensures aligned { let why = AddError.Key KeyMemoryError.ValueAlignmentTooLarge in
             IsErrOf result why ↔ ((K.SIZE ≤ 64) × (8 < K.ALIGNMENT)) }
         ensures ok { let values = details V.type_bytes V.SIZE V.ALIGNMENT in
-            let is_it = IsEntryOf K.value_of K.words_of K.SIZE K.WORDS key values in
+            let is_it = IsEntryOf K.value_of K.SIZE K.WORDS key (K.words_of key) values in
             IfOk result (λ more. AddsEntry self more (is_it (V.words_of value))) }
     {
-        let added = match new_entry(self.alloc, &key, &value) {
+        let added = match NewEntry::of(self.alloc, &key, &value) {
             Ok(added) => added,
             Err(why) => return Err(why),
         };
@@ -140,7 +140,7 @@ impl<K: BoardKey, P> Creator<K, P> {
         ensures aligned { let why = AddError.Key KeyMemoryError.ValueAlignmentTooLarge in
             IsErrOf result why ↔ ((K.SIZE ≤ 64) × (8 < K.ALIGNMENT)) }
         ensures ok { let values = details V.type_bytes V.SIZE V.ALIGNMENT in
-            let is_it = IsEntryOf K.value_of K.words_of K.SIZE K.WORDS key values in
+            let is_it = IsEntryOf K.value_of K.SIZE K.WORDS key (K.words_of key) values in
             let words = V.words_of in
             IfOk result (λ more. (v : V) × V.is_default v × AddsEntry self more (is_it (words v))) }
     {
@@ -171,6 +171,10 @@ impl<K: BoardKey, P> Creator<K, P> {
             lent.StaysUnmade asked same_key state.old.tables state.new.tables }
         ensures kept { IfOk result (λ f. KeepsBoard state.new.tables f) }
         ensures named { IfOk result (λ f. f.name ≡ self.name) }
+        ensures config { let keys = details K.type_bytes K.SIZE K.ALIGNMENT in
+            let config = config_asked keys self.limits (length self.entries) in
+            IfOk result (λ f. f.config ≡ config) }
+        ensures attributes { IfOk result (λ f. f.attributes ≡ attributes) }
         ensures nodes { state.new.nodes ≡ state.old.nodes }
     {
         let Creator {
@@ -211,6 +215,10 @@ impl<K: BoardKey, P> Creator<K, P> {
             lent.StaysUnmade asked same_key state.old.tables state.new.tables }
         ensures kept { IfOk result (λ f. KeepsBoard state.new.tables f) }
         ensures named { IfOk result (λ f. f.name ≡ self.name) }
+        ensures config { let keys = details K.type_bytes K.SIZE K.ALIGNMENT in
+            let config = config_asked keys self.limits (length self.entries) in
+            IfOk result (λ f. f.config ≡ config) }
+        ensures attributes { IfOk result (λ f. f.attributes ≡ []) }
         ensures nodes { state.new.nodes ≡ state.old.nodes }
     {
         let none = AttributeSpecifier::new(self.alloc);
@@ -230,6 +238,10 @@ impl<K: BoardKey, P> Creator<K, P> {
             let same_key = same_keys K.eq K.value_of K.SIZE K.WORDS in
             lent.CreatesSomewhere result same_key (lent.asked_board self keys attributes) }
         ensures named { IfOk result (λ f. f.name ≡ self.name) }
+        ensures config { let keys = details K.type_bytes K.SIZE K.ALIGNMENT in
+            let config = config_asked keys self.limits (length self.entries) in
+            IfOk result (λ f. f.config ≡ config) }
+        ensures attributes { IfOk result (λ f. f.attributes ≡ attributes) }
     {
         let Creator {
             node,
@@ -260,6 +272,10 @@ impl<K: BoardKey, P> Creator<K, P> {
             let same_key = same_keys K.eq K.value_of K.SIZE K.WORDS in
             lent.CreatesSomewhere result same_key (lent.asked_board self keys []) }
         ensures named { IfOk result (λ f. f.name ≡ self.name) }
+        ensures config { let keys = details K.type_bytes K.SIZE K.ALIGNMENT in
+            let config = config_asked keys self.limits (length self.entries) in
+            IfOk result (λ f. f.config ≡ config) }
+        ensures attributes { IfOk result (λ f. f.attributes ≡ []) }
     {
         let none = AttributeSpecifier::new(self.alloc);
         self.create_with_attributes(rt, none)

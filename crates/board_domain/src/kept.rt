@@ -7,6 +7,7 @@ ghost use Rattle.board_layout.specs.Layout.{IsShape};
 ghost use Rattle.board_model.specs.Tables.{board_at, shapes_of};
 ghost use Rattle.board_service.specs.Domain as calls;
 ghost use Rattle.board_service.specs.Entries.{as_added};
+ghost use Rattle.board_domain.specs.Asked.{IsAsAsked, config_asked};
 ghost use Rattle.board_domain.specs.Kept.{kept_made, KeepsBoard};
 ghost use Rattle.board_domain.specs.LentForms as lent;
 ghost use Rattle.board_domain.specs.Services.{opening};
@@ -84,8 +85,13 @@ pub(crate) fn new_board<K: BoardKey>(
         let same_key = same_keys K.eq K.value_of K.SIZE K.WORDS in
         lent.StaysUnmade asked same_key state.old.tables state.new.tables }
     ensures kept { IfOk result (λ k. KeepsBoard state.new.tables k) }
+    ensures config { let keys = details K.type_bytes K.SIZE K.ALIGNMENT in
+        let config = config_asked keys limits (length (map as_added entries.items)) in
+        IfOk result (λ k. k.config ≡ config) }
+    ensures attributes { IfOk result (λ k. k.attributes ≡ attributes) }
     ensures nodes { state.new.nodes ≡ state.old.nodes }
 {
+    state.tables.facts();
     let made = match state.tables.create::<K>(
         node,
         name,
@@ -100,7 +106,7 @@ pub(crate) fn new_board<K: BoardKey>(
     let thing = made.thing;
     match kept_of(&state.tables, made) {
         Ok(kept) => Ok(kept),
-        Err(_) => {
+        Err(AllocError) => {
             let _ = state.tables.release(thing);
             Err(BlackboardCreateError::OutOfMemory)
         }
@@ -129,8 +135,11 @@ pub(crate) fn open_board<K: BoardKey>(
         let asked = opening node name.now limits in
         lent.StaysUnopened asked keys verifier.now state.old.tables state.new.tables }
     ensures kept { IfOk result (λ k. KeepsBoard state.new.tables k) }
+    ensures asked { let keys = details K.type_bytes K.SIZE K.ALIGNMENT in
+        IfOk result (λ k. IsAsAsked keys limits verifier.now k.config k.attributes) }
     ensures nodes { state.new.nodes ≡ state.old.nodes }
 {
+    state.tables.facts();
     let made = match state.tables.open::<K>(node, name, limits, verifier) {
         Ok(made) => made,
         Err(why) => return Err(why),
@@ -138,7 +147,7 @@ pub(crate) fn open_board<K: BoardKey>(
     let thing = made.thing;
     match kept_of(&state.tables, made) {
         Ok(kept) => Ok(kept),
-        Err(_) => {
+        Err(AllocError) => {
             let _ = state.tables.release(thing);
             Err(BlackboardOpenError::OutOfMemory)
         }

@@ -6,12 +6,10 @@
 //! `specs/Services`; it is said in the words of the tables' calls.
 #![tactic(auto)]
 
-mod add_error;
 mod callback_progression;
 mod creator;
 mod kept;
 mod messaging_pattern;
-mod new_entry;
 mod node;
 mod node_laws;
 mod opener;
@@ -20,7 +18,7 @@ mod service_builder;
 mod service_hash;
 mod walks;
 
-pub use add_error::AddError;
+pub use board_service::AddError;
 pub use callback_progression::CallbackProgression;
 pub use creator::Creator;
 pub use messaging_pattern::MessagingPattern;

@@ -51,7 +51,9 @@ impl Node {
         if state.nodes >= LAST {
             return Err(DomainError::NumbersSpent);
         }
-        let domain = domain.share()?;
+        let Ok(domain) = domain.share() else {
+            return Err(DomainError::OutOfMemory);
+        };
         state.nodes += 1;
         Ok(Node {
             id: NodeId(state.nodes),
@@ -94,7 +96,9 @@ impl Node {
         ensures ok { IfOk result (λ b. b ≡ record { node = self.now.id; name = name.now }) }
         ensures memory { IsOkUnless result OutOfMemory }
     {
-        let domain = self.domain.share()?;
+        let Ok(domain) = self.domain.share() else {
+            return Err(DomainError::OutOfMemory);
+        };
         Ok(ServiceBuilder::new(self.id, *name, domain))
     }
 }

@@ -2,6 +2,7 @@
 ghost use Rattle.std.specs.Prelude.{◌≡◌, [], Some, IfOk};
 ghost use Rattle.board_layout.specs.Answer.{Answers, Refuses, with_value};
 ghost use Rattle.board_layout.specs.Bytes.{details};
+ghost use Rattle.board_domain.specs.Asked.{IsAsAsked};
 ghost use Rattle.board_domain.specs.LentForms as lent;
 ghost use Rattle.board_domain.specs.Services.{no_limits, with_readers, with_nodes, factory_made, no_requirements};
 ghost use Rattle.board_domain.specs.Factories.{KeepsBoard};
@@ -98,6 +99,9 @@ impl<K: BoardKey, P> Opener<K, P> {
             lent.StaysUnopened self keys verifier.now state.old.tables state.new.tables }
         ensures kept { IfOk result (λ f. KeepsBoard state.new.tables f) }
         ensures named { IfOk result (λ f. f.name ≡ self.name) }
+        ensures asked { let keys = details K.type_bytes K.SIZE K.ALIGNMENT in
+            let needs = verifier.now in
+            IfOk result (λ f. IsAsAsked keys self.limits needs f.config f.attributes) }
         ensures nodes { state.new.nodes ≡ state.old.nodes }
     {
         match open_board::<K>(state, self.node, &self.name, self.limits, verifier) {
@@ -123,6 +127,9 @@ impl<K: BoardKey, P> Opener<K, P> {
             lent.StaysUnopened self keys no_requirements state.old.tables state.new.tables }
         ensures kept { IfOk result (λ f. KeepsBoard state.new.tables f) }
         ensures named { IfOk result (λ f. f.name ≡ self.name) }
+        ensures asked { let keys = details K.type_bytes K.SIZE K.ALIGNMENT in
+            let needs = no_requirements in
+            IfOk result (λ f. IsAsAsked keys self.limits needs f.config f.attributes) }
         ensures nodes { state.new.nodes ≡ state.old.nodes }
     {
         let none = AttributeVerifier::new(self.alloc);
@@ -141,6 +148,9 @@ impl<K: BoardKey, P> Opener<K, P> {
         ensures answer { let keys = details K.type_bytes K.SIZE K.ALIGNMENT in
             lent.OpensSomewhere result self keys verifier.now }
         ensures named { IfOk result (λ f. f.name ≡ self.name) }
+        ensures asked { let keys = details K.type_bytes K.SIZE K.ALIGNMENT in
+            let needs = verifier.now in
+            IfOk result (λ f. IsAsAsked keys self.limits needs f.config f.attributes) }
     {
         let opened = {
             let mut state = self.domain.lock(rt);
@@ -160,6 +170,9 @@ impl<K: BoardKey, P> Opener<K, P> {
         ensures answer { let keys = details K.type_bytes K.SIZE K.ALIGNMENT in
             lent.OpensSomewhere result self keys no_requirements }
         ensures named { IfOk result (λ f. f.name ≡ self.name) }
+        ensures asked { let keys = details K.type_bytes K.SIZE K.ALIGNMENT in
+            let needs = no_requirements in
+            IfOk result (λ f. IsAsAsked keys self.limits needs f.config f.attributes) }
     {
         let none = AttributeVerifier::new(self.alloc);
         self.open_with_attributes(rt, &none)

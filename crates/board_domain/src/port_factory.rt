@@ -1,19 +1,21 @@
 //! Factories of a board.
-ghost use Rattle.std.specs.Prelude.{◌≡◌, ℕ, List, IfOk, IsOkUnless};
+ghost use Rattle.std.specs.Prelude.{◌≡◌, ℕ, IfOk, IsOkUnless};
 ghost use Rattle.std.specs.Fn.{CalledAt};
 ghost use Rattle.board_layout.specs.Bytes.{details};
 ghost use Rattle.board_names.specs.declared.errors.service.DomainError.TheVariants.{OutOfMemory};
+ghost use Rattle.board_service.specs.Facts.{IsDomain};
 ghost use Rattle.board_handles.specs.BoardEnds.{Core};
 ghost use Rattle.board_handles.specs.LentForms as handles;
 ghost use Rattle.board_domain.specs.LentForms as lent;
 ghost use Rattle.board_domain.specs.Factories.{factory_of};
 ghost use Rattle.board_domain.specs.ServiceHash.{service_hash};
-ghost use Rattle.board_domain.specs.Walks.{Walks, key_seen};
+ghost use Rattle.board_domain.specs.Walks.{Walks, WalksTo, key_seen};
+ghost use Rattle.board_domain.specs.declared.callback_progression.CallbackProgression.{CallbackProgression};
 
 use crate::callback_progression::CallbackProgression;
 use crate::kept::Kept;
 use crate::service_hash::hash_of;
-use crate::walks::{walk_keys, walk_nodes};
+use crate::walks::{visit_keys, visit_nodes};
 use board_concepts::AttributeSet;
 use board_concepts::hash::HashValue;
 use board_handles::{Domain, DomainState, PortFactoryReader, PortFactoryWriter, give_up};
@@ -143,10 +145,31 @@ impl<K: BoardKey, P> PortFactory<K, P> {
     /// How many readers, writer slots and nodes of the board are taken now. Zeros where this factory isn't held.
     pub fn dynamic_config<R: Wait>(&self, rt: &R) -> DynamicConfig
         ensures { let keys = details K.type_bytes K.SIZE K.ALIGNMENT in
-            (d : Core) × (result ≡ lent.taken_of d keys self.now.made.thing) }
+            (d : Core) × IsDomain d × (result ≡ lent.taken_of d keys self.now.made.thing) }
     {
         let state = self.domain.lock(rt);
         self.dynamic_config_in(&state)
+    }
+
+    /// `visit_nodes` over the domain's state itself.
+    pub fn visit_nodes_in<F: FnMut(NodeId) -> CallbackProgression>(
+        &self,
+        state: &DomainState,
+        callback: &mut F,
+    )
+        requires { F.IsAlwaysCallable callback.old }
+        ensures { let keys = details K.type_bytes K.SIZE K.ALIGNMENT in
+            let nodes = lent.nodes_of state.now.tables keys self.now.made.thing in
+            WalksTo (λ f x r g. F.step f x r g) callback.old nodes callback.new }
+    {
+        let factory = self.made.thing;
+        if !state.tables.is_held::<K>(factory, ThingKind::Factory) {
+            return;
+        }
+        let board = state.tables.board_of(factory);
+        if let Some(taken) = state.tables.use_of(board) {
+            visit_nodes(&state.tables, board, taken.nodes, callback);
+        }
     }
 
     /// `nodes` over the domain's state itself.
@@ -160,23 +183,58 @@ impl<K: BoardKey, P> PortFactory<K, P> {
             let nodes = lent.nodes_of state.now.tables keys self.now.made.thing in
             Walks (λ f x r g. F.step f x r g) callback nodes }
     {
-        let factory = self.made.thing;
-        if !state.tables.is_held::<K>(factory, ThingKind::Factory) {
-            return;
-        }
-        let board = state.tables.board_of(factory);
-        if let Some(taken) = state.tables.use_of(board) {
-            walk_nodes(&state.tables, board, taken.nodes, callback);
-        }
+        let mut callback = callback;
+        self.visit_nodes_in(state, &mut callback);
+    }
+
+    /// `nodes` with a callback that is lent, so that what it gathered is known. Where this factory isn't held, the callback stays as it was.
+    pub fn visit_nodes<R: Wait, F: FnMut(NodeId) -> CallbackProgression>(
+        &self,
+        rt: &R,
+        callback: &mut F,
+    )
+        requires { F.IsAlwaysCallable callback.old }
+        ensures { let keys = details K.type_bytes K.SIZE K.ALIGNMENT in
+            let called : F → ℕ → CallbackProgression → F → Type 0 = λ f x r g. F.step f x r g in
+            (d : Core) × IsDomain d
+            × WalksTo called callback.old (lent.nodes_of d keys self.now.made.thing) callback.new }
+    {
+        let state = self.domain.lock(rt);
+        self.visit_nodes_in(&state, callback);
     }
 
     /// Calls the callback with each node that has a thing of the board, ascending, until it says to stop. Calls it with none where this factory isn't held. The domain's lock is held meanwhile, so a callback that takes it waits forever.
     pub fn nodes<R: Wait, F: FnMut(NodeId) -> CallbackProgression>(&self, rt: &R, callback: F)
         requires { F.IsAlwaysCallable callback }
-        ensures { (nodes : List ℕ) × Walks (λ f x r g. F.step f x r g) callback nodes }
+        ensures { let keys = details K.type_bytes K.SIZE K.ALIGNMENT in
+            let called : F → ℕ → CallbackProgression → F → Type 0 = λ f x r g. F.step f x r g in
+            (d : Core) × IsDomain d
+            × Walks called callback (lent.nodes_of d keys self.now.made.thing) }
     {
         let state = self.domain.lock(rt);
         self.nodes_in(&state, callback)
+    }
+
+    /// `visit_keys` over the domain's state itself.
+    pub fn visit_keys_in<F: FnMut(&K) -> CallbackProgression>(
+        &self,
+        state: &DomainState,
+        callback: &mut F,
+    )
+        requires { F.IsAlwaysCallable callback.old }
+        ensures { let types = details K.type_bytes K.SIZE K.ALIGNMENT in
+            let of = key_seen K.value_of K.SIZE K.WORDS in
+            let keys = lent.keys_of of state.now.tables types self.now.made.thing in
+            WalksTo (CalledAt F.FnMut) callback.old keys callback.new }
+    {
+        let factory = self.made.thing;
+        if !state.tables.is_held::<K>(factory, ThingKind::Factory) || K::SIZE > 64 {
+            return;
+        }
+        let board = state.tables.board_of(factory);
+        if let Some(entries) = state.tables.entries_of(board) {
+            visit_keys::<K, F>(entries, callback);
+        }
     }
 
     /// `list_keys` over the domain's state itself.
@@ -191,20 +249,30 @@ impl<K: BoardKey, P> PortFactory<K, P> {
             let keys = lent.keys_of of state.now.tables types self.now.made.thing in
             Walks (CalledAt F.FnMut) callback keys }
     {
-        let factory = self.made.thing;
-        if !state.tables.is_held::<K>(factory, ThingKind::Factory) || K::SIZE > 64 {
-            return;
-        }
-        let board = state.tables.board_of(factory);
-        if let Some(entries) = state.tables.entries_of(board) {
-            walk_keys::<K, F>(entries, callback);
-        }
+        let mut callback = callback;
+        self.visit_keys_in(state, &mut callback);
+    }
+
+    /// `list_keys` with a callback that is lent, so that what it gathered is known. Where this factory isn't held, the callback stays as it was.
+    pub fn visit_keys<R: Wait, F: FnMut(&K) -> CallbackProgression>(&self, rt: &R, callback: &mut F)
+        requires { F.IsAlwaysCallable callback.old }
+        ensures { let types = details K.type_bytes K.SIZE K.ALIGNMENT in
+            let of = key_seen K.value_of K.SIZE K.WORDS in
+            let thing = self.now.made.thing in
+            (d : Core) × IsDomain d
+            × WalksTo (CalledAt F.FnMut) callback.old (lent.keys_of of d types thing) callback.new }
+    {
+        let state = self.domain.lock(rt);
+        self.visit_keys_in(&state, callback);
     }
 
     /// Calls the callback with each key of the board, in the order of adding, until it says to stop. Calls it with none where this factory isn't held. The domain's lock is held meanwhile, so a callback that takes it waits forever.
     pub fn list_keys<R: Wait, F: FnMut(&K) -> CallbackProgression>(&self, rt: &R, callback: F)
         requires { F.IsAlwaysCallable callback }
-        ensures { (keys : List K) × Walks (CalledAt F.FnMut) callback keys }
+        ensures { let types = details K.type_bytes K.SIZE K.ALIGNMENT in
+            let of = key_seen K.value_of K.SIZE K.WORDS in
+            (d : Core) × IsDomain d
+            × Walks (CalledAt F.FnMut) callback (lent.keys_of of d types self.now.made.thing) }
     {
         let state = self.domain.lock(rt);
         self.list_keys_in(&state, callback)
@@ -218,7 +286,9 @@ impl<K: BoardKey, P> PortFactory<K, P> {
         ensures ok { IfOk result (λ r. r ≡ self.now.made.thing) }
         ensures memory { IsOkUnless result OutOfMemory }
     {
-        let domain = self.domain.share()?;
+        let Ok(domain) = self.domain.share() else {
+            return Err(DomainError::OutOfMemory);
+        };
         Ok(PortFactoryReader::new(self.alloc, self.made.thing, domain))
     }
 
@@ -230,7 +300,9 @@ impl<K: BoardKey, P> PortFactory<K, P> {
         ensures ok { IfOk result (λ w. w ≡ self.now.made.thing) }
         ensures memory { IsOkUnless result OutOfMemory }
     {
-        let domain = self.domain.share()?;
+        let Ok(domain) = self.domain.share() else {
+            return Err(DomainError::OutOfMemory);
+        };
         Ok(PortFactoryWriter::new(self.alloc, self.made.thing, domain))
     }
 

@@ -3,7 +3,7 @@ ghost use Rattle.std.specs.Prelude.{◌≡◌, ◌≤◌, map};
 ghost use Rattle.std.specs.Fn.{CalledAt};
 ghost use Rattle.board_model.specs.Tables.{board_at};
 ghost use Rattle.board_service.specs.Told.{node_in};
-ghost use Rattle.board_domain.specs.Walks.{Walks, WalksTo, at_places, key_seen};
+ghost use Rattle.board_domain.specs.Walks.{WalksTo, at_places, key_seen};
 
 use crate::callback_progression::CallbackProgression;
 use board_handles::BoardCells;
@@ -35,22 +35,6 @@ pub(crate) fn visit_nodes<F: FnMut(NodeId) -> CallbackProgression>(
     }
 }
 
-/// The same with a callback that is handed over.
-pub(crate) fn walk_nodes<F: FnMut(NodeId) -> CallbackProgression>(
-    tables: &DomainCore<BoardCells>,
-    board: u64,
-    count: u64,
-    callback: F,
-)
-    requires { F.IsAlwaysCallable callback }
-    ensures { let d = tables.now.tables in
-        let nodes = at_places (λ i. node_in i d.things (board_at d board)) count 0 in
-        Walks (λ f x r g. F.step f x r g) callback nodes }
-{
-    let mut callback = callback;
-    visit_nodes(tables, board, count, &mut callback);
-}
-
 /// Calls a callback with the keys of these entries, in their order, until it says to stop.
 pub(crate) fn visit_keys<K: BoardKey, F: FnMut(&K) -> CallbackProgression>(
     entries: &[Entry],
@@ -70,18 +54,4 @@ pub(crate) fn visit_keys<K: BoardKey, F: FnMut(&K) -> CallbackProgression>(
         }
         rest = tail;
     }
-}
-
-/// The same with a callback that is handed over.
-pub(crate) fn walk_keys<K: BoardKey, F: FnMut(&K) -> CallbackProgression>(
-    entries: &[Entry],
-    callback: F,
-)
-    requires size { K.SIZE ≤ 64 }
-    requires calls { F.IsAlwaysCallable callback }
-    ensures { let keys = map (key_seen K.value_of K.SIZE K.WORDS) entries.now in
-        Walks (CalledAt F.FnMut) callback keys }
-{
-    let mut callback = callback;
-    visit_keys::<K, F>(entries, &mut callback);
 }

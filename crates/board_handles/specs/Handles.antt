@@ -1,7 +1,7 @@
 -- What callers see of handles, loans and ports.
-use Rattle.std.specs.Prelude.{◌≡◌, ℕ, ◌+◌, ◌^◌, ◌<◌, ◌==◌, Bool, List, [], ◌∷◌, ◌++◌, length, map, slice_set, Option, Some}
+use Rattle.std.specs.Prelude.{◌≡◌, ℕ, ◌+◌, ◌^◌, ◌<◌, List, [], ◌∷◌, ◌++◌, length, map, slice_set, Option, Some}
 use Rattle.atomic_table.specs.Seated.{TableId}
-use Rattle.board_cell.specs.Passes.{CellSeen, ReaderSeen, ReceiptSeen, Gets, GetsWithin, Looks}
+use Rattle.board_cell.specs.Passes.{CellSeen, ReaderSeen, ReceiptSeen, Gets, GetsWithin}
 use Rattle.board_service.specs.declared.made.Found.{Found}
 use Rattle.board_cells.specs.Cells.{EndSeen}
 
@@ -50,10 +50,6 @@ GetsValue value_of v old new = (words : List ℕ) × Gets v.generation words old
 -- the same in at most this many tries
 abbrev pub GetsValueWithin : {V : Type 0} → ℕ → (List ℕ → V) → ValueSeen V → ReaderSeen → ReaderSeen → Type 0
 GetsValueWithin tries value_of v old new = (words : List ℕ) × GetsWithin tries v.generation words old new × (v.value ≡ value_of words)
-
--- the counter was looked at once, and it is told whether it is this generation
-abbrev pub LooksAt : ℕ → Bool → ReaderSeen → ReaderSeen → Type 0
-LooksAt generation same old new = (counter : ℕ) × Looks counter old new × (same ≡ (counter == generation))
 
 -- ---- publications
 

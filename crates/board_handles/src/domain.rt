@@ -6,7 +6,7 @@ ghost use Rattle.board_service.specs.Facts.{IsDomain};
 
 use crate::state::DomainState;
 use board_names::DomainError;
-use std::alloc::Global;
+use std::alloc::{AllocError, Global};
 use std::sync::{Arc, Mutex, MutexGuard, Wait};
 
 /// A domain: the boards that its nodes share, behind a lock.
@@ -32,14 +32,10 @@ impl Domain {
     /// One more owner of the same domain.
     ///
     /// # Errors
-    /// `OutOfMemory` where one more owner is refused.
-    pub fn share(&self) -> Result<Domain, DomainError>
-        ensures memory { IsOkUnless result OutOfMemory }
-    {
-        match Arc::try_clone(&self.state) {
-            Ok(state) => Ok(Domain { state }),
-            Err(_) => Err(DomainError::OutOfMemory),
-        }
+    /// `AllocError` where one more owner is refused.
+    pub fn share(&self) -> Result<Domain, AllocError> {
+        let state = Arc::try_clone(&self.state)?;
+        Ok(Domain { state })
     }
 
     /// What stands behind the lock, once no one else has it.

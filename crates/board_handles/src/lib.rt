@@ -10,7 +10,7 @@
 //! alone, whose factory was released before.
 //!
 //! A handle has an end of its entry's cell. Its calls take no lock, no memory and wait for nobody (`specs/Handles`), but
-//! `get`, which may wait for a writer, and `release`, which locks.
+//! `get`, which may wait for a writer, `release`, which locks, and `sent_receipt`, which takes one more owner of the cell.
 #![tactic(auto)]
 
 mod blackboard_value;
@@ -27,7 +27,7 @@ mod writer;
 mod writing;
 
 pub use blackboard_value::BlackboardValue;
-pub use board_cells::{BoardCells, ReadEnd, WriteEnd};
+pub use board_cells::{BoardCells, ReadEnd, SentReceipt, WriteEnd};
 pub use domain::Domain;
 pub use loan::EntryValueUninit;
 pub use port_ids::{UniqueReaderId, UniqueWriterId};

@@ -1,8 +1,8 @@
 //! Read handles of entries.
 ghost use Rattle.std.specs.Prelude.{◌≡◌, max, length, IfOk, IfErr};
 ghost use Rattle.std.specs.Arc.{arc_value};
-ghost use Rattle.board_cell.specs.Passes.{GivesUp, NotesRise};
-ghost use Rattle.board_handles.specs.Handles.{GetsValue, GetsValueWithin, IsOfCell, LooksAt};
+ghost use Rattle.board_cell.specs.Passes.{GivesUp, LooksAt, NotesRise};
+ghost use Rattle.board_handles.specs.Handles.{GetsValue, GetsValueWithin, IsOfCell};
 
 use crate::blackboard_value::BlackboardValue;
 use crate::domain::Domain;

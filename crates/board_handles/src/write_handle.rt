@@ -1,5 +1,5 @@
 //! Write handles of entries.
-ghost use Rattle.std.specs.Prelude.{◌≡◌, length};
+ghost use Rattle.std.specs.Prelude.{◌≡◌, length, IfOk};
 ghost use Rattle.std.specs.Arc.{arc_value};
 ghost use Rattle.board_model.specs.Replies.{none_put};
 ghost use Rattle.board_cells.specs.Ends.{end_seen};
@@ -8,8 +8,8 @@ ghost use Rattle.board_handles.specs.Handles.{publishing, last_receipt, HasRoom}
 use crate::domain::Domain;
 use crate::loan::EntryValueUninit;
 use crate::writing::Writing;
-use board_cell::Receipt;
-use board_cells::WriteEnd;
+use board_cell::{CellError, Receipt};
+use board_cells::{SentReceipt, WriteEnd};
 use board_layout::ZeroCopySend;
 use board_names::EventId;
 use board_service::Found;
@@ -17,7 +17,7 @@ use std::marker::{Model, PhantomData};
 
 /// The write handle of an entry whose values are `V`s.
 ///
-/// Clauses see the thing and the entry that the tables told, and the write end of the entry's cell. None of its calls but `release` takes memory or waits.
+/// Clauses see the thing and the entry that the tables told, and the write end of the entry's cell. None of its calls but `sent_receipt` and `release` takes memory, and none but `release` waits.
 #[derive(Drop)]
 pub struct EntryHandleMut<K, V: ZeroCopySend, P> {
     writing: Writing<V>,
@@ -96,6 +96,18 @@ impl<K, V: ZeroCopySend, P> EntryHandleMut<K, V, P> {
         ensures given { result ≡ last_receipt self.old }
     {
         self.writing.receipt()
+    }
+
+    /// Names the last publication, for a reader that is to know of it. It goes with its cell, so it can be sent through a lock or a channel.
+    ///
+    /// # Errors
+    /// `OutOfMemory` where one more owner of the cell is refused.
+    pub fn sent_receipt(&mut self) -> Result<SentReceipt, CellError>
+        ensures kept { self.new ≡ self.old }
+        ensures of_cell { IfOk result (λ sent. arc_value sent.cell ≡ self.old.held.cell) }
+        ensures given { IfOk result (λ sent. sent.receipt ≡ last_receipt self.old) }
+    {
+        self.writing.sent_receipt()
     }
 
     /// The id of the entry: the byte at which its cell begins among those of its board.

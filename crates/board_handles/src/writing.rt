@@ -1,5 +1,5 @@
 //! What a write handle and its loan both have.
-ghost use Rattle.std.specs.Prelude.{◌≡◌, ◌<◌, true, Some, map, length};
+ghost use Rattle.std.specs.Prelude.{◌≡◌, ◌<◌, true, Some, map, length, IfOk};
 ghost use Rattle.std.specs.Arc.{arc_value};
 ghost use Rattle.board_model.specs.LawfulSession.{all_put};
 ghost use Rattle.board_model.specs.Replies.{none_put};
@@ -7,8 +7,8 @@ ghost use Rattle.board_cells.specs.Ends.{end_seen};
 ghost use Rattle.board_handles.specs.Handles.{HasRoom, PublishesWritten, last_receipt, publishing, with_written};
 
 use crate::domain::Domain;
-use board_cell::{Receipt, ThreadedCell, WriterPass};
-use board_cells::WriteEnd;
+use board_cell::{CellError, Receipt, ThreadedCell, WriterPass};
+use board_cells::{SentReceipt, WriteEnd};
 use board_layout::ZeroCopySend;
 use board_names::EventId;
 use board_service::Found;
@@ -171,6 +171,15 @@ impl<V: ZeroCopySend> Writing<V> {
     {
         let cell = &*self.cell;
         cell.receipt(&mut self.pass)
+    }
+
+    /// Names the last publication, with the cell.
+    pub(crate) fn sent_receipt(&mut self) -> Result<SentReceipt, CellError>
+        ensures kept { self.new ≡ self.old }
+        ensures of_cell { IfOk result (λ sent. arc_value sent.cell ≡ self.old.handle.held.cell) }
+        ensures given { IfOk result (λ sent. sent.receipt ≡ last_receipt self.old.handle) }
+    {
+        SentReceipt::new(&self.cell, &mut self.pass)
     }
 
     /// The byte at which the entry's cell begins.

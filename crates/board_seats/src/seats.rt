@@ -1,5 +1,5 @@
 //! The calls: each asks whether the handle is held, looks for its cell among the words of its board, and makes all accesses.
-ghost use Rattle.std.specs.Prelude.{◌≡◌, length, is_some, option_map, true, IfSome, OnOk, OnErr, Some};
+ghost use Rattle.std.specs.Prelude.{◌≡◌, length, is_some, option_map, true, IfNone, IfSome, OnOk, OnErr, Some};
 ghost use Rattle.board_layout.specs.Bytes.{details};
 ghost use Rattle.board_cell.specs.WholeCalls.{LiesAmong, PublishesIn};
 ghost use Rattle.board_seats.specs.Seats as seats;
@@ -32,6 +32,7 @@ fn get_in(words: &mut SeatWords, shape: CellShape, out: &mut Vec<u64>) -> Option
     ensures found { is_some result ≡ is_some (seats.words_with shape (Some words.old)) }
     ensures got { IfSome result
         (λ g. seats.IsRead shape (seats.words_with shape (Some words.old)) g out.new.items) }
+    ensures none { IfNone result (out.new.items ≡ out.old.items) }
     ensures same { words.new ≡ words.old }
     ensures width { length out.new.items ≡ shape.words }
 {
@@ -69,7 +70,7 @@ fn update_in(words: &mut SeatWords, shape: CellShape, value: &Vec<u64>) -> Resul
     Ok(update_on(words, shape, value))
 }
 
-/// Reads the value of the entry of a read handle. Gives its generation, and its words in `out`, which has as many words as a value of the entry. `None` where the handle isn't held by who has keys of type `K`, or the words of its board have no such cell.
+/// Reads the value of the entry of a read handle. Gives its generation, and its words in `out`, which has as many words as a value of the entry. The cell is the one that `entry.shape` names among the words of the handle's board, whichever handle that was made for. `None` where the handle isn't held by who has keys of type `K`, or no such cell lies among these words; then `out` stays as it was.
 pub fn get<K: BoardKey>(
     domain: &mut DomainCore<SeatWords>,
     entry: &Found,
@@ -82,6 +83,7 @@ pub fn get<K: BoardKey>(
     ensures got { let keys = details K.type_bytes K.SIZE K.ALIGNMENT in
         let words = seats.words_for domain.old keys entry.now ThingKind.ReadHandle in
         IfSome result (λ g. seats.IsRead entry.now.shape words g out.new.items) }
+    ensures none { IfNone result (out.new.items ≡ out.old.items) }
     ensures same { domain.new ≡ domain.old }
     ensures width { length out.new.items ≡ entry.now.shape.words }
 {
@@ -95,7 +97,7 @@ pub fn get<K: BoardKey>(
     }
 }
 
-/// Whether the entry of a read handle is at this generation. `None` as for `get`.
+/// Whether the entry of a read handle is at this generation. The cell is the one that `entry.shape` names, as for `get`, and so is `None`.
 pub fn fresh<K: BoardKey>(
     domain: &mut DomainCore<SeatWords>,
     entry: &Found,
@@ -116,7 +118,7 @@ pub fn fresh<K: BoardKey>(
     }
 }
 
-/// Publishes a value of the entry of a write handle, which has as many words as the entry's values. Gives its generation.
+/// Publishes a value of the entry of a write handle, which has as many words as the entry's values. Gives its generation. The cell is the one that `entry.shape` names among the words of the handle's board, whichever handle that was made for: who writes a `Found` of his own writes where that says.
 ///
 /// # Errors
 /// `HandleUnknown` where the handle isn't held by who has keys of type `K`, or the words of its board have no such cell; `GenerationsSpent` where the entry has had 2^64 - 1 values. All stays as it was.

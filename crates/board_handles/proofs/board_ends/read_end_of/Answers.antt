@@ -1,4 +1,4 @@
-use Rattle.board_handles.proofs.LentLemmas.{same_cells}
+use Rattle.board_service.proofs.CellLemmas.{same_cells}
 use Rattle.board_handles.proofs.board_ends.read_end_of.Goals as goal
 
 pub returns-in-Some-clause-same : goal.returns-in-Some-clause-same

@@ -19,4 +19,4 @@ pub returns-clause-after : goal.returns-clause-after
 returns-clause-after c =
     let n : c.len.result ≡ length c.self.inside.places.items = search rules in
     let i = c.if-entry-len.false in
-    parks c.self.inside.places.items _ c.self.view_is c.args.entry c.index_mut-place.result.now (omega arith) c.index_mut-place.ensures.value c.if-is_some.ensures c.args.end
+    parks c.self.inside.places.items _ c.self.view_is c.args.entry c.index_mut-place.result.now _ (omega arith) c.index_mut-place.ensures.value c.if-is_some.ensures c.args.end refl

@@ -11,7 +11,7 @@ returns-in_err-share-clause-same c =
     let n : c.len.result ≡ length c.self.inside.places.items = search rules in
     let i = c.if-entry-len.false in
     let same = c.share.ensures.cell in
-    put_back c.self.inside.places.items _ c.self.view_is c.args.entry x record { read = c.share.new.self; parked = x.parked } (omega arith) c.index_mut-place.ensures.value (λ k. record (place_seen x) { cell = same k })
+    put_back c.self.inside.places.items _ c.self.view_is c.args.entry x _ (omega arith) c.index_mut-place.ensures.value (λ k. record (place_seen x) { cell = same k })
 
 pub returns-clause-same : goal.returns-clause-same
 returns-clause-same c =
@@ -19,7 +19,7 @@ returns-clause-same c =
     let n : c.len.result ≡ length c.self.inside.places.items = search rules in
     let i = c.if-entry-len.false in
     let same = c.share.ensures.cell in
-    put_back c.self.inside.places.items _ c.self.view_is c.args.entry x record { read = c.share.new.self; parked = x.parked } (omega arith) c.index_mut-place.ensures.value (λ k. record (place_seen x) { cell = same k })
+    put_back c.self.inside.places.items _ c.self.view_is c.args.entry x _ (omega arith) c.index_mut-place.ensures.value (λ k. record (place_seen x) { cell = same k })
 
 pub returns-clause-cell : goal.returns-clause-cell
 returns-clause-cell c =

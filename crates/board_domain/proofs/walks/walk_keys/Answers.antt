@@ -1,6 +1,0 @@
-use Rattle.std.specs.Fn.{CalledAt}
-use Rattle.board_domain.proofs.WalkLemmas.{walks_on}
-use Rattle.board_domain.proofs.walks.walk_keys.Goals as goal
-
-pub returns : goal.returns
-returns g c = walks_on (CalledAt g.F.FnMut) c.args.callback _ _ c.visit_keys.ensures

@@ -1,0 +1,10 @@
+pub mod Beside
+pub mod Places
+pub mod Changed
+pub mod Left
+pub mod Calls
+pub mod Made
+pub mod Keeps
+pub mod Undone
+pub mod Running
+pub mod Known

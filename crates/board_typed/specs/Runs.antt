@@ -1,0 +1,140 @@
+-- A program that reaches a domain by typed calls alone: what it holds, what its calls do, and where it may come.
+use Rattle.std.specs.Prelude.{◌≡◌, ◌≢◌, ◌≤◌, ℕ, ◌+◌, Bool, true, ◌==◌, List, [], ◌∷◌, ◌++◌, find, Option, Some, None, IfSome, Ok, Err}
+use Rattle.std.specs.List.{AllByRecursion}
+use Rattle.board_layout.specs.declared.type_detail.TypeDetail.{TypeDetail}
+use Rattle.board_layout.specs.Words.{IsWordCount}
+use Rattle.board_cell.specs.Passes.{CellSeen}
+use Rattle.board_model.specs.declared.tables.ThingKind.{ThingKind}
+use Rattle.board_model.specs.declared.tables.ThingKind.TheVariants.{Factory, Reader, Writer, ReadHandle, WriteHandle}
+use Rattle.board_model.specs.Tables.{without_first}
+use Rattle.board_names.specs.declared.errors.boards.EntryHandleError.TheVariants as entry_error
+use Rattle.board_names.specs.declared.errors.boards.EntryHandleMutError.TheVariants as entry_mut_error
+use Rattle.board_service.specs.declared.made.Found.{Found}
+use Rattle.board_service.specs.Domain.{after_open, after_reader, after_writer, empty, held, stands_as}
+use Rattle.board_service.specs.Facts.{IsDomain, IsHeldAs, IsHeldBeside, handle_entry}
+use Rattle.board_cells.specs.Cells.{EndSeen}
+use Rattle.board_handles.specs.BoardEnds.{Core, cell_of}
+use Rattle.board_handles.specs.Handles.{WriteSeen}
+use Rattle.board_handles.specs.LentForms.{Asked, given_up, read_answer, with_read, with_write, with_write_taken, without_thing, write_answer, write_given_up}
+use Rattle.board_domain.specs.LentForms.{IsMade, NewBoard}
+use Rattle.board_typed.specs.Laws.{TakesItsWords}
+
+-- a typed value that was not given back: its thing, what kind that is of, the type of its board's keys, and of a handle its entry and cell
+pub record Value : Type 0 where
+  pub thing : ℕ
+  pub kind : ThingKind
+  pub keys : TypeDetail
+  pub end : Option (ℕ × CellSeen)
+
+abbrev pub a_value : ℕ → ThingKind → TypeDetail → Option (ℕ × CellSeen) → Value
+a_value thing kind keys end = record { thing = thing; kind = kind; keys = keys; end = end }
+
+abbrev pub value_thing : Value → ℕ
+value_thing v = v.thing
+
+abbrev pub has_thing : ℕ → Value → Bool
+has_thing n v = v.thing == n
+
+-- a domain, and the values that a program holds
+pub record World : Type 0 where
+  pub tables : Core
+  pub values : List Value
+
+abbrev pub start : World
+start = record { tables = empty; values = [] }
+
+-- the program holds a value
+abbrev pub Holds : World → Value → Type 0
+Holds w v = find (has_thing v.thing) w.values ≡ Some v
+
+-- the next thing goes out as a value
+abbrev pub Gains : World → World → ThingKind → TypeDetail → Option (ℕ × CellSeen) → Type 0
+Gains old new kind keys end = new.values ≡ old.values ++ a_value (old.tables.last_thing + 1) kind keys end ∷ []
+
+-- the value is given back
+abbrev pub Loses : World → World → Value → Type 0
+Loses old new v = new.values ≡ without_first (has_thing v.thing) old.values
+
+-- a thing was made, and is gone again for want of memory; all are domains in between
+abbrev pub IsUndone : World → World → Core → Type 0
+IsUndone old new made =
+    IsDomain made × IsDomain new.tables × (new.tables ≡ without_thing made (old.tables.last_thing + 1)) × (new.values ≡ old.values)
+
+-- a call that changes something: one that goes through, or one whose thing is gone again. Every other call leaves all as it was
+pub data Call : Type 0 where
+  Creates : NewBoard → Call
+  Opens : ℕ → List ℕ → TypeDetail → Call
+  MakesReader : Value → Call
+  MakesWriter : Value → Call
+  Reads : Value → Asked → Found → CellSeen → Call
+  Writes : Value → Asked → Found → EndSeen → Call
+  GivesUp : Value → Call
+  GivesUpWriting : Value → WriteSeen → Call
+  UndoesCreate : NewBoard → Core → Call
+  UndoesOpen : ℕ → List ℕ → Call
+  UndoesRead : Value → Asked → Call
+  UndoesWrite : Value → Asked → Call
+
+-- what the call's clauses say, by its own and the tables'
+abbrev pub Happens : Call → World → World → Type 0
+Happens (Creates b) old new =
+    (b.keys.size ≤ 64) × AllByRecursion TakesItsWords b.entries × IsMade b old.tables new.tables
+    × IsHeldAs new.tables b.keys (old.tables.last_thing + 1) Factory × Gains old new Factory b.keys None
+Happens (Opens node name keys) old new =
+    (new.tables ≡ after_open old.tables node name)
+    × IsHeldAs new.tables keys (old.tables.last_thing + 1) Factory × Gains old new Factory keys None
+Happens (MakesReader v) old new =
+    Holds old v × (v.kind ≡ Factory) × (new.tables ≡ after_reader old.tables (held old.tables v.thing))
+    × IsHeldBeside old.tables new.tables v.thing (old.tables.last_thing + 1) Reader × Gains old new Reader v.keys None
+Happens (MakesWriter v) old new =
+    Holds old v × (v.kind ≡ Factory) × (new.tables ≡ after_writer old.tables (held old.tables v.thing))
+    × IsHeldBeside old.tables new.tables v.thing (old.tables.last_thing + 1) Writer × Gains old new Writer v.keys None
+Happens (Reads v a f c) old new =
+    Holds old v × (v.kind ≡ Reader) × (read_answer old.tables a v.thing ≡ Ok (f, c)) × (new.tables ≡ with_read old.tables a v.thing)
+    × IsHeldBeside old.tables new.tables v.thing (old.tables.last_thing + 1) ReadHandle × Gains old new ReadHandle v.keys (Some (f.entry, c))
+Happens (Writes v a f e) old new =
+    Holds old v × (v.kind ≡ Writer) × (write_answer old.tables a v.thing ≡ Ok (f, e)) × (new.tables ≡ with_write_taken old.tables a v.thing)
+    × IsHeldBeside old.tables new.tables v.thing (old.tables.last_thing + 1) WriteHandle × Gains old new WriteHandle v.keys (Some (f.entry, e.cell))
+Happens (GivesUp v) old new =
+    Holds old v × (v.kind ≢ WriteHandle) × (new.tables ≡ given_up old.tables v.keys v.thing v.kind) × IsDomain (without_thing old.tables v.thing) × Loses old new v
+Happens (GivesUpWriting v h) old new =
+    Holds old v × (v.kind ≡ WriteHandle) × (h.found.thing ≡ v.thing) × (v.end ≡ Some (h.found.entry, h.held.cell))
+    × (new.tables ≡ write_given_up old.tables v.keys h) × IsDomain (without_thing old.tables v.thing) × Loses old new v
+Happens (UndoesCreate b made) old new =
+    (b.keys.size ≤ 64) × AllByRecursion TakesItsWords b.entries × IsMade b old.tables made × IsUndone old new made
+Happens (UndoesOpen node name) old new = IsUndone old new (after_open old.tables node name)
+Happens (UndoesRead v a) old new = Holds old v × IsUndone old new (with_read old.tables a v.thing)
+Happens (UndoesWrite v a) old new = Holds old v × IsUndone old new (with_write old.tables a v.thing)
+
+-- calls one after another lead from the start to here; each leaves a domain
+abbrev pub Comes : List Call → World → Type 0
+Comes [] w = w ≡ start
+Comes (c ∷ cs) w = (old : World) × Comes cs old × IsDomain old.tables × Happens c old w
+
+-- ---- what holds wherever a program comes
+
+-- a value's thing stands as what it is, and a handle is of its entry, whose cell it has
+pub record IsGood (d : Core) (v : Value) : Type 0 where
+  pub stands : stands_as d v.keys v.thing v.kind ≡ true
+  pub end : IfSome v.end (λ e. (handle_entry (held d v.thing).kind ≡ Some e.0) × (cell_of d (held d v.thing).board e.0 ≡ Some e.1))
+
+-- readers and writers are never unknown things, whatever entry they are asked for by the type of their keys
+pub record NothingIsUnknown (w : World) : Type 0 where
+  pub reader : (v : Value) (a : Asked) (n : ℕ) → Holds w v → v.kind ≡ Reader → a.keys ≡ v.keys → IsWordCount a.values.size a.width → read_answer w.tables a v.thing ≢ Err (entry_error.ThingUnknown n)
+  pub writer : (v : Value) (a : Asked) (n : ℕ) → Holds w v → v.kind ≡ Writer → a.keys ≡ v.keys → IsWordCount a.values.size a.width → write_answer w.tables a v.thing ≢ Err (entry_mut_error.ThingUnknown n)
+
+-- two handles of an entry have one cell
+abbrev pub CellsAreShared : World → Type 0
+CellsAreShared w =
+    (u v : Value) (i : ℕ) (c e : CellSeen) → Holds w u → Holds w v → (held w.tables u.thing).board ≡ (held w.tables v.thing).board
+    → u.end ≡ Some (i, c) → v.end ≡ Some (i, e) → c ≡ e
+
+-- each value that a program holds stands as what it is
+abbrev pub ValuesStand : World → Type 0
+ValuesStand w = (v : Value) → Holds w v → stands_as w.tables v.keys v.thing v.kind ≡ true
+
+-- wherever typed calls alone lead, each value stands, none of them is an unknown thing, and handles of an entry share its cell
+pub record TypedCallsAlone : Type 0 where
+  pub stand : (calls : List Call) (w : World) → Comes calls w → ValuesStand w
+  pub known : (calls : List Call) (w : World) → Comes calls w → NothingIsUnknown w
+  pub shared : (calls : List Call) (w : World) → Comes calls w → CellsAreShared w

@@ -1,0 +1,33 @@
+//! The laws. A call of one does nothing.
+ghost use Rattle.board_typed.specs.Laws.{CallsKeepOrder, CallsKeepOthers, HandlesShareTheCell, KeysAreShort, PortsAreKnown};
+ghost use Rattle.board_typed.specs.Runs.{TypedCallsAlone};
+
+/// The cells of a new domain are in order, and each call leaves them so.
+pub fn calls_keep_order()
+    ensures { CallsKeepOrder }
+{}
+
+/// Each call leaves every other thing as it was, with its board and the cells of that.
+pub fn calls_keep_others()
+    ensures { CallsKeepOthers }
+{}
+
+/// Where the cells are in order, a port that is held is never answered `ThingUnknown`.
+pub fn ports_are_known()
+    ensures { PortsAreKnown }
+{}
+
+/// Where the cells are in order, whoever holds a thing has keys of at most 64 bytes.
+pub fn keys_are_short()
+    ensures { KeysAreShort }
+{}
+
+/// Where the cells are in order, the handles that readers and writers are given of an entry have its one cell.
+pub fn handles_share_the_cell()
+    ensures { HandlesShareTheCell }
+{}
+
+/// Wherever typed calls alone lead, each value that was not given back stands, no reader or writer is answered `ThingUnknown`, and handles of an entry have one cell. A builder of ports is left out: its factory may be given back before it.
+pub fn typed_calls_alone()
+    ensures { TypedCallsAlone }
+{}
