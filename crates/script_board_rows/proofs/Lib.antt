@@ -1,1 +1,1 @@
-mod CellLemmas
+mod ShapeLemmas

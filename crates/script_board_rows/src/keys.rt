@@ -45,28 +45,20 @@ pub fn has_equal_keys(key_type: KeyType, entries: &[AddedEntry]) -> bool
     false
 }
 
-// The place of the first entry with this key.
-fn place_of(key: &Key, entries: &[Entry]) -> Option<usize>
-    ensures { IsPlace (tables.entry_from 0 (keeps_key key.now) entries.now) result }
+/// The place of the first entry with this key, where its values are of this type.
+pub fn find(key: &Key, value: &TypeDetail, entries: &[Entry]) -> Option<usize>
+    ensures { IsPlace (tables.of_type value.now
+        (tables.entry_from 0 (keeps_key key.now) entries.now)) result }
 {
     let key_type = type_of_key(key);
     let bytes = key_bytes(key).bytes;
     for (i, entry) in entries.iter().enumerate() {
         if is_same(key_type, &entry.key.bytes, &bytes) {
-            return Some(i);
+            if same_type(&entry.value, value) {
+                return Some(i);
+            }
+            return None;
         }
     }
     None
-}
-
-/// The place of the entry with this key, where its values are of this type.
-pub fn find(key: &Key, value: &TypeDetail, entries: &[Entry]) -> Option<usize>
-    ensures { IsPlace (tables.of_type value.now
-        (tables.entry_from 0 (keeps_key key.now) entries.now)) result }
-{
-    let at = place_of(key, entries)?;
-    if !same_type(&entries[at].value, value) {
-        return None;
-    }
-    Some(at)
 }

@@ -1,6 +1,6 @@
 //! A new board: its entries, its words, and what is published of it at first.
 ghost use Rattle.std.specs.Prelude.{◌≡◌, ◌++◌, All, IfOk, OnOk, length, map, replicate};
-ghost use Rattle.board_layout.specs.Layout.{IsShape, opening_cell, opening_words};
+ghost use Rattle.board_layout.specs.Layout.{opening_cell, opening_words};
 ghost use Rattle.board_model.specs.Replies.{added_of};
 ghost use Rattle.board_model.specs.Tables as tables;
 ghost use Rattle.script_board_rows.specs.NewBoards.{IsOpened, IsOpenedAt, IsSmallPlace, first_published, first_values};
@@ -26,9 +26,7 @@ pub struct Opening {
 
 // The room that each of the added entries needs.
 fn shapes_of(alloc: Global, added: &[AddedEntry]) -> Result<Vec<Shape>, AllocError>
-    ensures shapes { IfOk result (λ v. v.items
-        ≡ tables.shapes_of (map added_of added.now)) }
-    ensures each { IfOk result (λ v. All IsShape v.items) }
+    ensures { IfOk result (λ v. v.items ≡ tables.shapes_of (map added_of added.now)) }
 {
     let mut shapes = Vec::new(alloc);
     for entry in added {

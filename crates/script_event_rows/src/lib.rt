@@ -11,6 +11,8 @@ mod event_row;
 mod id_words;
 mod notify_task;
 mod reports;
+#[cfg(test)]
+mod tests;
 mod wait_task;
 
 pub use event_call::{EventCall, Took};
