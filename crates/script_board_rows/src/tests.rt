@@ -1,6 +1,6 @@
 use crate::{
-    Reading, Written, current_at, find, has_equal_keys, heard, meets, open, spare_at,
-    word_to_read, word_to_write,
+    Reading, Written, current_at, find, has_equal_keys, heard, meets, open, spare_at, word_to_read,
+    word_to_write,
 };
 use board_layout::{CellShape, Text};
 use board_model::{

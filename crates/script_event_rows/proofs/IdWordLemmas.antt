@@ -150,7 +150,7 @@ word_is ws k w ids h low read small =
           let d : (64 * k + i) / 64 ≡ k = omega arith in
           let m : (64 * k + i) % 64 ≡ i = omega arith in
           let same : is_set ws (64 * k + i) ≡ eqb (bit_at w i) 1 =
-              ap (λ (j : ℕ). eqb (bit_at (get_or ws j 0) ((64 * k + i) % 64)) 1) d ∙ ap (λ (j : ℕ). eqb (bit_at (get_or ws k 0) j) 1) m ∙ ap (λ (x : ℕ). eqb (bit_at x i) 1) (sym is) in
+          ap (λ (j : ℕ). eqb (bit_at (get_or ws j 0) ((64 * k + i) % 64)) 1) d ∙ ap (λ (j : ℕ). eqb (bit_at (get_or ws k 0) j) 1) m ∙ ap (λ (x : ℕ). eqb (bit_at x i) 1) (sym is) in
           bit_flag _ (bit_at-lt w i) ∙ ap (λ (b : Bool). if b then 1 else 0) (sym (h (64 * k + i) ∙ same)));
     }
 

@@ -35,7 +35,11 @@ pub struct EventRow {
 fn yes_or_no(is: bool) -> EventAnswer
     ensures { result ≡ event.yes_or_no is }
 {
-    if is { EventAnswer::Yes } else { EventAnswer::No }
+    if is {
+        EventAnswer::Yes
+    } else {
+        EventAnswer::No
+    }
 }
 
 // How many words an event needs: those for all ids up to the greatest of a set.
