@@ -1,7 +1,5 @@
 -- What the tables of the tests tell is right.
-use Rattle.std.proofs.Common.{◌≡◌, ℕ, Bool, true, false, List, [], ◌++◌, refl, sym, ap, ◌∙◌, subst}
-use Rattle.std.proofs.lemmas.Bool.{false≢true}
-use Rattle.board_model.specs.declared.line.Line.{Line}
+use Rattle.std.proofs.Common.{◌≡◌, ℕ, List, [], ◌++◌, refl, sym, ap, ◌∙◌, subst}
 use Rattle.board_model.specs.declared.line.Line.TheVariants as board_line
 use Rattle.board_model.specs.declared.answer.Reason.TheVariants as reason
 use Rattle.board_model.specs.declared.answer.Answer.TheVariants as answer
@@ -39,26 +37,8 @@ told old new session party text h s e = record {
   told = e;
 }
 
--- ---- steps
-
-abbrev pub is_step_of_boards : Line → Bool
-is_step_of_boards (board_line.Begin party c) = false
-is_step_of_boards (board_line.Step party) = true
-is_step_of_boards (board_line.Release party name) = false
-is_step_of_boards (board_line.Abandon party) = false
-is_step_of_boards (board_line.Words board) = false
-
-abbrev pub is_step : ScriptLine → Bool
-is_step (line.Board l) = is_step_of_boards l
-is_step (line.Event party q) = false
-is_step (line.Expire party) = false
-
 -- the answer to a step, written into what was cleared
-pub told_after : {T : Type 0} (old new : T) (session : Session) (l : ScriptLine) (before text : List ℕ) → is_step l ≡ true → IsScriptLine l → StandsFor {M = T} (λ t n s. s ≡ start) old session → before ≡ [] → text ≡ before ++ script_answer_line is_idle → HasTold {T = T} (λ t n s. s ≡ start) new session l text
-told_after {T = T} old new session (line.Board (board_line.Step party)) before text is h s none e = told {T = T} old new session party text h s (e ∙ ap (λ (b : List ℕ). b ++ script_answer_line is_idle) none)
-told_after {T = T} old new session (line.Board (board_line.Begin party c)) before text is h s none e = absurd (false≢true is)
-told_after {T = T} old new session (line.Board (board_line.Release party name)) before text is h s none e = absurd (false≢true is)
-told_after {T = T} old new session (line.Board (board_line.Abandon party)) before text is h s none e = absurd (false≢true is)
-told_after {T = T} old new session (line.Board (board_line.Words board)) before text is h s none e = absurd (false≢true is)
-told_after {T = T} old new session (line.Event party q) before text is h s none e = absurd (false≢true is)
-told_after {T = T} old new session (line.Expire party) before text is h s none e = absurd (false≢true is)
+pub told_after : {T : Type 0} (old new : T) (session : Session) (l : ScriptLine) (before text : List ℕ) → ((party : List ℕ) × (l ≡ a_step party)) → IsScriptLine l → StandsFor {M = T} (λ t n s. s ≡ start) old session → before ≡ [] → text ≡ before ++ script_answer_line is_idle → HasTold {T = T} (λ t n s. s ≡ start) new session l text
+told_after {T = T} old new session l before text step h s none e =
+    subst (λ (x : ScriptLine). HasTold {T = T} (λ t n s. s ≡ start) new session x text) (sym step.1)
+    (told {T = T} old new session step.0 text (subst IsScriptLine step.1 h) s (e ∙ ap (λ (b : List ℕ). b ++ script_answer_line is_idle) none))

@@ -1,5 +1,4 @@
-ghost use Rattle.std.specs.Prelude.{◌≡◌};
-ghost use Rattle.script_pairs.proofs.NoCalls as no_calls;
+ghost use Rattle.std.specs.Prelude.{◌≡◌, IsTrue, List, ℕ};
 
 use crate::{CheckError, KnowsAnswers, Rule, Verdict, check_pairs};
 use board_model::{Line, Reason};
@@ -10,16 +9,20 @@ use std::alloc::{AllocError, Global};
 use std::test::Fail;
 
 fn is_step_of_boards(line: &Line) -> bool
-    ensures { result ≡ no_calls.is_step_of_boards line.now }
+    ensures { IsTrue result → (party : List ℕ) × (line.now ≡ Line.Step party) }
 {
-    matches!(line, Line::Step { .. })
+    match line {
+        Line::Step { party: _ } => true,
+        _ => false,
+    }
 }
 
 fn is_step(line: &ScriptLine) -> bool
-    ensures { result ≡ no_calls.is_step line.now }
+    ensures { IsTrue result
+        → (party : List ℕ) × (line.now ≡ ScriptLine.Board (Line.Step party)) }
 {
     match line {
-        ScriptLine::Board(line) => is_step_of_boards(line),
+        ScriptLine::Board(of_boards) => is_step_of_boards(of_boards),
         _ => false,
     }
 }
