@@ -1,6 +1,5 @@
 -- A verdict that is true is the only one.
-use Rattle.std.proofs.Common.{◌≡◌, ◌≢◌, ℕ, ◌+◌, ◌*◌, ◌<◌, ◌≤◌, List, [], ◌∷◌, ◌++◌, length, arith, refl, sym, ap, subst, ◌∙◌, append_assoc, Option, Some, None, Result, Ok, Err, IfOk, IsErr, IsErrOf}
-use Rattle.std.specs.Prelude.{IsSomeAnd}
+use Rattle.std.proofs.Common.{◌≡◌, ℕ, ◌+◌, ◌*◌, ◌≤◌, List, [], ◌∷◌, ◌++◌, length, arith, refl, sym, ap, subst, ◌∙◌, Option, Some, None, Result, Ok, Err, IfOk, IsErrOf}
 use Rattle.std.proofs.lemmas.List.{length-append}
 use Rattle.board_model.specs.Lines.{lines_of}
 use Rattle.script_model.specs.ScriptSession.{Session}
@@ -13,7 +12,7 @@ use Rattle.script_pairs.specs.declared.verdict.Verdict.{Verdict}
 use Rattle.script_pairs.specs.declared.verdict.Verdict.TheVariants.{Lawful, No}
 use Rattle.script_pairs.specs.declared.verdict.CheckError.{CheckError}
 use Rattle.script_pairs.specs.declared.verdict.CheckError.TheVariants.{ReadFault, TooLong, OutOfMemory}
-use Rattle.script_pairs.specs.Checks.{Checks, GoOnAfter, GoesOnIn, IsVerdict, Tells}
+use Rattle.script_pairs.specs.Checks.{Checks, GoOnAfter, GoesOnIn, IsVerdict}
 
 -- ---- lengths
 

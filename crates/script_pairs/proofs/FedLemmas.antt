@@ -6,8 +6,8 @@ use Rattle.std.proofs.lemmas.List.{append-nil, length-append, take-append-le, ta
 use Rattle.board_model.specs.Lines.{TakesLine, lines_of}
 use Rattle.script_model.specs.declared.line.ScriptLine.{ScriptLine}
 use Rattle.script_model.specs.ScriptGrammar.{SpellsLine}
-use Rattle.script_model.specs.ScriptAnswers.{ScriptAnswer, script_answer_line, script_answer_text}
-use Rattle.script_model.specs.ScriptSession.{IsLawful, IsRight, Session, after, start, state_after}
+use Rattle.script_model.specs.ScriptAnswers.{ScriptAnswer, script_answer_text}
+use Rattle.script_model.specs.ScriptSession.{IsLawful, IsRight, Session, start, state_after}
 use Rattle.script_model.specs.ScriptTurns.{ScriptState}
 use Rattle.script_loop.specs.Machines.{SpellsNone, StandsFor}
 use Rattle.script_loop.specs.Reader.{HasMore}
@@ -16,14 +16,14 @@ use Rattle.script_loop.proofs.RunLemmas.{length_more, state_more}
 use Rattle.script_rules.specs.declared.rule.Rule.{Rule}
 use Rattle.script_rules.specs.declared.rule.Rule.TheVariants as rule
 use Rattle.script_rules.specs.PrintedAnswers.{SpellsAnswer}
-use Rattle.script_rules.specs.BrokenRules.{Breaks, Differs, IsAnswerText, IsLineText, broken_rule}
-use Rattle.script_rules.specs.SessionPairs.{AreLawful, BreaksAt, SpellsPairs, next_line}
+use Rattle.script_rules.specs.BrokenRules.{Breaks, Differs, IsLineText, broken_rule}
+use Rattle.script_rules.specs.SessionPairs.{SpellsPairs, next_line}
 use Rattle.script_rules.proofs.GroupLemmas.{none_same, not_answer, not_line}
 use Rattle.script_rules.proofs.VerdictLemmas.{lawful_push, sessions_go_on}
 use Rattle.script_pairs.specs.declared.pair_lines.Found.{Found}
 use Rattle.script_pairs.specs.declared.pair_lines.Found.TheVariants as found
 use Rattle.script_pairs.specs.PairLines.{HasLonger, IsFound, IsLonger}
-use Rattle.script_pairs.specs.Checks.{AreLawfulIn, BreaksIn, GoOnAfter, GoesOnIn, HasTold}
+use Rattle.script_pairs.specs.Checks.{AreLawfulIn, BreaksIn, GoesOnIn, HasTold}
 
 -- the first lines are the pairs of the session, and the others are those of what is left
 pub record ReadPairs (bytes left : List ℕ) (session : Session) : Type 0 where

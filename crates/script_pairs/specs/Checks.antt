@@ -1,17 +1,17 @@
 -- What a check of pairs comes to.
-use Rattle.std.specs.Prelude.{◌≡◌, ◌≢◌, ℕ, ◌+◌, ◌≤◌, List, [], ◌∷◌, ◌++◌, length, IsSomeAnd, Option, Some, None, ⊤, Result, Ok, Err, IfOk, IsErr, IsErrOf, MatchResult}
+use Rattle.std.specs.Prelude.{◌≡◌, ◌≢◌, ℕ, ◌+◌, ◌≤◌, List, ◌∷◌, ◌++◌, length, IsSomeAnd, Option, Some, None, ⊤, Result, IfOk, IsErr, IsErrOf, MatchResult}
 use Rattle.board_model.specs.Lines.{lines_of}
 use Rattle.script_model.specs.declared.line.ScriptLine.{ScriptLine}
 use Rattle.script_model.specs.ScriptAnswers.{ScriptAnswer, script_answer_line}
-use Rattle.script_model.specs.ScriptSession.{IsLawful, IsRight, Session, after, start, state_after}
+use Rattle.script_model.specs.ScriptSession.{IsRight, Session, after, start, state_after}
 use Rattle.script_model.specs.ScriptTurns.{ScriptState}
 use Rattle.script_loop.specs.Machines.{StandsFor}
 use Rattle.script_rules.specs.declared.rule.Rule.{Rule}
-use Rattle.script_rules.specs.SessionPairs.{AreLawful, BreaksAt, SpellsPairs}
+use Rattle.script_rules.specs.SessionPairs.{AreLawful, BreaksAt}
 use Rattle.script_pairs.specs.declared.verdict.Verdict.{Verdict}
 use Rattle.script_pairs.specs.declared.verdict.Verdict.TheVariants.{Lawful, No}
 use Rattle.script_pairs.specs.declared.verdict.CheckError.{CheckError}
-use Rattle.script_pairs.specs.declared.verdict.CheckError.TheVariants.{ReadFault, TooLong, OutOfMemory}
+use Rattle.script_pairs.specs.declared.verdict.CheckError.TheVariants.{TooLong}
 
 -- ---- what knows the right answers
 
