@@ -1,0 +1,3 @@
+pub mod CellCalls
+pub mod Found
+pub mod NewBoards

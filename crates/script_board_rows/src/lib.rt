@@ -1,0 +1,18 @@
+//! What a checker of sessions keeps of a board and of the calls on it, tied to the definitions.
+//!
+//! `specs/CellCalls` says how far a get and a publication are, `specs/NewBoards` what a new board begins with, and
+//! `specs/Found` which entry a key finds. Nothing of a domain and no call core is used. The tables of a checker are to hold
+//! these by the number of a board.
+#![tactic(auto)]
+
+mod attributes;
+mod cell_calls;
+mod keys;
+mod new_board;
+#[cfg(test)]
+mod tests;
+
+pub use attributes::meets;
+pub use cell_calls::{Reading, Written, current_at, heard, spare_at, word_to_read, word_to_write};
+pub use keys::{find, has_equal_keys};
+pub use new_board::{Opening, Published, open};

@@ -1,0 +1,3 @@
+mod IdWordLemmas
+mod RowLemmas
+mod ReportLemmas

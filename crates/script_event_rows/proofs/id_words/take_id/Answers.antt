@@ -1,0 +1,5 @@
+use Rattle.script_event_rows.proofs.IdWordLemmas.{becomes_taken}
+use Rattle.script_event_rows.proofs.id_words.take_id.Goals as goal
+
+pub returns : goal.returns
+returns c = becomes_taken c.args.words.now.items c.args.id _ c.requires c.index_mut.ensures.value

@@ -1,0 +1,4 @@
+pub mod IdWords
+pub mod EventRows
+pub mod Tasks
+pub mod EventCalls

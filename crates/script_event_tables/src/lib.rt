@@ -1,0 +1,11 @@
+//! The events of a script as a checker of sessions keeps them: by number, and by the names that are held.
+//!
+//! `specs/EventTables` says for which events of the definitions a table stands. The rows are those of `script_event_rows`.
+#![tactic(auto)]
+
+mod event_names;
+mod event_table;
+#[cfg(test)]
+mod tests;
+
+pub use event_table::EventTable;

@@ -1,0 +1,14 @@
+use crate::EventTable;
+use board_event_model::EventKind;
+use board_layout::Text;
+use std::test::Fail;
+
+#[test]
+fn names_are_held_by_kind(rt: HostRuntime) -> Result<(), Fail> {
+    let name: Text<255> = Text::of(b"door");
+    let mut table = EventTable::new(rt.alloc());
+    assert!(rt; table.listen(EventKind::Bits, &name, 63)? == Some(1));
+    assert!(rt; table.listen(EventKind::Bits, &name, 9)? == None);
+    assert!(rt; table.listen(EventKind::Queue, &name, 0)? == Some(2));
+    Ok(())
+}

@@ -1,0 +1,4 @@
+pub mod FirstLines
+pub mod FedLemmas
+pub mod EndLemmas
+pub mod NoCalls

@@ -1,0 +1,138 @@
+//! Pairs that are judged one after another.
+ghost use Rattle.std.specs.Prelude.{◌≡◌, ◌≢◌, ◌≤◌, ◌-◌, Err, IsErrOf, IsTrue, OnOk, false, length, take, ℕ};
+ghost use Rattle.board_model.specs.Lines.{Rose};
+ghost use Rattle.script_model.specs.ScriptGrammar.{IsScriptLine};
+ghost use Rattle.script_model.specs.ScriptSession.{Session, start};
+ghost use Rattle.script_model.specs.ScriptTurns.{ScriptState};
+ghost use Rattle.script_loop.specs.Machines.{StandsFor};
+ghost use Rattle.script_rules.specs.BrokenRules.{broken_rule};
+ghost use Rattle.script_rules.specs.PrintedAnswers.{SpellsAnswer};
+ghost use Rattle.script_pairs.specs.Checks.{Checks, TellsEach};
+
+use crate::pair_lines::{Found, PairLines};
+use crate::verdict::{CheckError, Verdict};
+use script_answers::{broken_rule_of, is_answer, most_bytes};
+use script_loop::Source;
+use script_model::ScriptLine;
+use script_parse::parse_line;
+use script_rules::Rule;
+use std::alloc::{AllocError, Global};
+
+/// What knows the right answer to each line of a script.
+///
+/// Contracts see for which numbers of lines and which states it stands: those of the lawful sessions that may have led to it.
+pub trait KnowsAnswers {
+    ghost stands: { Self → ℕ → ScriptState → Type 0 };
+
+    /// Puts the right answer to the line into `answer`, with its newline, and goes on to what stands behind the line.
+    ///
+    /// # Errors
+    /// `AllocError` where memory is refused.
+    fn right_answer(&mut self, line: &ScriptLine, answer: &mut Vec<u8>) -> Result<(), AllocError>
+        requires line { IsScriptLine line.now }
+
+        // It stands for a session that is short enough that no number reaches its end.
+        requires stands { (session : Session) × StandsFor stands self.old session }
+
+        // For each session that it stands for the answer is right, and it stands for the session with this pair.
+        ensures ok { OnOk result (TellsEach stands self.old self.new line.now answer.new.items) };
+}
+
+// A line without its newline.
+fn without_newline(line: &[u8]) -> &[u8]
+    ensures { result.now ≡ take (length line.now - 1) line.now }
+{
+    match line {
+        [] => line,
+        [text @ .., _] => text,
+    }
+}
+
+// Whether a line was found that is an answer to the n-th line.
+fn is_answered(found: Found, n: u64, answer: &Vec<u8>) -> bool
+    requires { n ≤ 4294967296 }
+    ensures right { IsTrue result → SpellsAnswer n answer.now.items }
+    ensures line { IsTrue result → found ≡ Found.Line }
+    ensures wrong { result ≡ false → found ≡ Found.Line → SpellsAnswer n answer.now.items → ⊥ }
+{
+    match found {
+        Found::Line => is_answer(n, answer),
+        Found::Long => false,
+        Found::End => false,
+    }
+}
+
+// The rule that the answer breaks, where the line of the right one is this.
+fn rule_broken(asked: &ScriptLine, right: &Vec<u8>, answer: &Vec<u8>) -> Option<Rule>
+    ensures { result ≡ broken_rule asked.now
+        (take (length right.now.items - 1) right.now.items) answer.now.items }
+{
+    broken_rule_of(asked, without_newline(right), answer)
+}
+
+/// Judges the lines of the source in turn, a line of a script and then its answer, for at most `limit` pairs.
+///
+/// Pair n is counted from 1. `TooLong` is looked at when a byte follows the last pair that is allowed.
+///
+/// # Errors
+/// `ReadFault` where the source failed; `TooLong`; `OutOfMemory`.
+pub fn check_pairs<T: KnowsAnswers, S: Source>(
+    alloc: Global,
+    limit: u64,
+    tables: &mut T,
+    source: &mut S,
+) -> Result<Verdict, CheckError>
+    requires limit { limit ≤ 4294967295 }
+    requires tables { T.stands tables.old 0 start }
+
+    // A verdict is true of the source's lines, and comes where it is true.
+    ensures checks { Checks limit (S.left source.old) result }
+
+    // It fails to read only where the source's count of faults rises.
+    ensures cause { IsErrOf result CheckError.ReadFault
+        → Rose (S.faults source.old) (S.faults source.new) }
+    ensures told { result ≢ Err CheckError.ReadFault → S.faults source.new ≡ S.faults source.old }
+    ensures later { S.faults source.old ≤ S.faults source.new }
+    ensures reads { S.never_fails source.old → result ≢ Err CheckError.ReadFault }
+{
+    let mut reader = PairLines::new(alloc)?;
+    let mut line = Vec::new(alloc);
+    let mut answer = Vec::new(alloc);
+    let mut right = Vec::new(alloc);
+    for n in 0..limit {
+        let pair = n + 1;
+        match reader.next(source, 4096, &mut line)? {
+            Found::End => return Ok(Verdict::Lawful { pairs: n }),
+            Found::Long => {
+                return Ok(Verdict::No {
+                    pair,
+                    rule: Rule::Line,
+                });
+            }
+            Found::Line => {}
+        }
+        let Some(asked) = parse_line(alloc, &line)? else {
+            return Ok(Verdict::No {
+                pair,
+                rule: Rule::Line,
+            });
+        };
+        let found = reader.next(source, most_bytes(pair) as usize, &mut answer)?;
+        if !is_answered(found, pair, &answer) {
+            return Ok(Verdict::No {
+                pair,
+                rule: Rule::Answer,
+            });
+        }
+        tables.right_answer(&asked, &mut right)?;
+        if let Some(rule) = rule_broken(&asked, &right, &answer) {
+            return Ok(Verdict::No { pair, rule });
+        }
+    }
+    let ended = reader.is_at_end(source)?;
+    if ended {
+        Ok(Verdict::Lawful { pairs: limit })
+    } else {
+        Err(CheckError::TooLong)
+    }
+}
