@@ -77,7 +77,7 @@ never_refused fed party x a right refusal h = false≢true (sym (abandon_accepte
 -- ---- small facts
 
 -- an accepted begin has begun
-accepted_begin : (a : ScriptAnswer) → (a ≡ of_boards answer.Begun) ⊎ ((why : Reason) × (a ≡ of_boards (answer.Refused why))) → is_refused a ≡ false → a ≡ of_boards answer.Begun
+pub accepted_begin : (a : ScriptAnswer) → (a ≡ of_boards answer.Begun) ⊎ ((why : Reason) × (a ≡ of_boards (answer.Refused why))) → is_refused a ≡ false → a ≡ of_boards answer.Begun
 accepted_begin a (inl e) accepts = e
 accepted_begin a (inr e) accepts = absurd (false≢true (sym accepts ∙ ap is_refused e.1))
 

@@ -1,0 +1,7 @@
+pub mod AskLemmas
+pub mod CallLemmas
+pub mod GivenLemmas
+pub mod MachineLemmas
+pub mod ToldIdLemmas
+pub mod TurnLemmas
+pub mod WatchLemmas
