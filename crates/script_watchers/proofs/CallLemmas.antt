@@ -35,16 +35,16 @@ eq_sym a b = at (bytes_eq a b) (bytes_eq b a) refl refl
 
 filters : (p q r : List ℕ → Bool) → ((g : List ℕ) → r g ≡ (q g && p g)) → (xs : List (List ℕ)) → filter p (filter q xs) ≡ filter r xs
 filters p q r h [] = refl
-filters p q r h (x ∷ xs) = at (q x) (p x) refl refl ∙ ap (λ (b : Bool). if b then x ∷ filter r xs else filter r xs) (sym (h x))
+filters p q r h (x ∷ xs) = at (q x) (p x) refl refl (filters p q r h xs) ∙ ap (λ (b : Bool). if b then x ∷ filter r xs else filter r xs) (sym (h x))
   where
-    inner : (c : Bool) → p x ≡ c → filter p (x ∷ filter q xs) ≡ (if c then x ∷ filter r xs else filter r xs)
-    inner c f = ap (λ (b : Bool). if b then x ∷ filter p (filter q xs) else filter p (filter q xs)) f ∙ ap (λ (ys : List (List ℕ)). if c then x ∷ ys else ys) (filters p q r h xs)
+    inner : (c : Bool) → p x ≡ c → filter p (filter q xs) ≡ filter r xs → filter p (x ∷ filter q xs) ≡ (if c then x ∷ filter r xs else filter r xs)
+    inner c f rest = ap (λ (b : Bool). if b then x ∷ filter p (filter q xs) else filter p (filter q xs)) f ∙ ap (λ (ys : List (List ℕ)). if c then x ∷ ys else ys) rest
 
-    at : (b c : Bool) → q x ≡ b → p x ≡ c → filter p (filter q (x ∷ xs)) ≡ (if (q x && p x) then x ∷ filter r xs else filter r xs)
-    at true c e f =
-        ap (λ (b : Bool). filter p (if b then x ∷ filter q xs else filter q xs)) e ∙ inner c f ∙ ap (λ (b : Bool). if b then x ∷ filter r xs else filter r xs) (sym (ap (λ (b : Bool). b && p x) e ∙ f))
-    at false c e f =
-        ap (λ (b : Bool). filter p (if b then x ∷ filter q xs else filter q xs)) e ∙ filters p q r h xs ∙ ap (λ (b : Bool). if b then x ∷ filter r xs else filter r xs) (sym (ap (λ (b : Bool). b && p x) e))
+    at : (b c : Bool) → q x ≡ b → p x ≡ c → filter p (filter q xs) ≡ filter r xs → filter p (filter q (x ∷ xs)) ≡ (if (q x && p x) then x ∷ filter r xs else filter r xs)
+    at true c e f rest =
+        ap (λ (b : Bool). filter p (if b then x ∷ filter q xs else filter q xs)) e ∙ inner c f rest ∙ ap (λ (b : Bool). if b then x ∷ filter r xs else filter r xs) (sym (ap (λ (b : Bool). b && p x) e ∙ f))
+    at false c e f rest =
+        ap (λ (b : Bool). filter p (if b then x ∷ filter q xs else filter q xs)) e ∙ rest ∙ ap (λ (b : Bool). if b then x ∷ filter r xs else filter r xs) (sym (ap (λ (b : Bool). b && p x) e))
 
 -- ---- adding
 

@@ -92,18 +92,18 @@ record IsWorded (text : List ℕ) : Type 0 where
   others_before : AllByRecursion IsBefore others
 
 worded : (k : EventKind) (name : List ℕ) (a : EventAccess) (b : EventAnswer) (told : Option EventReply) → IsFormedAccess name a b told → IsAnswerTo a b → IsWorded (event_access_text k name a b)
-worded k name access.Listener event_answer.Yes told h g = record { first = codes "listener"; others = event_text k name ∷ codes "yes" ∷ []; is = refl; first_before = record { free = refl; other = refl }; others_before = (event_before k name h.text, record { free = refl; other = refl }, tt) }
-worded k name access.Listener event_answer.No told h g = record { first = codes "listener"; others = event_text k name ∷ codes "no" ∷ []; is = refl; first_before = record { free = refl; other = refl }; others_before = (event_before k name h.text, record { free = refl; other = refl }, tt) }
-worded k name (access.Set id) b told h g = record { first = codes "set"; others = event_text k name ∷ decimal id ∷ []; is = refl; first_before = record { free = refl; other = refl }; others_before = (event_before k name h.text, number_before id h.numbers, tt) }
+worded k name access.Listener event_answer.Yes told h g = record { first = codes "listener"; others = event_text k name ∷ codes "yes" ∷ []; is = refl; first_before = record { free = refl; other = refl }; others_before = (event_before k name h.text, (record { free = refl; other = refl }, tt)) }
+worded k name access.Listener event_answer.No told h g = record { first = codes "listener"; others = event_text k name ∷ codes "no" ∷ []; is = refl; first_before = record { free = refl; other = refl }; others_before = (event_before k name h.text, (record { free = refl; other = refl }, tt)) }
+worded k name (access.Set id) b told h g = record { first = codes "set"; others = event_text k name ∷ decimal id ∷ []; is = refl; first_before = record { free = refl; other = refl }; others_before = (event_before k name h.text, (number_before id h.numbers, tt)) }
 worded k name access.Post b told h g = record { first = codes "post"; others = event_text k name ∷ []; is = refl; first_before = record { free = refl; other = refl }; others_before = (event_before k name h.text, tt) }
 worded k name (access.Push id) b told h g = record { first = codes "push"; others = event_text k name ∷ []; is = refl; first_before = record { free = refl; other = refl }; others_before = (event_before k name h.text, tt) }
-worded k name access.Signal event_answer.Yes told h g = record { first = codes "signal"; others = event_text k name ∷ codes "yes" ∷ []; is = refl; first_before = record { free = refl; other = refl }; others_before = (event_before k name h.text, record { free = refl; other = refl }, tt) }
-worded k name access.Signal event_answer.No told h g = record { first = codes "signal"; others = event_text k name ∷ codes "no" ∷ []; is = refl; first_before = record { free = refl; other = refl }; others_before = (event_before k name h.text, record { free = refl; other = refl }, tt) }
-worded k name (access.Clear id) b told h g = record { first = codes "clear"; others = event_text k name ∷ decimal id ∷ []; is = refl; first_before = record { free = refl; other = refl }; others_before = (event_before k name h.text, number_before id h.numbers, tt) }
-worded k name (access.Scan w) (event_answer.Word v) told h g = record { first = codes "scan"; others = event_text k name ∷ decimal w ∷ decimal v ∷ []; is = refl; first_before = record { free = refl; other = refl }; others_before = (event_before k name h.text, number_before w h.numbers, number_before v g, tt) }
-worded k name (access.Swap w) (event_answer.Word v) told h g = record { first = codes "swap"; others = event_text k name ∷ decimal w ∷ decimal v ∷ []; is = refl; first_before = record { free = refl; other = refl }; others_before = (event_before k name h.text, number_before w h.numbers, number_before v g, tt) }
-worded k name access.Pop (event_answer.Id id) told h g = record { first = codes "pop"; others = event_text k name ∷ decimal id ∷ []; is = refl; first_before = record { free = refl; other = refl }; others_before = (event_before k name h.text, number_before id g, tt) }
-worded k name access.Pop event_answer.Empty told h g = record { first = codes "pop"; others = event_text k name ∷ codes "none" ∷ []; is = refl; first_before = record { free = refl; other = refl }; others_before = (event_before k name h.text, record { free = refl; other = refl }, tt) }
+worded k name access.Signal event_answer.Yes told h g = record { first = codes "signal"; others = event_text k name ∷ codes "yes" ∷ []; is = refl; first_before = record { free = refl; other = refl }; others_before = (event_before k name h.text, (record { free = refl; other = refl }, tt)) }
+worded k name access.Signal event_answer.No told h g = record { first = codes "signal"; others = event_text k name ∷ codes "no" ∷ []; is = refl; first_before = record { free = refl; other = refl }; others_before = (event_before k name h.text, (record { free = refl; other = refl }, tt)) }
+worded k name (access.Clear id) b told h g = record { first = codes "clear"; others = event_text k name ∷ decimal id ∷ []; is = refl; first_before = record { free = refl; other = refl }; others_before = (event_before k name h.text, (number_before id h.numbers, tt)) }
+worded k name (access.Scan w) (event_answer.Word v) told h g = record { first = codes "scan"; others = event_text k name ∷ decimal w ∷ decimal v ∷ []; is = refl; first_before = record { free = refl; other = refl }; others_before = (event_before k name h.text, (number_before w h.numbers, (number_before v g, tt))) }
+worded k name (access.Swap w) (event_answer.Word v) told h g = record { first = codes "swap"; others = event_text k name ∷ decimal w ∷ decimal v ∷ []; is = refl; first_before = record { free = refl; other = refl }; others_before = (event_before k name h.text, (number_before w h.numbers, (number_before v g, tt))) }
+worded k name access.Pop (event_answer.Id id) told h g = record { first = codes "pop"; others = event_text k name ∷ decimal id ∷ []; is = refl; first_before = record { free = refl; other = refl }; others_before = (event_before k name h.text, (number_before id g, tt)) }
+worded k name access.Pop event_answer.Empty told h g = record { first = codes "pop"; others = event_text k name ∷ codes "none" ∷ []; is = refl; first_before = record { free = refl; other = refl }; others_before = (event_before k name h.text, (record { free = refl; other = refl }, tt)) }
 worded k name a b told h g = absurd g
 
 -- ---- replies
@@ -152,3 +152,28 @@ id_again n h =
     pass_word (codes "table") (codes "= id " ++ decimal n) (record { free = refl; other = refl }) ∙ at_equals (codes "id " ++ decimal n)
     ∙ ap (λ (ts : List (List ℕ)). Some ts) (split_more (codes "id") (decimal n) refl ∙ ap (λ (ts : List (List ℕ)). codes "id" ∷ ts) (split_last (decimal n) (free_number 32 refl n h))) in
     ap (λ (o : Option (List (List ℕ))). o >>= id_in) words ∙ number_again n h
+
+-- ---- numbers, one by one
+
+-- these stand before them
+abbrev pub with_front : List ℕ → Option (List ℕ) → Option (List ℕ)
+with_front front None = None
+with_front front (Some ns) = Some (front ++ ns)
+
+pub front_none : (o : Option (List ℕ)) → o ≡ with_front [] o
+front_none None = refl
+front_none (Some ns) = refl
+
+number_on : (front : List ℕ) (n : ℕ) (o : Option (List ℕ)) → with_front front (o >>= λ ns. Some (n ∷ ns)) ≡ with_front (front ++ n ∷ []) o
+number_on front n None = refl
+number_on front n (Some ns) = ap (λ (l : List ℕ). Some l) (sym (append_assoc front (n ∷ []) ns))
+
+pub number_more : (front word : List ℕ) (n : ℕ) (old rest : List (List ℕ)) → old ≡ word ∷ rest → read_number word ≡ Some n → with_front front (numbers_in old) ≡ with_front (front ++ n ∷ []) (numbers_in rest)
+number_more front word n old rest e r =
+    ap (λ (ts : List (List ℕ)). with_front front (numbers_in ts)) e ∙ ap (λ (o : Option ℕ). with_front front (o >>= λ m. numbers_in rest >>= λ ns. Some (m ∷ ns))) r ∙ number_on front n (numbers_in rest)
+
+pub no_number : (front word : List ℕ) (old rest : List (List ℕ)) → old ≡ word ∷ rest → read_number word ≡ None → with_front front (numbers_in old) ≡ None
+no_number front word old rest e r = ap (λ (ts : List (List ℕ)). with_front front (numbers_in ts)) e ∙ ap (λ (o : Option ℕ). with_front front (o >>= λ m. numbers_in rest >>= λ ns. Some (m ∷ ns))) r
+
+pub no_more : (front : List ℕ) (old : List (List ℕ)) → old ≡ [] → with_front front (numbers_in old) ≡ Some front
+no_more front old e = ap (λ (ts : List (List ℕ)). with_front front (numbers_in ts)) e ∙ ap (λ (l : List ℕ). Some l) (append-nil front)

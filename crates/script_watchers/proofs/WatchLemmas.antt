@@ -158,6 +158,13 @@ module _ (old new : Watch) (x : Watching) (w : Waited) (gets : Round) (k : Keeps
 
 -- ---- a report
 
+pub above : (a b : ℕ) → a < b → nat_lt a b ≡ true
+above a b lt = at (nat_lt a b) refl
+  where
+    at : (c : Bool) → nat_lt a b ≡ c → c ≡ true
+    at true e = refl
+    at false e = absurd (grind (arith, e, lt))
+
 -- it is none
 pub not_noted : (c : Watch) (x : Watching) (q : Report) → AreReported c x → nat_lt (highest_of x q.handle) q.got.generation ≡ false → IsNoted c GoesOn x q (nat_lt (highest_of x q.handle) q.got.generation)
 not_noted c x q reported e = subst (IsNoted c GoesOn x q) (sym e) reported
