@@ -1,5 +1,5 @@
 -- The ids of a watcher's handles, asked for one after another.
-use Rattle.std.proofs.Common.{◌≡◌, ℕ, ◌+◌, ◌*◌, ◌<◌, ◌≤◌, true, false, List, [], ◌∷◌, ◌++◌, length, length-append, take, drop, get_or, arith, refl, sym, ap, subst, ◌∙◌, append_assoc, Option, Some, None}
+use Rattle.std.proofs.Common.{◌≡◌, ℕ, zero, suc, ◌+◌, ◌*◌, ◌<◌, ◌≤◌, true, false, List, [], ◌∷◌, ◌++◌, length, length-append, take, drop, get_or, arith, refl, sym, ap, subst, ◌∙◌, append_assoc, Option, Some, None}
 use Rattle.std.specs.Prelude.{map}
 use Rattle.std.specs.List.{flat_map}
 use Rattle.std.proofs.lemmas.List.{append-nil, map-append}
@@ -42,6 +42,9 @@ one_text p = append-nil (told_text (given p))
 
 -- ---- one id
 
+abbrev step_pair : List ℕ → ScriptAnswer → Pair
+step_pair party a = (step_line party, a)
+
 -- the step behind an accepted begin tells the id
 pub record IsTold (party handle : List ℕ) (fed : Session) (a b : ScriptAnswer) : Type 0 where
   pub id : ℕ
@@ -49,8 +52,11 @@ pub record IsTold (party handle : List ℕ) (fed : Session) (a b : ScriptAnswer)
   pub tells : b ≡ of_boards (answer.Step access.Table (Some (reply.Id id)))
   pub read : told_id (script_answer_text b) ≡ Some id
 
-id_begins : (party handle : List ℕ) (a : ScriptAnswer) → a ≡ of_boards answer.Begun → (id_line party handle, a) ≡ (id_line party handle, of_boards answer.Begun)
-id_begins party handle a e = ap (λ (b : ScriptAnswer). (id_line party handle, b)) e
+abbrev id_pair : List ℕ → List ℕ → ScriptAnswer → Pair
+id_pair party handle a = (id_line party handle, a)
+
+id_begins : (party handle : List ℕ) (a : ScriptAnswer) → a ≡ of_boards answer.Begun → id_pair party handle a ≡ id_pair party handle (of_boards answer.Begun)
+id_begins party handle a e = ap (id_pair party handle) e
 
 pub is_told : (party handle : List ℕ) (fed : Session) (a b : ScriptAnswer) → IsLawful fed → IsRight (state_met fed) (id_line party handle) a → is_refused a ≡ false → IsRight (state_met (fed ++ (id_line party handle, a) ∷ [])) (step_line party) b → IsTold party handle fed a b
 is_told party handle fed a b ok begins accepts steps =
@@ -93,7 +99,7 @@ module _ {M : Type 0} (stands : M → ℕ → ScriptState → Type 0) where
       record {
         asked = x;
         told = record {
-          is = record { begun = id_begins party handle a t.begun; ended = ap (λ (c : ScriptAnswer). (step_line party, c)) t.tells };
+          is = record { begun = id_begins party handle a t.begun; ended = ap (step_pair party) t.tells };
           begun_met = refl;
           begun_right = begins;
           ended_met = refl;
@@ -164,3 +170,20 @@ module _ {M : Type 0} (stands : M → ℕ → ScriptState → Type 0) where
     machine = subst (StandsAt stands n) (append_assoc fed (pairs_of_ids k.asked) ((id_line party handle, q.answer) ∷ [])) q.machine;
     text_is = q.text_is ∙ ap (λ (t : List ℕ). t ++ text_of (map given ((id_line party handle, q.answer) ∷ []))) k.text_is ∙ sym (text_more (pairs_of_ids k.asked) ((id_line party handle, q.answer) ∷ []));
   }
+
+-- ---- the handles so far
+
+pub take_few : (hs : List (List ℕ)) (i : ℕ) → i < length hs → length (take i hs) ≤ i
+take_few [] i lt = absurd (omega arith)
+take_few (h ∷ hs) zero lt = omega arith
+take_few (h ∷ hs) (suc i) lt = omega (arith, take_few hs i (omega arith))
+
+pub take_more : (hs : List (List ℕ)) (i : ℕ) (h : List ℕ) → i < length hs → h ≡ get_or hs i h → take (suc i) hs ≡ take i hs ++ h ∷ []
+take_more [] i h lt e = absurd (omega arith)
+take_more (g ∷ hs) zero h lt e = ap (λ (x : List ℕ). x ∷ []) (sym e)
+take_more (g ∷ hs) (suc i) h lt e = ap (λ (xs : List (List ℕ)). g ∷ xs) (take_more hs i h (omega arith) e)
+
+pub take_rest : (hs : List (List ℕ)) (i : ℕ) (h : List ℕ) → i < length hs → h ≡ get_or hs i h → hs ≡ take i hs ++ h ∷ drop (suc i) hs
+take_rest [] i h lt e = absurd (omega arith)
+take_rest (g ∷ hs) zero h lt e = ap (λ (x : List ℕ). x ∷ hs) (sym e)
+take_rest (g ∷ hs) (suc i) h lt e = ap (λ (xs : List (List ℕ)). g ∷ xs) (take_rest hs i h (omega arith) e)

@@ -1,9 +1,10 @@
 -- What a machine of watchers stands for after a line.
-use Rattle.std.proofs.Common.{◌≡◌, ℕ, ◌+◌, ◌*◌, ◌<◌, ◌≤◌, Bool, true, false, List, [], ◌∷◌, ◌++◌, length, drop, get_or, arith, refl, sym, ap, subst, ◌∙◌, inl, inr, Option, Some, None}
-use Rattle.std.specs.Prelude.{◌⊎◌, codes, if◌then◌else◌, is_some, map}
+use Rattle.std.proofs.Common.{◌≡◌, ℕ, ◌+◌, ◌-◌, ◌*◌, ◌<◌, ◌≤◌, Bool, true, false, List, [], ◌∷◌, ◌++◌, length, drop, take, get_or, arith, refl, sym, ap, subst, ◌∙◌, inl, inr, Option, Some, None}
+use Rattle.std.specs.Prelude.{◌⊎◌, codes, if◌then◌else◌, is_some, map, option_copied}
+use Rattle.std.specs.Borrow.{Bor}
 use Rattle.std.specs.List.{AllByRecursion, flat_map}
 use Rattle.std.specs.Str.{bytes_eq}
-use Rattle.std.proofs.lemmas.List.{append-nil, length-append}
+use Rattle.std.proofs.lemmas.List.{append-nil, length-append, take_rest}
 use Rattle.std.proofs.lemmas.List.Concat.{flat_map-append}
 use Rattle.board_model.specs.LineGrammar.{is_name}
 use Rattle.script_model.specs.declared.line.ScriptLine.{ScriptLine}
@@ -347,3 +348,39 @@ module _ {M : Type 0} (stands : M → ℕ → ScriptState → Type 0) where
     state = record { state = t.state; leads = leads_more xs l t.told no_watchings s t.state leads t.exchange; represents = t.represents };
     text_is = t.text_is;
   }
+
+-- ---- the things of a line
+
+pub things_split : (things : List (List ℕ)) (d : List ℕ) → 2 ≤ length things → things ≡ get_or things 0 d ∷ drop 1 things
+things_split [] d le = absurd (omega arith)
+things_split (x ∷ xs) d le = refl
+
+pub things_named : (things : List (List ℕ)) → AllByRecursion (λ n. is_name n ≡ true) things → AllByRecursion (λ n. is_name n ≡ true) (drop 1 things)
+things_named [] h = tt
+things_named (x ∷ xs) h = h.1
+
+pub first_named : (things : List (List ℕ)) (d : List ℕ) → 2 ≤ length things → AllByRecursion (λ n. is_name n ≡ true) things → is_name (get_or things 0 d) ≡ true
+first_named [] d le h = absurd (omega arith)
+first_named (x ∷ xs) d le h = h.0
+
+-- a watcher that is kept
+pub record IsSomeKept (o : Option Watch) : Type 0 where
+  pub watch : Watch
+  pub is : o ≡ Some watch
+
+pub some_kept : (o : Option Watch) → is_some o ≡ true → IsSomeKept o
+some_kept None e = absurd cc
+some_kept (Some c) e = record { watch = c; is = refl }
+
+pub none_of : (o : Option Watch) → is_some o ≡ false → o ≡ None
+none_of None e = refl
+none_of (Some c) e = absurd cc
+
+-- what is borrowed is there where what it is copied to is
+pub copied_some : (o : Option (Bor Watch)) → is_some (option_copied o) ≡ is_some o
+copied_some None = refl
+copied_some (Some b) = refl
+
+-- all behind the first
+pub all_behind : (hs : List (List ℕ)) → take (length hs - 1) (drop 1 hs) ≡ drop 1 hs
+all_behind hs = rw take_rest refl

@@ -128,7 +128,7 @@ module _ (k : EventKind) (name : List ℕ) (a : EventAccess) (b : EventAnswer) w
   told_behind : (r : EventReply) → IsFormedAccess name a b (Some r) → reply_words (script_answer_text (of_event k name a b (Some r))) ≡ Some (split_tokens (event_reply_text r))
   told_behind r h =
       let w = worded k name a b (Some r) h h.answers in
-      ap (λ (t : List ℕ). reply_words (t ++ codes " = " ++ event_reply_text r)) w.is ∙ pass_all w.first w.others (codes "= " ++ event_reply_text r) w.first_before w.others_before ∙ at_equals (event_reply_text r)
+      ap (λ (t : List ℕ). reply_words (t ++ (codes " = " ++ event_reply_text r))) w.is ∙ pass_all w.first w.others (codes "= " ++ event_reply_text r) w.first_before w.others_before ∙ at_equals (event_reply_text r)
 
   pub wait_goes : IsScriptAnswer (of_event k name a b None) → told_ids (script_answer_text (of_event k name a b None)) ≡ None
   wait_goes h =

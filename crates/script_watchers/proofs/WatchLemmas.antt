@@ -26,10 +26,26 @@ use Rattle.script_watchers.specs.declared.watch.Phase.TheVariants.{Called, Gets,
 use Rattle.script_watchers.specs.declared.watch.Progress.{Progress}
 use Rattle.script_watchers.specs.declared.watch.Progress.TheVariants.{GoesOn, Refused, Reports}
 use Rattle.script_watchers.specs.declared.watch.Watch.{Watch}
-use Rattle.script_watchers.specs.Calls.{rows_of}
-use Rattle.script_watchers.specs.ToldIds.{told_ids}
-use Rattle.script_watchers.specs.Watches.{AreReported, Fits, FitsGet, FitsRest, FollowsReport, HasNext, HasNextAt, IsCalled, IsNoted, IsPhase, IsProgress, Keeps, SaysReport}
-use Rattle.script_watchers.proofs.CallLemmas.{eq_sym}
+use Rattle.script_watchers.specs.Calls.{collected, rows_of}
+use Rattle.script_watchers.specs.ToldIds.{ids_if, told_ids}
+use Rattle.script_watchers.specs.Watches.{AreReported, Fits, FitsGet, FitsRest, FollowsReport, HasNext, HasNextAt, IsCalled, IsNoted, IsPhase, IsProgress, Keeps, SaysReport, phase_after}
+use Rattle.script_watchers.proofs.CallLemmas.{collected_calls, eq_sym}
+
+-- ---- small facts
+
+pub above : (a b : ℕ) → a < b → nat_lt a b ≡ true
+above a b lt = at (nat_lt a b) refl
+  where
+    at : (c : Bool) → nat_lt a b ≡ c → c ≡ true
+    at true e = refl
+    at false e = absurd (grind (arith, e, lt))
+
+not_above : (n : ℕ) → nat_lt n n ≡ false
+not_above n = at (nat_lt n n) refl
+  where
+    at : (c : Bool) → nat_lt n n ≡ c → c ≡ false
+    at false e = refl
+    at true e = absurd (grind (arith, e))
 
 -- ---- what it does next says which turn runs
 
@@ -130,19 +146,27 @@ keeps_so old new x o k l r reported p = record {
 }
 
 -- behind a wait or a get
-module _ (old new : Watch) (x : Watching) (w : Waited) (gets : Round) (k : Keeps old x) (l : new.listener ≡ old.listener) (r : new.rows.items ≡ old.rows.items) (calls : new.calls.items ≡ called_by x w) (got : new.got ≡ length gets) (phase : new.phase ≡ (if eqb (length gets) (length (called_by x w)) then Idle else Called)) where
+module _ (old new : Watch) (x : Watching) (w : Waited) (gets : Round) (k : Keeps old x) (l : new.listener ≡ old.listener) (r : new.rows.items ≡ old.rows.items) (calls : new.calls.items ≡ called_by x w) (got : new.got ≡ length gets) (le : length gets ≤ length (called_by x w)) (phase : new.phase ≡ phase_after (length gets) (length (called_by x w))) where
   abbrev After : Bool → Watching
   After b = if b then turn_ended x (record { wait = w; gets = gets }) else turn_so x (getting w gets None)
 
+  phase_is : (b : Bool) → eqb (length gets) (length (called_by x w)) ≡ b → new.phase ≡ (if b then Idle else Called)
+  phase_is true e =
+      let same : length gets ≡ length (called_by x w) = eqb-true (length gets) (length (called_by x w)) e in
+      phase ∙ ap (λ (b : Bool). if b then Called else Idle) (ap (λ (n : ℕ). nat_lt n (length (called_by x w))) same ∙ not_above (length (called_by x w)))
+  phase_is false e =
+      let apart = eqb-false (length gets) (length (called_by x w)) e in
+      phase ∙ ap (λ (b : Bool). if b then Called else Idle) (above (length gets) (length (called_by x w)) (omega (arith, le, apart)))
+
   pub after_keeps : AreReported new x → Keeps new (after_gets x w gets)
-  after_keeps reported = at (eqb (length gets) (length (called_by x w))) phase
+  after_keeps reported = at (eqb (length gets) (length (called_by x w))) (phase_is (eqb (length gets) (length (called_by x w))) refl)
     where
       at : (b : Bool) → new.phase ≡ (if b then Idle else Called) → Keeps new (After b)
       at true p = record { listener = l ∙ k.listener; rows = r ∙ k.rows; named = k.named; handles = k.handles; phase = p; reported = reported }
       at false p = record { listener = l ∙ k.listener; rows = r ∙ k.rows; named = k.named; handles = k.handles; phase = record { phase_is = p; calls = calls; got = got }; reported = reported }
 
   pub after_reports : (rs : List Report) → AreReported new (record x { reported = rs }) → Keeps new (record (after_gets x w gets) { reported = rs })
-  after_reports rs reported = at (eqb (length gets) (length (called_by x w))) phase
+  after_reports rs reported = at (eqb (length gets) (length (called_by x w))) (phase_is (eqb (length gets) (length (called_by x w))) refl)
     where
       at : (b : Bool) → new.phase ≡ (if b then Idle else Called) → Keeps new (record (After b) { reported = rs })
       at true p = record { listener = l ∙ k.listener; rows = r ∙ k.rows; named = k.named; handles = k.handles; phase = p; reported = reported }
@@ -157,13 +181,6 @@ module _ (old new : Watch) (x : Watching) (w : Waited) (gets : Round) (k : Keeps
   noted_progress Refused q b n = absurd n
 
 -- ---- a report
-
-pub above : (a b : ℕ) → a < b → nat_lt a b ≡ true
-above a b lt = at (nat_lt a b) refl
-  where
-    at : (c : Bool) → nat_lt a b ≡ c → c ≡ true
-    at true e = refl
-    at false e = absurd (grind (arith, e, lt))
 
 -- it is none
 pub not_noted : (c : Watch) (x : Watching) (q : Report) → AreReported c x → nat_lt (highest_of x q.handle) q.got.generation ≡ false → IsNoted c GoesOn x q (nat_lt (highest_of x q.handle) q.got.generation)
@@ -182,6 +199,36 @@ is_noted old new x q reported kept says e = subst (IsNoted new Reports x q) (sym
         ap (λ (o : Option ℕ). unwrap_or o 0) (kept h) ∙ at h (bytes_eq h q.handle) refl
         ∙ ap (λ (b : Bool). last_generation 0 (if b then reports_through h x.reported ++ q.got ∷ [] else reports_through h x.reported)) (eq_sym h q.handle)
         ∙ sym (ap (last_generation 0) (through_more h x.reported q))
+
+-- ---- a wait that ends
+
+pub waited_so : (old new : Watch) (x : Watching) (begun : Moment) (steps : List Moment) (m : Moment) (a : ScriptAnswer) (ids : List ℕ) → Keeps old x → ids_by a ≡ Some ids → new.listener ≡ old.listener → new.rows.items ≡ old.rows.items → new.reported ≡ old.reported → new.calls.items ≡ collected ids [] old.rows.items → new.got ≡ 0 → new.phase ≡ phase_after 0 (length new.calls.items)
+    → IsProgress new GoesOn (stepped_wait x begun steps m (ids_by a))
+waited_so old new x begun steps m a ids k some l r reported calls got phase =
+    let w : Waited = record { begun = begun; steps = steps; ended = m; ids = ids } in
+    let are : new.calls.items ≡ called_by x w = calls ∙ ap (collected ids []) k.rows ∙ collected_calls ids x.handles x.watcher.asked in
+    subst (λ (o : Option (List ℕ)). IsProgress new GoesOn (stepped_wait x begun steps m o)) (sym some)
+    (after_keeps old new x w [] k l r are got (omega arith) (phase ∙ ap (λ (l : List (List ℕ)). phase_after 0 (length l)) are) (λ h. ap (λ m. unwrap_or (kept_of m h) 0) reported ∙ k.reported h))
+
+-- ---- a get that ends
+
+pub got_so : (old mid new : Watch) (handle text : List ℕ) (n : ℕ) (p : Progress) (got : Got) → FollowsReport mid new handle text n p → HasGot text n got → old.got < length old.calls.items → handle ≡ get_or old.calls.items old.got handle
+    → mid.listener ≡ old.listener → mid.rows ≡ old.rows → mid.calls ≡ old.calls → mid.reported ≡ old.reported → mid.got ≡ old.got + 1 → mid.phase ≡ phase_after mid.got (length mid.calls.items)
+    → (x : Watching) (w : Waited) (gets : Round) (get : Moment × List Moment) (m : Moment) → Keeps old x → x.watcher.rest ≡ getting w gets (Some get) → IsProgress new p (stepped_get x w gets get m (Some got))
+got_so old mid new handle text n p got h is lt at l r calls reported count phase x w gets get m k e =
+    let i : IsCalled old x w gets Gets = subst (IsPhase old x) e k.phase in
+    let next : handle ≡ next_handle x w gets = handle_is old x [] [] k w gets Gets handle i lt at in
+    let g : Get = ended_get get.0 get.1 m got.type got.words got.generation in
+    let are : new.calls.items ≡ called_by x w = ap (λ v. v.items) (h.calls ∙ calls) ∙ i.calls in
+    let longer : length (gets ++ g ∷ []) ≡ length gets + 1 = length-append gets (g ∷ []) in
+    let counted : new.got ≡ length (gets ++ g ∷ []) = h.got ∙ count ∙ ap (λ (j : ℕ). j + 1) i.got ∙ sym longer in
+    let le : length (gets ++ g ∷ []) ≤ length (called_by x w) = omega (arith, longer, lt, i.got, ap (λ (hs : List (List ℕ)). length hs) i.calls) in
+    let phased : new.phase ≡ phase_after (length (gets ++ g ∷ [])) (length (called_by x w)) =
+    h.phase ∙ phase ∙ ap (λ (j : ℕ). phase_after j (length mid.calls.items)) (sym h.got ∙ counted) ∙ ap (λ (hs : List (List ℕ)). phase_after (length (gets ++ g ∷ [])) (length hs)) (ap (λ v. v.items) calls ∙ i.calls) in
+    let noted = h.noted x got is (λ hh. ap (λ v. unwrap_or (kept_of v hh) 0) reported ∙ k.reported hh) in
+    let here : IsNoted new p x (record { handle = next_handle x w gets; got = got }) (nat_lt (highest_of x (next_handle x w gets)) got.generation) =
+    subst (λ (name : List ℕ). IsNoted new p x (record { handle = name; got = got }) (nat_lt (highest_of x name) got.generation)) next noted in
+    noted_progress old new x w (gets ++ g ∷ []) k (h.listener ∙ l) (ap (λ v. v.items) (h.rows ∙ r)) are counted le phased p (record { handle = next_handle x w gets; got = got }) (nat_lt (highest_of x (next_handle x w gets)) got.generation) here
 
 -- ---- with an answer
 

@@ -1,5 +1,5 @@
 -- How a watcher is kept.
-use Rattle.std.specs.Prelude.{◌≡◌, ℕ, ◌<◌, nat_lt, Bool, true, false, List, [], ◌∷◌, ◌++◌, length, codes, Option, Some, None, unwrap_or, ◌⊎◌, ⊤}
+use Rattle.std.specs.Prelude.{◌≡◌, ℕ, ◌<◌, nat_lt, if◌then◌else◌, Bool, true, false, List, [], ◌∷◌, ◌++◌, length, codes, Option, Some, None, unwrap_or, ◌⊎◌, ⊤}
 use Rattle.std.specs.List.{AllByRecursion}
 use Rattle.board_model.specs.AnswerGrammar.{reply_text}
 use Rattle.board_model.specs.declared.answer.Reply.TheVariants as reply
@@ -48,6 +48,10 @@ pub record Keeps (c : Watch) (x : Watching) : Type 0 where
   pub handles : AllByRecursion (λ n. is_name n ≡ true) x.handles
   pub phase : IsPhase c x x.watcher.rest
   pub reported : AreReported c x
+
+-- after so many of the handles that are called for: the next one, or it is idle
+abbrev pub phase_after : ℕ → ℕ → Phase
+phase_after got calls = if nat_lt got calls then Called else Idle
 
 -- a handle that is called for is left, while it gets
 abbrev pub HasNextAt : Phase → ℕ → ℕ → Type 0

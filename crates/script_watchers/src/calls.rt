@@ -40,7 +40,11 @@ fn add_called(row: &Asked, ids: &Vec<u64>, calls: &mut Vec<Name>) -> Result<(), 
 ///
 /// # Errors
 /// `AllocError` where memory is refused.
-pub(crate) fn collect(rows: &Vec<Asked>, ids: &Vec<u64>, calls: &mut Vec<Name>) -> Result<(), AllocError>
+pub(crate) fn collect(
+    rows: &Vec<Asked>,
+    ids: &Vec<u64>,
+    calls: &mut Vec<Name>,
+) -> Result<(), AllocError>
     ensures { OnOk result (calls.new.items ≡ collected ids.now.items [] rows.now.items) }
 {
     calls.clear();

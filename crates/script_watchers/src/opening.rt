@@ -69,7 +69,10 @@ pub(crate) fn ask_ids<M: RunsLines>(
 {
     for handle in handles {
         match ask_id(machine, party, handle, line, answer, told)? {
-            Some(id) => rows.push(Asked { handle: *handle, id })?,
+            Some(id) => rows.push(Asked {
+                handle: *handle,
+                id,
+            })?,
             None => return Ok(false),
         }
     }

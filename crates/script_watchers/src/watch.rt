@@ -7,7 +7,7 @@ ghost use Rattle.script_feed.specs.KeptOf.{kept_of};
 ghost use Rattle.script_model.specs.ScriptGrammar.{script_spell};
 ghost use Rattle.script_watches.specs.Watchings.{Report, Watching, next_line, report_text};
 ghost use Rattle.script_exchanges.specs.Exchanges.{said, told_text};
-ghost use Rattle.script_watchers.specs.Watches.{Follows, FollowsGot, FollowsReport, FollowsWait, HasNext, Keeps, SaysReport};
+ghost use Rattle.script_watchers.specs.Watches.{Follows, FollowsGot, FollowsReport, FollowsWait, HasNext, Keeps, SaysReport, phase_after};
 
 use crate::calls::{Asked, collect};
 use crate::lines::write_wait;
@@ -77,6 +77,16 @@ fn highest_of(reported: &Parties<u64>, handle: &Name) -> u64
     }
 }
 
+// What follows when so many of the handles that are called for were got.
+fn phase_after(got: usize, calls: usize) -> Phase
+    ensures { result ≡ phase_after got calls }
+{
+    if got < calls {
+        return Phase::Called;
+    }
+    Phase::Idle
+}
+
 impl Watch {
     /// A watcher that has begun no wait.
     pub(crate) fn new(alloc: Global, listener: Name, rows: Vec<Asked>) -> Watch
@@ -120,12 +130,17 @@ impl Watch {
         }
         collect(&self.rows, &self.ids, &mut self.calls)?;
         self.got = 0;
-        self.phase = if self.calls.is_empty() { Phase::Idle } else { Phase::Called };
+        self.phase = phase_after(0, self.calls.len());
         Ok(())
     }
 
     // What was got is reported, where its generation is above those that were reported.
-    fn report(&mut self, handle: &Name, text: &[u8], generation: u64) -> Result<Progress, AllocError>
+    fn report(
+        &mut self,
+        handle: &Name,
+        text: &[u8],
+        generation: u64,
+    ) -> Result<Progress, AllocError>
         ensures { IfOk result (λ p. FollowsReport self.old self.new handle.now text.now generation p) }
     {
         if generation <= highest_of(&self.reported, handle) {
@@ -144,7 +159,7 @@ impl Watch {
     {
         let handle = self.calls[self.got];
         self.got += 1;
-        self.phase = if self.got < self.calls.len() { Phase::Called } else { Phase::Idle };
+        self.phase = phase_after(self.got, self.calls.len());
         self.report(&handle, text, generation)
     }
 

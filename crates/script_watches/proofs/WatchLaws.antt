@@ -289,8 +289,14 @@ start_few s t party listener handles told None few (inl k) =
     omega (arith, few, some_few (pairs_of_ids k.asked) told (said (party_text (codes "watching") party) ∷ []) k.told_is refl, ids_count handles k.asked s.fed party k.ids)
 start_few s t party listener handles told None few (inr k) =
     let first : length handles ≡ length k.first + length (k.handle ∷ k.others) = ap (λ (l : List (List ℕ)). length l) k.parts ∙ length-append k.first (k.handle ∷ k.others) in
-    omega (arith, few, first, some_few (pairs_of_ids k.asked ++ (id_line party k.handle, k.answer) ∷ []) told (said (party_text (codes "unwatched") party) ∷ []) k.told_is refl,
-      length-append (pairs_of_ids k.asked) ((id_line party k.handle, k.answer) ∷ []), ids_count k.first k.asked s.fed party k.ids)
+    omega (
+      arith,
+      few,
+      first,
+      some_few (pairs_of_ids k.asked ++ (id_line party k.handle, k.answer) ∷ []) told (said (party_text (codes "unwatched") party) ∷ []) k.told_is refl,
+      length-append (pairs_of_ids k.asked) ((id_line party k.handle, k.answer) ∷ []),
+      ids_count k.first k.asked s.fed party k.ids,
+    )
 
 turn_few : (s t : Watchings) (party : List ℕ) (told : List Told) (o : Option Watching) → OfTurn s party o told t → length (fed_by told) ≤ 33
 turn_few s t party told None k = none_few _ told k.0
