@@ -1,28 +1,26 @@
 -- The ids of a watcher's handles, asked for one after another.
-use Rattle.std.proofs.Common.{◌≡◌, ℕ, zero, suc, ◌+◌, ◌*◌, ◌<◌, ◌≤◌, true, false, List, [], ◌∷◌, ◌++◌, length, length-append, take, drop, get_or, arith, refl, sym, ap, subst, ◌∙◌, append_assoc, Option, Some, None}
+use Rattle.std.proofs.Common.{◌≡◌, ℕ, zero, suc, ◌<◌, ◌≤◌, true, false, List, [], ◌∷◌, ◌++◌, length, length-append, take, drop, get_or, arith, refl, sym, ap, subst, ◌∙◌, append_assoc, Some}
 use Rattle.std.specs.Prelude.{map}
-use Rattle.std.specs.List.{flat_map}
 use Rattle.std.proofs.lemmas.List.{append-nil, map-append}
 use Rattle.std.proofs.lemmas.List.Concat.{flat_map-append}
 use Rattle.board_cell_model.specs.declared.access.Access.TheVariants as access
 use Rattle.board_model.specs.declared.answer.Answer.TheVariants as answer
 use Rattle.board_model.specs.declared.answer.Reply.TheVariants as reply
 use Rattle.board_model.specs.declared.line.Call.TheVariants as call
-use Rattle.board_model.specs.declared.line.Line.TheVariants as board_line
 use Rattle.script_model.specs.ScriptAnswers.{IsScriptAnswer, ScriptAnswer, of_boards, script_answer_text}
 use Rattle.script_model.specs.ScriptSession.{IsLawful, IsRight, Session}
 use Rattle.script_model.specs.ScriptTurns.{ScriptState}
 use Rattle.script_model.specs.LawsOfComposition.{Pair, state_met}
 use Rattle.script_moments.specs.Moments.{next_moment}
-use Rattle.script_moments.specs.Watchers.{AskedId, IsIdBegin, IsIdTold, IsOpening}
+use Rattle.script_moments.specs.Watchers.{AskedId, IsOpening}
 use Rattle.script_moments.specs.WatcherLines.{opening_at}
-use Rattle.script_moments.proofs.TurnLemmas.{begun_or_refused, ids_told, pair_is}
+use Rattle.script_moments.proofs.TurnLemmas.{begun_or_refused, ids_told}
 use Rattle.script_moments.proofs.WatcherLineLemmas.{watchers_open}
 use Rattle.script_loop.specs.Machines.{StandsFor}
 use Rattle.script_exchanges.specs.DrivenParties.{is_refused}
-use Rattle.script_exchanges.specs.Exchanges.{Told, given, text_of, told_text}
+use Rattle.script_exchanges.specs.Exchanges.{given, text_of, told_text}
 use Rattle.script_snapshots.proofs.FedLemmas.{fed_lawful}
-use Rattle.script_watches.specs.WatchExchanges.{AreToldIds, IsToldId, id_line, pairs_of_id, pairs_of_ids}
+use Rattle.script_watches.specs.WatchExchanges.{AreToldIds, id_line, pairs_of_id, pairs_of_ids}
 use Rattle.script_watches.proofs.OpeningLemmas.{ids_count, ids_lawful, ids_more, pairs_more}
 use Rattle.script_watches.proofs.WatchingLemmas.{accepted_begin}
 use Rattle.script_watchers.specs.declared.calls.Asked.{Asked}

@@ -1,5 +1,5 @@
 -- The handles that ids call for, row by row, are those of the definition.
-use Rattle.std.proofs.Common.{◌≡◌, ℕ, Bool, true, false, eqb, List, [], ◌∷◌, ◌++◌, refl, sym, ap, subst, ◌∙◌, append_assoc}
+use Rattle.std.proofs.Common.{◌≡◌, ℕ, Bool, true, false, List, [], ◌∷◌, ◌++◌, refl, sym, ap, ◌∙◌, append_assoc}
 use Rattle.std.specs.Prelude.{◌&&◌, ◌||◌, filter, if◌then◌else◌, not}
 use Rattle.std.specs.List.{list_any}
 use Rattle.std.specs.Str.{bytes_eq}
@@ -8,8 +8,7 @@ use Rattle.std.proofs.lemmas.List.{append-nil}
 use Rattle.board_model.proofs.ThingLemmas.{same_to_itself}
 use Rattle.script_moments.specs.Watchers.{AskedId, called, calls, each_once}
 use Rattle.script_snapshots.proofs.FedLemmas.{same_bytes}
-use Rattle.script_watchers.specs.declared.calls.Asked.{Asked}
-use Rattle.script_watchers.specs.Calls.{collected, is_told, rows_of, with_row}
+use Rattle.script_watchers.specs.Calls.{collected, is_told, rows_of}
 
 -- the name is among these
 abbrev pub has : List (List ℕ) → List ℕ → Bool

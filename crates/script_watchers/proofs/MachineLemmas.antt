@@ -1,16 +1,16 @@
 -- What a machine of watchers stands for after a line.
-use Rattle.std.proofs.Common.{◌≡◌, ℕ, ◌+◌, ◌-◌, ◌*◌, ◌<◌, ◌≤◌, Bool, true, false, List, [], ◌∷◌, ◌++◌, length, drop, take, get_or, arith, refl, sym, ap, subst, ◌∙◌, inl, inr, Option, Some, None}
-use Rattle.std.specs.Prelude.{◌⊎◌, codes, if◌then◌else◌, is_some, map, option_copied}
+use Rattle.std.proofs.Common.{◌≡◌, ℕ, ◌-◌, ◌≤◌, Bool, true, false, List, [], ◌∷◌, ◌++◌, length, drop, take, get_or, arith, refl, sym, ap, subst, ◌∙◌, inl, inr, Option, Some, None}
+use Rattle.std.specs.Prelude.{codes, if◌then◌else◌, is_some, map, option_copied}
 use Rattle.std.specs.Borrow.{Bor}
-use Rattle.std.specs.List.{AllByRecursion, flat_map}
+use Rattle.std.specs.List.{AllByRecursion}
 use Rattle.std.specs.Str.{bytes_eq}
-use Rattle.std.proofs.lemmas.List.{append-nil, length-append, take_rest}
+use Rattle.std.proofs.lemmas.List.{append-nil, take_rest}
 use Rattle.std.proofs.lemmas.List.Concat.{flat_map-append}
 use Rattle.board_model.specs.LineGrammar.{is_name}
 use Rattle.script_model.specs.declared.line.ScriptLine.{ScriptLine}
-use Rattle.script_model.specs.ScriptAnswers.{ScriptAnswer, script_answer_line}
+use Rattle.script_model.specs.ScriptAnswers.{ScriptAnswer}
 use Rattle.script_model.specs.ScriptGrammar.{SpellsLine, script_spell}
-use Rattle.script_model.specs.ScriptSession.{IsRight, Session, start}
+use Rattle.script_model.specs.ScriptSession.{Session, start}
 use Rattle.script_model.specs.ScriptTurns.{ScriptState}
 use Rattle.script_model.specs.LawsOfComposition.{state_met}
 use Rattle.script_moments.specs.Watchers.{AskedId}
@@ -21,7 +21,7 @@ use Rattle.script_feed.specs.KeptOf as map
 use Rattle.script_exchanges.specs.declared.line.Drive.TheVariants.{Watchers}
 use Rattle.script_exchanges.specs.declared.line.DriveLine.{DriveLine}
 use Rattle.script_exchanges.specs.declared.line.DriveLine.TheVariants.{Script, Start, Turn}
-use Rattle.script_exchanges.specs.DriveGrammar.{AreThings, IsDriveLine, SpellsDrive}
+use Rattle.script_exchanges.specs.DriveGrammar.{IsDriveLine, SpellsDrive}
 use Rattle.script_exchanges.specs.DrivenParties.{abandoned_by, held_back, is_refused, kept_with, party_text}
 use Rattle.script_exchanges.specs.Exchanges.{Exchanges, Told, given, said, text_of, told_text}
 use Rattle.script_drive.specs.Drivers.{HasTold}
@@ -30,7 +30,6 @@ use Rattle.script_snapshots.proofs.FedLemmas.{same_bytes}
 use Rattle.script_watches.specs.Watchings.{Outcome, Report, Watching, ended, goes_on, new_watching, next_line, report_text, reports, taken}
 use Rattle.script_watches.specs.WatchExchanges.{IsExchange, IsLawful, Leads, OfScript, OfStart, OfTurn, Watchings, fed_with, id_line, if_watched, kept_of, no_watchings, pairs_of_ids, said_of}
 use Rattle.script_watches.proofs.WatchLaws.{IsKept, leads_few, leads_kept, leads_more, none_kept}
-use Rattle.script_watches.proofs.WatchingLemmas.{IsSound}
 use Rattle.script_watchers.specs.declared.machine.WatcherMachine.{WatcherMachine}
 use Rattle.script_watchers.specs.declared.watch.Progress.{Progress}
 use Rattle.script_watchers.specs.declared.watch.Progress.TheVariants.{GoesOn, Refused, Reports}

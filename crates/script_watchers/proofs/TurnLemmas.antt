@@ -1,17 +1,11 @@
 -- The answers that a watcher meets, and the lines that it is given.
-use Rattle.std.proofs.Common.{◌≡◌, ℕ, zero, suc, ◌<◌, ◌≤◌, Bool, true, false, List, [], ◌∷◌, ◌++◌, length, length-append, get_or, arith, eqb, refl, sym, ap, subst, ◌∙◌, inl, inr, Option, Some, None}
+use Rattle.std.proofs.Common.{◌≡◌, ℕ, zero, suc, ◌<◌, ◌≤◌, Bool, true, false, List, [], ◌∷◌, ◌++◌, length, length-append, get_or, arith, eqb, refl, sym, ap, subst, ◌∙◌, inl, inr, Some, None}
 use Rattle.std.specs.Prelude.{◌⊎◌, codes, filter, if◌then◌else◌, not}
 use Rattle.std.specs.List.{AllByRecursion, list_any}
 use Rattle.std.specs.Str.{bytes_eq}
-use Rattle.board_cell_model.specs.declared.access.Access.{Access}
-use Rattle.board_event_model.specs.declared.call.WaitMode.TheVariants as mode
-use Rattle.board_model.specs.AnswerGrammar.{IsAnswer}
 use Rattle.board_model.specs.declared.answer.Answer.TheVariants as answer
 use Rattle.board_model.specs.declared.answer.Reply.TheVariants as reply
 use Rattle.board_model.specs.LineGrammar.{is_name}
-use Rattle.script_model.specs.declared.line.EventRequest.TheVariants as request
-use Rattle.script_model.specs.declared.line.ScriptLine.{ScriptLine}
-use Rattle.script_model.specs.declared.line.ScriptLine.TheVariants as line
 use Rattle.script_model.specs.declared.reply.EventReply.{EventReply}
 use Rattle.script_model.specs.ScriptAnswers.{IsScriptAnswer, ScriptAnswer, of_boards, of_event, script_answer_line, script_answer_text}
 use Rattle.script_model.specs.ScriptGrammar.{IsScriptLine, SpellsLine, script_spell}
@@ -19,16 +13,14 @@ use Rattle.script_model.specs.ScriptSession.{IsRight, Session}
 use Rattle.script_model.specs.LawsOfComposition.{Pair, state_met}
 use Rattle.script_model.specs.LawsOfEvents.{TellsIds}
 use Rattle.script_moments.specs.Moments.{Moment, next_moment}
-use Rattle.script_moments.specs.Gets.{Round}
 use Rattle.script_moments.specs.LawsOfTurns.{StepsOn}
-use Rattle.script_moments.specs.Watchers.{AskedId, IsWatcher, OpenTurn, StepsOnEvent, WaitGoesOn, Waited, called, each_once, getting, idle, waiting}
+use Rattle.script_moments.specs.Watchers.{AskedId, IsWatcher, OpenTurn, StepsOnEvent, WaitGoesOn, called, each_once, getting, idle, waiting}
 use Rattle.script_moments.specs.WatcherLines.{watcher_at}
 use Rattle.script_moments.proofs.TurnLemmas.{watchers_step}
 use Rattle.script_moments.proofs.WaitLemmas.{waits_step}
 use Rattle.script_exchanges.specs.DrivenParties.{Got, got_by, is_refused}
-use Rattle.script_watches.specs.Watchings.{Watching, called_by, ids_by, line_at, moment_of, next_handle, next_line}
+use Rattle.script_watches.specs.Watchings.{Watching, called_by, ids_by, line_at, next_handle, next_line}
 use Rattle.script_watches.proofs.WatchingLemmas.{HasRoom, IsSound, next_pair}
-use Rattle.script_watchers.specs.declared.watch.Phase.TheVariants.{Called, Gets, Idle, Waits}
 use Rattle.script_watchers.specs.declared.watch.Phase.{Phase}
 use Rattle.script_watchers.specs.declared.watch.Watch.{Watch}
 use Rattle.script_watchers.specs.ToldIds.{told_ids}

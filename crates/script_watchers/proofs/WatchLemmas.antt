@@ -1,6 +1,6 @@
 -- What is kept of a watcher stands for what the definitions say, line by line.
 use Rattle.std.proofs.Common.{◌≡◌, ℕ, zero, suc, ◌+◌, ◌<◌, ◌≤◌, Bool, true, false, eqb, List, [], ◌∷◌, ◌++◌, length, length-append, get_or, arith, refl, sym, ap, subst, ◌∙◌, inl, inr, nat_lt, Option, Some, None}
-use Rattle.std.specs.Prelude.{◌⊎◌, if◌then◌else◌, unwrap_or, codes, ⊤}
+use Rattle.std.specs.Prelude.{if◌then◌else◌, unwrap_or}
 use Rattle.std.specs.List.{AllByRecursion}
 use Rattle.std.specs.Str.{bytes_eq}
 use Rattle.std.proofs.lemmas.Bool.{eqb-true, eqb-false, false≢true}
@@ -19,7 +19,7 @@ use Rattle.script_moments.specs.Watchers.{AskedId, OpenTurn, Waited, getting, id
 use Rattle.script_exchanges.specs.DrivenParties.{Got, got_by, is_refused}
 use Rattle.script_feed.specs.AnswerLooks.{EndsGet, GoesOnGet, HasGot}
 use Rattle.script_feed.specs.KeptOf.{kept_of}
-use Rattle.script_watches.specs.Watchings.{Outcome, Report, Watching, after_get, after_gets, called_by, ended, goes_on, highest_of, ids_by, last_generation, line_at, moment_of, new_watching, next_handle, next_line, reports, reports_through, stepped_get, stepped_wait, taken, taken_on, turn_ended, turn_so}
+use Rattle.script_watches.specs.Watchings.{Report, Watching, after_gets, called_by, ended, goes_on, highest_of, ids_by, last_generation, line_at, moment_of, new_watching, next_handle, next_line, reports, reports_through, stepped_get, stepped_wait, taken, taken_on, turn_ended, turn_so}
 use Rattle.script_watches.proofs.ReportedLemmas.{last_more, through_more}
 use Rattle.script_watchers.specs.declared.watch.Phase.{Phase}
 use Rattle.script_watchers.specs.declared.watch.Phase.TheVariants.{Called, Gets, Idle, Waits}
@@ -27,8 +27,8 @@ use Rattle.script_watchers.specs.declared.watch.Progress.{Progress}
 use Rattle.script_watchers.specs.declared.watch.Progress.TheVariants.{GoesOn, Refused, Reports}
 use Rattle.script_watchers.specs.declared.watch.Watch.{Watch}
 use Rattle.script_watchers.specs.Calls.{collected, rows_of}
-use Rattle.script_watchers.specs.ToldIds.{ids_if, told_ids}
-use Rattle.script_watchers.specs.Watches.{AreReported, Fits, FitsGet, FitsRest, FollowsReport, HasNext, HasNextAt, IsCalled, IsNoted, IsPhase, IsProgress, Keeps, SaysReport, phase_after}
+use Rattle.script_watchers.specs.ToldIds.{told_ids}
+use Rattle.script_watchers.specs.Watches.{AreReported, Fits, FitsGet, FitsRest, FollowsReport, IsCalled, IsNoted, IsPhase, IsProgress, Keeps, SaysReport, phase_after}
 use Rattle.script_watchers.proofs.CallLemmas.{collected_calls, eq_sym}
 
 -- ---- small facts

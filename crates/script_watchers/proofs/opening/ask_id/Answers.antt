@@ -1,4 +1,4 @@
-use Rattle.std.proofs.Common.{◌≡◌, ℕ, false, List, [], ◌∷◌, ◌++◌, refl, sym, ap, ◌∙◌, Option, Some, None}
+use Rattle.std.proofs.Common.{◌≡◌, ℕ, false, List, [], ◌∷◌, ◌++◌, sym, ap, ◌∙◌, Some, None}
 use Rattle.script_model.specs.ScriptAnswers.{script_answer_text}
 use Rattle.script_exchanges.specs.DrivenParties.{is_refused}
 use Rattle.script_exchanges.specs.Exchanges.{given, told_text}

@@ -1,5 +1,4 @@
-use Rattle.std.proofs.Common.{◌≡◌, ℕ, ◌+◌, ◌<◌, suc, List, [], ◌∷◌, ◌++◌, add-one, ap, arith, drop, length, refl, rules, subst, sym, take}
-use Rattle.script_model.specs.ScriptSession.{Session}
+use Rattle.std.proofs.Common.{◌≡◌, ℕ, ◌+◌, ◌<◌, suc, List, [], ◌∷◌, ◌++◌, add-one, arith, drop, length, rules, subst, sym, take}
 use Rattle.script_watches.specs.WatchExchanges.{pairs_of_ids}
 use Rattle.script_watchers.specs.declared.calls.Asked.{Asked}
 use Rattle.script_watchers.specs.Opening.{AreAsked, IsAskedOrDown}

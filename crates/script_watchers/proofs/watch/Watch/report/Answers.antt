@@ -1,5 +1,5 @@
-use Rattle.std.proofs.Common.{◌≡◌, ◌<◌, ℕ, List, ◌++◌, arith, refl, sym, ap, ◌∙◌, true, nat_lt, Some}
-use Rattle.std.specs.Prelude.{codes, if◌then◌else◌, unwrap_or}
+use Rattle.std.proofs.Common.{◌≡◌, ◌<◌, ℕ, List, ◌++◌, arith, refl, ap, ◌∙◌, Some}
+use Rattle.std.specs.Prelude.{codes, if◌then◌else◌}
 use Rattle.std.specs.Str.{bytes_eq}
 use Rattle.script_feed.specs.KeptOf.{kept_of}
 use Rattle.script_watches.specs.Watchings.{Report, highest_of}

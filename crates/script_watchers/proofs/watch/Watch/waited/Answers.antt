@@ -1,4 +1,4 @@
-use Rattle.std.proofs.Common.{◌≡◌, ℕ, true, List, length, refl, sym, ap, ◌∙◌, arith, rules, Option, Some}
+use Rattle.std.proofs.Common.{◌≡◌, ℕ, true, List, length, refl, sym, ap, ◌∙◌, arith, rules, Some}
 use Rattle.script_model.specs.ScriptAnswers.{script_answer_text}
 use Rattle.script_watches.specs.Watchings.{ids_by}
 use Rattle.script_watchers.specs.declared.watch.Watch.{Watch}
