@@ -26,8 +26,8 @@ fn behind(text: &[u8], byte: u8, skipped: usize) -> Option<&[u8]>
     Some(&text[at + skipped..])
 }
 
-// The text without its last byte.
-fn without_last(text: &[u8]) -> Option<&[u8]>
+/// The text without its last byte.
+pub fn without_last(text: &[u8]) -> Option<&[u8]>
     ensures { (a : List ℕ) (b : ℕ) → text.now ≡ a ++ b ∷ []
         → IsSomeAnd result (λ r. r.now ≡ a) }
 {

@@ -12,8 +12,9 @@ mod parse;
 mod parties;
 mod words;
 
-pub use answers::{got_of, is_refusal};
+pub use answers::{got_of, is_refusal, without_last};
 pub use giving::{give, say};
 pub use lines::{abandoned_by, held_back, write_get, write_step};
 pub use parse::parse_drive;
 pub use parties::Parties;
+pub use words::Words;

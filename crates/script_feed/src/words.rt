@@ -13,9 +13,9 @@ use script_parse::place_of;
 use std::alloc::{AllocError, Global};
 use std::marker::Model;
 
-// The words that are left of a line.
+/// The words that are left of a line.
 #[derive(Drop)]
-pub(crate) struct Words<'a> {
+pub struct Words<'a> {
     rest: Option<&'a [u8]>,
 }
 
@@ -78,7 +78,8 @@ fn cut(text: &[u8]) -> (&[u8], Option<&[u8]>)
 }
 
 impl<'a> Words<'a> {
-    pub(crate) fn of(line: &'a [u8]) -> Words<'a>
+    /// All words of a line.
+    pub fn of(line: &'a [u8]) -> Words<'a>
         ensures { result ≡ split_tokens line.now }
     {
         Words { rest: Some(line) }
@@ -91,8 +92,8 @@ impl<'a> Words<'a> {
         Words { rest: self.rest }
     }
 
-    // Takes the first word.
-    pub(crate) fn next(&mut self) -> Option<&'a [u8]>
+    /// Takes the first word.
+    pub fn next(&mut self) -> Option<&'a [u8]>
         ensures { MatchOption result (self.old ≡ []) (λ word. self.old ≡ word.now ∷ self.new) }
     {
         let (word, rest) = cut(self.rest?);

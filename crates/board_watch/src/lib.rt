@@ -1,0 +1,15 @@
+//! Watchers on ids and values, over scripts.
+//!
+//! A script may have two lines more: `watch P E H ..` lets the party P be driven by a watcher, with its listener E and its
+//! read handles H, and `turn P` gives P its next line. P waits for ids, gets the handles whose ids it took, and reports
+//! each value that is newer than what it reported of the handle. So it reports no older value, and none that was notified
+//! is missing.
+//!
+//! `watch_words` runs a script from a source to a sink. The definitions stand in `script_watches`.
+#![tactic(auto)]
+
+#[cfg(test)]
+mod tests;
+mod top;
+
+pub use top::{run_program, watch_words};

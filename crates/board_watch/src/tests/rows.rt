@@ -1,0 +1,361 @@
+//! Watchers that open, wait, get and report, and that end.
+use crate::tests::run::{AT_THE_END, Part, Script};
+use std::alloc::Global;
+use std::process::Abort;
+use std::test::Fail;
+
+// The parts, in one piece and byte by byte.
+fn tells(rt: &impl Abort, alloc: Global, name: &str, parts: &[Part]) -> Result<(), Fail> {
+    let mut script = Script::new(alloc);
+    for part in parts {
+        script.push(part)?;
+    }
+    script.tells(rt, alloc, name, AT_THE_END, 0)?;
+    script.tells(rt, alloc, name, AT_THE_END, 1)
+}
+
+/// Party a writes the entry of 1 through m, and b reads it through h, and that of 2 through k.
+const BOARD: Part = &[
+    (
+        "begin a create f b u64 add u64:1 u64:7 add u64:2 u64:8",
+        &[
+            "> begin a create f b u64 add u64:1 u64:7 add u64:2 u64:8",
+            "ok",
+        ],
+    ),
+    ("step a", &["> step a", "table = ok 1"]),
+    ("begin a writer w f", &["> begin a writer w f", "ok"]),
+    ("step a", &["> step a", "table = ok 1"]),
+    (
+        "begin a entrymut m w u64:1 u64",
+        &["> begin a entrymut m w u64:1 u64", "ok"],
+    ),
+    ("step a", &["> step a", "table = ok 0"]),
+    ("begin b open f b u64", &["> begin b open f b u64", "ok"]),
+    ("step b", &["> step b", "table = ok 1"]),
+    ("begin b reader r f", &["> begin b reader r f", "ok"]),
+    ("step b", &["> step b", "table = ok 2"]),
+    (
+        "begin b entry h r u64:1 u64",
+        &["> begin b entry h r u64:1 u64", "ok"],
+    ),
+    ("step b", &["> step b", "table = ok 0"]),
+    (
+        "begin b entry k r u64:2 u64",
+        &["> begin b entry k r u64:2 u64", "ok"],
+    ),
+    ("step b", &["> step b", "table = ok 32"]),
+];
+
+/// b listens on a set of ids, and a notifies it.
+const BITS: Part = &[
+    (
+        "begin b listen e bits ev 63",
+        &["> begin b listen e bits ev 63", "ok"],
+    ),
+    ("step b", &["> step b", "table = ok"]),
+    (
+        "begin a notifier n bits ev",
+        &["> begin a notifier n bits ev", "ok"],
+    ),
+    ("step a", &["> step a", "table = ok"]),
+];
+
+/// b listens on a queue of ids whose name is an equals sign, and a notifies it.
+const QUEUE: Part = &[
+    (
+        "begin b listen e queue =",
+        &["> begin b listen e queue =", "ok"],
+    ),
+    ("step b", &["> step b", "table = ok"]),
+    (
+        "begin a notifier n queue =",
+        &["> begin a notifier n queue =", "ok"],
+    ),
+    ("step a", &["> step a", "table = ok"]),
+];
+
+/// A value that was notified is reported; notified anew it is not.
+const REPORTED: Part = &[
+    (
+        "watch b e h",
+        &[
+            "> begin b id h",
+            "ok",
+            "> step b",
+            "table = id 0",
+            "watching b",
+        ],
+    ),
+    (
+        "begin a update m u64:9",
+        &["> begin a update m u64:9", "ok"],
+    ),
+    ("step a", &["> step a", "write 1:3 9"]),
+    ("step a", &["> step a", "write 1:0 2 = ok"]),
+    ("begin a notify n 0", &["> begin a notify n 0", "ok"]),
+    ("step a", &["> step a", "listener bits:ev yes"]),
+    ("step a", &["> step a", "set bits:ev 0"]),
+    ("step a", &["> step a", "post bits:ev = ok"]),
+    ("turn b", &["> begin b wait e all try", "ok"]),
+    ("turn b", &["> step b", "signal bits:ev yes"]),
+    ("turn b", &["> step b", "signal bits:ev no"]),
+    ("turn b", &["> step b", "swap bits:ev 0 1 = ids 0"]),
+    ("turn b", &["> begin b get h", "ok"]),
+    ("turn b", &["> step b", "read 1:0 2"]),
+    ("turn b", &["> step b", "read 1:3 9"]),
+    (
+        "turn b",
+        &[
+            "> step b",
+            "read 1:0 2 = u64:9 gen 2",
+            "report b h u64:9 gen 2",
+        ],
+    ),
+    ("begin a notify n 0", &["> begin a notify n 0", "ok"]),
+    ("step a", &["> step a", "listener bits:ev yes"]),
+    ("step a", &["> step a", "set bits:ev 0"]),
+    ("step a", &["> step a", "post bits:ev = ok"]),
+    ("turn b", &["> begin b wait e all try", "ok"]),
+    ("turn b", &["> step b", "signal bits:ev yes"]),
+    ("turn b", &["> step b", "signal bits:ev no"]),
+    ("turn b", &["> step b", "swap bits:ev 0 1 = ids 0"]),
+    ("turn b", &["> begin b get h", "ok"]),
+    ("turn b", &["> step b", "read 1:0 2"]),
+    ("turn b", &["> step b", "read 1:3 9"]),
+    ("turn b", &["> step b", "read 1:0 2 = u64:9 gen 2"]),
+];
+
+/// Lines of a watched party are held back; its abandonment ends its watcher.
+const HELD_BACK: Part = &[
+    (
+        "watch b e h",
+        &[
+            "> begin b id h",
+            "ok",
+            "> step b",
+            "table = id 0",
+            "watching b",
+        ],
+    ),
+    ("step b", &["watched b"]),
+    ("begin b get h", &["watched b"]),
+    ("drop b h", &["watched b"]),
+    ("expire b", &["watched b"]),
+    ("begin b listen x bits x 0", &["watched b"]),
+    ("watch b e k", &["watched b"]),
+    ("words 2", &["> words 2", "refused noboard"]),
+    ("step c", &["> step c", "refused idle"]),
+    ("turn c", &["unwatched c"]),
+    ("abandon b", &["> abandon b", "gone"]),
+    ("turn b", &["unwatched b"]),
+    ("abandon b", &["> abandon b", "refused abandoned"]),
+    (
+        "watch b e h",
+        &["> begin b id h", "refused abandoned", "unwatched b"],
+    ),
+];
+
+/// A begin that is refused ends the opening.
+const TURNED_DOWN: Part = &[
+    (
+        "watch b e z",
+        &["> begin b id z", "refused unknown", "unwatched b"],
+    ),
+    (
+        "watch b e h z k",
+        &[
+            "> begin b id h",
+            "ok",
+            "> step b",
+            "table = id 0",
+            "> begin b id z",
+            "refused unknown",
+            "unwatched b",
+        ],
+    ),
+    ("step b", &["> step b", "refused idle"]),
+    ("turn b", &["unwatched b"]),
+];
+
+/// A watcher is abandoned in the midst of a get.
+const CUT: Part = &[
+    (
+        "watch b e h",
+        &[
+            "> begin b id h",
+            "ok",
+            "> step b",
+            "table = id 0",
+            "watching b",
+        ],
+    ),
+    (
+        "begin a update m u64:9",
+        &["> begin a update m u64:9", "ok"],
+    ),
+    ("step a", &["> step a", "write 1:3 9"]),
+    ("step a", &["> step a", "write 1:0 2 = ok"]),
+    ("begin a notify n 0", &["> begin a notify n 0", "ok"]),
+    ("step a", &["> step a", "listener bits:ev yes"]),
+    ("step a", &["> step a", "set bits:ev 0"]),
+    ("step a", &["> step a", "post bits:ev = ok"]),
+    ("turn b", &["> begin b wait e all try", "ok"]),
+    ("turn b", &["> step b", "signal bits:ev yes"]),
+    ("turn b", &["> step b", "signal bits:ev no"]),
+    ("turn b", &["> step b", "swap bits:ev 0 1 = ids 0"]),
+    ("turn b", &["> begin b get h", "ok"]),
+    ("turn b", &["> step b", "read 1:0 2"]),
+    ("step b", &["watched b"]),
+    ("abandon b", &["> abandon b", "gone"]),
+    ("turn b", &["unwatched b"]),
+    ("step b", &["> step b", "refused abandoned"]),
+];
+
+/// A wait that takes no id is followed by the next one.
+const NOTHING: Part = &[
+    (
+        "watch b e h",
+        &[
+            "> begin b id h",
+            "ok",
+            "> step b",
+            "table = id 0",
+            "watching b",
+        ],
+    ),
+    ("turn b", &["> begin b wait e all try", "ok"]),
+    ("turn b", &["> step b", "signal bits:ev no"]),
+    ("turn b", &["> step b", "swap bits:ev 0 0 = none"]),
+    ("turn b", &["> begin b wait e all try", "ok"]),
+];
+
+/// A listener that is none is looked at in the first turn.
+const NO_LISTENER: Part = &[
+    (
+        "watch b x h",
+        &[
+            "> begin b id h",
+            "ok",
+            "> step b",
+            "table = id 0",
+            "watching b",
+        ],
+    ),
+    (
+        "turn b",
+        &["> begin b wait x all try", "refused unknown", "unwatched b"],
+    ),
+    ("turn b", &["unwatched b"]),
+];
+
+/// Two handles, one named twice: each is got once, in the line's order, and an id of none is passed over.
+const TWO_HANDLES: Part = &[
+    (
+        "watch b e h k h",
+        &[
+            "> begin b id h",
+            "ok",
+            "> step b",
+            "table = id 0",
+            "> begin b id k",
+            "ok",
+            "> step b",
+            "table = id 32",
+            "> begin b id h",
+            "ok",
+            "> step b",
+            "table = id 0",
+            "watching b",
+        ],
+    ),
+    (
+        "begin a update m u64:9",
+        &["> begin a update m u64:9", "ok"],
+    ),
+    ("step a", &["> step a", "write 1:3 9"]),
+    ("step a", &["> step a", "write 1:0 2 = ok"]),
+    ("begin a notify n 32", &["> begin a notify n 32", "ok"]),
+    ("step a", &["> step a", "push queue:= = ok"]),
+    ("begin a notify n 7", &["> begin a notify n 7", "ok"]),
+    ("step a", &["> step a", "push queue:= = ok"]),
+    ("begin a notify n 0", &["> begin a notify n 0", "ok"]),
+    ("step a", &["> step a", "push queue:= = ok"]),
+    ("begin a notify n 32", &["> begin a notify n 32", "ok"]),
+    ("step a", &["> step a", "push queue:= = ok"]),
+    ("turn b", &["> begin b wait e all try", "ok"]),
+    ("turn b", &["> step b", "pop queue:= 32"]),
+    ("turn b", &["> step b", "pop queue:= 7"]),
+    ("turn b", &["> step b", "pop queue:= 0"]),
+    ("turn b", &["> step b", "pop queue:= 32"]),
+    ("turn b", &["> step b", "pop queue:= none = ids 32 7 0 32"]),
+    ("turn b", &["> begin b get h", "ok"]),
+    ("turn b", &["> step b", "read 1:0 2"]),
+    ("turn b", &["> step b", "read 1:3 9"]),
+    (
+        "turn b",
+        &[
+            "> step b",
+            "read 1:0 2 = u64:9 gen 2",
+            "report b h u64:9 gen 2",
+        ],
+    ),
+    ("turn b", &["> begin b get k", "ok"]),
+    ("turn b", &["> step b", "read 1:4 1"]),
+    ("turn b", &["> step b", "read 1:6 8"]),
+    (
+        "turn b",
+        &[
+            "> step b",
+            "read 1:4 1 = u64:8 gen 1",
+            "report b k u64:8 gen 1",
+        ],
+    ),
+    ("begin a notify n 7", &["> begin a notify n 7", "ok"]),
+    ("step a", &["> step a", "push queue:= = ok"]),
+    ("turn b", &["> begin b wait e all try", "ok"]),
+    ("turn b", &["> step b", "pop queue:= 7"]),
+    ("turn b", &["> step b", "pop queue:= none = ids 7"]),
+    ("turn b", &["> begin b wait e all try", "ok"]),
+];
+
+/// A reader has an id too, and a get through it is refused.
+const A_READER: Part = &[
+    (
+        "watch b e r",
+        &[
+            "> begin b id r",
+            "ok",
+            "> step b",
+            "table = id 2",
+            "watching b",
+        ],
+    ),
+    ("begin a notify n 2", &["> begin a notify n 2", "ok"]),
+    ("step a", &["> step a", "push queue:= = ok"]),
+    ("turn b", &["> begin b wait e all try", "ok"]),
+    ("turn b", &["> step b", "pop queue:= 2"]),
+    ("turn b", &["> step b", "pop queue:= none = ids 2"]),
+    (
+        "turn b",
+        &["> begin b get r", "refused unknown", "unwatched b"],
+    ),
+];
+
+#[test]
+fn what_was_notified_is_reported(rt: HostRuntime) -> Result<(), Fail> {
+    let alloc = rt.alloc();
+    tells(&rt, alloc, "reported", &[BOARD, BITS, REPORTED])?;
+    tells(&rt, alloc, "nothing", &[BOARD, BITS, NOTHING])?;
+    tells(&rt, alloc, "two handles", &[BOARD, QUEUE, TWO_HANDLES])
+}
+
+#[test]
+fn watchers_end(rt: HostRuntime) -> Result<(), Fail> {
+    let alloc = rt.alloc();
+    tells(&rt, alloc, "held back", &[BOARD, BITS, HELD_BACK])?;
+    tells(&rt, alloc, "turned down", &[BOARD, BITS, TURNED_DOWN])?;
+    tells(&rt, alloc, "cut", &[BOARD, BITS, CUT])?;
+    tells(&rt, alloc, "no listener", &[BOARD, BITS, NO_LISTENER])?;
+    tells(&rt, alloc, "a reader", &[BOARD, QUEUE, A_READER])
+}

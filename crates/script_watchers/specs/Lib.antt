@@ -1,0 +1,5 @@
+pub mod Calls
+pub mod Machines
+pub mod Opening
+pub mod ToldIds
+pub mod Watches

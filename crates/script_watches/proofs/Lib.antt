@@ -1,0 +1,5 @@
+pub mod OpeningLemmas
+pub mod ReportedLemmas
+pub mod StandingLemmas
+pub mod WatchLaws
+pub mod WatchingLemmas

@@ -1,0 +1,3 @@
+pub mod LawsOfWatches
+pub mod WatchExchanges
+pub mod Watchings
