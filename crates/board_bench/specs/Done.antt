@@ -61,8 +61,8 @@ HasRun width readers updates done = ⊥
 
 -- what the task says was done, as often as it says, on as many words
 abbrev pub HasDone : Task → Done → Type 0
-HasDone (Solo width call count) done = HasCalled call width count done
-HasDone (Typed width call count) done = HasCalledTyped call width count done
+HasDone (Solo calls) done = HasCalled calls.call calls.width calls.count done
+HasDone (Typed calls) done = HasCalledTyped calls.call calls.width calls.count done
 HasDone (Event kind count) done = HasReturned kind count done
 HasDone (Shared width readers updates) done = HasRun width readers updates done
 
@@ -77,7 +77,7 @@ MayEnd call e = e ≡ OutOfMemory
 
 -- calls on typed ports and events may be refused besides
 abbrev pub EndsBy : Task → BenchError → Type 0
-EndsBy (Solo width call count) e = MayEnd call e
+EndsBy (Solo calls) e = MayEnd calls.call e
 EndsBy (Shared width readers updates) e = e ≡ OutOfMemory
 EndsBy task e = Unit {0}
 

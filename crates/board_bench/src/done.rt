@@ -1,5 +1,5 @@
 //! What the words of the command line ask for is done.
-ghost use Rattle.std.specs.Prelude.{◌≡◌, ◌<◌, ◌^◌, map, IfOk, IfErr, IfSome, IsSome, IsTrue, string_bytes};
+ghost use Rattle.std.specs.Prelude.{◌≡◌, ◌<◌, ◌^◌, map, Ok, IfOk, IfErr, IfSome, IsSome, IsTrue, string_bytes};
 ghost use Rattle.board_bench.specs.Done.{EndsBy, HasCalled, HasCalledTyped, HasDone, HasDoneOne, HasReturned, MayEnd, told_of};
 ghost use Rattle.board_bench.specs.Task.{IsBenchTask, IsCount, is_width, spelling};
 ghost use Rattle.board_bench.specs.declared.bench_error.BenchError.TheVariants as bench_error;
@@ -100,6 +100,16 @@ fn run_event<R: Threads + Wait + Sync>(
     })
 }
 
+// What was done, or that it was refused.
+fn or_refused(tried: anyhow::Result<Done>) -> Result<Done, BenchError>
+    ensures { IfOk result (λ done. tried ≡ Ok done) }
+{
+    match tried {
+        Ok(done) => Ok(done),
+        Err(error) => Err(BenchError::Refused(error)),
+    }
+}
+
 /// Does the task.
 ///
 /// # Errors
@@ -110,13 +120,9 @@ pub fn run<R: Threads + Wait + Sync>(rt: &R, alloc: Global, task: Task) -> Resul
     ensures err { IfErr result (EndsBy task) }
 {
     match task {
-        Task::Solo { width, call, count } => run_solo(rt, alloc, width, call, count),
-        Task::Typed { width, call, count } => {
-            run_typed(rt, alloc, width, call, count).map_err(BenchError::Refused)
-        }
-        Task::Event { kind, count } => {
-            run_event(rt, alloc, kind, count).map_err(BenchError::Refused)
-        }
+        Task::Solo(calls) => run_solo(rt, alloc, calls.width, calls.call, calls.count),
+        Task::Typed(calls) => or_refused(run_typed(rt, alloc, calls.width, calls.call, calls.count)),
+        Task::Event { kind, count } => or_refused(run_event(rt, alloc, kind, count)),
         Task::Shared {
             width,
             readers,

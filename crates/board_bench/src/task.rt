@@ -1,6 +1,6 @@
-ghost use Rattle.std.specs.Prelude.{ℕ, ◌≡◌, ◌^◌, ◌≤◌, ◌<◌, ◌∷◌, [], map, Some, IsSome, IsTrue, IfOk, IfSome, string_bytes};
+ghost use Rattle.std.specs.Prelude.{ℕ, ◌≡◌, ◌^◌, ◌≤◌, ◌<◌, codes, map, Some, IsSome, IsTrue, IfOk, IfSome, string_bytes};
 ghost use Rattle.std.specs.Fmt.{decimal};
-ghost use Rattle.board_bench.specs.Task.{IsBenchTask, IsTaskOf, call_word, is_width, kind_word, spelling};
+ghost use Rattle.board_bench.specs.Task.{AreCallsOf, IsBenchTask, IsCount, IsTaskOf, call_word, cell_words, event_words, is_width, kind_word, spelling};
 
 use board_event::EventKind;
 use std::alloc::{AllocError, Global};
@@ -16,21 +16,21 @@ pub enum Call {
     Update,
 }
 
+/// This many calls on values of so many words.
+#[derive(Clone, Copy, Debug, PartialEq, Eq)]
+pub struct Calls {
+    pub width: u64,
+    pub call: Call,
+    pub count: u64,
+}
+
 /// What is measured.
 #[derive(Clone, Copy, Debug, PartialEq, Eq)]
 pub enum Task {
-    /// This many calls on a cell of so many words, in one thread.
-    Solo {
-        width: u64,
-        call: Call,
-        count: u64,
-    },
-    /// The same by a typed handle, on the entry of a board whose values have so many words.
-    Typed {
-        width: u64,
-        call: Call,
-        count: u64,
-    },
+    /// Calls on a cell, in one thread.
+    Solo(Calls),
+    /// The same by a typed handle, on the entry of a board.
+    Typed(Calls),
     /// This many round trips of an id between two threads, over two typed events.
     Event {
         kind: EventKind,
@@ -132,21 +132,15 @@ pub fn kind_of(word: &str) -> Option<EventKind>
     }
 }
 
-// The task of three words.
-fn event_task_of(
-    alloc: Global,
-    what: &str,
-    kind: &str,
-    count: &str,
-) -> Result<Option<Task>, AllocError>
-    ensures spelled { let words = what.now ∷ kind.now ∷ count.now ∷ [] in
-        IfOk result (λ o. IfSome o (IsTaskOf words)) }
-    ensures found { let words = what.now ∷ kind.now ∷ count.now ∷ [] in
-        (t : Task) → IsBenchTask t → words ≡ spelling t → IfOk result IsSome }
+/// The task on events that the words after the first spell, if they do.
+///
+/// # Errors
+/// `AllocError` where memory is refused.
+pub fn event_of(alloc: Global, kind: &str, count: &str) -> Result<Option<Task>, AllocError>
+    ensures spelled { IfOk result (λ o. IfSome o (IsTaskOf (event_words (codes "event") kind.now count.now))) }
+    ensures found { (k : EventKind) (n : ℕ) → IsCount n → kind.now ≡ kind_word k → count.now ≡ decimal n
+        → IfOk result IsSome }
 {
-    if what != "event" {
-        return Ok(None);
-    }
     let Some(kind) = kind_of(kind) else {
         return Ok(None);
     };
@@ -156,43 +150,115 @@ fn event_task_of(
     Ok(Some(Task::Event { kind, count }))
 }
 
-// The task of four words.
-fn cell_task_of(
+/// The task with readers that the words after the first spell, if they do.
+///
+/// # Errors
+/// `AllocError` where memory is refused.
+pub fn shared_of(
+    alloc: Global,
+    width: &str,
+    readers: &str,
+    count: &str,
+) -> Result<Option<Task>, AllocError>
+    ensures spelled { IfOk result (λ o.
+        IfSome o (IsTaskOf (cell_words (codes "shared") width.now readers.now count.now))) }
+    ensures found { (w r n : ℕ) → IsTrue (is_width w) → 1 ≤ r → r ≤ 3 → IsCount n
+        → width.now ≡ decimal w → readers.now ≡ decimal r → count.now ≡ decimal n → IfOk result IsSome }
+{
+    let Some(width) = width_of(alloc, width)? else {
+        return Ok(None);
+    };
+    let Some(readers) = number_within(alloc, readers, 1, 3)? else {
+        return Ok(None);
+    };
+    let Some(updates) = number_within(alloc, count, 0, GREATEST)? else {
+        return Ok(None);
+    };
+    Ok(Some(Task::Shared {
+        width,
+        readers,
+        updates,
+    }))
+}
+
+/// The width, the call and the count that words spell, if they do.
+///
+/// # Errors
+/// `AllocError` where memory is refused.
+pub fn calls_of(
+    alloc: Global,
+    width: &str,
+    call: &str,
+    count: &str,
+) -> Result<Option<Calls>, AllocError>
+    ensures spelled { IfOk result (λ o. IfSome o (AreCallsOf width.now call.now count.now)) }
+    ensures found { (calls : Calls) → AreCallsOf width.now call.now count.now calls → IfOk result IsSome }
+{
+    let Some(width) = width_of(alloc, width)? else {
+        return Ok(None);
+    };
+    let Some(call) = call_of(call) else {
+        return Ok(None);
+    };
+    let Some(count) = number_within(alloc, count, 0, GREATEST)? else {
+        return Ok(None);
+    };
+    Ok(Some(Calls { width, call, count }))
+}
+
+/// The task of four words that they spell, if they do.
+///
+/// # Errors
+/// `AllocError` where memory is refused.
+pub fn cell_task_of(
     alloc: Global,
     what: &str,
     width: &str,
     how: &str,
     count: &str,
 ) -> Result<Option<Task>, AllocError>
-    ensures spelled { let words = what.now ∷ width.now ∷ how.now ∷ count.now ∷ [] in
-        IfOk result (λ o. IfSome o (IsTaskOf words)) }
-    ensures found { let words = what.now ∷ width.now ∷ how.now ∷ count.now ∷ [] in
-        (t : Task) → IsBenchTask t → words ≡ spelling t → IfOk result IsSome }
+    ensures spelled { IfOk result (λ o.
+        IfSome o (IsTaskOf (cell_words what.now width.now how.now count.now))) }
+    ensures found { (t : Task) → IsBenchTask t → cell_words what.now width.now how.now count.now ≡ spelling t
+        → IfOk result IsSome }
 {
-    let Some(width) = width_of(alloc, width)? else {
-        return Ok(None);
-    };
-    let Some(count) = number_within(alloc, count, 0, GREATEST)? else {
-        return Ok(None);
-    };
-    if what == "shared" {
-        let Some(readers) = number_within(alloc, how, 1, 3)? else {
-            return Ok(None);
-        };
-        return Ok(Some(Task::Shared {
-            width,
-            readers,
-            updates: count,
-        }));
-    }
-    let Some(call) = call_of(how) else {
-        return Ok(None);
-    };
     match what {
-        "solo" => Ok(Some(Task::Solo { width, call, count })),
-        "typed" => Ok(Some(Task::Typed { width, call, count })),
+        "shared" => shared_of(alloc, width, how, count),
+        "solo" => {
+            let Some(calls) = calls_of(alloc, width, how, count)? else {
+                return Ok(None);
+            };
+            Ok(Some(Task::Solo(calls)))
+        }
+        "typed" => {
+            let Some(calls) = calls_of(alloc, width, how, count)? else {
+                return Ok(None);
+            };
+            Ok(Some(Task::Typed(calls)))
+        }
         _ => Ok(None),
     }
+}
+
+/// The task of three words that they spell, if they do.
+///
+/// # Errors
+/// `AllocError` where memory is refused.
+pub fn event_task_of(
+    alloc: Global,
+    what: &str,
+    kind: &str,
+    count: &str,
+) -> Result<Option<Task>, AllocError>
+    ensures spelled { IfOk result (λ o.
+        IfSome o (IsTaskOf (event_words what.now kind.now count.now))) }
+    ensures found { (t : Task) → IsBenchTask t → event_words what.now kind.now count.now ≡ spelling t
+        → IfOk result IsSome }
+{
+    if what != "event" {
+        return Ok(None);
+    }
+    event_of(alloc, kind, count)
 }
 
 /// The task that the words spell, if they do.
@@ -204,15 +270,14 @@ pub fn task_of(alloc: Global, words: &[String]) -> Result<Option<Task>, AllocErr
     ensures found { (t : Task) → IsBenchTask t → map string_bytes words.now ≡ spelling t
         → IfOk result IsSome }
 {
-    match words {
-        [what, kind, count] => event_task_of(alloc, what.as_str(), kind.as_str(), count.as_str()),
-        [what, width, how, count] => cell_task_of(
-            alloc,
-            what.as_str(),
-            width.as_str(),
-            how.as_str(),
-            count.as_str(),
-        ),
-        _ => Ok(None),
+    if words.len() == 3 {
+        let (what, kind, count) = (words[0].as_str(), words[1].as_str(), words[2].as_str());
+        return event_task_of(alloc, what, kind, count);
     }
+    if words.len() != 4 {
+        return Ok(None);
+    }
+    let (what, width) = (words[0].as_str(), words[1].as_str());
+    let (how, count) = (words[2].as_str(), words[3].as_str());
+    cell_task_of(alloc, what, width, how, count)
 }

@@ -1,6 +1,6 @@
 use crate::done::measure;
 use crate::shared::run_shared;
-use crate::task::{Call, Task, task_of};
+use crate::task::{Call, Calls, Task, task_of};
 use board_event::EventKind;
 use std::alloc::{AllocError, Global};
 use std::test::*;
@@ -19,19 +19,19 @@ fn a_task_is_read_from_its_words(rt: HostRuntime) -> Result<(), Fail> {
     let cases = [
         (
             "solo 4 get 1000",
-            Task::Solo {
+            Task::Solo(Calls {
                 width,
                 call: Call::Get,
                 count,
-            },
+            }),
         ),
         (
             "typed 4 try_get 1000",
-            Task::Typed {
+            Task::Typed(Calls {
                 width,
                 call: Call::TryGet,
                 count,
-            },
+            }),
         ),
         (
             "event queue 1000",
