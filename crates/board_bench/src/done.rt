@@ -121,7 +121,13 @@ pub fn run<R: Threads + Wait + Sync>(rt: &R, alloc: Global, task: Task) -> Resul
 {
     match task {
         Task::Solo(calls) => run_solo(rt, alloc, calls.width, calls.call, calls.count),
-        Task::Typed(calls) => or_refused(run_typed(rt, alloc, calls.width, calls.call, calls.count)),
+        Task::Typed(calls) => or_refused(run_typed(
+            rt,
+            alloc,
+            calls.width,
+            calls.call,
+            calls.count,
+        )),
         Task::Event { kind, count } => or_refused(run_event(rt, alloc, kind, count)),
         Task::Shared {
             width,

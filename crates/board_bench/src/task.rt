@@ -1,5 +1,6 @@
 ghost use Rattle.std.specs.Prelude.{ℕ, ◌≡◌, ◌^◌, ◌≤◌, ◌<◌, codes, map, Some, IsSome, IsTrue, IfOk, IfSome, string_bytes};
 ghost use Rattle.std.specs.Fmt.{decimal};
+ghost use Rattle.board_event_model.specs.declared.kind.EventKind.{EventKind};
 ghost use Rattle.board_bench.specs.Task.{AreCallsOf, IsBenchTask, IsCount, IsTaskOf, call_word, cell_words, event_words, is_width, kind_word, spelling};
 
 use board_event::EventKind;
@@ -206,6 +207,46 @@ pub fn calls_of(
     Ok(Some(Calls { width, call, count }))
 }
 
+/// The task on a cell that the words after the first spell, if they do.
+///
+/// # Errors
+/// `AllocError` where memory is refused.
+pub fn solo_of(
+    alloc: Global,
+    width: &str,
+    call: &str,
+    count: &str,
+) -> Result<Option<Task>, AllocError>
+    ensures spelled { IfOk result (λ o.
+        IfSome o (IsTaskOf (cell_words (codes "solo") width.now call.now count.now))) }
+    ensures found { (calls : Calls) → AreCallsOf width.now call.now count.now calls → IfOk result IsSome }
+{
+    let Some(calls) = calls_of(alloc, width, call, count)? else {
+        return Ok(None);
+    };
+    Ok(Some(Task::Solo(calls)))
+}
+
+/// The task on typed handles that the words after the first spell, if they do.
+///
+/// # Errors
+/// `AllocError` where memory is refused.
+pub fn typed_of(
+    alloc: Global,
+    width: &str,
+    call: &str,
+    count: &str,
+) -> Result<Option<Task>, AllocError>
+    ensures spelled { IfOk result (λ o.
+        IfSome o (IsTaskOf (cell_words (codes "typed") width.now call.now count.now))) }
+    ensures found { (calls : Calls) → AreCallsOf width.now call.now count.now calls → IfOk result IsSome }
+{
+    let Some(calls) = calls_of(alloc, width, call, count)? else {
+        return Ok(None);
+    };
+    Ok(Some(Task::Typed(calls)))
+}
+
 /// The task of four words that they spell, if they do.
 ///
 /// # Errors
@@ -224,18 +265,8 @@ pub fn cell_task_of(
 {
     match what {
         "shared" => shared_of(alloc, width, how, count),
-        "solo" => {
-            let Some(calls) = calls_of(alloc, width, how, count)? else {
-                return Ok(None);
-            };
-            Ok(Some(Task::Solo(calls)))
-        }
-        "typed" => {
-            let Some(calls) = calls_of(alloc, width, how, count)? else {
-                return Ok(None);
-            };
-            Ok(Some(Task::Typed(calls)))
-        }
+        "solo" => solo_of(alloc, width, how, count),
+        "typed" => typed_of(alloc, width, how, count),
         _ => Ok(None),
     }
 }

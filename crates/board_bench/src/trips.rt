@@ -87,7 +87,7 @@ pub fn echo<K: KindOfEvents + Drop, R: Wait>(
 ///
 /// # Errors
 /// Where a call that makes an event or opens it is refused, or one of the threads is.
-pub fn run_trips<K: KindOfEvents + Drop + Send, R: Threads + Wait + Sync>(
+pub fn run_trips<K: KindOfEvents + Drop + Send + Sync + 'static, R: Threads + Wait + Sync>(
     rt: &R,
     alloc: Global,
     count: u64,

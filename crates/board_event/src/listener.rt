@@ -256,7 +256,12 @@ impl<K: KindOfEvents + Drop> Listener for EventListener<K> {
         mut callback: F,
         timeout: Duration,
     ) -> Result<(), ListenerWaitError> {
-        self.all(rt, WaitMode::Timed, &Until::after(rt, timeout), &mut callback);
+        self.all(
+            rt,
+            WaitMode::Timed,
+            &Until::after(rt, timeout),
+            &mut callback,
+        );
         Ok(())
     }
 
