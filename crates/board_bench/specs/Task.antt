@@ -49,11 +49,11 @@ spelling (Event kind count) = event_words (codes "event") (kind_word kind) (deci
 spelling (Shared width readers updates) = cell_words (codes "shared") (decimal width) (decimal readers) (decimal updates)
 
 -- these words spell such calls
-pub record AreCallsOf (width call count : List ℕ) (calls : Calls) : Type 0 where
+pub record AreCallsOf (first second third : List ℕ) (calls : Calls) : Type 0 where
   pub bench : AreBenchCalls calls
-  pub width : width ≡ decimal calls.width
-  pub call : call ≡ call_word calls.call
-  pub count : count ≡ decimal calls.count
+  pub width : first ≡ decimal calls.width
+  pub call : second ≡ call_word calls.call
+  pub count : third ≡ decimal calls.count
 
 -- the words spell this task
 abbrev pub IsTaskOf : List (List ℕ) → Task → Type 0
