@@ -1,5 +1,3 @@
 pub mod Task
 pub mod Watchers
-pub mod Blocks
-pub mod Handles
 pub mod Done
