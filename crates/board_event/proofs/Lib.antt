@@ -7,4 +7,6 @@ mod NotifyLemmas
 mod OpenLemmas
 mod TypedNotify
 mod TypedWaits
+mod TypedOne
+mod TypedAll
 pub mod CallerLemmas

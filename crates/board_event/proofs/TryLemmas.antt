@@ -28,7 +28,7 @@ pub nothing_ends : (w : Wait) → w.mode ≡ mode.Try → (nothing w).1 ≡ wait
 nothing_ends w try = rw try refl
 
 -- from one word it goes to the next
-next_low : (k n : ℕ) → k < n → eqb (k + 1) n ≡ false → k + 1 < n
+pub next_low : (k n : ℕ) → k < n → eqb (k + 1) n ≡ false → k + 1 < n
 next_low k n low on = let apart = differ (k + 1) n on in omega arith
 
 scan_nearer : (w : Wait) (k v s : ℕ) → w.mode ≡ mode.Try → k < w.words → Nearer w.words s (wait.Scan k) s (scanned w k v).1

@@ -1,6 +1,5 @@
--- What typed calls answer, whatever the events behind their lock have come to. Which table stood while a call held the lock
--- no clause can name: these say what some table of events was like then.
-use Rattle.std.specs.Prelude.{◌≡◌, ◌<◌, ◌≤◌, ◌-◌, ◌^◌, ℕ, true, List, [], ◌∷◌, Option, IfSome, IsSomeAnd, Result, Ok, Err, ⊤}
+-- What typed calls answer, whatever the events behind their lock have come to.
+use Rattle.std.specs.Prelude.{◌≡◌, ◌<◌, ◌≤◌, ◌+◌, ◌-◌, ◌*◌, ◌/◌, ◌^◌, ℕ, List, [], ◌∷◌, length, Option, IfSome, Result, Ok, Err, ⊤}
 use Rattle.board_names.specs.Concept.{Named, placed}
 use Rattle.board_names.specs.declared.errors.event.ListenerCreateError.{ListenerCreateError}
 use Rattle.board_names.specs.declared.errors.event.ListenerCreateError.TheVariants as create_error
@@ -10,8 +9,6 @@ use Rattle.board_names.specs.declared.errors.event.NotifierNotifyError.{Notifier
 use Rattle.board_names.specs.declared.errors.event.NotifierNotifyError.TheVariants as notify_error
 use Rattle.board_event_model.specs.declared.kind.EventKind.{EventKind}
 use Rattle.board_event_model.specs.declared.kind.EventKind.TheVariants as kind
-use Rattle.board_event_model.specs.EventMemory.{is_pending}
-use Rattle.board_event_core.specs.EventTable.{EventTable, IsEventTable, event_at}
 use Rattle.board_event.specs.Ends.{End}
 use Rattle.board_event.specs.LentForms.{CallsOn}
 
@@ -61,24 +58,25 @@ IsNotifyAnswer greatest id (Err _) = ⊥
 
 -- ---- a wait
 
--- the id waited at the end's event in this table
-pub record WaitedIn (end : End) (id : ℕ) (t : EventTable) : Type 0 where
-  pub table : IsEventTable t
-  pub waits : IsSomeAnd (event_at t end.event) (λ e. is_pending e id ≡ true)
+-- an id that a wait gives is, of a set, one of the words that hold the ids up to the greatest
+abbrev pub IsOfWords : EventKind → ℕ → ℕ → Type 0
+IsOfWords kind.Bits max id = id < 64 * (max / 64 + 1)
+IsOfWords kind.Queue max id = ⊤
 
--- the id waited at the end's event, at one time
-abbrev pub Waited : End → ℕ → Type 0
-Waited end id = (t : EventTable) × WaitedIn end id t
+-- so it is of the id that is given, if one is
+abbrev pub GivesId : EventKind → End → Option ℕ → Type 0
+GivesId k end one = IfSome one (IsOfWords k end.max)
 
--- it holds of each
-abbrev pub Each : (ℕ → Type 0) → List ℕ → Type 0
-Each P [] = ⊤
-Each P (x ∷ xs) = P x × Each P xs
+-- the ids ascend, from the first number on and below the second
+abbrev pub AscendWithin : ℕ → ℕ → List ℕ → Type 0
+AscendWithin from below [] = ⊤
+AscendWithin from below (id ∷ ids) = (from ≤ id) × (id < below) × AscendWithin (id + 1) below ids
 
--- an id that is given waited there
-abbrev pub GivesWaited : End → Option ℕ → Type 0
-GivesWaited end one = IfSome one (Waited end)
+-- what a wait for all hands over: of a set ids that ascend, all of its words, and of a queue 513 at most
+abbrev pub AreHandedOver : EventKind → ℕ → List ℕ → Type 0
+AreHandedOver kind.Bits max ids = AscendWithin 0 (64 * (max / 64 + 1)) ids
+AreHandedOver kind.Queue max ids = length ids ≤ 513
 
--- a callback was called on ids that waited, each at one time, and on no other
-abbrev pub IsCalledOnWaited : {F : Type 0} → (F → ℕ → Unit {0} → F → Type 0) → F → End → Type 0
-IsCalledOnWaited {F} step callback end = (ids : List ℕ) × Each (Waited end) ids × (last : F) × CallsOn step callback ids last
+-- a callback is called on such ids, one after another, and on no other: so it came to be `last`
+abbrev pub CallsOnHanded : {F : Type 0} → (F → ℕ → Unit {0} → F → Type 0) → F → F → EventKind → End → Type 0
+CallsOnHanded step callback last k end = (ids : List ℕ) × AreHandedOver k end.max ids × CallsOn step callback ids last

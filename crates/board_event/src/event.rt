@@ -1,5 +1,5 @@
 //! What an event does: a notifier hands ids to a listener, which takes them one by one or all at once.
-ghost use Rattle.std.specs.Prelude.{◌≡◌, ℕ, List, ◌<◌, ◌-◌, ◌^◌, codes, IfOk, IsOk};
+ghost use Rattle.std.specs.Prelude.{◌≡◌, ℕ, Bool, List, ◌<◌, ◌-◌, ◌^◌, codes, IfOk, IsOk};
 ghost use Rattle.board_event.specs.TypedCalls.{IsNotifyAnswer};
 
 use board_names::{
@@ -31,10 +31,11 @@ pub trait Event: NamedConceptMgmt + Sized {
     fn default_suffix() -> FileName
         ensures { result ≡ codes ".event" };
 
+    ghost is_limited: { Bool };
+
     /// Whether ids above a greatest one are refused.
-    fn has_trigger_id_limit() -> bool {
-        false
-    }
+    fn has_trigger_id_limit() -> bool
+        ensures { result ≡ is_limited };
 }
 
 /// The end that hands ids over.

@@ -2,8 +2,8 @@
 ghost use Rattle.std.specs.Prelude.{◌≡◌, ◌≢◌, ℕ, List, None, Ok, IfOk, IfSome, IsOk};
 ghost use Rattle.board_event.specs.Ends.{FreesListenersName, HasListener, IsGone, listener_gone};
 ghost use Rattle.board_event.specs.Accesses.{IsHoldBehind};
-ghost use Rattle.board_event.specs.TypedCalls.{GivesWaited, IsCalledOnWaited, Waited};
-ghost use Rattle.board_event.specs.LentForms.{Changes, GivesNext, GivesNone, HandsOver, OnEvent, after_one, all_taken};
+ghost use Rattle.board_event.specs.TypedCalls.{CallsOnHanded, GivesId};
+ghost use Rattle.board_event.specs.LentForms.{CallsOnAll, Changes, GivesNext, GivesNone, HandsOver, OnEvent, after_one, all_taken};
 
 use crate::accesses::{hand_over, wait_access};
 use crate::event::Listener;
@@ -23,7 +23,8 @@ use std::time::{Clock, Duration};
 
 /// The end of an event that takes ids. It may go to another thread, and isn't shared between threads.
 ///
-/// Clauses see the name, the event's number and its greatest id. A call asks the table whether the event stands and can
+/// Clauses see the name, the event's number and its greatest id. They say what a callback was called on where it is lent
+/// (`take_all`, `take_all_in`): one that a call is given is gone when the call returns. A call asks the table whether the event stands and can
 /// take the access: where it doesn't, a wait takes nothing and gives none, and a release changes nothing.
 #[derive(Drop)]
 pub struct EventListener<K> {
@@ -96,14 +97,27 @@ impl<K: KindOfEvents + Drop> EventListener<K> {
         ensures after { Changes K.which self.now state.old state.new (all_taken K.which) }
         ensures stays { IsGone K.which self.now state.old → state.new ≡ state.old }
     {
-        take_all(
-            &mut state.events,
-            self.event,
-            K::kind(),
-            self.max,
-            &mut callback,
-        );
+        self.take_all_in(state, &mut callback);
         Ok(())
+    }
+
+    /// `try_wait_all` with a callback that is lent, so that clauses can say what it was called on.
+    pub fn take_all<R: Wait, F: FnMut(TriggerId)>(&self, rt: &R, callback: &mut F)
+        requires { F.IsAlwaysCallable callback.old }
+        ensures { CallsOnHanded F.step callback.old callback.new K.which self.now }
+    {
+        self.all(rt, WaitMode::Try, &Forever, callback);
+    }
+
+    /// `take_all` over the events themselves.
+    pub fn take_all_in<F: FnMut(TriggerId)>(&self, state: &mut EventsOf<K>, callback: &mut F)
+        requires { F.IsAlwaysCallable callback.old }
+        ensures calls { OnEvent K.which self.now state.old (CallsOnAll F.step callback.old callback.new K.which) }
+        ensures after { Changes K.which self.now state.old state.new (all_taken K.which) }
+        ensures stays { IsGone K.which self.now state.old → state.new ≡ state.old }
+        ensures uncalled { IsGone K.which self.now state.old → callback.new ≡ callback.old }
+    {
+        take_all(&mut state.events, self.event, K::kind(), self.max, callback);
     }
 
     /// `release` over the events themselves.
@@ -154,16 +168,16 @@ impl<K: KindOfEvents + Drop> EventListener<K> {
         mode: WaitMode,
         patience: &P,
     ) -> Option<TriggerId>
-        ensures { IfSome result (Waited self.now) }
+        ensures { GivesId K.which self.now result }
     {
         let mut call = wait_call(K::kind(), self.max, false, mode);
         for _ in rt.forever() {
             if call.is_done() {
                 break;
             }
-            match self.access(rt, &mut call, patience)? {
-                EventProgress::Id { id, last: _ } => return Some(TriggerId::new(id as usize)),
-                _ => {}
+            let progress = self.access(rt, &mut call, patience)?;
+            if let EventProgress::Id { id, last: _ } = progress {
+                return Some(TriggerId::new(id as usize));
             }
         }
         None
@@ -175,10 +189,10 @@ impl<K: KindOfEvents + Drop> EventListener<K> {
         rt: &R,
         mode: WaitMode,
         patience: &P,
-        mut callback: F,
+        callback: &mut F,
     )
-        requires { F.IsAlwaysCallable callback }
-        ensures { IsCalledOnWaited F.step callback self.now }
+        requires { F.IsAlwaysCallable callback.old }
+        ensures { CallsOnHanded F.step callback.old callback.new K.which self.now }
     {
         let mut call = wait_call(K::kind(), self.max, true, mode);
         for _ in rt.forever() {
@@ -188,7 +202,7 @@ impl<K: KindOfEvents + Drop> EventListener<K> {
             let Some(progress) = self.access(rt, &mut call, patience) else {
                 break;
             };
-            hand_over(&mut callback, progress);
+            hand_over(callback, progress);
         }
     }
 }
@@ -204,7 +218,7 @@ impl<K: KindOfEvents + Drop> NamedConcept for EventListener<K> {
 impl<K: KindOfEvents + Drop> Listener for EventListener<K> {
     fn try_wait_one<R: Wait>(&self, rt: &R) -> Result<Option<TriggerId>, ListenerWaitError>
         ensures ok { IsOk result }
-        ensures id { IfOk result (GivesWaited self.now) }
+        ensures id { IfOk result (GivesId K.which self.now) }
     {
         Ok(self.one(rt, WaitMode::Try, &Forever))
     }
@@ -215,14 +229,14 @@ impl<K: KindOfEvents + Drop> Listener for EventListener<K> {
         timeout: Duration,
     ) -> Result<Option<TriggerId>, ListenerWaitError>
         ensures ok { IsOk result }
-        ensures id { IfOk result (GivesWaited self.now) }
+        ensures id { IfOk result (GivesId K.which self.now) }
     {
         Ok(self.one(rt, WaitMode::Timed, &Until::after(rt, timeout)))
     }
 
     fn blocking_wait_one<R: Wait>(&self, rt: &R) -> Result<Option<TriggerId>, ListenerWaitError>
         ensures ok { IsOk result }
-        ensures id { IfOk result (GivesWaited self.now) }
+        ensures id { IfOk result (GivesId K.which self.now) }
     {
         Ok(self.one(rt, WaitMode::Block, &Forever))
     }
@@ -230,40 +244,33 @@ impl<K: KindOfEvents + Drop> Listener for EventListener<K> {
     fn try_wait_all<R: Wait, F: FnMut(TriggerId)>(
         &self,
         rt: &R,
-        callback: F,
-    ) -> Result<(), ListenerWaitError>
-        requires { F.IsAlwaysCallable callback }
-        ensures ok { IsOk result }
-        ensures calls { IsCalledOnWaited F.step callback self.now }
-    {
-        self.all(rt, WaitMode::Try, &Forever, callback);
+        mut callback: F,
+    ) -> Result<(), ListenerWaitError> {
+        self.take_all(rt, &mut callback);
         Ok(())
     }
 
     fn timed_wait_all<R: Wait + Clock, F: FnMut(TriggerId)>(
         &self,
         rt: &R,
-        callback: F,
+        mut callback: F,
         timeout: Duration,
-    ) -> Result<(), ListenerWaitError>
-        requires { F.IsAlwaysCallable callback }
-        ensures ok { IsOk result }
-        ensures calls { IsCalledOnWaited F.step callback self.now }
-    {
-        self.all(rt, WaitMode::Timed, &Until::after(rt, timeout), callback);
+    ) -> Result<(), ListenerWaitError> {
+        self.all(
+            rt,
+            WaitMode::Timed,
+            &Until::after(rt, timeout),
+            &mut callback,
+        );
         Ok(())
     }
 
     fn blocking_wait_all<R: Wait, F: FnMut(TriggerId)>(
         &self,
         rt: &R,
-        callback: F,
-    ) -> Result<(), ListenerWaitError>
-        requires { F.IsAlwaysCallable callback }
-        ensures ok { IsOk result }
-        ensures calls { IsCalledOnWaited F.step callback self.now }
-    {
-        self.all(rt, WaitMode::Block, &Forever, callback);
+        mut callback: F,
+    ) -> Result<(), ListenerWaitError> {
+        self.all(rt, WaitMode::Block, &Forever, &mut callback);
         Ok(())
     }
 

@@ -63,13 +63,13 @@ impl<K: KindOfEvents + Drop> Event for LocalEvent<K> {
 
     type ListenerBuilder = EventListenerBuilder<K>;
 
+    ghost is_limited = { is_bits K.which };
+
     fn default_suffix() -> FileName {
         FileName::from_valid(b".event")
     }
 
-    fn has_trigger_id_limit() -> bool
-        ensures { result ≡ is_bits K.which }
-    {
+    fn has_trigger_id_limit() -> bool {
         matches!(K::kind(), EventKind::Bits)
     }
 }

@@ -7,6 +7,7 @@ use crate::{
 use board_names::{Configuration, FileName, NamedConceptBuilder};
 use std::process::Abort;
 
+mod generic;
 mod lent;
 mod limits;
 mod threads;

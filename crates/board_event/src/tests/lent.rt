@@ -105,6 +105,23 @@ fn queues_by_lent_forms(rt: HostRuntime) {
     row_is(&rt, &mut lent, &row_of_names(&rt));
 }
 
+/// The ids that a lent callback is called on.
+fn taken<K: KindOfEvents + Drop>(lent: &mut Lent<K>) -> usize {
+    let mut seen = 0usize;
+    let listener = &lent.listener;
+    listener.take_all_in(&mut lent.state, &mut |id| seen = with_id(seen, id));
+    seen
+}
+
+#[test]
+fn a_lent_callback_is_called_on_what_waits(rt: HostRuntime) {
+    let mut lent: Lent<QueueOfIds> = make_lent(&rt, rt.alloc());
+    row_is(&rt, &mut lent, &[(Deed::Notify(8), Told::Notified(Ok(())))]);
+    row_is(&rt, &mut lent, &[(Deed::Notify(2), Told::Notified(Ok(())))]);
+    assert_eq!(rt; taken(&mut lent), 8002);
+    assert_eq!(rt; taken(&mut lent), 0);
+}
+
 /// The listener goes, and then the notifier. Tells what a notify between them was answered.
 fn released<K: KindOfEvents + Drop>(
     state: &mut EventsOf<K>,

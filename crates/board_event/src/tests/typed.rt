@@ -110,6 +110,17 @@ pub(super) fn row_is<R: Wait + Abort, K: KindOfEvents + Drop>(
 }
 
 #[test]
+fn a_callback_that_is_lent_is_called_on_what_waits(rt: HostRuntime) {
+    let ends: Ends<SetOfIds> = make_ends(&rt, rt.alloc(), 127);
+    row_is(&rt, &ends, &[(Deed::Notify(8), Told::Notified(Ok(())))]);
+    row_is(&rt, &ends, &[(Deed::Notify(2), Told::Notified(Ok(())))]);
+    let mut seen = 0usize;
+    ends.listener
+        .take_all(&rt, &mut |id| seen = with_id(seen, id));
+    assert_eq!(rt; seen, 2008);
+}
+
+#[test]
 fn sets_by_typed_calls(rt: HostRuntime) {
     let ends: Ends<SetOfIds> = make_ends(&rt, rt.alloc(), 127);
     row_is(&rt, &ends, &row_of_sets());

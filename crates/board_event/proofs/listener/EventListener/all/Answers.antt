@@ -1,9 +1,17 @@
-use Rattle.std.proofs.Common.{of_calls}
-use Rattle.board_event.proofs.TypedWaits.{calls_begin, calls_end, calls_go_on, hold_behind, hold_in_range}
+use Rattle.std.specs.Prelude.{◌≡◌, true}
+use Rattle.std.proofs.Common.{ap, of_calls, ◌∙◌}
+use Rattle.board_event_model.specs.declared.kind.EventKind.{EventKind}
+use Rattle.board_event.specs.Ends.{End}
+use Rattle.board_event.specs.Taking.{wait_begun}
+use Rattle.board_event.proofs.TypedAll.{calls_begin, calls_end, calls_go_on}
+use Rattle.board_event.proofs.TypedWaits.{hold_behind, hold_in_range}
 use Rattle.board_event.proofs.listener.EventListener.all.Goals as goal
 
 pub loop-init : goal.loop-init
-loop-init g c = (tt, tt, search of_calls, calls_begin (λ p x q. goal.F-step g p x tt q) c.args.callback c.args.self.now)
+loop-init g c =
+    let begun : c.wait_call-call.result ≡ wait_begun g.K.KindOfEvents.which c.args.self.now.max true c.args.mode =
+    c.wait_call-call.ensures ∙ ap (λ (k : EventKind). wait_begun k c.self.inside.max true c.args.mode) c.kind.ensures ∙ ap (λ (end : End). wait_begun g.K.KindOfEvents.which end.max true c.args.mode) c.self.view_is in
+    (tt, tt, search of_calls, calls_begin (λ p x q. goal.F-step g p x tt q) c.args.callback.now g.K.KindOfEvents.which c.args.self.now.max c.args.mode c.wait_call-call.result begun)
 
 pub loop-preserved : goal.loop-preserved
 loop-preserved g c =
@@ -12,9 +20,9 @@ loop-preserved g c =
       tt,
       tt,
       c.hand_over.ensures.callable,
-      calls_go_on (λ p x q. goal.F-step g p x tt q) c.args.callback c.loop.callback c.hand_over.new.callback c.args.self.now before c.access.new.call c.in-Some-access.progress c.loop.invariant.3
-          hold (c.hand_over.ensures.calls (hold_in_range c.args.self.now.event before c.access.new.call c.in-Some-access.progress hold)),
+      calls_go_on (λ p x q. goal.F-step g p x tt q) c.args.callback.now c.loop.callback c.hand_over.new.callback g.K.KindOfEvents.which c.args.self.now.max c.args.self.now.event c.loop.call c.access.new.call
+          c.in-Some-access.progress c.loop.invariant.3 c.in-Some-access.ensures (c.hand_over.ensures.calls (hold_in_range c.args.self.now.event before c.access.new.call c.in-Some-access.progress hold)),
     )
 
 pub returns : goal.returns
-returns g c = calls_end (λ p x q. goal.F-step g p x tt q) c.args.callback c.loop.callback c.args.self.now c.loop.invariant.3
+returns g c = calls_end (λ p x q. goal.F-step g p x tt q) c.args.callback.now c.loop.callback g.K.KindOfEvents.which c.args.self.now.max c.loop.call c.loop.invariant.3

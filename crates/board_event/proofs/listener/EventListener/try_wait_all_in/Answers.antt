@@ -1,8 +1,4 @@
-use Rattle.board_event.specs.LentForms.{IsCalledOnAll, OnEventAt}
-use Rattle.board_event.proofs.OneLemmas.{moved}
 use Rattle.board_event.proofs.listener.EventListener.try_wait_all_in.Goals as goal
 
 pub returns-clause-calls : goal.returns-clause-calls
-returns-clause-calls g c =
-    moved (λ k end t. OnEventAt k end.max end.event t (IsCalledOnAll (goal.F-step g) c.args.callback k)) c.kind.result g.K.KindOfEvents.which _ c.args.self.now c.state.inside.events c.args.state.now c.kind.ensures c.self.view_is c.state.view_is
-    (λ e here. (let calls = c.take_all.ensures.calls e here in (calls.0, calls.1, c.take_all.new.callback, calls.2)))
+returns-clause-calls g c = λ e here. (let calls = c.take_all_in.ensures.calls e here in (calls.0, calls.1, c.take_all_in.new.callback, calls.2))
