@@ -48,7 +48,7 @@ pub record IsSnapshotRun (source sink : Stream) : Type 0 where
 
 -- how the program is called
 abbrev pub usage_note : List ℕ
-usage_note = codes "usage: board_snapshot\n"
+usage_note = codes "usage: board_snapshot_run\n"
 
 -- a script was run, and the status and the note are those of its answer
 pub record IsAnswered (status : ℕ) (source sink notes : Stream) : Type 0 where

@@ -64,7 +64,7 @@ pub fn snapshot_words<S: Source, K: Sink, N: Sink>(
     ensures unwritten { 0 < length words.now.items → sink.new ≡ sink.old }
 {
     if !words.is_empty() {
-        return refuse_words(b"usage: board_snapshot\n", notes);
+        return refuse_words(b"usage: board_snapshot_run\n", notes);
     }
     let mut driver = SnapshotMachine::new(alloc, Machine::<SeatWords>::new(alloc));
     end_with(

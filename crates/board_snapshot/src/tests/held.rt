@@ -182,6 +182,6 @@ fn words_are_on_the_command_line(rt: HostRuntime) -> Result<(), Fail> {
     let status = snapshot_words(alloc, &words, &mut source, &mut sink, &mut notes);
     assert_eq!(rt; status, 2);
     assert_eq!(rt; sink.held(), b"".as_slice());
-    assert_eq!(rt; notes.held(), b"usage: board_snapshot\n".as_slice());
+    assert_eq!(rt; notes.held(), b"usage: board_snapshot_run\n".as_slice());
     Ok(())
 }
