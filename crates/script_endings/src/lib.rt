@@ -3,5 +3,7 @@
 #![tactic(auto)]
 
 mod endings;
+#[cfg(test)]
+mod tests;
 
 pub use endings::{end_with, refuse_words};

@@ -10,6 +10,8 @@ mod giving;
 mod lines;
 mod parse;
 mod parties;
+#[cfg(test)]
+mod tests;
 mod words;
 
 pub use answers::{got_of, is_refusal};
