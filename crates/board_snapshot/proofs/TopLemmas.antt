@@ -1,5 +1,5 @@
 -- What a run that ended well comes to, and which statuses runs have.
-use Rattle.std.proofs.Common.{◌≡◌, ℕ, ◌<◌, ◌≤◌, List, [], ◌∷◌, length, map, arith, refl, subst, sym, ◌∙◌}
+use Rattle.std.proofs.Common.{◌≡◌, ℕ, ◌<◌, ◌≤◌, List, [], ◌∷◌, length, map, arith, refl, subst, sym, ◌∙◌, Option, Some}
 use Rattle.std.specs.Prelude.{◌⊎◌, Result, Ok, Err}
 use Rattle.std.specs.Io.KnownBytes.{IsAtEnd}
 use Rattle.script_model.specs.ScriptSession as script
@@ -9,11 +9,12 @@ use Rattle.script_loop.specs.Runs.{Stream}
 use Rattle.board_script.specs.Top.{status_of}
 use Rattle.board_script.proofs.Words.{run_through}
 use Rattle.script_exchanges.specs.declared.line.Drive.TheVariants.{Snapshots}
-use Rattle.script_exchanges.specs.Exchanges.{Exchanges, fed_session}
+use Rattle.script_exchanges.specs.Exchanges.{AreLinesOf, Exchanges, fed_session}
 use Rattle.script_drive.specs.DriveRuns.{DriveRuns, IsUndisturbed}
 use Rattle.script_snapshots.specs.SnapshotExchanges.{IsLawful, no_takings}
 use Rattle.script_snapshots.proofs.TakingLaws.{fed_lawful_law, takings_short, written_law}
 use Rattle.board_snapshot.specs.Top.{IsSnapshotRun}
+use Rattle.board_snapshot.proofs.WrittenLemmas.{fed_written}
 
 -- nothing is a lawful script
 pub none_lawful : IsLawful []
@@ -42,6 +43,7 @@ module _ (answer : Result (Unit {0}) ScriptError) (status : ℕ) (source sink : 
         output = h.ok.output;
         lawful = h.ok.lawful;
         fed = fed_is_lawful h.ok.exchanges h.ok.lawful;
+        written = λ input k. fed_written input h.ok.exchanges (subst (λ (o : Option (List ℕ)). AreLinesOf Snapshots o h.ok.exchanges) k h.ok.lines) h.ok.lawful;
         moments = λ s met party a y w. written_law met.earlier s met.leads party a y w;
         short = λ s met party x taking. takings_short met.earlier s met.leads party x taking;
       }

@@ -1,1 +1,2 @@
+pub mod GivenLines
 pub mod Top

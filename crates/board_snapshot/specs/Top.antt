@@ -11,6 +11,7 @@ use Rattle.script_drive.specs.DriveRuns.{DriveRuns}
 use Rattle.script_snapshots.specs.LawsOfTakings.{IsOfOneMoment, IsShortTaking, IsWhole}
 use Rattle.script_snapshots.specs.Takings.{Taking}
 use Rattle.script_snapshots.specs.SnapshotExchanges.{IsLawful, Leads, Takings, no_takings}
+use Rattle.board_snapshot.specs.GivenLines.{IsFedAsWritten}
 
 -- ---- what a script comes to
 
@@ -39,8 +40,9 @@ pub record IsSnapshotRun (source sink : Stream) : Type 0 where
   pub output : Gains sink (output_of exchanges)
   -- which lines were given, and where `snapping`, `unsnapped` and `snapshot` stand, is as the definition says
   pub lawful : IsLawful exchanges
-  -- the lines that were given are a lawful session
+  -- the lines that were given are a lawful session, which stands behind each `> ` of what is told
   pub fed : script.IsLawful (fed_session exchanges)
+  pub written : (input : List ℕ) → source.before ≡ Some input → IsFedAsWritten exchanges
   pub moments : WrittenAreOfOneMoment exchanges
   pub short : RunningAreShort exchanges
 
