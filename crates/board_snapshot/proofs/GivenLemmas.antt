@@ -66,8 +66,8 @@ IsClear (said text) = IsFree 10 text × (is_given text ≡ false)
 said_found : (x rest : List ℕ) → IsFree 10 x → is_given x ≡ false → given_lines (lines_of (told_text (said x) ++ rest)) ≡ given_lines (lines_of rest)
 said_found x rest free clear =
     ap (λ (b : List ℕ). given_lines (lines_of b)) (append_assoc x (10 ∷ []) rest)
-        ∙ ap given_lines (lines_more x rest (free_lacks 10 x free))
-        ∙ skips x (lines_of rest) clear
+    ∙ ap given_lines (lines_more x rest (free_lacks 10 x free))
+    ∙ skips x (lines_of rest) clear
 
 marked_free : (s : List ℕ) → IsFree 10 s → IsFree 10 (62 ∷ 32 ∷ s)
 marked_free s h = h
@@ -79,16 +79,16 @@ given_found p rest line one =
     let parts : (s ++ 10 ∷ (a ++ 10 ∷ [])) ++ rest ≡ s ++ 10 ∷ (a ++ 10 ∷ rest) = append_assoc s (10 ∷ (a ++ 10 ∷ [])) rest ∙ ap (λ (x : List ℕ). s ++ 10 ∷ x) (append_assoc a (10 ∷ []) rest) in
     let first : lines_of (62 ∷ 32 ∷ (s ++ 10 ∷ (a ++ 10 ∷ rest))) ≡ (62 ∷ 32 ∷ s) ∷ lines_of (a ++ 10 ∷ rest) = lines_more (62 ∷ 32 ∷ s) (a ++ 10 ∷ rest) (free_lacks 10 (62 ∷ 32 ∷ s) (marked_free s line)) in
     ap (λ (b : List ℕ). given_lines (lines_of (62 ∷ 32 ∷ b))) parts
-        ∙ ap given_lines (first ∙ ap (λ (ls : List (List ℕ)). (62 ∷ 32 ∷ s) ∷ ls) (lines_more a rest one))
-        ∙ takes (62 ∷ 32 ∷ s) a (lines_of rest) refl (answer_clear p.1)
+    ∙ ap given_lines (first ∙ ap (λ (ls : List (List ℕ)). (62 ∷ 32 ∷ s) ∷ ls) (lines_more a rest one))
+    ∙ takes (62 ∷ 32 ∷ s) a (lines_of rest) refl (answer_clear p.1)
 
 pub told_found : (ts : List Told) (rest : List ℕ) → AllByRecursion IsClear ts → given_lines (lines_of (text_of ts ++ rest)) ≡ map pair_texts (fed_by ts) ++ given_lines (lines_of rest)
 told_found [] rest h = refl
 told_found (given p ∷ ts) rest h =
     ap (λ (b : List ℕ). given_lines (lines_of b)) (append_assoc (told_text (given p)) (text_of ts) rest)
-        ∙ given_found p (text_of ts ++ rest) h.0.0 h.0.1
-        ∙ ap (λ (r : List (List ℕ × List ℕ)). pair_texts p ∷ r) (told_found ts rest h.1)
+    ∙ given_found p (text_of ts ++ rest) h.0.0 h.0.1
+    ∙ ap (λ (r : List (List ℕ × List ℕ)). pair_texts p ∷ r) (told_found ts rest h.1)
 told_found (said x ∷ ts) rest h =
     ap (λ (b : List ℕ). given_lines (lines_of b)) (append_assoc (told_text (said x)) (text_of ts) rest)
-        ∙ said_found x (text_of ts ++ rest) h.0.0 h.0.1
-        ∙ told_found ts rest h.1
+    ∙ said_found x (text_of ts ++ rest) h.0.0 h.0.1
+    ∙ told_found ts rest h.1

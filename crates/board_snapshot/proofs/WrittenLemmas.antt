@@ -208,8 +208,8 @@ turn_named s t party told None h e k = subst (λ (u : Takings). Names u.of) (sym
 turn_named s t party told (Some y) h e k =
     let n = h party y e in
     subst (λ (u : Takings). Names u.of) (sym k.after)
-        (kept_named s.of party (kept_of (taken s.fed party y k.answer)) h
-        (λ x f. (n.party, outcome_named party y.handles (taken s.fed party y k.answer) x (taken_handles s.fed party y k.answer) n.handles f)))
+    (kept_named s.of party (kept_of (taken s.fed party y k.answer)) h
+    (λ x f. (n.party, outcome_named party y.handles (taken s.fed party y k.answer) x (taken_handles s.fed party y k.answer) n.handles f)))
 
 exchange_named : (s t : Takings) (l : DriveLine) (told : List Told) → Names s.of → IsExchange s l told t → Names t.of
 exchange_named s t (Script l) told h x = script_named s t l told (if_taking s (held_back l)) h x.exchanged
@@ -265,9 +265,10 @@ turn_clear : (s t : Takings) (party : List ℕ) (told : List Told) (o : Option T
 turn_clear s t party told None h p e k = says_clear (codes "unsnapped") party told refl refl p k.0
 turn_clear s t party told (Some x) h p e k =
     let n = h.named party x e in
-    subst AreClear (sym k.told_is)
-        (answer_free s (next_line party x) k.answer h (next_free party (next_handle x) x.shot.begun p (index_free x.handles (length x.shot.gets) n.handles)) k.right,
-        said_clear party x.handles (taken s.fed party x k.answer) p n.handles (taken_handles s.fed party x k.answer))
+    subst AreClear (sym k.told_is) (
+      answer_free s (next_line party x) k.answer h (next_free party (next_handle x) x.shot.begun p (index_free x.handles (length x.shot.gets) n.handles)) k.right,
+      said_clear party x.handles (taken s.fed party x k.answer) p n.handles (taken_handles s.fed party x k.answer),
+    )
 
 exchange_clear : (s t : Takings) (l : DriveLine) (told : List Told) → IsHeld s → IsFreeLine l → IsExchange s l told t → AreClear told
 exchange_clear s t (Script l) told h line x = script_clear s t l told (if_taking s (held_back l)) h line refl x.exchanged
@@ -280,8 +281,8 @@ all_found : (xs : Exchanges) (s t : Takings) → IsHeld s → AreFreeLines xs �
 all_found [] s t h free k = refl
 all_found (x ∷ xs) s t h free k =
     told_found x.1 (output_of xs) (exchange_clear s k.0 x.0 x.1 h free.0 k.1)
-        ∙ ap (λ (r : List (List ℕ × List ℕ)). map pair_texts (fed_by x.1) ++ r) (all_found xs k.0 t (exchange_held s k.0 x.0 x.1 h k.1) free.1 k.2)
-        ∙ sym (map-append pair_texts (fed_by x.1) (fed_session xs))
+    ∙ ap (λ (r : List (List ℕ × List ℕ)). map pair_texts (fed_by x.1) ++ r) (all_found xs k.0 t (exchange_held s k.0 x.0 x.1 h k.1) free.1 k.2)
+    ∙ sym (map-append pair_texts (fed_by x.1) (fed_session xs))
 
 none_held : IsHeld no_takings
 none_held = record { kept = none_kept; named = λ party x e. absurd cc }
