@@ -10,6 +10,6 @@
 #[cfg(test)]
 mod tests;
 mod top;
-pub mod written_laws;
+pub mod run_laws;
 
 pub use top::{run_program, snapshot_words};
