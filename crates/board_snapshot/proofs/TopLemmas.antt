@@ -1,15 +1,15 @@
 -- What a run that ended well comes to, and which statuses runs have.
 use Rattle.std.proofs.Common.{◌≡◌, ℕ, ◌<◌, ◌≤◌, List, [], ◌∷◌, length, map, arith, refl, subst, sym, ◌∙◌, Option, Some}
-use Rattle.std.specs.Prelude.{◌⊎◌, Result, Ok, Err}
+use Rattle.std.specs.Prelude.{Result, Ok, Err}
 use Rattle.std.specs.Io.KnownBytes.{IsAtEnd}
 use Rattle.script_model.specs.ScriptSession as script
 use Rattle.script_loop.specs.declared.error.ScriptError.{ScriptError}
 use Rattle.script_loop.specs.Runs.{Stream}
 use Rattle.script_endings.specs.Endings.{status_of}
-use Rattle.script_endings.proofs.StatusLemmas.{bad_status, run_through}
+use Rattle.script_endings.proofs.StatusLemmas.{bad_status}
 use Rattle.script_exchanges.specs.declared.line.Drive.TheVariants.{Snapshots}
 use Rattle.script_exchanges.specs.Exchanges.{AreLinesOf, Exchanges, fed_session}
-use Rattle.script_drive.specs.DriveRuns.{DriveRuns, IsUndisturbed}
+use Rattle.script_drive.specs.DriveRuns.{DriveRuns}
 use Rattle.script_snapshots.specs.SnapshotExchanges.{IsLawful, no_takings}
 use Rattle.script_snapshots.proofs.TakingLaws.{fed_lawful_law, takings_short, written_law}
 use Rattle.board_snapshot.specs.Top.{IsSnapshotRun}
@@ -46,10 +46,6 @@ module _ (answer : Result (Unit {0}) ScriptError) (status : ℕ) (source sink : 
       at : (a : Result (Unit {0}) ScriptError) → DriveRuns Snapshots IsLawful 4294967295 source sink a → status_of a ≡ 0 → IsAtEnd source.after
       at (Ok x) h e = h.end
       at (Err x) h e = absurd (bad_status x 0 (omega arith) e)
-
-  -- where nothing fails it is 0 or 7
-  pub runs_through : IsUndisturbed Snapshots 4294967295 source sink → (status ≡ 0) ⊎ (status ≡ 7)
-  runs_through sure = run_through answer status is (r.complete sure)
 
   -- it is never that of words
   pub no_words_status : status ≡ 2 → ⊥

@@ -7,9 +7,9 @@
 //! `snapshot_words` runs a script from a source to a sink. The definitions stand in `script_snapshots`.
 #![tactic(auto)]
 
+pub mod run_laws;
 #[cfg(test)]
 mod tests;
 mod top;
-pub mod run_laws;
 
 pub use top::{run_program, snapshot_words};

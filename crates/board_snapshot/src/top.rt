@@ -1,12 +1,13 @@
 //! The program's top call.
-ghost use Rattle.std.specs.Prelude.{◌≡◌, ◌⊎◌, ◌<◌, length, map};
+ghost use Rattle.std.specs.Prelude.{◌≡◌, ◌⊎◌, ℕ, ◌<◌, length, map};
 ghost use Rattle.std.specs.Process.{exit_status};
 ghost use Rattle.std.specs.String.{string_bytes};
 ghost use Rattle.std.specs.Io.KnownBytes.{IsAtEnd};
 ghost use Rattle.script_endings.specs.Endings.{IsNoted};
 ghost use Rattle.script_loop.specs.Runs.{stream_of};
 ghost use Rattle.script_exchanges.specs.declared.line.Drive.TheVariants.{Snapshots};
-ghost use Rattle.script_drive.specs.DriveRuns.{IsUndisturbed};
+ghost use Rattle.script_drive.specs.DriveRuns.{IsRunnable};
+ghost use Rattle.script_snapshots.specs.SnapshotExchanges.{IsLawful};
 ghost use Rattle.board_snapshot.specs.Top.{HasEnded, IsAnswered, IsSnapshotRun, usage_note};
 
 use board_cell::SeatWords;
@@ -48,11 +49,10 @@ pub fn snapshot_words<S: Source, K: Sink, N: Sink>(
         (stream_of K.held K.faults sink.old sink.new)
         (stream_of N.held N.faults notes.old notes.new) }
 
-    // A known script of the grammar ends with status 0 where nothing fails, or 7 where memory is refused.
+    // A known script of the grammar of which the sink takes all that is told ends with status 0, or 7 where memory is refused.
     ensures complete { length words.now.items ≡ 0
-        → IsUndisturbed Snapshots 4294967295
-        (stream_of S.left S.faults source.old source.new)
-        (stream_of K.held K.faults sink.old sink.new)
+        → S.never_fails source.old → (room : ℕ) → K.never_fails_within sink.old room
+        → IsRunnable Snapshots IsLawful room 4294967295 (S.left source.old)
         → (result ≡ 0) ⊎ (result ≡ 7) }
 
     // The status is 2 exactly where there are words. Then nothing is read or written.
