@@ -10,8 +10,6 @@ mod giving;
 mod lines;
 mod parse;
 mod parties;
-#[cfg(test)]
-mod tests;
 mod words;
 
 pub use answers::{got_of, is_refusal};
