@@ -2,6 +2,7 @@ SHELL = /bin/bash
 
 # The programs that `make test` proves and leaves behind.
 RUN = crates/board_run/out/board_run
+SNAPSHOT = crates/board_snapshot_run/out/board_snapshot_run
 BENCH = crates/board_bench/out/board_bench
 
 .PHONY: test run bench smoke
@@ -29,8 +30,8 @@ bench: $(RUN) $(BENCH)
 	done
 
 # The proved programs from outside: what they write, what they note, and their status.
-smoke: $(RUN) $(BENCH)
+smoke: $(RUN) $(SNAPSHOT) $(BENCH)
 	./smoke.sh
 
-$(RUN) $(BENCH):
+$(RUN) $(SNAPSHOT) $(BENCH):
 	@echo '$@ is not there: make test leaves it' >&2; exit 1

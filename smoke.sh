@@ -1,11 +1,12 @@
 #!/bin/bash
 # Runs the built programs from outside, on real files and pipes, and compares what they write, what they note and their
-# status. It ends with status 1 where one of them does otherwise. `make test` leaves the programs where this looks; RUN and
-# BENCH name others.
+# status. It ends with status 1 where one of them does otherwise. `make test` leaves the programs where this looks; RUN,
+# SNAPSHOT and BENCH name others.
 cd "$(dirname "${BASH_SOURCE[0]}")" || exit 1
 run=${RUN:-$PWD/crates/board_run/out/board_run}
+snapshot=${SNAPSHOT:-$PWD/crates/board_snapshot_run/out/board_snapshot_run}
 bench=${BENCH:-$PWD/crates/board_bench/out/board_bench}
-for program in "$run" "$bench"; do
+for program in "$run" "$snapshot" "$bench"; do
     [ -x "$program" ] || { echo "$program is not there: make test leaves it" >&2; exit 1; }
 done
 folder=$(mktemp -d) && trap 'rm -r "$folder"' EXIT
@@ -30,7 +31,10 @@ gives() {
 
 script=crates/board_run/stdin
 answers=$(sed 's/%/%%/g' crates/board_run/stdout)
+snapshot_script=crates/board_snapshot_run/stdin
+snapshot_told=$(sed 's/%/%%/g' crates/board_snapshot_run/stdout)
 usage='usage: board_run [gen N]\n'
+snapshot_usage='usage: board_snapshot_run\n'
 bench_usage='usage: board_bench solo 1|4|32 get|update COUNT, or board_bench shared 1|4|32 1|2|3 UPDATES\n'
 
 # the script of standard input
@@ -76,6 +80,18 @@ exec {end}>&"${talk[1]}"
 eval "exec ${talk[1]}>&-" && exec {end}>&-
 wait "$talk_PID" || good=no
 tells 'answers before the next line' "$good"
+
+# snapshots
+gives 'the stored snapshot' 0 "$snapshot_told\n" '' "$snapshot" < "$snapshot_script"
+gives 'a snapshot, a byte at a time' 0 "$snapshot_told\n" '' "$snapshot" < <(by_bytes "$snapshot_script")
+gives 'no lines of snapshots' 0 '' '' "$snapshot" < /dev/null
+gives 'a snapshot of nothing' 0 'snapping b\n> begin b get h\nrefused unknown\nunsnapped b\n' '' "$snapshot" < <(printf 'snap b h\nturn b')
+gives 'a snapshot without handles' 5 'snapping b\n' 'line 2: not in the grammar\n' "$snapshot" < <(printf 'snap b h\nsnap b\nturn b\n')
+for words in 'x' 'gen 1' '1' $'\xff'; do
+    gives "snapshots' usage: $words" 2 '' "$snapshot_usage" "$snapshot" $words < "$snapshot_script"
+done
+gives 'snapshots from a closed input' 3 '' 'read fault\n' "$snapshot" <&-
+gives 'snapshots on a full device' 4 '' 'write fault\n' bash -c '"$0" > /dev/full' "$snapshot" < "$snapshot_script"
 
 # the bench
 gives 'gets of one thread' 0 '' '' "$bench" solo 4 get 1000

@@ -25,11 +25,6 @@ two f (a ∷ []) x y l e g = absurd (omega arith)
 two f (a ∷ b ∷ []) x y l e g = rw (e, g) refl
 two f (a ∷ b ∷ c ∷ more) x y l e g = absurd (omega arith)
 
--- no texts are those of no words
-pub no_words : {A : Type 0} (f : A → List ℕ) (ws : List A) → map f ws ≡ [] → length ws ≡ 0
-no_words f [] e = refl
-no_words f (w ∷ ws) e = absurd cc
-
 -- the second word is the number's spelling
 pub spelled : (a b : List ℕ) (n : ℕ) → AreGenWords (a ∷ b ∷ []) n → read_number b ≡ Some n
 spelled a b n h =
@@ -88,8 +83,3 @@ summed_at (Err error.OutOfMemory) n status sink ok is zero = absurd cc
 
 pub summed : (answer : Result (Unit {0}) ScriptError) (k n status : ℕ) (sink : Stream) → k ≡ n → IsGenerated k sink answer → status ≡ status_of answer → status ≡ 0 → IsSummed n sink
 summed answer k n status sink same run is zero = subst (λ (j : ℕ). IsSummed j sink) same (summed_at answer k status sink run.ok is zero)
-
--- without a fault and outside no grammar the status is 0 or 7
-pub run_through : (answer : Result (Unit {0}) ScriptError) (status : ℕ) → status ≡ status_of answer → IfErr answer (λ e. e ≡ error.OutOfMemory) → (status ≡ 0) ⊎ (status ≡ 7)
-run_through (Ok x) status is h = inl is
-run_through (Err e) status is h = inr (is ∙ ap (λ (w : ScriptError). status_of (Err w)) h)

@@ -5,24 +5,8 @@ use Rattle.script_loop.specs.declared.error.ScriptError.TheVariants.{ReadFault, 
 use Rattle.script_loop.specs.Runs.{Runs, CountsOn, Gains, HasFailed, StopsForMemory, Stream}
 use Rattle.script_machine.specs.Wants.{SpellsTakingAfter}
 use Rattle.script_generator.specs.Summary.{IsGenerated}
-
--- the status of a run
-abbrev pub status_of : Result (Unit {0}) ScriptError → ℕ
-status_of (Ok x) = 0
-status_of (Err ReadFault) = 3
-status_of (Err WriteFault) = 4
-status_of (Err (BadLine n)) = 5
-status_of (Err TooLong) = 6
-status_of (Err OutOfMemory) = 7
-
--- with their newline
-abbrev pub note_of : Result (Unit {0}) ScriptError → List ℕ
-note_of (Ok x) = []
-note_of (Err ReadFault) = codes "read fault\n"
-note_of (Err WriteFault) = codes "write fault\n"
-note_of (Err (BadLine n)) = codes "line " ++ decimal n ++ codes ": not in the grammar\n"
-note_of (Err TooLong) = codes "too long\n"
-note_of (Err OutOfMemory) = codes "out of memory\n"
+-- statuses and notes, which other programs over scripts have too
+pub use Rattle.script_endings.specs.Endings.{IsNoted, note_of, status_of}
 
 -- the note on how the program is called
 abbrev pub usage_note : List ℕ
@@ -41,13 +25,6 @@ abbrev pub IsUsage : List (List ℕ) → Type 0
 IsUsage words = (words ≡ [] → ⊥) × ((n : ℕ) → AreGenWords words n → ⊥)
 
 -- ---- runs
-
--- a front of the text was written, and all of it where the count of faults didn't rise
-pub record IsNoted (notes : Stream) (text : List ℕ) : Type 0 where
-  pub written : ℕ
-  pub bytes : Gains notes (take written text)
-  pub cause : written < length text → HasFailed notes
-  pub later : CountsOn notes
 
 -- a script was run, and the status and the note are those of its answer
 pub record IsAnswered (status : ℕ) (source sink notes : Stream) : Type 0 where

@@ -17,6 +17,7 @@ mod top;
 
 pub use board_model::worked_updates::{an_update_at_once_is_wrong, an_update_writes_a_word_a_step};
 pub use script::{run_in_memory, run_script, run_script_within};
+pub use script_endings::end_without_words;
 pub use script_generator::{
     generated_scripts_are_scripts, run_generated, the_run_for_one_is_lawful,
 };
@@ -25,4 +26,4 @@ pub use script_loop::{
     SinkError, Source,
 };
 pub use script_machine::Machine;
-pub use top::{end_without_words, run_program, run_words};
+pub use top::{run_program, run_words};

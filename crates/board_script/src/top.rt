@@ -1,78 +1,19 @@
 //! The program's top call, its statuses and its notes.
-ghost use Rattle.std.specs.Prelude.{◌≡◌, ◌⊎◌, ℕ, ◌<◌, length, map, Err, IfNone, IfSome};
+ghost use Rattle.std.specs.Prelude.{◌≡◌, ◌⊎◌, ℕ, ◌<◌, length, map, IfNone, IfSome};
 ghost use Rattle.std.specs.Process.{exit_status};
 ghost use Rattle.std.specs.String.{string_bytes};
 ghost use Rattle.std.specs.Io.KnownBytes.{IsAtEnd};
 ghost use Rattle.script_loop.specs.Runs.{IsRunOf, IsRunnable, stream_of};
 ghost use Rattle.script_generator.specs.Summary.{IsSummed};
-ghost use Rattle.board_script.specs.Top.{IsAnswered, AreGenWords, HasEnded, IsNoted, IsSummedUp, IsUsage, note_of, status_of, usage_note};
+ghost use Rattle.board_script.specs.Top.{IsAnswered, AreGenWords, HasEnded, IsNoted, IsSummedUp, IsUsage, usage_note};
 
 use crate::script::run_script;
-use board_layout::Text;
-use itoa::Buffer;
+use script_endings::{end_with, refuse_words};
 use script_generator::run_generated;
-use script_loop::{ScriptError, Sink, Source, write_whole};
+use script_loop::{Sink, Source};
 use script_parse::number_of;
 use std::alloc::Global;
 use std::process::ExitCode;
-
-// Writes a note. That it fails changes nothing else.
-fn note<N: Sink>(notes: &mut N, text: &[u8])
-    ensures { IsNoted (stream_of N.held N.faults notes.old notes.new) text.now }
-{
-    let _ = write_whole(notes, text);
-}
-
-// The note of a line outside the grammar.
-fn bad_line(n: u64) -> Text<80>
-    ensures { result ≡ note_of (Err (ScriptError.BadLine n)) }
-{
-    let mut text: Text<80> = Text::of(b"line ");
-    let mut buffer = Buffer::new();
-    text.push(buffer.format(n).as_bytes());
-    text.push(b": not in the grammar\n");
-    text
-}
-
-// The note of an error, with its newline.
-fn note_text(error: ScriptError) -> Text<80>
-    ensures { result ≡ note_of (Err error) }
-{
-    match error {
-        ScriptError::ReadFault => Text::of(b"read fault\n"),
-        ScriptError::WriteFault => Text::of(b"write fault\n"),
-        ScriptError::BadLine(n) => bad_line(n),
-        ScriptError::TooLong => Text::of(b"too long\n"),
-        ScriptError::OutOfMemory => Text::of(b"out of memory\n"),
-    }
-}
-
-fn status(error: ScriptError) -> u8
-    ensures { result ≡ status_of (Err error) }
-{
-    match error {
-        ScriptError::ReadFault => 3,
-        ScriptError::WriteFault => 4,
-        ScriptError::BadLine(_) => 5,
-        ScriptError::TooLong => 6,
-        ScriptError::OutOfMemory => 7,
-    }
-}
-
-// Notes an error, and gives the status.
-fn report<N: Sink>(answer: Result<(), ScriptError>, notes: &mut N) -> u8
-    ensures is { result ≡ status_of answer }
-    ensures note { IsNoted (stream_of N.held N.faults notes.old notes.new) (note_of answer) }
-{
-    match answer {
-        Ok(()) => 0,
-        Err(error) => {
-            let text = note_text(error);
-            note(notes, text.as_bytes());
-            status(error)
-        }
-    }
-}
 
 // N, where the words are `gen N`.
 fn generated_by(words: &[String]) -> Option<u64>
@@ -142,13 +83,12 @@ pub fn run_words<S: Source, K: Sink, N: Sink>(
     ensures unwritten { IsUsage (map string_bytes words.now.items) → sink.new ≡ sink.old }
 {
     if words.is_empty() {
-        return report(run_script(alloc, source, sink), notes);
+        return end_with(run_script(alloc, source, sink), notes);
     }
     let Some(n) = generated_by(words) else {
-        note(notes, b"usage: board_run [gen N]\n");
-        return 2;
+        return refuse_words(b"usage: board_run [gen N]\n", notes);
     };
-    report(run_generated(alloc, n, sink), notes)
+    end_with(run_generated(alloc, n, sink), notes)
 }
 
 /// The same, with the status as the process's exit code.
@@ -166,13 +106,4 @@ pub fn run_program<S: Source, K: Sink, N: Sink>(
         (stream_of N.held N.faults notes.old notes.new) }
 {
     ExitCode::from(run_words(alloc, words, source, sink, notes))
-}
-
-/// The exit code of a process whose words can't be had, since memory was refused for them.
-pub fn end_without_words<N: Sink>(notes: &mut N) -> ExitCode
-    ensures status { exit_status result ≡ 7 }
-    ensures note { IsNoted (stream_of N.held N.faults notes.old notes.new)
-        (note_of (Err ScriptError.OutOfMemory)) }
-{
-    ExitCode::from(report(Err(ScriptError::OutOfMemory), notes))
 }

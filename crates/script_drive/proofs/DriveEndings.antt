@@ -1,6 +1,7 @@
 -- Runs of a driver that end, and what they come to.
 use Rattle.std.proofs.Common.{◌≡◌, ℕ, suc, ◌+◌, ◌<◌, ◌≤◌, Bool, false, List, [], ◌∷◌, ◌++◌, length, take, arith, refl, sym, ap, subst, ◌∙◌, Option, Some, None}
-use Rattle.std.specs.Prelude.{IsSomeAnd, Ok, Err, slice_get}
+use Rattle.std.specs.Prelude.{◌≢◌, IfErr, IsSomeAnd, Result, Ok, Err, slice_get}
+use Rattle.script_loop.specs.declared.error.ScriptError.{ScriptError}
 use Rattle.std.specs.List.{AllByRecursion}
 use Rattle.std.specs.Io.KnownBytes.{Appends, IsAtEnd, Keeps, prepend_known}
 use Rattle.std.proofs.KnownBytes.{Appends-trans, Appends-nil}
@@ -16,14 +17,9 @@ use Rattle.script_exchanges.specs.DriveGrammar.{SpellsDrive, SpellsNoDrive}
 use Rattle.script_drive.specs.DriveRuns.{DriveRuns, IsBadAt, IsPast, IsReadCut, IsRunOf, IsSpent, IsWriteCut}
 use Rattle.script_drive.specs.Drivers.{HasRun, HasTold}
 use Rattle.script_exchanges.specs.Exchanges.{Answered, AreLinesOf, BeginsWith, Exchange, Exchanges, FollowedBy, GoesOnAfter, IsDriveScript, LeavesGrammarAfter, SpellsAll, output_of, text_of}
-use Rattle.script_drive.proofs.DriveSteps.{HasRunOn, answered_more, length_more, output_more, whole_kept}
+use Rattle.script_drive.proofs.DriveSteps.{HasRunOn, answered_more, begins, length_more, output_more, whole_kept}
 
 -- ---- where the input is known, what is left says what follows
-
-pub begins : (d : Drive) (input left : Option (List ℕ)) (xs : Exchanges) → Answered d input left xs → BeginsWith d input xs
-begins d None left xs f = tt
-begins d (Some i) None xs f = absurd f
-begins d (Some i) (Some l) xs f = (lines_of l, f)
 
 are_all : (d : Drive) (input left : Option (List ℕ)) (xs : Exchanges) → Answered d input left xs → IsAtEnd left → AreLinesOf d input xs
 are_all d None left xs f e = tt
@@ -141,8 +137,8 @@ spent_at_once d Lawful limit source sink ok same = record {
 }
 
 -- the source failed before its end was told
-pub cut_short : {M : Type 0} (d : Drive) (Lawful : Exchanges → Type 0) (stands : M → Exchanges → Type 0) (m : M) (count limit : ℕ) (ended : Bool) (source sink : Stream) (left : Option (List ℕ)) (part : List ℕ) → (r : HasRunOn d Lawful stands m count ended source.before left sink.before sink.after) → ended ≡ false → count ≤ limit → Keeps left (prepend_known part source.after) → IsOneLine part → IsReadCut d Lawful limit source sink
-cut_short d Lawful stands m count limit ended source sink left part r unended few k one = record {
+pub cut_short : {M : Type 0} (d : Drive) (Lawful : Exchanges → Type 0) (stands : M → Exchanges → Type 0) (m : M) (count limit : ℕ) (ended : Bool) (source sink : Stream) (left : Option (List ℕ)) (takes taken : ℕ → Type 0) (part : List ℕ) → (r : HasRunOn d Lawful stands m count ended source.before left sink.before sink.after takes taken) → ended ≡ false → count ≤ limit → Keeps left (prepend_known part source.after) → IsOneLine part → IsReadCut d Lawful limit source sink
+cut_short d Lawful stands m count limit ended source sink left takes taken part r unended few k one = record {
   exchanges = r.run.exchanges;
   lawful = r.run.lawful;
   part = part;
@@ -218,3 +214,12 @@ module _ (d : Drive) (Lawful : Exchanges → Type 0) (limit : ℕ) (source sink 
 
   pub gave_up : CountStays source → CountStays sink → IsSpent d Lawful limit source sink → DriveRuns d Lawful limit source sink (Err OutOfMemory)
   gave_up reads writes spent = record { ok = tt; end = tt; err = spent; complete = λ u. refl; read = λ e. absurd cc; write = λ e. absurd cc; read_told = λ n. reads; write_told = λ n. writes; read_later = omega (arith, reads); write_later = omega (arith, writes) }
+
+  -- a known script is run to its end where neither a read nor a write failed
+  pub complete : (result : Result (Unit {0}) ScriptError) → DriveRuns d Lawful limit source sink result → result ≢ Err ReadFault → result ≢ Err WriteFault → IsSomeAnd source.before (IsDriveScript d limit) → IfErr result (λ e. e ≡ OutOfMemory)
+  complete (Ok x) runs read write script = tt
+  complete (Err ReadFault) runs read write script = absurd (read refl)
+  complete (Err WriteFault) runs read write script = absurd (write refl)
+  complete (Err (BadLine n)) runs read write script = absurd (not_outside d limit source.before runs.err.exchanges runs.err.lines script)
+  complete (Err TooLong) runs read write script = absurd (not_more d limit source.before runs.err.exchanges runs.err.lines runs.err.full script)
+  complete (Err OutOfMemory) runs read write script = refl

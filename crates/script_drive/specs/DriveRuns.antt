@@ -87,6 +87,17 @@ IsStopped (BadLine n) d Lawful limit source sink = IsBadAt d Lawful n limit sour
 IsStopped TooLong d Lawful limit source sink = IsPast d Lawful limit source sink
 IsStopped OutOfMemory d Lawful limit source sink = IsSpent d Lawful limit source sink
 
+-- ---- runs that are run to their end
+
+-- what is rightly told of the first lines of the input, at most so many, has at most so many bytes
+abbrev pub FitsInto : Drive → (Exchanges → Type 0) → ℕ → ℕ → Option (List ℕ) → Type 0
+FitsInto d Lawful room limit input = (xs : Exchanges) → Lawful xs → BeginsWith d input xs → length xs ≤ limit → length (output_of xs) ≤ room
+
+-- the input is known to be a script of at most so many lines, and what is told of it has at most so many bytes
+pub record IsRunnable (d : Drive) (Lawful : Exchanges → Type 0) (room limit : ℕ) (input : Option (List ℕ)) : Type 0 where
+  pub script : IsSomeAnd input (IsDriveScript d limit)
+  pub output : FitsInto d Lawful room limit input
+
 -- the source is known to be a script of at most so many lines, and neither it nor the sink failed
 pub record IsUndisturbed (d : Drive) (limit : ℕ) (source sink : Stream) : Type 0 where
   pub script : IsSomeAnd source.before (IsDriveScript d limit)

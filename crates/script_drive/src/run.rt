@@ -1,10 +1,10 @@
 //! Lines that are run one after another.
-ghost use Rattle.std.specs.Prelude.{◌≡◌, ◌≢◌, ◌≤◌, ◌<◌, [], IfSome, IsErrOf, OnErr, OnOk, false};
+ghost use Rattle.std.specs.Prelude.{◌≡◌, ◌≢◌, ◌<◌, ℕ, [], IfErr, IfSome, IsErrOf, OnErr, OnOk, false};
 ghost use Rattle.script_loop.specs.Reader.{in_hand, source_ended};
 ghost use Rattle.script_loop.specs.Runs.{stream_of};
 ghost use Rattle.script_exchanges.specs.declared.line.Drive.{Drive};
 ghost use Rattle.script_exchanges.specs.DriveGrammar.{SpellsNoDrive};
-ghost use Rattle.script_drive.specs.DriveRuns.{DriveRuns};
+ghost use Rattle.script_drive.specs.DriveRuns.{DriveRuns, FitsInto, IsRunnable};
 ghost use Rattle.script_drive.specs.Drivers.{StandsFor, StandsStill, TellsEach};
 ghost use Rattle.script_exchanges.specs.Exchanges.{Exchanges};
 
@@ -54,13 +54,8 @@ fn new_reader(alloc: Global) -> Option<LineReader>
     }
 }
 
-/// Answers the lines of the source, at most `limit` of them, and writes what is told of each before the next line is looked at.
-///
-/// Line n is counted from 1. `TooLong` is looked at when a byte follows the last line that is allowed.
-///
-/// # Errors
-/// `ReadFault` and `WriteFault` where source or sink failed; `BadLine` with the number of the first line outside the grammar; `TooLong`; `OutOfMemory`. What is told of the lines before is written.
-pub fn run_driven<D: Drives, S: Source, K: Sink>(
+// The lines one after another.
+fn run_all<D: Drives, S: Source, K: Sink>(
     alloc: Global,
     limit: u64,
     driver: &mut D,
@@ -77,8 +72,11 @@ pub fn run_driven<D: Drives, S: Source, K: Sink>(
         (stream_of K.held K.faults sink.old sink.new)
         result }
 
-    // Where no read fails there is no read fault.
+    // Where no read fails there is no read fault, and where no write fails within what is told no write fault.
     ensures reads { S.never_fails source.old → result ≢ Err ScriptError.ReadFault }
+    ensures writes { (room : ℕ) → K.never_fails_within sink.old room
+        → FitsInto D.drive D.lawful room limit (S.left source.old)
+        → result ≢ Err ScriptError.WriteFault }
 {
     let Some(mut reader) = new_reader(alloc) else {
         return Err(ScriptError::OutOfMemory);
@@ -105,4 +103,41 @@ pub fn run_driven<D: Drives, S: Source, K: Sink>(
         Ok(Fetched::Long) => Err(ScriptError::TooLong),
         Ok(Fetched::Line) => Err(ScriptError::TooLong),
     }
+}
+
+/// Answers the lines of the source, at most `limit` of them, and writes what is told of each before the next line is looked at.
+///
+/// Line n is counted from 1. What follows the last line that is allowed is read up to its newline; it is `TooLong` where a byte was read.
+///
+/// # Errors
+/// `ReadFault` and `WriteFault` where source or sink failed; `BadLine` with the number of the first line outside the grammar; `TooLong`; `OutOfMemory`. What is told of the lines before is written.
+pub fn run_driven<D: Drives, S: Source, K: Sink>(
+    alloc: Global,
+    limit: u64,
+    driver: &mut D,
+    source: &mut S,
+    sink: &mut K,
+) -> Result<(), ScriptError>
+    requires limit { limit < 4294967296 }
+    requires lawful { D.lawful [] }
+    requires stands { D.stands driver.old [] }
+
+    // The sink gained what is told of the input's lines, or the error says what stands.
+    ensures runs { DriveRuns D.drive D.lawful limit
+        (stream_of S.left S.faults source.old source.new)
+        (stream_of K.held K.faults sink.old sink.new)
+        result }
+
+    // Where no read fails there is no read fault, and where no write fails within what is told no write fault.
+    ensures reads { S.never_fails source.old → result ≢ Err ScriptError.ReadFault }
+    ensures writes { (room : ℕ) → K.never_fails_within sink.old room
+        → FitsInto D.drive D.lawful room limit (S.left source.old)
+        → result ≢ Err ScriptError.WriteFault }
+
+    // A known script is run to its end where neither fails.
+    ensures complete { S.never_fails source.old → (room : ℕ) → K.never_fails_within sink.old room
+        → IsRunnable D.drive D.lawful room limit (S.left source.old)
+        → IfErr result (λ e. e ≡ ScriptError.OutOfMemory) }
+{
+    run_all(alloc, limit, driver, source, sink)
 }

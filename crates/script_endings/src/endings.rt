@@ -1,11 +1,13 @@
 //! Statuses and notes.
-ghost use Rattle.std.specs.Prelude.{◌≡◌, ◌++◌, codes, Err};
+ghost use Rattle.std.specs.Prelude.{◌≡◌, Err};
+ghost use Rattle.std.specs.Process.{exit_status};
 ghost use Rattle.script_loop.specs.Runs.{stream_of};
-ghost use Rattle.board_script.specs.Top.{IsNoted, note_of, status_of};
+ghost use Rattle.script_endings.specs.Endings.{IsNoted, note_of, status_of};
 
 use board_layout::Text;
 use itoa::Buffer;
 use script_loop::{ScriptError, Sink, write_whole};
+use std::process::ExitCode;
 
 // Writes a note. That it fails changes nothing else.
 fn note<N: Sink>(notes: &mut N, text: &[u8])
@@ -61,4 +63,13 @@ pub fn refuse_words<N: Sink>(usage: &[u8], notes: &mut N) -> u8
 {
     note(notes, usage);
     2
+}
+
+/// The exit code of a process whose words can't be had, since memory was refused for them.
+pub fn end_without_words<N: Sink>(notes: &mut N) -> ExitCode
+    ensures status { exit_status result ≡ 7 }
+    ensures note { IsNoted (stream_of N.held N.faults notes.old notes.new)
+        (note_of (Err ScriptError.OutOfMemory)) }
+{
+    ExitCode::from(end_with(Err(ScriptError::OutOfMemory), notes))
 }

@@ -1,7 +1,9 @@
-//! How programs over scripts end: the status and the note of an answer, as those of `run_words`, and those of words that
-//! stand on the command line of a program that takes none.
+//! How programs over scripts end: the status and the note of an answer, of words that stand on the command line where
+//! they may not, and of words that can't be had.
 #![tactic(auto)]
 
 mod endings;
+#[cfg(test)]
+mod tests;
 
-pub use endings::{end_with, refuse_words};
+pub use endings::{end_with, end_without_words, refuse_words};

@@ -1,6 +1,6 @@
 -- The lines of scripts whose parties can be driven are read back from their bytes, and what is read is spelled so.
 use Rattle.std.proofs.Common.{◌≡◌, ℕ, ◌+◌, ◌<◌, ◌≤◌, Bool, true, false, List, [], ◌∷◌, length, eqb, refl, sym, ap, subst, ◌∙◌, arith, zero-add, Option, Some, None}
-use Rattle.std.specs.Prelude.{◌||◌, codes, IfNone, IfOk, IfSome, Result, Ok, Err}
+use Rattle.std.specs.Prelude.{◌||◌, codes, IfNone, IfOk, IfSome, IsSome, OnErr, Result, Ok, Err}
 use Rattle.std.specs.Str.{bytes_eq}
 use Rattle.std.specs.List.{AllByRecursion, join_with_byte, list_all}
 use Rattle.std.proofs.lemmas.Bool.{false≢true}
@@ -16,6 +16,7 @@ use Rattle.script_grammar.proofs.ReaderLemmas.{bind_some, both, end_takes, first
 use Rattle.script_grammar.proofs.SpaceLemmas.{split_script}
 use Rattle.script_grammar.proofs.SplitLemmas.{IsFree, free_name, split_free}
 use Rattle.script_grammar.proofs.TokenLemmas.{name_again, name_takes}
+use Rattle.script_parse.specs.Kept.{SpellsKept}
 use Rattle.script_exchanges.specs.declared.line.Drive.{Drive}
 use Rattle.script_exchanges.specs.declared.line.Drive.TheVariants.{Snapshots, Watchers}
 use Rattle.script_exchanges.specs.declared.line.DriveLine.{DriveLine}
@@ -92,7 +93,7 @@ free_start Snapshots = refl
 free_start Watchers = refl
 
 -- the tokens of the bytes of a line
-split_drive : (d : Drive) (bytes : List ℕ) (l : DriveLine) → SpellsDrive d bytes l → split_tokens bytes ≡ drive_tokens d l
+pub split_drive : (d : Drive) (bytes : List ℕ) (l : DriveLine) → SpellsDrive d bytes l → split_tokens bytes ≡ drive_tokens d l
 split_drive d bytes (Script l) s = ap split_tokens s.bytes ∙ split_script l s.line
 split_drive d bytes (Start party things) s = ap split_tokens s.bytes ∙ split_free 32 refl (start_word d ∷ party ∷ things) (omega arith) (free_start d, (free_name 32 refl party s.line.0, free_names things s.line.1.named))
 split_drive d bytes (Turn party) s = ap split_tokens s.bytes ∙ split_free 32 refl (codes "turn" ∷ party ∷ []) (omega arith) (refl, (free_name 32 refl party s.line, tt))
@@ -125,23 +126,23 @@ first_is : (w : List ℕ) (ts us : List (List ℕ)) → us ≡ w ∷ ts → firs
 unfolding first_of_tokens
 first_is w ts us e = ap first_of_tokens e
 
-rest_is : (w v : List ℕ) (ts us : List (List ℕ)) → w ∷ ts ≡ v ∷ us → ts ≡ us
+pub rest_is : (w v : List ℕ) (ts us : List (List ℕ)) → w ∷ ts ≡ v ∷ us → ts ≡ us
 rest_is w v ts us e = cc
 
-head_is : (w v : List ℕ) (ts us : List (List ℕ)) → w ∷ ts ≡ v ∷ us → w ≡ v
+pub head_is : (w v : List ℕ) (ts us : List (List ℕ)) → w ∷ ts ≡ v ∷ us → w ≡ v
 head_is w v ts us e = cc
 
-no_script : (d : Drive) (bytes w : List ℕ) (ts : List (List ℕ)) (l : ScriptLine) → split_tokens bytes ≡ w ∷ ts → is_script_word w ≡ false → SpellsDrive d bytes (Script l) → ⊥
+pub no_script : (d : Drive) (bytes w : List ℕ) (ts : List (List ℕ)) (l : ScriptLine) → split_tokens bytes ≡ w ∷ ts → is_script_word w ≡ false → SpellsDrive d bytes (Script l) → ⊥
 no_script d bytes w ts l e f s =
     let t : script_tokens l ≡ w ∷ ts = sym (split_drive d bytes (Script l) s) ∙ e in
     let is : is_script_word w ≡ true = sym (ap is_script_word (first_is w ts (script_tokens l) t)) ∙ script_word l in
     false≢true (sym f ∙ is)
 
-start_is_no_script : (d : Drive) → is_script_word (start_word d) ≡ false
+pub start_is_no_script : (d : Drive) → is_script_word (start_word d) ≡ false
 start_is_no_script Snapshots = refl
 start_is_no_script Watchers = refl
 
-start_is_no_turn : (d : Drive) → bytes_eq (start_word d) (codes "turn") ≡ false
+pub start_is_no_turn : (d : Drive) → bytes_eq (start_word d) (codes "turn") ≡ false
 start_is_no_turn Snapshots = refl
 start_is_no_turn Watchers = refl
 
@@ -199,12 +200,19 @@ module _ (d : Drive) (bytes : List ℕ) (short : length bytes ≤ 4096) (word : 
           let same : word ≡ codes "turn" = head_is word (codes "turn") ts (party ∷ []) (sym words ∙ split_drive d bytes (Turn party) s) in
           false≢true (sym (start_is_no_turn d) ∙ ap (λ (x : List ℕ). bytes_eq x (codes "turn")) (sym w ∙ same))
 
+  pub start_kept : (o : Option DriveLine) → word ≡ start_word d → o ≡ read_start d ts → IsSome o → (l : DriveLine) × SpellsDrive d bytes l
+  start_kept None w e some = absurd (false≢true some)
+  start_kept (Some l) w e some = (l, start_found (Some l) w e)
+
   -- behind any other word
   pub plain_found : (o : Option DriveLine) → IfSome o (IsPlainLine bytes) → IfSome o (λ l. SpellsDrive d bytes l)
   plain_found None h = tt
   plain_found (Some (Script l)) h = record { line = h.line; bytes = h.bytes; short = h.short }
   plain_found (Some (Start party things)) h = absurd h
   plain_found (Some (Turn party)) h = absurd h
+
+  pub plain_kept : SpellsKept bytes → (l : DriveLine) × SpellsDrive d bytes l
+  plain_kept h = (Script h.0, plain_found (Some (Script h.0)) h.1)
 
   pub plain_only : (o : Option DriveLine) → (word ≡ codes "turn" → ⊥) → (word ≡ start_word d → ⊥) → IfNone o ((l : ScriptLine) → SpellsLine bytes l → ⊥) → IfNone o (SpellsNoDrive d bytes)
   plain_only (Some l) no_turn no_start h = tt
@@ -221,3 +229,8 @@ module _ (d : Drive) (bytes : List ℕ) (short : length bytes ≤ 4096) (word : 
 pub ok_so : {A E : Type 0} (r : Result A E) (Q P : A → Type 0) → ((x : A) → Q x → P x) → IfOk r Q → IfOk r P
 ok_so (Ok x) Q P f h = f x h
 ok_so (Err e) Q P f h = tt
+
+-- what holds of one that isn't does
+pub err_so : {A E : Type 0} (r : Result A E) (Q P : Type 0) → (Q → P) → OnErr r Q → OnErr r P
+err_so (Ok x) Q P f h = tt
+err_so (Err e) Q P f h = f h

@@ -1,9 +1,11 @@
 //! Lines, from their bytes.
-ghost use Rattle.std.specs.Prelude.{◌≡◌, IfNone, IfOk, IfSome};
+ghost use Rattle.std.specs.Prelude.{◌≡◌, IfNone, IfOk, IfSome, IsSome, OnErr};
 ghost use Rattle.std.specs.Str.{bytes_eq};
+ghost use Rattle.script_exchanges.specs.declared.line.DriveLine.{DriveLine};
 ghost use Rattle.script_exchanges.specs.DriveGrammar.{SpellsDrive, SpellsNoDrive, start_word};
 ghost use Rattle.script_feed.specs.DriveReading.{IsPlainLine, read_start, read_turn};
 ghost use Rattle.script_loop.specs.Machines.{SpellsNone};
+ghost use Rattle.script_parse.specs.Kept.{SpellsKept};
 
 use crate::words::Words;
 use script_exchanges::{Drive, DriveLine};
@@ -41,7 +43,8 @@ fn turn_of(words: &mut Words) -> Option<DriveLine>
 
 // Memory is taken for the names alone.
 fn start_of(alloc: Global, drive: Drive, words: &mut Words) -> Result<Option<DriveLine>, AllocError>
-    ensures { IfOk result (λ o. o ≡ read_start drive words.old) }
+    ensures ok { IfOk result (λ o. o ≡ read_start drive words.old) }
+    ensures memory { OnErr result (IsSome (read_start drive words.old)) }
 {
     let Some(party) = words.name() else {
         return Ok(None);
@@ -57,6 +60,7 @@ fn start_of(alloc: Global, drive: Drive, words: &mut Words) -> Result<Option<Dri
 fn script_line_of(alloc: Global, bytes: &[u8]) -> Result<Option<DriveLine>, AllocError>
     ensures found { IfOk result (λ o. IfSome o (IsPlainLine bytes.now)) }
     ensures only { IfOk result (λ o. IfNone o (SpellsNone bytes.now)) }
+    ensures memory { OnErr result (SpellsKept bytes.now) }
 {
     match parse_line(alloc, bytes)? {
         Some(line) => Ok(Some(DriveLine::Script(line))),
@@ -67,7 +71,7 @@ fn script_line_of(alloc: Global, bytes: &[u8]) -> Result<Option<DriveLine>, Allo
 /// The line that these bytes spell, or `None` where no line of the grammar does.
 ///
 /// # Errors
-/// `AllocError` where memory is refused.
+/// `AllocError` where memory is refused, which is wanted for a line of the grammar alone.
 pub fn parse_drive(
     alloc: Global,
     drive: Drive,
@@ -75,6 +79,9 @@ pub fn parse_drive(
 ) -> Result<Option<DriveLine>, AllocError>
     ensures found { IfOk result (λ o. IfSome o (λ l. SpellsDrive drive bytes.now l)) }
     ensures only { IfOk result (λ o. IfNone o (SpellsNoDrive drive bytes.now)) }
+
+    // A line outside the grammar wants no memory.
+    ensures memory { OnErr result ((l : DriveLine) × SpellsDrive drive bytes.now l) }
 {
     if bytes.len() > MOST_BYTES {
         return Ok(None);

@@ -1,5 +1,5 @@
 //! What is kept of parties.
-ghost use Rattle.std.specs.Prelude.{◌≡◌, List, ℕ, None, Some, OnOk, if◌then◌else◌, option_copied};
+ghost use Rattle.std.specs.Prelude.{◌≡◌, List, ℕ, None, Some, OnErr, OnOk, if◌then◌else◌, option_copied};
 ghost use Rattle.std.specs.Str.{bytes_eq};
 ghost use Rattle.script_feed.specs.KeptOf.{kept_of};
 
@@ -44,8 +44,11 @@ impl<T: Drop> Parties<T> {
     /// # Errors
     /// `AllocError` where memory is refused.
     pub fn keep(&mut self, party: Name, kept: T) -> Result<(), AllocError>
-        ensures { OnOk result ((p : List ℕ) → kept_of self.new p
+        ensures ok { OnOk result ((p : List ℕ) → kept_of self.new p
             ≡ (if bytes_eq p party then Some kept else kept_of self.old p)) }
+
+        // Where memory is refused all is kept as before.
+        ensures err { OnErr result ((p : List ℕ) → kept_of self.new p ≡ kept_of self.old p) }
     {
         match self.rows.insert(party, kept) {
             Ok(_) => Ok(()),

@@ -1,4 +1,4 @@
-use Rattle.board_script.proofs.Notes.{noted}
+use Rattle.script_endings.proofs.Notes.{noted}
 use Rattle.script_endings.proofs.endings.note.Goals as goal
 
 pub returns : goal.returns

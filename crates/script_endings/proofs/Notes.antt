@@ -4,7 +4,7 @@ use Rattle.std.specs.Prelude.{OnErr, OnOk, Result, Ok, Err}
 use Rattle.std.proofs.Math.Seq.{take-length}
 use Rattle.board_model.specs.Lines.{HasCause}
 use Rattle.script_loop.specs.Runs.{Gains, Stream}
-use Rattle.board_script.specs.Top.{IsNoted}
+use Rattle.script_endings.specs.Endings.{IsNoted}
 
 pub noted : {T E : Type 0} (r : Result T E) (notes : Stream) (text : List ℕ)
     → OnOk r (Gains notes text) → OnErr r ((n : ℕ) × Gains notes (take n text)) → HasCause notes.faults_before notes.faults_after r → IsNoted notes text

@@ -1,5 +1,0 @@
-use Rattle.board_script.proofs.Notes.{noted}
-use Rattle.board_script.proofs.top.note.Goals as goal
-
-pub returns : goal.returns
-returns g c = noted c.write_whole.result _ c.args.text.now c.write_whole.ensures.ok c.write_whole.ensures.err c.write_whole.ensures.cause

@@ -1,0 +1,4 @@
+pub mod GivenLemmas
+pub mod WrittenLemmas
+pub mod OneRunLemmas
+pub mod TopLemmas

@@ -1,0 +1,22 @@
+use Rattle.script_endings.proofs.StatusLemmas.{run_through}
+use Rattle.board_snapshot.proofs.TopLemmas.{no_words_status, none_lawful, run_ends, run_is}
+use Rattle.board_snapshot.proofs.top.snapshot_words.Goals as goal
+
+pub run_driven-requires-clause-lawful : goal.run_driven-requires-clause-lawful
+run_driven-requires-clause-lawful g c = none_lawful
+
+pub returns-clause-ok : goal.returns-clause-ok
+returns-clause-ok g c = λ zero. run_is c.run_driven.result _ _ _ c.run_driven.ensures.runs c.end_with.ensures.is zero
+
+pub returns-clause-end : goal.returns-clause-end
+returns-clause-end g c = λ zero. run_ends c.run_driven.result _ _ _ c.run_driven.ensures.runs c.end_with.ensures.is zero
+
+pub returns-clause-ran : goal.returns-clause-ran
+returns-clause-ran g c = λ none. record { answer = c.run_driven.result; run = c.run_driven.ensures.runs; is = c.end_with.ensures.is; note = c.end_with.ensures.noted }
+
+pub returns-clause-complete : goal.returns-clause-complete
+returns-clause-complete g c = λ none sure room takes fits.
+    run_through c.run_driven.result c.end_with.result c.end_with.ensures.is (c.run_driven.ensures.complete sure room takes fits)
+
+pub returns-clause-usage_only : goal.returns-clause-usage_only
+returns-clause-usage_only g c = λ two. absurd (no_words_status c.run_driven.result _ _ _ c.run_driven.ensures.runs c.end_with.ensures.is two)

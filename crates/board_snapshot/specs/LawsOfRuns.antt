@@ -1,0 +1,16 @@
+-- Laws of scripts with snapshots: bytes spell one line, and the lines of a script settle all that is told of them.
+use Rattle.std.specs.Prelude.{◌≡◌, ℕ, List, Some}
+use Rattle.script_exchanges.specs.declared.line.Drive.TheVariants.{Snapshots}
+use Rattle.script_exchanges.specs.declared.line.DriveLine.{DriveLine}
+use Rattle.script_exchanges.specs.DriveGrammar.{SpellsDrive}
+use Rattle.script_exchanges.specs.Exchanges.{AreLinesOf, Exchanges}
+use Rattle.script_snapshots.specs.SnapshotExchanges.{IsLawful}
+
+-- bytes spell at most one line
+abbrev pub BytesSpellOneLine : Type 0
+BytesSpellOneLine = (bytes : List ℕ) (k l : DriveLine) → SpellsDrive Snapshots bytes k → SpellsDrive Snapshots bytes l → k ≡ l
+
+-- an input has at most one list of lawful exchanges, and so one output
+abbrev pub InputsHaveOneRun : Type 0
+InputsHaveOneRun =
+    (input : List ℕ) (xs ys : Exchanges) → AreLinesOf Snapshots (Some input) xs → AreLinesOf Snapshots (Some input) ys → IsLawful xs → IsLawful ys → xs ≡ ys

@@ -1,0 +1,3 @@
+pub mod GivenLines
+pub mod LawsOfRuns
+pub mod Top

@@ -1,0 +1,18 @@
+//! Laws of scripts with snapshots and of their output. Each function's contract is a theorem over the definitions alone.
+ghost use Rattle.board_snapshot.specs.GivenLines.{FedSessionsAreWritten};
+ghost use Rattle.board_snapshot.specs.LawsOfRuns.{BytesSpellOneLine, InputsHaveOneRun};
+
+/// The lines of an output behind `> `, each with the line that follows it, are the session that was fed to the machine.
+pub fn fed_sessions_are_written()
+    ensures { FedSessionsAreWritten }
+{}
+
+/// Bytes spell at most one line of such a script.
+pub fn bytes_spell_one_line()
+    ensures { BytesSpellOneLine }
+{}
+
+/// An input has at most one run, and so one output.
+pub fn inputs_have_one_run()
+    ensures { InputsHaveOneRun }
+{}
