@@ -14,12 +14,11 @@ use gullinsu::prelude::{
     ServiceName, Shared, ZeroCopySend,
 };
 use gullinsu::service::builder::ServiceBuilder;
-use gullinsu::service::builder::blackboard::Creator;
 use gullinsu::service::port_factory::blackboard::PortFactory;
 use std::alloc::Global;
 use std::sync::Wait;
 
-// The keys of the parameters: a rate in hertz, whether a filter is on, and the limits of its four channels.
+// The keys: a rate in hertz, whether a filter is on, and the limits of its four channels.
 const RATE: [u8; 8] = *b"rate    ";
 
 const FILTER: [u8; 8] = *b"filter  ";
@@ -33,16 +32,13 @@ fn builder<R: Wait>(rt: &R, domain: &Domain, name: &str) -> Result<ServiceBuilde
     Ok(node.service_builder(&ServiceName::new("parameters")?)?)
 }
 
-fn with_parameters(creator: Creator<F8, Shared>) -> Result<Creator<F8, Shared>> {
-    let creator = creator.add(F8 { bytes: RATE }, 50u64)?;
-    let creator = creator.add(F8 { bytes: LIMITS }, [1u64, 2, 3, 4])?;
-    Ok(creator.add_with_default::<bool>(F8 { bytes: FILTER })?)
-}
-
 fn serve<R: Wait>(rt: &R, alloc: Global, domain: &Domain) -> Result<Board> {
     let unit = AttributeSpecifier::new(alloc).define("unit", "si")?;
     let creator = builder(rt, domain, "server")?.blackboard_creator::<F8, Shared>(alloc);
-    Ok(with_parameters(creator)?.create_with_attributes(rt, unit)?)
+    let creator = creator.add(F8 { bytes: RATE }, 50u64)?;
+    let creator = creator.add(F8 { bytes: LIMITS }, [1u64, 2, 3, 4])?;
+    let creator = creator.add_with_default::<bool>(F8 { bytes: FILTER })?;
+    Ok(creator.create_with_attributes(rt, unit)?)
 }
 
 // Opens the board as a client that needs this unit.
@@ -82,7 +78,9 @@ fn set<V: ZeroCopySend, R: Wait>(
 
 fn get<V: ZeroCopySend, R: Wait>(rt: &R, reader: &Reader<F8, Shared>, key: [u8; 8]) -> Result<V> {
     let mut parameter = reader.entry::<V, R>(rt, &F8 { bytes: key })?;
-    Ok(*parameter.get(rt).get_ref())
+    let value = *parameter.get(rt).get_ref();
+    parameter.release(rt);
+    Ok(value)
 }
 
 fn show<R: Wait + Print>(rt: &R, reader: &Reader<F8, Shared>) -> Result<()> {
@@ -91,13 +89,6 @@ fn show<R: Wait + Print>(rt: &R, reader: &Reader<F8, Shared>) -> Result<()> {
     let limits = get::<[u64; 4], R>(rt, reader, LIMITS)?;
     println!(rt; "rate {rate}, filter {filter}, limits {limits:?}")?;
     Ok(())
-}
-
-// The server sets two parameters.
-fn tune<R: Wait>(rt: &R, served: &Board) -> Result<()> {
-    let writer = served.writer_builder()?.create(rt)?;
-    set(rt, &writer, RATE, 100u64)?;
-    set(rt, &writer, FILTER, true)
 }
 
 fn main(rt: HostRuntime) -> Result<()> {
@@ -109,11 +100,17 @@ fn main(rt: HostRuntime) -> Result<()> {
     let opened = connect(&rt, rt.alloc(), &domain, "si")?;
     tell_keys(&rt, rt.alloc(), &opened)?;
     let reader = opened.reader_builder()?.create(&rt)?;
+    let writer = served.writer_builder()?.create(&rt)?;
     show(&rt, &reader)?;
-    tune(&rt, &served)?;
+    set(&rt, &writer, RATE, 100u64)?;
+    set(&rt, &writer, FILTER, true)?;
     show(&rt, &reader)?;
     if let Err(why) = get::<u32, HostRuntime>(&rt, &reader, RATE) {
         println!(rt; "rate as u32: {why}")?;
     }
+    writer.release(&rt);
+    reader.release(&rt);
+    opened.release(&rt);
+    served.release(&rt);
     Ok(())
 }

@@ -7,8 +7,8 @@
 use anyhow::Result;
 use gullinsu::event::{
     EventListener, EventListenerBuilder, EventNotifier, EventNotifierBuilder, FileName, Listener,
-    ListenerBuilder, NamedConceptBuilder, Notifier, NotifierBuilder, QueueOfIds, QueueRegistry,
-    TriggerId,
+    ListenerBuilder, NamedConcept, NamedConceptBuilder, Notifier, NotifierBuilder, QueueOfIds,
+    QueueRegistry, TriggerId,
 };
 use gullinsu::port::reader::EntryHandle;
 use gullinsu::port::writer::EntryHandleMut;
@@ -22,8 +22,6 @@ use std::thread;
 const STEPS: u64 = 5;
 
 type Table = PortFactory<u64, Shared>;
-
-type Changes = EventListener<QueueOfIds>;
 
 fn make_table<R: Wait>(rt: &R, alloc: Global) -> Result<Table> {
     let domain = Domain::new(alloc)?;
@@ -44,6 +42,7 @@ struct Worker {
 fn hire<R: Wait>(rt: &R, table: &Table, events: &QueueRegistry, task: u64) -> Result<Worker> {
     let writer = table.writer_builder()?.create(rt)?;
     let left = writer.entry::<u64, R>(rt, &task)?;
+    writer.release(rt);
     let changed = EventNotifierBuilder::new(&FileName::new(b"changed")?, events)?.open(rt)?;
     Ok(Worker { left, changed })
 }
@@ -60,6 +59,8 @@ fn work<R: Wait>(rt: &R, worker: Worker) -> bool {
         }
         told = told && changed.notify(rt, id).is_ok();
     }
+    left.release(rt);
+    changed.release(rt);
     told
 }
 
@@ -73,36 +74,29 @@ struct Row {
 fn row_of<R: Wait>(rt: &R, table: &Table, task: u64) -> Result<Row> {
     let reader = table.reader_builder()?.create(rt)?;
     let entry = reader.entry::<u64, R>(rt, &task)?;
+    reader.release(rt);
     Ok(Row { entry, left: STEPS })
 }
 
-// Gets the value behind the entry that changed.
-fn refresh<R: Wait>(rt: &R, rows: &mut [Row], changed: TriggerId) {
-    for row in rows.iter_mut() {
-        if row.entry.entry_id().as_value() == changed.as_value() {
-            row.left = *row.entry.get(rt).get_ref();
-        }
-    }
-}
-
-// Takes an id for each step of each task.
-fn schedule<R: Wait>(rt: &R, changes: Changes, rows: &mut [Row]) {
+// Takes an id for each step of each task, and gets the value behind the entry that changed.
+fn schedule<R: Wait>(rt: &R, changes: EventListener<QueueOfIds>, rows: &mut [Row]) {
     for _ in 0..2 * STEPS {
         if let Ok(Some(changed)) = changes.blocking_wait_one(rt) {
-            refresh(rt, rows, changed);
+            for row in rows.iter_mut() {
+                if row.entry.entry_id().as_value() == changed.as_value() {
+                    row.left = *row.entry.get(rt).get_ref();
+                }
+            }
         }
     }
-}
-
-fn listen<R: Wait>(rt: &R, alloc: Global, events: &QueueRegistry) -> Result<Changes> {
-    let builder = EventListenerBuilder::new(&FileName::new(b"changed")?, events)?;
-    Ok(builder.create(rt, alloc)?)
+    changes.release(rt);
 }
 
 fn main(rt: HostRuntime) -> Result<()> {
     let table = make_table(&rt, rt.alloc())?;
     let events = QueueRegistry::new(rt.alloc())?;
-    let changes = listen(&rt, rt.alloc(), &events)?;
+    let builder = EventListenerBuilder::new(&FileName::new(b"changed")?, &events)?;
+    let changes = builder.create(&rt, rt.alloc())?;
     let mut rows = [row_of(&rt, &table, 1)?, row_of(&rt, &table, 2)?];
     let first = hire(&rt, &table, &events, 1)?;
     let second = hire(&rt, &table, &events, 2)?;
@@ -111,9 +105,11 @@ fn main(rt: HostRuntime) -> Result<()> {
         || schedule(&rt, changes, &mut rows),
         || thread::join(&rt, || work(&rt, first), || work(&rt, second)),
     );
-    for row in &rows {
+    for row in rows {
         println!(rt; "{} steps left", row.left)?;
+        row.entry.release(&rt);
     }
     println!(rt; "each change was told: {}", first && second)?;
+    table.release(&rt);
     Ok(())
 }

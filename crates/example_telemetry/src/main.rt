@@ -7,16 +7,22 @@
 //! generations, which iceoryx2 keeps to itself.
 #![tactic(auto)]
 
-mod motion;
-
 use gullinsu::port::reader::EntryHandle;
 use gullinsu::port::writer::EntryHandleMut;
 use gullinsu::prelude::{Domain, Node, NodeName, ServiceName, Shared};
 use gullinsu::service::port_factory::blackboard::PortFactory;
-use motion::Motion;
 use std::alloc::Global;
 use std::sync::Wait;
 use std::thread;
+
+// How fast the car goes, in kilometres an hour, and how far it came, in metres.
+type Motion = [u64; 2];
+
+type Board = PortFactory<u64, Shared>;
+
+type Car = EntryHandleMut<u64, Motion, Shared>;
+
+type Display = EntryHandle<u64, Motion, Shared>;
 
 // The key of the car.
 const CAR: u64 = 1;
@@ -27,43 +33,37 @@ const LAST: u64 = 200;
 // How many metres the car comes for each kilometre an hour that it gains.
 const METRES: u64 = 5;
 
-fn make_board<R: Wait>(rt: &R, alloc: Global) -> anyhow::Result<PortFactory<u64, Shared>> {
+fn make_board<R: Wait>(rt: &R, alloc: Global) -> anyhow::Result<Board> {
     let domain = Domain::new(alloc)?;
     let node = Node::new(rt, &domain, NodeName::new("car")?)?;
     let service = node.service_builder(&ServiceName::new("telemetry")?)?;
     let creator = service.blackboard_creator::<u64, Shared>(alloc);
-    Ok(creator.add(CAR, Motion::STILL)?.create(rt)?)
+    Ok(creator.add(CAR, [0u64, 0])?.create(rt)?)
 }
 
-// What the car writes by, and what each display reads by.
-#[derive(Drop)]
-struct Ends {
-    car: EntryHandleMut<u64, Motion, Shared>,
-    first: EntryHandle<u64, Motion, Shared>,
-    second: EntryHandle<u64, Motion, Shared>,
-}
-
-fn take_ends<R: Wait>(rt: &R, board: &PortFactory<u64, Shared>) -> anyhow::Result<Ends> {
+// What the car writes by, and what each display reads by. The ports aren't wanted any more.
+fn take_handles<R: Wait>(rt: &R, board: &Board) -> anyhow::Result<(Car, Display, Display)> {
     let writer = board.writer_builder()?.create(rt)?;
     let reader = board.reader_builder()?.create(rt)?;
-    Ok(Ends {
-        car: writer.entry::<Motion, R>(rt, &CAR)?,
-        first: reader.entry::<Motion, R>(rt, &CAR)?,
-        second: reader.entry::<Motion, R>(rt, &CAR)?,
-    })
+    let car = writer.entry::<Motion, R>(rt, &CAR)?;
+    let first = reader.entry::<Motion, R>(rt, &CAR)?;
+    let second = reader.entry::<Motion, R>(rt, &CAR)?;
+    writer.release(rt);
+    reader.release(rt);
+    Ok((car, first, second))
 }
 
 // The car goes faster and faster. It tells how many values were published in all.
-fn drive(car: EntryHandleMut<u64, Motion, Shared>) -> u64 {
-    let mut car = car;
+fn drive<R: Wait>(rt: &R, mut car: Car) -> u64 {
     for speed in 1..=LAST {
         // A publication asks for room for one more generation.
         if car.generation() < u64::MAX {
-            let distance = METRES * speed;
-            car.update_with_copy(Motion { speed, distance });
+            car.update_with_copy([speed, METRES * speed]);
         }
     }
-    car.generation()
+    let published = car.generation();
+    car.release(rt);
+    published
 }
 
 // What a display tells in the end.
@@ -76,21 +76,21 @@ struct Seen {
 }
 
 // A display reads until it shows the last speed.
-fn watch<R: Wait>(rt: &R, display: EntryHandle<u64, Motion, Shared>) -> Seen {
-    let mut display = display;
+fn watch<R: Wait>(rt: &R, mut display: Display) -> Seen {
     let (mut whole, mut rises) = (true, true);
     let mut shown = display.get(rt);
     for _ in rt.forever() {
-        if shown.get_ref().speed >= LAST {
+        if shown.get_ref()[0] >= LAST {
             break;
         }
         let next = display.get(rt);
-        whole = whole && next.get_ref().distance / METRES == next.get_ref().speed;
+        whole = whole && next.get_ref()[1] / METRES == next.get_ref()[0];
         rises = rises && shown.generation() <= next.generation();
         shown = next;
     }
-    let last = shown.get_ref().speed;
+    let last = shown.get_ref()[0];
     let is_up_to_date = display.is_up_to_date(&shown);
+    display.release(rt);
     Seen {
         whole,
         rises,
@@ -101,19 +101,17 @@ fn watch<R: Wait>(rt: &R, display: EntryHandle<u64, Motion, Shared>) -> Seen {
 
 fn main(rt: HostRuntime) -> anyhow::Result<()> {
     let board = make_board(&rt, rt.alloc())?;
-    let Ends { car, first, second } = take_ends(&rt, &board)?;
+    let (car, first, second) = take_handles(&rt, &board)?;
     let (published, (first, second)) = thread::join(
         &rt,
-        move || drive(car),
+        || drive(&rt, car),
         || thread::join(&rt, || watch(&rt, first), || watch(&rt, second)),
     );
+    board.release(&rt);
     println!(rt; "{published} values were published")?;
-    for seen in [first, second] {
-        println!(rt; "a display: whole {}, rising {}", seen.whole, seen.rises)?;
-        println!(rt;
-            "the last is {}, up to date {}",
-            seen.last, seen.is_up_to_date
-        )?;
+    for s in [first, second] {
+        println!(rt; "a display: whole {}, rising {}", s.whole, s.rises)?;
+        println!(rt; "the last is {}, up to date {}", s.last, s.is_up_to_date)?;
     }
     Ok(())
 }

@@ -53,14 +53,14 @@ pub mod port {
     /// Readers and read handles.
     pub mod reader {
         pub use board_cell::GetAgain;
-        pub use board_handles::{BlackboardValue, EntryHandle, Reader};
+        pub use board_handles::{BlackboardValue, EntryHandle, ReadEnd, Reader};
         pub use board_names::{EntryHandleError, ReaderCreateError};
     }
 
     /// Writers, write handles and loans.
     pub mod writer {
         pub use board_cell::Receipt;
-        pub use board_handles::{EntryHandleMut, EntryValueUninit, Writer};
+        pub use board_handles::{EntryHandleMut, EntryValueUninit, SentReceipt, Writer};
         pub use board_names::{EntryHandleMutError, WriterCreateError};
     }
 }
@@ -136,17 +136,29 @@ pub mod event {
         Event, Listener, ListenerBuilder, Local, Notifier, NotifierBuilder,
     };
     pub use board_event::{
-        BitEvent, BitRegistry, EventListener, EventListenerBuilder, EventNotifier,
-        EventNotifierBuilder, ListenerCreateError, ListenerWaitError, NotifierCreateError,
-        NotifierNotifyError, QueueEvent, QueueOfIds, QueueRegistry, SetOfIds, TriggerId,
+        BitEvent, BitRegistry, DEFAULT_TRIGGER_ID_MAX, EventListener, EventListenerBuilder,
+        EventNotifier, EventNotifierBuilder, EventRegistry, EventsOf, KindOfEvents,
+        ListenerCreateError, ListenerWaitError, LocalEvent, NotifierCreateError,
+        NotifierNotifyError, QUEUE_CAPACITY, QueueEvent, QueueOfIds, QueueRegistry, SetOfIds,
+        TriggerId,
     };
-    pub use board_names::{FileName, NamedConcept, NamedConceptBuilder, NamedConceptMgmt};
+    pub use board_names::{
+        Configuration, FileName, NamedConcept, NamedConceptBuilder, NamedConceptConfiguration,
+        NamedConceptDoesExistError, NamedConceptListError, NamedConceptMgmt,
+        NamedConceptRemoveError, Path, RegistryError, SemanticStringError,
+    };
 }
 
-// A value between threads without keys; policies, static storage, monitoring and channels; types as words and keys; the
-// tables of boards as plain data, and whole calls on their entries for a thread that has them alone.
+// A value between threads without keys; policies, static storage, monitoring and channels; types as words and keys;
+// names, and the errors of all calls; the tables of boards as plain data, the calls on their entries as step machines,
+// and whole calls for a thread that has them alone.
 pub use board_cell as cell;
 pub use board_concepts as concepts;
 pub use board_layout as layout;
+pub use board_names as names;
+pub use board_ports as ports;
 pub use board_seats as seats;
 pub use board_service as tables;
+
+#[cfg(test)]
+mod tests;

@@ -3,7 +3,7 @@ ghost use Rattle.std.specs.Prelude.{◌≡◌, ◌^◌, ◌<◌, [], ◌∷◌, 
 ghost use Rattle.std.proofs.Common.{rules};
 ghost use Rattle.gullinsu.specs.OwnTypes.{two_words};
 
-use gullinsu::prelude::ZeroCopySend;
+use crate::prelude::ZeroCopySend;
 
 /// How fast a car goes, and how far it came.
 #[derive(Clone, Copy)]
