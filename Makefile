@@ -23,7 +23,14 @@ bench: $(RUN) $(BENCH)
 	on $(RUN) gen 1000000; \
 	for width in 1 4 32; do \
 	    on $(BENCH) solo $$width get 10000000; \
+	    on $(BENCH) solo $$width try_get 10000000; \
 	    on $(BENCH) solo $$width update 10000000; \
+	    on $(BENCH) typed $$width get 10000000; \
+	    on $(BENCH) typed $$width try_get 10000000; \
+	    on $(BENCH) typed $$width update 10000000; \
+	done; \
+	for kind in bits queue; do \
+	    on $(BENCH) event $$kind 20000; \
 	done; \
 	for readers in 1 2 3; do \
 	    on $(BENCH) shared 4 $$readers 1000000; \

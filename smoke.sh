@@ -35,7 +35,7 @@ snapshot_script=crates/board_snapshot_run/stdin
 snapshot_told=$(sed 's/%/%%/g' crates/board_snapshot_run/stdout)
 usage='usage: board_run [gen N]\n'
 snapshot_usage='usage: board_snapshot_run\n'
-bench_usage='usage: board_bench solo 1|4|32 get|update COUNT, or board_bench shared 1|4|32 1|2|3 UPDATES\n'
+bench_usage='usage: board_bench solo|typed 1|4|32 get|try_get|update COUNT, board_bench event bits|queue COUNT, or board_bench shared 1|4|32 1|2|3 UPDATES\n'
 
 # the script of standard input
 gives 'the stored script' 0 "$answers\n" '' "$run" < "$script"
@@ -94,9 +94,10 @@ gives 'snapshots from a closed input' 3 '' 'read fault\n' "$snapshot" <&-
 gives 'snapshots on a full device' 4 '' 'write fault\n' bash -c '"$0" > /dev/full' "$snapshot" < "$snapshot_script"
 
 # the bench
-gives 'gets of one thread' 0 '' '' "$bench" solo 4 get 1000
-gives 'updates of one thread' 0 '' '' "$bench" solo 32 update 1000
-for words in '' 'solo' 'solo 4 get' 'solo 2 get 1' 'solo 4 put 1' 'solo 4 get 01' 'shared 1 4 1' 'shared 1 0 1'; do
+for words in 'solo 4 get' 'solo 1 try_get' 'solo 32 update' 'typed 1 get' 'typed 32 try_get' 'typed 4 update' 'event bits' 'event queue'; do
+    gives "calls: $words" 0 '' '' "$bench" $words 1000
+done
+for words in '' 'solo' 'solo 4 get' 'solo 2 get 1' 'solo 4 put 1' 'solo 4 get 01' 'typed 2 get 1' 'event set 1' 'shared 1 4 1' 'shared 1 0 1'; do
     gives "the bench's usage: $words" 2 '' "$bench_usage" "$bench" $words
 done
 gets=$("$bench" shared 1 2 1000) && [[ $gets =~ ^gets\ [1-9][0-9]*$ ]] && good=yes || good=no

@@ -1,14 +1,51 @@
 -- What a task leaves that was done.
-use Rattle.std.specs.Prelude.{◌≡◌, ℕ, ◌+◌, List, length, map, Option, Some, None}
+use Rattle.std.specs.Prelude.{◌≡◌, ℕ, ◌+◌, ◌*◌, ◌⊎◌, List, length, map, Option, Some, None}
 use Rattle.board_cell.specs.Passes.{notes_of}
 use Rattle.board_cell.specs.History.{IsLegal, history}
+use Rattle.board_event_model.specs.declared.kind.EventKind.{EventKind}
+use Rattle.board_event_model.specs.declared.kind.EventKind.TheVariants.{Bits, Queue}
+use Rattle.board_handles.specs.Handles.{ReadSeen, WriteSeen}
+use Rattle.board_bench.specs.declared.bench_error.BenchError.{BenchError}
+use Rattle.board_bench.specs.declared.bench_error.BenchError.TheVariants.{OutOfMemory, Again}
 use Rattle.board_bench.specs.declared.done.Done.{Done}
-use Rattle.board_bench.specs.declared.done.Done.TheVariants.{Got, Updated, Raced}
+use Rattle.board_bench.specs.declared.done.Done.TheVariants.{Got, Updated, GotTyped, UpdatedTyped, BitsReturned, QueueReturned, Raced}
 use Rattle.board_bench.specs.declared.shared.Outcome.{Outcome}
+use Rattle.board_bench.specs.declared.task.Call.{Call}
+use Rattle.board_bench.specs.declared.task.Call.TheVariants.{Get, TryGet, Update}
 use Rattle.board_bench.specs.declared.task.Task.{Task}
-use Rattle.board_bench.specs.declared.task.Task.TheVariants.{Get, Update, Shared}
+use Rattle.board_bench.specs.declared.task.Task.TheVariants.{Solo, Typed, Event, Shared}
+use Rattle.board_bench.specs.Handles.{read_seen, write_seen}
 use Rattle.board_bench.specs.Task.{IsTaskOf}
 use Rattle.board_bench.specs.Watchers.{AreCopiedWide, AreWide, gets_of}
+
+-- as many gets or updates of a cell, each of as many words; a get of one try loads the counter twice
+abbrev pub HasCalled : Call → ℕ → ℕ → Done → Type 0
+HasCalled Get width count (Got reader) = (length reader.notes ≡ count) × AreCopiedWide width reader.notes
+HasCalled TryGet width count (Got reader) = (length reader.notes ≡ count) × (length reader.loads ≡ 2 * count) × AreCopiedWide width reader.notes
+HasCalled Update width count (Updated writer) = (length writer.published ≡ count + 1) × AreWide width writer.published
+HasCalled call width count done = ⊥
+
+-- the same by a handle, of an entry of as many words
+abbrev pub HasGot : ℕ → ℕ → ReadSeen → Type 0
+HasGot width count h = (length h.pass.notes ≡ count) × (h.cell.width ≡ width)
+
+abbrev pub HasTried : ℕ → ℕ → ReadSeen → Type 0
+HasTried width count h = HasGot width count h × (length h.pass.loads ≡ 2 * count)
+
+abbrev pub HasPublished : ℕ → ℕ → WriteSeen → Type 0
+HasPublished width count h = (length h.held.published ≡ count + 1) × (h.held.cell.width ≡ width)
+
+abbrev pub HasCalledTyped : Call → ℕ → ℕ → Done → Type 0
+HasCalledTyped Get width count (GotTyped h) = HasGot width count (read_seen h)
+HasCalledTyped TryGet width count (GotTyped h) = HasTried width count (read_seen h)
+HasCalledTyped Update width count (UpdatedTyped h) = HasPublished width count (write_seen h)
+HasCalledTyped call width count done = ⊥
+
+-- as many ids came back over events of the kind
+abbrev pub HasReturned : EventKind → ℕ → Done → Type 0
+HasReturned Bits count (BitsReturned trips) = trips.made ≡ count
+HasReturned Queue count (QueueReturned trips) = trips.made ≡ count
+HasReturned kind count done = ⊥
 
 -- a race of so many readers with a writer that made so many updates of so many words; its history is legal
 pub record HasRaced (wide many last : ℕ) (outcome : Outcome) : Type 0 where
@@ -18,19 +55,33 @@ pub record HasRaced (wide many last : ℕ) (outcome : Outcome) : Type 0 where
   pub gets : outcome.gets ≡ gets_of outcome.readers.items
   pub legal : IsLegal (history outcome.writer.published (map notes_of outcome.readers.items))
 
--- as many gets or updates as the task says, each of as many words
+abbrev pub HasRun : ℕ → ℕ → ℕ → Done → Type 0
+HasRun width readers updates (Raced outcome) = HasRaced width readers updates outcome
+HasRun width readers updates done = ⊥
+
+-- what the task says was done, as often as it says, on as many words
 abbrev pub HasDone : Task → Done → Type 0
-HasDone (Get width count) (Got reader) = (length reader.notes ≡ count) × AreCopiedWide width reader.notes
-HasDone (Update width count) (Updated writer) = (length writer.published ≡ count + 1) × AreWide width writer.published
-HasDone (Shared width readers updates) (Raced outcome) = HasRaced width readers updates outcome
-HasDone task done = ⊥
+HasDone (Solo calls) done = HasCalled calls.call calls.width calls.count done
+HasDone (Typed calls) done = HasCalledTyped calls.call calls.width calls.count done
+HasDone (Event kind count) done = HasReturned kind count done
+HasDone (Shared width readers updates) done = HasRun width readers updates done
 
 -- the task that these words spell was done
 abbrev pub HasDoneOne : List (List ℕ) → Done → Type 0
 HasDoneOne words done = (task : Task) × IsTaskOf words task × HasDone task done
 
+-- calls on a cell end for want of memory, and gets of one try where one met an update
+abbrev pub MayEnd : Call → BenchError → Type 0
+MayEnd TryGet e = (e ≡ OutOfMemory) ⊎ (e ≡ Again)
+MayEnd call e = e ≡ OutOfMemory
+
+-- calls on typed ports and events may be refused besides
+abbrev pub EndsBy : Task → BenchError → Type 0
+EndsBy (Solo calls) e = MayEnd calls.call e
+EndsBy (Shared width readers updates) e = e ≡ OutOfMemory
+EndsBy task e = Unit {0}
+
 -- how many gets were made beside updates
 abbrev pub told_of : Done → Option ℕ
-told_of (Got reader) = None
-told_of (Updated writer) = None
 told_of (Raced outcome) = Some outcome.gets
+told_of done = None

@@ -1,3 +1,5 @@
 pub mod Task
 pub mod Watchers
+pub mod Blocks
+pub mod Handles
 pub mod Done

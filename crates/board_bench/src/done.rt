@@ -1,13 +1,18 @@
 //! What the words of the command line ask for is done.
-ghost use Rattle.std.specs.Prelude.{◌≡◌, map, IfOk, IfSome, IsSome, string_bytes};
-ghost use Rattle.board_bench.specs.Done.{HasDone, HasDoneOne, told_of};
-ghost use Rattle.board_bench.specs.Task.{IsBenchTask, spelling};
+ghost use Rattle.std.specs.Prelude.{◌≡◌, ◌<◌, ◌^◌, map, Ok, IfOk, IfErr, IfSome, IsSome, IsTrue, string_bytes};
+ghost use Rattle.board_bench.specs.Done.{EndsBy, HasCalled, HasCalledTyped, HasDone, HasDoneOne, HasReturned, MayEnd, told_of};
+ghost use Rattle.board_bench.specs.Task.{IsBenchTask, IsCount, is_width, spelling};
+ghost use Rattle.board_bench.specs.declared.bench_error.BenchError.TheVariants as bench_error;
 ghost use Rattle.board_bench.specs.declared.task.Task.{Task};
 
+use crate::bench_error::BenchError;
 use crate::shared::{Outcome, run_shared};
-use crate::solo::{run_gets, run_updates};
-use crate::task::{Task, task_of};
-use board_cell::{CellError, ReaderPass, WriterPass};
+use crate::solo::{run_gets, run_tries, run_updates};
+use crate::task::{Call, Task, task_of};
+use crate::trips::{Trips, run_trips};
+use crate::widths::{ReadHandle, WriteHandle, typed_gets, typed_tries, typed_updates};
+use board_cell::{ReaderPass, WriterPass};
+use board_event::{EventKind, QueueOfIds, SetOfIds};
 use std::alloc::Global;
 use std::sync::Wait;
 use std::thread::Threads;
@@ -19,6 +24,14 @@ pub enum Done {
     Got(ReaderPass),
     /// The writer that made the updates.
     Updated(WriterPass),
+    /// The read handle that made the gets.
+    GotTyped(ReadHandle),
+    /// The write handle that made the updates.
+    UpdatedTyped(WriteHandle),
+    /// Ids that went over sets and came back.
+    BitsReturned(Trips<SetOfIds>),
+    /// Ids that went over queues and came back.
+    QueueReturned(Trips<QueueOfIds>),
     /// A writer beside readers.
     Raced(Outcome),
 }
@@ -35,17 +48,87 @@ impl Done {
     }
 }
 
+// Calls on a cell.
+fn run_solo<R: Wait>(
+    rt: &R,
+    alloc: Global,
+    width: u64,
+    call: Call,
+    count: u64,
+) -> Result<Done, BenchError>
+    requires { IsCount count }
+    ensures done { IfOk result (HasCalled call width count) }
+    ensures err { IfErr result (MayEnd call) }
+{
+    Ok(match call {
+        Call::Get => Done::Got(run_gets(rt, alloc, width, count)?),
+        Call::TryGet => Done::Got(run_tries(alloc, width, count)?),
+        Call::Update => Done::Updated(run_updates(alloc, width, count)?),
+    })
+}
+
+// Calls by a typed handle.
+fn run_typed<R: Wait>(
+    rt: &R,
+    alloc: Global,
+    width: u64,
+    call: Call,
+    count: u64,
+) -> anyhow::Result<Done>
+    requires { IsTrue (is_width width) × IsCount count }
+    ensures { IfOk result (HasCalledTyped call width count) }
+{
+    Ok(match call {
+        Call::Get => Done::GotTyped(typed_gets(rt, alloc, width, count)?),
+        Call::TryGet => Done::GotTyped(typed_tries(rt, alloc, width, count)?),
+        Call::Update => Done::UpdatedTyped(typed_updates(rt, alloc, width, count)?),
+    })
+}
+
+// Round trips of ids.
+fn run_event<R: Threads + Wait + Sync>(
+    rt: &R,
+    alloc: Global,
+    kind: EventKind,
+    count: u64,
+) -> anyhow::Result<Done>
+    ensures { IfOk result (HasReturned kind count) }
+{
+    Ok(match kind {
+        EventKind::Bits => Done::BitsReturned(run_trips(rt, alloc, count)?),
+        EventKind::Queue => Done::QueueReturned(run_trips(rt, alloc, count)?),
+    })
+}
+
+// What was done, or that it was refused.
+fn or_refused(tried: anyhow::Result<Done>) -> Result<Done, BenchError>
+    ensures { IfOk result (λ done. tried ≡ Ok done) }
+{
+    match tried {
+        Ok(done) => Ok(done),
+        Err(error) => Err(BenchError::Refused(error)),
+    }
+}
+
 /// Does the task.
 ///
 /// # Errors
-/// `OutOfMemory` where memory is refused.
-pub fn run<R: Threads + Wait + Sync>(rt: &R, alloc: Global, task: Task) -> Result<Done, CellError>
+/// `OutOfMemory` where memory is refused; of gets of one try `Again` where one met an update; of typed ports and events `Refused` where one of their calls is.
+pub fn run<R: Threads + Wait + Sync>(rt: &R, alloc: Global, task: Task) -> Result<Done, BenchError>
     requires { IsBenchTask task }
-    ensures { IfOk result (HasDone task) }
+    ensures done { IfOk result (HasDone task) }
+    ensures err { IfErr result (EndsBy task) }
 {
     match task {
-        Task::Get { width, count } => Ok(Done::Got(run_gets(rt, alloc, width, count)?)),
-        Task::Update { width, count } => Ok(Done::Updated(run_updates(alloc, width, count)?)),
+        Task::Solo(calls) => run_solo(rt, alloc, calls.width, calls.call, calls.count),
+        Task::Typed(calls) => or_refused(run_typed(
+            rt,
+            alloc,
+            calls.width,
+            calls.call,
+            calls.count,
+        )),
+        Task::Event { kind, count } => or_refused(run_event(rt, alloc, kind, count)),
         Task::Shared {
             width,
             readers,
@@ -57,12 +140,12 @@ pub fn run<R: Threads + Wait + Sync>(rt: &R, alloc: Global, task: Task) -> Resul
 /// Does the task that the words spell, if they spell one.
 ///
 /// # Errors
-/// `OutOfMemory` where memory is refused.
+/// `OutOfMemory` where memory is refused; of gets of one try `Again` where one met an update; of typed ports and events `Refused` where one of their calls is.
 pub fn measure<R: Threads + Wait + Sync>(
     rt: &R,
     alloc: Global,
     words: &[String],
-) -> Result<Option<Done>, CellError>
+) -> Result<Option<Done>, BenchError>
     // What was done is the task of these words: its count, its width, its readers.
     ensures done { IfOk result (λ o. IfSome o (HasDoneOne (map string_bytes words.now))) }
 

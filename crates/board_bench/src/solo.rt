@@ -1,7 +1,10 @@
-ghost use Rattle.std.specs.Prelude.{◌≡◌, ◌+◌, ◌^◌, ◌<◌, length, IfOk};
+ghost use Rattle.std.specs.Prelude.{◌≡◌, ◌+◌, ◌*◌, ◌^◌, ◌<◌, length, IfOk, IfErr, OnOk};
+ghost use Rattle.board_bench.specs.Done.{MayEnd};
+ghost use Rattle.board_bench.specs.declared.task.Call.TheVariants as call;
 ghost use Rattle.board_bench.specs.Watchers.{AreCopiedWide, AreWide, StayCopiedWide, StayWide};
 
-use board_cell::{CellError, ReaderPass, ThreadedCell, WriterPass};
+use crate::bench_error::BenchError;
+use board_cell::{CellError, GetAgain, ReaderPass, ThreadedCell, WriterPass};
 use std::alloc::Global;
 use std::sync::Wait;
 
@@ -21,6 +24,28 @@ pub fn gets<R: Wait>(
     for _ in 0..count {
         cell.get(rt, reader, out);
     }
+}
+
+/// This many gets of one try each, which loads the counter twice.
+///
+/// # Errors
+/// `GetAgain` where a try met an update.
+pub fn tries(
+    cell: &ThreadedCell,
+    reader: &mut ReaderPass,
+    out: &mut Vec<u64>,
+    count: u64,
+) -> Result<(), GetAgain>
+    requires cell { reader.old.cell ≡ cell.now.cell }
+    requires width { length out.old.items ≡ cell.now.width }
+    ensures count { OnOk result (length reader.new.notes ≡ length reader.old.notes + count) }
+    ensures loads { OnOk result (length reader.new.loads ≡ length reader.old.loads + 2 * count) }
+    ensures wide { OnOk result (StayCopiedWide cell.now.width reader.old.notes reader.new.notes) }
+{
+    for _ in 0..count {
+        cell.try_get(reader, 1, out)?;
+    }
+    Ok(())
 }
 
 /// This many updates, by two values in turn.
@@ -60,6 +85,23 @@ pub fn run_gets<R: Wait>(
     let mut out = vec![in alloc; 0; width as usize]?;
     let (cell, _writer, mut reader) = ThreadedCell::new(alloc, &words)?;
     gets(rt, &cell, &mut reader, &mut out, count);
+    Ok(reader)
+}
+
+/// A cell of this many words, and this many gets of one try each by the reader that is given back.
+///
+/// # Errors
+/// `OutOfMemory` where memory is refused; `Again` where a try met an update, though none is made.
+pub fn run_tries(alloc: Global, width: u64, count: u64) -> Result<ReaderPass, BenchError>
+    ensures count { IfOk result (λ reader. length reader.notes ≡ count) }
+    ensures loads { IfOk result (λ reader. length reader.loads ≡ 2 * count) }
+    ensures err { IfErr result (MayEnd call.TryGet) }
+    ensures wide { IfOk result (λ reader. AreCopiedWide width reader.notes) }
+{
+    let words = vec![in alloc; 7; width as usize]?;
+    let mut out = vec![in alloc; 0; width as usize]?;
+    let (cell, _writer, mut reader) = ThreadedCell::new(alloc, &words)?;
+    tries(&cell, &mut reader, &mut out, count)?;
     Ok(reader)
 }
 

@@ -1,6 +1,7 @@
 use crate::done::measure;
 use crate::shared::run_shared;
-use crate::task::{Task, task_of};
+use crate::task::{Call, Calls, Task, task_of};
+use board_event::EventKind;
 use std::alloc::{AllocError, Global};
 use std::test::*;
 
@@ -14,59 +15,93 @@ fn words_of(alloc: Global, text: &str) -> Result<Vec<String>, AllocError> {
 
 #[test]
 fn a_task_is_read_from_its_words(rt: HostRuntime) -> Result<(), Fail> {
+    let (width, count) = (4, 1000);
     let cases = [
         (
             "solo 4 get 1000",
-            Some(Task::Get {
-                width: 4,
-                count: 1000,
+            Task::Solo(Calls {
+                width,
+                call: Call::Get,
+                count,
             }),
         ),
         (
-            "solo 32 update 0",
-            Some(Task::Update {
-                width: 32,
-                count: 0,
+            "typed 4 try_get 1000",
+            Task::Typed(Calls {
+                width,
+                call: Call::TryGet,
+                count,
             }),
+        ),
+        (
+            "event queue 1000",
+            Task::Event {
+                kind: EventKind::Queue,
+                count,
+            },
         ),
         (
             "shared 1 3 7",
-            Some(Task::Shared {
+            Task::Shared {
                 width: 1,
                 readers: 3,
                 updates: 7,
-            }),
+            },
         ),
-        ("solo 2 get 1000", None),
-        ("solo 4 put 1000", None),
-        ("shared 1 4 7", None),
-        ("shared 1 0 7", None),
-        ("solo 4 get 01", None),
-        ("solo 4 get +1", None),
-        ("solo 4 get", None),
-        ("solo 4 get 1 2", None),
     ];
     for (text, task) in cases {
         let words = words_of(rt.alloc(), text)?;
-        assert_eq!(rt; task_of(rt.alloc(), words.as_slice())?, task, "{text}");
+        assert_eq!(rt;
+            task_of(rt.alloc(), words.as_slice())?,
+            Some(task),
+            "{text}"
+        );
+    }
+    Ok(())
+}
+
+#[test]
+fn other_words_are_no_task(rt: HostRuntime) -> Result<(), Fail> {
+    let cases = [
+        "solo 2 get 1000",
+        "solo 4 put 1000",
+        "typed 33 get 1",
+        "shared 1 4 7",
+        "shared 1 0 7",
+        "solo 4 get 01",
+        "solo 4 get +1",
+        "solo 4 get",
+        "solo 4 get 1 2",
+        "event set 7",
+        "event bits 1 2",
+        "event bits 1099511627776",
+    ];
+    for text in cases {
+        let words = words_of(rt.alloc(), text)?;
+        assert_eq!(rt; task_of(rt.alloc(), words.as_slice())?, None, "{text}");
     }
     Ok(())
 }
 
 #[test]
 fn each_task_is_done(rt: HostRuntime) -> Result<(), Fail> {
-    for (text, is_done) in [
-        ("solo 1 get 10", true),
-        ("solo 4 update 10", true),
-        ("shared 4 1 10", true),
-        ("solo 4 put 10", false),
-    ] {
+    let cases = [
+        "solo 1 get 10",
+        "solo 32 try_get 10",
+        "solo 4 update 10",
+        "typed 1 get 10",
+        "typed 32 get 10",
+        "typed 4 try_get 10",
+        "typed 32 try_get 10",
+        "typed 1 update 10",
+        "typed 32 update 10",
+        "event bits 10",
+        "event queue 1000",
+        "shared 4 1 10",
+    ];
+    for text in cases {
         let words = words_of(rt.alloc(), text)?;
-        assert_eq!(rt;
-            measure(&rt, rt.alloc(), &words)?.is_some(),
-            is_done,
-            "{text}"
-        );
+        assert!(rt; measure(&rt, rt.alloc(), &words)?.is_some(), "{text}");
     }
     Ok(())
 }

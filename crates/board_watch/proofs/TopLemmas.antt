@@ -4,10 +4,9 @@ use Rattle.std.specs.Prelude.{◌⊎◌, Result, Ok, Err}
 use Rattle.std.specs.Io.KnownBytes.{IsAtEnd}
 use Rattle.script_model.specs.ScriptSession as script
 use Rattle.script_loop.specs.declared.error.ScriptError.{ScriptError}
-use Rattle.script_loop.specs.declared.error.ScriptError.TheVariants.{BadLine, OutOfMemory, ReadFault, TooLong, WriteFault}
 use Rattle.script_loop.specs.Runs.{Stream}
-use Rattle.board_script.specs.Top.{status_of}
-use Rattle.board_script.proofs.Words.{run_through}
+use Rattle.script_endings.specs.Endings.{status_of}
+use Rattle.script_endings.proofs.StatusLemmas.{bad_status, run_through}
 use Rattle.script_exchanges.specs.declared.line.Drive.TheVariants.{Watchers}
 use Rattle.script_exchanges.specs.Exchanges.{Exchanges, fed_session}
 use Rattle.script_drive.specs.DriveRuns.{DriveRuns, IsUndisturbed}
@@ -29,14 +28,6 @@ all_rightly xs s party x met = record {
   items = items_law met.earlier s met.leads party x met.watches;
   fresh = λ handle c b i n id g words q. fresh_law met.earlier s met.leads party x met.watches handle c b i n id g words q;
 }
-
--- each error has a status above 2
-bad_status : (e : ScriptError) (n : ℕ) → n ≤ 2 → status_of (Err e) ≡ n → ⊥
-bad_status ReadFault n few e = omega (arith, few, e)
-bad_status WriteFault n few e = omega (arith, few, e)
-bad_status (BadLine line) n few e = omega (arith, few, e)
-bad_status TooLong n few e = omega (arith, few, e)
-bad_status OutOfMemory n few e = omega (arith, few, e)
 
 module _ (answer : Result (Unit {0}) ScriptError) (status : ℕ) (source sink : Stream) (r : DriveRuns Watchers IsLawful 4294967295 source sink answer) (is : status ≡ status_of answer) where
   -- with status 0 the script was run to its end

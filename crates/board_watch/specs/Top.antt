@@ -5,7 +5,7 @@ use Rattle.script_model.specs.LawsOfComposition.{state_met}
 use Rattle.script_moments.specs.Reports.{Take}
 use Rattle.script_loop.specs.declared.error.ScriptError.{ScriptError}
 use Rattle.script_loop.specs.Runs.{Gains, Stream}
-use Rattle.board_script.specs.Top.{IsNoted, note_of, status_of}
+use Rattle.script_endings.specs.Endings.{IsNoted, note_of, status_of}
 use Rattle.script_exchanges.specs.declared.line.Drive.TheVariants.{Watchers}
 use Rattle.script_exchanges.specs.Exchanges.{AreLinesOf, Exchanges, fed_session, output_of}
 use Rattle.script_drive.specs.DriveRuns.{DriveRuns}

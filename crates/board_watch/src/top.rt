@@ -3,7 +3,7 @@ ghost use Rattle.std.specs.Prelude.{◌≡◌, ◌⊎◌, ◌<◌, length, map};
 ghost use Rattle.std.specs.Process.{exit_status};
 ghost use Rattle.std.specs.String.{string_bytes};
 ghost use Rattle.std.specs.Io.KnownBytes.{IsAtEnd};
-ghost use Rattle.board_script.specs.Top.{IsNoted};
+ghost use Rattle.script_endings.specs.Endings.{IsNoted};
 ghost use Rattle.script_loop.specs.Runs.{stream_of};
 ghost use Rattle.script_exchanges.specs.declared.line.Drive.TheVariants.{Watchers};
 ghost use Rattle.script_drive.specs.DriveRuns.{IsUndisturbed};

@@ -7,7 +7,7 @@ ghost use Rattle.std.specs.Io.KnownBytes.{WriteAppends};
 ghost use Rattle.board_model.specs.Lines.{HasCause};
 ghost use Rattle.script_loop.specs.Streams.{Writes};
 
-use board_script::{Failed, Sink, Source};
+use script_loop::{Failed, Sink, Source};
 use std::io::{Read, Stderr, Stdin, Stdout, Write};
 
 /// A reader as a source. Each of its errors is a fault.

@@ -4,8 +4,8 @@
 mod adapters;
 
 use crate::adapters::{StderrSink, StdinSource, StdoutSink};
-use board_script::end_without_words;
 use board_watch::run_program;
+use script_endings::end_without_words;
 use std::alloc::AllocError;
 use std::process::ExitCode;
 use std::{env, io};

@@ -1,5 +1,5 @@
 use Rattle.std.specs.String.{string_bytes}
-use Rattle.board_script.proofs.Words.{no_words}
+use Rattle.script_endings.proofs.StatusLemmas.{no_words}
 use Rattle.board_watch.proofs.TopLemmas.{some_words}
 use Rattle.board_watch.proofs.top.run_program.Goals as goal
 

@@ -1,0 +1,5 @@
+use Rattle.std.proofs.Common.{◌≡◌, ◌+◌, length}
+use Rattle.board_bench.proofs.typed.gets.Given as goal
+
+abbrev pub invariant-loop : goal.invariant-loop
+invariant-loop g l = (l.handle.cell ≡ l.initial.handle.cell) × (length l.handle.pass.notes ≡ length l.initial.handle.pass.notes + l.counter)

@@ -1,0 +1,45 @@
+//! Why a task wasn't done.
+ghost use Rattle.std.specs.Prelude.{◌≡◌};
+ghost use Rattle.board_bench.specs.declared.bench_error.BenchError.TheVariants as bench_error;
+
+use board_cell::{CellError, GetAgain};
+use std::alloc::AllocError;
+use thiserror::Error;
+
+/// Why a task wasn't done.
+#[derive(Debug, Drop, Error)]
+pub enum BenchError {
+    /// Memory was refused.
+    #[error("out of memory")]
+    OutOfMemory,
+    /// A get of one try met an update, though none was made.
+    #[error("a try met an update")]
+    Again,
+    /// A call on typed ports or events was refused, for want of memory too.
+    #[error("{0}")]
+    Refused(anyhow::Error),
+}
+
+impl From<CellError> for BenchError {
+    ghost from_gives = { λ _ e. e ≡ bench_error.OutOfMemory };
+
+    fn from(_: CellError) -> BenchError {
+        BenchError::OutOfMemory
+    }
+}
+
+impl From<GetAgain> for BenchError {
+    ghost from_gives = { λ _ e. e ≡ bench_error.Again };
+
+    fn from(_: GetAgain) -> BenchError {
+        BenchError::Again
+    }
+}
+
+impl From<AllocError> for BenchError {
+    ghost from_gives = { λ _ e. e ≡ bench_error.OutOfMemory };
+
+    fn from(_: AllocError) -> BenchError {
+        BenchError::OutOfMemory
+    }
+}

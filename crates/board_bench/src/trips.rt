@@ -1,0 +1,114 @@
+//! Round trips of an id between two threads, over two typed events.
+ghost use Rattle.std.specs.Prelude.{◌≡◌, IfOk};
+ghost use denote.Param.Send.{IsSync};
+
+use anyhow::{Result, bail};
+use board_event::{
+    EventListener, EventListenerBuilder, EventNotifier, EventNotifierBuilder, EventRegistry,
+    KindOfEvents, Listener, ListenerBuilder, Notifier, NotifierBuilder, TriggerId,
+};
+use board_names::{FileName, NamedConceptBuilder};
+use std::alloc::Global;
+use std::sync::Wait;
+use std::thread;
+use std::thread::Threads;
+
+// So many ids are sent in turn.
+const IDS: u64 = 64;
+
+/// The listener through which ids came back, and how many round trips were made.
+#[derive(Drop)]
+pub struct Trips<K> {
+    pub back: EventListener<K>,
+    pub made: u64,
+}
+
+// A new event of its own registry: its listener, and a notifier.
+fn ends_of<K: KindOfEvents + Drop, R: Wait>(
+    rt: &R,
+    alloc: Global,
+) -> Result<(EventListener<K>, EventNotifier<K>)> {
+    let name = FileName::new(b"bench")?;
+    let registry = EventRegistry::<K>::new(alloc)?;
+    let listener = EventListenerBuilder::<K>::new(&name, &registry)?.create(rt, alloc)?;
+    let notifier = EventNotifierBuilder::<K>::new(&name, &registry)?.open(rt)?;
+    Ok((listener, notifier))
+}
+
+/// Sends so many ids there, each once the one before came back, and tells how many came back as they were sent.
+///
+/// # Errors
+/// Where a notify is refused, or what comes back is no id, or another.
+pub fn send<K: KindOfEvents + Drop, R: Wait>(
+    rt: &R,
+    there: &EventNotifier<K>,
+    back: &EventListener<K>,
+    count: u64,
+) -> Result<u64>
+    ensures { IfOk result (λ made. made ≡ count) }
+{
+    let mut made = 0;
+    for i in 0..count {
+        let id = TriggerId::new((i % IDS) as usize);
+        there.notify(rt, id)?;
+        match back.blocking_wait_one(rt)? {
+            Some(came) => {
+                if came != id {
+                    bail!("another id came back");
+                }
+            }
+            None => bail!("no id came back"),
+        }
+        made += 1;
+    }
+    Ok(made)
+}
+
+/// Sends back each of so many ids that come.
+///
+/// # Errors
+/// Where a notify is refused, or what comes is no id.
+pub fn echo<K: KindOfEvents + Drop, R: Wait>(
+    rt: &R,
+    there: &EventListener<K>,
+    back: &EventNotifier<K>,
+    count: u64,
+) -> Result<()> {
+    for _ in 0..count {
+        match there.blocking_wait_one(rt)? {
+            Some(id) => back.notify(rt, id)?,
+            None => bail!("no id came"),
+        }
+    }
+    Ok(())
+}
+
+/// This many round trips of an id between two threads, over two events.
+///
+/// # Errors
+/// Where a call that makes an event or opens it is refused, or one of the threads is.
+pub fn run_trips<K: KindOfEvents + Drop + Send + Sync + 'static, R: Threads + Wait + Sync>(
+    rt: &R,
+    alloc: Global,
+    count: u64,
+) -> Result<Trips<K>>
+    ensures made { IfOk result (λ trips. trips.made ≡ count) }
+{
+    let (there, to_there) = ends_of::<K, R>(rt, alloc)?;
+    let (back, to_back) = ends_of::<K, R>(rt, alloc)?;
+    let (sent, echoed) = thread::join(
+        rt,
+        move || -> Result<Trips<K>>
+            requires { IsSync R.row }
+            ensures { IfOk result (λ trips. trips.made ≡ count) }
+        {
+            let made = send(rt, &to_there, &back, count)?;
+            Ok(Trips { back, made })
+        },
+        move || -> Result<()>
+            requires { IsSync R.row }
+        { echo(rt, &there, &to_back, count) },
+    );
+    echoed?;
+    sent
+}
