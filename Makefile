@@ -3,6 +3,7 @@ SHELL = /bin/bash
 # The programs that `make test` proves and leaves behind.
 RUN = crates/board_run/out/board_run
 SNAPSHOT = crates/board_snapshot_run/out/board_snapshot_run
+WATCH = crates/board_watch_run/out/board_watch_run
 BENCH = crates/board_bench/out/board_bench
 
 .PHONY: test run bench smoke
@@ -37,8 +38,8 @@ bench: $(RUN) $(BENCH)
 	done
 
 # The proved programs from outside: what they write, what they note, and their status.
-smoke: $(RUN) $(SNAPSHOT) $(BENCH)
+smoke: $(RUN) $(SNAPSHOT) $(WATCH) $(BENCH)
 	./smoke.sh
 
-$(RUN) $(SNAPSHOT) $(BENCH):
+$(RUN) $(SNAPSHOT) $(WATCH) $(BENCH):
 	@echo '$@ is not there: make test leaves it' >&2; exit 1

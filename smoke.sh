@@ -1,12 +1,13 @@
 #!/bin/bash
 # Runs the built programs from outside, on real files and pipes, and compares what they write, what they note and their
 # status. It ends with status 1 where one of them does otherwise. `make test` leaves the programs where this looks; RUN,
-# SNAPSHOT and BENCH name others.
+# SNAPSHOT, WATCH and BENCH name others.
 cd "$(dirname "${BASH_SOURCE[0]}")" || exit 1
 run=${RUN:-$PWD/crates/board_run/out/board_run}
 snapshot=${SNAPSHOT:-$PWD/crates/board_snapshot_run/out/board_snapshot_run}
+watch=${WATCH:-$PWD/crates/board_watch_run/out/board_watch_run}
 bench=${BENCH:-$PWD/crates/board_bench/out/board_bench}
-for program in "$run" "$snapshot" "$bench"; do
+for program in "$run" "$snapshot" "$watch" "$bench"; do
     [ -x "$program" ] || { echo "$program is not there: make test leaves it" >&2; exit 1; }
 done
 folder=$(mktemp -d) && trap 'rm -r "$folder"' EXIT
@@ -34,6 +35,9 @@ answers=$(sed 's/%/%%/g' crates/board_run/stdout)
 snapshot_script=crates/board_snapshot_run/stdin
 snapshot_told=$(sed 's/%/%%/g' crates/board_snapshot_run/stdout)
 usage='usage: board_run [gen N]\n'
+watch_script=crates/board_watch_run/stdin
+watch_told=$(sed 's/%/%%/g' crates/board_watch_run/stdout)
+watch_usage='usage: board_watch_run\n'
 snapshot_usage='usage: board_snapshot_run\n'
 bench_usage='usage: board_bench solo|typed 1|4|32 get|try_get|update COUNT, board_bench event bits|queue COUNT, or board_bench shared 1|4|32 1|2|3 UPDATES\n'
 
@@ -92,6 +96,15 @@ for words in 'x' 'gen 1' '1' $'\xff'; do
 done
 gives 'snapshots from a closed input' 3 '' 'read fault\n' "$snapshot" <&-
 gives 'snapshots on a full device' 4 '' 'write fault\n' bash -c '"$0" > /dev/full' "$snapshot" < "$snapshot_script"
+
+# watchers
+gives 'the stored watcher' 0 "$watch_told\n" '' "$watch" < "$watch_script"
+gives 'a watcher, a byte at a time' 0 "$watch_told\n" '' "$watch" < <(by_bytes "$watch_script")
+gives 'a watcher of nothing' 0 '> begin b id h\nrefused unknown\nunwatched b\nunwatched b\n' '' "$watch" < <(printf 'watch b e h\nturn b')
+gives 'a watcher without handles' 5 'unwatched b\n' 'line 2: not in the grammar\n' "$watch" < <(printf 'turn b\nwatch b e\nturn b\n')
+gives "watchers' usage" 2 '' "$watch_usage" "$watch" x < "$watch_script"
+gives 'watchers from a closed input' 3 '' 'read fault\n' "$watch" <&-
+gives 'watchers on a full device' 4 '' 'write fault\n' bash -c '"$0" > /dev/full' "$watch" < "$watch_script"
 
 # the bench
 for words in 'solo 4 get' 'solo 1 try_get' 'solo 32 update' 'typed 1 get' 'typed 32 try_get' 'typed 4 update' 'event bits' 'event queue'; do

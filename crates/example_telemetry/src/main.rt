@@ -1,8 +1,8 @@
-//! A telemetry board: a car publishes how fast it goes and how far it came, and two displays read it, each in a thread
-//! of its own.
+//! A telemetry board: a car publishes how fast each of its wheels turns, and two displays read it, each in a thread of
+//! its own.
 //!
-//! A display never sees the speed of one value with the distance of another; the generations rise, and in the end it
-//! shows the last value. `is_up_to_date` tells whether a value that was read is still the newest. In iceoryx2 the car
+//! A display never sees a wheel of one value beside a wheel of another; the generations rise, and in the end it shows
+//! the last value. `is_up_to_date` tells whether a value that was read is still the newest. In iceoryx2 the car
 //! and the displays would be processes that open one service by its name, and a display would see the same, but for the
 //! generations, which iceoryx2 keeps to itself.
 #![tactic(auto)]
@@ -15,14 +15,14 @@ use std::alloc::Global;
 use std::sync::Wait;
 use std::thread;
 
-// How fast the car goes, in kilometres an hour, and how far it came, in metres.
-type Motion = [u64; 2];
+// How fast each of the four wheels turns, in kilometres an hour. They all turn alike.
+type Wheels = [u64; 4];
 
 type Board = PortFactory<u64, Shared>;
 
-type Car = EntryHandleMut<u64, Motion, Shared>;
+type Car = EntryHandleMut<u64, Wheels, Shared>;
 
-type Display = EntryHandle<u64, Motion, Shared>;
+type Display = EntryHandle<u64, Wheels, Shared>;
 
 // The key of the car.
 const CAR: u64 = 1;
@@ -30,24 +30,21 @@ const CAR: u64 = 1;
 // The last speed that the car publishes.
 const LAST: u64 = 200;
 
-// How many metres the car comes for each kilometre an hour that it gains.
-const METRES: u64 = 5;
-
 fn make_board<R: Wait>(rt: &R, alloc: Global) -> anyhow::Result<Board> {
     let domain = Domain::new(alloc)?;
     let node = Node::new(rt, &domain, NodeName::new("car")?)?;
     let service = node.service_builder(&ServiceName::new("telemetry")?)?;
     let creator = service.blackboard_creator::<u64, Shared>(alloc);
-    Ok(creator.add(CAR, [0u64, 0])?.create(rt)?)
+    Ok(creator.add(CAR, [0u64; 4])?.create(rt)?)
 }
 
 // What the car writes by, and what each display reads by. The ports aren't wanted any more.
 fn take_handles<R: Wait>(rt: &R, board: &Board) -> anyhow::Result<(Car, Display, Display)> {
     let writer = board.writer_builder()?.create(rt)?;
     let reader = board.reader_builder()?.create(rt)?;
-    let car = writer.entry::<Motion, R>(rt, &CAR)?;
-    let first = reader.entry::<Motion, R>(rt, &CAR)?;
-    let second = reader.entry::<Motion, R>(rt, &CAR)?;
+    let car = writer.entry::<Wheels, R>(rt, &CAR)?;
+    let first = reader.entry::<Wheels, R>(rt, &CAR)?;
+    let second = reader.entry::<Wheels, R>(rt, &CAR)?;
     writer.release(rt);
     reader.release(rt);
     Ok((car, first, second))
@@ -58,7 +55,7 @@ fn drive<R: Wait>(rt: &R, mut car: Car) -> u64 {
     for speed in 1..=LAST {
         // A publication asks for room for one more generation.
         if car.generation() < u64::MAX {
-            car.update_with_copy([speed, METRES * speed]);
+            car.update_with_copy([speed; 4]);
         }
     }
     let published = car.generation();
@@ -84,7 +81,8 @@ fn watch<R: Wait>(rt: &R, mut display: Display) -> Seen {
             break;
         }
         let next = display.get(rt);
-        whole = whole && next.get_ref()[1] / METRES == next.get_ref()[0];
+        let [a, b, c, d] = *next.get_ref();
+        whole = whole && a == b && b == c && c == d;
         rises = rises && shown.generation() <= next.generation();
         shown = next;
     }

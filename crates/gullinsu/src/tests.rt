@@ -5,6 +5,7 @@ use crate::port::reader::EntryHandle;
 use crate::port::writer::EntryHandleMut;
 use crate::prelude::{Domain, Node, NodeName, ServiceName, Single};
 use motion::Motion;
+use std::alloc::Global;
 use std::sync::Wait;
 use std::test::*;
 
@@ -14,11 +15,11 @@ type Ends = (
 );
 
 // The handles of a board of one car that stands still.
-fn new_ends(rt: &HostRuntime) -> Result<Ends, Fail> {
-    let domain = Domain::new(rt.alloc())?;
+fn new_ends<R: Wait>(rt: &R, alloc: Global) -> Result<Ends, Fail> {
+    let domain = Domain::new(alloc)?;
     let node = Node::new(rt, &domain, NodeName::new("car")?)?;
     let service = node.service_builder(&ServiceName::new("telemetry")?)?;
-    let creator = service.blackboard_creator::<u64, Single>(rt.alloc());
+    let creator = service.blackboard_creator::<u64, Single>(alloc);
     let board = creator.add(1, Motion::STILL)?.create(rt)?;
     let writer = board.writer_builder()?.create(rt)?;
     let reader = board.reader_builder()?.create(rt)?;
@@ -32,7 +33,7 @@ fn shown<R: Wait>(rt: &R, display: &mut EntryHandle<u64, Motion, Single>) -> (u6
 
 #[test]
 fn a_value_of_two_fields_is_read_whole(rt: HostRuntime) -> Result<(), Fail> {
-    let (mut car, mut display) = new_ends(&rt)?;
+    let (mut car, mut display) = new_ends(&rt, rt.alloc())?;
     assert_eq!(rt; shown(&rt, &mut display), (0, 0));
     if car.generation() < u64::MAX {
         car.update_with_copy(Motion {

@@ -44,4 +44,4 @@ returns g c = on_so c.say-2.result _ _ (λ e xs s h.
     (none_of (map.kept_of c.args.self.now.watches c.args.party) none)
     (subst (λ r. AreAsked g.M.RunsLines.stands c.ask_ids.new.machine s.fed c.args.party (drop 1 c.args.things) r c.ask_ids.new.told.items) (sym rows) k)
     (λ asked r. new_keeps c.new-watch.result (get_or c.args.things 0 first) (drop 1 c.args.things) s.fed asked (first_named c.args.things first c.requires.line.1.least c.requires.line.1.named) (things_named c.args.things c.requires.line.1.named) listener r c.new-watch.ensures.phase c.new-watch.ensures.reported)
-    refl c.in_ok-keep.ensures e) c.say-2.ensures
+    refl c.in_ok-keep.ensures.ok e) c.say-2.ensures

@@ -24,7 +24,7 @@ pub returns-in-GoesOn : goal.returns-in-GoesOn
 returns-in-GoesOn g c = on_so c.keep.result _ _ (λ kept xs s h.
     let t = turned g.M.RunsLines.stands c.args.self.now c.give.new.machine xs s c.args.party c.in-Some.watch c.took.new.self GoesOn c.deref.result.now c.deref-2.result.now c.give.new.answer.items h c.in-Some.ensures.taken c.requires.line (λ x k. c.deref.ensures.value ∙ c.in_ok-write_line.ensures x k) (c.in_ok-give.ensures.ok s.fed (stands_for g.M.RunsLines.stands c.args.self.now xs s h)) c.deref-2.ensures.value (rw c.in-GoesOn.is at c.in_ok-took.ensures) in
     goes_so g.M.RunsLines.stands c.args.self.now _ xs s c.args.party c.took.new.self c.deref.result.now c.give.new.answer.items c.give.new.told.items h c.requires.line t
-    (put_back (map.kept_of c.args.self.now.watches) (map.kept_of c.take.new.self) (map.kept_of c.keep.new.self) c.args.party c.took.new.self c.take.ensures.rest kept) (rw c.requires.empty at c.in_ok-give.ensures.told)) c.keep.ensures
+    (put_back (map.kept_of c.args.self.now.watches) (map.kept_of c.take.new.self) (map.kept_of c.keep.new.self) c.args.party c.took.new.self c.take.ensures.rest kept) (rw c.requires.empty at c.in_ok-give.ensures.told)) c.keep.ensures.ok
 
 pub returns-in-Refused : goal.returns-in-Refused
 returns-in-Refused g c = on_so c.say-in-Refused.result _ _ (λ e xs s h.
@@ -37,4 +37,4 @@ returns-in_ok-say_report-in-Reports g c = on_so c.keep-in-Reports.result _ _ (λ
     let t = turned g.M.RunsLines.stands c.args.self.now c.give.new.machine xs s c.args.party c.in-Some.watch c.took.new.self Reports c.deref.result.now c.deref-2.result.now c.give.new.answer.items h c.in-Some.ensures.taken c.requires.line (λ x k. c.deref.ensures.value ∙ c.in_ok-write_line.ensures x k) (c.in_ok-give.ensures.ok s.fed (stands_for g.M.RunsLines.stands c.args.self.now xs s h)) c.deref-2.ensures.value (rw c.in-Reports.is at c.in_ok-took.ensures) in
     let told = rw c.requires.empty at c.in_ok-give.ensures.told in
     reports_so g.M.RunsLines.stands c.args.self.now _ xs s c.args.party c.took.new.self c.deref.result.now c.give.new.answer.items c.say_report.new.told.items h c.requires.line t
-    (put_back (map.kept_of c.args.self.now.watches) (map.kept_of c.take.new.self) (map.kept_of c.keep-in-Reports.new.self) c.args.party c.took.new.self c.take.ensures.rest kept) (λ r says. rw told at (c.in_ok-say_report-in-Reports.ensures r says))) c.keep-in-Reports.ensures
+    (put_back (map.kept_of c.args.self.now.watches) (map.kept_of c.take.new.self) (map.kept_of c.keep-in-Reports.new.self) c.args.party c.took.new.self c.take.ensures.rest kept) (λ r says. rw told at (c.in_ok-say_report-in-Reports.ensures r says))) c.keep-in-Reports.ensures.ok

@@ -21,7 +21,7 @@ returns c = record {
       let top : c.highest_of.result ≡ highest_of x c.args.handle.now = c.highest_of.ensures ∙ reported c.args.handle.now in
       let lt : highest_of x c.args.handle.now < got.generation = omega (arith, c.if-generation-highest_of.false, top, h.generation_is) in
       is_noted old new x r reported
-      (λ p. c.in_ok-keep.ensures p ∙ ap (λ (n : ℕ). if bytes_eq p c.args.handle.now then Some n else kept_of old.reported p) h.generation_is)
+      (λ p. c.in_ok-keep.ensures.ok p ∙ ap (λ (n : ℕ). if bytes_eq p c.args.handle.now then Some n else kept_of old.reported p) h.generation_is)
       (c.in_ok-write_got.ensures ∙ ap (λ (t : List ℕ). codes " " ++ (c.args.handle.now ++ (codes " " ++ t))) h.text_is)
       (above (highest_of x c.args.handle.now) got.generation lt);
 }
