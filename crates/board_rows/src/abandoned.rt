@@ -1,9 +1,11 @@
 //! Parties that are abandoned in the middle of what they do.
 mod boards;
+mod cases;
 mod events;
 mod loans;
 
 use crate::row::{Part, Script, joined};
+use cases::CASES;
 use std::alloc::Global;
 use std::process::Abort;
 use std::test::Fail;
@@ -14,8 +16,9 @@ struct Abandoned {
     opening: &'static [Part],
     /// The line that begins the call, and its steps.
     call: Part,
-    /// What is done and answered then, for each of these lines. The last one stands for further lines too.
+    /// What is done and answered then, after each of these lines, and what another party does. The last one stands for further lines too.
     after: &'static [&'static [Part]],
+    other: &'static [Part],
 }
 
 // Another party makes the first board, reads it, and listens and waits.
@@ -59,8 +62,8 @@ const C_MAKES_THE_SECOND_BOARD: Part = &[
 ];
 
 impl Abandoned {
-    // Each run ends with these lines of another party.
-    fn holds(&self, rt: &impl Abort, alloc: Global, other: Part) -> Result<(), Fail> {
+    // Each run ends with the lines of another party.
+    fn holds(&self, rt: &impl Abort, alloc: Global) -> Result<(), Fail> {
         let mut begun = joined(alloc, self.opening)?;
         for (n, line) in self.call.iter().enumerate() {
             begun.push(*line)?;
@@ -68,7 +71,9 @@ impl Abandoned {
             if let Some(after) = self.after.get(n).or(self.after.last()) {
                 lines.extend_from_slice(&joined(alloc, after)?)?;
             }
-            lines.extend_from_slice(other)?;
+            if let Some(other) = self.other.get(n).or(self.other.last()) {
+                lines.extend_from_slice(other)?;
+            }
             Script {
                 name: line.0,
                 lines: &lines,
@@ -81,9 +86,10 @@ impl Abandoned {
     }
 }
 
-fn all_hold(rt: &impl Abort, alloc: Global, cases: &[Abandoned], other: Part) -> Result<(), Fail> {
-    for case in cases {
-        case.holds(rt, alloc, other)?;
+#[test]
+fn each_call_is_abandoned_after_each_step(rt: HostRuntime) -> Result<(), Fail> {
+    for case in &CASES {
+        case.holds(&rt, rt.alloc())?;
     }
     Ok(())
 }

@@ -1,8 +1,9 @@
 -- The statuses and notes of the program.
-use Rattle.std.specs.Prelude.{◌≡◌, ℕ, ◌<◌, ◌≤◌, ◌++◌, List, [], ◌∷◌, length, take, codes, decimal, Result, Ok, Err}
+use Rattle.std.specs.Prelude.{◌≡◌, ℕ, ◌<◌, ◌≤◌, ◌++◌, List, [], ◌∷◌, length, take, codes, decimal, IsErrOf, Result, Ok, Err}
 use Rattle.script_loop.specs.declared.error.ScriptError.{ScriptError}
 use Rattle.script_loop.specs.declared.error.ScriptError.TheVariants.{ReadFault, WriteFault, BadLine, TooLong, OutOfMemory}
-use Rattle.script_loop.specs.Runs.{Runs, CountsOn, Gains, HasFailed, Stream}
+use Rattle.script_loop.specs.Runs.{Runs, CountsOn, Gains, HasFailed, StopsForMemory, Stream}
+use Rattle.script_machine.specs.Wants.{SpellsTakingAfter}
 use Rattle.script_generator.specs.Summary.{IsGenerated}
 
 -- the status of a run
@@ -52,6 +53,8 @@ pub record IsNoted (notes : Stream) (text : List ℕ) : Type 0 where
 pub record IsAnswered (status : ℕ) (source sink notes : Stream) : Type 0 where
   pub answer : Result (Unit {0}) ScriptError
   pub run : Runs 4294967295 source sink answer
+  -- memory is refused before the first line, or at one that takes some
+  pub memory : IsErrOf answer OutOfMemory → StopsForMemory SpellsTakingAfter 4294967295 source sink
   pub is : status ≡ status_of answer
   pub note : IsNoted notes (note_of answer)
 

@@ -1,9 +1,10 @@
 //! Scripts, from their source to their sink.
-ghost use Rattle.std.specs.Prelude.{◌≡◌, ◌≢◌, ◌≤◌, ℕ, IfErr, IfOk};
+ghost use Rattle.std.specs.Prelude.{◌≡◌, ◌≢◌, ◌≤◌, ℕ, IfErr, IfOk, IsErrOf};
 ghost use Rattle.script_model.specs.ScriptOutput.{IsOutputOf};
 ghost use Rattle.script_loop.specs.Memory.{sink_holds};
 ghost use Rattle.board_script.specs.Whole.{FitsRoom};
-ghost use Rattle.script_loop.specs.Runs.{FitsInto, IsRunnable, Runs, stream_of};
+ghost use Rattle.script_loop.specs.Runs.{FitsInto, IsRunnable, Runs, StopsForMemory, stream_of};
+ghost use Rattle.script_machine.specs.Wants.{SpellsTakingAfter};
 
 use board_cell::PlainWords;
 use script_loop::{
@@ -18,7 +19,7 @@ const MAX_LINES: u64 = 4294967295;
 /// Runs the lines of the source to its end, at most `limit` of them, and writes the answer to each before the next is run.
 ///
 /// # Errors
-/// `ReadFault` and `WriteFault` where source or sink failed; `BadLine` with the number, from 1 on, of the first line outside the grammar; `TooLong` where a byte follows the last line that is allowed; `OutOfMemory`. The answers to the lines before are written.
+/// `ReadFault` and `WriteFault` where source or sink failed; `BadLine` with the number, from 1 on, of the first line outside the grammar; `TooLong` where a byte follows the last line that is allowed; `OutOfMemory`, before the first line or at one that takes memory. The answers to the lines before are written.
 pub fn run_script_within<S: Source, K: Sink>(
     alloc: Global,
     limit: u64,
@@ -40,6 +41,12 @@ pub fn run_script_within<S: Source, K: Sink>(
     ensures complete { S.never_fails source.old → (room : ℕ) → K.never_fails_within sink.old room
         → IsRunnable room limit (S.left source.old)
         → IfErr result (λ e. e ≡ ScriptError.OutOfMemory) }
+
+    // Memory is refused before the first line, or at one that takes some after the lines before it.
+    ensures memory { IsErrOf result ScriptError.OutOfMemory
+        → StopsForMemory SpellsTakingAfter limit
+        (stream_of S.left S.faults source.old source.new)
+        (stream_of K.held K.faults sink.old sink.new) }
 {
     let mut machine = Machine::<PlainWords>::new(alloc);
     run_lines(alloc, limit, &mut machine, source, sink)
@@ -64,6 +71,10 @@ pub fn run_script<S: Source, K: Sink>(
     ensures complete { S.never_fails source.old → (room : ℕ) → K.never_fails_within sink.old room
         → IsRunnable room 4294967295 (S.left source.old)
         → IfErr result (λ e. e ≡ ScriptError.OutOfMemory) }
+    ensures memory { IsErrOf result ScriptError.OutOfMemory
+        → StopsForMemory SpellsTakingAfter 4294967295
+        (stream_of S.left S.faults source.old source.new)
+        (stream_of K.held K.faults sink.old sink.new) }
 {
     run_script_within(alloc, MAX_LINES, source, sink)
 }

@@ -3,7 +3,7 @@ mod Ids
 mod Tables
 mod TableCalls
 mod CallRows
-mod Running
+pub mod Running
 mod Holding
 mod Asks
 mod Accesses

@@ -74,7 +74,7 @@ swapped_number k (event_answer.Word v) h = h
 swapped_number k (event_answer.Id id) h = absurd h
 swapped_number k event_answer.Empty h = absurd h
 
-access_few : (k : EventKind) (name : List ℕ) (a : EventAccess) (b : EventAnswer) → is_event_name name ≡ true → PrintsNumbers a → IsAnswerTo a b → length (event_access_text k name a b) ≤ 312
+pub access_few : (k : EventKind) (name : List ℕ) (a : EventAccess) (b : EventAnswer) → is_event_name name ≡ true → PrintsNumbers a → IsAnswerTo a b → length (event_access_text k name a b) ≤ 312
 access_few k name access.Listener b e h g =
     let t = behind (fits (codes "listener ") 9 (omega arith)) (behind (event_short k name e) (fits (found_text b) 4 (found_few b))) in
     omega (arith, t.few)
@@ -105,7 +105,7 @@ access_few k name access.Pop b e h g =
     let t = behind (fits (codes "pop ") 4 (omega arith)) (behind (event_short k name e) (fits (popped_text b) 21 (popped_few b g))) in
     omega (arith, t.few)
 
-notify_error_few : (e : NotifierNotifyError) → length (notify_error_text e) ≤ 21
+pub notify_error_few : (e : NotifierNotifyError) → length (notify_error_text e) ≤ 21
 notify_error_few notify_error.Interrupt = omega arith
 notify_error_few notify_error.FailedToDeliverSignal = omega arith
 notify_error_few notify_error.TriggerIdOutOfBounds = omega arith

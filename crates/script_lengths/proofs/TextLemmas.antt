@@ -96,7 +96,7 @@ names_short (x ∷ xs) h =
     let k = joined (name_item_text x) (flat_map name_item_text xs) 17 (17 * length xs) one (names_short xs h.1) in
     omega (arith, k)
 
-listed_short : (xs : List ℕ) → AllByRecursion IsNumber xs → length (join_with_byte 44 (map decimal xs)) ≤ 21 * length xs
+pub listed_short : (xs : List ℕ) → AllByRecursion IsNumber xs → length (join_with_byte 44 (map decimal xs)) ≤ 21 * length xs
 listed_short [] h = omega arith
 listed_short (x ∷ []) h = omega (arith, digits_few x h.0)
 listed_short (x ∷ y ∷ xs) h =
@@ -105,7 +105,7 @@ listed_short (x ∷ y ∷ xs) h =
 
 -- ---- errors and reasons
 
-create_few : (e : BlackboardCreateError) → length (create_error_text e) ≤ 40
+pub create_few : (e : BlackboardCreateError) → length (create_error_text e) ≤ 40
 create_few create_error.AlreadyExists = omega arith
 create_few create_error.IsBeingCreatedByAnotherInstance = omega arith
 create_few create_error.InternalFailure = omega arith
@@ -116,7 +116,7 @@ create_few create_error.NoEntriesProvided = omega arith
 create_few create_error.NumbersSpent = omega arith
 create_few create_error.OutOfMemory = omega arith
 
-open_few : (e : BlackboardOpenError) → length (open_error_text e) ≤ 40
+pub open_few : (e : BlackboardOpenError) → length (open_error_text e) ≤ 40
 open_few open_error.DoesNotExist = omega arith
 open_few open_error.ServiceInCorruptedState = omega arith
 open_few open_error.IncompatibleKeys = omega arith
@@ -132,7 +132,7 @@ open_few open_error.DoesNotSupportRequestedAmountOfNodes = omega arith
 open_few open_error.NumbersSpent = omega arith
 open_few open_error.OutOfMemory = omega arith
 
-reader_few : (e : ReaderCreateError) → length (reader_error_text e) ≤ 40
+pub reader_few : (e : ReaderCreateError) → length (reader_error_text e) ≤ 40
 reader_few reader_error.ExceedsMaxSupportedReaders = omega arith
 reader_few reader_error.FailedToDeployThreadsafetyPolicy = omega arith
 reader_few reader_error.UnableToCreatePortTag = omega arith
@@ -140,7 +140,7 @@ reader_few (reader_error.ThingUnknown thing) = omega arith
 reader_few reader_error.NumbersSpent = omega arith
 reader_few reader_error.OutOfMemory = omega arith
 
-writer_few : (e : WriterCreateError) → length (writer_error_text e) ≤ 40
+pub writer_few : (e : WriterCreateError) → length (writer_error_text e) ≤ 40
 writer_few writer_error.ExceedsMaxSupportedWriters = omega arith
 writer_few writer_error.InternalFailure = omega arith
 writer_few writer_error.FailedToDeployThreadsafetyPolicy = omega arith
@@ -149,13 +149,13 @@ writer_few (writer_error.ThingUnknown thing) = omega arith
 writer_few writer_error.NumbersSpent = omega arith
 writer_few writer_error.OutOfMemory = omega arith
 
-entry_few : (e : EntryHandleError) → length (entry_error_text e) ≤ 40
+pub entry_few : (e : EntryHandleError) → length (entry_error_text e) ≤ 40
 entry_few entry_error.EntryDoesNotExist = omega arith
 entry_few (entry_error.ThingUnknown thing) = omega arith
 entry_few entry_error.NumbersSpent = omega arith
 entry_few entry_error.OutOfMemory = omega arith
 
-entry_mut_few : (e : EntryHandleMutError) → length (entry_mut_error_text e) ≤ 40
+pub entry_mut_few : (e : EntryHandleMutError) → length (entry_mut_error_text e) ≤ 40
 entry_mut_few entry_mut_error.EntryDoesNotExist = omega arith
 entry_mut_few entry_mut_error.HandleAlreadyExists = omega arith
 entry_mut_few (entry_mut_error.ThingUnknown thing) = omega arith
@@ -192,7 +192,7 @@ info_short i h =
     (behind (fits (codes " attrs") 6 (omega arith)) (behind (item i.attributes h.attributes)
     (behind (fits (codes " taken") 6 (omega arith)) (behind (item i.readers h.readers) (behind (item i.writers h.writers) (item i.nodes h.nodes)))))))))))))))))
 
-truth_few : (b : Bool) → length (if b then codes "false" else codes "true") ≤ 5
+pub truth_few : (b : Bool) → length (if b then codes "false" else codes "true") ≤ 5
 truth_few true = omega arith
 truth_few false = omega arith
 
@@ -260,7 +260,7 @@ place_short b w v h j k =
     let all = behind (digits b h) (behind (fits (codes ":") 1 (omega arith)) (behind (digits w j) (behind (fits (codes " ") 1 (omega arith)) (digits v k)))) in
     all.few
 
-access_short : (a : Access) → IsAccess a → length (access_text a) ≤ 68
+pub access_short : (a : Access) → IsAccess a → length (access_text a) ≤ 68
 access_short access.Table h = omega arith
 access_short (access.Read b w v) h =
     let k = joined (codes "read ") (place_text b w v) 6 62 (omega arith) (place_short b w v h.0 h.1 h.2) in

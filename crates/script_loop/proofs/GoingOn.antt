@@ -1,15 +1,15 @@
 -- A run with its reader and its sink: whole lines so far, and the room that is left.
-use Rattle.std.proofs.Common.{◌≡◌, ℕ, ◌+◌, ◌-◌, ◌<◌, ◌≤◌, Bool, false, List, [], ◌∷◌, ◌++◌, length, arith, refl, sym, ap, subst, ◌∙◌, Option, Some, None}
+use Rattle.std.proofs.Common.{◌≡◌, ℕ, ◌+◌, ◌-◌, ◌<◌, ◌≤◌, Bool, false, List, [], ◌∷◌, ◌++◌, length, arith, refl, sym, ap, subst, ◌∙◌, inl, inr, Option, Some, None}
 use Rattle.std.specs.Io.KnownBytes.{Appends, Keeps, prepend_known}
 use Rattle.std.proofs.lemmas.List.{length-append}
 use Rattle.board_model.specs.Lines.{IsOneLine, TakesLine}
 use Rattle.script_model.specs.declared.line.ScriptLine.{ScriptLine}
 use Rattle.script_model.specs.ScriptAnswers.{ScriptAnswer, script_answer_line}
-use Rattle.script_model.specs.ScriptSession.{Session, start}
+use Rattle.script_model.specs.ScriptSession.{IsLawful, Session, start}
 use Rattle.script_model.specs.ScriptTurns.{ScriptState}
 use Rattle.script_model.specs.ScriptOutput.{BeginsWith, output_of}
 use Rattle.script_loop.specs.Machines.{HasAnswered, HasRun}
-use Rattle.script_loop.specs.Runs.{FitsInto, IsReadCut, Stream}
+use Rattle.script_loop.specs.Runs.{FitsInto, IsReadCut, StopsForMemory, Stream}
 use Rattle.script_loop.specs.WholeLines.{HasWholeLines, LosesLine}
 use Rattle.script_loop.proofs.LineLemmas.{takes_line}
 use Rattle.script_loop.proofs.Pieces.{more_gone, none_gone}
@@ -75,3 +75,16 @@ fits_one_more stands m new count limit input left rest before held b text room r
     let most : length (r.session ++ p ∷ []) ≤ limit = omega (arith, length_more r.session p, r.counted, lt) in
     let all = fits (r.session ++ p ∷ []) (lawful_more start r.session p r.lawful a.right) begins most in
     omega (arith, all, output_longer r.session p text a.told)
+
+-- where a run may stop for memory, it may for what follows
+pub stops_so : (A B : Session → List ℕ → Type 0) (limit : ℕ) (source sink : Stream) → ((session : Session) (bytes : List ℕ) → IsLawful session → length session < limit → A session bytes → B session bytes) → StopsForMemory A limit source sink → StopsForMemory B limit source sink
+stops_so A B limit source sink f (inl unstarted) = inl unstarted
+stops_so A B limit source sink f (inr w) = inr (record {
+  session = w.session;
+  lawful = w.lawful;
+  few = w.few;
+  output = w.output;
+  line = w.line;
+  next = w.next;
+  wants = f w.session w.line w.lawful w.few w.wants;
+})

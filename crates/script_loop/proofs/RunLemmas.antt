@@ -14,7 +14,7 @@ use Rattle.script_model.specs.ScriptTurns.{ScriptState}
 use Rattle.script_model.specs.ScriptOutput.{AreLinesOf, BeginsWith, Fed, FollowedBy, GoesOnAfter, LeavesGrammarAfter, SpellsAll, output_of}
 use Rattle.script_loop.specs.Reader.{HasLongLine, HasMore}
 use Rattle.script_loop.proofs.LineLemmas.{some_lines}
-use Rattle.script_loop.specs.Runs.{IsBadAt, IsPast, IsRunOf, IsSpent, IsWriteCut, Stream}
+use Rattle.script_loop.specs.Runs.{HasNextLine, IsBadAt, IsPast, IsRunOf, IsSpent, IsWanting, IsWriteCut, SomeWants, Stream}
 use Rattle.script_loop.specs.Machines.{HasAnswered, HasRun, SpellsNone, StandsFor}
 
 -- ---- a session with one more pair
@@ -103,6 +103,12 @@ fed_goes_on None left ps f h = tt
 fed_goes_on (Some i) None ps f h = absurd f
 fed_goes_on (Some i) (Some l) ps f h = some_first i ps (lines_of l) f (some_lines l h)
 
+fed_next : (input left rest : Option (List ℕ)) (ps : Session) (b : List ℕ) → Fed input left ps → TakesLine left rest b → HasNextLine input ps b
+fed_next None left rest ps b f t = tt
+fed_next (Some i) None rest ps b f t = absurd f
+fed_next (Some i) (Some l) None ps b f t = absurd t
+fed_next (Some i) (Some l) (Some r) ps b f t = (lines_of r, follows i ps (lines_of l) (b ∷ lines_of r) f t)
+
 -- ---- runs
 
 unfoldable pub starts : {M : Type 0} (stands : M → ℕ → ScriptState → Type 0) (m : M) (input before : Option (List ℕ)) (hand : List ℕ) → hand ≡ [] → stands m 0 start → HasRun stands m 0 input (prepend_known hand input) before before
@@ -177,6 +183,18 @@ module _ {M : Type 0} (stands : M → ℕ → ScriptState → Type 0) (m : M) (c
     few = omega (arith, r.counted, few);
     output = r.output;
   }
+
+-- a machine that stands for the lines so far wants memory for the next one
+pub wanting : {M : Type 0} (stands : M → ℕ → ScriptState → Type 0) (wants : M → List ℕ → Type 0) (m : M) (count limit : ℕ) (source sink : Stream) (left rest : Option (List ℕ)) (b : List ℕ) → (r : HasRun stands m count source.before left sink.before sink.after) → count < limit → TakesLine left rest b → wants m b → IsWanting (SomeWants stands wants) limit source sink
+wanting stands wants m count limit source sink left rest b r lt t w = record {
+  session = r.session;
+  lawful = r.lawful;
+  few = omega (arith, r.counted, lt);
+  output = r.output;
+  line = b;
+  next = fed_next source.before left rest r.session b r.fed t;
+  wants = (m, r.state, w);
+}
 
 -- nothing was run
 spent_on : (input : Option (List ℕ)) → BeginsWith input []

@@ -31,6 +31,10 @@ AnswersEach stands old new bytes text = (session : Session) → StandsFor stands
 abbrev pub StandsStill : {M : Type 0} → (M → ℕ → ScriptState → Type 0) → M → M → Type 0
 StandsStill stands old new = (n : ℕ) (s : ScriptState) → stands old n s → stands new n s
 
+-- no answer that tells no list has more bytes
+abbrev pub short_room : ℕ
+short_room = 400
+
 -- no line of the grammar has these bytes
 abbrev pub SpellsNone : List ℕ → Type 0
 SpellsNone bytes = (l : ScriptLine) → SpellsLine bytes l → ⊥

@@ -1,9 +1,10 @@
 -- What a run of a script comes to, from its source to its sink.
-use Rattle.std.specs.Prelude.{◌≡◌, ◌≢◌, ℕ, ◌+◌, ◌≤◌, List, length, take, IsSomeAnd, Option, Result, Err, IfErr, IsErrOf, OnOk}
+use Rattle.std.specs.Prelude.{◌≡◌, ◌≢◌, ◌⊎◌, ℕ, ◌+◌, ◌<◌, ◌≤◌, List, ◌∷◌, length, take, IsSomeAnd, Option, Some, None, ⊤, Result, Err, IfErr, IsErrOf, OnOk}
 use Rattle.std.specs.Io.KnownBytes.{Appends, IsAtEnd, prepend_known}
 use Rattle.board_model.specs.Lines.{IsOneLine, Rose}
-use Rattle.script_model.specs.ScriptSession.{Session, IsLawful}
-use Rattle.script_model.specs.ScriptOutput.{AreLinesOf, BeginsWith, GoesOnAfter, IsScript, LeavesGrammarAfter, output_of}
+use Rattle.script_model.specs.ScriptSession.{Session, IsLawful, start, state_after}
+use Rattle.script_model.specs.ScriptTurns.{ScriptState}
+use Rattle.script_model.specs.ScriptOutput.{AreLinesOf, BeginsWith, FollowedBy, GoesOnAfter, IsScript, LeavesGrammarAfter, output_of}
 use Rattle.script_loop.specs.WholeLines.{HasWholeLines}
 use Rattle.script_loop.specs.declared.error.ScriptError.{ScriptError}
 use Rattle.script_loop.specs.declared.error.ScriptError.TheVariants.{ReadFault, WriteFault, BadLine, TooLong, OutOfMemory}
@@ -98,6 +99,36 @@ IsStopped WriteFault limit source sink = IsWriteCut limit source sink
 IsStopped (BadLine n) limit source sink = IsBadAt n limit source sink
 IsStopped TooLong limit source sink = IsPast limit source sink
 IsStopped OutOfMemory limit source sink = IsSpent limit source sink
+
+-- ---- where a run may stop for memory
+
+-- before the first line: nothing was read or written
+pub record IsUnstarted (source sink : Stream) : Type 0 where
+  pub unread : source.after ≡ source.before
+  pub unwritten : sink.after ≡ sink.before
+
+-- where the input is known, its first lines are those of the session, and this one is the next
+abbrev pub HasNextLine : Option (List ℕ) → Session → List ℕ → Type 0
+HasNextLine None session line = ⊤
+HasNextLine (Some input) session line = (more : List (List ℕ)) × FollowedBy input session (line ∷ more)
+
+-- the lines before were answered, and it holds of them and of the next line, by which memory may be wanted
+pub record IsWanting (Wants : Session → List ℕ → Type 0) (limit : ℕ) (source sink : Stream) : Type 0 where
+  pub session : Session
+  pub lawful : IsLawful session
+  pub few : length session < limit
+  pub output : Gains sink (output_of session)
+  pub line : List ℕ
+  pub next : HasNextLine source.before session line
+  pub wants : Wants session line
+
+-- a run stops for memory before its first line, or at a line that may want some
+abbrev pub StopsForMemory : (Session → List ℕ → Type 0) → ℕ → Stream → Stream → Type 0
+StopsForMemory Wants limit source sink = IsUnstarted source sink ⊎ IsWanting Wants limit source sink
+
+-- a machine that stands for the session may want memory for the line
+abbrev pub SomeWants : {M : Type 0} → (M → ℕ → ScriptState → Type 0) → (M → List ℕ → Type 0) → Session → List ℕ → Type 0
+SomeWants {M = M} stands wants session line = (m : M) × stands m (length session) (state_after start session) × wants m line
 
 -- ---- runs that are run to their end
 

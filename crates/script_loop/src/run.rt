@@ -1,10 +1,10 @@
 //! Lines that are run one after another.
-ghost use Rattle.std.specs.Prelude.{◌≡◌, ◌≢◌, ◌≤◌, [], IfSome, IsErrOf, OnErr, OnOk, false, ℕ};
+ghost use Rattle.std.specs.Prelude.{◌≡◌, ◌≢◌, ◌≤◌, List, [], IfSome, IsErrOf, OnErr, OnOk, false, ℕ, vec_capacity};
 ghost use Rattle.script_model.specs.ScriptSession.{Session, start};
 ghost use Rattle.script_model.specs.ScriptTurns.{ScriptState};
 ghost use Rattle.script_loop.specs.Reader.{in_hand, source_ended};
-ghost use Rattle.script_loop.specs.Runs.{FitsInto, Runs, stream_of};
-ghost use Rattle.script_loop.specs.Machines.{AnswersEach, SpellsNone, StandsFor, StandsStill};
+ghost use Rattle.script_loop.specs.Runs.{FitsInto, Runs, SomeWants, StopsForMemory, stream_of};
+ghost use Rattle.script_loop.specs.Machines.{AnswersEach, SpellsNone, StandsFor, StandsStill, short_room};
 
 use crate::error::{LineError, ScriptError};
 use crate::line_reader::{Fetched, LineReader};
@@ -15,13 +15,16 @@ use std::alloc::Global;
 /// What answers the lines of a script.
 ///
 /// Contracts see for which numbers of lines and which states a machine stands: those of the lawful sessions that may have led to it.
+/// They see too for which lines it `wants` memory beside that of the answer.
 pub trait RunsLines {
     ghost stands: { Self → ℕ → ScriptState → Type 0 };
+
+    ghost wants: { Self → List ℕ → Type 0 };
 
     /// Answers a line: `answer` then has the answer and its newline, and nothing else.
     ///
     /// # Errors
-    /// `Bad` where the line is outside the grammar; `OutOfMemory`.
+    /// `Bad` where the line is outside the grammar; `OutOfMemory`, where `answer` has room for 400 bytes only for a line that wants memory.
     fn line(&mut self, line: &[u8], answer: &mut Vec<u8>) -> Result<(), LineError>
         // The machine stands for a session that is short enough that no number reaches its end.
         requires { (session : Session) × StandsFor stands self.old session }
@@ -33,11 +36,16 @@ pub trait RunsLines {
         ensures bad { IsErrOf result LineError.Bad → SpellsNone line.now }
         ensures same { IsErrOf result LineError.Bad → StandsStill stands self.old self.new }
 
-        ensures err { OnErr result (answer.new.items ≡ []) };
+        ensures err { OnErr result (answer.new.items ≡ []) }
+
+        // Memory is refused only where the line wants some, where the buffer has room for each answer without a list. It keeps its room.
+        ensures memory { IsErrOf result LineError.OutOfMemory → short_room ≤ vec_capacity answer.old
+            → wants self.old line.now }
+        ensures room { vec_capacity answer.old ≤ vec_capacity answer.new };
 }
 
-// Room for the longest refusal, which is taken before the first line: so a refused line needs none of its own.
-const SHORT_ANSWER: usize = 19;
+// Room for each answer that tells no list, which is taken before the first line: so none of them needs any of its own.
+const SHORT_ANSWER: usize = 400;
 
 // A reader with nothing in hand, or none where memory is refused.
 fn new_reader(alloc: Global) -> Option<LineReader>
@@ -57,7 +65,7 @@ fn new_reader(alloc: Global) -> Option<LineReader>
 /// Line n is counted from 1. `TooLong` is looked at when a byte follows the last line that is allowed.
 ///
 /// # Errors
-/// `ReadFault` and `WriteFault` where source or sink failed; `BadLine` with the number of the first line outside the grammar; `TooLong`; `OutOfMemory`. The answers to the lines before are written.
+/// `ReadFault` and `WriteFault` where source or sink failed; `BadLine` with the number of the first line outside the grammar; `TooLong`; `OutOfMemory`, before the first line or at one that wants memory. The answers to the lines before are written.
 pub fn run_lines<M: RunsLines, S: Source, K: Sink>(
     alloc: Global,
     limit: u64,
@@ -78,6 +86,12 @@ pub fn run_lines<M: RunsLines, S: Source, K: Sink>(
     ensures reads { S.never_fails source.old → result ≢ Err ScriptError.ReadFault }
     ensures writes { (room : ℕ) → K.never_fails_within sink.old room
         → FitsInto room limit (S.left source.old) → result ≢ Err ScriptError.WriteFault }
+
+    // Memory is refused before the first line, or at one for which a machine that stands for the lines before wants some.
+    ensures memory { IsErrOf result ScriptError.OutOfMemory
+        → StopsForMemory (SomeWants M.stands M.wants) limit
+        (stream_of S.left S.faults source.old source.new)
+        (stream_of K.held K.faults sink.old sink.new) }
 {
     let Some(mut reader) = new_reader(alloc) else {
         return Err(ScriptError::OutOfMemory);

@@ -1,10 +1,11 @@
 -- A machine that stands for a lawful session, and one line more.
-use Rattle.std.proofs.Common.{ℕ, ◌+◌, ◌<◌, ◌≤◌, ◌^◌, List, length, arith, subst}
+use Rattle.std.proofs.Common.{ℕ, ◌+◌, ◌<◌, ◌≤◌, ◌^◌, List, length, arith, subst, inl, inr}
 use Rattle.board_model.specs.LawfulSession as boards
 use Rattle.script_boards.specs.Machine as boards_machine
 use Rattle.script_boards.specs.Machine.{drawn_by}
 use Rattle.script_boards.proofs.Listings.{reached_by}
 use Rattle.script_loop.specs.Machines.{HasAnswered, StandsFor}
+use Rattle.script_loop.specs.Runs.{SomeWants}
 use Rattle.script_model.specs.declared.line.ScriptLine.{ScriptLine}
 use Rattle.script_model.specs.Parts.{board_part}
 use Rattle.script_model.specs.ScriptGrammar.{SpellsLine}
@@ -13,6 +14,7 @@ use Rattle.script_model.proofs.PartLemmas.{boards_law_holds}
 use Rattle.script_model.proofs.ScriptSoundLemmas.{sessions_sound}
 use Rattle.script_machine.specs.declared.machine.Machine.{Machine}
 use Rattle.script_machine.specs.ScriptMachine.{IsLed, IsReached, StandsAfter, Tells}
+use Rattle.script_machine.specs.Wants.{SpellsTaking, SpellsTakingAfter}
 
 pub session_reached : (session : Session) → IsLawful session → length session < 2 ^ 63 → IsReached (state_after start session) (length session)
 session_reached session h lt =
@@ -45,3 +47,13 @@ has_answered old new session bytes text l h spelled tells drawn =
       state = record { represents = t.represents; drawn = omega (arith, h.state.drawn, drawn) };
       told = t.told;
     }
+
+-- a machine that stands for a lawful session wants memory only for a line that takes some after it
+pub taking_after : {C : Type 0} (session : Session) (bytes : List ℕ) → IsLawful session → length session < 2 ^ 63 → SomeWants {M = Machine C} StandsAfter SpellsTaking session bytes → SpellsTakingAfter session bytes
+taking_after session bytes h lt w =
+    let m = w.0 in
+    let taking = w.2 in
+    (taking.0, taking.1, elim taking.2 [
+      | inl kept ↦ inl kept
+      | inr takes ↦ inr (takes (state_after start session) (length session) w.1.represents (session_reached session h lt))
+    ])

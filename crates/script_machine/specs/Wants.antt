@@ -1,15 +1,18 @@
 -- Which lines of a script take memory. No other line wants any, where there is room for its answer.
-use Rattle.std.specs.Prelude.{◌≡◌, ◌⊎◌, ℕ, ◌+◌, ◌≤◌, Bool, true, false, List, Option, Some, None, is_none, vec_capacity, vec_len}
+use Rattle.std.specs.Prelude.{◌≡◌, ◌⊎◌, ℕ, ◌+◌, ◌≤◌, Bool, true, false, List, Option, Some, None, vec_capacity, vec_len}
 use Rattle.std.specs.Global.{Vec}
 use Rattle.board_model.specs.declared.answer.Reason.{Reason}
 use Rattle.board_model.specs.declared.line.Line.{Line}
 use Rattle.board_model.specs.declared.line.Line.TheVariants as board_line
 use Rattle.board_model.specs.LawfulSession.{reason_of}
 use Rattle.script_boards.specs.Wants as boards
-use Rattle.script_events.specs.PartyEvents.{refusal_of}
+use Rattle.script_events.specs.PartyEvents.{StepTakes, refusal_of}
+use Rattle.script_loop.specs.Machines.{short_room}
 use Rattle.script_model.specs.declared.line.ScriptLine.{ScriptLine}
 use Rattle.script_model.specs.declared.line.ScriptLine.TheVariants as line
+use Rattle.script_model.specs.ScriptEvents.{runs_on_events}
 use Rattle.script_model.specs.ScriptGrammar.{SpellsLine}
+use Rattle.script_model.specs.ScriptSession.{Session, start, state_after}
 use Rattle.script_model.specs.ScriptTurns.{EventTurn, ScriptState, turn_of}
 use Rattle.script_parse.specs.Kept.{is_kept_line}
 use Rattle.script_machine.specs.declared.machine.Machine.{Machine}
@@ -26,31 +29,34 @@ refusal_at s (line.Expire party) None = None
 abbrev pub refusal : ScriptState → ScriptLine → Option Reason
 refusal s l = refusal_at s l (turn_of s l)
 
+-- a step takes memory: on events where it makes a listener or notifier or may be given ids, and else where the boards' does
+abbrev pub StepTakesAt : Bool → ScriptState → List ℕ → Type 0
+StepTakesAt true s party = StepTakes s.events (s.events.asked party) (s.events.session.doing party)
+StepTakesAt false s party = boards.takes_memory s.boards (board_line.Step party) ≡ true
+
 -- a line of boards takes memory: no drop does, nor an abandonment of a party whose call on boards runs, nor a line that is refused
-abbrev pub board_line_takes : ScriptState → Line → Bool
-board_line_takes s (board_line.Release party name) = false
-board_line_takes s (board_line.Abandon party) = boards.takes_memory s.boards (board_line.Abandon party)
-board_line_takes s l = is_none (refusal s (line.Board l))
+abbrev pub BoardLineTakes : ScriptState → Line → Type 0
+BoardLineTakes s (board_line.Begin party c) = refusal s (line.Board (board_line.Begin party c)) ≡ None
+BoardLineTakes s (board_line.Step party) = StepTakesAt (runs_on_events s.events party) s party
+BoardLineTakes s (board_line.Release party name) = ⊥
+BoardLineTakes s (board_line.Abandon party) = boards.takes_memory s.boards (board_line.Abandon party) ≡ true
+BoardLineTakes s (board_line.Words board) = refusal s (line.Board (board_line.Words board)) ≡ None
 
 -- a line takes memory: no expiry does, nor a line that is refused
-abbrev pub takes_memory : ScriptState → ScriptLine → Bool
-takes_memory s (line.Board l) = board_line_takes s l
-takes_memory s (line.Event party q) = is_none (refusal s (line.Event party q))
-takes_memory s (line.Expire party) = false
+abbrev pub LineTakes : ScriptState → ScriptLine → Type 0
+LineTakes s (line.Board l) = BoardLineTakes s l
+LineTakes s (line.Event party q) = refusal s (line.Event party q) ≡ None
+LineTakes s (line.Expire party) = ⊥
 
 -- the line takes memory in each state that the machine stands for
 abbrev pub TakesMemory : {C : Type 0} → Machine C → ScriptLine → Type 0
-TakesMemory m l = OfEachState m (λ s. takes_memory s l ≡ true)
+TakesMemory m l = OfEachState m (λ s. LineTakes s l)
 
--- the longest short answer has 19 bytes
-abbrev pub short_room : ℕ
-short_room = 19
-
--- there is room for each short answer
+-- there is room for each answer that tells no list
 abbrev pub HasRoom : Vec ℕ → Type 0
 HasRoom out = vec_len out + short_room ≤ vec_capacity out
 
--- memory is wanted only for a line that takes some, where there is room for a short answer
+-- memory is wanted only for a line that takes some, where there is room for its answer
 abbrev pub MayWant : {C : Type 0} → Machine C → ScriptLine → Vec ℕ → Type 0
 MayWant m l out = HasRoom out → TakesMemory m l
 
@@ -65,3 +71,7 @@ SpellsSome bytes = (l : ScriptLine) × SpellsLine bytes l
 -- the bytes spell a line that is kept in memory while it is run, or one that takes memory
 abbrev pub SpellsTaking : {C : Type 0} → Machine C → List ℕ → Type 0
 SpellsTaking m bytes = (l : ScriptLine) × SpellsLine bytes l × ((is_kept_line l ≡ true) ⊎ TakesMemory m l)
+
+-- the same after a session, in the words of the definitions alone
+abbrev pub SpellsTakingAfter : Session → List ℕ → Type 0
+SpellsTakingAfter session bytes = (l : ScriptLine) × SpellsLine bytes l × ((is_kept_line l ≡ true) ⊎ LineTakes (state_after start session) l)

@@ -1,5 +1,5 @@
 //! Lines of boards, and those that boards and events share.
-ghost use Rattle.std.specs.Prelude.{◌≡◌, ◌+◌, ◌++◌, ◌≤◌, [], true, OnErr, OnOk};
+ghost use Rattle.std.specs.Prelude.{◌≡◌, ◌+◌, ◌++◌, ◌≤◌, [], true, OnErr, OnOk, vec_capacity};
 ghost use Rattle.std.specs.List.{AllByRecursion};
 ghost use Rattle.board_model.specs.declared.answer.Answer.TheVariants as answer;
 ghost use Rattle.board_model.specs.declared.line.Line.TheVariants as board_line;
@@ -26,6 +26,7 @@ fn push_listing(words: &[u64], out: &mut Vec<u8>) -> Result<(), AllocError>
     ensures numbers { AllByRecursion IsNumber words.now }
     ensures told { OnOk result (out.new.items
         ≡ out.old.items ++ answer_line (answer.Words words.now)) }
+    ensures room { vec_capacity out.old ≤ vec_capacity out.new }
 {
     push_words(words, out)
 }
@@ -83,6 +84,7 @@ impl<C: BoardWords + Drop> Machine<C> {
             out.new.items) }
         ensures memory { OnErr result (BoardMayWant self.old (board_line.Begin party call)
             out.old) }
+        ensures room { vec_capacity out.old ≤ vec_capacity out.new }
         ensures drawn { OnOk result (drawn_by self.new.boards ≤ drawn_by self.old.boards + 1) }
     {
         if self.events.runs(&party) {
@@ -106,6 +108,7 @@ impl<C: BoardWords + Drop> Machine<C> {
         ensures tells { OnOk result (TellsOfBoards self.old self.new (board_line.Step party.now)
             out.new.items) }
         ensures memory { OnErr result (BoardMayWant self.old (board_line.Step party.now) out.old) }
+        ensures room { vec_capacity out.old ≤ vec_capacity out.new }
         ensures drawn { OnOk result (drawn_by self.new.boards ≤ drawn_by self.old.boards + 1) }
     {
         if self.events.runs(party) {
@@ -124,6 +127,7 @@ impl<C: BoardWords + Drop> Machine<C> {
         ensures tells { OnOk result (TellsOfBoards self.old self.new (board_line.Step party.now)
             out.new.items) }
         ensures memory { OnErr result (BoardMayWant self.old (board_line.Step party.now) out.old) }
+        ensures room { vec_capacity out.old ≤ vec_capacity out.new }
         ensures drawn { drawn_by self.new.boards ≡ drawn_by self.old.boards }
     {
         match self.events.step(party)? {
@@ -158,6 +162,7 @@ impl<C: BoardWords + Drop> Machine<C> {
             (board_line.Release party.now name.now) out.new.items) }
         ensures memory { OnErr result (BoardMayWant self.old
             (board_line.Release party.now name.now) out.old) }
+        ensures room { vec_capacity out.old ≤ vec_capacity out.new }
         ensures drawn { OnOk result (drawn_by self.new.boards ≤ drawn_by self.old.boards + 1) }
     {
         if self.events.runs(party) {
@@ -185,6 +190,7 @@ impl<C: BoardWords + Drop> Machine<C> {
         ensures tells { OnOk result (TellsOfBoards self.old self.new (board_line.Abandon party)
             out.new.items) }
         ensures memory { OnErr result (BoardMayWant self.old (board_line.Abandon party) out.old) }
+        ensures room { vec_capacity out.old ≤ vec_capacity out.new }
         ensures drawn { OnOk result (drawn_by self.new.boards ≤ drawn_by self.old.boards + 1) }
     {
         let answer = self.boards.abandon(party)?;
@@ -203,6 +209,7 @@ impl<C: BoardWords + Drop> Machine<C> {
         ensures tells { OnOk result (TellsOfBoards self.old self.new (board_line.Words board)
             out.new.items) }
         ensures memory { OnErr result (BoardMayWant self.old (board_line.Words board) out.old) }
+        ensures room { vec_capacity out.old ≤ vec_capacity out.new }
         ensures drawn { OnOk result (drawn_by self.new.boards ≤ drawn_by self.old.boards + 1) }
     {
         match self.boards.words_of(board)? {

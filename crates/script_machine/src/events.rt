@@ -1,5 +1,5 @@
 //! Lines of events.
-ghost use Rattle.std.specs.Prelude.{◌≡◌, ◌+◌, [], OnErr, OnOk};
+ghost use Rattle.std.specs.Prelude.{◌≡◌, ◌+◌, ◌≤◌, [], OnErr, OnOk, vec_capacity};
 ghost use Rattle.script_model.specs.declared.line.ScriptLine.TheVariants as line;
 ghost use Rattle.script_model.specs.ScriptEvents.{name_made};
 ghost use Rattle.script_model.specs.ScriptGrammar.{IsScriptLine};
@@ -62,6 +62,7 @@ impl<C: BoardWords + Drop> Machine<C> {
         ensures tells { OnOk result (Tells self.old self.new (line.Event party request)
             out.new.items) }
         ensures memory { OnErr result (MayWant self.old (line.Event party request) out.old) }
+        ensures room { vec_capacity out.old ≤ vec_capacity out.new }
         ensures drawn { drawn_by self.new.boards ≡ drawn_by self.old.boards }
     {
         if self.events.runs(&party) {
@@ -85,6 +86,7 @@ impl<C: BoardWords + Drop> Machine<C> {
         ensures tells { OnOk result (Tells self.old self.new (line.Expire party.now)
             out.new.items) }
         ensures memory { OnErr result (MayWant self.old (line.Expire party.now) out.old) }
+        ensures room { vec_capacity out.old ≤ vec_capacity out.new }
         ensures drawn { drawn_by self.new.boards ≡ drawn_by self.old.boards }
     {
         if let Some(why) = self.boards.refusal_of_party(party) {

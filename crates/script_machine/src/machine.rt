@@ -4,10 +4,10 @@ ghost use Rattle.board_model.specs.LineGrammar.{IsLine};
 ghost use Rattle.script_model.specs.declared.line.ScriptLine.TheVariants as script_line;
 ghost use Rattle.script_model.specs.ScriptGrammar.{IsScriptLine};
 ghost use Rattle.script_model.specs.ScriptSession.{Session, start};
-ghost use Rattle.script_loop.specs.Machines.{AnswersEach, SpellsNone, StandsFor};
+ghost use Rattle.script_loop.specs.Machines.{AnswersEach, SpellsNone, StandsFor, short_room};
 ghost use Rattle.script_boards.specs.Machine.{drawn_by};
 ghost use Rattle.script_machine.specs.ScriptMachine.{IsLed, StandsAfter, Tells};
-ghost use Rattle.script_machine.specs.Wants.{SpellsTaking, MayWant, SpellsSome, short_room};
+ghost use Rattle.script_machine.specs.Wants.{SpellsTaking, MayWant, SpellsSome};
 
 use board_model::Line;
 use board_service::BoardWords;
@@ -56,6 +56,7 @@ impl<C: BoardWords + Drop> Machine<C> {
         ensures tells { OnOk result (Tells self.old self.new (script_line.Board line)
             out.new.items) }
         ensures memory { OnErr result (MayWant self.old (script_line.Board line) out.old) }
+        ensures room { vec_capacity out.old ≤ vec_capacity out.new }
         ensures drawn { OnOk result (drawn_by self.new.boards ≤ drawn_by self.old.boards + 1) }
     {
         match line {
@@ -74,6 +75,7 @@ impl<C: BoardWords + Drop> Machine<C> {
         requires empty { out.old.items ≡ [] }
         ensures tells { OnOk result (Tells self.old self.new line out.new.items) }
         ensures memory { OnErr result (MayWant self.old line out.old) }
+        ensures room { vec_capacity out.old ≤ vec_capacity out.new }
         ensures drawn { OnOk result (drawn_by self.new.boards ≤ drawn_by self.old.boards + 1) }
     {
         match line {
@@ -88,6 +90,7 @@ impl<C: BoardWords + Drop> Machine<C> {
         ensures error { result ≡ LineError.OutOfMemory }
         ensures spent { self.new.spent ≡ true }
         ensures dropped { begun.new.items ≡ [] }
+        ensures room { vec_capacity begun.new ≡ vec_capacity begun.old }
     {
         begun.clear();
         self.spent = true;
@@ -98,9 +101,10 @@ impl<C: BoardWords + Drop> Machine<C> {
     ///
     /// # Errors
     /// `Bad` exactly where the line is outside the grammar, and then the machine stays as it was. After `OutOfMemory` the
-    /// machine is spent. On both `answer` is empty. Where `answer` has room for 19 bytes, `OutOfMemory` comes neither for a
-    /// line outside the grammar, nor for a drop, an expiry or an abandonment of a party whose call on boards runs, nor for a refused
-    /// line without the name of a board or an event.
+    /// machine is spent. On both `answer` is empty. Where `answer` has room for 400 bytes, `OutOfMemory` comes neither for a
+    /// line outside the grammar, nor for a step that makes and lends nothing, keeps nothing that it read and tells no list, nor for
+    /// a drop, an expiry or an abandonment of a party whose call on boards runs, nor for a refused line without the name of a board
+    /// or an event.
     pub fn line(&mut self, line: &[u8], answer: &mut Vec<u8>) -> Result<(), LineError>
         // The machine isn't spent, and it stands for a lawful session of fewer than 2^63 lines.
         requires { (session : Session) × StandsFor StandsAfter self.old session }
@@ -113,11 +117,12 @@ impl<C: BoardWords + Drop> Machine<C> {
         ensures bad { IsErrOf result LineError.Bad → SpellsNone line.now }
         ensures same { IsErrOf result LineError.Bad → self.new ≡ self.old }
 
-        // A line outside the grammar wants no memory. Nor does a line that takes none, where `answer` has room for a short
-        // answer and the line hasn't the name of a board or an event, which is kept.
+        // A line outside the grammar wants no memory. Nor does a line that takes none, where `answer` has room for each answer
+        // that tells no list and the line hasn't the name of a board or an event, which is kept. The room stays.
         ensures spelled { IsErrOf result LineError.OutOfMemory → SpellsSome line.now }
         ensures memory { IsErrOf result LineError.OutOfMemory
             → short_room ≤ vec_capacity answer.old → SpellsTaking self.old line.now }
+        ensures room { vec_capacity answer.old ≤ vec_capacity answer.new }
 
         ensures spent { IsErrOf result LineError.OutOfMemory → self.new.spent ≡ true }
         ensures err { OnErr result (answer.new.items ≡ []) }
@@ -136,6 +141,8 @@ impl<C: BoardWords + Drop> Machine<C> {
 
 impl<C: BoardWords + Drop> RunsLines for Machine<C> {
     ghost stands = { StandsAfter };
+
+    ghost wants = { SpellsTaking };
 
     fn line(&mut self, line: &[u8], answer: &mut Vec<u8>) -> Result<(), LineError> {
         Machine::line(self, line, answer)

@@ -1,11 +1,9 @@
 //! The bytes of answers, which are added to a buffer of the caller's.
-ghost use Rattle.std.specs.Prelude.{◌≡◌, ◌<◌, ◌≤◌, ◌++◌, ◌∷◌, [], true, Some, OnErr, OnOk, codes, decimal, take};
+ghost use Rattle.std.specs.Prelude.{◌≡◌, ◌<◌, ◌≤◌, ◌++◌, OnErr, OnOk, decimal, vec_capacity};
 ghost use Rattle.std.specs.List.{flat_map};
-ghost use Rattle.board_cell_model.specs.declared.access.Access.TheVariants as access;
 ghost use Rattle.board_model.specs.declared.answer.Answer.TheVariants as answer;
-ghost use Rattle.board_model.specs.declared.answer.Reply.TheVariants as reply;
 ghost use Rattle.board_model.specs.AnswerGrammar.{access_text, answer_line, answer_text, number_text, place_text, reply_text, told_text};
-ghost use Rattle.script_print.specs.ShortAnswers.{IsShort, LacksRoom, is_dropped};
+ghost use Rattle.script_print.specs.Room.{LacksRoomFor};
 
 use crate::names::refusal_line;
 use crate::replies::push_reply;
@@ -17,7 +15,9 @@ use std::alloc::AllocError;
 // Adds the digits of a number. That of a number below ten is added in place.
 #[inline(always)]
 pub(crate) fn push_digits(n: u64, out: &mut Vec<u8>) -> Result<(), AllocError>
-    ensures { OnOk result (out.new.items ≡ out.old.items ++ decimal n) }
+    ensures ok { OnOk result (out.new.items ≡ out.old.items ++ decimal n) }
+    ensures room { OnErr result (LacksRoomFor out.old (decimal n)) }
+    ensures grows { vec_capacity out.old ≤ vec_capacity out.new }
 {
     if n < 10 {
         out.push(b'0' + n as u8)?;
@@ -30,7 +30,9 @@ pub(crate) fn push_digits(n: u64, out: &mut Vec<u8>) -> Result<(), AllocError>
 #[inline(never)]
 fn push_more_digits(n: u64, out: &mut Vec<u8>) -> Result<(), AllocError>
     requires { 10 ≤ n }
-    ensures { OnOk result (out.new.items ≡ out.old.items ++ decimal n) }
+    ensures ok { OnOk result (out.new.items ≡ out.old.items ++ decimal n) }
+    ensures room { OnErr result (LacksRoomFor out.old (decimal n)) }
+    ensures grows { vec_capacity out.old ≤ vec_capacity out.new }
 {
     if n < 100 {
         return push_two_digits(n, out);
@@ -44,7 +46,9 @@ fn push_more_digits(n: u64, out: &mut Vec<u8>) -> Result<(), AllocError>
 fn push_two_digits(n: u64, out: &mut Vec<u8>) -> Result<(), AllocError>
     requires low { 10 ≤ n }
     requires high { n < 100 }
-    ensures { OnOk result (out.new.items ≡ out.old.items ++ decimal n) }
+    ensures ok { OnOk result (out.new.items ≡ out.old.items ++ decimal n) }
+    ensures room { OnErr result (LacksRoomFor out.old (decimal n)) }
+    ensures grows { vec_capacity out.old ≤ vec_capacity out.new }
 {
     out.push(b'0' + (n / 10) as u8)?;
     out.push(b'0' + (n % 10) as u8)?;
@@ -53,7 +57,9 @@ fn push_two_digits(n: u64, out: &mut Vec<u8>) -> Result<(), AllocError>
 
 // Adds a space and the number.
 pub(crate) fn push_number(n: u64, out: &mut Vec<u8>) -> Result<(), AllocError>
-    ensures { OnOk result (out.new.items ≡ out.old.items ++ number_text n) }
+    ensures ok { OnOk result (out.new.items ≡ out.old.items ++ number_text n) }
+    ensures room { OnErr result (LacksRoomFor out.old (number_text n)) }
+    ensures grows { vec_capacity out.old ≤ vec_capacity out.new }
 {
     out.push(b' ')?;
     push_digits(n, out)
@@ -61,7 +67,9 @@ pub(crate) fn push_number(n: u64, out: &mut Vec<u8>) -> Result<(), AllocError>
 
 #[inline(always)]
 fn push_place(board: u64, word: u64, value: u64, out: &mut Vec<u8>) -> Result<(), AllocError>
-    ensures { OnOk result (out.new.items ≡ out.old.items ++ place_text board word value) }
+    ensures ok { OnOk result (out.new.items ≡ out.old.items ++ place_text board word value) }
+    ensures room { OnErr result (LacksRoomFor out.old (place_text board word value)) }
+    ensures grows { vec_capacity out.old ≤ vec_capacity out.new }
 {
     push_digits(board, out)?;
     out.push(b':')?;
@@ -71,7 +79,9 @@ fn push_place(board: u64, word: u64, value: u64, out: &mut Vec<u8>) -> Result<()
 
 #[inline(always)]
 fn push_access(access: Access, out: &mut Vec<u8>) -> Result<(), AllocError>
-    ensures { OnOk result (out.new.items ≡ out.old.items ++ access_text access) }
+    ensures ok { OnOk result (out.new.items ≡ out.old.items ++ access_text access) }
+    ensures room { OnErr result (LacksRoomFor out.old (access_text access)) }
+    ensures grows { vec_capacity out.old ≤ vec_capacity out.new }
 {
     match access {
         Access::Table => out.extend_from_slice(b"table"),
@@ -88,7 +98,9 @@ fn push_access(access: Access, out: &mut Vec<u8>) -> Result<(), AllocError>
 
 // Adds what is told with the last step of a call.
 fn push_told(reply: &Option<Reply>, out: &mut Vec<u8>) -> Result<(), AllocError>
-    ensures { OnOk result (out.new.items ≡ out.old.items ++ told_text reply.now) }
+    ensures ok { OnOk result (out.new.items ≡ out.old.items ++ told_text reply.now) }
+    ensures room { OnErr result (LacksRoomFor out.old (told_text reply.now)) }
+    ensures grows { vec_capacity out.old ≤ vec_capacity out.new }
 {
     match reply {
         None => Ok(()),
@@ -101,7 +113,9 @@ fn push_told(reply: &Option<Reply>, out: &mut Vec<u8>) -> Result<(), AllocError>
 
 // Adds each number behind a space.
 pub(crate) fn push_numbers(numbers: &[u64], out: &mut Vec<u8>) -> Result<(), AllocError>
-    ensures { OnOk result (out.new.items ≡ out.old.items ++ flat_map number_text numbers.now) }
+    ensures ok { OnOk result (out.new.items ≡ out.old.items ++ flat_map number_text numbers.now) }
+    ensures room { OnErr result (LacksRoomFor out.old (flat_map number_text numbers.now)) }
+    ensures grows { vec_capacity out.old ≤ vec_capacity out.new }
 {
     for number in numbers {
         push_number(*number, out)?;
@@ -112,10 +126,12 @@ pub(crate) fn push_numbers(numbers: &[u64], out: &mut Vec<u8>) -> Result<(), All
 /// Adds the line of an accepted begin.
 ///
 /// # Errors
-/// `AllocError` where memory is refused, which it isn't where the buffer has room for 19 bytes; then nothing is added.
+/// `AllocError` where memory is refused, and only where the buffer has no room for the line; then nothing is added.
 pub fn push_begun(out: &mut Vec<u8>) -> Result<(), AllocError>
     ensures ok { OnOk result (out.new.items ≡ out.old.items ++ answer_line answer.Begun) }
-    ensures room { OnErr result (LacksRoom out.old) }
+    ensures room { OnErr result (LacksRoomFor out.old (answer_line answer.Begun)) }
+    ensures grows { vec_capacity out.old ≤ vec_capacity out.new }
+    ensures err { OnErr result (out.new.items ≡ out.old.items) }
 {
     out.extend_from_slice(b"ok\n")
 }
@@ -123,10 +139,12 @@ pub fn push_begun(out: &mut Vec<u8>) -> Result<(), AllocError>
 /// Adds the line of an accepted abandon.
 ///
 /// # Errors
-/// `AllocError` where memory is refused, which it isn't where the buffer has room for 19 bytes; then nothing is added.
+/// `AllocError` where memory is refused, and only where the buffer has no room for the line; then nothing is added.
 pub fn push_gone(out: &mut Vec<u8>) -> Result<(), AllocError>
     ensures ok { OnOk result (out.new.items ≡ out.old.items ++ answer_line answer.Gone) }
-    ensures room { OnErr result (LacksRoom out.old) }
+    ensures room { OnErr result (LacksRoomFor out.old (answer_line answer.Gone)) }
+    ensures grows { vec_capacity out.old ≤ vec_capacity out.new }
+    ensures err { OnErr result (out.new.items ≡ out.old.items) }
 {
     out.extend_from_slice(b"gone\n")
 }
@@ -134,39 +152,24 @@ pub fn push_gone(out: &mut Vec<u8>) -> Result<(), AllocError>
 /// Adds the line of a refusal.
 ///
 /// # Errors
-/// `AllocError` where memory is refused, which it isn't where the buffer has room for 19 bytes, as many as the longest refusal has; then nothing is added.
+/// `AllocError` where memory is refused, and only where the buffer has no room for the line; then nothing is added.
 pub fn push_refused(reason: Reason, out: &mut Vec<u8>) -> Result<(), AllocError>
-    ensures ok { OnOk result (out.new.items
-        ≡ out.old.items ++ answer_line (answer.Refused reason)) }
-    ensures room { OnErr result (LacksRoom out.old) }
+    ensures ok { OnOk result (out.new.items ≡ out.old.items ++ answer_line (answer.Refused reason)) }
+    ensures room { OnErr result (LacksRoomFor out.old (answer_line (answer.Refused reason))) }
+    ensures grows { vec_capacity out.old ≤ vec_capacity out.new }
+    ensures err { OnErr result (out.new.items ≡ out.old.items) }
 {
     out.extend_from_slice(refusal_line(reason))
 }
 
-// Whether the step dropped a thing.
-fn is_dropped(access: Access, reply: &Option<Reply>) -> bool
-    ensures { result ≡ is_dropped access reply.now }
-{
-    matches!(access, Access::Table) && matches!(reply, Some(Reply::Done))
-}
-
-// Adds the line of a step that dropped a thing.
-fn push_dropped(out: &mut Vec<u8>) -> Result<(), AllocError>
-    ensures ok { OnOk result (out.new.items
-        ≡ out.old.items ++ answer_line (answer.Step access.Table (Some reply.Done))) }
-    ensures room { OnErr result (LacksRoom out.old) }
-{
-    out.extend_from_slice(b"table = ok\n")
-}
-
-// Adds the line of a step, piece by piece.
-fn push_access_line(
-    access: Access,
-    reply: &Option<Reply>,
-    out: &mut Vec<u8>,
-) -> Result<(), AllocError>
-    ensures { OnOk result (out.new.items
-        ≡ out.old.items ++ answer_line (answer.Step access reply.now)) }
+/// Adds the line of a step.
+///
+/// # Errors
+/// `AllocError` where memory is refused, and only where the buffer has no room for the line; then a front of it may have been added.
+pub fn push_step(access: Access, reply: &Option<Reply>, out: &mut Vec<u8>) -> Result<(), AllocError>
+    ensures ok { OnOk result (out.new.items ≡ out.old.items ++ answer_line (answer.Step access reply.now)) }
+    ensures room { OnErr result (LacksRoomFor out.old (answer_line (answer.Step access reply.now))) }
+    ensures grows { vec_capacity out.old ≤ vec_capacity out.new }
 {
     push_access(access, out)?;
     push_told(reply, out)?;
@@ -174,27 +177,14 @@ fn push_access_line(
     Ok(())
 }
 
-/// Adds the line of a step.
-///
-/// # Errors
-/// `AllocError` where memory is refused, which it isn't for a drop where the buffer has room for 19 bytes; then a front of the line may have been added.
-pub fn push_step(access: Access, reply: &Option<Reply>, out: &mut Vec<u8>) -> Result<(), AllocError>
-    ensures ok { OnOk result (out.new.items
-        ≡ out.old.items ++ answer_line (answer.Step access reply.now)) }
-    ensures room { OnErr result (is_dropped access reply.now ≡ true → LacksRoom out.old) }
-{
-    if is_dropped(access, reply) {
-        return push_dropped(out);
-    }
-    push_access_line(access, reply, out)
-}
-
 /// Adds the line that lists these words.
 ///
 /// # Errors
-/// `AllocError` where memory is refused; then a front of the line may have been added.
+/// `AllocError` where memory is refused, and only where the buffer has no room for the line; then a front of it may have been added.
 pub fn push_words(words: &[u64], out: &mut Vec<u8>) -> Result<(), AllocError>
-    ensures { OnOk result (out.new.items ≡ out.old.items ++ answer_line (answer.Words words.now)) }
+    ensures ok { OnOk result (out.new.items ≡ out.old.items ++ answer_line (answer.Words words.now)) }
+    ensures room { OnErr result (LacksRoomFor out.old (answer_line (answer.Words words.now))) }
+    ensures grows { vec_capacity out.old ≤ vec_capacity out.new }
 {
     out.extend_from_slice(b"words")?;
     push_numbers(words, out)?;
@@ -205,10 +195,11 @@ pub fn push_words(words: &[u64], out: &mut Vec<u8>) -> Result<(), AllocError>
 /// Adds the line of any answer.
 ///
 /// # Errors
-/// `AllocError` where memory is refused, which it isn't for a short answer where the buffer has room for 19 bytes; then a front of the line may have been added.
+/// `AllocError` where memory is refused, and only where the buffer has no room for the line; then a front of it may have been added.
 pub fn push_answer(answer: &Answer, out: &mut Vec<u8>) -> Result<(), AllocError>
     ensures ok { OnOk result (out.new.items ≡ out.old.items ++ answer_line answer.now) }
-    ensures room { OnErr result (IsShort answer.now → LacksRoom out.old) }
+    ensures room { OnErr result (LacksRoomFor out.old (answer_line answer.now)) }
+    ensures grows { vec_capacity out.old ≤ vec_capacity out.new }
 {
     match answer {
         Answer::Begun => push_begun(out),

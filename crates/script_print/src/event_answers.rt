@@ -1,10 +1,10 @@
 //! The bytes of answers to lines of events, which are added to a buffer of the caller's.
-ghost use Rattle.std.specs.Prelude.{◌≡◌, ◌++◌, OnErr, OnOk};
+ghost use Rattle.std.specs.Prelude.{◌≡◌, ◌≤◌, ◌++◌, OnErr, OnOk, vec_capacity};
 ghost use Rattle.std.specs.Option.{option_map};
 ghost use Rattle.board_event_model.specs.WaitCalls.{word_in};
 ghost use Rattle.board_model.specs.AnswerGrammar.{number_text};
 ghost use Rattle.script_model.specs.ScriptAnswers.{event_access_text, event_reply_text, event_text, event_told_text, expired, found_text, of_ask, of_event, popped_text, script_answer_line};
-ghost use Rattle.script_print.specs.ShortAnswers.{LacksRoom};
+ghost use Rattle.script_print.specs.Room.{LacksRoomFor};
 
 use crate::answers::{push_number, push_numbers};
 use crate::names::{event_kind_name, notify_error_path};
@@ -20,8 +20,9 @@ fn push_event(
     name: &[u8],
     out: &mut Vec<u8>,
 ) -> Result<(), AllocError>
-    ensures { OnOk result (out.new.items
-        ≡ out.old.items ++ (word.now ++ event_text kind name.now)) }
+    ensures ok { OnOk result (out.new.items ≡ out.old.items ++ (word.now ++ event_text kind name.now)) }
+    ensures room { OnErr result (LacksRoomFor out.old (word.now ++ event_text kind name.now)) }
+    ensures grows { vec_capacity out.old ≤ vec_capacity out.new }
 {
     out.extend_from_slice(word)?;
     out.extend_from_slice(event_kind_name(kind))?;
@@ -31,7 +32,9 @@ fn push_event(
 
 // Adds what a look or a signal found.
 fn push_found(answer: EventAnswer, out: &mut Vec<u8>) -> Result<(), AllocError>
-    ensures { OnOk result (out.new.items ≡ out.old.items ++ found_text answer) }
+    ensures ok { OnOk result (out.new.items ≡ out.old.items ++ found_text answer) }
+    ensures room { OnErr result (LacksRoomFor out.old (found_text answer)) }
+    ensures grows { vec_capacity out.old ≤ vec_capacity out.new }
 {
     match answer {
         EventAnswer::Yes => out.extend_from_slice(b" yes"),
@@ -51,8 +54,9 @@ fn word_in(answer: EventAnswer) -> u64
 
 // Adds the number of a word, and what was read of it.
 fn push_read(word: u64, answer: EventAnswer, out: &mut Vec<u8>) -> Result<(), AllocError>
-    ensures { OnOk result (out.new.items
-        ≡ out.old.items ++ (number_text word ++ number_text (word_in answer))) }
+    ensures ok { OnOk result (out.new.items ≡ out.old.items ++ (number_text word ++ number_text (word_in answer))) }
+    ensures room { OnErr result (LacksRoomFor out.old (number_text word ++ number_text (word_in answer))) }
+    ensures grows { vec_capacity out.old ≤ vec_capacity out.new }
 {
     push_number(word, out)?;
     push_number(word_in(answer), out)
@@ -60,7 +64,9 @@ fn push_read(word: u64, answer: EventAnswer, out: &mut Vec<u8>) -> Result<(), Al
 
 // Adds what a pop gave.
 fn push_popped(answer: EventAnswer, out: &mut Vec<u8>) -> Result<(), AllocError>
-    ensures { OnOk result (out.new.items ≡ out.old.items ++ popped_text answer) }
+    ensures ok { OnOk result (out.new.items ≡ out.old.items ++ popped_text answer) }
+    ensures room { OnErr result (LacksRoomFor out.old (popped_text answer)) }
+    ensures grows { vec_capacity out.old ≤ vec_capacity out.new }
 {
     match answer {
         EventAnswer::Id(id) => push_number(id, out),
@@ -75,8 +81,9 @@ fn push_event_access(
     answer: EventAnswer,
     out: &mut Vec<u8>,
 ) -> Result<(), AllocError>
-    ensures { OnOk result (out.new.items
-        ≡ out.old.items ++ event_access_text kind name.now access answer) }
+    ensures ok { OnOk result (out.new.items ≡ out.old.items ++ event_access_text kind name.now access answer) }
+    ensures room { OnErr result (LacksRoomFor out.old (event_access_text kind name.now access answer)) }
+    ensures grows { vec_capacity out.old ≤ vec_capacity out.new }
 {
     match access {
         EventAccess::Listener => {
@@ -114,7 +121,9 @@ fn push_event_access(
 
 // Adds what a finished call on events is told.
 fn push_event_reply(reply: &EventReply, out: &mut Vec<u8>) -> Result<(), AllocError>
-    ensures { OnOk result (out.new.items ≡ out.old.items ++ event_reply_text reply.now) }
+    ensures ok { OnOk result (out.new.items ≡ out.old.items ++ event_reply_text reply.now) }
+    ensures room { OnErr result (LacksRoomFor out.old (event_reply_text reply.now)) }
+    ensures grows { vec_capacity out.old ≤ vec_capacity out.new }
 {
     match reply {
         EventReply::Done => out.extend_from_slice(b"ok"),
@@ -132,8 +141,9 @@ fn push_event_reply(reply: &EventReply, out: &mut Vec<u8>) -> Result<(), AllocEr
 
 // Adds what is told with the last step of a call on events.
 fn push_event_told(told: Option<&EventReply>, out: &mut Vec<u8>) -> Result<(), AllocError>
-    ensures { OnOk result (out.new.items
-        ≡ out.old.items ++ event_told_text (option_map (λ reply. reply.now) told.entry)) }
+    ensures ok { OnOk result (out.new.items ≡ out.old.items ++ event_told_text (option_map (λ reply. reply.now) told.entry)) }
+    ensures room { OnErr result (LacksRoomFor out.old (event_told_text (option_map (λ reply. reply.now) told.entry))) }
+    ensures grows { vec_capacity out.old ≤ vec_capacity out.new }
 {
     match told {
         None => Ok(()),
@@ -147,7 +157,7 @@ fn push_event_told(told: Option<&EventReply>, out: &mut Vec<u8>) -> Result<(), A
 /// Adds the line of a step that took an access to an event, with what its call is told where it ended.
 ///
 /// # Errors
-/// `AllocError` where memory is refused; then a front of the line may have been added.
+/// `AllocError` where memory is refused, and only where the buffer has no room for the line; then a front of it may have been added.
 pub fn push_event_step(
     kind: EventKind,
     name: &[u8],
@@ -156,9 +166,9 @@ pub fn push_event_step(
     told: Option<&EventReply>,
     out: &mut Vec<u8>,
 ) -> Result<(), AllocError>
-    ensures { OnOk result (out.new.items
-        ≡ out.old.items ++ script_answer_line (of_event kind name.now access answer
-        (option_map (λ reply. reply.now) told.entry))) }
+    ensures ok { OnOk result (out.new.items ≡ out.old.items ++ script_answer_line (of_event kind name.now access answer (option_map (λ reply. reply.now) told.entry))) }
+    ensures room { OnErr result (LacksRoomFor out.old (script_answer_line (of_event kind name.now access answer (option_map (λ reply. reply.now) told.entry)))) }
+    ensures grows { vec_capacity out.old ≤ vec_capacity out.new }
 {
     push_event_access(kind, name, access, answer, out)?;
     push_event_told(told, out)?;
@@ -169,10 +179,11 @@ pub fn push_event_step(
 /// Adds the line of a step that asked for a listener or a notifier.
 ///
 /// # Errors
-/// `AllocError` where memory is refused; then a front of the line may have been added.
+/// `AllocError` where memory is refused, and only where the buffer has no room for the line; then a front of it may have been added.
 pub fn push_event_asked(reply: &EventReply, out: &mut Vec<u8>) -> Result<(), AllocError>
-    ensures { OnOk result (out.new.items
-        ≡ out.old.items ++ script_answer_line (of_ask reply.now)) }
+    ensures ok { OnOk result (out.new.items ≡ out.old.items ++ script_answer_line (of_ask reply.now)) }
+    ensures room { OnErr result (LacksRoomFor out.old (script_answer_line (of_ask reply.now))) }
+    ensures grows { vec_capacity out.old ≤ vec_capacity out.new }
 {
     out.extend_from_slice(b"table = ")?;
     push_event_reply(reply, out)?;
@@ -183,10 +194,12 @@ pub fn push_event_asked(reply: &EventReply, out: &mut Vec<u8>) -> Result<(), All
 /// Adds the line of a wait that expired.
 ///
 /// # Errors
-/// `AllocError` where memory is refused, which it isn't where the buffer has room for 19 bytes; then nothing is added.
+/// `AllocError` where memory is refused, and only where the buffer has no room for the line; then nothing is added.
 pub fn push_expired(out: &mut Vec<u8>) -> Result<(), AllocError>
     ensures ok { OnOk result (out.new.items ≡ out.old.items ++ script_answer_line expired) }
-    ensures room { OnErr result (LacksRoom out.old) }
+    ensures room { OnErr result (LacksRoomFor out.old (script_answer_line expired)) }
+    ensures grows { vec_capacity out.old ≤ vec_capacity out.new }
+    ensures err { OnErr result (out.new.items ≡ out.old.items) }
 {
     out.extend_from_slice(b"= none\n")
 }

@@ -1,5 +1,5 @@
 //! The lines of refusals, and the words of types and errors.
-ghost use Rattle.std.specs.Prelude.{◌≡◌, ◌≤◌, ◌++◌, codes, length};
+ghost use Rattle.std.specs.Prelude.{◌≡◌, ◌++◌, codes};
 ghost use Rattle.board_model.specs.declared.answer.Answer.TheVariants as answer;
 ghost use Rattle.board_model.specs.AnswerGrammar.{answer_line, create_error_text, entry_error_text, entry_mut_error_text, open_error_text, reader_error_text, writer_error_text};
 ghost use Rattle.board_model.specs.LineGrammar.{key_type_text};
@@ -15,8 +15,7 @@ use board_names::{
 
 /// The line that refuses a line for this reason.
 pub(crate) fn refusal_line(reason: Reason) -> &'static [u8]
-    ensures text { result.now ≡ answer_line (answer.Refused reason) }
-    ensures short { length result.now ≤ 19 }
+    ensures { result.now ≡ answer_line (answer.Refused reason) }
 {
     match reason {
         Reason::Abandoned => b"refused abandoned\n",

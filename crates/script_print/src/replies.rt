@@ -1,8 +1,9 @@
 //! The bytes of replies, which are added to a buffer of the caller's.
-ghost use Rattle.std.specs.Prelude.{◌≡◌, ◌++◌, ◌∷◌, ◌==◌, OnOk, decimal, map, slice_index};
+ghost use Rattle.std.specs.Prelude.{◌≡◌, ◌≤◌, ◌++◌, ◌∷◌, ◌==◌, OnErr, OnOk, decimal, map, slice_index, vec_capacity};
 ghost use Rattle.std.specs.List.{flat_map, join_with_byte};
 ghost use Rattle.board_model.specs.AnswerGrammar.{info_text, key_item_text, name_item_text, number_text, reply_text, words_text};
 ghost use Rattle.board_model.specs.LineGrammar.{key_text};
+ghost use Rattle.script_print.specs.Room.{LacksRoomFor};
 ghost use Rattle.script_print.specs.Texts.{comma_text, counts_text};
 
 use crate::answers::{push_digits, push_number};
@@ -15,7 +16,9 @@ use std::alloc::AllocError;
 
 // Adds each number behind a comma.
 fn push_behind_commas(numbers: &[u64], out: &mut Vec<u8>) -> Result<(), AllocError>
-    ensures { OnOk result (out.new.items ≡ out.old.items ++ flat_map comma_text numbers.now) }
+    ensures ok { OnOk result (out.new.items ≡ out.old.items ++ flat_map comma_text numbers.now) }
+    ensures room { OnErr result (LacksRoomFor out.old (flat_map comma_text numbers.now)) }
+    ensures grows { vec_capacity out.old ≤ vec_capacity out.new }
 {
     for number in numbers {
         out.push(b',')?;
@@ -26,8 +29,9 @@ fn push_behind_commas(numbers: &[u64], out: &mut Vec<u8>) -> Result<(), AllocErr
 
 // Adds the numbers, which commas part.
 fn push_parted(numbers: &[u64], out: &mut Vec<u8>) -> Result<(), AllocError>
-    ensures { OnOk result (out.new.items
-        ≡ out.old.items ++ join_with_byte 44 (map decimal numbers.now)) }
+    ensures ok { OnOk result (out.new.items ≡ out.old.items ++ join_with_byte 44 (map decimal numbers.now)) }
+    ensures room { OnErr result (LacksRoomFor out.old (join_with_byte 44 (map decimal numbers.now))) }
+    ensures grows { vec_capacity out.old ≤ vec_capacity out.new }
 {
     match numbers {
         [] => Ok(()),
@@ -49,7 +53,9 @@ fn is_false(words: &[u64]) -> bool
 
 // Adds a value of a type, by its words.
 fn push_value(value_type: ValueType, words: &[u64], out: &mut Vec<u8>) -> Result<(), AllocError>
-    ensures { OnOk result (out.new.items ≡ out.old.items ++ words_text value_type words.now) }
+    ensures ok { OnOk result (out.new.items ≡ out.old.items ++ words_text value_type words.now) }
+    ensures room { OnErr result (LacksRoomFor out.old (words_text value_type words.now)) }
+    ensures grows { vec_capacity out.old ≤ vec_capacity out.new }
 {
     match value_type {
         ValueType::Bool => {
@@ -71,7 +77,9 @@ fn push_value(value_type: ValueType, words: &[u64], out: &mut Vec<u8>) -> Result
 }
 
 fn push_key(key: &Key, out: &mut Vec<u8>) -> Result<(), AllocError>
-    ensures { OnOk result (out.new.items ≡ out.old.items ++ key_text key.now) }
+    ensures ok { OnOk result (out.new.items ≡ out.old.items ++ key_text key.now) }
+    ensures room { OnErr result (LacksRoomFor out.old (key_text key.now)) }
+    ensures grows { vec_capacity out.old ≤ vec_capacity out.new }
 {
     match key {
         Key::U64(n) => {
@@ -87,7 +95,9 @@ fn push_key(key: &Key, out: &mut Vec<u8>) -> Result<(), AllocError>
 
 // Adds each key behind a space.
 fn push_keys(keys: &[Key], out: &mut Vec<u8>) -> Result<(), AllocError>
-    ensures { OnOk result (out.new.items ≡ out.old.items ++ flat_map key_item_text keys.now) }
+    ensures ok { OnOk result (out.new.items ≡ out.old.items ++ flat_map key_item_text keys.now) }
+    ensures room { OnErr result (LacksRoomFor out.old (flat_map key_item_text keys.now)) }
+    ensures grows { vec_capacity out.old ≤ vec_capacity out.new }
 {
     for key in keys {
         out.push(b' ')?;
@@ -98,7 +108,9 @@ fn push_keys(keys: &[Key], out: &mut Vec<u8>) -> Result<(), AllocError>
 
 // Adds each name behind a space.
 fn push_names(names: &[Name], out: &mut Vec<u8>) -> Result<(), AllocError>
-    ensures { OnOk result (out.new.items ≡ out.old.items ++ flat_map name_item_text names.now) }
+    ensures ok { OnOk result (out.new.items ≡ out.old.items ++ flat_map name_item_text names.now) }
+    ensures room { OnErr result (LacksRoomFor out.old (flat_map name_item_text names.now)) }
+    ensures grows { vec_capacity out.old ≤ vec_capacity out.new }
 {
     for name in names {
         out.push(b' ')?;
@@ -109,7 +121,9 @@ fn push_names(names: &[Name], out: &mut Vec<u8>) -> Result<(), AllocError>
 
 // Adds a word, and a number behind a space.
 pub(crate) fn push_counted(word: &[u8], n: u64, out: &mut Vec<u8>) -> Result<(), AllocError>
-    ensures { OnOk result (out.new.items ≡ out.old.items ++ (word.now ++ number_text n)) }
+    ensures ok { OnOk result (out.new.items ≡ out.old.items ++ (word.now ++ number_text n)) }
+    ensures room { OnErr result (LacksRoomFor out.old (word.now ++ number_text n)) }
+    ensures grows { vec_capacity out.old ≤ vec_capacity out.new }
 {
     out.extend_from_slice(word)?;
     push_number(n, out)
@@ -117,7 +131,9 @@ pub(crate) fn push_counted(word: &[u8], n: u64, out: &mut Vec<u8>) -> Result<(),
 
 // Adds a text and another.
 pub(crate) fn push_both(first: &[u8], second: &[u8], out: &mut Vec<u8>) -> Result<(), AllocError>
-    ensures { OnOk result (out.new.items ≡ out.old.items ++ (first.now ++ second.now)) }
+    ensures ok { OnOk result (out.new.items ≡ out.old.items ++ (first.now ++ second.now)) }
+    ensures room { OnErr result (LacksRoomFor out.old (first.now ++ second.now)) }
+    ensures grows { vec_capacity out.old ≤ vec_capacity out.new }
 {
     out.extend_from_slice(first)?;
     out.extend_from_slice(second)
@@ -125,7 +141,9 @@ pub(crate) fn push_both(first: &[u8], second: &[u8], out: &mut Vec<u8>) -> Resul
 
 // Adds how much a board has, and what is taken of it.
 fn push_counts(info: &Info, out: &mut Vec<u8>) -> Result<(), AllocError>
-    ensures { OnOk result (out.new.items ≡ out.old.items ++ counts_text info.now) }
+    ensures ok { OnOk result (out.new.items ≡ out.old.items ++ counts_text info.now) }
+    ensures room { OnErr result (LacksRoomFor out.old (counts_text info.now)) }
+    ensures grows { vec_capacity out.old ≤ vec_capacity out.new }
 {
     push_counted(b" entries", info.entries, out)?;
     push_counted(b" attrs", info.attributes, out)?;
@@ -135,7 +153,9 @@ fn push_counts(info: &Info, out: &mut Vec<u8>) -> Result<(), AllocError>
 }
 
 fn push_info(info: &Info, out: &mut Vec<u8>) -> Result<(), AllocError>
-    ensures { OnOk result (out.new.items ≡ out.old.items ++ info_text info.now) }
+    ensures ok { OnOk result (out.new.items ≡ out.old.items ++ info_text info.now) }
+    ensures room { OnErr result (LacksRoomFor out.old (info_text info.now)) }
+    ensures grows { vec_capacity out.old ≤ vec_capacity out.new }
 {
     push_both(b"info ", info.name.as_text().as_bytes(), out)?;
     push_both(b" ", key_type_name(info.key_type), out)?;
@@ -147,7 +167,9 @@ fn push_info(info: &Info, out: &mut Vec<u8>) -> Result<(), AllocError>
 
 // Adds what a finished call is told.
 pub(crate) fn push_reply(reply: &Reply, out: &mut Vec<u8>) -> Result<(), AllocError>
-    ensures { OnOk result (out.new.items ≡ out.old.items ++ reply_text reply.now) }
+    ensures ok { OnOk result (out.new.items ≡ out.old.items ++ reply_text reply.now) }
+    ensures room { OnErr result (LacksRoomFor out.old (reply_text reply.now)) }
+    ensures grows { vec_capacity out.old ≤ vec_capacity out.new }
 {
     match reply {
         Reply::Done => out.extend_from_slice(b"ok"),

@@ -1,11 +1,11 @@
 //! A machine on which no call was begun and nothing is held. It answers steps, expiries, looks at boards and the use of listeners and notifiers, and has no memory for anything else.
-ghost use Rattle.std.specs.Prelude.{◌≡◌, [], IfErr, IfOk, IsErrOf, OnErr, OnOk, Some};
+ghost use Rattle.std.specs.Prelude.{◌≡◌, ◌<◌, ◌≤◌, [], IfErr, IfOk, IsErrOf, OnErr, OnOk, Some, vec_capacity};
 ghost use Rattle.board_model.specs.declared.answer.Answer.TheVariants as answers;
 ghost use Rattle.board_model.specs.AnswerGrammar.{answer_line};
 ghost use Rattle.script_model.specs.declared.line.ScriptLine.{ScriptLine};
 ghost use Rattle.script_model.specs.ScriptGrammar.{SpellsLine};
-ghost use Rattle.script_loop.specs.Machines.{SpellsNone};
-ghost use Rattle.script_loop.specs.IdleMachine.{idle_reason};
+ghost use Rattle.script_loop.specs.Machines.{SpellsNone, short_room};
+ghost use Rattle.script_loop.specs.IdleMachine.{IdleWants, idle_reason};
 
 use crate::{LineError, RunsLines};
 use board_model::{Line, Reason};
@@ -43,6 +43,7 @@ fn refusal(alloc: Global, bytes: &[u8]) -> Result<Reason, LineError>
     ensures ok { IfOk result (λ why.
         (l : ScriptLine) × SpellsLine bytes.now l × (Some why ≡ idle_reason l)) }
     ensures bad { IsErrOf result LineError.Bad → SpellsNone bytes.now }
+    ensures memory { IsErrOf result LineError.OutOfMemory → IdleWants bytes.now }
 {
     let Some(line) = parse_line(alloc, bytes)? else {
         return Err(LineError::Bad);
@@ -55,6 +56,8 @@ fn write_refusal(reason: Reason, answer: &mut Vec<u8>) -> Result<(), LineError>
     ensures ok { OnOk result (answer.new.items ≡ answer_line (answers.Refused reason)) }
     ensures err { OnErr result (answer.new.items ≡ []) }
     ensures kind { IfErr result (λ e. e ≡ LineError.OutOfMemory) }
+    ensures memory { OnErr result (vec_capacity answer.old < short_room) }
+    ensures room { vec_capacity answer.old ≤ vec_capacity answer.new }
 {
     answer.clear();
     if push_refused(reason, answer).is_err() {
@@ -67,8 +70,11 @@ fn write_refusal(reason: Reason, answer: &mut Vec<u8>) -> Result<(), LineError>
 impl RunsLines for Idle {
     ghost use Rattle.std.specs.Prelude.{◌≡◌};
     ghost use Rattle.script_model.specs.ScriptSession.{start};
+    ghost use Rattle.script_loop.specs.IdleMachine.{IdleWants};
 
     ghost stands = { λ machine n s. s ≡ start };
+
+    ghost wants = { λ machine bytes. IdleWants bytes };
 
     fn line(&mut self, line: &[u8], answer: &mut Vec<u8>) -> Result<(), LineError> {
         answer.clear();

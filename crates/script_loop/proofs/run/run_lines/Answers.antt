@@ -1,11 +1,11 @@
-use Rattle.std.proofs.Common.{◌-◌, length, ap, refl, subst, rules, arith}
+use Rattle.std.proofs.Common.{◌-◌, length, ap, refl, subst, rules, arith, inl, inr}
 use Rattle.script_model.specs.ScriptOutput.{output_of}
 use Rattle.script_loop.specs.Reader.{line_given}
 use Rattle.script_loop.specs.Machines.{SpellsNone}
 use Rattle.script_loop.proofs.CompleteLemmas.{gave_up, left_grammar, ran, unread, unwritten, was_long}
 use Rattle.script_loop.proofs.GoingOn.{cut_short, fits_one_more, goes_further, starts_on}
 use Rattle.script_loop.proofs.LineLemmas.{takes_line}
-use Rattle.script_loop.proofs.RunLemmas.{bad_at, ends, is_past, is_spent, long_at, spent_at_once, stands_for, write_cut}
+use Rattle.script_loop.proofs.RunLemmas.{bad_at, ends, is_past, is_spent, long_at, spent_at_once, stands_for, wanting, write_cut}
 use Rattle.script_loop.proofs.run.run_lines.Goals as goal
 
 pub loop-n-init : goal.loop-n-init
@@ -14,8 +14,22 @@ loop-n-init g c = record {
   one_source = search rules;
   reads = refl;
   writes = refl;
+  room = search rules;
   unfailing = λ h. h;
 }
+
+pub returns-in_default-clause-memory : goal.returns-in_default-clause-memory
+returns-in_default-clause-memory g c = λ e. inl (record { unread = refl; unwritten = refl })
+
+pub returns-in_default-with_capacity-clause-memory : goal.returns-in_default-with_capacity-clause-memory
+returns-in_default-with_capacity-clause-memory g c = λ e. inl (record { unread = refl; unwritten = refl })
+
+pub returns-in-Err-OutOfMemory-clause-memory : goal.returns-in-Err-OutOfMemory-clause-memory
+returns-in-Err-OutOfMemory-clause-memory g c = λ e.
+    let f = rw c.in-Ok-Line.field-0-is at c.in-Ok-Line.ensures.fetched in
+    let one = rw c.in-Ok-Line.field-0-is at c.in-Ok-Line.ensures.short in
+    let w = c.in-Err-OutOfMemory.ensures.memory (cc c.in-Err-OutOfMemory.field-0-is) c.loop-n.invariant.room in
+    inr (wanting _ g.M.RunsLines.wants _ _ c.args.limit _ _ _ _ _ c.loop-n.invariant.on.run c.loop-n-test.true (takes_line _ _ _ _ one.0 f) (rw c.line.ensures at w))
 
 pub returns-in_default-clause-runs : goal.returns-in_default-clause-runs
 returns-in_default-clause-runs g c = gave_up _ _ _ refl refl (spent_at_once _ _ _ refl)
@@ -72,6 +86,7 @@ loop-n-preserved g c =
       one_source = c.next.ensures.one_source;
       reads = search rules;
       writes = search rules;
+      room = search rules;
       unfailing = search rules;
     }
 

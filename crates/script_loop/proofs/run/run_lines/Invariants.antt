@@ -1,5 +1,7 @@
 use Rattle.std.proofs.Common.{◌≡◌, ◌≤◌, IsTrue}
+use Rattle.std.specs.Prelude.{vec_capacity}
 use Rattle.std.specs.Io.KnownBytes.{IsAtEnd, prepend_known}
+use Rattle.script_loop.specs.Machines.{short_room}
 use Rattle.script_loop.specs.Reader.{source_ended, in_hand}
 use Rattle.script_loop.proofs.GoingOn.{HasRunOn}
 use Rattle.script_loop.proofs.run.run_lines.Given as goal
@@ -10,5 +12,6 @@ invariant-loop-n g l = record {
   one_source : IsTrue (source_ended l.reader) → IsAtEnd (g.S.Source.left l.source);
   reads : g.S.Source.faults l.source ≡ g.S.Source.faults l.fn.source;
   writes : g.K.Sink.faults l.sink ≡ g.K.Sink.faults l.fn.sink;
+  room : short_room ≤ vec_capacity l.answer;
   unfailing : g.S.Source.never_fails l.fn.source → g.S.Source.never_fails l.source;
 }

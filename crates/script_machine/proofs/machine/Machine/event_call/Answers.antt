@@ -43,13 +43,13 @@ returns-in-None-clause-tells g c = on_ok (λ e s count rep reached.
     (λ a. record { alive = rep.alive; boards = rep.boards; events = turned.represents a }) (from_nothing _ _ _ c.requires.empty e)) c.push_answer.result c.push_answer.ensures.ok
 
 pub returns-then-runs-clause-memory : goal.returns-then-runs-clause-memory
-returns-then-runs-clause-memory g c = refused_wants c.push_refused.result c.args.out.now (TakesMemory c.args.self.now (line.Event c.args.party c.args.request)) c.push_refused.ensures.room
+returns-then-runs-clause-memory g c = refused_wants c.push_refused.result c.args.out.now reason.Busy (TakesMemory c.args.self.now (line.Event c.args.party c.args.request)) c.push_refused.ensures.room
 
 pub returns-in-Some-clause-memory : goal.returns-in-Some-clause-memory
-returns-in-Some-clause-memory g c = refused_wants c.push_refused-in-Some.result c.args.out.now (TakesMemory c.args.self.now (line.Event c.args.party c.args.request)) c.push_refused-in-Some.ensures.room
+returns-in-Some-clause-memory g c = refused_wants c.push_refused-in-Some.result c.args.out.now c.in-Some.why (TakesMemory c.args.self.now (line.Event c.args.party c.args.request)) c.push_refused-in-Some.ensures.room
 
 pub returns-in-Some-2-clause-memory : goal.returns-in-Some-2-clause-memory
-returns-in-Some-2-clause-memory g c = refused_wants c.push_refused-in-Some-2.result c.args.out.now (TakesMemory c.args.self.now (line.Event c.args.party c.args.request)) c.push_refused-in-Some-2.ensures.room
+returns-in-Some-2-clause-memory g c = refused_wants c.push_refused-in-Some-2.result c.args.out.now c.in-Some-2.why (TakesMemory c.args.self.now (line.Event c.args.party c.args.request)) c.push_refused-in-Some-2.ensures.room
 
 pub returns-in_err-why-clause-memory : goal.returns-in_err-why-clause-memory
 returns-in_err-why-clause-memory g c = anyway c.from_residual.result _ (λ room s count rep reached.

@@ -9,7 +9,8 @@ use Rattle.script_model.specs.ScriptTurns.{expire_of_call}
 use Rattle.script_machine.specs.ScriptMachine.{no_wait}
 use Rattle.script_machine.proofs.Turns.{expire_free, expire_unfree, expired_told, from_nothing, never_some, refusal_told, told_refused}
 use Rattle.script_machine.specs.Wants.{TakesMemory}
-use Rattle.script_machine.proofs.Wants.{refused_wants}
+use Rattle.script_machine.proofs.Wants.{refused_wants, told_wants}
+use Rattle.script_model.specs.ScriptAnswers.{expired}
 use Rattle.script_machine.proofs.machine.Machine.expire.Goals as goal
 
 pub returns-in-Some-clause-tells : goal.returns-in-Some-clause-tells
@@ -34,10 +35,10 @@ returns-in-None-clause-tells g c = on_ok (λ e s count rep reached.
     (λ a. record { alive = rep.alive; boards = rep.boards; events = turned.represents a }) (from_nothing _ _ _ c.requires.empty e)) c.push_expired.result c.push_expired.ensures.ok
 
 pub returns-in-Some-clause-memory : goal.returns-in-Some-clause-memory
-returns-in-Some-clause-memory g c = refused_wants c.push_refused.result c.args.out.now (TakesMemory c.args.self.now (line.Expire c.args.party.now)) c.push_refused.ensures.room
+returns-in-Some-clause-memory g c = refused_wants c.push_refused.result c.args.out.now c.no_wait.result (TakesMemory c.args.self.now (line.Expire c.args.party.now)) c.push_refused.ensures.room
 
 pub returns-in-Some-expire-clause-memory : goal.returns-in-Some-expire-clause-memory
-returns-in-Some-expire-clause-memory g c = refused_wants c.push_refused-in-Some-expire.result c.args.out.now (TakesMemory c.args.self.now (line.Expire c.args.party.now)) c.push_refused-in-Some-expire.ensures.room
+returns-in-Some-expire-clause-memory g c = refused_wants c.push_refused-in-Some-expire.result c.args.out.now c.in-Some-expire.why (TakesMemory c.args.self.now (line.Expire c.args.party.now)) c.push_refused-in-Some-expire.ensures.room
 
 pub returns-in-None-clause-memory : goal.returns-in-None-clause-memory
-returns-in-None-clause-memory g c = refused_wants c.push_expired.result c.args.out.now (TakesMemory c.args.self.now (line.Expire c.args.party.now)) c.push_expired.ensures.room
+returns-in-None-clause-memory g c = told_wants c.push_expired.result c.args.out.now expired (TakesMemory c.args.self.now (line.Expire c.args.party.now)) tt c.push_expired.ensures.room (λ no. absurd (no tt))

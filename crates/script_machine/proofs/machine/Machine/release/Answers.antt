@@ -13,7 +13,7 @@ use Rattle.script_model.specs.ScriptEvents.{holds_event, runs_on_events}
 use Rattle.script_model.specs.ScriptTurns.{board_turn, drops}
 use Rattle.script_machine.proofs.Turns.{from_nothing, none_is, release_busy, release_held, release_unfree, release_unheld, told_alone, told_refused, told_turn}
 use Rattle.script_machine.specs.Wants.{TakesMemory}
-use Rattle.script_machine.proofs.Wants.{answered_wants, dropped_short, refused_wants}
+use Rattle.script_machine.proofs.Wants.{answered_wants, dropped_short, refused_wants, served_formed}
 use Rattle.script_machine.proofs.machine.Machine.release.Goals.{else-is_none-via-then-is_none+else-holds, else-is_none-via-else-is_none}
 use Rattle.script_machine.proofs.machine.Machine.release.Goals as goal
 
@@ -45,12 +45,12 @@ returns-clause-tells g c = on_ok (λ e s count rep reached.
     (record { alive = rep.alive; boards = served.1; events = rep.events }) (from_nothing _ _ _ c.requires.empty e)) c.push_answer-2.result c.push_answer-2.ensures.ok
 
 pub returns-then-runs-clause-memory : goal.returns-then-runs-clause-memory
-returns-then-runs-clause-memory g c = refused_wants c.push_refused.result c.args.out.now (TakesMemory c.args.self.now (line.Board (board_line.Release c.args.party.now c.args.name.now))) c.push_refused.ensures.room
+returns-then-runs-clause-memory g c = refused_wants c.push_refused.result c.args.out.now reason.Busy (TakesMemory c.args.self.now (line.Board (board_line.Release c.args.party.now c.args.name.now))) c.push_refused.ensures.room
 
 pub returns-then-holds-clause-memory : goal.returns-then-holds-clause-memory
-returns-then-holds-clause-memory g c = answered_wants c.push_answer.result c.args.out.now (answer.Step access.Table (Some reply.Done)) (TakesMemory c.args.self.now (line.Board (board_line.Release c.args.party.now c.args.name.now))) c.push_answer.ensures.room (λ no. absurd (no refl))
+returns-then-holds-clause-memory g c = answered_wants c.push_answer.result c.args.out.now (answer.Step access.Table (Some reply.Done)) (TakesMemory c.args.self.now (line.Board (board_line.Release c.args.party.now c.args.name.now))) (tt, tt) c.push_answer.ensures.room (λ no. absurd (no tt))
 
 pub returns-clause-memory : goal.returns-clause-memory
-returns-clause-memory g c = answered_wants c.push_answer-2.result c.args.out.now c.release-answer.result (TakesMemory c.args.self.now (line.Board (board_line.Release c.args.party.now c.args.name.now))) c.push_answer-2.ensures.room (λ no s count rep reached.
+returns-clause-memory g c = answered_wants c.push_answer-2.result c.args.out.now c.release-answer.result (TakesMemory c.args.self.now (line.Board (board_line.Release c.args.party.now c.args.name.now))) (served_formed _ _ (board_line.Release c.args.party.now c.args.name.now) c.release-answer.result c.release-answer.ensures.serves c.requires.led c.requires.line) c.push_answer-2.ensures.room (λ no s count rep reached.
     let served = c.release-answer.ensures.serves s.boards rep.boards reached.boards c.requires.line in
     absurd (no (dropped_short s.boards c.args.party.now c.args.name.now c.release-answer.result served.0)))

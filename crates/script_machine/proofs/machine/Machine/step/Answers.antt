@@ -3,11 +3,10 @@ use Rattle.board_model.specs.declared.line.Line.TheVariants as board_line
 use Rattle.script_boards.proofs.Listings.{on_ok}
 use Rattle.script_model.specs.ScriptEvents.{runs_on_events}
 use Rattle.script_machine.proofs.Turns.{from_nothing, step_alone, told_alone}
-use Rattle.board_model.specs.LawfulSession.{reason_of}
-use Rattle.script_boards.proofs.StepWants.{takes_unrefused}
 use Rattle.script_model.specs.declared.line.ScriptLine.TheVariants as line
 use Rattle.script_machine.specs.Wants.{TakesMemory}
-use Rattle.script_machine.proofs.Wants.{accepted, alone_accepted, answered_wants, anyway}
+use Rattle.script_machine.proofs.Wants.{answered_wants, anyway, served_formed, step_takes_at}
+use Rattle.script_machine.proofs.ShortSteps.{step_wants}
 use Rattle.script_machine.proofs.machine.Machine.step.Goals as goal
 
 pub step_on_events-requires-clause-runs : goal.step_on_events-requires-clause-runs
@@ -23,10 +22,10 @@ returns-clause-tells g c = on_ok (λ e s count rep reached.
 pub returns-in_err-answer-clause-memory : goal.returns-in_err-answer-clause-memory
 returns-in_err-answer-clause-memory g c = anyway c.from_residual.result _ (λ room s count rep reached.
     let runs : runs_on_events s.events c.args.party.now ≡ false = sym (c.runs.ensures s.events count reached.few reached.sound.events rep.events) ∙ c.if-runs.false in
-    alone_accepted s (board_line.Step c.args.party.now) (step_alone s c.args.party.now runs) (takes_unrefused s.boards (board_line.Step c.args.party.now) (c.in_err-answer.ensures.memory s.boards rep.boards reached.boards)))
+    step_takes_at s c.args.party.now false runs (c.in_err-answer.ensures.memory s.boards rep.boards reached.boards))
 
 pub returns-clause-memory : goal.returns-clause-memory
-returns-clause-memory g c = answered_wants c.push_answer.result c.args.out.now c.in_ok-answer.answer (TakesMemory c.args.self.now (line.Board (board_line.Step c.args.party.now))) c.push_answer.ensures.room (λ no s count rep reached.
+returns-clause-memory g c = answered_wants c.push_answer.result c.args.out.now c.in_ok-answer.answer (TakesMemory c.args.self.now (line.Board (board_line.Step c.args.party.now))) (served_formed _ _ (board_line.Step c.args.party.now) c.in_ok-answer.answer c.in_ok-answer.ensures.serves c.requires.led c.requires.line) c.push_answer.ensures.room (λ no s count rep reached.
     let runs : runs_on_events s.events c.args.party.now ≡ false = sym (c.runs.ensures s.events count reached.few reached.sound.events rep.events) ∙ c.if-runs.false in
     let served = c.in_ok-answer.ensures.serves s.boards rep.boards reached.boards c.requires.line in
-    alone_accepted s (board_line.Step c.args.party.now) (step_alone s c.args.party.now runs) (accepted (reason_of s.boards (board_line.Step c.args.party.now)) c.in_ok-answer.answer served.0.reason no))
+    step_takes_at s c.args.party.now false runs (step_wants s.boards c.args.party.now c.in_ok-answer.answer reached.boards.sound served.0 no))

@@ -1,5 +1,5 @@
 use Rattle.std.proofs.Common.{◌≡◌, ℕ, true, refl, ap, subst, ◌∙◌, List, ◌++◌, Option}
-use Rattle.std.specs.Prelude.{option_map}
+use Rattle.std.specs.Prelude.{OnErr, option_map}
 use Rattle.script_model.specs.declared.reply.EventReply.{EventReply}
 use Rattle.board_model.specs.declared.line.Line.TheVariants as board_line
 use Rattle.script_boards.proofs.Listings.{on_ok}
@@ -9,11 +9,14 @@ use Rattle.script_events.proofs.Shown.{access_shown, ask_shown, event_stands}
 use Rattle.script_model.specs.declared.line.ScriptLine.TheVariants as line
 use Rattle.script_model.specs.ScriptAnswers.{of_ask, of_event, script_answer_line}
 use Rattle.script_model.specs.ScriptEvents.{runs_on_events}
-use Rattle.script_model.specs.ScriptTurns.{steps}
+use Rattle.script_model.specs.ScriptTurns.{ScriptState, steps}
 use Rattle.script_model.proofs.FormedLemmas.{step_formed_so}
 use Rattle.script_machine.proofs.Turns.{from_nothing, step_taken, told_turn}
-use Rattle.script_machine.specs.Wants.{BoardMayWant}
-use Rattle.script_machine.proofs.Wants.{anyway, turn_accepted}
+use Rattle.script_print.specs.Room.{LacksRoomFor}
+use Rattle.script_machine.specs.ScriptMachine.{IsReached, Represents}
+use Rattle.script_machine.specs.Wants.{TakesMemory}
+use Rattle.script_machine.proofs.ShortSteps.{event_step_wants}
+use Rattle.script_machine.proofs.Wants.{anyway, step_takes_at, told_wants}
 use Rattle.script_machine.proofs.machine.Machine.step_on_events.Goals as goal
 
 pub step-requires-clause-runs : goal.step-requires-clause-runs
@@ -32,7 +35,7 @@ returns-in-Asked-clause-tells g c = on_ok (λ e s count rep reached.
     let stepped = subst (λ (t : Stepped). IsStepped c.step.new.self s.events c.args.party.now t) c.in-Asked.is (c.in_ok-reply.ensures.told s.events count reached.few reached.sound.events rep.events) in
     let shown = ask_shown c.step.new.self s.events c.args.party.now c.in-Asked.reply stepped in
     told_turn _ s (line.Board (board_line.Step c.args.party.now)) (steps c.args.party.now) (of_ask c.in-Asked.reply) _ (step_taken s c.args.party.now runs) c.requires.line shown.right (step_formed_so s (line.Board (board_line.Step c.args.party.now)) count c.args.party.now _ reached.sound reached.few shown.right)
-    (record { alive = rep.alive; boards = rep.boards; events = shown.represents }) (from_nothing _ _ _ c.requires.empty e)) c.push_event_asked.result c.push_event_asked.ensures
+    (record { alive = rep.alive; boards = rep.boards; events = shown.represents }) (from_nothing _ _ _ c.requires.empty e)) c.push_event_asked.result c.push_event_asked.ensures.ok
 
 pub returns-in-Acted-clause-tells : goal.returns-in-Acted-clause-tells
 returns-in-Acted-clause-tells g c = on_ok (λ e s count rep reached.
@@ -42,19 +45,37 @@ returns-in-Acted-clause-tells g c = on_ok (λ e s count rep reached.
     let printed = e ∙ ap (λ (n : List ℕ). c.args.out.now.items ++ script_answer_line (of_event c.kind_of.result n c.in-Acted.access c.in-Acted.answer (option_map (λ reply. reply.now) c.as_ref.result))) c.as_bytes.ensures.value
     ∙ ap (λ (t : Option EventReply). c.args.out.now.items ++ script_answer_line (of_event c.kind_of.result c.name_of.result.now c.in-Acted.access c.in-Acted.answer t)) c.as_ref.ensures.value in
     told_turn _ s (line.Board (board_line.Step c.args.party.now)) (steps c.args.party.now) (of_event c.kind_of.result c.name_of.result.now c.in-Acted.access c.in-Acted.answer c.in-Acted.told) _ (step_taken s c.args.party.now runs) c.requires.line shown.right (step_formed_so s (line.Board (board_line.Step c.args.party.now)) count c.args.party.now _ reached.sound reached.few shown.right)
-    (record { alive = rep.alive; boards = rep.boards; events = shown.represents }) (from_nothing _ _ _ c.requires.empty printed)) c.push_event_step.result c.push_event_step.ensures
+    (record { alive = rep.alive; boards = rep.boards; events = shown.represents }) (from_nothing _ _ _ c.requires.empty printed)) c.push_event_step.result c.push_event_step.ensures.ok
 
 pub returns-in_err-reply-clause-memory : goal.returns-in_err-reply-clause-memory
 returns-in_err-reply-clause-memory g c = anyway c.from_residual.result _ (λ room s count rep reached.
     let runs : runs_on_events s.events c.args.party.now ≡ true = c.requires.runs s.events count reached.few reached.sound.events rep.events in
-    turn_accepted s (line.Board (board_line.Step c.args.party.now)) (steps c.args.party.now) (step_taken s c.args.party.now runs) refl)
+    step_takes_at s c.args.party.now true runs (c.in_err-reply.ensures.memory s.events count reached.few reached.sound.events rep.events))
 
 pub returns-in-Asked-clause-memory : goal.returns-in-Asked-clause-memory
-returns-in-Asked-clause-memory g c = anyway c.push_event_asked.result (BoardMayWant c.args.self.now (board_line.Step c.args.party.now) c.args.out.now) (λ room s count rep reached.
-    let runs : runs_on_events s.events c.args.party.now ≡ true = c.requires.runs s.events count reached.few reached.sound.events rep.events in
-    turn_accepted s (line.Board (board_line.Step c.args.party.now)) (steps c.args.party.now) (step_taken s c.args.party.now runs) refl)
+returns-in-Asked-clause-memory g c =
+    let m = c.args.self.now in
+    let p = c.args.party.now in
+    let shown = λ (s : ScriptState) (count : ℕ) (rep : Represents m s) (reached : IsReached s count).
+        ask_shown c.step.new.self s.events p c.in-Asked.reply (subst (λ (t : Stepped). IsStepped c.step.new.self s.events p t) c.in-Asked.is (c.in_ok-reply.ensures.told s.events count reached.few reached.sound.events rep.events)) in
+    let led = c.requires.led in
+    let formed = step_formed_so led.state (line.Board (board_line.Step p)) led.count p _ led.reached.sound led.reached.few (shown led.state led.count led.represents led.reached).right in
+    told_wants c.push_event_asked.result c.args.out.now (of_ask c.in-Asked.reply) (TakesMemory m (line.Board (board_line.Step p))) formed c.push_event_asked.ensures.room (λ long s count rep reached.
+    step_takes_at s p true (c.requires.runs s.events count reached.few reached.sound.events rep.events)
+    (event_step_wants s.events (s.events.asked p) (s.events.session.doing p) _ (shown s count rep reached).right long))
 
 pub returns-in-Acted-clause-memory : goal.returns-in-Acted-clause-memory
-returns-in-Acted-clause-memory g c = anyway c.push_event_step.result (BoardMayWant c.args.self.now (board_line.Step c.args.party.now) c.args.out.now) (λ room s count rep reached.
-    let runs : runs_on_events s.events c.args.party.now ≡ true = c.requires.runs s.events count reached.few reached.sound.events rep.events in
-    turn_accepted s (line.Board (board_line.Step c.args.party.now)) (steps c.args.party.now) (step_taken s c.args.party.now runs) refl)
+returns-in-Acted-clause-memory g c =
+    let m = c.args.self.now in
+    let p = c.args.party.now in
+    let shown = λ (s : ScriptState) (count : ℕ) (rep : Represents m s) (reached : IsReached s count).
+        access_shown c.step.new.self s.events p c.in-Acted.event c.in-Acted.access c.in-Acted.answer c.in-Acted.told c.kind_of.result c.name_of.result.now
+        (subst (λ (t : Stepped). IsStepped c.step.new.self s.events p t) c.in-Acted.is (c.in_ok-reply.ensures.told s.events count reached.few reached.sound.events rep.events)) c.kind_of.ensures c.name_of.ensures in
+    let led = c.requires.led in
+    let formed = step_formed_so led.state (line.Board (board_line.Step p)) led.count p _ led.reached.sound led.reached.few (shown led.state led.count led.represents led.reached).right in
+    let text = λ (n : List ℕ) (t : Option EventReply). script_answer_line (of_event c.kind_of.result n c.in-Acted.access c.in-Acted.answer t) in
+    let named = ap (λ (n : List ℕ). text n (option_map (λ reply. reply.now) c.as_ref.result)) c.as_bytes.ensures.value ∙ ap (λ (t : Option EventReply). text c.name_of.result.now t) c.as_ref.ensures.value in
+    let lacks = subst (λ (bytes : List ℕ). OnErr c.push_event_step.result (LacksRoomFor c.args.out.now bytes)) named c.push_event_step.ensures.room in
+    told_wants c.push_event_step.result c.args.out.now (of_event c.kind_of.result c.name_of.result.now c.in-Acted.access c.in-Acted.answer c.in-Acted.told) (TakesMemory m (line.Board (board_line.Step p))) formed lacks (λ long s count rep reached.
+    step_takes_at s p true (c.requires.runs s.events count reached.few reached.sound.events rep.events)
+    (event_step_wants s.events (s.events.asked p) (s.events.session.doing p) _ (shown s count rep reached).right long))

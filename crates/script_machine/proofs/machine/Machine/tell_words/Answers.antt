@@ -49,4 +49,4 @@ returns-in-Some-clause-memory g c =
     anyway c.push_listing.result (BoardMayWant c.args.self.now (board_line.Words n) c.args.out.now) (λ room s count rep reached. alone_accepted s (board_line.Words n) refl (rw (stands s.boards rep.boards) refl))
 
 pub returns-in-None-clause-memory : goal.returns-in-None-clause-memory
-returns-in-None-clause-memory g c = refused_wants c.push_refused.result c.args.out.now (TakesMemory c.args.self.now (line.Board (board_line.Words c.args.board))) c.push_refused.ensures.room
+returns-in-None-clause-memory g c = refused_wants c.push_refused.result c.args.out.now reason.NoBoard (TakesMemory c.args.self.now (line.Board (board_line.Words c.args.board))) c.push_refused.ensures.room

@@ -1,0 +1,138 @@
+-- A step that takes no memory tells no list.
+use Rattle.std.proofs.Common.{◌≡◌, ℕ, ◌≤◌, ◌+◌, Bool, true, false, List, length, arith, refl, sym, ap, subst, ◌∙◌, Option, Some, None, inl, inr}
+use Rattle.std.specs.Prelude.{◌⊎◌, if◌then◌else◌, is_some, IfSome, IsSomeAnd, Result, Ok, Err}
+use Rattle.board_cell_model.specs.declared.access.Access.{Access}
+use Rattle.board_event_model.specs.declared.call.EventProgress.{EventProgress}
+use Rattle.board_event_model.specs.declared.call.EventProgress.TheVariants as progress
+use Rattle.board_event_model.specs.EventCalls.{RunningCall, call_of, owed, turn}
+use Rattle.board_event_model.specs.EventMemory.{Event}
+use Rattle.board_event_model.specs.EventSessions.{PartyCall, event_of}
+use Rattle.board_model.specs.declared.answer.Answer.{Answer}
+use Rattle.board_model.specs.declared.answer.Answer.TheVariants as answer
+use Rattle.board_model.specs.declared.answer.Reply.{Reply}
+use Rattle.board_model.specs.declared.answer.Reply.TheVariants as reply
+use Rattle.board_model.specs.declared.line.Line.TheVariants as board_line
+use Rattle.board_model.specs.declared.value.ValueType.{ValueType}
+use Rattle.board_model.specs.declared.value.ValueType.TheVariants as type
+use Rattle.board_model.specs.LawfulSession.{IsOwedStep, IsRight, IsToldStep, State, reason_of}
+use Rattle.board_model.specs.Parties.{Party, Running, free, gone, running}
+use Rattle.board_model.specs.Replies.{ask, latest, number_or}
+use Rattle.board_model.specs.Requests.{Fetch, Request, and_then, create, discard, entry, entry_mut, fill, fresh, gen, get, id, info, keys, loan, nodes, open_, publish, put, reader, table, update, writer}
+use Rattle.board_model.specs.Sound.{IsCalling, IsParty, Sound}
+use Rattle.board_model.specs.TypeTable.{word_count}
+use Rattle.script_boards.specs.Wants.{next_takes, step_takes, takes_memory}
+use Rattle.script_events.specs.Calls.{reports}
+use Rattle.script_events.specs.PartyEvents.{StepTakes, may_give}
+use Rattle.script_events.proofs.Running.{reporting}
+use Rattle.script_lengths.specs.ShortAnswers.{IsShortAnswer, IsShortOnEvents, IsShortReply, IsShortScriptAnswer}
+use Rattle.script_model.specs.declared.reply.EventReply.{EventReply}
+use Rattle.script_model.specs.declared.reply.EventReply.TheVariants as event_reply
+use Rattle.script_model.specs.ScriptAnswers.{ScriptAnswer, of_ask, of_event}
+use Rattle.script_model.specs.ScriptEvents.{EventAsk, IsEventAccess, IsStepOf, ScriptEvents, ask_told, opened_told, step_told, to_listen, to_notify}
+use Rattle.script_machine.proofs.Wants.{short_by}
+
+-- ---- boards
+
+few_words : (t : ValueType) → word_count t ≤ 4
+few_words type.Bool = omega arith
+few_words type.U64 = omega arith
+few_words type.Q4 = omega arith
+
+number_short : {E : Type 0} (error : E → Reply) (r : Result ℕ E) → ((e : E) → IsShortReply (error e)) → IsShortReply (number_or error r)
+number_short error (Ok n) h = tt
+number_short error (Err e) h = h e
+
+module _ (s : State) (sound : Sound s) (party : List ℕ) (r : Running) where
+  abbrev told_by : Request → Reply
+  told_by q = (ask s.standing s.published party q).reply
+
+  -- a value has the words of its entry, which is of a value type
+  value_short : (f : Fetch) → IsCalling s party r (get f) → length (latest (s.published f.board f.entry)) ≤ 4
+  value_short f k =
+      let e = k.place.entry in
+      let cell = sound.boards.cells f.board f.entry e k.place.found in
+      let typed = sound.boards.typed f.board f.entry e k.place.found in
+      omega (arith, cell.size, typed.words, few_words typed.type)
+
+  asked_short : (q : Request) → IsCalling s party r q → (next_takes q r.so_far (told_by q) ≡ true → ⊥) → IsShortReply (told_by q)
+  asked_short (table (create f n k limits attributes entries)) h no = number_short (λ e. reply.CreateError e) _ (λ e. tt)
+  asked_short (table (open_ f n k limits needs)) h no = number_short (λ e. reply.OpenError e) _ (λ e. tt)
+  asked_short (table (reader n x)) h no = number_short (λ e. reply.ReaderError e) _ (λ e. tt)
+  asked_short (table (writer n x)) h no = number_short (λ e. reply.WriterError e) _ (λ e. tt)
+  asked_short (table (entry n x k t)) h no = number_short (λ e. reply.EntryError e) _ (λ e. tt)
+  asked_short (table (entry_mut n x k t)) h no = number_short (λ e. reply.EntryMutError e) _ (λ e. tt)
+  asked_short (table (loan l)) h no = tt
+  asked_short (table (discard l)) h no = tt
+  asked_short (table (keys x)) h no = absurd (no refl)
+  asked_short (table (nodes x)) h no = absurd (no refl)
+  asked_short (table (info x)) h no = absurd (no refl)
+  asked_short (table (id x)) h no = tt
+  asked_short (table (gen x)) h no = tt
+  asked_short (get f) h no = value_short f h
+  asked_short (fresh l) h no = tt
+  asked_short (update u) h no = tt
+  asked_short (put l i w) h no = tt
+  asked_short (publish l) h no = tt
+  asked_short (fill l v) h no = tt
+
+  told_short : (told : Option Reply) → IfSome told (λ x. x ≡ told_by r.request) → IsShortReply (told_by r.request) → IfSome told IsShortReply
+  told_short None e h = tt
+  told_short (Some x) e h = subst IsShortReply (sym e) h
+
+step_of : (s : State) → Sound s → (party : List ℕ) (p : Party) (a : Answer) → IsParty s party p → IsOwedStep p a → IsToldStep s party p a → (step_takes s party p ≡ true → ⊥) → IsShortAnswer a
+step_of s sound party free a k o t no = absurd o
+step_of s sound party gone a k o t no = absurd o
+step_of s sound party (running r) answer.Begun k o t no = absurd o
+step_of s sound party (running r) (answer.Refused why) k o t no = absurd o
+step_of s sound party (running r) (answer.Step x told) k o t no = told_short s sound party r told t.reply (asked_short s sound party r r.request k no)
+step_of s sound party (running r) answer.Gone k o t no = absurd o
+step_of s sound party (running r) (answer.Words words) k o t no = absurd o
+
+-- the answer to a step on boards that takes no memory
+pub step_short : (s : State) (party : List ℕ) (a : Answer) → Sound s → IsRight s (board_line.Step party) a → (takes_memory s (board_line.Step party) ≡ true → ⊥) → IsShortAnswer a
+step_short s party a sound right no =
+    short_by (reason_of s (board_line.Step party)) a right.reason (λ none. step_of s sound party (s.parties party) a (sound.parties party) (right.owed none) (right.reply none) no)
+
+test : (b : Bool) → (b ≡ true) ⊎ (b ≡ false)
+test true = inl refl
+test false = inr refl
+
+-- so a step whose answer isn't short takes some
+pub step_wants : (s : State) (party : List ℕ) (a : Answer) → Sound s → IsRight s (board_line.Step party) a → (IsShortAnswer a → ⊥) → takes_memory s (board_line.Step party) ≡ true
+step_wants s party a sound right long = elim (test (takes_memory s (board_line.Step party))) [
+  | inl takes ↦ takes
+  | inr stays ↦ absurd (long (step_short s party a sound right (λ takes. (let e : true ≡ false = sym takes ∙ stays in cc))))
+]
+
+-- ---- events
+
+ask_short : (x : ScriptEvents) (q : EventAsk) → IsShortOnEvents (ask_told x q)
+ask_short x (to_listen name k event max) = elim (is_some (x.names k event)) as (λ b. IsShortOnEvents (if b then event_reply.AlreadyExists else event_reply.Done)) [ true ↦ tt | false ↦ tt ]
+ask_short x (to_notify name k event) = opened (and_then (x.names k event) (event_of x.session.stands))
+  where
+    opened : (o : Option Event) → IsShortOnEvents (opened_told o)
+    opened None = tt
+    opened (Some e) = elim e.held as (λ b. IsShortOnEvents (if b then event_reply.Done else event_reply.DoesNotExist)) [ true ↦ tt | false ↦ tt ]
+
+-- a call is told ids only where its last access reports some
+ids_short : (r : RunningCall) (p : EventProgress) → reports p ≡ false → IfSome (step_told r p) IsShortOnEvents
+ids_short r progress.More e = tt
+ids_short r progress.Waiting e = tt
+ids_short r (progress.Took base bits last) e = absurd cc
+ids_short r (progress.Id i last) e = absurd cc
+ids_short r progress.Notified e = tt
+ids_short r (progress.Refused why) e = tt
+ids_short r progress.Nothing e = tt
+
+-- a step on events whose answer isn't short takes memory
+pub event_step_wants : (x : ScriptEvents) (q : Option EventAsk) (d : Option PartyCall) (a : ScriptAnswer) → IsStepOf x q d a → (IsShortScriptAnswer a → ⊥) → StepTakes x q d
+event_step_wants x (Some q) d a h long = absurd (long (subst IsShortScriptAnswer (sym h) (ask_short x q)))
+event_step_wants x None None a h long = absurd h
+event_step_wants x None (Some d) a h long = at (event_of x.session.stands d.on) h
+  where
+    at : (o : Option Event) → IsSomeAnd o (λ e. IsEventAccess e d.call a) → may_give (owed (call_of d.call)) ≡ true
+    at None k = absurd k
+    at (Some e) k = elim (test (reports (turn (call_of d.call) k.answer).0)) [
+      | inl gives ↦ reporting (call_of d.call) k.answer gives
+      | inr none ↦ absurd (long (subst IsShortScriptAnswer (sym k.printed) (ids_short d.call (turn (call_of d.call) k.answer).0 none)))
+    ]
