@@ -154,7 +154,8 @@ pub fn push_gone(out: &mut Vec<u8>) -> Result<(), AllocError>
 /// # Errors
 /// `AllocError` where memory is refused, and only where the buffer has no room for the line; then nothing is added.
 pub fn push_refused(reason: Reason, out: &mut Vec<u8>) -> Result<(), AllocError>
-    ensures ok { OnOk result (out.new.items ≡ out.old.items ++ answer_line (answer.Refused reason)) }
+    ensures ok { OnOk result (out.new.items
+        ≡ out.old.items ++ answer_line (answer.Refused reason)) }
     ensures room { OnErr result (LacksRoomFor out.old (answer_line (answer.Refused reason))) }
     ensures grows { vec_capacity out.old ≤ vec_capacity out.new }
     ensures err { OnErr result (out.new.items ≡ out.old.items) }
@@ -167,8 +168,10 @@ pub fn push_refused(reason: Reason, out: &mut Vec<u8>) -> Result<(), AllocError>
 /// # Errors
 /// `AllocError` where memory is refused, and only where the buffer has no room for the line; then a front of it may have been added.
 pub fn push_step(access: Access, reply: &Option<Reply>, out: &mut Vec<u8>) -> Result<(), AllocError>
-    ensures ok { OnOk result (out.new.items ≡ out.old.items ++ answer_line (answer.Step access reply.now)) }
-    ensures room { OnErr result (LacksRoomFor out.old (answer_line (answer.Step access reply.now))) }
+    ensures ok { OnOk result (out.new.items
+        ≡ out.old.items ++ answer_line (answer.Step access reply.now)) }
+    ensures room { OnErr result (LacksRoomFor out.old
+        (answer_line (answer.Step access reply.now))) }
     ensures grows { vec_capacity out.old ≤ vec_capacity out.new }
 {
     push_access(access, out)?;
@@ -182,7 +185,8 @@ pub fn push_step(access: Access, reply: &Option<Reply>, out: &mut Vec<u8>) -> Re
 /// # Errors
 /// `AllocError` where memory is refused, and only where the buffer has no room for the line; then a front of it may have been added.
 pub fn push_words(words: &[u64], out: &mut Vec<u8>) -> Result<(), AllocError>
-    ensures ok { OnOk result (out.new.items ≡ out.old.items ++ answer_line (answer.Words words.now)) }
+    ensures ok { OnOk result (out.new.items
+        ≡ out.old.items ++ answer_line (answer.Words words.now)) }
     ensures room { OnErr result (LacksRoomFor out.old (answer_line (answer.Words words.now))) }
     ensures grows { vec_capacity out.old ≤ vec_capacity out.new }
 {

@@ -20,7 +20,8 @@ fn push_event(
     name: &[u8],
     out: &mut Vec<u8>,
 ) -> Result<(), AllocError>
-    ensures ok { OnOk result (out.new.items ≡ out.old.items ++ (word.now ++ event_text kind name.now)) }
+    ensures ok { OnOk result (out.new.items
+        ≡ out.old.items ++ (word.now ++ event_text kind name.now)) }
     ensures room { OnErr result (LacksRoomFor out.old (word.now ++ event_text kind name.now)) }
     ensures grows { vec_capacity out.old ≤ vec_capacity out.new }
 {
@@ -54,8 +55,10 @@ fn word_in(answer: EventAnswer) -> u64
 
 // Adds the number of a word, and what was read of it.
 fn push_read(word: u64, answer: EventAnswer, out: &mut Vec<u8>) -> Result<(), AllocError>
-    ensures ok { OnOk result (out.new.items ≡ out.old.items ++ (number_text word ++ number_text (word_in answer))) }
-    ensures room { OnErr result (LacksRoomFor out.old (number_text word ++ number_text (word_in answer))) }
+    ensures ok { OnOk result (out.new.items
+        ≡ out.old.items ++ (number_text word ++ number_text (word_in answer))) }
+    ensures room { OnErr result (LacksRoomFor out.old
+        (number_text word ++ number_text (word_in answer))) }
     ensures grows { vec_capacity out.old ≤ vec_capacity out.new }
 {
     push_number(word, out)?;
@@ -81,8 +84,10 @@ fn push_event_access(
     answer: EventAnswer,
     out: &mut Vec<u8>,
 ) -> Result<(), AllocError>
-    ensures ok { OnOk result (out.new.items ≡ out.old.items ++ event_access_text kind name.now access answer) }
-    ensures room { OnErr result (LacksRoomFor out.old (event_access_text kind name.now access answer)) }
+    ensures ok { OnOk result (out.new.items
+        ≡ out.old.items ++ event_access_text kind name.now access answer) }
+    ensures room { OnErr result (LacksRoomFor out.old
+        (event_access_text kind name.now access answer)) }
     ensures grows { vec_capacity out.old ≤ vec_capacity out.new }
 {
     match access {
@@ -141,8 +146,10 @@ fn push_event_reply(reply: &EventReply, out: &mut Vec<u8>) -> Result<(), AllocEr
 
 // Adds what is told with the last step of a call on events.
 fn push_event_told(told: Option<&EventReply>, out: &mut Vec<u8>) -> Result<(), AllocError>
-    ensures ok { OnOk result (out.new.items ≡ out.old.items ++ event_told_text (option_map (λ reply. reply.now) told.entry)) }
-    ensures room { OnErr result (LacksRoomFor out.old (event_told_text (option_map (λ reply. reply.now) told.entry))) }
+    ensures ok { OnOk result (out.new.items
+        ≡ out.old.items ++ event_told_text (option_map (λ reply. reply.now) told.entry)) }
+    ensures room { OnErr result (LacksRoomFor out.old
+        (event_told_text (option_map (λ reply. reply.now) told.entry))) }
     ensures grows { vec_capacity out.old ≤ vec_capacity out.new }
 {
     match told {
@@ -166,8 +173,12 @@ pub fn push_event_step(
     told: Option<&EventReply>,
     out: &mut Vec<u8>,
 ) -> Result<(), AllocError>
-    ensures ok { OnOk result (out.new.items ≡ out.old.items ++ script_answer_line (of_event kind name.now access answer (option_map (λ reply. reply.now) told.entry))) }
-    ensures room { OnErr result (LacksRoomFor out.old (script_answer_line (of_event kind name.now access answer (option_map (λ reply. reply.now) told.entry)))) }
+    ensures ok { OnOk result (out.new.items
+        ≡ out.old.items ++ script_answer_line (of_event kind name.now access answer (option_map
+        (λ reply. reply.now) told.entry))) }
+    ensures room { OnErr result (LacksRoomFor out.old
+        (script_answer_line (of_event kind name.now access answer (option_map (λ reply.
+        reply.now) told.entry)))) }
     ensures grows { vec_capacity out.old ≤ vec_capacity out.new }
 {
     push_event_access(kind, name, access, answer, out)?;
@@ -181,7 +192,8 @@ pub fn push_event_step(
 /// # Errors
 /// `AllocError` where memory is refused, and only where the buffer has no room for the line; then a front of it may have been added.
 pub fn push_event_asked(reply: &EventReply, out: &mut Vec<u8>) -> Result<(), AllocError>
-    ensures ok { OnOk result (out.new.items ≡ out.old.items ++ script_answer_line (of_ask reply.now)) }
+    ensures ok { OnOk result (out.new.items
+        ≡ out.old.items ++ script_answer_line (of_ask reply.now)) }
     ensures room { OnErr result (LacksRoomFor out.old (script_answer_line (of_ask reply.now))) }
     ensures grows { vec_capacity out.old ≤ vec_capacity out.new }
 {

@@ -29,8 +29,10 @@ fn push_behind_commas(numbers: &[u64], out: &mut Vec<u8>) -> Result<(), AllocErr
 
 // Adds the numbers, which commas part.
 fn push_parted(numbers: &[u64], out: &mut Vec<u8>) -> Result<(), AllocError>
-    ensures ok { OnOk result (out.new.items ≡ out.old.items ++ join_with_byte 44 (map decimal numbers.now)) }
-    ensures room { OnErr result (LacksRoomFor out.old (join_with_byte 44 (map decimal numbers.now))) }
+    ensures ok { OnOk result (out.new.items
+        ≡ out.old.items ++ join_with_byte 44 (map decimal numbers.now)) }
+    ensures room { OnErr result (LacksRoomFor out.old
+        (join_with_byte 44 (map decimal numbers.now))) }
     ensures grows { vec_capacity out.old ≤ vec_capacity out.new }
 {
     match numbers {
