@@ -3,7 +3,7 @@ mod Ids
 mod Tables
 mod TableCalls
 mod CallRows
-pub mod Running
+mod Running
 mod Holding
 mod Asks
 mod Accesses

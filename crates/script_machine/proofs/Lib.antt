@@ -2,4 +2,5 @@ pub mod CounterLemmas
 pub mod Sessions
 pub mod Turns
 pub mod Wants
+mod Reports
 pub mod ShortSteps

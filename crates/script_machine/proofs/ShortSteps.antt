@@ -1,7 +1,6 @@
 -- A step that takes no memory tells no list.
-use Rattle.std.proofs.Common.{◌≡◌, ℕ, ◌≤◌, ◌+◌, Bool, true, false, List, length, arith, refl, sym, ap, subst, ◌∙◌, Option, Some, None, inl, inr}
+use Rattle.std.proofs.Common.{◌≡◌, ℕ, ◌≤◌, Bool, true, false, List, length, arith, refl, sym, subst, ◌∙◌, Option, Some, None, inl, inr}
 use Rattle.std.specs.Prelude.{◌⊎◌, if◌then◌else◌, is_some, IfSome, IsSomeAnd, Result, Ok, Err}
-use Rattle.board_cell_model.specs.declared.access.Access.{Access}
 use Rattle.board_event_model.specs.declared.call.EventProgress.{EventProgress}
 use Rattle.board_event_model.specs.declared.call.EventProgress.TheVariants as progress
 use Rattle.board_event_model.specs.EventCalls.{RunningCall, call_of, owed, turn}
@@ -23,11 +22,10 @@ use Rattle.board_model.specs.TypeTable.{word_count}
 use Rattle.script_boards.specs.Wants.{next_takes, step_takes, takes_memory}
 use Rattle.script_events.specs.Calls.{reports}
 use Rattle.script_events.specs.PartyEvents.{StepTakes, may_give}
-use Rattle.script_events.proofs.Running.{reporting}
+use Rattle.script_machine.proofs.Reports.{reporting}
 use Rattle.script_lengths.specs.ShortAnswers.{IsShortAnswer, IsShortOnEvents, IsShortReply, IsShortScriptAnswer}
-use Rattle.script_model.specs.declared.reply.EventReply.{EventReply}
 use Rattle.script_model.specs.declared.reply.EventReply.TheVariants as event_reply
-use Rattle.script_model.specs.ScriptAnswers.{ScriptAnswer, of_ask, of_event}
+use Rattle.script_model.specs.ScriptAnswers.{ScriptAnswer}
 use Rattle.script_model.specs.ScriptEvents.{EventAsk, IsEventAccess, IsStepOf, ScriptEvents, ask_told, opened_told, step_told, to_listen, to_notify}
 use Rattle.script_machine.proofs.Wants.{short_by}
 
@@ -55,43 +53,43 @@ module _ (s : State) (sound : Sound s) (party : List ℕ) (r : Running) where
       omega (arith, cell.size, typed.words, few_words typed.type)
 
   asked_short : (q : Request) → IsCalling s party r q → (next_takes q r.so_far (told_by q) ≡ true → ⊥) → IsShortReply (told_by q)
-  asked_short (table (create f n k limits attributes entries)) h no = number_short (λ e. reply.CreateError e) _ (λ e. tt)
-  asked_short (table (open_ f n k limits needs)) h no = number_short (λ e. reply.OpenError e) _ (λ e. tt)
-  asked_short (table (reader n x)) h no = number_short (λ e. reply.ReaderError e) _ (λ e. tt)
-  asked_short (table (writer n x)) h no = number_short (λ e. reply.WriterError e) _ (λ e. tt)
-  asked_short (table (entry n x k t)) h no = number_short (λ e. reply.EntryError e) _ (λ e. tt)
-  asked_short (table (entry_mut n x k t)) h no = number_short (λ e. reply.EntryMutError e) _ (λ e. tt)
-  asked_short (table (loan l)) h no = tt
-  asked_short (table (discard l)) h no = tt
-  asked_short (table (keys x)) h no = absurd (no refl)
-  asked_short (table (nodes x)) h no = absurd (no refl)
-  asked_short (table (info x)) h no = absurd (no refl)
-  asked_short (table (id x)) h no = tt
-  asked_short (table (gen x)) h no = tt
-  asked_short (get f) h no = value_short f h
-  asked_short (fresh l) h no = tt
-  asked_short (update u) h no = tt
-  asked_short (put l i w) h no = tt
-  asked_short (publish l) h no = tt
-  asked_short (fill l v) h no = tt
+  asked_short (table (create f n k limits attributes entries)) h stays = number_short (λ e. reply.CreateError e) _ (λ e. tt)
+  asked_short (table (open_ f n k limits needs)) h stays = number_short (λ e. reply.OpenError e) _ (λ e. tt)
+  asked_short (table (reader n x)) h stays = number_short (λ e. reply.ReaderError e) _ (λ e. tt)
+  asked_short (table (writer n x)) h stays = number_short (λ e. reply.WriterError e) _ (λ e. tt)
+  asked_short (table (entry n x k t)) h stays = number_short (λ e. reply.EntryError e) _ (λ e. tt)
+  asked_short (table (entry_mut n x k t)) h stays = number_short (λ e. reply.EntryMutError e) _ (λ e. tt)
+  asked_short (table (loan l)) h stays = tt
+  asked_short (table (discard l)) h stays = tt
+  asked_short (table (keys x)) h stays = absurd (stays refl)
+  asked_short (table (nodes x)) h stays = absurd (stays refl)
+  asked_short (table (info x)) h stays = absurd (stays refl)
+  asked_short (table (id x)) h stays = tt
+  asked_short (table (gen x)) h stays = tt
+  asked_short (get f) h stays = value_short f h
+  asked_short (fresh l) h stays = tt
+  asked_short (update u) h stays = tt
+  asked_short (put l i w) h stays = tt
+  asked_short (publish l) h stays = tt
+  asked_short (fill l v) h stays = tt
 
   told_short : (told : Option Reply) → IfSome told (λ x. x ≡ told_by r.request) → IsShortReply (told_by r.request) → IfSome told IsShortReply
   told_short None e h = tt
   told_short (Some x) e h = subst IsShortReply (sym e) h
 
 step_of : (s : State) → Sound s → (party : List ℕ) (p : Party) (a : Answer) → IsParty s party p → IsOwedStep p a → IsToldStep s party p a → (step_takes s party p ≡ true → ⊥) → IsShortAnswer a
-step_of s sound party free a k o t no = absurd o
-step_of s sound party gone a k o t no = absurd o
-step_of s sound party (running r) answer.Begun k o t no = absurd o
-step_of s sound party (running r) (answer.Refused why) k o t no = absurd o
-step_of s sound party (running r) (answer.Step x told) k o t no = told_short s sound party r told t.reply (asked_short s sound party r r.request k no)
-step_of s sound party (running r) answer.Gone k o t no = absurd o
-step_of s sound party (running r) (answer.Words words) k o t no = absurd o
+step_of s sound party free a k o t stays = absurd o
+step_of s sound party gone a k o t stays = absurd o
+step_of s sound party (running r) answer.Begun k o t stays = absurd o
+step_of s sound party (running r) (answer.Refused why) k o t stays = absurd o
+step_of s sound party (running r) (answer.Step x told) k o t stays = told_short s sound party r told t.reply (asked_short s sound party r r.request k stays)
+step_of s sound party (running r) answer.Gone k o t stays = absurd o
+step_of s sound party (running r) (answer.Words words) k o t stays = absurd o
 
 -- the answer to a step on boards that takes no memory
 pub step_short : (s : State) (party : List ℕ) (a : Answer) → Sound s → IsRight s (board_line.Step party) a → (takes_memory s (board_line.Step party) ≡ true → ⊥) → IsShortAnswer a
-step_short s party a sound right no =
-    short_by (reason_of s (board_line.Step party)) a right.reason (λ none. step_of s sound party (s.parties party) a (sound.parties party) (right.owed none) (right.reply none) no)
+step_short s party a sound right stays =
+    short_by (reason_of s (board_line.Step party)) a right.reason (λ none. step_of s sound party (s.parties party) a (sound.parties party) (right.owed none) (right.reply none) stays)
 
 test : (b : Bool) → (b ≡ true) ⊎ (b ≡ false)
 test true = inl refl
@@ -101,7 +99,7 @@ test false = inr refl
 pub step_wants : (s : State) (party : List ℕ) (a : Answer) → Sound s → IsRight s (board_line.Step party) a → (IsShortAnswer a → ⊥) → takes_memory s (board_line.Step party) ≡ true
 step_wants s party a sound right long = elim (test (takes_memory s (board_line.Step party))) [
   | inl takes ↦ takes
-  | inr stays ↦ absurd (long (step_short s party a sound right (λ takes. (let e : true ≡ false = sym takes ∙ stays in cc))))
+  | inr not ↦ absurd (long (step_short s party a sound right (λ takes. (let e : true ≡ false = sym takes ∙ not in absurd cc))))
 ]
 
 -- ---- events

@@ -1,6 +1,6 @@
 -- Lines that want memory take some.
-use Rattle.std.proofs.Common.{◌≡◌, ℕ, ◌+◌, ◌<◌, ◌≤◌, length, List, refl, sym, subst, Option, Some, None, arith}
-use Rattle.std.specs.Prelude.{Bool, OnErr, Result, Ok, Err, vec_capacity, vec_len}
+use Rattle.std.proofs.Common.{◌≡◌, ℕ, List, refl, sym, subst, Option, Some, None, arith}
+use Rattle.std.specs.Prelude.{Bool, OnErr, Result, Ok, Err}
 use Rattle.std.specs.Global.{Vec}
 use Rattle.board_model.specs.declared.answer.Answer.{Answer}
 use Rattle.board_model.specs.declared.answer.Answer.TheVariants as answer
@@ -69,14 +69,14 @@ pub step_takes_at : (s : ScriptState) (party : List ℕ) (b : Bool) → runs_on_
 step_takes_at s party b e h = subst (λ (x : Bool). StepTakesAt x s party) (sym e) h
 
 -- a refusal is short, and so is what is answered where nothing refuses
-short_by : (o : Option Reason) (a : Answer) → IsReasoned o a → (o ≡ None → IsShortAnswer a) → IsShortAnswer a
+pub short_by : (o : Option Reason) (a : Answer) → IsReasoned o a → (o ≡ None → IsShortAnswer a) → IsShortAnswer a
 short_by None a h k = k refl
 short_by (Some why) a h k = subst (λ (x : Answer). IsShortAnswer x) (sym h) tt
 
 -- the answer to a drop is short
 pub dropped_short : (s : State) (party name : List ℕ) (a : Answer) → IsRight s (board_line.Release party name) a → IsShortAnswer a
 dropped_short s party name a right =
-    short_by (reason_of s (board_line.Release party name)) a right.reason (λ none. subst (λ (x : Answer). IsShortAnswer x) (sym (right.owed none)) refl)
+    short_by (reason_of s (board_line.Release party name)) a right.reason (λ none. subst (λ (x : Answer). IsShortAnswer x) (sym (right.owed none)) tt)
 
 -- so is that to an abandonment
 pub gone_short : (s : State) (party : List ℕ) (a : Answer) → IsRight s (board_line.Abandon party) a → IsShortAnswer a

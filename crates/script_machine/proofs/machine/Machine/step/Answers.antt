@@ -1,4 +1,4 @@
-use Rattle.std.proofs.Common.{◌≡◌, true, false, sym, ◌∙◌}
+use Rattle.std.proofs.Common.{◌≡◌, false, sym, ◌∙◌}
 use Rattle.board_model.specs.declared.line.Line.TheVariants as board_line
 use Rattle.script_boards.proofs.Listings.{on_ok}
 use Rattle.script_model.specs.ScriptEvents.{runs_on_events}

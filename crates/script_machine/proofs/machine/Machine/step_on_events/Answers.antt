@@ -1,4 +1,4 @@
-use Rattle.std.proofs.Common.{◌≡◌, ℕ, true, refl, ap, subst, ◌∙◌, List, ◌++◌, Option}
+use Rattle.std.proofs.Common.{◌≡◌, ℕ, true, ap, subst, ◌∙◌, List, ◌++◌, Option}
 use Rattle.std.specs.Prelude.{OnErr, option_map}
 use Rattle.script_model.specs.declared.reply.EventReply.{EventReply}
 use Rattle.board_model.specs.declared.line.Line.TheVariants as board_line
