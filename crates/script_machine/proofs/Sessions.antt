@@ -52,8 +52,11 @@ has_answered old new session bytes text l h spelled tells drawn =
 pub taking_after : {C : Type 0} (session : Session) (bytes : List ℕ) → IsLawful session → length session < 2 ^ 63 → SomeWants {M = Machine C} StandsAfter SpellsTaking session bytes → SpellsTakingAfter session bytes
 taking_after session bytes h lt w =
     let m = w.0 in
-    let taking = w.2 in
-    (taking.0, taking.1, elim taking.2 [
-      | inl kept ↦ inl kept
-      | inr takes ↦ inr (takes (state_after start session) (length session) w.1.represents (session_reached session h lt))
-    ])
+    let taking = w.2 in (
+      taking.0,
+      taking.1,
+      elim taking.2 [
+        | inl kept ↦ inl kept
+        | inr takes ↦ inr (takes (state_after start session) (length session) w.1.represents (session_reached session h lt))
+      ],
+    )

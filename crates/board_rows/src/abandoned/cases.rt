@@ -32,19 +32,13 @@ pub(super) const CASES: [Abandoned; 35] = [
     },
     Abandoned {
         opening: &[ONE_PARTY_READS_AND_WRITES],
-        call: &[
-            ("begin b open g b u64", "ok"),
-            ("step b", "table = ok 1"),
-        ],
+        call: &[("begin b open g b u64", "ok"), ("step b", "table = ok 1")],
         after: &[&[B_LEFT, AS_IT_WAS]],
         other: &[C_GOES_ON],
     },
     Abandoned {
         opening: &[ONE_PARTY_READS_AND_WRITES],
-        call: &[
-            ("begin b reader s f", "ok"),
-            ("step b", "table = ok 3"),
-        ],
+        call: &[("begin b reader s f", "ok"), ("step b", "table = ok 3")],
         after: &[&[B_LEFT, AS_IT_WAS]],
         other: &[C_GOES_ON, C_GOES_ON_AFTER_A_PORT],
     },
@@ -52,7 +46,10 @@ pub(super) const CASES: [Abandoned; 35] = [
         opening: &[ONE_PARTY_READS_AND_WRITES],
         call: &[
             ("begin b writer x f", "ok"),
-            ("step b", "table = WriterCreateError::ExceedsMaxSupportedWriters"),
+            (
+                "step b",
+                "table = WriterCreateError::ExceedsMaxSupportedWriters",
+            ),
         ],
         after: &[&[B_LEFT, AS_IT_WAS]],
         other: &[C_GOES_ON],
@@ -77,19 +74,13 @@ pub(super) const CASES: [Abandoned; 35] = [
     },
     Abandoned {
         opening: &[ONE_PARTY_READS_AND_WRITES],
-        call: &[
-            ("begin b gen m", "ok"),
-            ("step b", "table = gen 1"),
-        ],
+        call: &[("begin b gen m", "ok"), ("step b", "table = gen 1")],
         after: &[&[B_LEFT, AS_IT_WAS]],
         other: &[C_GOES_ON],
     },
     Abandoned {
         opening: &[ONE_PARTY_READS_AND_WRITES],
-        call: &[
-            ("begin b id h", "ok"),
-            ("step b", "table = id 0"),
-        ],
+        call: &[("begin b id h", "ok"), ("step b", "table = id 0")],
         after: &[&[B_LEFT, AS_IT_WAS]],
         other: &[C_GOES_ON],
     },
@@ -97,35 +88,29 @@ pub(super) const CASES: [Abandoned; 35] = [
         opening: &[ONE_PARTY_READS_AND_WRITES],
         call: &[
             ("begin b info f", "ok"),
-            ("step b", "table = info b u64 readers 8 nodes 20 writers 1 entries 1 attrs 0 taken 1 1 2"),
+            (
+                "step b",
+                "table = info b u64 readers 8 nodes 20 writers 1 entries 1 attrs 0 taken 1 1 2",
+            ),
         ],
         after: &[&[B_LEFT, AS_IT_WAS]],
         other: &[C_GOES_ON],
     },
     Abandoned {
         opening: &[ONE_PARTY_READS_AND_WRITES],
-        call: &[
-            ("begin b nodes f", "ok"),
-            ("step b", "table = nodes a b"),
-        ],
+        call: &[("begin b nodes f", "ok"), ("step b", "table = nodes a b")],
         after: &[&[B_LEFT, AS_IT_WAS]],
         other: &[C_GOES_ON],
     },
     Abandoned {
         opening: &[ONE_PARTY_READS_AND_WRITES],
-        call: &[
-            ("begin b keys f", "ok"),
-            ("step b", "table = keys u64:1"),
-        ],
+        call: &[("begin b keys f", "ok"), ("step b", "table = keys u64:1")],
         after: &[&[B_LEFT, AS_IT_WAS]],
         other: &[C_GOES_ON],
     },
     Abandoned {
         opening: &[ONE_PARTY_READS_AND_WRITES],
-        call: &[
-            ("begin b fresh h v", "ok"),
-            ("step b", "read 1:0 1 = true"),
-        ],
+        call: &[("begin b fresh h v", "ok"), ("step b", "read 1:0 1 = true")],
         after: &[&[B_LEFT, AS_IT_WAS]],
         other: &[C_GOES_ON],
     },
@@ -148,7 +133,11 @@ pub(super) const CASES: [Abandoned; 35] = [
             ("step b", "write 1:3 6"),
             ("step b", "write 1:0 2 = ok"),
         ],
-        after: &[&[B_LEFT, AS_IT_WAS], &[B_LEFT, A_WORD_WRITTEN], &[B_LEFT, UPDATED]],
+        after: &[
+            &[B_LEFT, AS_IT_WAS],
+            &[B_LEFT, A_WORD_WRITTEN],
+            &[B_LEFT, UPDATED],
+        ],
         other: &[C_GOES_ON, C_GOES_ON, C_GETS_THE_UPDATE],
     },
     // Gets of four words, one of them met by an update: nothing of a get stays.
@@ -185,7 +174,17 @@ pub(super) const CASES: [Abandoned; 35] = [
             ("step b", "read 1:6 5"),
             ("step b", "read 1:7 6"),
         ],
-        after: &[&[GETTER_LEFT, NO_WORD], &[GETTER_LEFT, NO_WORD], &[GETTER_LEFT, NO_WORD], &[GETTER_LEFT, NO_WORD], &[GETTER_LEFT, ONE_WORD], &[GETTER_LEFT, TWO_WORDS], &[GETTER_LEFT, THREE_WORDS], &[GETTER_LEFT, ALL_WORDS], &[GETTER_LEFT, PUBLISHED]],
+        after: &[
+            &[GETTER_LEFT, NO_WORD],
+            &[GETTER_LEFT, NO_WORD],
+            &[GETTER_LEFT, NO_WORD],
+            &[GETTER_LEFT, NO_WORD],
+            &[GETTER_LEFT, ONE_WORD],
+            &[GETTER_LEFT, TWO_WORDS],
+            &[GETTER_LEFT, THREE_WORDS],
+            &[GETTER_LEFT, ALL_WORDS],
+            &[GETTER_LEFT, PUBLISHED],
+        ],
         other: &[C_MAKES_THE_SECOND_BOARD],
     },
     // An update of four words: its value is published with the last step, and what it wrote before is not read.
@@ -199,7 +198,14 @@ pub(super) const CASES: [Abandoned; 35] = [
             ("step a", "write 1:9 8"),
             ("step a", "write 1:0 2 = ok"),
         ],
-        after: &[&[FIRST_VALUE, NO_WORD, STILL_HELD], &[FIRST_VALUE, ONE_WORD, STILL_HELD], &[FIRST_VALUE, TWO_WORDS, STILL_HELD], &[FIRST_VALUE, THREE_WORDS, STILL_HELD], &[FIRST_VALUE, ALL_WORDS, STILL_HELD], &[SECOND_VALUE, PUBLISHED, STILL_HELD]],
+        after: &[
+            &[FIRST_VALUE, NO_WORD, STILL_HELD],
+            &[FIRST_VALUE, ONE_WORD, STILL_HELD],
+            &[FIRST_VALUE, TWO_WORDS, STILL_HELD],
+            &[FIRST_VALUE, THREE_WORDS, STILL_HELD],
+            &[FIRST_VALUE, ALL_WORDS, STILL_HELD],
+            &[SECOND_VALUE, PUBLISHED, STILL_HELD],
+        ],
         other: &[C_MAKES_THE_SECOND_BOARD],
     },
     // Loans: a word that was put stands, and nobody else gets it.

@@ -57,7 +57,7 @@ returns-in-Asked-clause-memory g c =
     let m = c.args.self.now in
     let p = c.args.party.now in
     let shown = λ (s : ScriptState) (count : ℕ) (rep : Represents m s) (reached : IsReached s count).
-        ask_shown c.step.new.self s.events p c.in-Asked.reply (subst (λ (t : Stepped). IsStepped c.step.new.self s.events p t) c.in-Asked.is (c.in_ok-reply.ensures.told s.events count reached.few reached.sound.events rep.events)) in
+    ask_shown c.step.new.self s.events p c.in-Asked.reply (subst (λ (t : Stepped). IsStepped c.step.new.self s.events p t) c.in-Asked.is (c.in_ok-reply.ensures.told s.events count reached.few reached.sound.events rep.events)) in
     let led = c.requires.led in
     let formed = step_formed_so led.state (line.Board (board_line.Step p)) led.count p _ led.reached.sound led.reached.few (shown led.state led.count led.represents led.reached).right in
     told_wants c.push_event_asked.result c.args.out.now (of_ask c.in-Asked.reply) (TakesMemory m (line.Board (board_line.Step p))) formed c.push_event_asked.ensures.room (λ long s count rep reached.
@@ -69,8 +69,8 @@ returns-in-Acted-clause-memory g c =
     let m = c.args.self.now in
     let p = c.args.party.now in
     let shown = λ (s : ScriptState) (count : ℕ) (rep : Represents m s) (reached : IsReached s count).
-        access_shown c.step.new.self s.events p c.in-Acted.event c.in-Acted.access c.in-Acted.answer c.in-Acted.told c.kind_of.result c.name_of.result.now
-        (subst (λ (t : Stepped). IsStepped c.step.new.self s.events p t) c.in-Acted.is (c.in_ok-reply.ensures.told s.events count reached.few reached.sound.events rep.events)) c.kind_of.ensures c.name_of.ensures in
+    access_shown c.step.new.self s.events p c.in-Acted.event c.in-Acted.access c.in-Acted.answer c.in-Acted.told c.kind_of.result c.name_of.result.now
+    (subst (λ (t : Stepped). IsStepped c.step.new.self s.events p t) c.in-Acted.is (c.in_ok-reply.ensures.told s.events count reached.few reached.sound.events rep.events)) c.kind_of.ensures c.name_of.ensures in
     let led = c.requires.led in
     let formed = step_formed_so led.state (line.Board (board_line.Step p)) led.count p _ led.reached.sound led.reached.few (shown led.state led.count led.represents led.reached).right in
     let text = λ (n : List ℕ) (t : Option EventReply). script_answer_line (of_event c.kind_of.result n c.in-Acted.access c.in-Acted.answer t) in
