@@ -20,3 +20,4 @@ pub mod StepWants
 pub mod TableSteps
 pub mod Takes
 pub mod WriteSteps
+pub mod HeldHandles

@@ -1,4 +1,5 @@
 pub mod Begins
+pub mod ShortBegins
 pub mod LoanCalls
 pub mod Loans
 pub mod Machine

@@ -1,5 +1,5 @@
 //! Lines `begin P CALL`.
-ghost use Rattle.std.specs.Prelude.{◌≡◌, ◌+◌, ◌<◌, ◌≤◌, ◌^◌, ◌||◌, true, Some, IfOk, OnErr, OnOk, find, is_some, not};
+ghost use Rattle.std.specs.Prelude.{◌≡◌, ◌+◌, ◌<◌, ◌≤◌, ◌^◌, ◌||◌, true, Some, None, IfOk, IfSome, OnErr, OnOk, find, is_some, not};
 ghost use Rattle.std.specs.List.{list_all};
 ghost use Rattle.board_layout.specs.Layout.{cell_shape};
 ghost use Rattle.board_model.specs.LawfulSession.{has_key_type};
@@ -9,8 +9,9 @@ ghost use Rattle.board_model.specs.declared.answer.Reason.TheVariants as reason;
 ghost use Rattle.board_model.specs.declared.line.Call.TheVariants as call;
 ghost use Rattle.board_model.specs.declared.line.Line.TheVariants as line;
 ghost use Rattle.script_boards.specs.Machine.{IsLed, Serves, kept, tables_of};
-ghost use Rattle.script_boards.specs.Begins.{Checks, HasGeneration, HasNoRow, IsHandle, IsRequired, IsUsed, handle_held, has_id, holds, holds_any, thing_held, written_by};
+ghost use Rattle.script_boards.specs.Begins.{Checks, HasGeneration, HasNoRow, IsGenerationOf, IsHandle, IsRequired, IsUsed, handle_held, has_id, holds, holds_any, thing_held, written_by};
 ghost use Rattle.script_boards.specs.Loans.{lent_words};
+ghost use Rattle.script_boards.specs.ShortBegins.{begun_unless};
 ghost use Rattle.script_boards.specs.Wants.{MayWant};
 
 use crate::loans::words_lent;
@@ -43,6 +44,13 @@ pub(crate) fn require(holds: bool, why: Reason) -> Result<(), Reason>
         return Err(why);
     }
     Ok(())
+}
+
+// What a call uses, where it was found.
+fn used(found: Option<Held>) -> Result<Held, Reason>
+    ensures { IsUsed found result }
+{
+    found.ok_or(Reason::Unknown)
 }
 
 /// Whether a value is of an entry's type.
@@ -139,9 +147,7 @@ impl<C: BoardWords + Drop> BoardMachine<C> {
     fn thing_used(&self, kind: ThingKind, party: &Name, name: &Name) -> Result<Held, Reason>
         ensures { IsUsed (thing_held self.now kind party.now name.now) result }
     {
-        self.domain
-            .held_of_kind(kind, party, name)
-            .ok_or(Reason::Unknown)
+        used(self.domain.held_of_kind(kind, party, name))
     }
 
     // The write handle that the party holds under the name, where it isn't lent.
@@ -158,6 +164,7 @@ impl<C: BoardWords + Drop> BoardMachine<C> {
         require(!self.holds(party, name), Reason::Taken)
     }
 
+    #[inline(always)]
     fn check_get(&self, party: &Name, handle: &Name, value: Option<Name>) -> Result<Task, NotBegun>
         requires { IsLed self.now }
         ensures { Checks self.now party.now (call.Get handle.now value) result }
@@ -194,19 +201,23 @@ impl<C: BoardWords + Drop> BoardMachine<C> {
         })
     }
 
+    // `found` is what the party holds under the handle's name.
+    #[inline(always)]
     fn check_update(
         &self,
         party: &Name,
         handle: &Name,
+        found: Option<Held>,
         value: Value,
         generation: u64,
     ) -> Result<Task, NotBegun>
         requires led { IsLed self.now }
+        requires found { found ≡ handle_held self.now party.now handle.now }
         requires generation { HasGeneration self.now party.now (call.Update handle.now value)
             generation }
         ensures { Checks self.now party.now (call.Update handle.now value) result }
     {
-        let found = self.handle_used(party, handle)?;
+        let found = used(found)?;
         let entry = self.entry_held(&found);
         require(is_value_of(value, entry), Reason::Type)?;
         let core = write_core(entry, generation);
@@ -364,7 +375,10 @@ impl<C: BoardWords + Drop> BoardMachine<C> {
             }
             Call::Get { handle, value } => self.check_get(party, &handle, value),
             Call::Fresh { handle, value } => self.check_fresh(party, &handle, &value),
-            Call::Update { handle, value } => self.check_update(party, &handle, value, generation),
+            Call::Update { handle, value } => {
+                let found = self.handle_held(party, &handle);
+                self.check_update(party, &handle, found, value, generation)
+            }
             Call::Loan { loan, handle } => self.check_loan(party, loan, handle),
             Call::Discard { loan, handle } => self.check_discard(party, loan, handle),
             Call::Put { loan, index, word } => self.check_put(party, loan, index, word, generation),
@@ -410,6 +424,108 @@ impl<C: BoardWords + Drop> BoardMachine<C> {
             }
             Err(NotBegun::Refused(why)) => Ok(Answer::Refused(why)),
             Err(NotBegun::OutOfMemory) => Err(AllocError),
+        }
+    }
+
+    // The counter of the entry of a handle that is held. 0 where none is.
+    #[inline(always)]
+    fn generation_of(&mut self, found: &Option<Held>) -> u64
+        requires led { IsLed self.old }
+        requires handle { IfSome found.now (λ x. IsHandle self.old x) }
+        ensures generation { IsGenerationOf self.old found.now result }
+        ensures same { self.new ≡ self.old }
+    {
+        match found {
+            Some(found) => self.counter(found.board, entry_of(&found.kind)),
+            None => 0,
+        }
+    }
+
+    // A line `begin P update M VAL` of a free party. The handle is looked for once.
+    #[inline(always)]
+    fn begin_free_update(
+        &mut self,
+        party: Name,
+        handle: Name,
+        value: Value,
+    ) -> Result<Option<Reason>, AllocError>
+        requires led { IsLed self.old }
+        requires free { HasNoRow self.old party }
+        ensures serves { IfOk result (λ why. Serves self.old self.new
+            (line.Begin party (call.Update handle value)) (begun_unless why)) }
+        ensures memory { OnErr result (MayWant self.old
+            (line.Begin party (call.Update handle value))) }
+        ensures drawn { OnOk result (self.new.domain.drawn ≤ self.old.domain.drawn + 1) }
+    {
+        let found = self.handle_held(&party, &handle);
+        let generation = self.generation_of(&found);
+        match self.check_update(&party, &handle, found, value, generation) {
+            Ok(task) => {
+                self.parties.push(PartyRow { name: party, task })?;
+                Ok(None)
+            }
+            Err(NotBegun::Refused(why)) => Ok(Some(why)),
+            Err(NotBegun::OutOfMemory) => Err(AllocError),
+        }
+    }
+
+    /// A line `begin P update M VAL`: why it is refused, if it is. Else the call has begun.
+    ///
+    /// # Errors
+    /// `AllocError` where memory is refused, and the line isn't. Of the machine nothing is said then.
+    pub fn begin_update(
+        &mut self,
+        party: Name,
+        handle: Name,
+        value: Value,
+    ) -> Result<Option<Reason>, AllocError>
+        requires { IsLed self.old }
+        ensures serves { IfOk result (λ why. Serves self.old self.new
+            (line.Begin party (call.Update handle value)) (begun_unless why)) }
+        ensures memory { OnErr result (MayWant self.old
+            (line.Begin party (call.Update handle value))) }
+        ensures drawn { OnOk result (self.new.domain.drawn ≤ self.old.domain.drawn + 1) }
+    {
+        match self.refusal_of_party(&party) {
+            Some(why) => Ok(Some(why)),
+            None => self.begin_free_update(party, handle, value),
+        }
+    }
+
+    // A line `begin P get H` of a free party.
+    #[inline(always)]
+    fn begin_free_get(&mut self, party: Name, handle: Name) -> Result<Option<Reason>, AllocError>
+        requires led { IsLed self.old }
+        requires free { HasNoRow self.old party }
+        ensures serves { IfOk result (λ why. Serves self.old self.new
+            (line.Begin party (call.Get handle None)) (begun_unless why)) }
+        ensures memory { OnErr result (MayWant self.old (line.Begin party (call.Get handle None))) }
+        ensures drawn { OnOk result (self.new.domain.drawn ≤ self.old.domain.drawn + 1) }
+    {
+        match self.check_get(&party, &handle, None) {
+            Ok(task) => {
+                self.parties.push(PartyRow { name: party, task })?;
+                Ok(None)
+            }
+            Err(NotBegun::Refused(why)) => Ok(Some(why)),
+            Err(NotBegun::OutOfMemory) => Err(AllocError),
+        }
+    }
+
+    /// A line `begin P get H`: why it is refused, if it is. Else the call has begun.
+    ///
+    /// # Errors
+    /// `AllocError` where memory is refused, and the line isn't. Of the machine nothing is said then.
+    pub fn begin_get(&mut self, party: Name, handle: Name) -> Result<Option<Reason>, AllocError>
+        requires { IsLed self.old }
+        ensures serves { IfOk result (λ why. Serves self.old self.new
+            (line.Begin party (call.Get handle None)) (begun_unless why)) }
+        ensures memory { OnErr result (MayWant self.old (line.Begin party (call.Get handle None))) }
+        ensures drawn { OnOk result (self.new.domain.drawn ≤ self.old.domain.drawn + 1) }
+    {
+        match self.refusal_of_party(&party) {
+            Some(why) => Ok(Some(why)),
+            None => self.begin_free_get(party, handle),
         }
     }
 

@@ -4,3 +4,4 @@ pub mod Turns
 pub mod Wants
 mod Reports
 pub mod ShortSteps
+pub mod BytesWant

@@ -13,6 +13,7 @@ use Rattle.script_model.specs.ScriptSession.{IsLawful, Session, start, state_aft
 use Rattle.script_model.proofs.PartLemmas.{boards_law_holds}
 use Rattle.script_model.proofs.ScriptSoundLemmas.{sessions_sound}
 use Rattle.script_machine.specs.declared.machine.Machine.{Machine}
+use Rattle.script_machine.specs.Bytes.{IsAnswered}
 use Rattle.script_machine.specs.ScriptMachine.{IsLed, IsReached, StandsAfter, Tells}
 use Rattle.script_machine.specs.Wants.{SpellsTaking, SpellsTakingAfter}
 
@@ -47,6 +48,10 @@ has_answered old new session bytes text l h spelled tells drawn =
       state = record { represents = t.represents; drawn = omega (arith, h.state.drawn, drawn) };
       told = t.told;
     }
+
+-- the same of bytes
+pub has_answered_bytes : {C : Type 0} (old new : Machine C) (session : Session) (bytes text : List ℕ) → StandsFor StandsAfter old session → IsAnswered old new bytes text → HasAnswered StandsAfter new session bytes text
+has_answered_bytes old new session bytes text h a = has_answered old new session bytes text a.line h a.spelled a.tells a.drawn
 
 -- a machine that stands for a lawful session wants memory only for a line that takes some after it
 pub taking_after : {C : Type 0} (session : Session) (bytes : List ℕ) → IsLawful session → length session < 2 ^ 63 → SomeWants {M = Machine C} StandsAfter SpellsTaking session bytes → SpellsTakingAfter session bytes

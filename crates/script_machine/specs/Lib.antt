@@ -1,3 +1,4 @@
+pub mod Bytes
 pub mod Counters
 pub mod ScriptMachine
 pub mod Wants

@@ -1,7 +1,8 @@
 //! Lines of boards, and those that boards and events share.
-ghost use Rattle.std.specs.Prelude.{◌≡◌, ◌+◌, ◌++◌, ◌≤◌, [], true, OnErr, OnOk, vec_capacity};
+ghost use Rattle.std.specs.Prelude.{◌≡◌, ◌+◌, ◌++◌, ◌≤◌, [], true, None, OnErr, OnOk, vec_capacity};
 ghost use Rattle.std.specs.List.{AllByRecursion};
 ghost use Rattle.board_model.specs.declared.answer.Answer.TheVariants as answer;
+ghost use Rattle.board_model.specs.declared.line.Call.TheVariants as call;
 ghost use Rattle.board_model.specs.declared.line.Line.TheVariants as board_line;
 ghost use Rattle.board_model.specs.AnswerGrammar.{answer_line};
 ghost use Rattle.board_model.specs.LineGrammar.{IsLine, IsNumber};
@@ -9,16 +10,18 @@ ghost use Rattle.board_model.specs.Requests as requests;
 ghost use Rattle.script_model.specs.ScriptEvents.{runs_on_events};
 ghost use Rattle.script_model.specs.ScriptTurns.{takes_event_name};
 ghost use Rattle.script_boards.specs.Machine.{drawn_by};
+ghost use Rattle.script_boards.specs.ShortBegins.{begun_unless};
 ghost use Rattle.script_events.specs.PartyEvents as events;
+ghost use Rattle.script_print.specs.Room.{LacksRoomFor};
 ghost use Rattle.script_machine.specs.ScriptMachine.{IsLed, OfEachState, TellsOfBoards, is_gone_answer};
 ghost use Rattle.script_machine.specs.Wants.{BoardMayWant};
 
 use crate::machine::Machine;
 use board_cell_model::Access;
-use board_model::{Answer, Call, Name, Reason, Reply};
+use board_model::{Answer, Call, Name, Reason, Reply, Value};
 use board_service::BoardWords;
 use script_events::Stepped;
-use script_print::{push_answer, push_event_asked, push_event_step, push_refused, push_words};
+use script_print::{push_answer, push_begun, push_event_asked, push_event_step, push_refused, push_words};
 use std::alloc::AllocError;
 
 // Tells the words of a board.
@@ -29,6 +32,20 @@ fn push_listing(words: &[u64], out: &mut Vec<u8>) -> Result<(), AllocError>
     ensures room { vec_capacity out.old ≤ vec_capacity out.new }
 {
     push_words(words, out)
+}
+
+// Tells that a call has begun, or why it is refused.
+#[inline(always)]
+fn push_begin(refusal: Option<Reason>, out: &mut Vec<u8>) -> Result<(), AllocError>
+    ensures ok { OnOk result (out.new.items
+        ≡ out.old.items ++ answer_line (begun_unless refusal)) }
+    ensures room { OnErr result (LacksRoomFor out.old (answer_line (begun_unless refusal))) }
+    ensures grows { vec_capacity out.old ≤ vec_capacity out.new }
+{
+    match refusal {
+        None => push_begun(out),
+        Some(why) => push_refused(why, out),
+    }
 }
 
 // Whether a party was abandoned.
@@ -98,6 +115,57 @@ impl<C: BoardWords + Drop> Machine<C> {
         }
         let answer = self.boards.begin(party, call)?;
         push_answer(&answer, out)
+    }
+
+    /// A line `begin P update M VAL`.
+    #[inline(always)]
+    pub(crate) fn begin_update(
+        &mut self,
+        party: Name,
+        handle: Name,
+        value: Value,
+        out: &mut Vec<u8>,
+    ) -> Result<(), AllocError>
+        requires led { IsLed self.old }
+        requires line { IsLine (board_line.Begin party (call.Update handle value)) }
+        requires empty { out.old.items ≡ [] }
+        ensures tells { OnOk result (TellsOfBoards self.old self.new
+            (board_line.Begin party (call.Update handle value)) out.new.items) }
+        ensures memory { OnErr result (BoardMayWant self.old
+            (board_line.Begin party (call.Update handle value)) out.old) }
+        ensures room { vec_capacity out.old ≤ vec_capacity out.new }
+        ensures drawn { OnOk result (drawn_by self.new.boards ≤ drawn_by self.old.boards + 1) }
+    {
+        if self.events.runs(&party) {
+            return push_refused(Reason::Busy, out);
+        }
+        let refusal = self.boards.begin_update(party, handle, value)?;
+        push_begin(refusal, out)
+    }
+
+    /// A line `begin P get H`.
+    #[inline(always)]
+    pub(crate) fn begin_get(
+        &mut self,
+        party: Name,
+        handle: Name,
+        out: &mut Vec<u8>,
+    ) -> Result<(), AllocError>
+        requires led { IsLed self.old }
+        requires line { IsLine (board_line.Begin party (call.Get handle None)) }
+        requires empty { out.old.items ≡ [] }
+        ensures tells { OnOk result (TellsOfBoards self.old self.new
+            (board_line.Begin party (call.Get handle None)) out.new.items) }
+        ensures memory { OnErr result (BoardMayWant self.old
+            (board_line.Begin party (call.Get handle None)) out.old) }
+        ensures room { vec_capacity out.old ≤ vec_capacity out.new }
+        ensures drawn { OnOk result (drawn_by self.new.boards ≤ drawn_by self.old.boards + 1) }
+    {
+        if self.events.runs(&party) {
+            return push_refused(Reason::Busy, out);
+        }
+        let refusal = self.boards.begin_get(party, handle)?;
+        push_begin(refusal, out)
     }
 
     /// A line `step P`.

@@ -1,11 +1,12 @@
 //! The machine's one call: the line of a script, and the answer to it.
-ghost use Rattle.std.specs.Prelude.{◌≡◌, ◌+◌, ◌≤◌, [], true, IsErrOf, OnErr, OnOk, vec_capacity};
+ghost use Rattle.std.specs.Prelude.{◌≡◌, ◌+◌, ◌≤◌, [], true, IfOk, IsErrOf, OnErr, OnOk, vec_capacity};
 ghost use Rattle.board_model.specs.LineGrammar.{IsLine};
 ghost use Rattle.script_model.specs.declared.line.ScriptLine.TheVariants as script_line;
 ghost use Rattle.script_model.specs.ScriptGrammar.{IsScriptLine};
 ghost use Rattle.script_model.specs.ScriptSession.{Session, start};
 ghost use Rattle.script_loop.specs.Machines.{AnswersEach, SpellsNone, StandsFor, short_room};
 ghost use Rattle.script_boards.specs.Machine.{drawn_by};
+ghost use Rattle.script_machine.specs.Bytes.{BytesMayWant, LeavesUnknown, TellsOfBytes};
 ghost use Rattle.script_machine.specs.ScriptMachine.{IsLed, StandsAfter, Tells};
 ghost use Rattle.script_machine.specs.Wants.{SpellsTaking, MayWant, SpellsSome};
 
@@ -15,7 +16,7 @@ use script_boards::BoardMachine;
 use script_events::PartyEvents;
 use script_loop::{LineError, RunsLines};
 use script_model::ScriptLine;
-use script_parse::parse_line;
+use script_parse::{get_of, parse_line, step_of, update_of};
 use std::alloc::{AllocError, Global};
 
 /// Runs the lines of one script, one after another. The words of its boards are held by `C`.
@@ -85,6 +86,67 @@ impl<C: BoardWords + Drop> Machine<C> {
         }
     }
 
+    // Answers any line, by the whole parser, and gives whether the bytes spell one.
+    #[inline(never)]
+    fn answer_parsed(&mut self, bytes: &[u8], out: &mut Vec<u8>) -> Result<bool, AllocError>
+        requires led { IsLed self.old }
+        requires empty { out.old.items ≡ [] }
+        ensures tells { IfOk result (λ spelled.
+            TellsOfBytes self.old self.new spelled bytes.now out.new.items) }
+        ensures unknown { IfOk result (λ spelled.
+            LeavesUnknown self.old self.new spelled bytes.now out.new.items) }
+        ensures memory { OnErr result (BytesMayWant self.old bytes.now out.old) }
+        ensures room { vec_capacity out.old ≤ vec_capacity out.new }
+    {
+        let Some(line) = parse_line(self.alloc, bytes)? else {
+            return Ok(false);
+        };
+        self.answer(line, out)?;
+        Ok(true)
+    }
+
+    // The same, with short ways for gets and updates that begin.
+    #[inline(never)]
+    fn answer_begun(&mut self, bytes: &[u8], out: &mut Vec<u8>) -> Result<bool, AllocError>
+        requires led { IsLed self.old }
+        requires empty { out.old.items ≡ [] }
+        ensures tells { IfOk result (λ spelled.
+            TellsOfBytes self.old self.new spelled bytes.now out.new.items) }
+        ensures unknown { IfOk result (λ spelled.
+            LeavesUnknown self.old self.new spelled bytes.now out.new.items) }
+        ensures memory { OnErr result (BytesMayWant self.old bytes.now out.old) }
+        ensures room { vec_capacity out.old ≤ vec_capacity out.new }
+    {
+        if let Some((party, handle, value)) = update_of(bytes) {
+            self.begin_update(party, handle, value, out)?;
+            return Ok(true);
+        }
+        if let Some((party, handle)) = get_of(bytes) {
+            self.begin_get(party, handle, out)?;
+            return Ok(true);
+        }
+        self.answer_parsed(bytes, out)
+    }
+
+    // The same, with a short way for steps. The other lines are apart, so that a step doesn't pay for them.
+    #[inline(always)]
+    fn answer_bytes(&mut self, bytes: &[u8], out: &mut Vec<u8>) -> Result<bool, AllocError>
+        requires led { IsLed self.old }
+        requires empty { out.old.items ≡ [] }
+        ensures tells { IfOk result (λ spelled.
+            TellsOfBytes self.old self.new spelled bytes.now out.new.items) }
+        ensures unknown { IfOk result (λ spelled.
+            LeavesUnknown self.old self.new spelled bytes.now out.new.items) }
+        ensures memory { OnErr result (BytesMayWant self.old bytes.now out.old) }
+        ensures room { vec_capacity out.old ≤ vec_capacity out.new }
+    {
+        let Some(party) = step_of(bytes) else {
+            return self.answer_begun(bytes, out);
+        };
+        self.step(&party, out)?;
+        Ok(true)
+    }
+
     // Memory was refused: no line can be answered any more, and what stood in the answer is dropped.
     fn give_up(&mut self, begun: &mut Vec<u8>) -> LineError
         ensures error { result ≡ LineError.OutOfMemory }
@@ -128,12 +190,9 @@ impl<C: BoardWords + Drop> Machine<C> {
         ensures err { OnErr result (answer.new.items ≡ []) }
     {
         answer.clear();
-        match parse_line(self.alloc, line) {
-            Ok(Some(parsed)) => match self.answer(parsed, answer) {
-                Ok(()) => Ok(()),
-                Err(_) => Err(self.give_up(answer)),
-            },
-            Ok(None) => Err(LineError::Bad),
+        match self.answer_bytes(line, answer) {
+            Ok(true) => Ok(()),
+            Ok(false) => Err(LineError::Bad),
             Err(_) => Err(self.give_up(answer)),
         }
     }

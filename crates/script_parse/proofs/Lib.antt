@@ -3,3 +3,4 @@ pub mod EntryLemmas
 pub mod PartLemmas
 pub mod TokenLemmas
 pub mod KeptLemmas
+pub mod ShortLemmas

@@ -1,2 +1,3 @@
 pub mod Tokens
 pub mod Kept
+pub mod Short

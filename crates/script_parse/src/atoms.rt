@@ -8,6 +8,9 @@ use crate::bytes::{beside, bytes_behind};
 use board_layout::Text;
 use board_model::{Key, KeyType, Name, ValueType};
 
+// A number up to this one has at most 64 bits with any digit behind it.
+const MOST_BEFORE_DIGIT: u64 = 1844674407370955160;
+
 fn has_name_bytes(text: &[u8]) -> bool
     ensures { result ≡ list_all is_name_byte text.now }
 {
@@ -80,7 +83,7 @@ fn digits_value(text: &[u8]) -> Option<u64>
             return None;
         }
         let digit = u64::from(*b - b'0');
-        if n > (u64::MAX - digit) / 10 {
+        if n > MOST_BEFORE_DIGIT && n > (u64::MAX - digit) / 10 {
             return None;
         }
         n = 10 * n + digit;

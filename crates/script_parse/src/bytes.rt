@@ -27,6 +27,7 @@ pub(crate) fn is_word(text: &[u8], word: &[u8]) -> bool
 }
 
 // What follows the prefix.
+#[inline(always)]
 pub(crate) fn bytes_behind<'a>(text: &'a [u8], prefix: &[u8]) -> Option<&'a [u8]>
     ensures { option_map (λ rest. rest.now) result ≡ behind prefix.now text.now }
 {

@@ -1,7 +1,8 @@
 //! The lines of a script, from their bytes.
 //!
 //! A cursor takes one token after another from the front, so only what a line keeps takes memory. Each reading function
-//! stands beside a definition of the same shape in `script_grammar`.
+//! stands beside a definition of the same shape in `script_grammar`. `short` has ways to the lines that come most, which
+//! go past all that: they promise nothing where they give no line.
 #![tactic(auto)]
 
 mod atoms;
@@ -10,6 +11,7 @@ mod calls;
 mod events;
 mod options;
 mod parse;
+mod short;
 #[cfg(test)]
 mod tests;
 mod tokens;
@@ -18,3 +20,4 @@ mod values;
 pub use atoms::number_of;
 pub use bytes::place_of;
 pub use parse::parse_line;
+pub use short::{get_of, step_of, update_of};

@@ -16,7 +16,7 @@ use script_model::ScriptLine;
 use std::alloc::{AllocError, Global};
 
 // A line has no more bytes than these.
-const MOST_BYTES: usize = 4096;
+pub(crate) const MOST_BYTES: usize = 4096;
 
 #[tactic(auto, unfolding(script_grammar::specs::LineReading::read_begin))]
 fn begin_of(alloc: Global, tokens: &mut Tokens) -> Result<Option<Line>, AllocError>
