@@ -1,4 +1,8 @@
 //! Channels by the typed calls, of which their clauses say little, and once by the lent forms.
+ghost use Rattle.std.specs.Prelude.{IsOkUnless};
+ghost use Rattle.board_names.specs.Table.{NamesAscend};
+ghost use Rattle.board_names.specs.declared.errors.communication_channel.CommunicationChannelCreateError.TheVariants.{OutOfMemory};
+
 use crate::{
     Channel, ChannelRegistry, Channels, CommunicationChannel, CommunicationChannelConnector,
     CommunicationChannelCreator, CommunicationChannelParticipant, CommunicationChannelReceiver,
@@ -7,7 +11,7 @@ use crate::{
 };
 use board_names::{
     CommunicationChannelCreateError, CommunicationChannelOpenError, CommunicationChannelSendError,
-    Configuration, FileName, NameTable, NamedConcept, NamedConceptBuilder,
+    Configuration, FileName, FilePath, NameTable, NamedConcept, NamedConceptBuilder,
     NamedConceptConfiguration, NamedConceptMgmt,
 };
 use std::alloc::Global;
@@ -149,23 +153,112 @@ fn channels_are_listed(rt: HostRuntime) -> Result<(), Fail> {
     Ok(())
 }
 
-fn size_made<R: Wait, C: CommunicationChannelCreator>(
+// Code over the trait alone: the two ends of a new channel.
+fn both_ends<R: Wait, C: CommunicationChannel>(
     rt: &R,
     alloc: Global,
-    creator: C,
-) -> Result<usize, CommunicationChannelCreateError>
+    registry: &C::Registry,
+    name: &FileName,
+) -> Result<(C::Receiver, C::Sender), Fail>
 where
     C::Receiver: Drop,
 {
-    let receiver = creator.buffer_size(3).create_receiver(rt, alloc)?;
-    Ok(receiver.buffer_size())
+    let receiver = C::Creator::new(name, registry)?.create_receiver(rt, alloc)?;
+    let sender = C::Connector::new(name, registry)?.open_sender(rt)?;
+    Ok((receiver, sender))
+}
+
+// Code over the trait alone: what is sent to a channel is received from it, once.
+fn carries<R: Wait + Abort, T: CommunicationChannelReceiver, S: CommunicationChannelSender>(
+    rt: &R,
+    receiver: &T,
+    sender: &S,
+) {
+    let first = sender.send(rt, &7);
+    let second = sender.try_send(rt, &8);
+    assert_eq!(rt; (first, second), (Ok(None), Ok(None)));
+    assert_eq!(rt; receiver.receive(rt), Ok(Some(7)));
+    assert_eq!(rt; receiver.receive(rt), Ok(Some(8)));
+    assert_eq!(rt; receiver.receive(rt), Ok(None));
+}
+
+// Code over the trait alone: it goes to the channel that was opened, and to no other.
+fn leads_to_its_channel<R: Wait + Abort, C: CommunicationChannel>(
+    rt: &R,
+    alloc: Global,
+    registry: &C::Registry,
+) -> Result<(), Fail>
+where
+    C::Receiver: Drop,
+    C::Sender: Drop,
+{
+    let (receiver, sender) = both_ends::<_, C>(rt, alloc, registry, &FileName::new(b"c")?)?;
+    let (other, _) = both_ends::<_, C>(rt, alloc, registry, &FileName::new(b"d")?)?;
+    carries(rt, &receiver, &sender);
+    let sent = sender.send(rt, &9);
+    assert_eq!(rt; (sent, other.receive(rt)), (Ok(None), Ok(None)));
+    assert_eq!(rt; receiver.receive(rt), Ok(Some(9)));
+    Ok(())
+}
+
+// Code over the trait alone: a name is there until it is removed, once, and then nobody opens it.
+fn is_removed<R: Wait + Abort, C: CommunicationChannel>(
+    rt: &R,
+    registry: &C::Registry,
+    name: &FileName,
+) -> Result<(), Fail>
+where
+    C::Sender: Drop,
+{
+    let config = Configuration::with_suffix(&C::default_suffix());
+    let before = C::does_exist_cfg(rt, registry, name, &config);
+    let first = C::remove_cfg(rt, registry, name, &config);
+    let second = C::remove_cfg(rt, registry, name, &config);
+    let after = C::does_exist_cfg(rt, registry, name, &config);
+    assert_eq!(rt; (before, after), (Ok(true), Ok(false)));
+    assert_eq!(rt; (first, second), (Ok(true), Ok(false)));
+    let gone = C::Connector::new(name, registry)?.try_open_sender(rt);
+    assert_eq!(rt;
+        gone.err(),
+        Some(CommunicationChannelOpenError::DoesNotExist)
+    );
+    Ok(())
 }
 
 #[test]
-fn any_channel_is_made_by_the_traits(rt: HostRuntime) -> Result<(), Fail> {
+fn any_channel_is_used_by_the_traits(rt: HostRuntime) -> Result<(), Fail> {
     let registry = ChannelRegistry::new(rt.alloc())?;
-    let creator = creator(b"c", &registry)?;
-    assert_eq!(rt; size_made(&rt, rt.alloc(), creator)?, 3);
+    leads_to_its_channel::<_, Channel>(&rt, rt.alloc(), &registry)?;
+    let name = FileName::new(b"e")?;
+    let _ends = both_ends::<_, Channel>(&rt, rt.alloc(), &registry, &name)?;
+    is_removed::<_, Channel>(&rt, &registry, &name)
+}
+
+// A caller's proof over channels that were lent, whoever made them: a removed name can be taken, want of memory aside.
+fn takes_a_removed_name(
+    state: &mut Channels,
+    name: &FilePath,
+) -> Result<SharedQueue, CommunicationChannelCreateError>
+    ensures { IsOkUnless result OutOfMemory }
+{
+    state.remove(name);
+    state.create(name, 1, false)
+}
+
+// And their names ascend, so they differ.
+fn count_of_names(state: &Channels) -> usize
+    ensures { NamesAscend state.now }
+{
+    state.name_count()
+}
+
+#[test]
+fn a_removed_name_is_taken_again(rt: HostRuntime) -> Result<(), Fail> {
+    let mut state = Channels::new(rt.alloc());
+    let name = channels().path_for(&FileName::new(b"c")?);
+    let _first = state.create(&name, 2, false)?;
+    let second = takes_a_removed_name(&mut state, &name)?;
+    assert_eq!(rt; (second.capacity(), count_of_names(&state)), (1, 1));
     Ok(())
 }
 

@@ -1,13 +1,14 @@
 -- The program of snapshots: what a script comes to, its status and its note.
-use Rattle.std.specs.Prelude.{◌≡◌, ℕ, List, [], ◌++◌, codes, Option, Some, Result}
+use Rattle.std.specs.Prelude.{◌≡◌, ℕ, List, [], ◌++◌, codes, Option, Some, Result, IsErrOf}
 use Rattle.script_model.specs.ScriptAnswers.{ScriptAnswer}
 use Rattle.script_model.specs.ScriptSession as script
 use Rattle.script_loop.specs.declared.error.ScriptError.{ScriptError}
+use Rattle.script_loop.specs.declared.error.ScriptError.TheVariants.{OutOfMemory}
 use Rattle.script_loop.specs.Runs.{Gains, Stream}
 use Rattle.script_endings.specs.Endings.{IsNoted, note_of, status_of}
 use Rattle.script_exchanges.specs.declared.line.Drive.TheVariants.{Snapshots}
 use Rattle.script_exchanges.specs.Exchanges.{AreLinesOf, Exchanges, fed_session, output_of}
-use Rattle.script_drive.specs.DriveRuns.{DriveRuns}
+use Rattle.script_drive.specs.DriveRuns.{DriveRuns, StopsForMemory}
 use Rattle.script_snapshots.specs.LawsOfTakings.{IsOfOneMoment, IsShortTaking, IsWhole}
 use Rattle.script_snapshots.specs.Takings.{Taking}
 use Rattle.script_snapshots.specs.SnapshotExchanges.{IsLawful, Leads, Takings, no_takings}
@@ -56,6 +57,8 @@ usage_note = codes "usage: board_snapshot_run\n"
 pub record IsAnswered (status : ℕ) (source sink notes : Stream) : Type 0 where
   pub answer : Result (Unit {0}) ScriptError
   pub run : DriveRuns Snapshots IsLawful 4294967295 source sink answer
+  -- memory is refused before the first line, or at one of the grammar
+  pub memory : IsErrOf answer OutOfMemory → StopsForMemory Snapshots IsLawful 4294967295 source sink
   pub is : status ≡ status_of answer
   pub note : IsNoted notes (note_of answer)
 

@@ -17,6 +17,9 @@ use std::alloc::Global;
 use std::process::Abort;
 use std::sync::Wait;
 use std::test::Fail;
+use std::thread;
+use std::thread::Threads;
+use std::time::{Clock, Duration};
 
 fn builder(value: &[u8], registry: &StaticRegistry) -> Result<Builder, Fail> {
     let name = FileName::new(value)?;
@@ -192,26 +195,104 @@ fn what_is_gone_is_not_unlocked(rt: HostRuntime) -> Result<(), Fail> {
     Ok(())
 }
 
-fn len_when_made<R: Wait, S: StaticStorage>(
+// Code over the trait alone: the name and the configuration of what follows.
+fn one_name<S: StaticStorage>() -> Result<(FileName, Configuration), Fail> {
+    let suffix = S::default_suffix();
+    Ok((FileName::new(b"z")?, Configuration::with_suffix(&suffix)))
+}
+
+// Code over the trait alone: a name is there once its storage is filled.
+fn is_filled<R: Wait + Abort, S: StaticStorage + Drop>(
     rt: &R,
     alloc: Global,
-    builder: S::Builder,
-) -> Result<u64, StaticStorageCreateError>
-where
-    S::Builder: StaticStorageBuilder<Storage = S>,
-{
-    let storage = builder.has_ownership(true).create(rt, alloc, &[4, 5])?;
-    let len = storage.len();
+    registry: &S::Registry,
+    (name, config): (&FileName, &Configuration),
+) -> Result<(), Fail> {
+    let locked = S::Builder::new(name, registry)?.create_locked(rt, alloc)?;
+    let early = S::does_exist_cfg(rt, registry, name, config);
+    let _storage = locked.unlock(rt, alloc, &[4, 5])?;
+    let late = S::does_exist_cfg(rt, registry, name, config);
+    assert_eq!(rt;
+        early,
+        Err(NamedConceptDoesExistError::UnderlyingResourcesBeingSetUp)
+    );
+    assert_eq!(rt; late, Ok(true));
+    Ok(())
+}
+
+// Code over the trait alone: what is opened has the bytes that were written, and gives up a name that it owns.
+fn is_opened_and_released<R: Wait + Abort, S: StaticStorage + Drop>(
+    rt: &R,
+    registry: &S::Registry,
+    (name, config): (&FileName, &Configuration),
+) -> Result<(), Fail> {
+    let mut storage = S::Builder::new(name, registry)?.open(rt, 0)?;
+    assert_eq!(rt; storage.len(), 2);
+    storage.acquire_ownership();
     storage.release(rt);
-    Ok(len)
+    let held = S::does_exist_cfg(rt, registry, name, config);
+    assert_eq!(rt; held, Ok(false));
+    Ok(())
+}
+
+// Code over the trait alone: a name is removed once, and then nobody opens it.
+fn is_removed<R: Wait + Abort, S: StaticStorage + Drop>(
+    rt: &R,
+    alloc: Global,
+    registry: &S::Registry,
+    (name, config): (&FileName, &Configuration),
+) -> Result<(), Fail> {
+    let _made = S::Builder::new(name, registry)?.create(rt, alloc, &[6])?;
+    let first = S::remove_cfg(rt, registry, name, config);
+    let second = S::remove_cfg(rt, registry, name, config);
+    assert_eq!(rt; (first, second), (Ok(true), Ok(false)));
+    let gone = S::Builder::new(name, registry)?.open(rt, 0);
+    assert_eq!(rt; gone.err(), Some(StaticStorageOpenError::DoesNotExist));
+    Ok(())
 }
 
 #[test]
-fn any_static_storage_is_made_by_the_traits(rt: HostRuntime) -> Result<(), Fail> {
+fn any_static_storage_is_used_by_the_traits(rt: HostRuntime) -> Result<(), Fail> {
     let alloc = rt.alloc();
     let registry = StaticRegistry::new(alloc)?;
-    let builder = builder(b"z", &registry)?;
-    assert_eq!(rt; len_when_made::<_, Storage>(&rt, alloc, builder)?, 2);
+    let (name, config) = one_name::<Storage>()?;
+    is_filled::<_, Storage>(&rt, alloc, &registry, (&name, &config))?;
+    is_opened_and_released::<_, Storage>(&rt, &registry, (&name, &config))?;
+    is_removed::<_, Storage>(&rt, alloc, &registry, (&name, &config))
+}
+
+fn unlock_late<R: Wait + Clock>(
+    rt: &R,
+    alloc: Global,
+    locked: Locked,
+) -> Result<Storage, StaticStorageUnlockError> {
+    let _ = thread::sleep(rt, Duration::from_millis(50));
+    locked.unlock(rt, alloc, &[1, 2, 3])
+}
+
+// One thread looks again and again while the other one fills the storage.
+fn opens_while_it_is_filled<R: Threads + Wait + Clock + Sync>(
+    rt: &R,
+    alloc: Global,
+    opener: Builder,
+    locked: Locked,
+) -> Result<Storage, StaticStorageOpenError> {
+    let (opened, _filled) = thread::join(
+        rt,
+        move || opener.open(rt, u32::MAX),
+        move || unlock_late(rt, alloc, locked),
+    );
+    opened
+}
+
+#[test]
+fn open_looks_until_it_is_filled(rt: HostRuntime) -> Result<(), Fail> {
+    let alloc = rt.alloc();
+    let registry = StaticRegistry::new(alloc)?;
+    let locked = builder(b"x", &registry)?.create_locked(&rt, alloc)?;
+    let opener = builder(b"x", &registry)?;
+    let storage = opens_while_it_is_filled(&rt, alloc, opener, locked)?;
+    shows_its_bytes(&rt, &storage);
     Ok(())
 }
 

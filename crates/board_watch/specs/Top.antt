@@ -1,14 +1,15 @@
 -- The program of watchers: what a script comes to, its status and its note.
-use Rattle.std.specs.Prelude.{◌≡◌, ℕ, ◌≤◌, List, [], ◌++◌, codes, Some, Result}
+use Rattle.std.specs.Prelude.{◌≡◌, ℕ, ◌≤◌, List, [], ◌++◌, codes, Some, Result, IsErrOf}
 use Rattle.script_model.specs.ScriptSession as script
 use Rattle.script_model.specs.LawsOfComposition.{state_met}
 use Rattle.script_moments.specs.Reports.{Take}
 use Rattle.script_loop.specs.declared.error.ScriptError.{ScriptError}
+use Rattle.script_loop.specs.declared.error.ScriptError.TheVariants.{OutOfMemory}
 use Rattle.script_loop.specs.Runs.{Gains, Stream}
 use Rattle.script_endings.specs.Endings.{IsNoted, note_of, status_of}
 use Rattle.script_exchanges.specs.declared.line.Drive.TheVariants.{Watchers}
 use Rattle.script_exchanges.specs.Exchanges.{AreLinesOf, Exchanges, fed_session, output_of}
-use Rattle.script_drive.specs.DriveRuns.{DriveRuns}
+use Rattle.script_drive.specs.DriveRuns.{DriveRuns, StopsForMemory}
 use Rattle.script_watches.specs.LawsOfWatches.{AreItems, IsCalledGet, IsWatched, Rise}
 use Rattle.script_watches.specs.Watchings.{Watching, highest_of, reports_through}
 use Rattle.script_watches.specs.WatchExchanges.{IsLawful, Leads, Watchings, no_watchings}
@@ -59,6 +60,8 @@ usage_note = codes "usage: board_watch_run\n"
 pub record IsAnswered (status : ℕ) (source sink notes : Stream) : Type 0 where
   pub answer : Result (Unit {0}) ScriptError
   pub run : DriveRuns Watchers IsLawful 4294967295 source sink answer
+  -- memory is refused before the first line, or at one of the grammar
+  pub memory : IsErrOf answer OutOfMemory → StopsForMemory Watchers IsLawful 4294967295 source sink
   pub is : status ≡ status_of answer
   pub note : IsNoted notes (note_of answer)
 

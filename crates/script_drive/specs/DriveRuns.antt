@@ -1,14 +1,15 @@
 -- What a run of a script whose parties can be driven comes to, from its source to its sink: as with plain scripts, over its own lines.
-use Rattle.std.specs.Prelude.{◌≡◌, ◌≢◌, ℕ, ◌+◌, ◌≤◌, List, ◌++◌, length, take, IsSomeAnd, Option, Some, None, ⊤, Result, Err, IfErr, IsErrOf, OnOk}
+use Rattle.std.specs.Prelude.{◌≡◌, ◌≢◌, ◌⊎◌, ℕ, ◌+◌, ◌<◌, ◌≤◌, List, ◌∷◌, ◌++◌, length, take, IsSomeAnd, Option, Some, None, ⊤, Result, Err, IfErr, IsErrOf, OnOk}
 use Rattle.std.specs.List.{AllByRecursion}
 use Rattle.std.specs.Io.KnownBytes.{IsAtEnd, prepend_known}
 use Rattle.board_model.specs.Lines.{IsOneLine}
 use Rattle.script_loop.specs.declared.error.ScriptError.{ScriptError}
 use Rattle.script_loop.specs.declared.error.ScriptError.TheVariants.{ReadFault, WriteFault, BadLine, TooLong, OutOfMemory}
-use Rattle.script_loop.specs.Runs.{CountStays, CountsOn, Gains, HasFailed, Stream}
+use Rattle.script_loop.specs.Runs.{CountStays, CountsOn, Gains, HasFailed, IsUnstarted, Stream}
 use Rattle.script_loop.specs.WholeLines.{with_newlines}
 use Rattle.script_exchanges.specs.declared.line.Drive.{Drive}
-use Rattle.script_exchanges.specs.Exchanges.{AreLinesOf, BeginsWith, Exchanges, GoesOnAfter, IsDriveScript, LeavesGrammarAfter, SpellsAll, output_of}
+use Rattle.script_drive.specs.Drivers.{SpellsSome}
+use Rattle.script_exchanges.specs.Exchanges.{AreLinesOf, BeginsWith, Exchanges, FollowedBy, GoesOnAfter, IsDriveScript, LeavesGrammarAfter, SpellsAll, output_of}
 
 -- ---- lines that were whole when they were read
 
@@ -86,6 +87,25 @@ IsStopped WriteFault d Lawful limit source sink = IsWriteCut d Lawful limit sour
 IsStopped (BadLine n) d Lawful limit source sink = IsBadAt d Lawful n limit source sink
 IsStopped TooLong d Lawful limit source sink = IsPast d Lawful limit source sink
 IsStopped OutOfMemory d Lawful limit source sink = IsSpent d Lawful limit source sink
+
+-- ---- where a run may stop for memory
+
+-- where the input is known, its first lines are those of the exchanges, and the next one is of the grammar
+abbrev pub HasNextLine : Drive → Option (List ℕ) → Exchanges → Type 0
+HasNextLine d None xs = ⊤
+HasNextLine d (Some input) xs = (line : List ℕ) × (more : List (List ℕ)) × FollowedBy d input xs (line ∷ more) × SpellsSome d line
+
+-- at a line of the grammar: the lines before were answered
+pub record IsWanting (d : Drive) (Lawful : Exchanges → Type 0) (limit : ℕ) (source sink : Stream) : Type 0 where
+  pub exchanges : Exchanges
+  pub lawful : Lawful exchanges
+  pub few : length exchanges < limit
+  pub output : Gains sink (output_of exchanges)
+  pub next : HasNextLine d source.before exchanges
+
+-- a run stops for memory before its first line, or at one of the grammar
+abbrev pub StopsForMemory : Drive → (Exchanges → Type 0) → ℕ → Stream → Stream → Type 0
+StopsForMemory d Lawful limit source sink = IsUnstarted source sink ⊎ IsWanting d Lawful limit source sink
 
 -- ---- runs that are run to their end
 

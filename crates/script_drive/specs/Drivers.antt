@@ -6,6 +6,10 @@ use Rattle.script_exchanges.specs.declared.line.DriveLine.{DriveLine}
 use Rattle.script_exchanges.specs.DriveGrammar.{SpellsDrive}
 use Rattle.script_exchanges.specs.Exchanges.{Answered, Exchanges, Told, output_of, text_of}
 
+-- the bytes spell a line of the grammar
+abbrev pub SpellsSome : Drive → List ℕ → Type 0
+SpellsSome d bytes = (l : DriveLine) × SpellsDrive d bytes l
+
 -- the driver stands for these exchanges, which are lawful and few
 pub record StandsFor {M : Type 0} (Lawful : Exchanges → Type 0) (stands : M → Exchanges → Type 0) (m : M) (xs : Exchanges) : Type 0 where
   pub lawful : Lawful xs

@@ -4,8 +4,8 @@ ghost use Rattle.script_loop.specs.Reader.{in_hand, source_ended};
 ghost use Rattle.script_loop.specs.Runs.{stream_of};
 ghost use Rattle.script_exchanges.specs.declared.line.Drive.{Drive};
 ghost use Rattle.script_exchanges.specs.DriveGrammar.{SpellsNoDrive};
-ghost use Rattle.script_drive.specs.DriveRuns.{DriveRuns, FitsInto, IsRunnable};
-ghost use Rattle.script_drive.specs.Drivers.{StandsFor, StandsStill, TellsEach};
+ghost use Rattle.script_drive.specs.DriveRuns.{DriveRuns, FitsInto, IsRunnable, StopsForMemory};
+ghost use Rattle.script_drive.specs.Drivers.{SpellsSome, StandsFor, StandsStill, TellsEach};
 ghost use Rattle.script_exchanges.specs.Exchanges.{Exchanges};
 
 use script_loop::{Fetched, LineError, LineReader, ScriptError, Sink, Source, write_whole};
@@ -25,7 +25,7 @@ pub trait Drives {
     /// Answers a line: `told` then has all that is written of it, and nothing else.
     ///
     /// # Errors
-    /// `Bad` where the line is outside the grammar; `OutOfMemory`.
+    /// `Bad` where the line is outside the grammar; `OutOfMemory`, only for a line of the grammar.
     fn line(&mut self, line: &[u8], told: &mut Vec<u8>) -> Result<(), LineError>
         // The driver stands for exchanges that are lawful, and fewer than 2^32.
         requires { (xs : Exchanges) × StandsFor lawful stands self.old xs }
@@ -37,6 +37,9 @@ pub trait Drives {
         // A line outside the grammar is refused, no other one is, and nothing changes.
         ensures bad { IsErrOf result LineError.Bad → SpellsNoDrive drive line.now }
         ensures same { IsErrOf result LineError.Bad → StandsStill stands self.old self.new }
+
+        // Nor does it want memory.
+        ensures spelled { IsErrOf result LineError.OutOfMemory → SpellsSome drive line.now }
 
         ensures err { OnErr result (told.new.items ≡ []) };
 }
@@ -77,6 +80,12 @@ fn run_all<D: Drives, S: Source, K: Sink>(
     ensures writes { (room : ℕ) → K.never_fails_within sink.old room
         → FitsInto D.drive D.lawful room limit (S.left source.old)
         → result ≢ Err ScriptError.WriteFault }
+
+    // Memory is refused before the first line, or at one of the grammar.
+    ensures memory { IsErrOf result ScriptError.OutOfMemory
+        → StopsForMemory D.drive D.lawful limit
+        (stream_of S.left S.faults source.old source.new)
+        (stream_of K.held K.faults sink.old sink.new) }
 {
     let Some(mut reader) = new_reader(alloc) else {
         return Err(ScriptError::OutOfMemory);
@@ -97,20 +106,19 @@ fn run_all<D: Drives, S: Source, K: Sink>(
             },
         }
     }
-    match reader.next(source) {
+    match reader.is_at_end(source) {
         Err(_) => Err(ScriptError::ReadFault),
-        Ok(Fetched::End) => Ok(()),
-        Ok(Fetched::Long) => Err(ScriptError::TooLong),
-        Ok(Fetched::Line) => Err(ScriptError::TooLong),
+        Ok(true) => Ok(()),
+        Ok(false) => Err(ScriptError::TooLong),
     }
 }
 
 /// Answers the lines of the source, at most `limit` of them, and writes what is told of each before the next line is looked at.
 ///
-/// Line n is counted from 1. What follows the last line that is allowed is read up to its newline; it is `TooLong` where a byte was read.
+/// Line n is counted from 1. `TooLong` is looked at when a byte follows the last line that is allowed.
 ///
 /// # Errors
-/// `ReadFault` and `WriteFault` where source or sink failed; `BadLine` with the number of the first line outside the grammar; `TooLong`; `OutOfMemory`. What is told of the lines before is written.
+/// `ReadFault` and `WriteFault` where source or sink failed; `BadLine` with the number of the first line outside the grammar; `TooLong`; `OutOfMemory`, before the first line or at one of the grammar. What is told of the lines before is written.
 pub fn run_driven<D: Drives, S: Source, K: Sink>(
     alloc: Global,
     limit: u64,
@@ -138,6 +146,12 @@ pub fn run_driven<D: Drives, S: Source, K: Sink>(
     ensures complete { S.never_fails source.old → (room : ℕ) → K.never_fails_within sink.old room
         → IsRunnable D.drive D.lawful room limit (S.left source.old)
         → IfErr result (λ e. e ≡ ScriptError.OutOfMemory) }
+
+    // Memory is refused before the first line, or at one of the grammar.
+    ensures memory { IsErrOf result ScriptError.OutOfMemory
+        → StopsForMemory D.drive D.lawful limit
+        (stream_of S.left S.faults source.old source.new)
+        (stream_of K.held K.faults sink.old sink.new) }
 {
     run_all(alloc, limit, driver, source, sink)
 }

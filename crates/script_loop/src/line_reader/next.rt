@@ -68,8 +68,11 @@ impl LineReader {
         }
     }
 
-    // Whether no byte is left. The source is read only where nothing is in hand.
-    pub(crate) fn is_at_end<S: Source>(&mut self, source: &mut S) -> Result<bool, Failed>
+    /// Whether no byte is left. The source is read only where nothing is in hand, and not again after it came to its end.
+    ///
+    /// # Errors
+    /// `Failed` where the source failed.
+    pub fn is_at_end<S: Source>(&mut self, source: &mut S) -> Result<bool, Failed>
         requires one_source { IsTrue (source_ended self.old) → IsAtEnd (S.left source.old) }
         ensures end { IfOk result (λ end. IsTrue end
             → IsAtEnd (to_come self.old (S.left source.old))) }

@@ -11,7 +11,7 @@ pub returns-clause-end : goal.returns-clause-end
 returns-clause-end g c = λ zero. run_ends c.run_driven.result _ _ _ c.run_driven.ensures.runs c.end_with.ensures.is zero
 
 pub returns-clause-ran : goal.returns-clause-ran
-returns-clause-ran g c = λ none. record { answer = c.run_driven.result; run = c.run_driven.ensures.runs; is = c.end_with.ensures.is; note = c.end_with.ensures.noted }
+returns-clause-ran g c = λ none. record { answer = c.run_driven.result; run = c.run_driven.ensures.runs; memory = c.run_driven.ensures.memory; is = c.end_with.ensures.is; note = c.end_with.ensures.noted }
 
 pub returns-clause-complete : goal.returns-clause-complete
 returns-clause-complete g c = λ none sure. runs_through c.run_driven.result _ _ _ c.run_driven.ensures.runs c.end_with.ensures.is sure

@@ -1,9 +1,9 @@
-use Rattle.std.proofs.Common.{◌-◌, length, ap, refl, subst, rules, arith}
+use Rattle.std.proofs.Common.{◌-◌, length, ap, refl, subst, rules, arith, inl, inr}
 use Rattle.script_loop.specs.Reader.{line_given}
 use Rattle.script_loop.proofs.LineLemmas.{takes_line}
 use Rattle.script_exchanges.specs.DriveGrammar.{SpellsNoDrive}
 use Rattle.script_exchanges.specs.Exchanges.{output_of}
-use Rattle.script_drive.proofs.DriveEndings.{bad_at, gave_up, is_long_past, is_past, is_spent, left_grammar, long_at, spent_at_once, unwritten, was_long, write_cut}
+use Rattle.script_drive.proofs.DriveEndings.{bad_at, gave_up, is_past, is_spent, left_grammar, long_at, spent_at_once, unwritten, wanting, was_long, write_cut}
 use Rattle.script_drive.proofs.DriveSteps.{fits_one_more, goes_on, stands_for, starts_on}
 use Rattle.script_drive.proofs.run.run_all.Goals as goal
 
@@ -33,6 +33,16 @@ returns-in-Err-Bad-clause-runs g c =
 
 pub returns-in-Err-OutOfMemory-clause-runs : goal.returns-in-Err-OutOfMemory-clause-runs
 returns-in-Err-OutOfMemory-clause-runs g c = gave_up _ _ _ _ _ (search rules) (search rules) (is_spent _ _ _ _ _ c.args.limit _ _ _ c.loop-n.invariant.on.run (omega arith))
+
+pub returns-in_default-clause-memory : goal.returns-in_default-clause-memory
+returns-in_default-clause-memory g c = λ e. inl (record { unread = refl; unwritten = refl })
+
+pub returns-in-Err-OutOfMemory-clause-memory : goal.returns-in-Err-OutOfMemory-clause-memory
+returns-in-Err-OutOfMemory-clause-memory g c = λ e.
+    let f = rw c.in-Ok-Line.field-0-is at c.in-Ok-Line.ensures.fetched in
+    let one = rw c.in-Ok-Line.field-0-is at c.in-Ok-Line.ensures.short in
+    let some = c.in-Err-OutOfMemory.ensures.spelled (cc c.in-Err-OutOfMemory.field-0-is) in
+    inr (wanting _ _ _ _ _ _ _ _ _ c.loop-n.invariant.on.run _ (line_given c.next.new.self) c.loop-n-test.true (takes_line _ _ _ _ one.0 f) (rw c.line.ensures at some))
 
 pub returns-in-Err-write_whole-clause-runs : goal.returns-in-Err-write_whole-clause-runs
 returns-in-Err-write_whole-clause-runs g c =
@@ -71,13 +81,6 @@ loop-n-preserved g c =
       unfailing = search rules;
     }
 
-pub returns-in-Ok-Long-next-clause-runs : goal.returns-in-Ok-Long-next-clause-runs
-returns-in-Ok-Long-next-clause-runs g c =
-    let f = rw c.in-Ok-Long-next.field-0-is at c.in-Ok-Long-next.ensures.fetched in
-    was_long _ _ _ _ _ (search rules) (search rules) (is_long_past _ _ _ _ _ _ _ _ _ c.loop-n.invariant.on.run (omega arith) f)
-
 pub returns-clause-runs : goal.returns-clause-runs
 returns-clause-runs g c =
-    let f = rw c.in-Ok-Line-next.field-0-is at c.in-Ok-Line-next.ensures.fetched in
-    let one = rw c.in-Ok-Line-next.field-0-is at c.in-Ok-Line-next.ensures.short in
-    was_long _ _ _ _ _ (search rules) (search rules) (is_past _ _ _ _ _ _ _ _ _ c.loop-n.invariant.on.run _ (line_given c.next-2.new.self) (omega arith) (takes_line _ _ _ _ one.0 f))
+    was_long _ _ _ _ _ (search rules) (search rules) (is_past _ _ _ _ _ _ _ _ _ c.loop-n.invariant.on.run (omega arith) (c.in-Ok-false.ensures.more c.in-Ok-false.field-0-test))

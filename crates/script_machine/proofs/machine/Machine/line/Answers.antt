@@ -1,5 +1,5 @@
 use Rattle.std.proofs.Common.{arith, inl, inr, subst, Option}
-use Rattle.std.specs.Prelude.{IfSome}
+use Rattle.std.specs.Prelude.{IfSome, vec_capacity}
 use Rattle.script_model.specs.declared.line.ScriptLine.{ScriptLine}
 use Rattle.script_model.specs.ScriptGrammar.{SpellsLine}
 use Rattle.script_machine.proofs.Sessions.{has_answered, led}
@@ -21,10 +21,10 @@ returns-in-Err-answer-clause-spelled g c =
 pub returns-in-Err-answer-clause-memory : goal.returns-in-Err-answer-clause-memory
 returns-in-Err-answer-clause-memory g c =
     let spelled = subst (λ (o : Option ScriptLine). IfSome o (λ l. SpellsLine c.args.line.now l)) c.in-Ok-Some.field-0-is c.in-Ok-Some.ensures.found in
-    λ _ room. (c.in-Ok-Some.parsed, spelled, inr (c.in-Err-answer.ensures.memory (omega (arith, c.clear.ensures.len, c.clear.ensures.capacity, room))))
+    λ _. (c.in-Ok-Some.parsed, spelled, inr (c.in-Err-answer.ensures.memory (vec_capacity c.args.answer.now) (omega (arith, c.clear.ensures.len, c.clear.ensures.capacity))))
 
 pub returns-in-Err-clause-spelled : goal.returns-in-Err-clause-spelled
 returns-in-Err-clause-spelled g c = λ _. (let k = c.in-Err.ensures.memory in (k.0, k.1))
 
 pub returns-in-Err-clause-memory : goal.returns-in-Err-clause-memory
-returns-in-Err-clause-memory g c = λ _ _. (let k = c.in-Err.ensures.memory in (k.0, k.1, inl k.2))
+returns-in-Err-clause-memory g c = λ _. (let k = c.in-Err.ensures.memory in (k.0, k.1, inl k.2))
