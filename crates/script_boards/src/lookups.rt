@@ -5,13 +5,14 @@ ghost use Rattle.script_boards.specs.Machine.{is_row_of, kept, kept_of};
 
 use crate::machine::{KeptValue, PartyRow};
 use board_model::Name;
+use script_parties::is_same_name;
 
 /// Where the row of a party stands.
 pub(crate) fn place_of_party(party: &Name, parties: &[PartyRow]) -> Option<usize>
     ensures { result ≡ position_from (is_row_of party.now) 0 parties.now }
 {
     for (i, row) in parties.iter().enumerate() {
-        if *party == row.name {
+        if is_same_name(party, &row.name) {
             return Some(i);
         }
     }
@@ -28,7 +29,7 @@ pub(crate) fn value_of<'a>(
 {
     let mut found = None;
     for value in values {
-        if *party == value.party && *name == value.name {
+        if is_same_name(name, &value.name) && is_same_name(party, &value.party) {
             found = Some(value);
         }
     }

@@ -7,3 +7,4 @@ pub mod RunLemmas
 pub mod GoingOn
 pub mod CompleteLemmas
 pub mod IdleLemmas
+pub mod NewlineLemmas

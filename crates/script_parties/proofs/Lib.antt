@@ -16,3 +16,4 @@ pub mod Ports
 pub mod Refused
 pub mod Renaming
 pub mod WordLookups
+pub mod NameEnds

@@ -14,5 +14,5 @@ mod lookups;
 mod party_domain;
 mod typed_calls;
 
-pub use lookups::{Held, entry_of};
+pub use lookups::{Held, entry_of, is_same_name};
 pub use party_domain::PartyDomain;

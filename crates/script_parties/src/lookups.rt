@@ -1,5 +1,5 @@
 //! What stands among the things and the nodes.
-ghost use Rattle.std.specs.Prelude.{◌≡◌, ◌+◌, ◌++◌, ◌∷◌, ◌<◌, [], Some, length, map, option_map, vec_capacity, vec_len};
+ghost use Rattle.std.specs.Prelude.{◌≡◌, ◌+◌, ◌-◌, ◌++◌, ◌∷◌, ◌<◌, [], Some, length, map, option_map, slice_index, vec_capacity, vec_len};
 ghost use Rattle.std.specs.List.{position_from};
 ghost use Rattle.std.specs.Str.{bytes_eq};
 ghost use Rattle.board_model.specs.Tables as tables;
@@ -14,12 +14,35 @@ use board_service::{ThingId, is_kind};
 /// A thing of a board, under its party and its name.
 pub type Held = Thing<Name, Name>;
 
+// The last byte of a name, 0 where it has none.
+#[inline(always)]
+fn last_byte(name: &Name) -> u8
+    ensures { result ≡ slice_index name.now (length name.now - 1) }
+{
+    let bytes = name.as_bytes();
+    if bytes.is_empty() {
+        return 0;
+    }
+    bytes[bytes.len() - 1]
+}
+
+/// Whether two names are the same. Their last bytes are looked at first, in which names differ most.
+#[inline(always)]
+pub fn is_same_name(a: &Name, b: &Name) -> bool
+    ensures { result ≡ bytes_eq a.now b.now }
+{
+    if last_byte(a) != last_byte(b) {
+        return false;
+    }
+    *a == *b
+}
+
 /// Where the thing stands that a party holds under a name.
 pub(crate) fn place_of_thing(party: &Name, name: &Name, things: &[Held]) -> Option<usize>
     ensures { result ≡ position_from (held.is_held_as party.now name.now) 0 things.now }
 {
     for (i, thing) in things.iter().enumerate() {
-        if thing.holder == *party && thing.name == *name {
+        if is_same_name(&thing.holder, party) && is_same_name(&thing.name, name) {
             return Some(i);
         }
     }
@@ -30,9 +53,7 @@ pub(crate) fn place_of_thing(party: &Name, name: &Name, things: &[Held]) -> Opti
 pub(crate) fn thing_of<'a>(party: &Name, name: &Name, things: &'a [Held]) -> Option<&'a Held>
     ensures { option_map (λ t. t.now) result ≡ held.thing_of things.now party.now name.now }
 {
-    things
-        .iter()
-        .find(|t| t.holder == *party && t.name == *name)
+    things.iter().find(|t| is_same_name(&t.holder, party) && is_same_name(&t.name, name))
 }
 
 /// The same, where it is of this kind.

@@ -6,7 +6,7 @@ ghost use Rattle.script_loop.specs.Reader.{NeedsBytes, source_ended, hand_length
 use super::LineReader;
 use crate::error::LineError;
 use crate::stream::{Failed, Source};
-use script_parse::place_of;
+use memchr::memchr;
 use std::alloc::Global;
 
 // Reads into the bytes from a place on, and gives how many came.
@@ -24,6 +24,17 @@ fn read_behind<S: Source>(bytes: &mut [u8], from: usize, source: &mut S) -> Resu
     ensures never_later { S.never_fails source.old → S.never_fails source.new }
 {
     source.read(&mut bytes[from..])
+}
+
+// Where the first newline stands.
+#[inline(always)]
+fn newline_in(bytes: &[u8]) -> Option<usize>
+    ensures none { IfNone result (IsOneLine bytes.now) }
+    ensures inside { IfSome result (λ at. at < length bytes.now) }
+    ensures found { IfSome result (λ at. slice_index bytes.now at ≡ 10) }
+    ensures first { IfSome result (λ at. IsOneLine (take at bytes.now)) }
+{
+    memchr(b'\n', bytes)
 }
 
 impl LineReader {
@@ -71,7 +82,7 @@ impl LineReader {
         ensures found { IfSome result (λ at. slice_index (in_hand self.now) at ≡ 10) }
         ensures first { IfSome result (λ at. IsOneLine (take at (in_hand self.now))) }
     {
-        let at = place_of(&self.bytes[self.start + searched..self.end], 10)?;
+        let at = newline_in(&self.bytes[self.start + searched..self.end])?;
         Some(searched + at)
     }
 

@@ -8,7 +8,7 @@ pub returns-in_err-at-clause-none : goal.returns-in_err-at-clause-none
 returns-in_err-at-clause-none c =
     let r = c.args.self.now in
     let le : r.start + c.args.searched ≤ r.end = fits r.bytes.items r.start r.end c.args.searched r.ordered c.requires.inside in
-    let one : IsOneLine (between r.bytes.items r.start r.end) = all_lack r.bytes.items r.start r.end c.args.searched (r.start + c.args.searched) c.place_of.result le refl c.in_err-at.was (rw (← c.deref.ensures.value) c.place_of.ensures.none) c.requires.none_before in
+    let one : IsOneLine (between r.bytes.items r.start r.end) = all_lack r.bytes.items r.start r.end c.args.searched (r.start + c.args.searched) c.newline_in.result le refl c.in_err-at.was (rw (← c.deref.ensures.value) c.newline_in.ensures.none) c.requires.none_before in
     rw c.from_residual.ensures one
 
 pub returns-clause-first : goal.returns-clause-first
