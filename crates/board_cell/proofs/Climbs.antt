@@ -1,9 +1,8 @@
 -- The counters of tries climb.
-use Rattle.std.proofs.Common.{◌≡◌, ℕ, ◌+◌, ◌<◌, ◌≤◌, List, [], ◌∷◌, ◌++◌, refl, sym, ap, ◌∙◌, append_assoc, arith}
-use Rattle.std.proofs.lemmas.List.{append-nil}
+use Rattle.std.proofs.Common.{◌≡◌, ℕ, ◌+◌, ◌<◌, ◌≤◌, List, [], ◌∷◌, ◌++◌, refl, ap, ◌∙◌, append_assoc, arith}
 use Rattle.atomic_table.specs.Seated.{TableId}
 use Rattle.board_cell.specs.Passes.{note, ClimbsFrom, last_from, ReaderSeen, Gets, GetsWithin, GetsAreNoOlder}
-use Rattle.board_cell.specs.Views.{AfterTries, AfterTriesWithin, with_note, with_open, reader_of}
+use Rattle.board_cell.specs.Views.{AfterTries, AfterTriesWithin, with_open, reader_of}
 use Rattle.board_cell.specs.declared.threaded.view.ReaderView.{ReaderView}
 use Rattle.board_cell.specs.declared.threaded.view.View.{View}
 use Rattle.board_cell.specs.declared.threaded.view.View.TheVariants.{Reader}
@@ -54,26 +53,6 @@ unfolding got
 got_within tries opened g words cell cell' u v w same begins low a = record {
   gets = got opened g words cell cell' u v w same begins low a.after;
   few = a.few;
-}
-
--- a first try that was accepted
-pub tried_once : (x : ReaderView) (v : View) (opened g : ℕ) (words : List ℕ) → v ≡ Reader (with_note x g words) → opened ≡ g → AfterTries x v opened g words
-tried_once x v opened g words is same = record {
-  y = with_note x g words;
-  is = is;
-  notes = refl;
-  reached = refl;
-  rest = [];
-  climbs = tt;
-  ends = same;
-  loads = ap (λ (l : List ℕ). l ++ g ∷ []) (sym (append-nil x.loads));
-}
-
-pub tried_once_within : (tries : ℕ) (x : ReaderView) (v : View) (opened g : ℕ) (words : List ℕ) → v ≡ Reader (with_note x g words) → opened ≡ g → 0 < tries → AfterTriesWithin tries x v opened g words
-unfolding tried_once
-tried_once_within tries x v opened g words is same some = record {
-  after = tried_once x v opened g words is same;
-  few = some;
 }
 
 -- tries after one that met a greater counter

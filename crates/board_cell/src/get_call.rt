@@ -64,6 +64,18 @@ impl GetCall {
         }
     }
 
+    // A read whose try is open at this counter, and has no word yet.
+    #[inline(always)]
+    pub(crate) fn in_try(shape: CellShape, buffer: Vec<u64>, counter: u64) -> GetCall
+        requires buffer { length buffer.items ≡ shape.words }
+        requires shape { cell_end shape < 2 ^ 64 }
+        ensures { result ≡ record { shape = shape; reading = trying counter [] } }
+    {
+        let mut call = GetCall::new(shape, buffer);
+        call.begin_try(counter);
+        call
+    }
+
     // The word that is to be read.
     #[inline]
     fn owed_word(&self) -> u64

@@ -63,7 +63,7 @@ impl ThreadedCell {
         let mut before = opened;
         let mut left = tries;
         'tries: loop {
-            let after = self.try_again(seat, call);
+            let after = self.try_once(seat, call);
             if after == before {
                 return Ok(after);
             }
@@ -75,25 +75,56 @@ impl ThreadedCell {
         }
     }
 
-    // The first try stands apart: it is mostly accepted, and written out.
-    #[inline(always)]
-    fn first_tries(
+    // The tries of a `try_get` after the first one, which is mostly accepted: they stay out of its way.
+    #[cold]
+    #[inline(never)]
+    fn try_later(
         &self,
         seat: &mut Seat<(), View>,
-        call: &mut GetCall,
+        out: &mut Vec<u64>,
         opened: u64,
         tries: u32,
     ) -> Result<u64, GetAgain>
         requires cell { seat.old.table_id ≡ self.now.cell }
         requires seat { (seat.old.me.0 ≡ Reader (reader_of seat.old.me.0)) × ((reader_of seat.old.me.0).found ≡ []) × ((reader_of seat.old.me.0).opened ≡ opened) }
-        requires call { IsTrying self.now.width call.old (reader_of seat.old.me.0) }
+        requires width { length out.old.items ≡ self.now.width }
         requires some { 0 < tries }
-        ensures cell { (seat.new.table_id ≡ seat.old.table_id) × (seat.new.me.1 ≡ seat.old.me.1) × (call.new.shape ≡ call.old.shape) }
+        ensures cell { (seat.new.table_id ≡ seat.old.table_id) × (seat.new.me.1 ≡ seat.old.me.1) }
+        ensures width { length out.new.items ≡ self.now.width }
         ensures rises { NotesRise (reader_of seat.new.me.0).notes }
-        ensures ok { IfOk result (λ g. AfterTriesWithin tries (reader_of seat.old.me.0) seat.new.me.0 opened g (words_of call.new.reading) × (call.new.reading ≡ finished g (words_of call.new.reading))) }
+        ensures ok { IfOk result (λ g. AfterTriesWithin tries (reader_of seat.old.me.0) seat.new.me.0 opened g out.new.items) }
         ensures again { IfErr result (λ e. AfterFailures tries (reader_of seat.old.me.0) seat.new.me.0 opened e.before e.after) }
     {
-        let after = self.try_once(seat, call);
+        let shape = self.shape();
+        let buffer = mem::replace(out, Vec::new(*out.allocator()));
+        let mut call = GetCall::in_try(shape, buffer, opened);
+        let answer = self.run_tries(seat, &mut call, opened, tries);
+        mem::forget(mem::replace(out, call.into_buffer()));
+        answer
+    }
+
+    // The first try stands apart, since it is mostly accepted: the later ones stay out of its way.
+    #[inline(always)]
+    fn first_tries(
+        &self,
+        seat: &mut Seat<(), View>,
+        out: &mut Vec<u64>,
+        mut call: GetCall,
+        opened: u64,
+        tries: u32,
+    ) -> Result<u64, GetAgain>
+        requires cell { seat.old.table_id ≡ self.now.cell }
+        requires seat { (seat.old.me.0 ≡ Reader (reader_of seat.old.me.0)) × ((reader_of seat.old.me.0).found ≡ []) × ((reader_of seat.old.me.0).opened ≡ opened) }
+        requires call { IsTrying self.now.width call (reader_of seat.old.me.0) }
+        requires some { 0 < tries }
+        ensures cell { (seat.new.table_id ≡ seat.old.table_id) × (seat.new.me.1 ≡ seat.old.me.1) }
+        ensures width { length out.new.items ≡ self.now.width }
+        ensures rises { NotesRise (reader_of seat.new.me.0).notes }
+        ensures ok { IfOk result (λ g. AfterTriesWithin tries (reader_of seat.old.me.0) seat.new.me.0 opened g out.new.items) }
+        ensures again { IfErr result (λ e. AfterFailures tries (reader_of seat.old.me.0) seat.new.me.0 opened e.before e.after) }
+    {
+        let after = self.try_once(seat, &mut call);
+        mem::forget(mem::replace(out, call.into_buffer()));
         if after == opened {
             return Ok(after);
         }
@@ -103,7 +134,7 @@ impl ThreadedCell {
                 after,
             });
         }
-        self.run_tries(seat, call, after, tries - 1)
+        self.try_later(seat, out, after, tries - 1)
     }
 
     /// Reads the value in at most this many tries, 0 counted as 1. Gives its generation, and its words in `out`, which has as many words as a value.
@@ -130,9 +161,7 @@ impl ThreadedCell {
         let buffer = mem::replace(out, Vec::new(*out.allocator()));
         let mut call = GetCall::new(shape, buffer);
         let opened = self.open_try(&mut pass.seat, &mut call);
-        let answer = self.first_tries(&mut pass.seat, &mut call, opened, tries.max(1));
-        mem::forget(mem::replace(out, call.into_buffer()));
-        answer
+        self.first_tries(&mut pass.seat, out, call, opened, tries.max(1))
     }
 
     // Tries until one is accepted.
@@ -153,7 +182,7 @@ impl ThreadedCell {
     {
         let mut before = opened;
         'tries: for _ in rt.forever() {
-            let after = self.try_again(seat, call);
+            let after = self.try_once(seat, call);
             if after == before {
                 return after;
             }
@@ -163,27 +192,30 @@ impl ThreadedCell {
         unreachable!()
     }
 
-    // The same without an end.
-    #[inline(always)]
-    fn all_tries<R: Wait>(
+    // The tries of a `get` after the first one.
+    #[cold]
+    #[inline(never)]
+    fn get_later<R: Wait>(
         &self,
         rt: &R,
         seat: &mut Seat<(), View>,
-        call: &mut GetCall,
+        out: &mut Vec<u64>,
         opened: u64,
     ) -> u64
         requires cell { seat.old.table_id ≡ self.now.cell }
         requires seat { (seat.old.me.0 ≡ Reader (reader_of seat.old.me.0)) × ((reader_of seat.old.me.0).found ≡ []) × ((reader_of seat.old.me.0).opened ≡ opened) }
-        requires call { IsTrying self.now.width call.old (reader_of seat.old.me.0) }
-        ensures cell { (seat.new.table_id ≡ seat.old.table_id) × (seat.new.me.1 ≡ seat.old.me.1) × (call.new.shape ≡ call.old.shape) }
+        requires width { length out.old.items ≡ self.now.width }
+        ensures cell { (seat.new.table_id ≡ seat.old.table_id) × (seat.new.me.1 ≡ seat.old.me.1) }
+        ensures width { length out.new.items ≡ self.now.width }
         ensures rises { NotesRise (reader_of seat.new.me.0).notes }
-        ensures ok { AfterTries (reader_of seat.old.me.0) seat.new.me.0 opened result (words_of call.new.reading) × (call.new.reading ≡ finished result (words_of call.new.reading)) }
+        ensures ok { AfterTries (reader_of seat.old.me.0) seat.new.me.0 opened result out.new.items }
     {
-        let after = self.try_once(seat, call);
-        if after == opened {
-            return after;
-        }
-        self.run_all(rt, seat, call, after)
+        let shape = self.shape();
+        let buffer = mem::replace(out, Vec::new(*out.allocator()));
+        let mut call = GetCall::in_try(shape, buffer, opened);
+        let generation = self.run_all(rt, seat, &mut call, opened);
+        mem::forget(mem::replace(out, call.into_buffer()));
+        generation
     }
 
     /// Reads the value, in as many tries as it takes. Gives its generation, and its words in `out`, which has as many words as a value.
@@ -199,9 +231,12 @@ impl ThreadedCell {
         let buffer = mem::replace(out, Vec::new(*out.allocator()));
         let mut call = GetCall::new(shape, buffer);
         let first = self.open_try(&mut pass.seat, &mut call);
-        let generation = self.all_tries(rt, &mut pass.seat, &mut call, first);
+        let after = self.try_once(&mut pass.seat, &mut call);
         mem::forget(mem::replace(out, call.into_buffer()));
-        generation
+        if after == first {
+            return after;
+        }
+        self.get_later(rt, &mut pass.seat, out, after)
     }
 
     /// Whether one load of the counter gave this generation.

@@ -200,22 +200,6 @@ impl ThreadedCell {
         }
     }
 
-    // The same in one loop. It is short, for the tries that come after a first one.
-    #[inline(always)]
-    fn read_each(&self, seat: &mut Seat<(), View>, call: &mut GetCall)
-        requires cell { seat.old.table_id ≡ self.now.cell }
-        requires seat { (seat.old.me.0 ≡ Reader (reader_of seat.old.me.0)) × ((reader_of seat.old.me.0).found ≡ []) }
-        requires call { IsTrying self.now.width call.old (reader_of seat.old.me.0) }
-        ensures cell { seat.new.table_id ≡ seat.old.table_id }
-        ensures seat { seat.new.me ≡ (Reader (with_words (reader_of seat.old.me.0) (reader_of seat.new.me.0).found), seat.old.me.1) }
-        ensures call { IsTrying self.now.width call.new (reader_of seat.new.me.0) }
-        ensures all { length (reader_of seat.new.me.0).found ≡ self.now.width }
-    {
-        'words: while call.owes_word() {
-            self.read_word(seat, call);
-        }
-    }
-
     // A try: its words and the counter.
     #[inline(always)]
     pub(crate) fn try_once(&self, seat: &mut Seat<(), View>, call: &mut GetCall) -> u64
@@ -229,22 +213,6 @@ impl ThreadedCell {
         ensures again { result ≢ (reader_of seat.old.me.0).opened → (seat.new.me ≡ (Reader (with_open (reader_of seat.old.me.0) result), seat.old.me.1)) × (call.new ≡ record call.old { reading = trying result [] }) }
     {
         self.read_words(seat, call);
-        self.close_try(seat, call)
-    }
-
-    // A try after a first one that was not accepted.
-    #[inline(always)]
-    pub(crate) fn try_again(&self, seat: &mut Seat<(), View>, call: &mut GetCall) -> u64
-        requires cell { seat.old.table_id ≡ self.now.cell }
-        requires seat { (seat.old.me.0 ≡ Reader (reader_of seat.old.me.0)) × ((reader_of seat.old.me.0).found ≡ []) }
-        requires call { IsTrying self.now.width call.old (reader_of seat.old.me.0) }
-        ensures cell { seat.new.table_id ≡ seat.old.table_id }
-        ensures reached { ((reader_of seat.old.me.0).reached ≤ result) × ((reader_of seat.old.me.0).opened ≤ result) }
-        ensures rises { NotesRise (reader_of seat.new.me.0).notes }
-        ensures accepted { result ≡ (reader_of seat.old.me.0).opened → (seat.new.me ≡ (Reader (with_note (reader_of seat.old.me.0) result (words_of call.new.reading)), seat.old.me.1)) × (call.new ≡ record call.old { reading = finished result (words_of call.new.reading) }) }
-        ensures again { result ≢ (reader_of seat.old.me.0).opened → (seat.new.me ≡ (Reader (with_open (reader_of seat.old.me.0) result), seat.old.me.1)) × (call.new ≡ record call.old { reading = trying result [] }) }
-    {
-        self.read_each(seat, call);
         self.close_try(seat, call)
     }
 

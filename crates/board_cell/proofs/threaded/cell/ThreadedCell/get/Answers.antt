@@ -1,16 +1,20 @@
-use Rattle.std.proofs.Common.{◌≡◌, ℕ, List, ap, ◌∙◌, sym, subst}
-use Rattle.board_cell_model.specs.OwedAccesses.{is_finished}
-use Rattle.board_cell.specs.Calls.{words_of}
+use Rattle.std.proofs.Common.{ℕ, ◌<◌, List, ap, ◌∙◌, subst, arith}
 use Rattle.board_cell.specs.Passes.{ReaderSeen, Gets}
-use Rattle.board_cell.proofs.Climbs.{got, seen}
+use Rattle.board_cell.specs.Views.{reader_of}
+use Rattle.board_cell.proofs.Climbs.{got, tried_again, seen}
 use Rattle.board_cell.proofs.threaded.cell.ThreadedCell.get.Goals as goal
 
 pub returns-clause-got : goal.returns-clause-got
 returns-clause-got g c =
-    let tries = c.all_tries-generation in
-    let words : List ℕ = words_of tries.new.call.reading in
-    let after : ReaderSeen = seen tries.new.seat.table_id tries.new.seat.me.0 in
-    let gets = got c.open_try-first.result tries.result words c.pass.inside.seat.table_id tries.new.seat.table_id c.pass.inside.seat.me.0 c.open_try-first.new.seat.me.0 tries.new.seat.me.0 (tries.ensures.cell.0 ∙ c.open_try-first.ensures.cell) (ap (λ m. m.0) c.open_try-first.ensures.seat) c.open_try-first.ensures.reached tries.ensures.ok.0 in
-    let given = subst (λ (z : ReaderSeen). Gets tries.result words z after) c.pass.view_is gets in
-    let out : c.replace.new.dest.items ≡ words = ap (λ v. v.items) c.replace.ensures.after ∙ c.into_buffer.ensures.words (ap is_finished tries.ensures.ok.1) in
-    subst (λ (ws : List ℕ). Gets tries.result ws c.args.pass.now after) (sym out) given
+    let first : ℕ = c.open_try-first.result in
+    let after : ℕ = c.try_once-after.result in
+    let later = c.get_later in
+    let begun = ap (λ m. m.0) c.open_try-first.ensures.seat in
+    let opened = ap (λ v. (reader_of v).opened) begun in
+    let a = c.try_once-after.ensures.again (λ e. c.if-after-first.false (e ∙ opened)) in
+    let up = c.try_once-after.ensures.reached.1 in
+    let not = c.if-after-first.false in
+    let more : first < after = omega arith in
+    let words : List ℕ = later.new.out.items in
+    let gets = got first later.result words c.pass.inside.seat.table_id later.new.seat.table_id c.pass.inside.seat.me.0 c.open_try-first.new.seat.me.0 later.new.seat.me.0 (later.ensures.cell.0 ∙ (c.try_once-after.ensures.cell ∙ c.open_try-first.ensures.cell)) begun c.open_try-first.ensures.reached (tried_again (reader_of c.open_try-first.new.seat.me.0) c.try_once-after.new.seat.me.0 later.new.seat.me.0 first after later.result words (ap (λ m. m.0) a.0) more later.ensures.ok) in
+    subst (λ (z : ReaderSeen). Gets later.result words z (seen later.new.seat.table_id later.new.seat.me.0)) c.pass.view_is gets

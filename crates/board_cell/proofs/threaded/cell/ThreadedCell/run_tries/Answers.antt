@@ -11,9 +11,9 @@ pub returns-then-after-before-clause-ok : goal.returns-then-after-before-clause-
 returns-then-after-before-clause-ok c =
     let i = c.tries.invariant in
     let y = reader_of c.tries.seat.me.0 in
-    let r : ℕ = c.try_again-after.result in
-    let words : List ℕ = words_of c.try_again-after.new.call.reading in
-    let a = c.try_again-after.ensures.accepted (c.if-after-before.true ∙ sym i.5) in
+    let r : ℕ = c.try_once-after.result in
+    let words : List ℕ = words_of c.try_once-after.new.call.reading in
+    let a = c.try_once-after.ensures.accepted (c.if-after-before.true ∙ sym i.5) in
     let more = i.2 in
     let count = i.12 in (
       record {
@@ -36,9 +36,9 @@ pub returns-then-left-eq0-clause-again : goal.returns-then-left-eq0-clause-again
 returns-then-left-eq0-clause-again c =
     let i = c.tries.invariant in
     let y = reader_of c.tries.seat.me.0 in
-    let r : ℕ = c.try_again-after.result in
-    let a = c.try_again-after.ensures.again (λ e. c.if-after-before.false (e ∙ i.5)) in
-    let up = c.try_again-after.ensures.reached.1 in
+    let r : ℕ = c.try_once-after.result in
+    let a = c.try_once-after.ensures.again (λ e. c.if-after-before.false (e ∙ i.5)) in
+    let up = c.try_once-after.ensures.reached.1 in
     let opened = i.5 in
     let not = c.if-after-before.false in
     let count = i.12 in
@@ -59,24 +59,24 @@ pub tries-preserved : goal.tries-preserved
 tries-preserved c =
     let i = c.tries.invariant in
     let y = reader_of c.tries.seat.me.0 in
-    let r : ℕ = c.try_again-after.result in
-    let a = c.try_again-after.ensures.again (λ e. c.if-after-before.false (e ∙ i.5)) in
-    let up = c.try_again-after.ensures.reached.1 in
+    let r : ℕ = c.try_once-after.result in
+    let a = c.try_once-after.ensures.again (λ e. c.if-after-before.false (e ∙ i.5)) in
+    let up = c.try_once-after.ensures.reached.1 in
     let opened = i.5 in
     let not = c.if-after-before.false in
     let count = i.12 in
     let left = c.if-left-eq0.false in
     let more = i.2 in
-    let now : c.try_again-after.new.seat.me.0 ≡ Reader (with_open y r) = ap (λ m. m.0) a.0 in
+    let now : c.try_once-after.new.seat.me.0 ≡ Reader (with_open y r) = ap (λ m. m.0) a.0 in
     let is = ap reader_of now in (
-      c.try_again-after.ensures.cell ∙ i.0,
+      c.try_once-after.ensures.cell ∙ i.0,
       ap (λ m. m.1) a.0 ∙ i.1,
       omega arith,
       now ∙ ap Reader (sym is),
       ap (λ x. x.notes) is ∙ i.4,
       ap (λ x. x.opened) is,
       ap (λ x. x.found) is,
-      trying_again _ c.tries.call c.try_again-after.new.call y (reader_of c.try_again-after.new.seat.me.0) r i.7 a.1 is,
+      trying_again _ c.tries.call c.try_once-after.new.call y (reader_of c.try_once-after.new.seat.me.0) r i.7 a.1 is,
       ap (λ k. k.shape) a.1 ∙ i.8,
       i.9 ++ r ∷ [],
       climbs_push _ i.9 r i.10 (let last = i.11 in omega arith),
