@@ -12,15 +12,20 @@ use std::alloc::{AllocError, Global};
 /// What was published of an entry: how many values, and the words of the last.
 #[derive(Drop, Debug)]
 pub struct Published {
+    /// How many values.
     pub count: u64,
+    /// The words of the last.
     pub last: Words,
 }
 
 /// The entries of a new board, its words, and what is published of each entry.
 #[derive(Drop, Debug)]
 pub struct Opening {
+    /// The entries.
     pub entries: Vec<Entry>,
+    /// The words.
     pub words: Vec<u64>,
+    /// What is published of each entry.
     pub published: Vec<Published>,
 }
 

@@ -1,3 +1,4 @@
+//! The writer meets readers, and what they did makes one history.
 ghost use Rattle.std.specs.Prelude.{◌≡◌, ◌≤◌, length};
 ghost use Rattle.std.specs.List.{All};
 ghost use Rattle.board_cell.specs.Passes.{AreOf, NotesRise, Stands};
@@ -11,6 +12,7 @@ use crate::threaded::writer::WriterPass;
 /// The last generation, once the writer has met all readers.
 #[derive(Drop, Clone, Copy, Debug, PartialEq, Eq)]
 pub struct Gathered {
+    /// That of the last publication.
     pub generation: u64,
 }
 

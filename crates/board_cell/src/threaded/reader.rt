@@ -1,3 +1,4 @@
+//! The pass of a reader, and its gets.
 ghost use Rattle.std.specs.Prelude.{◌≡◌, ◌<◌, [], max, length, IfOk, IfErr};
 ghost use Rattle.board_cell_model.specs.OwedAccesses.{finished};
 ghost use Rattle.board_cell.specs.Calls.{words_of};
@@ -37,7 +38,9 @@ impl Model for ReaderPass {
 /// No try was accepted: the two counters of the last one.
 #[derive(Drop, Clone, Copy, Debug, PartialEq, Eq)]
 pub struct GetAgain {
+    /// The counter with which the last try began.
     pub before: u64,
+    /// The counter that it found at its end.
     pub after: u64,
 }
 

@@ -1,3 +1,4 @@
+//! Receipts of publications, by which readers learn of them.
 ghost use Rattle.std.specs.Prelude.{◌≡◌};
 ghost use Rattle.board_cell.specs.Passes.{new_reader, reaching};
 

@@ -1,3 +1,4 @@
+//! The pass of the writer, and its updates.
 ghost use Rattle.std.specs.Prelude.{◌≡◌, ◌+◌, ◌^◌, ◌<◌, length};
 ghost use Rattle.board_cell.specs.Passes.{publishing, receipt_of};
 
