@@ -17,7 +17,7 @@ pub struct Gathered {
 }
 
 impl ThreadedCell {
-    /// The writer meets a reader: each value that the reader noted is the one that was published at its generation.
+    /// The writer meets a reader: each value that the reader noted is the one that was published at its generation. Both passes are of this cell.
     pub fn meet(&self, writer: &mut WriterPass, reader: &mut ReaderPass)
         requires cell { (writer.old.cell ≡ self.now.cell) × (reader.old.cell ≡ self.now.cell) }
         ensures kept { (writer.new ≡ writer.old) × (reader.new ≡ reader.old) }
@@ -31,7 +31,7 @@ impl ThreadedCell {
         table.shared.load::<Look>(&mut writer.seat, 0);
     }
 
-    /// The writer meets each reader: the publications and the readers' notes make one legal history.
+    /// The writer meets each reader: the publications and the readers' notes make one legal history. All passes are of this cell.
     pub fn gather(&self, writer: &mut WriterPass, readers: &mut Vec<ReaderPass>) -> Gathered
         requires cell { (writer.old.cell ≡ self.now.cell) × AreOf self.now.cell readers.old.items }
         ensures kept { (writer.new ≡ writer.old) × (readers.new.items ≡ readers.old.items) }

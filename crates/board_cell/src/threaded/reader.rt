@@ -253,7 +253,7 @@ impl ThreadedCell {
         call.answer()
     }
 
-    /// A pass for another reader, which knows the same generation to be reached.
+    /// A pass for another reader, which knows the same generation to be reached. The pass is of this cell.
     pub fn split(&self, pass: &mut ReaderPass) -> ReaderPass
         requires { pass.old.cell ≡ self.now.cell }
         ensures kept { pass.new ≡ pass.old }
@@ -265,7 +265,7 @@ impl ThreadedCell {
         }
     }
 
-    /// Lets the pass know what the other one knows to be reached, and gives the other up.
+    /// Lets the pass know what the other one knows to be reached, and gives the other up. Both are of this cell.
     pub fn join(&self, pass: &mut ReaderPass, other: ReaderPass)
         requires cell { (pass.old.cell ≡ self.now.cell) × (other.cell ≡ self.now.cell) }
         ensures { pass.new ≡ reaching pass.old other.reached }

@@ -50,7 +50,7 @@ impl Receipt {
 }
 
 impl ThreadedCell {
-    /// Tells a reader of the publication: its next gets give that value or a later one.
+    /// Tells a reader of the publication: its next gets give that value or a later one. Pass and receipt are of this cell.
     pub fn learn(&self, pass: &mut ReaderPass, receipt: Receipt)
         requires cell { (pass.old.cell ≡ self.now.cell) × (receipt.cell ≡ self.now.cell) }
         ensures { pass.new ≡ reaching pass.old receipt.generation }
