@@ -13,8 +13,11 @@ use std::alloc::{AllocError, Global};
 /// The entries of a new board, its words, and of each entry all values that were published.
 #[derive(Drop, Debug)]
 pub struct Opening {
+    /// The entries.
     pub entries: Vec<Entry>,
+    /// The words.
     pub words: Vec<u64>,
+    /// Of each entry all values that were published, each as its words.
     pub published: Vec<Vec<Words>>,
 }
 

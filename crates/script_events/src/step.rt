@@ -24,9 +24,13 @@ pub enum Stepped {
     Asked(EventReply),
     /// A call made an access to its event, and maybe ended.
     Acted {
+        /// The number of the event.
         event: u64,
+        /// The access.
         access: EventAccess,
+        /// The event's answer.
         answer: EventAnswer,
+        /// What the call was told, where it has ended.
         told: Option<EventReply>,
     },
 }
