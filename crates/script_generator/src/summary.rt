@@ -1,8 +1,6 @@
 //! What is counted over a script, and its six lines.
 ghost use Rattle.std.specs.Prelude.{◌≡◌, ◌+◌, ◌<◌, ◌≤◌, ◌^◌, ◌++◌, length, decimal};
-ghost use Rattle.script_model.specs.ScriptAnswers.{of_boards};
-ghost use Rattle.script_generator.specs.Counting.{AreLow, OfAnswer, counted_with, is_last_read, is_last_write, one_more};
-ghost use Rattle.script_generator.specs.Summary as counts;
+ghost use Rattle.script_generator.specs.Counting.{AreLow, OfAnswer, counted_with, one_more};
 ghost use Rattle.script_generator.specs.Summary.{summary_text};
 
 use board_layout::Text;
@@ -21,36 +19,6 @@ pub(crate) struct Counts {
     pub(crate) gets: u64,
 }
 
-// The answers of boards are told apart by their first bytes, in the functions that follow.
-
-// Whether the answer refuses its line.
-fn is_refused(answer: &[u8]) -> bool
-    ensures { OfAnswer answer.now (λ a. result ≡ counts.is_refused (of_boards a)) }
-{
-    answer.starts_with(b"ref")
-}
-
-// Whether the answer tells an access.
-fn is_step(answer: &[u8]) -> bool
-    ensures { OfAnswer answer.now (λ a. result ≡ counts.is_step (of_boards a)) }
-{
-    answer.starts_with(b"rea") || answer.starts_with(b"wr") || answer.starts_with(b"t")
-}
-
-// Whether it tells the last write of a call.
-fn is_last_write(answer: &[u8]) -> bool
-    ensures { OfAnswer answer.now (λ a. result ≡ is_last_write a) }
-{
-    answer.starts_with(b"wr") && answer.contains(&b'=')
-}
-
-// Whether it tells the last read of a call.
-fn is_last_read(answer: &[u8]) -> bool
-    ensures { OfAnswer answer.now (λ a. result ≡ is_last_read a) }
-{
-    answer.starts_with(b"rea") && answer.contains(&b'=')
-}
-
 // One more where it is so.
 fn one_more(n: u64, is: bool) -> u64
     requires { n < 2 ^ 63 }
@@ -61,17 +29,30 @@ fn one_more(n: u64, is: bool) -> u64
 
 impl Counts {
     /// Counts a line with this answer, where no other calls that read or write run than gets and updates.
+    // The answers of boards are told apart by their first bytes, and the last step of a call by its `=`.
+    #[inline(always)]
     pub(crate) fn count(&mut self, answer: &[u8])
         requires { AreLow self.old }
         ensures { OfAnswer answer.now (λ a. self.new ≡ counted_with self.old a) }
     {
-        *self = Counts {
-            lines: self.lines + 1,
-            refused: one_more(self.refused, is_refused(answer)),
-            steps: one_more(self.steps, is_step(answer)),
-            updates: one_more(self.updates, is_last_write(answer)),
-            gets: one_more(self.gets, is_last_read(answer)),
-        };
+        self.lines += 1;
+        if answer.starts_with(b"rea") {
+            self.steps += 1;
+            self.gets = one_more(self.gets, answer.contains(&b'='));
+            return;
+        }
+        if answer.starts_with(b"wr") {
+            self.steps += 1;
+            self.updates = one_more(self.updates, answer.contains(&b'='));
+            return;
+        }
+        if answer.starts_with(b"t") {
+            self.steps += 1;
+            return;
+        }
+        if answer.starts_with(b"ref") {
+            self.refused += 1;
+        }
     }
 }
 
