@@ -3,11 +3,11 @@ use Rattle.std.proofs.Common.{◌≡◌, ℕ, ◌+◌, ◌<◌, ◌≤◌, Bool,
 use Rattle.std.proofs.lemmas.List.{get_or-set_same, get_or-set_other, length-set}
 use Rattle.std.proofs.lemmas.Bool.{false≢true}
 use Rattle.std.proofs.lemmas.Option.{slice_get-get_or}
-use Rattle.std.specs.Prelude.{◌==◌, ◌&&◌, ◌||◌, IsSomeAnd, if◌then◌else◌, nat_lt, slice_get}
+use Rattle.std.specs.Prelude.{◌==◌, ◌&&◌, ◌||◌, IsSomeAnd, nat_lt, slice_get}
 use Rattle.std.specs.Str.{bytes_eq}
 use Rattle.std.proofs.lemmas.Bool.Decides.{Decides-eqb}
 use Rattle.board_event_model.specs.EventMemory.{Event}
-use Rattle.board_event_model.specs.EventSessions.{StandingEvent, all_gone, event_of, gone_with}
+use Rattle.board_event_model.specs.EventSessions.{StandingEvent, gone_with}
 use Rattle.board_event_model.proofs.SetLemmas.{either}
 use Rattle.script_event_rows.specs.declared.event_row.EventRow.{EventRow}
 use Rattle.script_event_rows.specs.EventRows.{Becomes, StandsFor}

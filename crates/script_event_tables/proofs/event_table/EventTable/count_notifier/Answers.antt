@@ -1,4 +1,4 @@
-use Rattle.std.proofs.Common.{ap, ◌∙◌, ◌-◌, ◌<◌, ◌^◌, length}
+use Rattle.std.proofs.Common.{◌∙◌, ◌-◌, ◌<◌, ◌^◌}
 use Rattle.std.proofs.lemmas.List.{length-set}
 use Rattle.board_event_model.specs.EventSessions.{event_of}
 use Rattle.script_event_rows.specs.EventRows.{StandsFor}

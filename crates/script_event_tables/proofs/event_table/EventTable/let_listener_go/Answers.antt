@@ -1,9 +1,7 @@
-use Rattle.std.proofs.Common.{ap, ◌∙◌, ◌-◌, length}
+use Rattle.std.proofs.Common.{◌∙◌, ◌-◌}
 use Rattle.std.proofs.lemmas.List.{length-set}
-use Rattle.board_event_model.specs.EventSessions.{event_of}
-use Rattle.script_event_rows.specs.EventRows.{StandsFor}
 use Rattle.script_event_tables.specs.EventTables.{without_listener}
-use Rattle.script_event_tables.proofs.TableLemmas.{both, changed_owners, changed_rows, row_of}
+use Rattle.script_event_tables.proofs.TableLemmas.{changed_owners, changed_rows}
 use Rattle.script_event_tables.proofs.event_table.EventTable.let_listener_go.Goals as goal
 
 pub returns-clause-events : goal.returns-clause-events

@@ -1,6 +1,5 @@
-use Rattle.std.proofs.Common.{◌≡◌, ℕ, ◌+◌, ◌<◌, List, [], ◌∷◌, ◌++◌, length, get_or, Some, sym, ap, ◌∙◌, subst, arith}
+use Rattle.std.proofs.Common.{◌≡◌, ℕ, ◌+◌, List, [], ◌∷◌, ◌++◌, length, Some, sym, ap, ◌∙◌, subst, arith}
 use Rattle.std.proofs.lemmas.List.{length_push}
-use Rattle.std.specs.Prelude.{IsSomeAnd}
 use Rattle.board_event_model.specs.EventMemory.{new_event}
 use Rattle.script_model.specs.ScriptEvents.{name_held}
 use Rattle.script_event_rows.specs.declared.event_row.EventRow.{EventRow}

@@ -1,4 +1,4 @@
-use Rattle.std.proofs.Common.{◌≡◌, refl, rules, true, false, sym}
+use Rattle.std.proofs.Common.{◌≡◌, refl, rules, true, false}
 use Rattle.std.specs.Prelude.{slice_get}
 use Rattle.script_event_tables.specs.EventTables.{is_party}
 use Rattle.script_event_tables.proofs.Abandonments.{passed, went}
