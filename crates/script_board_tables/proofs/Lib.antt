@@ -1,0 +1,6 @@
+mod Takes
+mod TableLemmas
+mod StepLemmas
+mod Shown
+mod AskLemmas
+mod CanSteps
