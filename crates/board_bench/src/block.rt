@@ -8,6 +8,7 @@ use board_layout::ZeroCopySend;
 /// A value of 32 words.
 #[derive(Clone, Copy, Debug, PartialEq, Eq)]
 pub struct Block {
+    /// The words.
     pub words: [u64; 32],
 }
 

@@ -1,3 +1,4 @@
+//! A race: one thread updates a cell, others get it until they have seen the last update.
 ghost use Rattle.std.specs.Prelude.{ℕ, ◌≡◌, ◌+◌, ◌^◌, ◌<◌, ◌≤◌, ◌↔◌, true, length, map, All, IfOk, OnOk};
 ghost use denote.Param.Send.{IsSync};
 ghost use Rattle.board_cell.specs.Passes.{ReaderSeen, notes_of};
@@ -16,17 +17,24 @@ const APART: usize = 16;
 /// A reader, its buffer, and how many gets it made.
 #[derive(Drop)]
 pub struct Watcher {
+    /// The reader's pass.
     pub pass: ReaderPass,
+    /// Where the words of a get go.
     pub out: Vec<u64>,
+    /// How many gets were made; 2^64 - 1 for more.
     pub gets: u64,
+    /// Keeps what two threads write apart.
     pub apart: [u64; APART],
 }
 
 /// A race that was run: the ends of the writer and of the readers, and how many gets these made.
 #[derive(Drop)]
 pub struct Outcome {
+    /// The writer's pass.
     pub writer: WriterPass,
+    /// The readers' passes.
     pub readers: Vec<ReaderPass>,
+    /// How many gets were made; 2^64 - 1 for more.
     pub gets: u64,
 }
 

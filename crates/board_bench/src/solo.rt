@@ -1,3 +1,4 @@
+//! Calls on a cell in one thread.
 ghost use Rattle.std.specs.Prelude.{◌≡◌, ◌+◌, ◌*◌, ◌^◌, ◌<◌, length, IfOk, IfErr, OnOk};
 ghost use Rattle.board_bench.specs.Done.{MayEnd};
 ghost use Rattle.board_bench.specs.declared.task.Call.TheVariants as call;

@@ -1,3 +1,4 @@
+//! What is measured, and the words that name it.
 ghost use Rattle.std.specs.Prelude.{ℕ, ◌≡◌, ◌^◌, ◌≤◌, ◌<◌, codes, map, Some, IsSome, IsTrue, IfOk, IfSome, string_bytes};
 ghost use Rattle.std.specs.Fmt.{decimal};
 ghost use Rattle.board_event_model.specs.declared.kind.EventKind.{EventKind};
@@ -20,8 +21,11 @@ pub enum Call {
 /// This many calls on values of so many words.
 #[derive(Clone, Copy, Debug, PartialEq, Eq)]
 pub struct Calls {
+    /// How many words a value has.
     pub width: u64,
+    /// The call.
     pub call: Call,
+    /// How often it is made.
     pub count: u64,
 }
 
@@ -34,13 +38,18 @@ pub enum Task {
     Typed(Calls),
     /// This many round trips of an id between two threads, over two typed events.
     Event {
+        /// The kind of both events.
         kind: EventKind,
+        /// How many round trips.
         count: u64,
     },
     /// One thread that makes so many updates, and so many that get until they have seen the last of them.
     Shared {
+        /// How many words a value has.
         width: u64,
+        /// How many threads get.
         readers: u64,
+        /// How many updates the other one makes.
         updates: u64,
     },
 }

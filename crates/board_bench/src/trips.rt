@@ -19,7 +19,9 @@ const IDS: u64 = 64;
 /// The listener through which ids came back, and how many round trips were made.
 #[derive(Drop)]
 pub struct Trips<K> {
+    /// The listener through which ids come back.
     pub back: EventListener<K>,
+    /// How many round trips were made.
     pub made: u64,
 }
 

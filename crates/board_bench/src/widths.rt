@@ -12,16 +12,22 @@ use std::sync::Wait;
 /// A read handle of an entry of 1, 4 or 32 words.
 #[derive(Drop)]
 pub enum ReadHandle {
+    /// Of an entry of one word.
     One(Read<u64>),
+    /// Of four words.
     Four(Read<[u64; 4]>),
+    /// Of 32 words.
     ThirtyTwo(Read<Block>),
 }
 
 /// The write handle of an entry of 1, 4 or 32 words.
 #[derive(Drop)]
 pub enum WriteHandle {
+    /// Of an entry of one word.
     One(Write<u64>),
+    /// Of four words.
     Four(Write<[u64; 4]>),
+    /// Of 32 words.
     ThirtyTwo(Write<Block>),
 }
 

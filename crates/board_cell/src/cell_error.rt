@@ -1,3 +1,4 @@
+//! Why there is no cell.
 use std::alloc::{AllocError, AllocFailed};
 use thiserror::Error;
 

@@ -1,3 +1,4 @@
+//! Where the current and the spare copy of a cell lie.
 ghost use Rattle.std.specs.Prelude.{◌≡◌, ◌+◌, ◌^◌, ◌<◌, ◌≤◌};
 ghost use Rattle.board_cell_model.specs.OwedAccesses.{spare_at, current_at};
 ghost use Rattle.board_layout.specs.Layout.{cell_end};

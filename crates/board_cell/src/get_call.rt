@@ -1,3 +1,4 @@
+//! A read of a cell as a step machine.
 ghost use Rattle.std.specs.Prelude.{ℕ, ◌≡◌, ◌+◌, ◌^◌, ◌<◌, ◌≤◌, nat_lt, true, false, if◌then◌else◌, ◌++◌, [], ◌∷◌, List, length};
 ghost use Rattle.board_layout.specs.Layout.{cell_end};
 ghost use Rattle.board_cell_model.specs.OwedAccesses.{opening, trying, hear, is_finished, to_read, owed_read};

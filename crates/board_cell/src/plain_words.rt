@@ -1,3 +1,4 @@
+//! Words in plain memory, for one thread.
 ghost use Rattle.std.specs.Prelude.{◌≡◌};
 
 use crate::words::Words;

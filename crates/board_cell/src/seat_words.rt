@@ -1,3 +1,4 @@
+//! Words behind a seat of an atomic table.
 ghost use Rattle.std.specs.Prelude.{◌≡◌, IfOk};
 
 use crate::cell_error::CellError;

@@ -1,3 +1,4 @@
+//! A publication as a step machine.
 ghost use Rattle.std.specs.Prelude.{ℕ, ◌≡◌, ◌+◌, ◌^◌, ◌<◌, ◌≤◌, ◌==◌, nat_lt, List, length, slice_index};
 ghost use Rattle.board_layout.specs.Layout.{cell_end};
 ghost use Rattle.board_cell.specs.Calls.{Owes, next_write, progress_of, publication};

@@ -1,3 +1,4 @@
+//! Words that are read and written one at a time.
 ghost use Rattle.std.specs.Prelude.{◌≡◌, ◌<◌, List, ℕ, length, slice_index, slice_set};
 
 /// Words that are read and written one at a time.

@@ -9,7 +9,9 @@ use std::sync::Arc;
 /// A cell, and a reader's pass of it.
 #[derive(Drop)]
 pub struct ReadEnd {
+    /// The cell, which the other ends share.
     pub cell: Arc<ThreadedCell>,
+    /// A reader's pass of this cell.
     pub pass: ReaderPass,
     pub ghost own: { pass.cell ≡ (arc_value cell).cell },
 }
@@ -17,7 +19,9 @@ pub struct ReadEnd {
 /// A cell, and its writer's pass.
 #[derive(Drop)]
 pub struct WriteEnd {
+    /// The cell, which the other ends share.
     pub cell: Arc<ThreadedCell>,
+    /// The pass of its writer.
     pub pass: WriterPass,
     pub ghost own: { pass.cell ≡ (arc_value cell).cell },
 }
@@ -43,7 +47,9 @@ impl ReadEnd {
 /// A receipt, and the cell that it is of. It can be sent through a lock or a channel, and whoever gets it knows as much as who sent it.
 #[derive(Drop)]
 pub struct SentReceipt {
+    /// The cell, which the other ends share.
     pub cell: Arc<ThreadedCell>,
+    /// A receipt of this cell.
     pub receipt: Receipt,
     pub ghost own: { receipt.cell ≡ (arc_value cell).cell },
 }

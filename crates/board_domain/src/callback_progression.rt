@@ -1,3 +1,4 @@
+//! Whether a walk goes on.
 /// Whether a walk over nodes or keys goes on after a call.
 #[derive(Clone, Copy, Debug, PartialEq, Eq)]
 pub enum CallbackProgression {

@@ -1,3 +1,4 @@
+//! Kinds of services.
 ghost use Rattle.std.specs.Prelude.{◌≡◌, true};
 
 use board_service::StaticConfig;

@@ -24,10 +24,11 @@ use Rattle.board_event_core.specs.EventTable.{EventTable, IsEventTable, with_eve
 use Rattle.board_event_core.proofs.BitLemmas.{empty_is}
 use Rattle.board_event.specs.Accesses.{WaitMade}
 use Rattle.board_event.specs.Ends.{NoneOfKind}
-use Rattle.board_event.specs.LentForms.{AreWaiting, IsEventAt, OnEventAt, all_taken}
+use Rattle.board_event.specs.LentForms.{AreWaiting, IsEventAt, KeepsRestAt, OnEventAt, all_taken}
 use Rattle.board_event.specs.Taking.{AllSoFar, NoneBelow, SameFrom, TryWait, to_come, wait_begun, with_pending, with_queue, with_signals}
 use Rattle.board_event.proofs.OneLemmas.{IsOfKind, begun_kind, is_of_kind, not_made, wait_begins}
 use Rattle.board_event.proofs.TableLemmas.{Became, Became-first, Became-next, at_event, event_here}
+use Rattle.board_event.proofs.RestLemmas.{rest_first, rest_next}
 use Rattle.board_event.proofs.TryLemmas.{TryWait-made}
 use Rattle.board_event.proofs.WordLemmas.{IsListOf-below, differ, eqb_is, ids_where-parts, is_eqb}
 
@@ -213,6 +214,7 @@ pub record TakingAll {F : Type 0} (R : F → ℕ → F → Type 0) (begun f : F)
       × ((last : F) → FoldsTo R f (to_come now w.words w.stage) last → (ids : List ℕ) × AreWaiting k e ids × FoldsTo R begun ids last))
   pub gone : NoneOfKind k n t → (u ≡ t) × (kind_of_access (wait_owed w.stage) ≡ k)
   pub uncalled : NoneOfKind k n t → f ≡ begun
+  pub rest : KeepsRestAt n t u
 
 all_at_first : (k : EventKind) (e : Event) (max words : ℕ) → IsOfKind k e words → AllSoFar k e e (wait_begun k max true mode.Try).words (wait_begun k max true mode.Try).stage
 all_at_first kind.Bits e max words is = (refl, refl)
@@ -237,6 +239,7 @@ all_begins R f k max n t w fits table is = record {
       ));
   gone = λ _. (refl, (rw is (begun_kind k max true)));
   uncalled = λ _. refl;
+  rest = rest_first n t;
 }
 
 -- it goes on, and the ids that were taken are handed over
@@ -249,6 +252,7 @@ all_goes_on R begun f g k max n t u v w next p a taking on made calls = record {
   far = far;
   gone = λ none. absurd (not_made k u v t n w next p a (taking.gone none) none made);
   uncalled = λ none. absurd (not_made k u v t n w next p a (taking.gone none) none made);
+  rest = rest_next n t u v w.stage taking.rest made.memory;
 }
   where
     far : OnEventAt k max n t (λ e. (now : Event) × Became t v n now × AllSoFar k e now next.words next.stage × ((last : _) → FoldsTo R g (to_come now next.words next.stage) last → (ids : List ℕ) × AreWaiting k e ids × FoldsTo R begun ids last))

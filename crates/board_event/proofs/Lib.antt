@@ -1,6 +1,7 @@
 mod TableLemmas
 mod WordLemmas
 mod TryLemmas
+mod RestLemmas
 mod OneLemmas
 mod AllLemmas
 mod NotifyLemmas

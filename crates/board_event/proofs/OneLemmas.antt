@@ -27,9 +27,10 @@ use Rattle.board_event_core.specs.EventTable.{CanPerformAt, EventTable, IsEvent,
 use Rattle.board_event_core.specs.IdSets.{IsLeast}
 use Rattle.board_event.specs.Ends.{End, NoneOfKind}
 use Rattle.board_event.specs.Accesses.{WaitMade}
-use Rattle.board_event.specs.LentForms.{GivesNone, IsEventAt, IsNext, NoneWaits, OnEventAt, one_taken}
+use Rattle.board_event.specs.LentForms.{GivesNone, IsEventAt, IsNext, KeepsRestAt, NoneWaits, OnEventAt, one_taken}
 use Rattle.board_event.specs.Taking.{NoneBelow, OneSoFar, OneTaken, TryStage, TryWait, wait_begun, with_signals}
 use Rattle.board_event.proofs.TableLemmas.{Became, Became-first, Became-next, at_event, event_here}
+use Rattle.board_event.proofs.RestLemmas.{rest_first, rest_next}
 use Rattle.board_event.proofs.TryLemmas.{TryWait-made, nothing_ends}
 use Rattle.board_event.proofs.WordLemmas.{IsLeast-word, NoneBelow-more, differ, eqb_is}
 
@@ -177,6 +178,7 @@ pub record TakingOne (k : EventKind) (max n : ℕ) (t u : EventTable) (w : Wait)
   pub try : TryWait w false
   pub words : k ≡ kind.Bits → w.words ≡ max / 64 + 1
   pub far : OnEventAt k max n t (λ e. (now : Event) × Became t u n now × OneSoFar k e now w.words w.stage)
+  pub rest : KeepsRestAt n t u
   pub gone : NoneOfKind k n t → (u ≡ t) × (kind_of_access (wait_owed w.stage) ≡ k)
 
 -- an event of a table is of its kind
@@ -216,6 +218,7 @@ one_begins k max n t w fits table is = record {
   try = (wait_begins k max false w fits is).0;
   words = (wait_begins k max false w fits is).1;
   far = λ e here. (e, Became-first t n e here.stands, (rw is (one_at_first k e max)));
+  rest = rest_first n t;
   gone = λ _. (refl, (rw is (begun_kind k max false)));
 }
 
@@ -256,6 +259,7 @@ one_goes_on k max n t u v w next p a taking on made other = record {
   try = TryWait-made u v n w next false p a taking.try on made;
   words = λ bits. (rw made.goes_on (taking.words bits));
   far = λ e here. (let x = one_made k max n t u v w next p a taking on made e here in (x.0, x.1, told_on k e x.0 next.words p next.stage other x.2));
+  rest = rest_next n t u v w.stage taking.rest made.memory;
   gone = λ none. absurd (not_made k u v t n w next p a (taking.gone none) none made);
 }
 

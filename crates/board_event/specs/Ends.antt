@@ -10,7 +10,7 @@ use Rattle.board_names.specs.declared.errors.event.NotifierCreateError.{Notifier
 use Rattle.board_event_model.specs.declared.kind.EventKind.{EventKind}
 use Rattle.board_event_model.specs.declared.kind.EventKind.TheVariants as kind
 use Rattle.board_event_model.specs.EventMemory.{Event, new_event}
-use Rattle.board_event_core.specs.EventTable.{EventTable, FreesNameOf, IsNotifierAnswer, answer_to_listen, changed, event_at, names_of, settled, table_listened, without_listener, without_name, without_notifier}
+use Rattle.board_event_core.specs.EventTable.{DropsEventOf, EventTable, FreesNameOf, IsNotifierAnswer, answer_to_listen, changed, event_at, names_of, settled, table_listened, without_listener, without_name, without_notifier}
 
 -- an end of an event: its name, the number of its event, and the greatest id
 pub record End : Type 0 where
@@ -96,6 +96,14 @@ FreesListenersName end old new = HasListener end old → FreesNameOf old new end
 -- where a notifier was held and nobody holds its event's name any more, the name is free
 abbrev pub FreesNotifiersName : End → EventTable → EventTable → Type 0
 FreesNotifiersName end old new = HasNotifier end old → FreesNameOf old new end.event without_notifier
+
+-- where the listener was held and nobody holds its event any more, that event goes
+abbrev pub DropsListenersEvent : End → EventTable → EventTable → Type 0
+DropsListenersEvent end old new = HasListener end old → DropsEventOf old new end.event without_listener
+
+-- where a notifier was held and nobody holds its event any more, that event goes
+abbrev pub DropsNotifiersEvent : End → EventTable → EventTable → Type 0
+DropsNotifiersEvent end old new = HasNotifier end old → DropsEventOf old new end.event without_notifier
 
 -- the table once the listener of the end's event was let go
 abbrev pub listener_gone : EventTable → End → EventTable

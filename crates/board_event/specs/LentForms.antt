@@ -9,9 +9,10 @@ use Rattle.board_event_model.specs.declared.access.EventAnswer.{EventAnswer}
 use Rattle.board_event_model.specs.declared.access.EventAnswer.TheVariants as answer
 use Rattle.board_event_model.specs.declared.kind.EventKind.{EventKind}
 use Rattle.board_event_model.specs.declared.kind.EventKind.TheVariants as kind
+use Rattle.board_event_model.specs.Ids.{Ids}
 use Rattle.board_event_model.specs.EventMemory.{Event, after, is_pending, push_answer}
 use Rattle.board_names.specs.declared.errors.event.ListenerWaitError.{ListenerWaitError}
-use Rattle.board_event_core.specs.EventTable.{EventTable, event_at, with_event}
+use Rattle.board_event_core.specs.EventTable.{EventTable, changed, event_at, with_event}
 use Rattle.board_event_core.specs.IdSets.{IsLeast, IsListOf}
 use Rattle.board_event.specs.Ends.{End}
 
@@ -32,6 +33,14 @@ OnEvent k end t P = OnEventAt k end.max end.event t P
 -- that event, where it stands, is changed, and the rest of the table stays
 abbrev pub ChangesAt : EventKind → ℕ → ℕ → EventTable → EventTable → (Event → Event) → Type 0
 ChangesAt k max n old new f = OnEventAt k max n old (λ e. new ≡ with_event old n (f e))
+
+-- the event with these ids, and this many signals
+abbrev pub with_ids : Ids → List ℕ → ℕ → Event → Event
+with_ids pending queue signals e = record e { pending = pending; queue = queue; signals = signals }
+
+-- all but the ids and the signals of the event under this number is as it was
+abbrev pub KeepsRestAt : ℕ → EventTable → EventTable → Type 0
+KeepsRestAt n old new = (pending : Ids) × (queue : List ℕ) × (signals : ℕ) × (new ≡ changed old n (with_ids pending queue signals))
 
 -- the same of an end's event
 abbrev pub Changes : EventKind → End → EventTable → EventTable → (Event → Event) → Type 0

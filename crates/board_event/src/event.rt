@@ -85,7 +85,8 @@ pub trait Listener: NamedConcept + Sized {
     fn try_wait_one<R: Wait>(&self, rt: &R) -> Result<Option<TriggerId>, ListenerWaitError>
         ensures { IsOk result };
 
-    /// Takes the next id, and waits up to `timeout` for one. After that it takes none.
+    /// Takes the next id, and waits up to `timeout` for one. After that it takes none, and where the clock can't be read it
+    /// doesn't wait.
     ///
     /// # Errors
     /// None: it is never refused.
@@ -115,7 +116,8 @@ pub trait Listener: NamedConcept + Sized {
         requires { F.IsAlwaysCallable callback }
         ensures { IsOk result };
 
-    /// Takes all ids, once there are some, and hands each to the callback. It waits up to `timeout` for the first.
+    /// Takes all ids, once there are some, and hands each to the callback. It waits up to `timeout` for the first, and not at
+    /// all where the clock can't be read.
     ///
     /// # Errors
     /// None: it is never refused.

@@ -1,9 +1,9 @@
 //! The end of an event that takes ids.
 ghost use Rattle.std.specs.Prelude.{◌≡◌, ◌≢◌, ℕ, List, None, Ok, IfOk, IfSome, IsOk};
-ghost use Rattle.board_event.specs.Ends.{FreesListenersName, HasListener, IsGone, listener_gone};
+ghost use Rattle.board_event.specs.Ends.{DropsListenersEvent, FreesListenersName, HasListener, IsGone, listener_gone};
 ghost use Rattle.board_event.specs.Accesses.{IsHoldBehind};
 ghost use Rattle.board_event.specs.TypedCalls.{CallsOnHanded, GivesId};
-ghost use Rattle.board_event.specs.LentForms.{CallsOnAll, Changes, GivesNext, GivesNone, HandsOver, OnEvent, after_one, all_taken};
+ghost use Rattle.board_event.specs.LentForms.{CallsOnAll, Changes, GivesNext, GivesNone, HandsOver, KeepsRestAt, OnEvent, after_one, all_taken};
 
 use crate::accesses::{hand_over, wait_access};
 use crate::event::Listener;
@@ -73,6 +73,7 @@ impl<K: KindOfEvents + Drop> EventListener<K> {
         ensures id { OnEvent K.which self.now state.old (GivesNext K.which result) }
         ensures none { OnEvent K.which self.now state.old (GivesNone result) }
         ensures after { Changes K.which self.now state.old state.new (after_one K.which result) }
+        ensures rest { KeepsRestAt self.now.event state.old state.new }
         ensures gone { IsGone K.which self.now state.old → result ≡ Ok None }
         ensures stays { IsGone K.which self.now state.old → state.new ≡ state.old }
     {
@@ -95,6 +96,7 @@ impl<K: KindOfEvents + Drop> EventListener<K> {
         ensures ok { result ≡ Ok tt }
         ensures calls { HandsOver F.step callback K.which self.now state.old }
         ensures after { Changes K.which self.now state.old state.new (all_taken K.which) }
+        ensures rest { KeepsRestAt self.now.event state.old state.new }
         ensures stays { IsGone K.which self.now state.old → state.new ≡ state.old }
     {
         self.take_all_in(state, &mut callback);
@@ -114,6 +116,7 @@ impl<K: KindOfEvents + Drop> EventListener<K> {
         requires { F.IsAlwaysCallable callback.old }
         ensures calls { OnEvent K.which self.now state.old (CallsOnAll F.step callback.old callback.new K.which) }
         ensures after { Changes K.which self.now state.old state.new (all_taken K.which) }
+        ensures rest { KeepsRestAt self.now.event state.old state.new }
         ensures stays { IsGone K.which self.now state.old → state.new ≡ state.old }
         ensures uncalled { IsGone K.which self.now state.old → callback.new ≡ callback.old }
     {
@@ -125,6 +128,7 @@ impl<K: KindOfEvents + Drop> EventListener<K> {
         ensures gone { HasListener self state.old → state.new ≡ listener_gone state.old self }
         ensures stays { (¬ HasListener self state.old) → state.new ≡ state.old }
         ensures free { FreesListenersName self state.old state.new }
+        ensures dropped { DropsListenersEvent self state.old state.new }
     {
         self.give_up(state);
     }
@@ -134,6 +138,7 @@ impl<K: KindOfEvents + Drop> EventListener<K> {
         ensures gone { HasListener self.now state.old → state.new ≡ listener_gone state.old self.now }
         ensures stays { (¬ HasListener self.now state.old) → state.new ≡ state.old }
         ensures free { FreesListenersName self.now state.old state.new }
+        ensures dropped { DropsListenersEvent self.now state.old state.new }
     {
         if state.events.has_listener(self.event) {
             state.events.release_listener(self.event);

@@ -1,7 +1,7 @@
 //! The end of an event that hands ids over.
 ghost use Rattle.std.specs.Prelude.{◌≡◌, ◌≢◌, ℕ, List, Err};
 ghost use Rattle.board_names.specs.declared.errors.event.NotifierNotifyError.TheVariants.{Disconnected};
-ghost use Rattle.board_event.specs.Ends.{FreesNotifiersName, HasNotifier, IsGone, notifier_gone};
+ghost use Rattle.board_event.specs.Ends.{DropsNotifiersEvent, FreesNotifiersName, HasNotifier, IsGone, notifier_gone};
 ghost use Rattle.board_event.specs.Accesses.{IsNotifyHold};
 ghost use Rattle.board_event.specs.TypedCalls.{IsNotifyAnswer, MayNotify};
 ghost use Rattle.board_event.specs.LentForms.{AnswersNotify, Notifies};
@@ -81,6 +81,7 @@ impl<K: KindOfEvents + Drop> EventNotifier<K> {
         ensures gone { HasNotifier self state.old → state.new ≡ notifier_gone state.old self }
         ensures stays { (¬ HasNotifier self state.old) → state.new ≡ state.old }
         ensures free { FreesNotifiersName self state.old state.new }
+        ensures dropped { DropsNotifiersEvent self state.old state.new }
     {
         self.give_up(state);
     }
@@ -90,6 +91,7 @@ impl<K: KindOfEvents + Drop> EventNotifier<K> {
         ensures gone { HasNotifier self.now state.old → state.new ≡ notifier_gone state.old self.now }
         ensures stays { (¬ HasNotifier self.now state.old) → state.new ≡ state.old }
         ensures free { FreesNotifiersName self.now state.old state.new }
+        ensures dropped { DropsNotifiersEvent self.now state.old state.new }
     {
         if state.events.has_notifier(self.event) {
             state.events.release_notifier(self.event);

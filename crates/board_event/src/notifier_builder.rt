@@ -2,7 +2,7 @@
 ghost use Rattle.std.specs.Prelude.{◌≡◌, ℕ, List, codes, IfOk, IsSome, IsSomeAnd, OnErr};
 ghost use Rattle.board_names.specs.Concept.{starting};
 ghost use Rattle.board_event_core.specs.EventTable.{changed, event_at, with_notifier};
-ghost use Rattle.board_event.specs.Ends.{IsNotifierOf, IsOpened, greatest_of};
+ghost use Rattle.board_event.specs.Ends.{HasNotifier, IsNotifierOf, IsOpened, greatest_of};
 ghost use Rattle.board_event.specs.TypedCalls.{IsOpenedAs, MayOpen, TakesAnyOfQueue};
 
 use crate::event::NotifierBuilder;
@@ -43,6 +43,7 @@ impl<K: KindOfEvents + Drop> EventNotifierBuilder<K> {
         ensures answer { IsOpened K.which self state.old result }
         ensures end { IfOk result (IsNotifierOf K.which self state.old) }
         ensures ok { IfOk result (λ end. state.new ≡ changed state.old end.event with_notifier) }
+        ensures stands { IfOk result (λ end. HasNotifier end state.new) }
         ensures err { OnErr result (state.new ≡ state.old) }
     {
         let path = self.request.path();

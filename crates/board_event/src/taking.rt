@@ -3,7 +3,7 @@ ghost use Rattle.std.specs.Prelude.{◌≡◌, Err, None};
 ghost use Rattle.board_names.specs.declared.errors.event.NotifierNotifyError.TheVariants.{Disconnected};
 ghost use Rattle.board_event_core.specs.EventTable.{with_event};
 ghost use Rattle.board_event.specs.Ends.{NoneOfKind};
-ghost use Rattle.board_event.specs.LentForms.{CallsOnAll, ChangesAt, OnEventAt, OnKindAt, all_taken, notified, notify_answer};
+ghost use Rattle.board_event.specs.LentForms.{CallsOnAll, ChangesAt, KeepsRestAt, OnEventAt, OnKindAt, all_taken, notified, notify_answer};
 ghost use Rattle.board_event.specs.Taking.{OneTaken, notify_begun, wait_begun};
 
 use crate::accesses::{hand_over, notify_access, wait_access};
@@ -59,6 +59,7 @@ pub(crate) fn notify_once(
 /// Takes the next id of an event, where one waits.
 pub(crate) fn take_one(events: &mut Events, event: u64, kind: EventKind, max: u64) -> Option<u64>
     ensures one { OnEventAt kind max event events.old (λ e. OneTaken kind e events.old events.new event result) }
+    ensures rest { KeepsRestAt event events.old events.new }
     ensures gone { NoneOfKind kind event events.old → result ≡ None }
     ensures stays { NoneOfKind kind event events.old → events.new ≡ events.old }
 {
@@ -87,6 +88,7 @@ pub(crate) fn take_all<F: FnMut(TriggerId)>(
     requires { F.IsAlwaysCallable callback.old }
     ensures calls { OnEventAt kind max event events.old (CallsOnAll F.step callback.old callback.new kind) }
     ensures after { ChangesAt kind max event events.old events.new (all_taken kind) }
+    ensures rest { KeepsRestAt event events.old events.new }
     ensures stays { NoneOfKind kind event events.old → events.new ≡ events.old }
     ensures uncalled { NoneOfKind kind event events.old → callback.new ≡ callback.old }
 {

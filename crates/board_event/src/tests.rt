@@ -13,6 +13,7 @@ mod limits;
 mod threads;
 mod timed;
 mod typed;
+mod woken;
 
 /// A call of a row. The event's name is `e`.
 #[derive(Clone, Copy, Debug, PartialEq, Eq)]

@@ -36,7 +36,9 @@ pub enum EventProgress {
 pub enum NotifyStage {
     /// The look at the listener.
     Look,
+    /// The id is set.
     Set,
+    /// A signal is posted.
     Post,
     /// The one access on a queue.
     Push,

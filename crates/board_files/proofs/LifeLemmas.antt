@@ -9,14 +9,19 @@ use Rattle.board_layout.specs.Answer.{with_value}
 use Rattle.board_names.specs.declared.configuration.Configuration.{Configuration}
 use Rattle.board_names.specs.Configuration.{full_name}
 use Rattle.board_names.specs.Table.{at, IsFree}
+use Rattle.board_names.specs.declared.errors.static_storage.StaticStorageCreateError.TheVariants as creating
+use Rattle.board_names.specs.declared.errors.static_storage.StaticStorageUnlockError.TheVariants as unlocking
 use Rattle.board_names.specs.declared.errors.static_storage.StaticStorageOpenError.{StaticStorageOpenError}
 use Rattle.board_names.specs.declared.errors.static_storage.StaticStorageOpenError.TheVariants.{DoesNotExist, InitializationNotYetFinalized}
 use Rattle.board_names.specs.declared.errors.static_storage.StaticStorageOpenError.TheVariants as opening
 use Rattle.board_names.specs.declared.errors.static_storage.StaticStorageReadError.{StaticStorageReadError}
 use Rattle.board_names.specs.declared.errors.static_storage.StaticStorageReadError.TheVariants as reading
-use Rattle.board_files.specs.Files.{File, Held, Told, final_file, AddsMoments, SameOthers}
-use Rattle.board_files.specs.Life.{IsMissed, IsMisread}
-use Rattle.board_files.specs.Storage.{AnswersOr, FromTo, storage_of, length_seen, open_answer, found_answer, read_answer, read_of, IsOpen, IsWhole, IsLockedMoment, IsUnlockMoment, FindsAllOrNothing}
+use Rattle.board_files.specs.Files.{Counts, File, HasRisen, Held, Told, final_file, AddsMoments, SameOthers}
+use Rattle.board_files.specs.Life.{HasCounted, IsMissed, IsMisread, TellsStoreFault, is_fault}
+use Rattle.board_files.specs.declared.laws.LifeError.TheVariants.{Store, Open, Read}
+use Rattle.board_files.specs.declared.laws.StoreError.{StoreError}
+use Rattle.board_files.specs.declared.laws.StoreError.TheVariants.{Create, Unlock}
+use Rattle.board_files.specs.Storage.{AnswersOr, FromTo, TellsFault, storage_of, length_seen, open_answer, found_answer, read_answer, read_of, IsOpen, IsWhole, IsLockedMoment, IsUnlockMoment, FindsAllOrNothing}
 use Rattle.board_files.specs.declared.file_storage.FileStorage.{FileStorage}
 use Rattle.board_files.proofs.FileLemmas.{from_to, AddsMoments-trans, SameOthers-trans}
 
@@ -186,3 +191,45 @@ life-misread cfg name contents room (Some t) (Some u) opened e whole is read sma
     let named : Misreads cfg (storage_of name len) room e u.files = subst (λ s. Misreads cfg s room e u.files) is read in
     misread len room e (subst (λ o. AnswersOr {T = Unit {0}} (Err e) reading.ReadError reading.OutOfMemory (read_of len room o)) whole named)
     (λ short. subst (λ s. room < s.len) is (small short))
+
+-- ---- faults
+
+-- what is so of the files before and after, and less of it
+pub from_to_weaker : (P Q : Told → Told → Type 0) (old new : Option Told) → ((t u : Told) → P t u → Q t u) → FromTo old new P → FromTo old new Q
+from_to_weaker P Q None new weaker h = tt
+from_to_weaker P Q (Some t) None weaker h = h
+from_to_weaker P Q (Some t) (Some u) weaker h = weaker t u h
+
+pub unstored_counted : (before now : Counts) (e : StoreError) → TellsStoreFault before now (Err e) → HasCounted (is_fault (Store e)) before now
+unstored_counted before now (Create creating.Creation) h = h.create refl
+unstored_counted before now (Create creating.AlreadyExists) h = h.quiet (λ no. cc no) (λ no. cc no)
+unstored_counted before now (Create creating.OutOfMemory) h = h.quiet (λ no. cc no) (λ no. cc no)
+unstored_counted before now (Create creating.Write) h = h.quiet (λ no. cc no) (λ no. cc no)
+unstored_counted before now (Create creating.InsufficientPermissions) h = h.quiet (λ no. cc no) (λ no. cc no)
+unstored_counted before now (Create creating.InternalError) h = h.quiet (λ no. cc no) (λ no. cc no)
+unstored_counted before now (Unlock unlocking.InternalError) h = h.unlock refl
+unstored_counted before now (Unlock (unlocking.NoSpaceLeft taken given)) h = h.quiet (λ no. cc no) (λ no. cc no)
+unstored_counted before now (Unlock unlocking.OutOfMemory) h = h.quiet (λ no. cc no) (λ no. cc no)
+unstored_counted before now (Unlock unlocking.InsufficientPermissions) h = h.quiet (λ no. cc no) (λ no. cc no)
+
+-- no fault was counted while it was stored
+pub stored_quiet : (before now : Counts) (s : FileStorage) → TellsStoreFault before now (Ok s) → now.faults ≡ before.faults
+stored_quiet before now s h = h.quiet (λ no. cc no) (λ no. cc no)
+
+pub unopened_counted : (before mid now : Counts) (e : StaticStorageOpenError) → mid.faults ≡ before.faults → TellsFault {T = FileStorage} opening.Read mid now (Err e) → HasCounted (is_fault (Open e)) before now
+unopened_counted before mid now opening.Read same h = subst (λ (n : ℕ). HasRisen n now.faults) same (h.told refl)
+unopened_counted before mid now opening.DoesNotExist same h = h.quiet (λ no. cc no) ∙ same
+unopened_counted before mid now opening.InitializationNotYetFinalized same h = h.quiet (λ no. cc no) ∙ same
+unopened_counted before mid now opening.OutOfMemory same h = h.quiet (λ no. cc no) ∙ same
+unopened_counted before mid now opening.InternalError same h = h.quiet (λ no. cc no) ∙ same
+
+-- nor while it was opened
+pub opened_quiet : (before mid now : Counts) (s : FileStorage) → mid.faults ≡ before.faults → TellsFault opening.Read mid now (Ok s) → now.faults ≡ before.faults
+opened_quiet before mid now s same h = h.quiet (λ no. cc no) ∙ same
+
+pub unread_counted : (before mid now : Counts) (e : StaticStorageReadError) → mid.faults ≡ before.faults → TellsFault {T = Unit {0}} reading.ReadError mid now (Err e) → HasCounted (is_fault (Read e)) before now
+unread_counted before mid now reading.ReadError same h = subst (λ (n : ℕ). HasRisen n now.faults) same (h.told refl)
+unread_counted before mid now reading.BufferTooSmall same h = h.quiet (λ no. cc no) ∙ same
+unread_counted before mid now (reading.StaticStorageWasModified expected found) same h = h.quiet (λ no. cc no) ∙ same
+unread_counted before mid now reading.OutOfMemory same h = h.quiet (λ no. cc no) ∙ same
+unread_counted before mid now reading.CreationNotComplete same h = h.quiet (λ no. cc no) ∙ same

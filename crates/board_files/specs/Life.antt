@@ -1,5 +1,5 @@
 -- Why the life of a storage over files ends early.
-use Rattle.std.specs.Prelude.{◌≡◌, ◌≢◌, ◌⊎◌, ℕ, ◌<◌, ⊤, Result, Err}
+use Rattle.std.specs.Prelude.{◌≡◌, ◌≢◌, ◌⊎◌, ℕ, ◌<◌, Bool, true, false, ⊤, Result, Ok, Err}
 use Rattle.board_names.specs.declared.errors.static_storage.StaticStorageCreateError.TheVariants.{Creation}
 use Rattle.board_names.specs.declared.errors.static_storage.StaticStorageOpenError.{StaticStorageOpenError}
 use Rattle.board_names.specs.declared.errors.static_storage.StaticStorageOpenError.TheVariants as opening
@@ -46,3 +46,28 @@ abbrev pub IsLifeRefusal : ℕ → ℕ → LifeError → Type 0
 IsLifeRefusal len room (Store e) = IsStoreRefusal e
 IsLifeRefusal len room (Open e) = IsMissed e
 IsLifeRefusal len room (Read e) = IsMisread len room e
+
+-- what is so once the storage was stored, whether it was read back or not
+abbrev pub OnceStored : Result (Unit {0}) LifeError → Type 0 → Type 0
+OnceStored (Ok u) P = P
+OnceStored (Err (Store e)) P = ⊤
+OnceStored (Err (Open e)) P = P
+OnceStored (Err (Read e)) P = P
+
+-- a fault of the files is told
+abbrev pub is_fault : LifeError → Bool
+is_fault (Store (Create Creation)) = true
+is_fault (Store (Unlock InternalError)) = true
+is_fault (Open opening.Read) = true
+is_fault (Read reading.ReadError) = true
+is_fault e = false
+
+-- a fault was counted, or none was
+abbrev pub HasCounted : Bool → Counts → Counts → Type 0
+HasCounted true before now = HasRisen before.faults now.faults
+HasCounted false before now = now.faults ≡ before.faults
+
+-- a fault was counted where it is told, and only there
+abbrev pub TellsLifeFault : Counts → Counts → Result (Unit {0}) LifeError → Type 0
+TellsLifeFault before now (Ok u) = HasCounted false before now
+TellsLifeFault before now (Err e) = HasCounted (is_fault e) before now

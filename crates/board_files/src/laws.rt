@@ -5,7 +5,7 @@ ghost use Rattle.board_names.specs.Table.{IsFree};
 ghost use Rattle.board_names.specs.declared.errors.static_storage.StaticStorageCreateError.TheVariants.{AlreadyExists};
 ghost use Rattle.board_files.specs.Files.{AddsMoments, SameOthers};
 ghost use Rattle.board_files.specs.Storage.{FromTo, FindsAllOrNothing, IsWhole, storage_of};
-ghost use Rattle.board_files.specs.Life.{IsStoreRefusal, IsLifeRefusal, TellsStoreFault};
+ghost use Rattle.board_files.specs.Life.{IsStoreRefusal, IsLifeRefusal, OnceStored, TellsLifeFault, TellsStoreFault};
 ghost use Rattle.board_files.specs.declared.laws.StoreError.TheVariants.{Create};
 
 use crate::file_locked::FileLocked;
@@ -86,8 +86,8 @@ pub fn store_whole<F: Files>(
 /// The whole life of a storage: a name that is free is locked, unlocked with these contents, opened, and read into the
 /// front of `buffer`.
 ///
-/// Wherever it is stopped, whoever opens the name finds what `store_whole` says. Once it is stored it is found and read
-/// whole, where no call on the files fails and the buffer has room.
+/// Wherever it is stopped, whoever opens the name finds what `store_whole` says. Once it is stored it stays, and is found and
+/// read whole, where no call on the files fails and the buffer has room.
 ///
 /// # Errors
 /// `Store`, `Open` and `Read`, as these calls are refused.
@@ -107,6 +107,13 @@ pub fn store_and_read<F: Files>(
         u.moments (FindsAllOrNothing cfg.now name.now contents.now)) }
     ensures now { FromTo (F.told files.old) (F.told files.new) (λ t u.
         FindsAllOrNothing cfg.now name.now contents.now u.files) }
+
+    // What was stored stays, also where it isn't read back, and so does every other name. A fault is counted where it is told.
+    ensures after { FromTo (F.told files.old) (F.told files.new) (λ t u.
+        OnceStored result (IsWhole (full_name cfg.now name.now) contents.now u.files)) }
+    ensures others { FromTo (F.told files.old) (F.told files.new) (λ t u.
+        SameOthers (full_name cfg.now name.now) t.files u.files) }
+    ensures fault { TellsLifeFault (F.counts files.old) (F.counts files.new) result }
 {
     if let Err(e) = store_whole(files, cfg, name, contents) {
         return Err(LifeError::Store(e));

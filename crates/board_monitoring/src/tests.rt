@@ -132,29 +132,94 @@ fn a_name_is_taken_when_lent(rt: HostRuntime) -> Result<(), Fail> {
     Ok(())
 }
 
-// Code over the trait alone: a name is taken and seen alive.
-fn state_of<R: Wait, M: Monitoring>(
+// Code over the trait alone: a name that is taken is seen alive, until it is let go.
+fn is_taken_and_released<R: Wait + Abort, M: Monitoring>(
     rt: &R,
     alloc: Global,
     registry: &M::Registry,
-) -> Result<State, Fail>
+    name: &FileName,
+) -> Result<(), Fail>
 where
     M::Token: Drop,
     M::Monitor: Drop,
 {
-    let name = FileName::new(b"t")?;
-    let token = M::Builder::new(&name, registry)?.token(rt, alloc)?;
-    let state = M::Builder::new(&name, registry)?.monitor()?.state(rt)?;
+    let token = M::Builder::new(name, registry)?.token(rt, alloc)?;
+    let monitor = M::Builder::new(name, registry)?.monitor()?;
+    let alive = monitor.state(rt);
     token.release(rt);
-    Ok(state)
+    assert_eq!(rt;
+        (alive, monitor.state(rt)),
+        (Ok(State::Alive), Ok(State::DoesNotExist))
+    );
+    Ok(())
+}
+
+// Code over the trait alone: a name that was left is dead, also after its cleaner gave up.
+fn is_left_dead<R: Wait + Abort, M: Monitoring>(
+    rt: &R,
+    alloc: Global,
+    registry: &M::Registry,
+    name: &FileName,
+) -> Result<(), Fail>
+where
+    M::Token: Drop,
+    M::Monitor: Drop,
+{
+    let token = M::Builder::new(name, registry)?.token(rt, alloc)?;
+    token.abandon(rt);
+    let cleaner = M::Builder::new(name, registry)?.cleaner(rt)?;
+    cleaner.relinquish(rt);
+    let monitor = M::Builder::new(name, registry)?.monitor()?;
+    assert_eq!(rt; monitor.state(rt), Ok(State::Dead));
+    Ok(())
+}
+
+// Code over the trait alone: the name of the dead is gone once it was cleaned up.
+fn is_cleaned_up<R: Wait + Abort, M: Monitoring>(
+    rt: &R,
+    registry: &M::Registry,
+    name: &FileName,
+) -> Result<(), Fail>
+where
+    M::Monitor: Drop,
+{
+    let cleaner = M::Builder::new(name, registry)?.cleaner(rt)?;
+    cleaner.release(rt);
+    let monitor = M::Builder::new(name, registry)?.monitor()?;
+    assert_eq!(rt; monitor.state(rt), Ok(State::DoesNotExist));
+    Ok(())
+}
+
+// Code over the trait alone: a name is there until it is removed, once.
+fn is_removed<R: Wait + Abort, M: Monitoring>(
+    rt: &R,
+    alloc: Global,
+    registry: &M::Registry,
+    name: &FileName,
+) -> Result<(), Fail>
+where
+    M::Token: Drop,
+{
+    let config = Configuration::with_suffix(&M::default_suffix());
+    let token = M::Builder::new(name, registry)?.token(rt, alloc)?;
+    let before = M::does_exist_cfg(rt, registry, name, &config);
+    let first = M::remove_cfg(rt, registry, name, &config);
+    let second = M::remove_cfg(rt, registry, name, &config);
+    token.abandon(rt);
+    let after = M::does_exist_cfg(rt, registry, name, &config);
+    assert_eq!(rt; (before, after), (Ok(true), Ok(false)));
+    assert_eq!(rt; (first, second), (Ok(true), Ok(false)));
+    Ok(())
 }
 
 #[test]
-fn any_monitoring_is_asked_by_the_traits(rt: HostRuntime) -> Result<(), Fail> {
-    let registry = MonitoringRegistry::new(rt.alloc())?;
-    let state = state_of::<_, ProcessLocalMonitoring>(&rt, rt.alloc(), &registry)?;
-    assert_eq!(rt; state, State::Alive);
-    Ok(())
+fn any_monitoring_is_used_by_the_traits(rt: HostRuntime) -> Result<(), Fail> {
+    let (alloc, name) = (rt.alloc(), FileName::new(b"t")?);
+    let registry = MonitoringRegistry::new(alloc)?;
+    is_taken_and_released::<_, ProcessLocalMonitoring>(&rt, alloc, &registry, &name)?;
+    is_left_dead::<_, ProcessLocalMonitoring>(&rt, alloc, &registry, &name)?;
+    is_cleaned_up::<_, ProcessLocalMonitoring>(&rt, &registry, &name)?;
+    is_removed::<_, ProcessLocalMonitoring>(&rt, alloc, &registry, &name)
 }
 
 // A caller's proof over names that were lent, whoever took them: a removed name can be taken, want of memory aside.

@@ -1,3 +1,4 @@
+//! What a loan knows: the words that were put in it.
 ghost use Rattle.std.specs.Prelude.{◌≡◌, ◌+◌, ◌^◌, ◌<◌, ◌≤◌, ◌↔◌, true, List, Option, ℕ, None, IfSome, length};
 ghost use Rattle.board_layout.specs.Layout.{cell_end};
 ghost use Rattle.board_model.specs.LawfulSession.{all_put};

@@ -1,3 +1,4 @@
+//! What a read handle knows, and the calls that it makes.
 ghost use Rattle.std.specs.Prelude.{◌≡◌, ◌^◌, ◌<◌, length};
 ghost use Rattle.board_layout.specs.Layout.{cell_end};
 ghost use Rattle.board_ports.specs.EntryCalls.{get_of, fresh_of};

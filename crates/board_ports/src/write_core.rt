@@ -1,3 +1,4 @@
+//! What a write handle knows, and the calls that it makes.
 ghost use Rattle.std.specs.Prelude.{◌≡◌, ◌+◌, ◌^◌, ◌<◌, length};
 ghost use Rattle.board_layout.specs.Layout.{cell_end};
 ghost use Rattle.board_model.specs.Replies.{none_put};

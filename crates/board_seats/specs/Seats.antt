@@ -1,11 +1,12 @@
 -- What a thread that has a domain alone reads and writes of an entry.
-use Rattle.std.specs.Prelude.{◌≡◌, ℕ, ◌+◌, ◌&&◌, Bool, ◌==◌, nat_le, nat_lt, if◌then◌else◌, List, length, Option, Some, None, option_map, Result, Ok, Err}
+use Rattle.std.specs.Prelude.{◌≡◌, ℕ, ◌+◌, ◌&&◌, Bool, false, ◌==◌, nat_le, nat_lt, if◌then◌else◌, List, length, Option, Some, None, option_map, Result, Ok, Err}
 use Rattle.board_layout.specs.declared.shape.CellShape.{CellShape}
 use Rattle.board_layout.specs.declared.type_detail.TypeDetail.{TypeDetail}
 use Rattle.board_layout.specs.Layout.{cell_end}
 use Rattle.board_cell.specs.WholeCalls.{HasValue, PublishesIn, generation_in}
 use Rattle.board_model.specs.declared.tables.ThingKind.{ThingKind}
 use Rattle.board_service.specs.declared.made.Found.{Found}
+use Rattle.board_service.specs.Told.{found_of}
 use Rattle.board_service.specs.Domain.{Domain, cells_of, held, stands_as, with_cells}
 use Rattle.board_seats.specs.declared.update_error.UpdateError.{UpdateError}
 use Rattle.board_seats.specs.declared.update_error.UpdateError.TheVariants.{HandleUnknown, GenerationsSpent}
@@ -27,9 +28,20 @@ words_with shape (Some words) = if lies_among shape words then Some words else N
 abbrev pub board_of : Words → Found → ℕ
 board_of d entry = (held d entry.thing).board
 
--- the words of a handle's board: there where the handle is held, and its entry's cell lies among them
+-- whether this is what the tables have for the handle: its entry, with its place and its cell
+abbrev pub names : Option Found → Found → Bool
+names None entry = false
+names (Some f) entry =
+    (f.entry == entry.entry) && (f.place == entry.place)
+    && (f.shape.first == entry.shape.first) && (f.shape.head == entry.shape.head) && (f.shape.words == entry.shape.words)
+
+-- the handle is held, and its entry is the one that was found
+abbrev pub is_found : Words → TypeDetail → Found → ThingKind → Bool
+is_found d keys entry k = stands_as d keys entry.thing k && names (found_of d entry.thing) entry
+
+-- the words of a handle's board: there where the handle is held, its entry is the one that was found, and the entry's cell lies among them
 abbrev pub words_for : Words → TypeDetail → Found → ThingKind → Option (List ℕ)
-words_for d keys entry k = if stands_as d keys entry.thing k then words_with entry.shape (cells_of d (board_of d entry)) else None
+words_for d keys entry k = if is_found d keys entry k then words_with entry.shape (cells_of d (board_of d entry)) else None
 
 -- ---- reads
 

@@ -1,7 +1,10 @@
-//! The calls: each asks whether the handle is held, looks for its cell among the words of its board, and makes all accesses.
-ghost use Rattle.std.specs.Prelude.{◌≡◌, length, is_some, option_map, true, IfNone, IfSome, OnOk, OnErr, Some};
+//! The calls: each asks whether the handle is held and its entry is the one that was found, looks for its cell among the words of its board, and makes all accesses.
+ghost use Rattle.std.specs.Prelude.{◌≡◌, length, is_some, option_map, true, IfNone, IfSome, OnSome, OnOk, OnErr, Some};
+ghost use Rattle.std.specs.Bool.{OnTrue};
 ghost use Rattle.board_layout.specs.Bytes.{details};
 ghost use Rattle.board_cell.specs.WholeCalls.{LiesAmong, PublishesIn};
+ghost use Rattle.board_service.specs.Domain.{Stands};
+ghost use Rattle.board_service.specs.Told.{found_of};
 ghost use Rattle.board_seats.specs.Seats as seats;
 
 use crate::update_error::UpdateError;
@@ -70,7 +73,28 @@ fn update_in(words: &mut SeatWords, shape: CellShape, value: &Vec<u64>) -> Resul
     Ok(update_on(words, shape, value))
 }
 
-/// Reads the value of the entry of a read handle. Gives its generation, and its words in `out`, which has as many words as a value of the entry. The cell is the one that `entry.shape` names among the words of the handle's board, whichever handle that was made for. `None` where the handle isn't held by who has keys of type `K`, or no such cell lies among these words; then `out` stays as it was.
+// Whether the handle is held, and its entry is the one that was found: another entry's cell is never touched.
+fn is_found<K: BoardKey>(domain: &DomainCore<SeatWords>, entry: &Found, kind: ThingKind) -> bool
+    ensures value { let keys = details K.type_bytes K.SIZE K.ALIGNMENT in
+        result ≡ seats.is_found domain.now keys entry.now kind }
+    ensures stands { OnTrue result (Stands domain.now entry.now.thing) }
+    ensures tied { OnTrue result (found_of domain.now entry.now.thing ≡ Some entry.now) }
+{
+    if !domain.is_held::<K>(entry.thing, kind) {
+        return false;
+    }
+    let Some(found) = domain.found_of(entry.thing) else {
+        return false;
+    };
+    let (one, other) = (found.shape, entry.shape);
+    found.entry == entry.entry
+        && found.place == entry.place
+        && one.first == other.first
+        && one.head == other.head
+        && one.words == other.words
+}
+
+/// Reads the value of the entry of a read handle. Gives its generation, and its words in `out`, which has as many words as a value of the entry. `None` where the handle isn't held by who has keys of type `K`, `entry` isn't what was found for it, or the words of its board have no such cell; then `out` stays as it was.
 pub fn get<K: BoardKey>(
     domain: &mut DomainCore<SeatWords>,
     entry: &Found,
@@ -83,11 +107,12 @@ pub fn get<K: BoardKey>(
     ensures got { let keys = details K.type_bytes K.SIZE K.ALIGNMENT in
         let words = seats.words_for domain.old keys entry.now ThingKind.ReadHandle in
         IfSome result (λ g. seats.IsRead entry.now.shape words g out.new.items) }
+    ensures tied { OnSome result (found_of domain.old entry.now.thing ≡ Some entry.now) }
     ensures none { IfNone result (out.new.items ≡ out.old.items) }
     ensures same { domain.new ≡ domain.old }
     ensures width { length out.new.items ≡ entry.now.shape.words }
 {
-    if !domain.is_held::<K>(entry.thing, ThingKind::ReadHandle) {
+    if !is_found::<K>(domain, entry, ThingKind::ReadHandle) {
         return None;
     }
     let board = domain.board_of(entry.thing);
@@ -97,7 +122,7 @@ pub fn get<K: BoardKey>(
     }
 }
 
-/// Whether the entry of a read handle is at this generation. The cell is the one that `entry.shape` names, as for `get`, and so is `None`.
+/// Whether the entry of a read handle is at this generation. `None` is as for `get`.
 pub fn fresh<K: BoardKey>(
     domain: &mut DomainCore<SeatWords>,
     entry: &Found,
@@ -106,9 +131,10 @@ pub fn fresh<K: BoardKey>(
     ensures answer { let keys = details K.type_bytes K.SIZE K.ALIGNMENT in
         let words = seats.words_for domain.old keys entry.now ThingKind.ReadHandle in
         result ≡ option_map (seats.is_at entry.now.shape generation) words }
+    ensures tied { OnSome result (found_of domain.old entry.now.thing ≡ Some entry.now) }
     ensures same { domain.new ≡ domain.old }
 {
-    if !domain.is_held::<K>(entry.thing, ThingKind::ReadHandle) {
+    if !is_found::<K>(domain, entry, ThingKind::ReadHandle) {
         return None;
     }
     let board = domain.board_of(entry.thing);
@@ -118,10 +144,10 @@ pub fn fresh<K: BoardKey>(
     }
 }
 
-/// Publishes a value of the entry of a write handle, which has as many words as the entry's values. Gives its generation. The cell is the one that `entry.shape` names among the words of the handle's board, whichever handle that was made for: who writes a `Found` of his own writes where that says.
+/// Publishes a value of the entry of a write handle, which has as many words as the entry's values. Gives its generation.
 ///
 /// # Errors
-/// `HandleUnknown` where the handle isn't held by who has keys of type `K`, or the words of its board have no such cell; `GenerationsSpent` where the entry has had 2^64 - 1 values. All stays as it was.
+/// `HandleUnknown` where the handle isn't held by who has keys of type `K`, `entry` isn't what was found for it, or the words of its board have no such cell; `GenerationsSpent` where the entry has had 2^64 - 1 values. All stays as it was.
 pub fn update<K: BoardKey>(
     domain: &mut DomainCore<SeatWords>,
     entry: &Found,
@@ -136,9 +162,10 @@ pub fn update<K: BoardKey>(
         let board = seats.board_of domain.old entry.now in
         let published = value.now.items in
         OnOk result (seats.Updates entry.now.shape published words domain.old domain.new board) }
+    ensures tied { OnOk result (found_of domain.old entry.now.thing ≡ Some entry.now) }
     ensures err { OnErr result (domain.new ≡ domain.old) }
 {
-    if !domain.is_held::<K>(entry.thing, ThingKind::WriteHandle) {
+    if !is_found::<K>(domain, entry, ThingKind::WriteHandle) {
         return Err(UpdateError::HandleUnknown);
     }
     let board = domain.board_of(entry.thing);

@@ -1,3 +1,4 @@
+//! Why a value was not published.
 use thiserror::Error;
 
 /// Why a value was not published.

@@ -1,3 +1,4 @@
+//! Why there is no entry of a key and a first value.
 use board_layout::KeyMemoryError;
 use thiserror::Error;
 

@@ -112,6 +112,17 @@ pub fn is_kind(kind: ThingKind, of: &Kind) -> bool
     }
 }
 
+/// The place of a handle's entry.
+pub(crate) fn entry_of(kind: &Kind) -> u64
+    ensures { result ≡ tables.entry_of kind.now }
+{
+    match kind {
+        Kind::ReadHandle { entry } => *entry,
+        Kind::WriteHandle { entry, port: _ } => *entry,
+        _ => 0,
+    }
+}
+
 /// Whether the board has keys of this type.
 pub(crate) fn has_details(board: u64, key: &TypeDetail, boards: &[BoardRow]) -> bool
     ensures { result ≡ tables.holds_at (find (tables.is_numbered board) boards.now)

@@ -1,29 +1,10 @@
 //! Runs a script whose parties can take snapshots: from standard input to standard output, with notes on standard error.
 #![tactic(auto)]
 
-mod adapters;
-
-use crate::adapters::{StderrSink, StdinSource, StdoutSink};
 use board_snapshot::run_program;
 use script_endings::end_without_words;
-use std::alloc::AllocError;
+use script_process::{StderrSink, StdinSource, StdoutSink, words};
 use std::process::ExitCode;
-use std::{env, io};
-
-// The words of the command line without the program's name. One that isn't text makes all of them one empty word.
-fn words(rt: &HostRuntime) -> Result<Vec<String>, AllocError> {
-    match env::args(rt) {
-        Ok(args) => args.skip(1).collect(rt.alloc()),
-        Err(error) => {
-            if error.kind() == io::ErrorKind::OutOfMemory {
-                return Err(AllocError);
-            }
-            let mut words = Vec::new(rt.alloc());
-            words.push(String::new(rt.alloc()))?;
-            Ok(words)
-        }
-    }
-}
 
 fn main(rt: HostRuntime) -> ExitCode {
     let mut notes = StderrSink::new(rt.stderr());

@@ -10,11 +10,13 @@ use crate::tokens::Tokens;
 /// What a token of an answer may be, by itself.
 #[derive(Clone, Copy, Debug, PartialEq, Eq)]
 pub enum Item {
+    /// A number.
     Number,
     /// A number, or `none`.
     NumberOrNone,
     /// A board and a word of it.
     Place,
+    /// `yes` or `no`.
     YesOrNo,
     /// An event whose ids are a set.
     BitsEvent,
@@ -24,9 +26,13 @@ pub enum Item {
     Reason,
     /// The name of a party.
     Name,
+    /// The name of a board.
     BoardName,
+    /// The type of keys.
     KeyType,
+    /// A key.
     Key,
+    /// A value.
     Value,
     /// A reply of one word, which says all.
     WholeReply,

@@ -17,7 +17,9 @@ pub enum Reading {
 /// A word that is written, and its value.
 #[derive(Clone, Copy, Debug, PartialEq, Eq)]
 pub struct Written {
+    /// The place of the word.
     pub word: u64,
+    /// What it becomes.
     pub value: u64,
 }
 

@@ -15,4 +15,4 @@ mod tests;
 pub use attributes::meets;
 pub use cell_calls::{Reading, Written, current_at, heard, spare_at, word_to_read, word_to_write};
 pub use keys::{find, has_equal_keys};
-pub use new_board::{Opening, Published, open};
+pub use new_board::{Opening, open};

@@ -1,27 +1,24 @@
 //! A new board: its entries, its words, and what is published of it at first.
-ghost use Rattle.std.specs.Prelude.{◌≡◌, ◌++◌, All, IfOk, OnOk, length, map, replicate};
+ghost use Rattle.std.specs.Prelude.{◌≡◌, ◌++◌, ◌∷◌, [], All, IfOk, OnOk, length, map, replicate};
 ghost use Rattle.board_layout.specs.Layout.{opening_cell, opening_words};
 ghost use Rattle.board_model.specs.Replies.{added_of};
 ghost use Rattle.board_model.specs.Tables as tables;
-ghost use Rattle.script_board_rows.specs.NewBoards.{IsOpened, IsOpenedAt, IsSmallPlace, first_published, first_values};
+ghost use Rattle.board_model.specs.TypeTable as types;
+ghost use Rattle.script_board_rows.specs.NewBoards.{AreFirstLists, IsOpened, IsOpenedAt, IsSmallPlace, first_values};
 
 use board_layout::{CellPlace, Plan, PlanError, Shape, plan};
-use board_model::{AddedEntry, Entry, Words, key_bytes, type_of, value_detail, value_words};
+use board_model::{AddedEntry, Entry, Value, Words, key_bytes, type_of, value_detail, value_words};
 use std::alloc::{AllocError, Global};
 
-/// What was published of an entry: how many values, and the words of the last.
-#[derive(Drop, Debug)]
-pub struct Published {
-    pub count: u64,
-    pub last: Words,
-}
-
-/// The entries of a new board, its words, and what is published of each entry.
+/// The entries of a new board, its words, and of each entry all values that were published.
 #[derive(Drop, Debug)]
 pub struct Opening {
+    /// The entries.
     pub entries: Vec<Entry>,
+    /// The words.
     pub words: Vec<u64>,
-    pub published: Vec<Published>,
+    /// Of each entry all values that were published, each as its words.
+    pub published: Vec<Vec<Words>>,
 }
 
 // The room that each of the added entries needs.
@@ -102,14 +99,23 @@ fn entries_of(
     Ok(entries)
 }
 
+// The one value that is published of an entry at first.
+fn first_list(alloc: Global, value: Value) -> Result<Vec<Words>, AllocError>
+    ensures { IfOk result (λ v. v.items ≡ types.value_words value ∷ []) }
+{
+    let words = Words::from_vec(value_words(alloc, value)?);
+    let mut list = Vec::new(alloc);
+    list.push(words)?;
+    Ok(list)
+}
+
 // What is published of each entry at first.
-fn published_of(alloc: Global, added: &[AddedEntry]) -> Result<Vec<Published>, AllocError>
-    ensures { IfOk result (λ v. v.items ≡ map first_published added.now) }
+fn published_of(alloc: Global, added: &[AddedEntry]) -> Result<Vec<Vec<Words>>, AllocError>
+    ensures { IfOk result (λ v. AreFirstLists v.items added.now) }
 {
     let mut published = Vec::new(alloc);
     for entry in added {
-        let last = Words::from_vec(value_words(alloc, entry.value)?);
-        published.push(Published { count: 1, last })?;
+        published.push(first_list(alloc, entry.value)?)?;
     }
     Ok(published)
 }

@@ -24,11 +24,15 @@ impl<C: BoardWords + Drop> BoardMachine<C> {
     /// A line `abandon P`. The call of the party runs no more, and what it holds stands for good.
     ///
     /// # Errors
-    /// `AllocError` where memory is refused: only for a party that runs no call, and isn't gone.
+    /// `AllocError` where memory is refused: only for a party that runs no call, and isn't gone. Then nothing has changed.
     pub fn abandon(&mut self, party: Name) -> Result<Answer, AllocError>
         requires { IsLed self.old }
         ensures serves { IfOk result (λ a. Serves self.old self.new (line.Abandon party) a) }
         ensures memory { OnErr result (MayWant self.old (line.Abandon party)) }
+
+        // After want of memory nothing was abandoned.
+        ensures held { OnErr result (HoldsAsBefore self.old self.new) }
+        ensures parties { OnErr result (self.new.parties.items ≡ self.old.parties.items) }
         ensures drawn { OnOk result (self.new.domain.drawn ≤ self.old.domain.drawn + 1) }
     {
         let Some(at) = place_of_party(&party, &self.parties) else {

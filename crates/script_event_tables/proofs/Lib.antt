@@ -1,1 +1,3 @@
 mod TableLemmas
+mod Abandonments
+mod Settling

@@ -122,3 +122,32 @@ grown_rows rows stands row st count len are h i d low =
           subst (λ (o : Option Event). IsSomeAnd o (StandsFor (get_or (rows ++ row ∷ []) i d))) (sym (more_other stands count st (i + 1) apart))
           (subst (λ (x : EventRow). IsSomeAnd (event_of stands (i + 1)) (StandsFor x)) (sym (get_or-append rows (row ∷ []) d i short)) (are i d short)))
     ]
+
+-- ---- the parties of listeners
+
+abbrev pub AreOwners : List (List ℕ) → (ℕ → Option StandingEvent) → Type 0
+AreOwners listeners stands = (i : ℕ) (d : List ℕ) → i < length listeners → IsSomeAnd (stands (i + 1)) (λ st. st.listener ≡ get_or listeners i d)
+
+kept_owner : (o : Option StandingEvent) (b : Bool) (f : Event → Event) (x : List ℕ) → IsSomeAnd o (λ st. st.listener ≡ x) → IsSomeAnd (elim o as (λ _. Option StandingEvent) [ None ↦ None | Some st ↦ Some (record st { event = if b then f st.event else st.event }) ]) (λ st. st.listener ≡ x)
+kept_owner None b f x h = absurd h
+kept_owner (Some st) b f x h = h
+
+-- a change of an event leaves its listener's party
+pub changed_owners : (listeners : List (List ℕ)) (stands : ℕ → Option StandingEvent) (n : ℕ) (f : Event → Event) → AreOwners listeners stands → AreOwners listeners (change_at stands n f)
+changed_owners listeners stands n f are i d low = kept_owner (stands (i + 1)) (i + 1 == n) f (get_or listeners i d) (are i d low)
+
+-- a new event has its own
+pub grown_owners : (listeners : List (List ℕ)) (stands : ℕ → Option StandingEvent) (party : List ℕ) (e : Event) (count : ℕ) → length listeners ≡ count → AreOwners listeners stands
+    → AreOwners (listeners ++ party ∷ []) (with_more stands count (record { event = e; listener = party }))
+grown_owners listeners stands party e count len are i d low =
+    let n : length (listeners ++ party ∷ []) ≡ length listeners + 1 = length_push listeners party in
+    elim (either (i + 1 == count + 1)) as (λ _. IsSomeAnd (with_more stands count (record { event = e; listener = party }) (i + 1)) (λ st. st.listener ≡ get_or (listeners ++ party ∷ []) i d)) [
+      | inl same ↦ (
+          let s : i + 1 ≡ count + 1 = (Decides-eqb (i + 1) (count + 1)).0 same in
+          let place : i ≡ length listeners = omega (arith, s, len) in
+          rw same (sym (ap (λ (j : ℕ). get_or (listeners ++ party ∷ []) j d) place ∙ get_or-append_seam listeners party [] d)))
+      | inr apart ↦ (
+          let d' : (i ≡ count → ⊥) = (λ q. false≢true (sym apart ∙ (Decides-eqb (i + 1) (count + 1)).1 (omega (arith, q)))) in
+          let short : i < length listeners = omega (arith, n, low, len, d') in
+          rw apart (subst (λ (x : List ℕ). IsSomeAnd (stands (i + 1)) (λ st. st.listener ≡ x)) (sym (get_or-append listeners (party ∷ []) d i short)) (are i d short)))
+    ]

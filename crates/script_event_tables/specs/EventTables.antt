@@ -1,12 +1,13 @@
 -- The events of a script as a checker keeps them, and which events of the definitions they stand for.
-use Rattle.std.specs.Prelude.{◌≡◌, ℕ, ◌+◌, ◌<◌, ◌≤◌, ◌==◌, if◌then◌else◌, List, length, Option, Some, None, IsSomeAnd, is_some, slice_index_or, true}
+use Rattle.std.specs.Prelude.{◌≡◌, ℕ, Bool, ◌+◌, ◌-◌, ◌^◌, ◌<◌, ◌≤◌, ◌==◌, if◌then◌else◌, List, length, Option, Some, None, IsSome, IsSomeAnd, is_some, nat_lt, slice_index_or, true, false, ⊤}
 use Rattle.std.specs.Str.{bytes_eq}
 use Rattle.std.specs.HashMap.{get}
 use Rattle.board_event_model.specs.declared.kind.EventKind.{EventKind}
 use Rattle.board_event_model.specs.declared.kind.EventKind.TheVariants as event_kind
 use Rattle.board_event_model.specs.EventMemory.{Event, new_event}
-use Rattle.board_event_model.specs.EventSessions.{StandingEvent, change_at, event_of}
-use Rattle.script_model.specs.ScriptEvents.{name_held}
+use Rattle.board_event_model.specs.EventSessions.{StandingEvent, all_gone, change_at, event_of, gone_with}
+use Rattle.script_model.specs.ScriptEvents.{name_held, names_left}
+use Rattle.board_model.specs.Requests.{and_then}
 use Rattle.script_event_rows.specs.EventRows.{StandsFor}
 use Rattle.script_event_rows.specs.declared.event_row.EventRow.{EventRow}
 use Rattle.script_event_tables.specs.declared.event_names.EventNames.{EventNames}
@@ -48,6 +49,8 @@ pub record AreEvents (t : EventTable) (s : EventsThatStand) : Type 0 where
   pub count : length t.rows.items ≡ s.count
   pub rows : (i : ℕ) (d : EventRow) → i < length t.rows.items → IsSomeAnd (event_of s.stands (i + 1)) (StandsFor (slice_index_or t.rows.items i d))
   pub names : AreNames t.names s.names
+  pub each : length t.listeners.items ≡ s.count
+  pub owners : (i : ℕ) (d : List ℕ) → i < length t.listeners.items → IsSomeAnd (s.stands (i + 1)) (λ st. st.listener ≡ slice_index_or t.listeners.items i d)
 
 -- the events for which the table stood have become these
 abbrev pub EventsBecome : EventTable → EventTable → (EventsThatStand → EventsThatStand) → Type 0
@@ -83,6 +86,76 @@ abbrev pub nothing_stands : EventsThatStand
 nothing_stands = record { stands = λ n. None; count = 0; names = λ k name. None }
 
 -- a listener of a new event was asked for: it was refused, since the name is held, or the event has the next number
-abbrev pub HasListened : EventTable → EventTable → EventKind → List ℕ → ℕ → Option ℕ → Type 0
-HasListened old new k name max None = (s : EventsThatStand) → AreEvents old s → (is_some (s.names k name) ≡ true) × AreEvents new s
-HasListened old new k name max (Some n) = (s : EventsThatStand) (party : List ℕ) → AreEvents old s → (s.names k name ≡ None) × (n ≡ s.count + 1) × AreEvents new (with_new party k name max s)
+abbrev pub HasListened : EventTable → EventTable → List ℕ → EventKind → List ℕ → ℕ → Option ℕ → Type 0
+HasListened old new party k name max None = (s : EventsThatStand) → AreEvents old s → (is_some (s.names k name) ≡ true) × AreEvents new s
+HasListened old new party k name max (Some n) = (s : EventsThatStand) → AreEvents old s → (s.names k name ≡ None) × (n ≡ s.count + 1) × AreEvents new (with_new party k name max s)
+
+-- ---- notifiers, and what goes
+
+-- the events fit together: each that stands or is named has a number that was drawn, and none has as many notifiers as fit
+pub record FitTogether (s : EventsThatStand) : Type 0 where
+  pub first : s.stands 0 ≡ None
+  pub numbered : (n : ℕ) (e : Event) → event_of s.stands n ≡ Some e → n ≤ s.count
+  pub named : (k : EventKind) (name : List ℕ) (n : ℕ) → s.names k name ≡ Some n → IsSome (event_of s.stands n)
+  pub few : (n : ℕ) (e : Event) → event_of s.stands n ≡ Some e → e.notifiers < 2 ^ 64 - 1
+
+-- the table stands for such events
+abbrev pub IsSoundTable : EventTable → Type 0
+IsSoundTable t = (s : EventsThatStand) × AreEvents t s × FitTogether s
+
+-- no event with a listener that is held has the name
+abbrev pub IsUnlistened : Option Event → Type 0
+IsUnlistened None = ⊤
+IsUnlistened (Some e) = e.held ≡ false
+
+-- one more notifier
+abbrev pub one_notifier_more : Event → Event
+one_notifier_more e = record e { notifiers = e.notifiers + 1 }
+
+-- and one less
+abbrev pub one_notifier_less : Event → Event
+one_notifier_less e = record e { notifiers = e.notifiers - 1 }
+
+-- the listener was released
+abbrev pub without_listener : Event → Event
+without_listener e = record e { held = false }
+
+-- the listener that was looked up is the party's
+abbrev pub is_party : Option (List ℕ) → List ℕ → Bool
+is_party None party = false
+is_party (Some listener) party = bytes_eq party listener
+
+-- a notifier of the event of a name was asked for: it has no listener, or it has this number and one notifier more
+abbrev pub HasNotified : EventTable → EventTable → EventKind → List ℕ → Option ℕ → Type 0
+HasNotified old new k name None = (s : EventsThatStand) → AreEvents old s → IsUnlistened (and_then (s.names k name) (event_of s.stands)) × AreEvents new s
+HasNotified old new k name (Some n) = (s : EventsThatStand) → AreEvents old s
+    → (s.names k name ≡ Some n) × IsSomeAnd (event_of s.stands n) (λ e. e.held ≡ true) × AreEvents new (with_changed n one_notifier_more s)
+
+-- the names, where the event that was found is held by nobody by its name
+abbrev pub names_settled : Names → ℕ → Option Event → Names
+names_settled names n None = names
+names_settled names n (Some e) = names_left names n e
+
+-- the name of event n goes where nobody holds the event by it
+abbrev pub with_settled : ℕ → EventsThatStand → EventsThatStand
+with_settled n s = record s { names = names_settled s.names n (event_of s.stands n) }
+
+-- a listener or a notifier of event n goes
+abbrev pub with_released : ℕ → (Event → Event) → EventsThatStand → EventsThatStand
+with_released n f s = with_settled n (with_changed n f s)
+
+-- a party was abandoned, with the listeners that it holds
+abbrev pub with_abandoned : List ℕ → EventsThatStand → EventsThatStand
+with_abandoned party s = record s { stands = all_gone s.stands party }
+
+-- the event at a place, where the first i places were gone through
+abbrev pub after_at : Bool → List ℕ → StandingEvent → Event
+after_at b party st = if b then (gone_with party st).event else st.event
+
+-- the events at the first i places were gone through
+pub record IsPartGone (i : ℕ) (party : List ℕ) (t : EventTable) (s : EventsThatStand) : Type 0 where
+  pub count : length t.rows.items ≡ s.count
+  pub rows : (k : ℕ) (d : EventRow) → k < length t.rows.items → IsSomeAnd (s.stands (k + 1)) (λ st. StandsFor (slice_index_or t.rows.items k d) (after_at (nat_lt k i) party st))
+  pub names : AreNames t.names s.names
+  pub each : length t.listeners.items ≡ s.count
+  pub owners : (k : ℕ) (d : List ℕ) → k < length t.listeners.items → IsSomeAnd (s.stands (k + 1)) (λ st. st.listener ≡ slice_index_or t.listeners.items k d)

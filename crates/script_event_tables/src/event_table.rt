@@ -1,13 +1,14 @@
 //! The events that were made, by number, and who holds their names.
-ghost use Rattle.std.specs.Prelude.{IfOk, OnErr, OnOk};
+ghost use Rattle.std.specs.Prelude.{◌≡◌, ◌<◌, ◌+◌, ◌-◌, ◌^◌, IfOk, OnErr, OnOk, length, slice_get};
 ghost use Rattle.board_event_model.specs.EventMemory as event;
 ghost use Rattle.board_event_model.specs.EventMemory.{CanPerform, IsRight};
 ghost use Rattle.script_event_rows.specs.EventRows.{StandsFor};
-ghost use Rattle.script_event_tables.specs.EventTables.{AreEvents, EventsBecome, HasListened, IsMade, OfEvent, OfSomeEvent, nothing_stands, with_changed};
+ghost use Rattle.script_event_tables.specs.EventTables.{AreEvents, EventsBecome, EventsThatStand, HasListened, HasNotified, IsMade, IsPartGone, IsSoundTable, OfEvent, OfSomeEvent, is_party, nothing_stands, one_notifier_less, one_notifier_more, with_abandoned, with_changed, with_released, with_settled, without_listener};
 
 use crate::event_names::EventNames;
 use board_event_model::{EventAccess, EventAnswer, EventKind};
 use board_layout::Text;
+use board_model::Name;
 use script_event_rows::EventRow;
 use std::alloc::{AllocError, Global};
 
@@ -17,6 +18,8 @@ pub struct EventTable {
     alloc: Global,
     // event n at place n - 1
     rows: Vec<EventRow>,
+    // the parties of their listeners
+    listeners: Vec<Name>,
     names: EventNames,
 }
 
@@ -28,6 +31,7 @@ impl EventTable {
         EventTable {
             alloc,
             rows: Vec::new(alloc),
+            listeners: Vec::new(alloc),
             names: EventNames::new(alloc),
         }
     }
@@ -58,17 +62,18 @@ impl EventTable {
         Ok(answer)
     }
 
-    /// A listener of a new event, whose number is the next, unless its name is held.
+    /// The party's listener of a new event, whose number is the next, unless its name is held.
     ///
     /// # Errors
     /// `AllocError` where memory is refused; then all events are as they were.
     pub fn listen(
         &mut self,
+        party: &Name,
         kind: EventKind,
         name: &Text<255>,
         max: u64,
     ) -> Result<Option<u64>, AllocError>
-        ensures told { IfOk result (HasListened self.old self.new kind name.now max) }
+        ensures told { IfOk result (HasListened self.old self.new party.now kind name.now max) }
         ensures err { OnErr result (EventsBecome self.old self.new (λ s. s)) }
     {
         if self.names.get(kind, name).is_some() {
@@ -76,9 +81,128 @@ impl EventTable {
         }
         let row = EventRow::new(self.alloc, kind, *name, max)?;
         self.rows.reserve(1)?;
+        self.listeners.reserve(1)?;
         let number = self.rows.len() as u64 + 1;
         self.names.hold(kind, *name, number)?;
         self.rows.push_reserved(row);
+        self.listeners.push_reserved(*party);
         Ok(Some(number))
+    }
+
+    // The event has a notifier more.
+    fn count_notifier(&mut self, number: u64)
+        requires made { IsMade self.old number }
+        requires few { OfSomeEvent self.old number (λ e. e.notifiers < 2 ^ 64 - 1) }
+        ensures { EventsBecome self.old self.new (with_changed number one_notifier_more) }
+    {
+        let row = &mut self.rows[(number - 1) as usize];
+        row.add_notifier();
+    }
+
+    /// A notifier more of the event that holds the name, where it has its listener.
+    pub fn notifier(&mut self, kind: EventKind, name: &Text<255>) -> Option<u64>
+        requires { IsSoundTable self.old }
+        ensures { HasNotified self.old self.new kind name.now result }
+    {
+        let number = self.names.get(kind, name)?;
+        if !self.get(number).is_held() {
+            return None;
+        }
+        self.count_notifier(number);
+        Some(number)
+    }
+
+    // The event's name goes where nobody holds the event by it.
+    fn settle(&mut self, number: u64)
+        requires { IsMade self.old number }
+        ensures { EventsBecome self.old self.new (with_settled number) }
+    {
+        let row = self.get(number);
+        if row.holds_name() {
+            return;
+        }
+        let kind = row.kind();
+        let name = *row.name();
+        let Some(found) = self.names.get(kind, &name) else {
+            return;
+        };
+        if found != number {
+            return;
+        }
+        self.names.free(kind, &name);
+    }
+
+    // The event's listener isn't held from now on.
+    fn let_listener_go(&mut self, number: u64)
+        requires { IsMade self.old number }
+        ensures events { EventsBecome self.old self.new (with_changed number without_listener) }
+        ensures count { length self.new.rows.items ≡ length self.old.rows.items }
+    {
+        let row = &mut self.rows[(number - 1) as usize];
+        row.release_listener();
+    }
+
+    // The event has a notifier less.
+    fn let_notifier_go(&mut self, number: u64)
+        requires made { IsMade self.old number }
+        requires some { OfSomeEvent self.old number (λ e. 0 < e.notifiers) }
+        ensures events { EventsBecome self.old self.new
+            (with_changed number one_notifier_less) }
+        ensures count { length self.new.rows.items ≡ length self.old.rows.items }
+    {
+        let row = &mut self.rows[(number - 1) as usize];
+        row.release_notifier();
+    }
+
+    /// The listener of an event goes.
+    pub fn release_listener(&mut self, number: u64)
+        requires { IsMade self.old number }
+        ensures { EventsBecome self.old self.new (with_released number without_listener) }
+    {
+        self.let_listener_go(number);
+        self.settle(number);
+    }
+
+    /// A notifier of an event goes.
+    pub fn release_notifier(&mut self, number: u64)
+        requires made { IsMade self.old number }
+        requires some { OfSomeEvent self.old number (λ e. 0 < e.notifiers) }
+        ensures { EventsBecome self.old self.new (with_released number one_notifier_less) }
+    {
+        self.let_notifier_go(number);
+        self.settle(number);
+    }
+
+    // Whether the listener at a place is the party's.
+    fn is_listener(&self, place: usize, party: &Name) -> bool
+        ensures { result ≡ is_party (slice_get self.now.listeners.items place) party.now }
+    {
+        match self.listeners.get(place) {
+            Some(listener) => *party == *listener,
+            None => false,
+        }
+    }
+
+    // The event at a place has its listener gone where it is the party's.
+    fn pass(&mut self, place: usize, party: &Name)
+        requires { place < length self.old.rows.items }
+        ensures passed { (s : EventsThatStand) → IsPartGone place party.now self.old s
+            → IsPartGone (place + 1) party.now self.new s }
+        ensures count { length self.new.rows.items ≡ length self.old.rows.items }
+    {
+        if !self.is_listener(place, party) {
+            return;
+        }
+        let row = &mut self.rows[place];
+        row.abandon_listener();
+    }
+
+    /// The party was abandoned, with the listeners that it holds.
+    pub fn abandon(&mut self, party: &Name)
+        ensures { EventsBecome self.old self.new (with_abandoned party.now) }
+    {
+        for i in 0..self.rows.len() {
+            self.pass(i, party);
+        }
     }
 }

@@ -1,2 +1,3 @@
 pub mod PartyEvents
 pub mod Calls
+pub mod Left

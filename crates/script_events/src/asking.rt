@@ -2,6 +2,7 @@
 ghost use Rattle.std.specs.Prelude.{◌≡◌, ◌<◌, ◌^◌, IfOk, OnErr};
 ghost use Rattle.script_model.specs.ScriptEvents.{to_listen, to_notify};
 ghost use Rattle.script_events.specs.Calls.{AnswersAsk, HasFewNotifiers, Makes};
+ghost use Rattle.script_events.specs.Left.{HasNotifierMore, MayHaveListener};
 
 use crate::rows::{EventRow, Role};
 use board_event_core::{Events, ListenerCreateError, NotifierCreateError};
@@ -34,6 +35,8 @@ pub(crate) fn listen(
         party (to_listen name kind event.now max)) }
     ensures memory { OnErr result (Makes events.old things.old.items party
         (to_listen name kind event.now max)) }
+    ensures things { OnErr result (things.new.items ≡ things.old.items) }
+    ensures events { OnErr result (MayHaveListener events.old events.new kind event.now max) }
 {
     match events.listen(kind, &full_name(event), max) {
         Ok(number) => {
@@ -66,6 +69,8 @@ pub(crate) fn add_notifier(
         party (to_notify name kind event.now)) }
     ensures memory { OnErr result (Makes events.old things.old.items party
         (to_notify name kind event.now)) }
+    ensures things { OnErr result (things.new.items ≡ things.old.items) }
+    ensures events { OnErr result (HasNotifierMore events.old events.new) }
 {
     match events.notifier(kind, &full_name(event)) {
         Ok(number) => {

@@ -4,6 +4,7 @@ ghost use Rattle.board_event_core.specs.EventTable.{event_at};
 ghost use Rattle.script_model.specs.ScriptEvents.{holds_event, notify_call, runs_on_events, wait_call};
 ghost use Rattle.script_events.specs.Calls.{IsCheckedBy, IsNewAct};
 ghost use Rattle.script_events.specs.PartyEvents.{BeginMayWant, Begins, IsLed, OfEach, event_call};
+ghost use Rattle.script_events.specs.Left.{IsUnchanged};
 
 use crate::lookups::{listened, notified};
 use crate::party_events::PartyEvents;
@@ -18,7 +19,7 @@ impl PartyEvents {
     /// A call of a party that runs none begins, or is refused. `taken`: boards hold the name of what it makes for the party.
     ///
     /// # Errors
-    /// `AllocError` where memory is refused, and no rule refuses the call.
+    /// `AllocError` where memory is refused, and no rule refuses the call. Then nothing has changed.
     pub fn begin(
         &mut self,
         party: Name,
@@ -29,6 +30,7 @@ impl PartyEvents {
         requires free { OfEach self.old (λ x. runs_on_events x party ≡ false) }
         ensures told { IfOk result (Begins self.old self.new party request taken) }
         ensures memory { OnErr result (BeginMayWant self.old party request taken) }
+        ensures left { OnErr result (IsUnchanged self.old self.new) }
     {
         match self.check(&party, request, taken) {
             Ok(task) => {

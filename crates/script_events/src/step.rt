@@ -4,6 +4,7 @@ ghost use Rattle.board_event_model.specs.EventCalls.{owed};
 ghost use Rattle.board_event_core.specs.EventTable.{CanPerformAt};
 ghost use Rattle.script_model.specs.ScriptEvents.{runs_on_events};
 ghost use Rattle.script_events.specs.Calls.{GoesOn, IsWentOn};
+ghost use Rattle.script_events.specs.Left.{IsCutShort, IsGivenUp};
 ghost use Rattle.script_events.specs.PartyEvents.{IsLed, OfEach, StepMayWant, Steps, event_call, may_give};
 
 use crate::asking::{add_notifier, listen};
@@ -23,9 +24,13 @@ pub enum Stepped {
     Asked(EventReply),
     /// A call made an access to its event, and maybe ended.
     Acted {
+        /// The number of the event.
         event: u64,
+        /// The access.
         access: EventAccess,
+        /// The event's answer.
         answer: EventAnswer,
+        /// What the call was told, where it has ended.
         told: Option<EventReply>,
     },
 }
@@ -35,12 +40,13 @@ impl PartyEvents {
     ///
     /// # Errors
     /// `AllocError` where memory is refused: only where a listener or a notifier is made, or an access may give ids. The call
-    /// then runs no more, and what it has done is not undone.
+    /// then runs no more, and what it has done to the events is not undone. Parties hold what they held, and other calls run on.
     pub fn step(&mut self, party: &Name) -> Result<Stepped, AllocError>
         requires led { IsLed self.old }
         requires runs { OfEach self.old (λ x. runs_on_events x party.now ≡ true) }
         ensures told { IfOk result (Steps self.old self.new party.now) }
         ensures memory { OnErr result (StepMayWant self.old party.now) }
+        ensures left { OnErr result (IsCutShort self.old self.new party.now) }
     {
         let CallRow { party, task } = take_call(party, &mut self.calls);
         match task {
@@ -87,6 +93,7 @@ impl PartyEvents {
         requires room { vec_len self.old.calls < vec_capacity self.old.calls }
         ensures told { IfOk result (IsWentOn self.old self.new party act) }
         ensures memory { OnErr result (may_give (owed (event_call act.call)) ≡ true) }
+        ensures left { OnErr result (IsGivenUp self.old self.new act) }
     {
         let event = act.event;
         let step = act.call.step(&mut self.events, event);

@@ -10,30 +10,43 @@ pub type EventName = LongName;
 pub enum EventRequest {
     /// A listener of a new event whose ids are a set up to `max`.
     ListenBits {
+        /// The name of the listener.
         listener: Name,
+        /// The name of the event.
         event: EventName,
+        /// The greatest id.
         max: u64,
     },
     /// A listener of a new event whose ids are a queue.
     ListenQueue {
+        /// The name of the listener.
         listener: Name,
+        /// The name of the event.
         event: EventName,
     },
     /// A notifier of an event.
     Notifier {
+        /// The name of the notifier.
         notifier: Name,
+        /// The kind of the event.
         kind: EventKind,
+        /// The name of the event.
         event: EventName,
     },
     /// An id for the listener.
     Notify {
+        /// The name of the notifier.
         notifier: Name,
+        /// The id.
         id: u64,
     },
     /// A wait for one id, or for all.
     Wait {
+        /// The name of the listener.
         listener: Name,
+        /// Whether it is for all ids.
         many: bool,
+        /// Whether and how it blocks.
         mode: WaitMode,
     },
 }

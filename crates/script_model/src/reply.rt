@@ -5,6 +5,7 @@ use board_names::NotifierNotifyError;
 /// What a finished call on events is told.
 #[derive(Drop, Debug)]
 pub enum EventReply {
+    /// It is done.
     Done,
     /// A wait for one took this id.
     Id(u64),
@@ -16,5 +17,6 @@ pub enum EventReply {
     AlreadyExists,
     /// The name of a notifier isn't that of an event with a listener.
     DoesNotExist,
+    /// A notify was refused.
     NotNotified(NotifierNotifyError),
 }

@@ -1,3 +1,4 @@
+//! A cell between threads, without a lock.
 ghost use Rattle.std.specs.Prelude.{◌≡◌, ◌+◌, ◌*◌, ◌^◌, ◌<◌, length, IfOk};
 ghost use Rattle.board_cell.specs.Passes.{threaded_shape, new_writer, new_reader};
 ghost use Rattle.board_cell.specs.Rule.{new_cell_words};

@@ -1,3 +1,4 @@
+//! The writer meets readers, and what they did makes one history.
 ghost use Rattle.std.specs.Prelude.{◌≡◌, ◌≤◌, length};
 ghost use Rattle.std.specs.List.{All};
 ghost use Rattle.board_cell.specs.Passes.{AreOf, NotesRise, Stands};
@@ -11,11 +12,12 @@ use crate::threaded::writer::WriterPass;
 /// The last generation, once the writer has met all readers.
 #[derive(Drop, Clone, Copy, Debug, PartialEq, Eq)]
 pub struct Gathered {
+    /// That of the last publication.
     pub generation: u64,
 }
 
 impl ThreadedCell {
-    /// The writer meets a reader: each value that the reader noted is the one that was published at its generation.
+    /// The writer meets a reader: each value that the reader noted is the one that was published at its generation. Both passes are of this cell.
     pub fn meet(&self, writer: &mut WriterPass, reader: &mut ReaderPass)
         requires cell { (writer.old.cell ≡ self.now.cell) × (reader.old.cell ≡ self.now.cell) }
         ensures kept { (writer.new ≡ writer.old) × (reader.new ≡ reader.old) }
@@ -29,7 +31,7 @@ impl ThreadedCell {
         table.shared.load::<Look>(&mut writer.seat, 0);
     }
 
-    /// The writer meets each reader: the publications and the readers' notes make one legal history.
+    /// The writer meets each reader: the publications and the readers' notes make one legal history. All passes are of this cell.
     pub fn gather(&self, writer: &mut WriterPass, readers: &mut Vec<ReaderPass>) -> Gathered
         requires cell { (writer.old.cell ≡ self.now.cell) × AreOf self.now.cell readers.old.items }
         ensures kept { (writer.new ≡ writer.old) × (readers.new.items ≡ readers.old.items) }

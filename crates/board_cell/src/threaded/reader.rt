@@ -1,3 +1,4 @@
+//! The pass of a reader, and its gets.
 ghost use Rattle.std.specs.Prelude.{◌≡◌, ◌<◌, [], max, length, IfOk, IfErr};
 ghost use Rattle.board_cell_model.specs.OwedAccesses.{finished};
 ghost use Rattle.board_cell.specs.Calls.{words_of};
@@ -37,7 +38,9 @@ impl Model for ReaderPass {
 /// No try was accepted: the two counters of the last one.
 #[derive(Drop, Clone, Copy, Debug, PartialEq, Eq)]
 pub struct GetAgain {
+    /// The counter with which the last try began.
     pub before: u64,
+    /// The counter that it found at its end.
     pub after: u64,
 }
 
@@ -250,7 +253,7 @@ impl ThreadedCell {
         call.answer()
     }
 
-    /// A pass for another reader, which knows the same generation to be reached.
+    /// A pass for another reader, which knows the same generation to be reached. The pass is of this cell.
     pub fn split(&self, pass: &mut ReaderPass) -> ReaderPass
         requires { pass.old.cell ≡ self.now.cell }
         ensures kept { pass.new ≡ pass.old }
@@ -262,7 +265,7 @@ impl ThreadedCell {
         }
     }
 
-    /// Lets the pass know what the other one knows to be reached, and gives the other up.
+    /// Lets the pass know what the other one knows to be reached, and gives the other up. Both are of this cell.
     pub fn join(&self, pass: &mut ReaderPass, other: ReaderPass)
         requires cell { (pass.old.cell ≡ self.now.cell) × (other.cell ≡ self.now.cell) }
         ensures { pass.new ≡ reaching pass.old other.reached }

@@ -1,3 +1,4 @@
+//! Receipts of publications, by which readers learn of them.
 ghost use Rattle.std.specs.Prelude.{◌≡◌};
 ghost use Rattle.board_cell.specs.Passes.{new_reader, reaching};
 
@@ -49,7 +50,7 @@ impl Receipt {
 }
 
 impl ThreadedCell {
-    /// Tells a reader of the publication: its next gets give that value or a later one.
+    /// Tells a reader of the publication: its next gets give that value or a later one. Pass and receipt are of this cell.
     pub fn learn(&self, pass: &mut ReaderPass, receipt: Receipt)
         requires cell { (pass.old.cell ≡ self.now.cell) × (receipt.cell ≡ self.now.cell) }
         ensures { pass.new ≡ reaching pass.old receipt.generation }

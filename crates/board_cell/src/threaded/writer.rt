@@ -1,3 +1,4 @@
+//! The pass of the writer, and its updates.
 ghost use Rattle.std.specs.Prelude.{◌≡◌, ◌+◌, ◌^◌, ◌<◌, length};
 ghost use Rattle.board_cell.specs.Passes.{publishing, receipt_of};
 
@@ -40,7 +41,7 @@ impl WriterPass {
 }
 
 impl ThreadedCell {
-    /// Publishes these words: each is stored in the spare copy, and then the counter is raised.
+    /// Publishes these words: each is stored in the spare copy, and then the counter is raised. The pass is of this cell and has published fewer than 2^64 - 1 values, and there are as many words as a value has.
     #[inline]
     pub fn update(&self, pass: &mut WriterPass, words: &Vec<u64>)
         requires cell { pass.old.cell ≡ self.now.cell }
@@ -53,7 +54,7 @@ impl ThreadedCell {
         pass.generation += 1;
     }
 
-    /// Names the last publication, for a reader that is to know of it.
+    /// Names the last publication, for a reader that is to know of it. The pass is of this cell.
     pub fn receipt(&self, pass: &mut WriterPass) -> Receipt
         requires { pass.old.cell ≡ self.now.cell }
         ensures kept { pass.new ≡ pass.old }

@@ -96,8 +96,8 @@ fn is_free<R: Wait + Abort, K: KindOfEvents + Drop>(
     }
 }
 
-/// The listener goes, the notifier notifies, and goes. Tells what it was answered, and whether the name was free before
-/// and after it went.
+/// The listener goes, the notifier notifies of an id above a set's greatest, and goes. Tells what it was answered, and
+/// whether the name was free before and after it went.
 fn goes<R: Wait + Abort, K: KindOfEvents + Drop>(
     rt: &R,
     ends: Ends<K>,
@@ -110,7 +110,7 @@ fn goes<R: Wait + Abort, K: KindOfEvents + Drop>(
     } = ends;
     listener.release(rt);
     let before = is_free(rt, alloc, &registry);
-    let answer = notifier.notify(rt, TriggerId::new(3));
+    let answer = notifier.notify(rt, TriggerId::new(200));
     notifier.release(rt);
     (answer, before, is_free(rt, alloc, &registry))
 }

@@ -116,26 +116,30 @@ fn a_hundred_ids_of_queues_come_back(rt: HostRuntime) {
     assert_eq!(rt; back_between(&rt, there, back, 100), 100);
 }
 
-/// How many ids came in their order, until as many came as were sent.
+/// How many ids came in their order, until as many came as were sent. It stops where a wait comes back without an id.
 fn in_order<R: Wait, L: Listener>(rt: &R, listener: &L, last: usize) -> usize {
     let (mut came, mut right) = (0usize, 0usize);
     for _ in rt.forever() {
         if came >= last {
             break;
         }
+        let before = came;
         let _ = listener.blocking_wait_all(rt, |id| {
             came = came.saturating_add(1);
             if id.as_value() == came {
                 right = right.saturating_add(1);
             }
         });
+        if came == before {
+            break;
+        }
     }
     right
 }
 
-fn right_between<R: Threads + Wait + Abort + Sync>(
+fn right_between<R: Threads + Wait + Abort + Sync, K: KindOfEvents + Drop + Send + Sync + 'static>(
     rt: &R,
-    ends: &Ends<QueueOfIds>,
+    ends: &Ends<K>,
     last: usize,
 ) -> usize {
     let notifier = &ends.notifier;
@@ -154,6 +158,14 @@ fn a_thousand_ids_come_once_each(rt: HostRuntime) {
     assert_eq!(rt; ends.listener.try_wait_one(&rt), Ok(None));
 }
 
+#[test]
+fn sixty_ids_of_a_set_come_once_each(rt: HostRuntime) {
+    // Of one word, so that a wait for all takes them in the order in which they were set.
+    let ends: Ends<SetOfIds> = make_ends(&rt, rt.alloc(), 63);
+    assert_eq!(rt; right_between(&rt, &ends, 60), 60);
+    assert_eq!(rt; ends.listener.try_wait_one(&rt), Ok(None));
+}
+
 /// Notifies until the listener is gone, and tells the last answer.
 fn until_gone<R: Wait, N: Notifier>(rt: &R, notifier: &N) -> Result<(), NotifierNotifyError> {
     let mut answer = Ok(());
@@ -168,7 +180,7 @@ fn until_gone<R: Wait, N: Notifier>(rt: &R, notifier: &N) -> Result<(), Notifier
 }
 
 /// Takes an id, and goes.
-fn leaves<R: Wait, L: Listener>(rt: &R, listener: L) -> Option<TriggerId> {
+pub(super) fn leaves<R: Wait, L: Listener>(rt: &R, listener: L) -> Option<TriggerId> {
     let id = listener.blocking_wait_one(rt);
     listener.release(rt);
     id.ok().flatten()

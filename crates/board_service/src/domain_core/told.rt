@@ -13,7 +13,8 @@ use crate::counts::node_at;
 use crate::descriptions::path_of;
 use crate::held::{thing_at, thing_of};
 use crate::ids::{NodeId, ThingId};
-use crate::lookups::{board_at, has_details, is_kind};
+use crate::lookups::{board_at, entry_of, has_details, is_kind};
+use crate::made::Found;
 use crate::told::{DynamicConfig, StaticConfig};
 use board_concepts::AttributeSet;
 use board_layout::{BoardKey, KeyMemory, TypeDetail, TypeVariant};
@@ -47,6 +48,22 @@ impl<C: Cells> DomainCore<C> {
         match thing_at(thing, &self.things) {
             Some(t) => is_kind(kind, &t.kind) && has_details(t.board, &key, &self.boards),
             None => false,
+        }
+    }
+
+    /// What was found for a handle, which stands: its entry, with the place and the cell that the entry's board has for it.
+    pub fn found_of(&self, handle: ThingId) -> Option<Found>
+        requires { domain.Stands self.now handle }
+        ensures { result ≡ told.found_of self.now handle }
+    {
+        let t = thing_of(handle, &self.things);
+        let entry = entry_of(&t.kind);
+        match board_at(t.board, &self.boards) {
+            Some(b) => match b.entries().get(entry as usize) {
+                Some(e) => Some(Found::at(handle, entry, &e.cell)),
+                None => None,
+            },
+            None => None,
         }
     }
 

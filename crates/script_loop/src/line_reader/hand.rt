@@ -1,3 +1,4 @@
+//! The bytes that are in hand between two lines.
 ghost use Rattle.std.specs.Prelude.{◌≡◌, ◌<◌, ◌≤◌, ◌+◌, [], IfErr, IfNone, IfOk, IfSome, IsOk, IsTrue, OnErr, OnOk, drop, false, length, slice_index, take};
 ghost use Rattle.std.specs.Io.KnownBytes.{Consumes, Keeps, IsAtEnd};
 ghost use Rattle.board_model.specs.Lines.{HasCause, IsOneLine};

@@ -1,3 +1,4 @@
+//! The next line of a source.
 ghost use Rattle.std.specs.Prelude.{◌≡◌, IfOk, IsOk, IsTrue, OnErr, OnOk, false};
 ghost use Rattle.std.specs.Io.KnownBytes.{IsAtEnd, Keeps};
 ghost use Rattle.board_model.specs.Lines.{HasCause, IsOneLine};

@@ -1,3 +1,4 @@
+//! What sources and sinks in memory give and take, and which of their calls fail.
 ghost use Rattle.std.specs.Prelude.{◌≡◌, ◌≤◌, ◌<◌, ◌-◌, ◌↔◌, ℕ, IfOk, IsErr, IsOk, IsOkAnd, IsTrue, OnOk, length};
 ghost use Rattle.std.specs.Io.{ReadsAtMost};
 ghost use Rattle.std.specs.Io.KnownBytes.{ReadConsumes, WriteAppends};

@@ -1,3 +1,4 @@
+//! How sources and sinks in memory are made.
 ghost use Rattle.std.specs.Prelude.{◌≡◌, IfOk, Some, []};
 ghost use Rattle.script_loop.specs.Memory.{fresh_calls, sink_calls, sink_holds, sink_room, source_calls, source_left};
 

@@ -1,3 +1,4 @@
+//! How lines and answers are read in turn.
 ghost use Rattle.std.specs.Prelude.{◌≡◌, ◌≢◌, ◌≤◌, ◌<◌, ◌↔◌, [], Err, IfErr, IfOk, IsErrOf, IsOk, IsTrue, OnOk, drop, false, length, true};
 ghost use Rattle.std.specs.Io.KnownBytes.{IsAtEnd, Keeps};
 ghost use Rattle.board_model.specs.Lines.{HasCause, Rose};

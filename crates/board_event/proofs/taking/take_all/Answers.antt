@@ -1,6 +1,8 @@
 use Rattle.std.specs.Prelude.{◌≢◌}
-use Rattle.std.proofs.Common.{rules, of_calls}
+use Rattle.std.proofs.Common.{rules, of_calls, subst, sym}
 use Rattle.board_event_model.specs.declared.call.WaitStage.TheVariants as wait
+use Rattle.board_event_core.specs.EventTable.{EventTable}
+use Rattle.board_event.specs.LentForms.{KeepsRestAt}
 use Rattle.board_event.proofs.AllLemmas.{all_begins, all_called, all_ends, all_goes_on, all_kept_from}
 use Rattle.board_event.proofs.TryLemmas.{made_in_range, not_taken, wait_fewer}
 use Rattle.board_event.proofs.taking.take_all.Goals as goal
@@ -39,3 +41,11 @@ returns-clause-calls g c = all_called (λ p x q. goal.F-step g p x tt q) c.args.
 
 pub returns-clause-after : goal.returns-clause-after
 returns-clause-after g c = all_ends (λ p x q. goal.F-step g p x tt q) c.args.callback.now c.loop-call.callback c.args.kind c.args.max c.args.event c.args.events.now c.loop-call.events c.loop-call.call c.loop-call.invariant.1 (search rules)
+
+pub returns-in_default-clause-rest : goal.returns-in_default-clause-rest
+returns-in_default-clause-rest g c =
+    let refused = not_taken c.loop-call.events c.wait_access.new.events c.args.event c.loop-call.call c.wait_access.new.call c.wait_access.result c.wait_access.ensures c.in_default.not-Some in
+    subst (λ (t : EventTable). KeepsRestAt c.args.event c.args.events.now t) (sym refused.1) c.loop-call.invariant.1.rest
+
+pub returns-clause-rest : goal.returns-clause-rest
+returns-clause-rest g c = c.loop-call.invariant.1.rest

@@ -1,9 +1,12 @@
 use Rattle.std.specs.Prelude.{◌≢◌}
-use Rattle.std.proofs.Common.{rules, subst}
+use Rattle.std.proofs.Common.{rules, subst, sym}
 use Rattle.board_event_model.specs.declared.call.EventProgress.{EventProgress}
 use Rattle.board_event_model.specs.declared.call.WaitStage.TheVariants as wait
+use Rattle.board_event_core.specs.EventTable.{EventTable}
 use Rattle.board_event.specs.Accesses.{WaitMade}
+use Rattle.board_event.specs.LentForms.{KeepsRestAt}
 use Rattle.board_event.proofs.OneLemmas.{one_begins, one_ends, one_gives, one_goes_on, one_kept_from}
+use Rattle.board_event.proofs.RestLemmas.{rest_next}
 use Rattle.board_event.proofs.TryLemmas.{not_taken, wait_fewer}
 use Rattle.board_event.proofs.taking.take_one.Goals as goal
 
@@ -35,3 +38,14 @@ returns-in-Id-clause-one c =
 
 pub returns-clause-one : goal.returns-clause-one
 returns-clause-one c = one_ends c.args.kind c.args.max c.args.event c.args.events.now c.loop-call.events c.loop-call.call c.loop-call.invariant (search rules)
+
+pub returns-in_default-clause-rest : goal.returns-in_default-clause-rest
+returns-in_default-clause-rest c =
+    let refused = not_taken c.loop-call.events c.wait_access.new.events c.args.event c.loop-call.call c.wait_access.new.call c.wait_access.result c.wait_access.ensures c.in_default.not-Some in
+    subst (λ (t : EventTable). KeepsRestAt c.args.event c.args.events.now t) (sym refused.1) c.loop-call.invariant.rest
+
+pub returns-in-Id-clause-rest : goal.returns-in-Id-clause-rest
+returns-in-Id-clause-rest c = rest_next c.args.event c.args.events.now c.loop-call.events c.wait_access.new.events c.loop-call.call.stage c.loop-call.invariant.rest c.in-Some.ensures.1.memory
+
+pub returns-clause-rest : goal.returns-clause-rest
+returns-clause-rest c = c.loop-call.invariant.rest

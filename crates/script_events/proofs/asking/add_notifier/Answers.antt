@@ -2,6 +2,7 @@ use Rattle.std.proofs.Common.{rules}
 use Rattle.std.specs.Prelude.{Ok}
 use Rattle.board_names.specs.Table.{at}
 use Rattle.board_event_core.specs.EventTable.{IsNotifierAnswer, names_of}
+use Rattle.script_events.specs.Left.{HasNotifierMore}
 use Rattle.script_events.proofs.Asks.{notifier_done, notifier_makes}
 use Rattle.script_events.proofs.Steps.{anyway}
 use Rattle.script_events.proofs.asking.add_notifier.Goals as goal
@@ -17,3 +18,8 @@ returns-in_err-push-in-Ok-clause-memory c =
     let t = c.args.events.now in
     let answer : IsNotifierAnswer t (Ok c.in-Ok.number) (at (names_of c.args.kind t) c.args.event.now) = rw c.full_name.ensures at c.in-Ok.ensures.answer in
     anyway _ _ (notifier_makes t c.args.things.now.items c.args.party c.args.name c.args.kind c.args.event.now c.in-Ok.number answer)
+
+pub returns-in_err-push-in-Ok-clause-events : goal.returns-in_err-push-in-Ok-clause-events
+returns-in_err-push-in-Ok-clause-events c =
+    let more : HasNotifierMore c.args.events.now c.notifier.new.self = (c.in-Ok.number, c.in-Ok.ensures.ok) in
+    anyway _ _ more

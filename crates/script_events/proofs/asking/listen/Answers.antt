@@ -1,4 +1,4 @@
-use Rattle.std.proofs.Common.{◌≡◌, refl, rules}
+use Rattle.std.proofs.Common.{◌≡◌, inl, inr, refl, rules}
 use Rattle.std.specs.Prelude.{Ok}
 use Rattle.board_layout.specs.Answer.{Refuses}
 use Rattle.board_names.specs.Table.{at}
@@ -27,3 +27,11 @@ returns-in-Err-OutOfMemory-clause-memory c =
     let told = rw c.in-Err-OutOfMemory.field-0-is at c.in-Err-OutOfMemory.ensures.refused in
     let wanted : Refuses (no_listener listener_error.OutOfMemory) (listen_answer t (at (names_of c.args.kind t) c.args.event.now)) = rw c.full_name.ensures at told in
     listen_makes t c.args.things.now.items c.args.party c.args.name c.args.kind c.args.event.now c.args.max (listen_wanted t (at (names_of c.args.kind t) c.args.event.now) wanted)
+
+pub returns-in_err-push-in-Ok-clause-events : goal.returns-in_err-push-in-Ok-clause-events
+returns-in_err-push-in-Ok-clause-events c =
+    let made : c.listen.new.self ≡ table_listened c.args.events.now c.args.kind c.args.event.now c.args.max = rw c.full_name.ensures at c.in-Ok.ensures.ok in
+    anyway _ _ (inr made)
+
+pub returns-in-Err-OutOfMemory-clause-events : goal.returns-in-Err-OutOfMemory-clause-events
+returns-in-Err-OutOfMemory-clause-events c = inl c.in-Err-OutOfMemory.ensures.err

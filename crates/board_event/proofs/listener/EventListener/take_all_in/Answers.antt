@@ -1,4 +1,4 @@
-use Rattle.board_event.specs.LentForms.{CallsOnAll, OnEventAt}
+use Rattle.board_event.specs.LentForms.{CallsOnAll, KeepsRestAt, OnEventAt}
 use Rattle.board_event.proofs.OneLemmas.{moved}
 use Rattle.board_event.proofs.listener.EventListener.take_all_in.Goals as goal
 
@@ -6,3 +6,8 @@ pub returns-clause-calls : goal.returns-clause-calls
 returns-clause-calls g c =
     moved (λ k end t. OnEventAt k end.max end.event t (CallsOnAll (goal.F-step g) c.args.callback.now c.take_all.new.callback k)) c.kind.result g.K.KindOfEvents.which _ c.args.self.now c.state.inside.events c.args.state.now c.kind.ensures c.self.view_is c.state.view_is
     c.take_all.ensures.calls
+
+pub returns-clause-rest : goal.returns-clause-rest
+returns-clause-rest g c =
+    moved (λ k end t. KeepsRestAt end.event t c.take_all.new.events) c.kind.result g.K.KindOfEvents.which _ c.args.self.now c.state.inside.events c.args.state.now c.kind.ensures c.self.view_is c.state.view_is
+    c.take_all.ensures.rest

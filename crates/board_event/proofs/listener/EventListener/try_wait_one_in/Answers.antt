@@ -1,6 +1,6 @@
 use Rattle.std.specs.Prelude.{ℕ, Ok, Some, Option}
 use Rattle.std.proofs.Common.{subst, sym}
-use Rattle.board_event.specs.LentForms.{GivesNone, OnEventAt}
+use Rattle.board_event.specs.LentForms.{GivesNone, KeepsRestAt, OnEventAt}
 use Rattle.board_event.proofs.OneLemmas.{gives_none, moved, none_of}
 use Rattle.board_event.proofs.listener.EventListener.try_wait_one_in.Goals as goal
 
@@ -15,3 +15,13 @@ returns-clause-none g c =
     subst (λ (id : ℕ). OnEventAt g.K.KindOfEvents.which c.args.self.now.max c.args.self.now.event c.args.state.now (GivesNone (Ok (Some id)))) (sym c.new.ensures)
     (moved (λ k end t. OnEventAt k end.max end.event t (GivesNone (Ok (Some c.in-Some.id)))) c.kind.result g.K.KindOfEvents.which _ c.args.self.now c.state.inside.events c.args.state.now c.kind.ensures c.self.view_is c.state.view_is
     (λ e here. gives_none c.kind.result e c.state.inside.events c.take_one.new.events c.self.inside.event (Some c.in-Some.id) here.of_kind (c.in-Some.ensures.one e here)))
+
+pub returns-in_default-clause-rest : goal.returns-in_default-clause-rest
+returns-in_default-clause-rest g c =
+    moved (λ k end t. KeepsRestAt end.event t c.take_one.new.events) c.kind.result g.K.KindOfEvents.which _ c.args.self.now c.state.inside.events c.args.state.now c.kind.ensures c.self.view_is c.state.view_is
+    c.take_one.ensures.rest
+
+pub returns-clause-rest : goal.returns-clause-rest
+returns-clause-rest g c =
+    moved (λ k end t. KeepsRestAt end.event t c.take_one.new.events) c.kind.result g.K.KindOfEvents.which _ c.args.self.now c.state.inside.events c.args.state.now c.kind.ensures c.self.view_is c.state.view_is
+    c.take_one.ensures.rest

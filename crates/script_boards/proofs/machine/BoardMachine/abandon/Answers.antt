@@ -46,3 +46,9 @@ pub returns-in_err-push-clause-memory : goal.returns-in_err-push-clause-memory
 returns-in_err-push-clause-memory g c =
     let none : None ≡ position_from (is_row_of c.args.party) 0 c.args.self.now.parties.items = search rules in
     anyway c.from_residual.result _ (λ s rep reached. rw (is_free c.args.self.now.parties.items s.parties rep.parties c.args.party none) refl)
+
+pub returns-in_err-push-clause-held : goal.returns-in_err-push-clause-held
+returns-in_err-push-clause-held g c = anyway c.from_residual.result _ (record { domain = refl; values = refl; loans = refl })
+
+pub returns-in_err-push-clause-parties : goal.returns-in_err-push-clause-parties
+returns-in_err-push-clause-parties g c = anyway c.from_residual.result _ c.in_err-push.ensures.items

@@ -23,3 +23,7 @@ returns-in_err-push-in-Ok-clause-memory c =
     anyway c.from_residual.result _ (λ x count few sound rep boards same.
     let checked = (rw c.in-Ok.is at c.check.ensures) x count few sound rep boards same in
     rw checked.1 refl)
+
+pub returns-in_err-push-in-Ok-clause-left : goal.returns-in_err-push-in-Ok-clause-left
+returns-in_err-push-in-Ok-clause-left c =
+    anyway c.from_residual.result _ (record { events = refl; things = refl; calls = c.in_err-push-in-Ok.ensures.items })

@@ -1,6 +1,9 @@
 use Rattle.std.proofs.Common.{◌≡◌, ◌∙◌, Bool, Some, ap, refl, rules, subst, sym, true}
+use Rattle.board_event_core.specs.EventTable.{changed}
+use Rattle.board_event_model.specs.declared.access.EventAccess.{EventAccess}
 use Rattle.board_event_model.specs.declared.call.EventProgress.{EventProgress}
 use Rattle.board_event_model.specs.EventCalls.{is_last}
+use Rattle.board_event_model.specs.EventMemory.{after}
 use Rattle.script_model.specs.declared.reply.EventReply.{EventReply}
 use Rattle.script_model.specs.ScriptEvents.{end_told, is_for_all}
 use Rattle.script_events.specs.declared.step.Stepped.TheVariants as stepped
@@ -32,3 +35,12 @@ pub returns-in_err-tell-clause-memory : goal.returns-in_err-tell-clause-memory
 returns-in_err-tell-clause-memory c =
     anyway c.from_residual.result _ (reporting (event_call c.args.act.call) c.step-step.result.answer
     (subst (λ (p : EventProgress). reports p ≡ true) c.step-step.ensures.progress c.in_err-tell.ensures.memory))
+
+pub returns-in_err-tell-clause-left : goal.returns-in_err-tell-clause-left
+returns-in_err-tell-clause-left c =
+    let step = c.step-step.ensures in
+    anyway c.from_residual.result _ (record {
+      calls = refl;
+      things = refl;
+      events = step.memory ∙ ap (λ (a : EventAccess). changed c.args.self.now.events c.args.act.event (λ e. after e a)) step.owes;
+    })

@@ -1,4 +1,4 @@
-use Rattle.std.proofs.Common.{◌≡◌, refl, rules, sym, subst, true}
+use Rattle.std.proofs.Common.{◌≡◌, ◌∙◌, refl, rules, sym, subst, true}
 use Rattle.board_event_model.specs.EventCalls.{owed}
 use Rattle.std.specs.List.{filter}
 use Rattle.script_model.specs.ScriptEvents.{to_listen, to_notify}
@@ -6,6 +6,7 @@ use Rattle.script_events.specs.declared.party_events.PartyEvents.{PartyEvents}
 use Rattle.script_events.specs.declared.rows.CallTask.{CallTask}
 use Rattle.script_events.specs.declared.rows.CallTask.TheVariants as task
 use Rattle.script_events.specs.Calls.{IsWentOn}
+use Rattle.script_events.specs.Left.{IsCutAt, IsCutShort, IsGivenUp}
 use Rattle.script_events.specs.PartyEvents.{IsAskedBy, IsStepped, OfEach, StepMayWant, event_call, is_row_of, may_give}
 use Rattle.script_events.proofs.Asks.{few_notifiers}
 use Rattle.script_events.proofs.Steps.{act_can, act_goes_on, act_stepped, act_takes, anyway, ask_stepped, ask_takes, if_ok, on_err, one_row, own_row}
@@ -103,3 +104,45 @@ returns-in-Act-clause-memory c =
     on_err c.go_on.result (may_give (owed (event_call c.in-Act.act.call)) ≡ true) (StepMayWant m party)
     (λ h x count few sound rep. act_takes m x count few sound rep party row c.take_call-party.ensures.one c.in-Act.act is h)
     c.go_on.ensures.memory
+
+pub returns-in_err-reply-in-Listen-clause-left : goal.returns-in_err-reply-in-Listen-clause-left
+returns-in_err-reply-in-Listen-clause-left c =
+    let row = c.take_call-party.result in
+    let t = c.args.self.now.events in
+    let is : row.task ≡ task.Listen c.in-Listen.listener c.in-Listen.kind c.in-Listen.event c.in-Listen.max = search rules in
+    anyway _ (IsCutShort c.args.self.now _ c.args.party.now) (record {
+      row = row;
+      only = c.take_call-party.ensures.one;
+      calls = c.take_call-party.ensures.left;
+      things = c.in_err-reply-in-Listen.ensures.things;
+      events = subst (λ (k : CallTask). IsCutAt t c.listen.new.events k) (sym is) c.in_err-reply-in-Listen.ensures.events;
+    })
+
+pub returns-in_err-reply-in-Notifier-clause-left : goal.returns-in_err-reply-in-Notifier-clause-left
+returns-in_err-reply-in-Notifier-clause-left c =
+    let row = c.take_call-party.result in
+    let t = c.args.self.now.events in
+    let is : row.task ≡ task.Notifier c.in-Notifier.notifier c.in-Notifier.kind c.in-Notifier.event = search rules in
+    anyway _ (IsCutShort c.args.self.now _ c.args.party.now) (record {
+      row = row;
+      only = c.take_call-party.ensures.one;
+      calls = c.take_call-party.ensures.left;
+      things = c.in_err-reply-in-Notifier.ensures.things;
+      events = subst (λ (k : CallTask). IsCutAt t c.add_notifier.new.events k) (sym is) c.in_err-reply-in-Notifier.ensures.events;
+    })
+
+pub returns-in-Act-clause-left : goal.returns-in-Act-clause-left
+returns-in-Act-clause-left c =
+    let m = c.args.self.now in
+    let row = c.take_call-party.result in
+    let is : row.task ≡ task.Act c.in-Act.act = search rules in
+    let mid : PartyEvents = record m { calls = c.take_call-party.new.calls } in
+    on_err c.go_on.result (IsGivenUp mid c.go_on.new.self c.in-Act.act) (IsCutShort m c.go_on.new.self c.args.party.now)
+    (λ given. record {
+      row = row;
+      only = c.take_call-party.ensures.one;
+      calls = given.calls ∙ c.take_call-party.ensures.left;
+      things = given.things;
+      events = subst (λ (k : CallTask). IsCutAt m.events c.go_on.new.self.events k) (sym is) given.events;
+    })
+    c.go_on.ensures.left

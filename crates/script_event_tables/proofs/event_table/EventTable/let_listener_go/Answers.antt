@@ -1,0 +1,14 @@
+use Rattle.std.proofs.Common.{◌∙◌, ◌-◌}
+use Rattle.std.proofs.lemmas.List.{length-set}
+use Rattle.script_event_tables.specs.EventTables.{without_listener}
+use Rattle.script_event_tables.proofs.TableLemmas.{changed_owners, changed_rows}
+use Rattle.script_event_tables.proofs.event_table.EventTable.let_listener_go.Goals as goal
+
+pub returns-clause-events : goal.returns-clause-events
+returns-clause-events c = λ s are. record {
+  count = length-set c.args.self.now.rows.items (c.args.number - 1) c.release_listener.new.self ∙ are.count;
+  rows = changed_rows c.args.self.now.rows.items s.stands c.args.number c.index_mut-row.result.now c.release_listener.new.self are.rows c.requires.first c.requires.last c.index_mut-row.ensures.value without_listener c.release_listener.ensures;
+  names = are.names;
+  each = are.each;
+  owners = changed_owners c.args.self.now.listeners.items s.stands c.args.number without_listener are.owners;
+}

@@ -1,0 +1,6 @@
+use Rattle.std.proofs.Common.{◌≡◌, ◌++◌, drop, map}
+use Rattle.script_things.specs.Listings.{key_shown}
+use Rattle.script_things.proofs.listings.keys_of.Given as goal
+
+abbrev pub invariant-loop-entry : goal.invariant-loop-entry
+invariant-loop-entry l = l.keys.items ++ map (key_shown l.key_type) (drop l.entry-index l.entries) ≡ map (key_shown l.key_type) l.entries
