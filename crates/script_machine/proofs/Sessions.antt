@@ -1,6 +1,5 @@
 -- A machine that stands for a lawful session, and one line more.
 use Rattle.std.proofs.Common.{ℕ, ◌+◌, ◌<◌, ◌≤◌, ◌^◌, List, length, arith, subst, inl, inr}
-use Rattle.board_model.specs.LawfulSession as boards
 use Rattle.script_boards.specs.Machine as boards_machine
 use Rattle.script_boards.specs.Machine.{drawn_by}
 use Rattle.script_boards.proofs.Listings.{reached_by}

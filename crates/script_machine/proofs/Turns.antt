@@ -27,7 +27,7 @@ use Rattle.script_model.specs.declared.line.ScriptLine.TheVariants as line
 use Rattle.script_model.specs.ScriptAnswers.{IsScriptAnswer, ScriptAnswer, expired, of_boards, script_answer_line}
 use Rattle.script_model.specs.ScriptEvents.{EventAsk, EventTask, ScriptEvents, events_abandoned, holds_event, name_made, runs_on_events, task_of}
 use Rattle.script_model.specs.ScriptGrammar.{IsScriptLine}
-use Rattle.script_model.specs.ScriptSession.{after, after_boards, after_turn}
+use Rattle.script_model.specs.ScriptSession.{after_boards, after_turn}
 use Rattle.script_model.specs.ScriptTurns.{EventTurn, IsTurnAnswer, ScriptState, begin_turn, begins, board_turn, drop_turn, drops, expire_of_call, expires, free_turn, is_name_taken, may_expire, refused, steps, takes_event_name, task_turn, turn_of, turned}
 use Rattle.script_model.proofs.RuleLemmas.{right_on_boards, right_on_events}
 use Rattle.script_machine.specs.declared.machine.Machine.{Machine}

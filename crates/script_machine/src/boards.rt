@@ -21,7 +21,9 @@ use board_cell_model::Access;
 use board_model::{Answer, Call, Name, Reason, Reply, Value};
 use board_service::BoardWords;
 use script_events::Stepped;
-use script_print::{push_answer, push_begun, push_event_asked, push_event_step, push_refused, push_words};
+use script_print::{
+    push_answer, push_begun, push_event_asked, push_event_step, push_refused, push_words,
+};
 use std::alloc::AllocError;
 
 // Tells the words of a board.
