@@ -1,1 +1,1 @@
-pub mod TopLemmas
+pub mod WrittenLemmas

@@ -3,3 +3,4 @@ pub mod ReportedLemmas
 pub mod StandingLemmas
 pub mod WatchLaws
 pub mod WatchingLemmas
+pub mod WorkedWatch

@@ -1,3 +1,4 @@
 pub mod LawsOfWatches
 pub mod WatchExchanges
 pub mod Watchings
+pub mod WorkedWatches

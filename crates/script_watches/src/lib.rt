@@ -7,3 +7,4 @@
 #![tactic(auto)]
 
 pub mod watch_laws;
+pub mod worked_watches;
