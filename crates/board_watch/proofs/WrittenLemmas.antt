@@ -38,19 +38,19 @@ use Rattle.board_watch.specs.LawsOfWatchRuns.{FedSessionsAreWritten}
 called_free : (hs : List (List ℕ)) (xs : List AskedId) (ids : List ℕ) → AreFree hs → AreFree (called hs xs ids)
 called_free [] xs ids f = tt
 called_free (h ∷ hs) [] ids f = tt
-called_free (h ∷ hs) (x ∷ xs) ids f = at (list_any (λ n. n == x.id) ids)
+called_free (h ∷ hs) (x ∷ xs) ids f = at (list_any (λ n. n == x.id) ids) (called_free hs xs ids f.1)
   where
-    at : (b : Bool) → AreFree (if b then h ∷ called hs xs ids else called hs xs ids)
-    at true = (f.0, called_free hs xs ids f.1)
-    at false = called_free hs xs ids f.1
+    at : (b : Bool) → AreFree (called hs xs ids) → AreFree (if b then h ∷ called hs xs ids else called hs xs ids)
+    at true rest = (f.0, rest)
+    at false rest = rest
 
 filter_free : (p : List ℕ → Bool) (ts : List (List ℕ)) → AreFree ts → AreFree (filter p ts)
 filter_free p [] f = tt
-filter_free p (t ∷ ts) f = at (p t)
+filter_free p (t ∷ ts) f = at (p t) (filter_free p ts f.1)
   where
-    at : (b : Bool) → AreFree (cond b (t ∷ filter p ts) (filter p ts))
-    at true = (f.0, filter_free p ts f.1)
-    at false = filter_free p ts f.1
+    at : (b : Bool) → AreFree (filter p ts) → AreFree (cond b (t ∷ filter p ts) (filter p ts))
+    at true rest = (f.0, rest)
+    at false rest = rest
 
 once_free : (hs : List (List ℕ)) → AreFree hs → AreFree (each_once hs)
 once_free [] f = tt
