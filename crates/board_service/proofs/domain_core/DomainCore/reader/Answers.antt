@@ -15,14 +15,14 @@ use Rattle.board_service.proofs.domain_core.DomainCore.reader.Goals as goal
 
 pub add_port-requires-clause-stands : goal.add_port-requires-clause-stands
 add_port-requires-clause-stands g c =
-    let known = subst (λ (d : Domain g.row.C.Denot). IsDomain d) c.self.view_is (core_domain c.self.invariant) in
+    let known = subst (λ (d : Domain g.row.C.Denot). IsDomain d) c.self.view_is (core_domain c.self.invariant.core) in
     let same : c.thing_of-of.result ≡ held c.args.self.now c.args.factory =
     c.thing_of-of.ensures ∙ ap (λ (ts : List (Thing ℕ ℕ)). thing_numbered c.args.factory ts) (ap (λ (d : Domain g.row.C.Denot). d.tables.things) c.self.view_is) in
     subst (λ (n : ℕ). is_some (board_at c.args.self.now.tables n) ≡ true) (sym (ap (λ (t : Thing ℕ ℕ). t.board) same)) (held_stands c.args.self.now c.args.factory known c.requires)
 
 pub add_port-requires-clause-room : goal.add_port-requires-clause-room
 add_port-requires-clause-room g c =
-    let known = subst (λ (d : Domain g.row.C.Denot). IsDomain d) c.self.view_is (core_domain c.self.invariant) in
+    let known = subst (λ (d : Domain g.row.C.Denot). IsDomain d) c.self.view_is (core_domain c.self.invariant.core) in
     let things = ap (λ (d : Domain g.row.C.Denot). d.tables.things) c.self.view_is in
     let boards = ap (λ (d : Domain g.row.C.Denot). d.tables.boards) c.self.view_is in
     let same : c.thing_of-of.result ≡ held c.args.self.now c.args.factory = c.thing_of-of.ensures ∙ ap (λ (ts : List (Thing ℕ ℕ)). thing_numbered c.args.factory ts) things in
@@ -31,7 +31,7 @@ add_port-requires-clause-room g c =
 
 pub returns-in-Ok-clause-held : goal.returns-in-Ok-clause-held
 returns-in-Ok-clause-held g c =
-    let known = subst (λ (d : Domain g.row.C.Denot). IsDomain d) c.self.view_is (core_domain c.self.invariant) in
+    let known = subst (λ (d : Domain g.row.C.Denot). IsDomain d) c.self.view_is (core_domain c.self.invariant.core) in
     let things = ap (λ (d : Domain g.row.C.Denot). d.tables.things) c.self.view_is in
     let same : c.thing_of-of.result ≡ held c.args.self.now c.args.factory = c.thing_of-of.ensures ∙ ap (λ (ts : List (Thing ℕ ℕ)). thing_numbered c.args.factory ts) things in
     beside_next_port c.args.self.now c.add_port.new.self c.args.factory c.thing_of-of.result _ thing_kind.Reader _ known same c.in-Ok.ensures.ok (ap (λ (m : Made). m.thing) c.in-Ok.ensures.made) refl
