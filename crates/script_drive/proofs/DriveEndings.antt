@@ -9,7 +9,8 @@ use Rattle.std.proofs.lemmas.List.{append-nil, length-append}
 use Rattle.std.proofs.Math.Seq.{take-append-add}
 use Rattle.board_model.specs.Lines.{IsOneLine, lines_of, TakesLine}
 use Rattle.script_loop.specs.declared.error.ScriptError.TheVariants.{ReadFault, WriteFault, BadLine, TooLong, OutOfMemory}
-use Rattle.script_loop.specs.Reader.{HasLongLine}
+use Rattle.script_loop.proofs.LineLemmas.{some_lines}
+use Rattle.script_loop.specs.Reader.{HasLongLine, HasMore}
 use Rattle.script_loop.specs.Runs.{CountStays, CountsOn, HasFailed, Stream}
 use Rattle.script_exchanges.specs.declared.line.Drive.{Drive}
 use Rattle.script_exchanges.specs.declared.line.DriveLine.{DriveLine}
@@ -29,11 +30,14 @@ are_all d (Some i) (Some l) xs f e =
     let all : lines_of i ≡ f.lines = f.all ∙ rw none (append-nil f.lines) in
     subst (λ (o : List (List ℕ)). SpellsAll d o xs) (sym all) f.spelled
 
-goes_past : (d : Drive) (input left rest : Option (List ℕ)) (xs : Exchanges) (b : List ℕ) → Answered d input left xs → TakesLine left rest b → GoesOnAfter d input xs
-goes_past d None left rest xs b f t = tt
-goes_past d (Some i) None rest xs b f t = absurd f
-goes_past d (Some i) (Some l) None xs b f t = absurd t
-goes_past d (Some i) (Some l) (Some r) xs b f t = (b, lines_of r, subst (FollowedBy d i xs) t f)
+goes_past : (d : Drive) (input left : Option (List ℕ)) (xs : Exchanges) → Answered d input left xs → HasMore left → GoesOnAfter d input xs
+goes_past d None left xs f h = tt
+goes_past d (Some i) None xs f h = absurd f
+goes_past d (Some i) (Some l) xs f h = at (lines_of l) f (some_lines l h)
+  where
+    at : (ls : List (List ℕ)) → FollowedBy d i xs ls → 0 < length ls → GoesOnAfter d (Some i) xs
+    at [] f lt = absurd (omega arith)
+    at (x ∷ more) f lt = (x, more, f)
 
 leaves : (d : Drive) (input left rest : Option (List ℕ)) (xs : Exchanges) (b : List ℕ) → Answered d input left xs → TakesLine left rest b → SpellsNoDrive d b → LeavesGrammarAfter d input xs
 leaves d None left rest xs b f t none = tt
@@ -63,13 +67,6 @@ leaves_long d (Some i) (Some l) xs f h =
     let g = first_long (lines_of l) h in
     (g.first, g.more, subst (FollowedBy d i xs) g.are f, too_long d g.first g.long)
 
-past_long : (d : Drive) (input left : Option (List ℕ)) (xs : Exchanges) → Answered d input left xs → HasLongLine left → GoesOnAfter d input xs
-past_long d None left xs f h = tt
-past_long d (Some i) None xs f h = absurd f
-past_long d (Some i) (Some l) xs f h =
-    let g = first_long (lines_of l) h in
-    (g.first, g.more, subst (FollowedBy d i xs) g.are f)
-
 -- ---- what a run comes to
 
 module _ {M : Type 0} (d : Drive) (Lawful : Exchanges → Type 0) (stands : M → Exchanges → Type 0) (m : M) (count limit : ℕ) (source sink : Stream) (left : Option (List ℕ)) (r : HasRun d Lawful stands m count source.before left sink.before sink.after) where
@@ -98,20 +95,14 @@ module _ {M : Type 0} (d : Drive) (Lawful : Exchanges → Type 0) (stands : M �
   pub long_at : count < limit → HasLongLine left → IsBadAt d Lawful (count + 1) limit source sink
   long_at lt h = bad_so lt (leaves_long d source.before left r.exchanges r.answered h)
 
-  past_so : count ≡ limit → GoesOnAfter d source.before r.exchanges → IsPast d Lawful limit source sink
-  past_so all lines = record {
+  pub is_past : count ≡ limit → HasMore left → IsPast d Lawful limit source sink
+  is_past all h = record {
     exchanges = r.exchanges;
     lawful = r.lawful;
-    lines = lines;
+    lines = goes_past d source.before left r.exchanges r.answered h;
     full = r.counted ∙ all;
     output = r.output;
   }
-
-  pub is_past : (rest : Option (List ℕ)) (b : List ℕ) → count ≡ limit → TakesLine left rest b → IsPast d Lawful limit source sink
-  is_past rest b all t = past_so all (goes_past d source.before left rest r.exchanges b r.answered t)
-
-  pub is_long_past : count ≡ limit → HasLongLine left → IsPast d Lawful limit source sink
-  is_long_past all h = past_so all (past_long d source.before left r.exchanges r.answered h)
 
   pub is_spent : count ≤ limit → IsSpent d Lawful limit source sink
   is_spent few = record {

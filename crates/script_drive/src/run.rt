@@ -97,17 +97,16 @@ fn run_all<D: Drives, S: Source, K: Sink>(
             },
         }
     }
-    match reader.next(source) {
+    match reader.is_at_end(source) {
         Err(_) => Err(ScriptError::ReadFault),
-        Ok(Fetched::End) => Ok(()),
-        Ok(Fetched::Long) => Err(ScriptError::TooLong),
-        Ok(Fetched::Line) => Err(ScriptError::TooLong),
+        Ok(true) => Ok(()),
+        Ok(false) => Err(ScriptError::TooLong),
     }
 }
 
 /// Answers the lines of the source, at most `limit` of them, and writes what is told of each before the next line is looked at.
 ///
-/// Line n is counted from 1. What follows the last line that is allowed is read up to its newline; it is `TooLong` where a byte was read.
+/// Line n is counted from 1. `TooLong` is looked at when a byte follows the last line that is allowed.
 ///
 /// # Errors
 /// `ReadFault` and `WriteFault` where source or sink failed; `BadLine` with the number of the first line outside the grammar; `TooLong`; `OutOfMemory`. What is told of the lines before is written.

@@ -1,8 +1,8 @@
 //! The next line of a source.
-ghost use Rattle.std.specs.Prelude.{◌≡◌, IfOk, IsOk, IsTrue, OnErr, OnOk, false};
+ghost use Rattle.std.specs.Prelude.{◌≡◌, ◌<◌, IfOk, IsOk, IsTrue, OnErr, OnOk, false};
 ghost use Rattle.std.specs.Io.KnownBytes.{IsAtEnd, Keeps};
 ghost use Rattle.board_model.specs.Lines.{HasCause, IsOneLine};
-ghost use Rattle.script_loop.specs.Reader.{HasMore, NeedsBytes, source_ended, in_hand, line_given, to_come};
+ghost use Rattle.script_loop.specs.Reader.{HasMore, NeedsBytes, source_ended, hand_length, in_hand, line_given, to_come};
 ghost use Rattle.script_loop.specs.Reader.{FoundFull, FoundShort, IsEnd, IsFetched, IsFull};
 
 use super::{Fetched, LineReader};
@@ -69,21 +69,35 @@ impl LineReader {
         }
     }
 
-    // Whether no byte is left. The source is read only where nothing is in hand.
-    pub(crate) fn is_at_end<S: Source>(&mut self, source: &mut S) -> Result<bool, Failed>
+    /// Whether no byte is left. No byte is given out.
+    ///
+    /// The source is read only where nothing is in hand, and not again after it came to its end.
+    ///
+    /// # Errors
+    /// `Failed` where the source failed.
+    pub fn is_at_end<S: Source>(&mut self, source: &mut S) -> Result<bool, Failed>
         requires one_source { IsTrue (source_ended self.old) → IsAtEnd (S.left source.old) }
         ensures end { IfOk result (λ end. IsTrue end
             → IsAtEnd (to_come self.old (S.left source.old))) }
         ensures left { IfOk result (λ end. IsTrue end → IsAtEnd (S.left source.new)) }
         ensures more { IfOk result (λ end. end ≡ false
             → HasMore (to_come self.old (S.left source.old))) }
-        ensures kept { OnErr result
-            (Keeps (to_come self.old (S.left source.old)) (to_come self.new (S.left source.new))) }
+
+        // What is to come stays, and the reader can go on.
+        ensures kept { Keeps (to_come self.old (S.left source.old))
+            (to_come self.new (S.left source.new)) }
+        ensures one_source { IsTrue (source_ended self.new) → IsAtEnd (S.left source.new) }
+
+        // The source isn't read where a byte is in hand.
+        ensures unread { 0 < hand_length self.old → source.new ≡ source.old }
+
+        // It fails only where the source's count of faults rises, and a fault is told.
         ensures cut { OnErr result (IsOneLine (in_hand self.new)) }
         ensures unended { OnErr result (source_ended self.old ≡ false) }
         ensures cause { HasCause (S.faults source.old) (S.faults source.new) result }
         ensures told { OnOk result (S.faults source.new ≡ S.faults source.old) }
         ensures unfailing { S.never_fails source.old → IsOk result }
+        ensures never_later { S.never_fails source.old → S.never_fails source.new }
     {
         if self.hand_len() > 0 {
             return Ok(false);

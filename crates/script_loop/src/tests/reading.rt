@@ -42,6 +42,17 @@ fn lines_are_given_out_in_any_pieces(rt: HostRuntime) -> Result<(), Fail> {
     Ok(())
 }
 
+#[test]
+fn the_end_is_seen_before_the_next_line(rt: HostRuntime) -> Result<(), Fail> {
+    let bytes = Vec::from_slice(rt.alloc(), b"a\n")?;
+    let mut source = MemorySource::new(bytes, 1, Vec::new(rt.alloc()));
+    let mut reader = LineReader::new(rt.alloc())?;
+    assert_eq!(rt; reader.is_at_end(&mut source), Ok(false));
+    assert_eq!(rt; reader.next(&mut source), Ok(Fetched::Line));
+    assert_eq!(rt; reader.is_at_end(&mut source), Ok(true));
+    Ok(())
+}
+
 fn letters(alloc: Global, count: usize) -> Result<Vec<u8>, AllocError> {
     vec![in alloc; b'x'; count]
 }

@@ -3,7 +3,7 @@ use Rattle.script_loop.specs.Reader.{line_given}
 use Rattle.script_loop.proofs.LineLemmas.{takes_line}
 use Rattle.script_exchanges.specs.DriveGrammar.{SpellsNoDrive}
 use Rattle.script_exchanges.specs.Exchanges.{output_of}
-use Rattle.script_drive.proofs.DriveEndings.{bad_at, gave_up, is_long_past, is_past, is_spent, left_grammar, long_at, spent_at_once, unwritten, was_long, write_cut}
+use Rattle.script_drive.proofs.DriveEndings.{bad_at, gave_up, is_past, is_spent, left_grammar, long_at, spent_at_once, unwritten, was_long, write_cut}
 use Rattle.script_drive.proofs.DriveSteps.{fits_one_more, goes_on, stands_for, starts_on}
 use Rattle.script_drive.proofs.run.run_all.Goals as goal
 
@@ -71,13 +71,6 @@ loop-n-preserved g c =
       unfailing = search rules;
     }
 
-pub returns-in-Ok-Long-next-clause-runs : goal.returns-in-Ok-Long-next-clause-runs
-returns-in-Ok-Long-next-clause-runs g c =
-    let f = rw c.in-Ok-Long-next.field-0-is at c.in-Ok-Long-next.ensures.fetched in
-    was_long _ _ _ _ _ (search rules) (search rules) (is_long_past _ _ _ _ _ _ _ _ _ c.loop-n.invariant.on.run (omega arith) f)
-
 pub returns-clause-runs : goal.returns-clause-runs
 returns-clause-runs g c =
-    let f = rw c.in-Ok-Line-next.field-0-is at c.in-Ok-Line-next.ensures.fetched in
-    let one = rw c.in-Ok-Line-next.field-0-is at c.in-Ok-Line-next.ensures.short in
-    was_long _ _ _ _ _ (search rules) (search rules) (is_past _ _ _ _ _ _ _ _ _ c.loop-n.invariant.on.run _ (line_given c.next-2.new.self) (omega arith) (takes_line _ _ _ _ one.0 f))
+    was_long _ _ _ _ _ (search rules) (search rules) (is_past _ _ _ _ _ _ _ _ _ c.loop-n.invariant.on.run (omega arith) (c.in-Ok-false.ensures.more c.in-Ok-false.field-0-test))
