@@ -11,7 +11,7 @@ use Rattle.script_drive.specs.DriveRuns.{DriveRuns}
 use Rattle.script_snapshots.specs.LawsOfTakings.{IsOfOneMoment, IsShortTaking, IsWhole}
 use Rattle.script_snapshots.specs.Takings.{Taking}
 use Rattle.script_snapshots.specs.SnapshotExchanges.{IsLawful, Leads, Takings, no_takings}
-use Rattle.board_snapshot.specs.GivenLines.{IsFedAsWritten}
+use Rattle.script_written.specs.GivenLines.{IsFedAsWritten}
 
 -- ---- what a script comes to
 

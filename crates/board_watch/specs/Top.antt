@@ -9,6 +9,7 @@ use Rattle.script_endings.specs.Endings.{IsNoted, note_of, status_of}
 use Rattle.script_exchanges.specs.declared.line.Drive.TheVariants.{Watchers}
 use Rattle.script_exchanges.specs.Exchanges.{AreLinesOf, Exchanges, fed_session, output_of}
 use Rattle.script_drive.specs.DriveRuns.{DriveRuns}
+use Rattle.script_written.specs.GivenLines.{IsFedAsWritten}
 use Rattle.script_watches.specs.LawsOfWatches.{AreItems, IsCalledGet, IsWatched, Rise}
 use Rattle.script_watches.specs.Watchings.{Watching, highest_of, reports_through}
 use Rattle.script_watches.specs.WatchExchanges.{IsLawful, Leads, Watchings, no_watchings}
@@ -47,6 +48,8 @@ pub record IsWatchRun (source sink : Stream) : Type 0 where
   pub lawful : IsLawful exchanges
   -- the lines that were given are a lawful session
   pub fed : script.IsLawful (fed_session exchanges)
+  -- and stand, each with its answer, behind each `> ` of what is told
+  pub written : (input : List ℕ) → source.before ≡ Some input → IsFedAsWritten exchanges
   pub reports : AllReportRightly exchanges
 
 -- ---- the status and the note

@@ -1,13 +1,12 @@
 -- The fed session of an output, read off its bytes.
-use Rattle.std.specs.Prelude.{◌≡◌, ℕ, Bool, if◌then◌else◌, List, [], ◌∷◌, map, take, drop, codes, Some}
+use Rattle.std.specs.Prelude.{◌≡◌, ℕ, Bool, false, if◌then◌else◌, List, [], ◌∷◌, map, take, drop, codes}
+use Rattle.std.specs.List.{AllByRecursion}
 use Rattle.std.specs.Str.{bytes_eq}
-use Rattle.board_model.specs.Lines.{lines_of}
+use Rattle.board_model.specs.Lines.{IsOneLine, lines_of}
 use Rattle.script_model.specs.LawsOfComposition.{Pair}
 use Rattle.script_model.specs.ScriptAnswers.{script_answer_text}
 use Rattle.script_model.specs.ScriptGrammar.{script_spell}
-use Rattle.script_exchanges.specs.declared.line.Drive.TheVariants.{Snapshots}
-use Rattle.script_exchanges.specs.Exchanges.{AreLinesOf, Exchanges, fed_session, output_of}
-use Rattle.script_snapshots.specs.SnapshotExchanges.{IsLawful}
+use Rattle.script_exchanges.specs.Exchanges.{Exchanges, Told, fed_by, fed_session, given, output_of, said, text_of}
 
 -- the line is written behind `> `
 abbrev pub is_given : List ℕ → Bool
@@ -27,6 +26,16 @@ pair_texts pair = (script_spell pair.0, script_answer_text pair.1)
 abbrev pub IsFedAsWritten : Exchanges → Type 0
 IsFedAsWritten xs = given_lines (lines_of (output_of xs)) ≡ map pair_texts (fed_session xs)
 
--- that of each script does
-abbrev pub FedSessionsAreWritten : Type 0
-FedSessionsAreWritten = (input : List ℕ) (xs : Exchanges) → AreLinesOf Snapshots (Some input) xs → IsLawful xs → IsFedAsWritten xs
+-- ---- what is told, where nothing that is said looks like a line that was given
+
+-- each line of it is one line, and none that is said begins as given lines do
+abbrev pub IsClear : Told → Type 0
+IsClear (given pair) = IsOneLine (script_spell pair.0) × IsOneLine (script_answer_text pair.1)
+IsClear (said text) = IsOneLine text × (is_given text ≡ false)
+
+abbrev pub AreClear : List Told → Type 0
+AreClear told = AllByRecursion IsClear told
+
+-- then the lines that were given stand in it, each with its answer
+abbrev pub GivenLinesAreFound : Type 0
+GivenLinesAreFound = (told : List Told) → AreClear told → given_lines (lines_of (text_of told)) ≡ map pair_texts (fed_by told)
