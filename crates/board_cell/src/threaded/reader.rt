@@ -195,30 +195,27 @@ impl ThreadedCell {
         unreachable!()
     }
 
-    // The tries of a `get` after the first one.
+    // The tries of a `get` after the first one. Takes the buffer itself, since a lent one would have to lie in memory at every `get`.
     #[cold]
     #[inline(never)]
     fn get_later<R: Wait>(
         &self,
         rt: &R,
         seat: &mut Seat<(), View>,
-        out: &mut Vec<u64>,
+        buffer: Vec<u64>,
         opened: u64,
-    ) -> u64
+    ) -> (u64, Vec<u64>)
         requires cell { seat.old.table_id ≡ self.now.cell }
         requires seat { (seat.old.me.0 ≡ Reader (reader_of seat.old.me.0)) × ((reader_of seat.old.me.0).found ≡ []) × ((reader_of seat.old.me.0).opened ≡ opened) }
-        requires width { length out.old.items ≡ self.now.width }
+        requires width { length buffer.items ≡ self.now.width }
         ensures cell { (seat.new.table_id ≡ seat.old.table_id) × (seat.new.me.1 ≡ seat.old.me.1) }
-        ensures width { length out.new.items ≡ self.now.width }
+        ensures width { length result.1.items ≡ self.now.width }
         ensures rises { NotesRise (reader_of seat.new.me.0).notes }
-        ensures ok { AfterTries (reader_of seat.old.me.0) seat.new.me.0 opened result out.new.items }
+        ensures ok { AfterTries (reader_of seat.old.me.0) seat.new.me.0 opened result.0 result.1.items }
     {
-        let shape = self.shape();
-        let buffer = mem::replace(out, Vec::new(*out.allocator()));
-        let mut call = GetCall::in_try(shape, buffer, opened);
+        let mut call = GetCall::in_try(self.shape(), buffer, opened);
         let generation = self.run_all(rt, seat, &mut call, opened);
-        mem::forget(mem::replace(out, call.into_buffer()));
-        generation
+        (generation, call.into_buffer())
     }
 
     /// Reads the value, in as many tries as it takes. Gives its generation, and its words in `out`, which has as many words as a value.
@@ -235,11 +232,14 @@ impl ThreadedCell {
         let mut call = GetCall::new(shape, buffer);
         let first = self.open_try(&mut pass.seat, &mut call);
         let after = self.try_once(&mut pass.seat, &mut call);
-        mem::forget(mem::replace(out, call.into_buffer()));
+        let buffer = call.into_buffer();
         if after == first {
+            mem::forget(mem::replace(out, buffer));
             return after;
         }
-        self.get_later(rt, &mut pass.seat, out, after)
+        let (generation, buffer) = self.get_later(rt, &mut pass.seat, buffer, after);
+        mem::forget(mem::replace(out, buffer));
+        generation
     }
 
     /// Whether one load of the counter gave this generation.
