@@ -1,6 +1,7 @@
 -- What callers see of the cells of a board.
 use Rattle.std.specs.Prelude.{◌≡◌, ℕ, Bool, ◌==◌, List, [], ◌∷◌, length, slice_get, slice_set, Option, Some, None, option_map}
 use Rattle.board_cell.specs.Passes.{CellSeen, WriterSeen}
+use Rattle.board_model.specs.declared.tables.Entry.{Entry}
 use Rattle.board_model.specs.Tables.{Added, holds_at}
 
 -- a write end: its cell, and the values that its pass has published
@@ -98,3 +99,12 @@ AreNew [] [] = Unit {0}
 AreNew [] (p ∷ ps) = ⊥
 AreNew (a ∷ more) [] = ⊥
 AreNew (a ∷ more) (p ∷ ps) = IsNew a p × AreNew more ps
+
+-- ---- cells of a board that stands
+
+-- each entry has its cell, with as many words as a value of the entry
+abbrev pub AreFor : List Entry → List PlaceSeen → Type 0
+AreFor [] [] = Unit {0}
+AreFor [] (p ∷ ps) = ⊥
+AreFor (e ∷ more) [] = ⊥
+AreFor (e ∷ more) (p ∷ ps) = (p.cell.width ≡ e.cell.words) × AreFor more ps

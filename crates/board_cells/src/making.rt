@@ -1,7 +1,8 @@
 //! New cells of a board.
 ghost use Rattle.std.specs.Prelude.{None, map, IfOk};
 ghost use Rattle.board_service.specs.Entries.{as_added};
-ghost use Rattle.board_cells.specs.Cells.{IsNew, AreNew};
+ghost use Rattle.board_cells.specs.Cells.{AreFor, AreNew, IsNew};
+ghost use Rattle.board_cells.specs.NewCells.{new_ones};
 ghost use Rattle.board_cells.specs.Places.{place_seen, places_seen};
 
 use crate::cells::BoardCells;
@@ -44,8 +45,12 @@ impl Cells for BoardCells {
 
     ghost opened = { λ places entries b. AreNew entries b };
 
+    ghost suit = { λ entries b. AreFor entries b };
+
     fn make(alloc: Global, _plan: &Plan, entries: &Vec<NewEntry>) -> Result<BoardCells, CellError> {
         let places = new_places(alloc, entries)?;
         Ok(BoardCells { places })
     }
+
+    ghost new_ones_suit = { λ entries b new. new_ones entries b new };
 }

@@ -43,8 +43,8 @@ pub(crate) fn read_end_of(
     ensures cell { IfOk result (λ end. HasCell end (ends.cell_of tables.old board entry)) }
     ensures fresh { IfOk result (λ end. IfSome end (λ e. IsUnread e.pass)) }
 {
-    match tables.cells_mut(board) {
-        Some(cells) => cells.read_end(entry),
+    match tables.change_cells(board, |cells| cells.read_end(entry)) {
+        Some(end) => end,
         None => Ok(None),
     }
 }
@@ -58,8 +58,8 @@ pub(crate) fn take_end_of(
     ensures end { option_map end_seen result ≡ ends.parked_of tables.old board entry }
     ensures after { tables.new ≡ ends.taken tables.old board entry }
 {
-    match tables.cells_mut(board) {
-        Some(cells) => cells.take_write(entry),
+    match tables.change_cells(board, |cells| cells.take_write(entry)) {
+        Some(end) => end,
         None => None,
     }
 }
@@ -73,10 +73,5 @@ pub(crate) fn park_end_of(
 )
     ensures { tables.new ≡ ends.parked tables.old board entry (end_seen end) }
 {
-    match tables.cells_mut(board) {
-        Some(cells) => {
-            let _ = cells.park(entry, end);
-        }
-        None => {}
-    }
+    let _ = tables.change_cells(board, |cells| cells.park(entry, end));
 }

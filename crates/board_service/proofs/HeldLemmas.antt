@@ -9,13 +9,13 @@ use Rattle.board_model.specs.declared.tables.Kind.{Kind}
 use Rattle.board_model.specs.declared.tables.Kind.TheVariants as kind
 use Rattle.board_model.specs.declared.tables.ThingKind.{ThingKind}
 use Rattle.board_model.specs.declared.tables.ThingKind.TheVariants as thing_kind
-use Rattle.board_model.specs.Tables.{Tables, board_at, holds_at, is_numbered, kind_of, same_kind}
+use Rattle.board_model.specs.Tables.{board_at, holds_at, is_numbered, kind_of, same_kind}
 use Rattle.board_model.specs.TypeTable.{same_type, same_variant}
 use Rattle.board_layout.specs.declared.type_detail.TypeVariant.{TypeVariant}
 use Rattle.board_layout.specs.declared.type_detail.TypeVariant.TheVariants.{FixedSize, Dynamic}
 use Rattle.std.specs.Str.{bytes_eq}
 use Rattle.std.proofs.lemmas.Slice.Eq.{bytes_eq-Decides}
-use Rattle.board_service.specs.Domain.{Domain, Stands, held, is_thing, next_thing, stands_as, thing_numbered, thing_or_none, with_next, with_next_port}
+use Rattle.board_service.specs.Domain.{Domain, Stands, held, is_thing, next_thing, stands_as, thing_or_none, with_next, with_next_port}
 use Rattle.board_service.specs.Facts.{IsDomain, IsHeldAs, IsHeldBeside, KeepsHeld, board_number, thing_number}
 use Rattle.board_service.proofs.DrawnLemmas.{find-push, none_above}
 

@@ -12,3 +12,4 @@ pub mod StorageLemmas
 pub mod BoardLemmas
 pub mod NameLemmas
 pub mod CellLemmas
+pub mod BesideLemmas

@@ -1,12 +1,12 @@
 -- The limits of boards are kept, and handles have entries, as things and boards come and go.
-use Rattle.std.proofs.Common.{◌≡◌, ◌≢◌, ℕ, ◌+◌, ◌≤◌, ◌<◌, max, Bool, true, false, cond, ◌||◌, ◌==◌, List, [], ◌∷◌, ◌++◌, refl, sym, ap, subst, ◌∙◌, Option, Some, None, arith}
-use Rattle.std.specs.Prelude.{◌&&◌, not, nat_eq, nat_le, find, is_some, IfSome}
+use Rattle.std.proofs.Common.{◌≡◌, ◌≢◌, ℕ, ◌+◌, ◌≤◌, ◌<◌, Bool, true, false, cond, ◌||◌, ◌==◌, List, [], ◌∷◌, ◌++◌, refl, sym, ap, subst, ◌∙◌, Option, Some, None, arith}
+use Rattle.std.specs.Prelude.{◌&&◌, not, nat_eq, nat_le, find, IfSome}
 use Rattle.std.specs.List.{list_any, count_by, cons_option, AllByRecursion}
 use Rattle.board_model.specs.declared.tables.Board.{Board}
 use Rattle.board_model.specs.declared.tables.Thing.{Thing}
 use Rattle.board_model.specs.declared.tables.Kind.{Kind}
 use Rattle.board_model.specs.declared.tables.Kind.TheVariants as kind
-use Rattle.board_model.specs.Tables.{holds_at, is_numbered, is_of_board, is_reader, is_reader_of, reader_slots, writer_port, is_of_port, is_last_of_port, writer_slots, is_held_by, is_node, is_write_handle, nodes_taken, without_first, writes_entry}
+use Rattle.board_model.specs.Tables.{holds_at, is_numbered, is_of_board, is_reader, is_reader_of, reader_slots, writer_port, is_of_port, writer_slots, is_node, is_write_handle, nodes_taken, without_first, writes_entry}
 use Rattle.board_model.proofs.ListLemmas.{count_push, count_cons, count_none, find_true}
 use Rattle.board_service.specs.Facts.{HasEntry, IsWithinLimits, KeepsLimits, WritesAlone, board_number, entry_count, handle_entry, written_entry}
 use Rattle.board_service.proofs.DrawnLemmas.{find-push, find-push-other, find-without-other}

@@ -1,5 +1,5 @@
 -- What a call makes is within the limits of its board.
-use Rattle.std.proofs.Common.{◌≡◌, ◌≢◌, ℕ, ◌+◌, ◌≤◌, ◌<◌, Bool, true, false, cond, List, [], ◌∷◌, ◌++◌, refl, sym, ap, subst, ◌∙◌, Option, Some, None, arith}
+use Rattle.std.proofs.Common.{◌≡◌, ℕ, Bool, true, false, cond, List, [], ◌∷◌, ◌++◌, refl, sym, ap, subst, ◌∙◌, Option, Some, None, arith}
 use Rattle.std.specs.Prelude.{◌&&◌, ◌==◌, nat_eq, nat_le, find, is_some, IfSome}
 use Rattle.std.specs.List.{list_any}
 use Rattle.board_layout.specs.declared.type_detail.TypeDetail.{TypeDetail}
@@ -9,12 +9,12 @@ use Rattle.board_model.specs.declared.tables.Kind.{Kind}
 use Rattle.board_model.specs.declared.tables.Kind.TheVariants as kind
 use Rattle.board_model.specs.declared.tables.ThingKind.{ThingKind}
 use Rattle.board_model.specs.declared.tables.ThingKind.TheVariants as thing_kind
-use Rattle.board_model.specs.Tables.{Tables, board_at, board_named, has_name, holds_at, is_held_by, is_node, is_numbered, is_of_board, is_of_port, kind_of, port_of, reader_slots, same_kind, writer_port, writer_slots}
+use Rattle.board_model.specs.Tables.{board_at, board_named, has_name, holds_at, is_held_by, is_node, is_numbered, is_of_port, kind_of, port_of, reader_slots, same_kind, writer_port, writer_slots}
 use Rattle.board_model.specs.TableCalls.{has_all_nodes, number_of}
 use Rattle.board_model.specs.TypeTable.{same_type}
 use Rattle.board_model.proofs.ListLemmas.{any_found}
 use Rattle.board_service.specs.Domain.{CanJoin, Domain, Stands, held, is_thing, next_thing, stands_as, thing_or_none}
-use Rattle.board_service.specs.Facts.{AreDrawn, HasRoomFor, IsDomain, IsWithinLimits, KeepsLimits, board_number}
+use Rattle.board_service.specs.Facts.{AreDrawn, HasRoomFor, IsDomain, IsWithinLimits, board_number}
 use Rattle.board_service.proofs.LimitLemmas.{IsOfNode, number_found, room_of_factory, room_of_reader, room_of_writer, room_of_read_handle, room_of_write_handle}
 
 -- the board that was found by another test is the one with its number

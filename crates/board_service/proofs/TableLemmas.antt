@@ -11,7 +11,7 @@ use Rattle.board_service.specs.Domain.{is_thing, thing_numbered, thing_or_none}
 use Rattle.board_model.specs.declared.tables.Kind.TheVariants as kind
 use Rattle.board_service.specs.Facts.{AreDrawn, AreTables, HasEntry, HasPort, KeepsLimits, WritesAlone, board_number, drawn_port, entry_count, handle_entry, is_port, written_entry, port_number, ports_of, thing_number}
 use Rattle.board_service.proofs.LimitLemmas.{entries_less_board, entries_more_boards, limits_less, limits_less_board, limits_more, limits_more_board, writers_less, writers_more}
-use Rattle.board_service.proofs.DrawnLemmas.{drawn_more, drawn_raised, drawn_without, find-push, find-push-other, find-without, find-without-other, none_above, none_without, numbered_other, there}
+use Rattle.board_service.proofs.DrawnLemmas.{drawn_more, drawn_without, find-push, find-push-other, find-without, find-without-other, none_above, numbered_other, there}
 
 -- ---- lists
 

@@ -3,3 +3,4 @@ pub mod Domain
 pub mod Facts
 pub mod Told
 pub mod Descriptions
+pub mod Suiting

@@ -41,7 +41,7 @@ pub struct DomainCore<C: Cells> {
 
 impl<C: Cells> Model for DomainCore<C> {
     ghost use Rattle.board_service.specs.Domain.{Domain};
-    ghost use Rattle.board_service.specs.Descriptions.{IsCore};
+    ghost use Rattle.board_service.specs.Suiting.{IsSuitedCore};
 
     ghost Value = { Domain C };
 
@@ -51,7 +51,7 @@ impl<C: Cells> Model for DomainCore<C> {
       cells = d.cells.items;
     } };
 
-    ghost invariant = { λ d. IsCore
+    ghost invariant = { λ d. IsSuitedCore C.suit
         (record { boards = d.boards.items; things = d.things.things; last_board = d.last_board; last_port = d.last_port })
         d.things.last d.cells.items d.descriptions };
 }

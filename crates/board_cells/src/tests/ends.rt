@@ -9,7 +9,7 @@ use crate::ends::{ReadEnd, WriteEnd};
 use board_concepts::AttributeSet;
 use board_model::Limits;
 use board_names::ServiceName;
-use board_service::{DomainCore, NewEntry, NodeId};
+use board_service::{DomainCore, Made, NewEntry, NodeId, ThingKind};
 use std::alloc::Global;
 use std::process::Abort;
 use std::test::*;
@@ -27,14 +27,24 @@ fn one_number(alloc: Global, value: u64) -> Result<Vec<NewEntry>, Fail>
     Ok(vec![in alloc; entry]?)
 }
 
-/// A domain with one board of one number, and the board's number.
-pub(super) fn one_board(alloc: Global, value: u64) -> Result<(DomainCore<BoardCells>, u64), Fail> {
+/// A domain with one board of one number, and the board's factory and number.
+pub(super) fn one_board(alloc: Global, value: u64) -> Result<(DomainCore<BoardCells>, Made), Fail> {
     let mut core: DomainCore<BoardCells> = DomainCore::new(alloc);
     let entries = one_number(alloc, value)?;
     let name = ServiceName::new("board")?;
     let none = AttributeSet::new(alloc);
     let made = core.create::<u64>(NodeId(1), &name, ANY, None, none, entries)?;
-    Ok((core, made.number))
+    Ok((core, made))
+}
+
+/// The cells of a board of one number, which came back with the board's last thing.
+pub(super) fn one_cell(alloc: Global, value: u64) -> Result<BoardCells, Fail> {
+    let (mut core, made) = one_board(alloc, value)?;
+    if !core.is_held::<u64>(made.thing, ThingKind::Factory) {
+        return Err("the factory stands")?;
+    }
+    let cells = core.release(made.thing);
+    Ok(cells.ok_or("the board had no other thing")?)
 }
 
 fn park(rt: &impl Abort, cells: &mut BoardCells, end: WriteEnd) -> Result<(), Fail> {
@@ -54,14 +64,9 @@ fn take_and_park(rt: &impl Abort, cells: &mut BoardCells) -> Result<(), Fail> {
 
 #[test]
 fn an_end_is_taken_once_and_parked_once(rt: HostRuntime) -> Result<(), Fail> {
-    let (mut core, board) = one_board(rt.alloc(), 7)?;
-    match core.cells_mut(board) {
-        Some(cells) => {
-            assert!(rt; cells.has_cell(0, 1) && !cells.has_cell(0, 2), "one word");
-            take_and_park(&rt, cells)
-        }
-        None => Err("the board has cells")?,
-    }
+    let mut cells = one_cell(rt.alloc(), 7)?;
+    assert!(rt; cells.has_cell(0, 1) && !cells.has_cell(0, 2), "one word");
+    take_and_park(&rt, &mut cells)
 }
 
 // What a read end of the entry reads, and whether a second entry has one.
@@ -80,12 +85,7 @@ fn read_beside(alloc: Global, cells: &mut BoardCells) -> Result<(Option<u64>, bo
 #[test]
 fn a_read_end_reads_the_first_value(rt: HostRuntime) -> Result<(), Fail> {
     let alloc = rt.alloc();
-    let (mut core, board) = one_board(alloc, 7)?;
-    match core.cells_mut(board) {
-        Some(cells) => {
-            assert_eq!(rt; read_beside(alloc, cells)?, (Some(7), false));
-            Ok(())
-        }
-        None => Err("the board has cells")?,
-    }
+    let mut cells = one_cell(alloc, 7)?;
+    assert_eq!(rt; read_beside(alloc, &mut cells)?, (Some(7), false));
+    Ok(())
 }

@@ -1,11 +1,9 @@
 //! A writer sends the receipt of each of its publications through a list behind a lock, and a reader in another thread reads at each of them.
 ghost use Rattle.std.specs.Prelude.{◌≤◌, IfSome};
 
-use super::ends::one_board;
-use crate::cells::BoardCells;
+use super::ends::one_cell;
 use crate::ends::{ReadEnd, SentReceipt, WriteEnd};
 use board_cell::a_get_is_no_older;
-use board_service::DomainCore;
 use std::collections::VecDeque;
 use std::sync::{Condvar, Mutex, Wait};
 use std::test::*;
@@ -74,18 +72,11 @@ fn read_all<R: Wait>(rt: &R, out: Vec<u64>, post: &Post) -> u64 {
     right
 }
 
-fn take(core: &mut DomainCore<BoardCells>, board: u64) -> Option<WriteEnd> {
-    match core.cells_mut(board) {
-        Some(cells) => cells.take_write(0),
-        None => None,
-    }
-}
-
 #[test]
 fn a_hundred_receipts_are_of_what_was_read(rt: HostRuntime) -> Result<(), Fail> {
     let alloc = rt.alloc();
-    let (mut core, board) = one_board(alloc, 7)?;
-    let end = take(&mut core, board).ok_or("the end is parked")?;
+    let mut cells = one_cell(alloc, 7)?;
+    let end = cells.take_write(0).ok_or("the end is parked")?;
     let words = vec![in alloc; 9u64; 1]?;
     let out = vec![in alloc; 0u64; 1]?;
     let post = Post {

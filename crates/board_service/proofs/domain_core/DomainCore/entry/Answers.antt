@@ -1,4 +1,4 @@
-use Rattle.std.proofs.Common.{◌≡◌, ℕ, true, List, refl, sym, ap, subst, ◌∙◌}
+use Rattle.std.proofs.Common.{◌≡◌, ℕ, List, refl, ap, subst, ◌∙◌}
 use Rattle.board_model.specs.declared.tables.Thing.{Thing}
 use Rattle.board_model.specs.declared.tables.ThingKind.TheVariants.{Reader}
 use Rattle.board_service.specs.Domain.{Domain, held, thing_numbered}
@@ -12,14 +12,14 @@ use Rattle.board_service.proofs.domain_core.DomainCore.entry.Goals as goal
 
 pub add_thing-requires-clause-room : goal.add_thing-requires-clause-room
 add_thing-requires-clause-room g c =
-    let known = subst (λ (d : Domain g.row.C.Denot). IsDomain d) c.self.view_is (core_domain c.self.invariant) in
+    let known = subst (λ (d : Domain g.row.C.Denot). IsDomain d) c.self.view_is (core_domain c.self.invariant.core) in
     let things = ap (λ (d : Domain g.row.C.Denot). d.tables.things) c.self.view_is in
     let same : c.thing_of-of.result ≡ held c.args.self.now c.args.reader = c.thing_of-of.ensures ∙ ap (λ (ts : List (Thing ℕ ℕ)). thing_numbered c.args.reader ts) things in
     read_handle_room c.args.self.now c.args.reader _ c.thing_of-of.result known (held_is_there c.args.self.now _ Reader c.args.reader c.requires) same
 
 pub returns-in-Ok-clause-held : goal.returns-in-Ok-clause-held
 returns-in-Ok-clause-held g c =
-    let known = subst (λ (d : Domain g.row.C.Denot). IsDomain d) c.self.view_is (core_domain c.self.invariant) in
+    let known = subst (λ (d : Domain g.row.C.Denot). IsDomain d) c.self.view_is (core_domain c.self.invariant.core) in
     let things = ap (λ (d : Domain g.row.C.Denot). d.tables.things) c.self.view_is in
     let same : c.thing_of-of.result ≡ held c.args.self.now c.args.reader = c.thing_of-of.ensures ∙ ap (λ (ts : List (Thing ℕ ℕ)). thing_numbered c.args.reader ts) things in
     beside_next c.args.self.now c.add_thing.new.self c.args.reader c.thing_of-of.result _ thing_kind.ReadHandle _ known same c.in-Ok.ensures.ok (ap (λ (f : Found). f.thing) c.at.ensures ∙ c.in-Ok.ensures.number) refl
