@@ -10,8 +10,8 @@ use Rattle.script_machine.specs.Wants.{MayWant}
 
 -- they spell a line that may want it
 pub bytes_want : {C : Type 0} (m : Machine C) (bytes : List ℕ) (out : Vec ℕ) (l : ScriptLine) → SpellsLine bytes l → MayWant m l out → BytesMayWant m bytes out
-bytes_want m bytes out l spelled want = record { spelled = (l, spelled); taking = λ room. (l, spelled, inr (want room)) }
+bytes_want m bytes out l spelled want = record { spelled = (l, spelled); wanting = λ room fits. (l, spelled, inr (want room fits)) }
 
 -- they spell a line that is kept
 pub bytes_kept : {C : Type 0} (m : Machine C) (bytes : List ℕ) (out : Vec ℕ) → SpellsKept bytes → BytesMayWant m bytes out
-bytes_kept m bytes out kept = record { spelled = (kept.0, kept.1); taking = λ room. (kept.0, kept.1, inl kept.2) }
+bytes_kept m bytes out kept = record { spelled = (kept.0, kept.1); wanting = λ room fits. (kept.0, kept.1, inl kept.2) }

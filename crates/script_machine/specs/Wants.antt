@@ -1,5 +1,5 @@
 -- Which lines of a script take memory. No other line wants any, where there is room for its answer.
-use Rattle.std.specs.Prelude.{◌≡◌, ◌⊎◌, ℕ, ◌+◌, ◌≤◌, Bool, true, false, List, Option, Some, None, vec_capacity, vec_len}
+use Rattle.std.specs.Prelude.{◌≡◌, ◌⊎◌, ℕ, ◌+◌, ◌<◌, ◌≤◌, Bool, true, false, List, Option, Some, None, length, vec_capacity, vec_len}
 use Rattle.std.specs.Global.{Vec}
 use Rattle.board_model.specs.declared.answer.Reason.{Reason}
 use Rattle.board_model.specs.declared.line.Line.{Line}
@@ -10,9 +10,10 @@ use Rattle.script_events.specs.PartyEvents.{StepTakes, refusal_of}
 use Rattle.script_loop.specs.Machines.{short_room}
 use Rattle.script_model.specs.declared.line.ScriptLine.{ScriptLine}
 use Rattle.script_model.specs.declared.line.ScriptLine.TheVariants as line
+use Rattle.script_model.specs.ScriptAnswers.{ScriptAnswer, script_answer_line}
 use Rattle.script_model.specs.ScriptEvents.{runs_on_events}
 use Rattle.script_model.specs.ScriptGrammar.{SpellsLine}
-use Rattle.script_model.specs.ScriptSession.{Session, start, state_after}
+use Rattle.script_model.specs.ScriptSession.{IsRight, Session, start, state_after}
 use Rattle.script_model.specs.ScriptTurns.{EventTurn, ScriptState, turn_of}
 use Rattle.script_parse.specs.Kept.{is_kept_line}
 use Rattle.script_machine.specs.declared.machine.Machine.{Machine}
@@ -52,13 +53,20 @@ LineTakes s (line.Expire party) = ⊥
 abbrev pub TakesMemory : {C : Type 0} → Machine C → ScriptLine → Type 0
 TakesMemory m l = OfEachState m (λ s. LineTakes s l)
 
--- there is room for each answer that tells no list
-abbrev pub HasRoom : Vec ℕ → Type 0
-HasRoom out = vec_len out + short_room ≤ vec_capacity out
+-- the line's right answer, of at most 400 bytes, has more than there is room for
+pub record IsCramped (s : ScriptState) (l : ScriptLine) (room : ℕ) : Type 0 where
+  pub answer : ScriptAnswer
+  pub right : IsRight s l answer
+  pub short : length (script_answer_line answer) ≤ short_room
+  pub long : room < length (script_answer_line answer)
 
--- memory is wanted only for a line that takes some, where there is room for its answer
+-- in each state that the machine stands for, the line takes memory, or its short answer has no room
+abbrev pub TakesOrIsCramped : {C : Type 0} → Machine C → ScriptLine → ℕ → Type 0
+TakesOrIsCramped m l room = OfEachState m (λ s. LineTakes s l ⊎ IsCramped s l room)
+
+-- memory is wanted only so, by the room that a buffer has behind what it holds
 abbrev pub MayWant : {C : Type 0} → Machine C → ScriptLine → Vec ℕ → Type 0
-MayWant m l out = HasRoom out → TakesMemory m l
+MayWant m l out = (room : ℕ) → vec_len out + room ≤ vec_capacity out → TakesOrIsCramped m l room
 
 -- so it is of a line of boards
 abbrev pub BoardMayWant : {C : Type 0} → Machine C → Line → Vec ℕ → Type 0
@@ -67,6 +75,10 @@ BoardMayWant m l out = MayWant m (line.Board l) out
 -- the bytes spell a line
 abbrev pub SpellsSome : List ℕ → Type 0
 SpellsSome bytes = (l : ScriptLine) × SpellsLine bytes l
+
+-- the bytes spell a line that is kept in memory while it is run, or one that takes memory or has no room for its short answer
+abbrev pub SpellsWanting : {C : Type 0} → Machine C → List ℕ → ℕ → Type 0
+SpellsWanting m bytes room = (l : ScriptLine) × SpellsLine bytes l × ((is_kept_line l ≡ true) ⊎ TakesOrIsCramped m l room)
 
 -- the bytes spell a line that is kept in memory while it is run, or one that takes memory
 abbrev pub SpellsTaking : {C : Type 0} → Machine C → List ℕ → Type 0

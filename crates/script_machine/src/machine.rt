@@ -4,11 +4,11 @@ ghost use Rattle.board_model.specs.LineGrammar.{IsLine};
 ghost use Rattle.script_model.specs.declared.line.ScriptLine.TheVariants as script_line;
 ghost use Rattle.script_model.specs.ScriptGrammar.{IsScriptLine};
 ghost use Rattle.script_model.specs.ScriptSession.{Session, start};
-ghost use Rattle.script_loop.specs.Machines.{AnswersEach, SpellsNone, StandsFor, short_room};
+ghost use Rattle.script_loop.specs.Machines.{AnswersEach, SpellsNone, StandsFor};
 ghost use Rattle.script_boards.specs.Machine.{drawn_by};
 ghost use Rattle.script_machine.specs.Bytes.{BytesMayWant, LeavesUnknown, TellsOfBytes};
 ghost use Rattle.script_machine.specs.ScriptMachine.{IsLed, StandsAfter, Tells};
-ghost use Rattle.script_machine.specs.Wants.{SpellsTaking, MayWant, SpellsSome};
+ghost use Rattle.script_machine.specs.Wants.{MayWant, SpellsSome, SpellsTaking, SpellsWanting};
 
 use board_model::Line;
 use board_service::BoardWords;
@@ -163,10 +163,10 @@ impl<C: BoardWords + Drop> Machine<C> {
     ///
     /// # Errors
     /// `Bad` exactly where the line is outside the grammar, and then the machine stays as it was. After `OutOfMemory` the
-    /// machine is spent. On both `answer` is empty. Where `answer` has room for 400 bytes, `OutOfMemory` comes neither for a
-    /// line outside the grammar, nor for a step that makes and lends nothing, keeps nothing that it read and tells no list, nor for
-    /// a drop, an expiry or an abandonment of a party whose call on boards runs, nor for a refused line without the name of a board
-    /// or an event.
+    /// machine is spent. On both `answer` is empty. `OutOfMemory` never comes for a line outside the grammar. Where `answer` has
+    /// room for the right answer, or for 400 bytes, it comes neither for a step that makes and lends nothing, keeps nothing that
+    /// it read and tells no list, nor for a drop, an expiry or an abandonment of a party whose call on boards runs, nor for a
+    /// refused line without the name of a board or an event.
     pub fn line(&mut self, line: &[u8], answer: &mut Vec<u8>) -> Result<(), LineError>
         // The machine isn't spent, and it stands for a lawful session of fewer than 2^63 lines.
         requires { (session : Session) × StandsFor StandsAfter self.old session }
@@ -179,11 +179,11 @@ impl<C: BoardWords + Drop> Machine<C> {
         ensures bad { IsErrOf result LineError.Bad → SpellsNone line.now }
         ensures same { IsErrOf result LineError.Bad → self.new ≡ self.old }
 
-        // A line outside the grammar wants no memory. Nor does a line that takes none, where `answer` has room for each answer
-        // that tells no list and the line hasn't the name of a board or an event, which is kept. The room stays.
+        // A line outside the grammar wants no memory. Nor does a line that takes none and hasn't the name of a board or an
+        // event, which is kept, where `answer` has room for its right answer. The room stays.
         ensures spelled { IsErrOf result LineError.OutOfMemory → SpellsSome line.now }
         ensures memory { IsErrOf result LineError.OutOfMemory
-            → short_room ≤ vec_capacity answer.old → SpellsTaking self.old line.now }
+            → SpellsWanting self.old line.now (vec_capacity answer.old) }
         ensures room { vec_capacity answer.old ≤ vec_capacity answer.new }
 
         ensures spent { IsErrOf result LineError.OutOfMemory → self.new.spent ≡ true }

@@ -1,3 +1,4 @@
+use Rattle.std.specs.Prelude.{vec_capacity}
 use Rattle.std.proofs.Common.{arith}
 use Rattle.script_machine.proofs.Sessions.{has_answered_bytes, led}
 use Rattle.script_machine.proofs.machine.Machine.line.Goals as goal
@@ -29,4 +30,4 @@ pub returns-in-Err-clause-spelled : goal.returns-in-Err-clause-spelled
 returns-in-Err-clause-spelled g c = λ _. c.in-Err.ensures.memory.spelled
 
 pub returns-in-Err-clause-memory : goal.returns-in-Err-clause-memory
-returns-in-Err-clause-memory g c = λ _ room. c.in-Err.ensures.memory.taking (omega (arith, c.clear.ensures.len, c.clear.ensures.capacity, room))
+returns-in-Err-clause-memory g c = λ _. c.in-Err.ensures.memory.wanting (vec_capacity c.args.answer.now) (omega (arith, c.clear.ensures.len, c.clear.ensures.capacity))

@@ -10,10 +10,10 @@ use Rattle.script_boards.proofs.Listings.{on_ok}
 use Rattle.script_model.specs.declared.line.ScriptLine.TheVariants as line
 use Rattle.script_model.specs.ScriptAnswers.{of_boards}
 use Rattle.script_model.specs.ScriptEvents.{holds_event, runs_on_events}
-use Rattle.script_model.specs.ScriptTurns.{board_turn, drops}
+use Rattle.script_model.specs.ScriptTurns.{board_turn, drops, refused}
+use Rattle.script_model.proofs.RuleLemmas.{right_on_events}
 use Rattle.script_machine.proofs.Turns.{from_nothing, none_is, release_busy, release_held, release_unfree, release_unheld, told_alone, told_refused, told_turn}
-use Rattle.script_machine.specs.Wants.{TakesMemory}
-use Rattle.script_machine.proofs.Wants.{answered_wants, dropped_short, refused_wants, served_formed}
+use Rattle.script_machine.proofs.Wants.{answered_wants, dropped_short, refusal_right, refused_wants, told_wants}
 use Rattle.script_machine.proofs.machine.Machine.release.Goals.{else-is_none-via-then-is_none+else-holds, else-is_none-via-else-is_none}
 use Rattle.script_machine.proofs.machine.Machine.release.Goals as goal
 
@@ -45,12 +45,31 @@ returns-clause-tells g c = on_ok (λ e s count rep reached.
     (record { alive = rep.alive; boards = served.1; events = rep.events }) (from_nothing _ _ _ c.requires.empty e)) c.push_answer-2.result c.push_answer-2.ensures.ok
 
 pub returns-then-runs-clause-memory : goal.returns-then-runs-clause-memory
-returns-then-runs-clause-memory g c = refused_wants c.push_refused.result c.args.out.now reason.Busy (TakesMemory c.args.self.now (line.Board (board_line.Release c.args.party.now c.args.name.now))) c.push_refused.ensures.room
+returns-then-runs-clause-memory g c =
+    refused_wants c.push_refused.result c.args.self.now (line.Board (board_line.Release c.args.party.now c.args.name.now)) c.args.out.now reason.Busy c.push_refused.ensures.room (λ s count rep reached.
+    let runs : runs_on_events s.events c.args.party.now ≡ true = sym (c.runs.ensures s.events count reached.few reached.sound.events rep.events) ∙ c.if-runs.true in
+    refusal_right s (line.Board (board_line.Release c.args.party.now c.args.name.now)) (refused reason.Busy) reason.Busy (release_busy s c.args.party.now c.args.name.now runs) c.requires.line refl)
 
 pub returns-then-holds-clause-memory : goal.returns-then-holds-clause-memory
-returns-then-holds-clause-memory g c = answered_wants c.push_answer.result c.args.out.now (answer.Step access.Table (Some reply.Done)) (TakesMemory c.args.self.now (line.Board (board_line.Release c.args.party.now c.args.name.now))) (tt, tt) c.push_answer.ensures.room (λ no. absurd (no tt))
+returns-then-holds-clause-memory g c =
+    told_wants c.push_answer.result c.args.self.now (line.Board (board_line.Release c.args.party.now c.args.name.now)) c.args.out.now (of_boards (answer.Step access.Table (Some reply.Done))) c.push_answer.ensures.room
+    (λ s count rep reached.
+    let runs : runs_on_events s.events c.args.party.now ≡ false = sym (c.runs.ensures s.events count reached.few reached.sound.events rep.events) ∙ c.if-runs.false in
+    let free : None ≡ free_reason (s.boards.parties c.args.party.now) None = none_is c.refusal_of_party.result (c.is_none.ensures ∙ ap not c.if-is_none.true) ∙ c.refusal_of_party.ensures.reason s.boards rep.boards in
+    let held : holds_event s.events c.args.party.now c.args.name.now ≡ true = sym (c.holds.ensures s.events count reached.few reached.sound.events rep.events) ∙ c.if-holds.true in
+    right_on_events s (line.Board (board_line.Release c.args.party.now c.args.name.now)) (drops c.args.party.now c.args.name.now) (of_boards (answer.Step access.Table (Some reply.Done))) (release_held s c.args.party.now c.args.name.now runs free held) c.requires.line refl (tt, tt))
+    (λ s count rep reached no. absurd (no tt))
 
 pub returns-clause-memory : goal.returns-clause-memory
-returns-clause-memory g c = answered_wants c.push_answer-2.result c.args.out.now c.release-answer.result (TakesMemory c.args.self.now (line.Board (board_line.Release c.args.party.now c.args.name.now))) (served_formed _ _ (board_line.Release c.args.party.now c.args.name.now) c.release-answer.result c.release-answer.ensures.serves c.requires.led c.requires.line) c.push_answer-2.ensures.room (λ no s count rep reached.
+returns-clause-memory g c =
+    answered_wants c.push_answer-2.result c.args.self.now (board_line.Release c.args.party.now c.args.name.now) c.args.out.now c.release-answer.result c.push_answer-2.ensures.room
+    (λ s count rep reached.
+    let runs : runs_on_events s.events c.args.party.now ≡ false = sym (c.runs.ensures s.events count reached.few reached.sound.events rep.events) ∙ c.if-runs.false in
+    elim c.else-is_none.branch [
+      | else-is_none-via-then-is_none+else-holds w ↦ release_unheld s c.args.party.now c.args.name.now runs (sym (w.holds.ensures s.events count reached.few reached.sound.events rep.events) ∙ w.if-holds.false)
+      | else-is_none-via-else-is_none w ↦ release_unfree s c.args.party.now c.args.name.now runs (sym (ap is_some (c.refusal_of_party.ensures.reason s.boards rep.boards)) ∙ c.is_none.ensures ∙ ap not w.if-is_none.false)
+    ])
+    (λ s count rep reached. (c.release-answer.ensures.serves s.boards rep.boards reached.boards c.requires.line).0)
+    (λ s count rep reached no.
     let served = c.release-answer.ensures.serves s.boards rep.boards reached.boards c.requires.line in
     absurd (no (dropped_short s.boards c.args.party.now c.args.name.now c.release-answer.result served.0)))

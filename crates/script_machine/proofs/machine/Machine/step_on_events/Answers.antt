@@ -11,12 +11,12 @@ use Rattle.script_model.specs.ScriptAnswers.{of_ask, of_event, script_answer_lin
 use Rattle.script_model.specs.ScriptEvents.{runs_on_events}
 use Rattle.script_model.specs.ScriptTurns.{ScriptState, steps}
 use Rattle.script_model.proofs.FormedLemmas.{step_formed_so}
+use Rattle.script_model.proofs.RuleLemmas.{right_on_events}
 use Rattle.script_machine.proofs.Turns.{from_nothing, step_taken, told_turn}
 use Rattle.script_print.specs.Room.{LacksRoomFor}
 use Rattle.script_machine.specs.ScriptMachine.{IsReached, Represents}
-use Rattle.script_machine.specs.Wants.{TakesMemory}
 use Rattle.script_machine.proofs.ShortSteps.{event_step_wants}
-use Rattle.script_machine.proofs.Wants.{anyway, step_takes_at, told_wants}
+use Rattle.script_machine.proofs.Wants.{step_takes_at, takes_anyway, told_wants}
 use Rattle.script_machine.proofs.machine.Machine.step_on_events.Goals as goal
 
 pub step-requires-clause-runs : goal.step-requires-clause-runs
@@ -48,7 +48,8 @@ returns-in-Acted-clause-tells g c = on_ok (λ e s count rep reached.
     (record { alive = rep.alive; boards = rep.boards; events = shown.represents }) (from_nothing _ _ _ c.requires.empty printed)) c.push_event_step.result c.push_event_step.ensures.ok
 
 pub returns-in_err-reply-clause-memory : goal.returns-in_err-reply-clause-memory
-returns-in_err-reply-clause-memory g c = anyway c.from_residual.result _ (λ room s count rep reached.
+returns-in_err-reply-clause-memory g c =
+    takes_anyway c.from_residual.result c.args.self.now (line.Board (board_line.Step c.args.party.now)) c.args.out.now (λ s count rep reached.
     let runs : runs_on_events s.events c.args.party.now ≡ true = c.requires.runs s.events count reached.few reached.sound.events rep.events in
     step_takes_at s c.args.party.now true runs (c.in_err-reply.ensures.memory s.events count reached.few reached.sound.events rep.events))
 
@@ -58,9 +59,12 @@ returns-in-Asked-clause-memory g c =
     let p = c.args.party.now in
     let shown = λ (s : ScriptState) (count : ℕ) (rep : Represents m s) (reached : IsReached s count).
     ask_shown c.step.new.self s.events p c.in-Asked.reply (subst (λ (t : Stepped). IsStepped c.step.new.self s.events p t) c.in-Asked.is (c.in_ok-reply.ensures.told s.events count reached.few reached.sound.events rep.events)) in
-    let led = c.requires.led in
-    let formed = step_formed_so led.state (line.Board (board_line.Step p)) led.count p _ led.reached.sound led.reached.few (shown led.state led.count led.represents led.reached).right in
-    told_wants c.push_event_asked.result c.args.out.now (of_ask c.in-Asked.reply) (TakesMemory m (line.Board (board_line.Step p))) formed c.push_event_asked.ensures.room (λ long s count rep reached.
+    told_wants c.push_event_asked.result m (line.Board (board_line.Step p)) c.args.out.now (of_ask c.in-Asked.reply) c.push_event_asked.ensures.room
+    (λ s count rep reached.
+    let runs : runs_on_events s.events c.args.party.now ≡ true = c.requires.runs s.events count reached.few reached.sound.events rep.events in
+    let right = (shown s count rep reached).right in
+    right_on_events s (line.Board (board_line.Step p)) (steps p) (of_ask c.in-Asked.reply) (step_taken s p runs) c.requires.line right (step_formed_so s (line.Board (board_line.Step p)) count p _ reached.sound reached.few right))
+    (λ s count rep reached long.
     step_takes_at s p true (c.requires.runs s.events count reached.few reached.sound.events rep.events)
     (event_step_wants s.events (s.events.asked p) (s.events.session.doing p) _ (shown s count rep reached).right long))
 
@@ -71,11 +75,14 @@ returns-in-Acted-clause-memory g c =
     let shown = λ (s : ScriptState) (count : ℕ) (rep : Represents m s) (reached : IsReached s count).
     access_shown c.step.new.self s.events p c.in-Acted.event c.in-Acted.access c.in-Acted.answer c.in-Acted.told c.kind_of.result c.name_of.result.now
     (subst (λ (t : Stepped). IsStepped c.step.new.self s.events p t) c.in-Acted.is (c.in_ok-reply.ensures.told s.events count reached.few reached.sound.events rep.events)) c.kind_of.ensures c.name_of.ensures in
-    let led = c.requires.led in
-    let formed = step_formed_so led.state (line.Board (board_line.Step p)) led.count p _ led.reached.sound led.reached.few (shown led.state led.count led.represents led.reached).right in
     let text = λ (n : List ℕ) (t : Option EventReply). script_answer_line (of_event c.kind_of.result n c.in-Acted.access c.in-Acted.answer t) in
     let named = ap (λ (n : List ℕ). text n (option_map (λ reply. reply.now) c.as_ref.result)) c.as_bytes.ensures.value ∙ ap (λ (t : Option EventReply). text c.name_of.result.now t) c.as_ref.ensures.value in
     let lacks = subst (λ (bytes : List ℕ). OnErr c.push_event_step.result (LacksRoomFor c.args.out.now bytes)) named c.push_event_step.ensures.room in
-    told_wants c.push_event_step.result c.args.out.now (of_event c.kind_of.result c.name_of.result.now c.in-Acted.access c.in-Acted.answer c.in-Acted.told) (TakesMemory m (line.Board (board_line.Step p))) formed lacks (λ long s count rep reached.
+    told_wants c.push_event_step.result m (line.Board (board_line.Step p)) c.args.out.now (of_event c.kind_of.result c.name_of.result.now c.in-Acted.access c.in-Acted.answer c.in-Acted.told) lacks
+    (λ s count rep reached.
+    let runs : runs_on_events s.events c.args.party.now ≡ true = c.requires.runs s.events count reached.few reached.sound.events rep.events in
+    let right = (shown s count rep reached).right in
+    right_on_events s (line.Board (board_line.Step p)) (steps p) (of_event c.kind_of.result c.name_of.result.now c.in-Acted.access c.in-Acted.answer c.in-Acted.told) (step_taken s p runs) c.requires.line right (step_formed_so s (line.Board (board_line.Step p)) count p _ reached.sound reached.few right))
+    (λ s count rep reached long.
     step_takes_at s p true (c.requires.runs s.events count reached.few reached.sound.events rep.events)
     (event_step_wants s.events (s.events.asked p) (s.events.session.doing p) _ (shown s count rep reached).right long))
