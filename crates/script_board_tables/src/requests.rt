@@ -21,13 +21,16 @@ use script_board_rows::Reading;
 use script_things::{Held, entry_of};
 use std::alloc::{AllocError, Global};
 
-/// A call that was looked up, and whether its keys and value are of the board's and the entry's types, the word that it puts is
-/// one of the entry, and the loan that it publishes is filled.
+/// A call that was looked up, and what else is to hold of it.
 #[derive(Drop)]
 pub struct Found {
+    /// The call.
     pub call: BoardCall,
+    /// Whether its keys are of the type of the board's keys, and its value is of the entry's type.
     pub typed: bool,
+    /// Whether the word that it puts is one of the entry.
     pub indexed: bool,
+    /// Whether each word of the loan that it publishes was put.
     pub filled: bool,
 }
 

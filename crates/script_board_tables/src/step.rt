@@ -20,8 +20,20 @@ use std::alloc::{AllocError, Global};
 /// What a step of a call came to: its access, and the call where it goes on, or else what it is told.
 #[derive(Drop)]
 pub enum Stepped {
-    GoesOn { access: Access, call: BoardCall },
-    Ends { access: Access, reply: Reply },
+    /// The call goes on.
+    GoesOn {
+        /// The access that was made.
+        access: Access,
+        /// The call after it.
+        call: BoardCall,
+    },
+    /// The call has ended.
+    Ends {
+        /// The access that was made.
+        access: Access,
+        /// What the call is told.
+        reply: Reply,
+    },
 }
 
 // A loan of which no word was put.

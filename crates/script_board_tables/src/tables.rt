@@ -17,15 +17,20 @@ pub type LoanWords = Items<Option<u64>>;
 /// What a party holds under a name is kept under both.
 #[derive(Clone, Copy, PartialEq, Eq, Hash)]
 pub struct Seat {
+    /// The party.
     pub party: Name,
+    /// The name.
     pub name: Name,
 }
 
 /// A value that a party read and kept.
 #[derive(Drop)]
 pub struct KeptValue {
+    /// Its type.
     pub value_type: ValueType,
+    /// Its words.
     pub words: Words,
+    /// How many values of the entry were published when it was read.
     pub generation: u64,
 }
 
