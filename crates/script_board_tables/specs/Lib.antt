@@ -1,0 +1,5 @@
+pub mod Tables
+pub mod Calls
+pub mod Steps
+pub mod LawsOfSteps
+pub mod NewBoards
