@@ -1,5 +1,5 @@
 -- What a run that ended well comes to, and which statuses runs have.
-use Rattle.std.proofs.Common.{◌≡◌, ℕ, ◌<◌, ◌≤◌, List, [], ◌∷◌, length, map, arith, refl, subst, sym, ◌∙◌}
+use Rattle.std.proofs.Common.{◌≡◌, ℕ, ◌<◌, List, [], ◌∷◌, length, map, arith, refl, subst, sym, ◌∙◌, Option}
 use Rattle.std.specs.Prelude.{◌⊎◌, Result, Ok, Err}
 use Rattle.std.specs.Io.KnownBytes.{IsAtEnd}
 use Rattle.script_model.specs.ScriptSession as script
@@ -8,11 +8,13 @@ use Rattle.script_loop.specs.Runs.{Stream}
 use Rattle.script_endings.specs.Endings.{status_of}
 use Rattle.script_endings.proofs.StatusLemmas.{bad_status, run_through}
 use Rattle.script_exchanges.specs.declared.line.Drive.TheVariants.{Watchers}
-use Rattle.script_exchanges.specs.Exchanges.{Exchanges, fed_session}
+use Rattle.script_exchanges.specs.Exchanges.{AreLinesOf, Exchanges, fed_session}
 use Rattle.script_drive.specs.DriveRuns.{DriveRuns, IsUndisturbed}
 use Rattle.script_watches.specs.WatchExchanges.{IsLawful, no_watchings}
 use Rattle.script_watches.proofs.WatchLaws.{fed_lawful_law, fresh_law, items_law, rise_law, watched_law}
 use Rattle.board_watch.specs.Top.{AllReportRightly, IsWatchRun}
+use Rattle.board_watch.proofs.SaidLemmas.{reports_written}
+use Rattle.board_watch.proofs.WrittenLemmas.{fed_written, read_back}
 
 -- nothing is a lawful script
 pub none_lawful : IsLawful []
@@ -24,6 +26,7 @@ fed_is_lawful xs h = subst script.IsLawful (fed_lawful_law.fed xs h.0 h.1) (fed_
 all_rightly : (xs : Exchanges) → AllReportRightly xs
 all_rightly xs s party x met = record {
   watched = watched_law met.earlier s met.leads party x met.watches;
+  written = reports_written met.earlier s met.leads party x met.watches;
   rise = rise_law met.earlier s met.leads party x met.watches;
   items = items_law met.earlier s met.leads party x met.watches;
   fresh = λ handle c b i n id g words q. fresh_law met.earlier s met.leads party x met.watches handle c b i n id g words q;
@@ -41,6 +44,8 @@ module _ (answer : Result (Unit {0}) ScriptError) (status : ℕ) (source sink : 
         output = h.ok.output;
         lawful = h.ok.lawful;
         fed = fed_is_lawful h.ok.exchanges h.ok.lawful;
+        written = λ input k. fed_written input h.ok.exchanges (subst (λ (o : Option (List ℕ)). AreLinesOf Watchers o h.ok.exchanges) k h.ok.lines) h.ok.lawful;
+        read_back = λ input k. read_back input h.ok.exchanges (subst (λ (o : Option (List ℕ)). AreLinesOf Watchers o h.ok.exchanges) k h.ok.lines) h.ok.lawful;
         reports = all_rightly h.ok.exchanges;
       }
       at (Err x) h e = absurd (bad_status x 0 (omega arith) e)

@@ -1,1 +1,2 @@
+pub mod LawsOfWatchRuns
 pub mod Top

@@ -1,5 +1,6 @@
 -- The program of watchers: what a script comes to, its status and its note.
 use Rattle.std.specs.Prelude.{◌≡◌, ℕ, ◌≤◌, List, [], ◌++◌, codes, Some, Result}
+use Rattle.std.specs.Io.KnownBytes.{IsAtEnd}
 use Rattle.script_model.specs.ScriptSession as script
 use Rattle.script_model.specs.LawsOfComposition.{state_met}
 use Rattle.script_moments.specs.Reports.{Take}
@@ -9,9 +10,11 @@ use Rattle.script_endings.specs.Endings.{IsNoted, note_of, status_of}
 use Rattle.script_exchanges.specs.declared.line.Drive.TheVariants.{Watchers}
 use Rattle.script_exchanges.specs.Exchanges.{AreLinesOf, Exchanges, fed_session, output_of}
 use Rattle.script_drive.specs.DriveRuns.{DriveRuns}
+use Rattle.script_written.specs.GivenLines.{IsFedAsWritten, IsReadBack}
 use Rattle.script_watches.specs.LawsOfWatches.{AreItems, IsCalledGet, IsWatched, Rise}
 use Rattle.script_watches.specs.Watchings.{Watching, highest_of, reports_through}
 use Rattle.script_watches.specs.WatchExchanges.{IsLawful, Leads, Watchings, no_watchings}
+use Rattle.board_watch.specs.LawsOfWatchRuns.{AreReportsWritten}
 
 -- ---- what a script comes to
 
@@ -23,10 +26,12 @@ pub record IsMet (xs : Exchanges) (s : Watchings) (party : List ℕ) (x : Watchi
   pub leads : Leads no_watchings earlier s
   pub watches : s.of party ≡ Some x
 
--- what a watcher reports, at whatever moment it is met
-pub record ReportsRightly (s : Watchings) (party : List ℕ) (x : Watching) : Type 0 where
+-- what a watcher reports, at whatever moment it is met: after these exchanges
+pub record ReportsRightly (earlier : Exchanges) (s : Watchings) (party : List ℕ) (x : Watching) : Type 0 where
   -- the party's own lines ask for its ids, wait, and get what the ids call for
   pub watched : IsWatched s.fed party x
+  -- what it has reported is what was written behind the party's turns since it began
+  pub written : AreReportsWritten earlier party x
   -- the generations that are reported of a handle rise
   pub rise : (handle : List ℕ) → Rise 0 (reports_through handle x.reported)
   -- each is an item of its entry's list
@@ -35,7 +40,7 @@ pub record ReportsRightly (s : Watchings) (party : List ℕ) (x : Watching) : Ty
   pub fresh : (handle : List ℕ) (c : Take) (b i n id g : ℕ) (words : List ℕ) → IsCalledGet s.fed party handle x c b i n id g words → g ≤ highest_of x handle
 
 abbrev pub AllReportRightly : Exchanges → Type 0
-AllReportRightly xs = (s : Watchings) (party : List ℕ) (x : Watching) → IsMet xs s party x → ReportsRightly s party x
+AllReportRightly xs = (s : Watchings) (party : List ℕ) (x : Watching) → (met : IsMet xs s party x) → ReportsRightly met.earlier s party x
 
 -- a script was run to its end
 pub record IsWatchRun (source sink : Stream) : Type 0 where
@@ -47,6 +52,10 @@ pub record IsWatchRun (source sink : Stream) : Type 0 where
   pub lawful : IsLawful exchanges
   -- the lines that were given are a lawful session
   pub fed : script.IsLawful (fed_session exchanges)
+  -- and stand, each with its answer, behind each `> ` of what is told
+  pub written : (input : List ℕ) → source.before ≡ Some input → IsFedAsWritten exchanges
+  -- read line by line, it is these lines with their answers and, in their places, those that the program says of its own
+  pub read_back : (input : List ℕ) → source.before ≡ Some input → IsReadBack exchanges
   pub reports : AllReportRightly exchanges
 
 -- ---- the status and the note
@@ -67,6 +76,7 @@ pub record HasEnded (words : List (List ℕ)) (status : ℕ) (source sink notes 
   -- without words the script of the source was run
   pub ran : words ≡ [] → IsAnswered status source sink notes
   pub ok : status ≡ 0 → IsWatchRun source sink
+  pub end : status ≡ 0 → IsAtEnd source.after
   -- and with words nothing
   pub usage : (words ≡ [] → ⊥) → status ≡ 2
   pub usage_note : (words ≡ [] → ⊥) → IsNoted notes usage_note

@@ -8,8 +8,12 @@
 //! `watch_words` runs a script from a source to a sink. The definitions stand in `script_watches`.
 #![tactic(auto)]
 
+mod run_laws;
 #[cfg(test)]
 mod tests;
 mod top;
 
+pub use run_laws::{
+    fed_sessions_are_written, inputs_have_one_run, outputs_are_read_back, reports_are_written,
+};
 pub use top::{run_program, watch_words};

@@ -14,7 +14,32 @@ fn tells(rt: &impl Abort, alloc: Global, name: &str, parts: &[Part]) -> Result<(
     script.tells(rt, alloc, name, AT_THE_END, 1)
 }
 
-/// Party a writes the entry of 1 through m, and b reads it through h, and that of 2 through k.
+/// Party a writes the one entry of a board through m, and b reads it through h.
+const ONE_ENTRY: Part = &[
+    (
+        "begin a create f b u64 add u64:1 u64:7",
+        &["> begin a create f b u64 add u64:1 u64:7", "ok"],
+    ),
+    ("step a", &["> step a", "table = ok 1"]),
+    ("begin a writer w f", &["> begin a writer w f", "ok"]),
+    ("step a", &["> step a", "table = ok 1"]),
+    (
+        "begin a entrymut m w u64:1 u64",
+        &["> begin a entrymut m w u64:1 u64", "ok"],
+    ),
+    ("step a", &["> step a", "table = ok 0"]),
+    ("begin b open f b u64", &["> begin b open f b u64", "ok"]),
+    ("step b", &["> step b", "table = ok 1"]),
+    ("begin b reader r f", &["> begin b reader r f", "ok"]),
+    ("step b", &["> step b", "table = ok 2"]),
+    (
+        "begin b entry h r u64:1 u64",
+        &["> begin b entry h r u64:1 u64", "ok"],
+    ),
+    ("step b", &["> step b", "table = ok 0"]),
+];
+
+/// The same, with a second entry, that of 2, which b reads through k.
 const BOARD: Part = &[
     (
         "begin a create f b u64 add u64:1 u64:7 add u64:2 u64:8",
@@ -155,6 +180,30 @@ const HELD_BACK: Part = &[
         &["> begin b id h", "refused abandoned", "unwatched b"],
     ),
 ];
+
+/// A watched party is left to its watcher until it is abandoned.
+const ENDED: Part = &[
+    (
+        "watch b e h",
+        &[
+            "> begin b id h",
+            "ok",
+            "> step b",
+            "table = id 0",
+            "watching b",
+        ],
+    ),
+    ("step b", &["watched b"]),
+    ("turn c", &["unwatched c"]),
+    ("abandon b", &["> abandon b", "gone"]),
+    ("turn b", &["unwatched b"]),
+];
+
+/// A watcher over a handle that isn't there doesn't begin.
+const NO_HANDLE: Part = &[(
+    "watch b e z",
+    &["> begin b id z", "refused unknown", "unwatched b"],
+)];
 
 /// A begin that is refused ends the opening.
 const TURNED_DOWN: Part = &[
@@ -348,6 +397,14 @@ fn what_was_notified_is_reported(rt: HostRuntime) -> Result<(), Fail> {
     tells(&rt, alloc, "reported", &[BOARD, BITS, REPORTED])?;
     tells(&rt, alloc, "nothing", &[BOARD, BITS, NOTHING])?;
     tells(&rt, alloc, "two handles", &[BOARD, QUEUE, TWO_HANDLES])
+}
+
+#[test]
+fn one_entry_is_watched(rt: HostRuntime) -> Result<(), Fail> {
+    let alloc = rt.alloc();
+    tells(&rt, alloc, "one entry", &[ONE_ENTRY, BITS, REPORTED])?;
+    tells(&rt, alloc, "ended", &[ONE_ENTRY, BITS, ENDED])?;
+    tells(&rt, alloc, "no handle", &[ONE_ENTRY, BITS, NO_HANDLE])
 }
 
 #[test]

@@ -7,6 +7,7 @@ pub returns : goal.returns
 returns g c = rw c.from.ensures (record {
   ran = λ none. c.watch_words.ensures.ran (no_words string_bytes c.args.words.now.items none);
   ok = c.watch_words.ensures.ok;
+  end = c.watch_words.ensures.end;
   usage = λ some. c.watch_words.ensures.usage (some_words string_bytes c.args.words.now.items some);
   usage_note = λ some. c.watch_words.ensures.usage_note (some_words string_bytes c.args.words.now.items some);
 })

@@ -1,0 +1,3 @@
+pub mod ClearLemmas
+pub mod GivenLemmas
+pub mod OneLineLemmas
