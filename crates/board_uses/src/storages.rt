@@ -1,0 +1,123 @@
+//! Static storages: filled, opened, released and removed by name, and opened while another thread fills one.
+use board_names::{
+    Configuration, FileName, NamedConceptBuilder, NamedConceptConfiguration,
+    NamedConceptDoesExistError, NamedConceptMgmt, StaticStorageOpenError, StaticStorageUnlockError,
+};
+use board_store::{
+    Builder, Locked, StaticRegistry, StaticStorage, StaticStorageBuilder, StaticStorageLocked,
+    Storage,
+};
+use std::alloc::Global;
+use std::process::Abort;
+use std::sync::Wait;
+use std::test::Fail;
+use std::thread;
+use std::thread::Threads;
+use std::time::{Clock, Duration};
+
+// The name and the configuration of what follows.
+fn one_name<S: StaticStorage>() -> Result<(FileName, Configuration), Fail> {
+    let suffix = S::default_suffix();
+    Ok((FileName::new(b"z")?, Configuration::with_suffix(&suffix)))
+}
+
+// A name is there once its storage is filled.
+fn is_filled<R: Wait + Abort, S: StaticStorage + Drop>(
+    rt: &R,
+    alloc: Global,
+    registry: &S::Registry,
+    (name, config): (&FileName, &Configuration),
+) -> Result<(), Fail> {
+    let absent = S::does_exist_cfg(rt, registry, name, config);
+    let locked = S::Builder::new(name, registry)?.create_locked(rt, alloc)?;
+    let early = S::does_exist_cfg(rt, registry, name, config);
+    let _storage = locked.unlock(rt, alloc, &[4, 5])?;
+    let late = S::does_exist_cfg(rt, registry, name, config);
+    assert_eq!(rt; (absent, late), (Ok(false), Ok(true)));
+    assert_eq!(rt;
+        early,
+        Err(NamedConceptDoesExistError::UnderlyingResourcesBeingSetUp)
+    );
+    Ok(())
+}
+
+// What is opened has the bytes that were written, and gives up a name that it owns.
+fn is_opened_and_released<R: Wait + Abort, S: StaticStorage + Drop>(
+    rt: &R,
+    registry: &S::Registry,
+    (name, config): (&FileName, &Configuration),
+) -> Result<(), Fail> {
+    let mut storage = S::Builder::new(name, registry)?.open(rt, 0)?;
+    let mut bytes = [0u8; 3];
+    assert_eq!(rt; (storage.len(), storage.read(&mut bytes)), (2, Ok(())));
+    assert_eq!(rt; bytes, [4, 5, 0]);
+    storage.acquire_ownership();
+    storage.release(rt);
+    let held = S::does_exist_cfg(rt, registry, name, config);
+    assert_eq!(rt; held, Ok(false));
+    Ok(())
+}
+
+// A name is removed once, and then nobody opens it.
+fn is_removed<R: Wait + Abort, S: StaticStorage + Drop>(
+    rt: &R,
+    alloc: Global,
+    registry: &S::Registry,
+    (name, config): (&FileName, &Configuration),
+) -> Result<(), Fail> {
+    let _made = S::Builder::new(name, registry)?.create(rt, alloc, &[6])?;
+    let first = S::remove_cfg(rt, registry, name, config);
+    let second = S::remove_cfg(rt, registry, name, config);
+    assert_eq!(rt; (first, second), (Ok(true), Ok(false)));
+    let gone = S::Builder::new(name, registry)?.open(rt, 0);
+    assert_eq!(rt; gone.err(), Some(StaticStorageOpenError::DoesNotExist));
+    Ok(())
+}
+
+#[test]
+fn any_static_storage_is_used_by_the_traits(rt: HostRuntime) -> Result<(), Fail> {
+    let alloc = rt.alloc();
+    let registry = StaticRegistry::new(alloc)?;
+    let (name, config) = one_name::<Storage>()?;
+    is_filled::<_, Storage>(&rt, alloc, &registry, (&name, &config))?;
+    is_opened_and_released::<_, Storage>(&rt, &registry, (&name, &config))?;
+    is_removed::<_, Storage>(&rt, alloc, &registry, (&name, &config))
+}
+
+fn unlock_late<R: Wait + Clock>(
+    rt: &R,
+    alloc: Global,
+    locked: Locked,
+) -> Result<Storage, StaticStorageUnlockError> {
+    let _ = thread::sleep(rt, Duration::from_millis(50));
+    locked.unlock(rt, alloc, &[1, 2, 3])
+}
+
+// One thread looks again and again while the other one fills the storage.
+fn opens_while_it_is_filled<R: Threads + Wait + Clock + Sync>(
+    rt: &R,
+    alloc: Global,
+    opener: Builder,
+    locked: Locked,
+) -> Result<Storage, StaticStorageOpenError> {
+    let (opened, _filled) = thread::join(
+        rt,
+        move || opener.open(rt, u32::MAX),
+        move || unlock_late(rt, alloc, locked),
+    );
+    opened
+}
+
+#[test]
+fn open_looks_until_it_is_filled(rt: HostRuntime) -> Result<(), Fail> {
+    let alloc = rt.alloc();
+    let registry = StaticRegistry::new(alloc)?;
+    let name = FileName::new(b"x")?;
+    let locked = Builder::new(&name, &registry)?.create_locked(&rt, alloc)?;
+    let opener = Builder::new(&name, &registry)?;
+    let storage = opens_while_it_is_filled(&rt, alloc, opener, locked)?;
+    let mut bytes = [9u8; 4];
+    assert_eq!(rt; storage.read(&mut bytes), Ok(()));
+    assert_eq!(rt; bytes, [1, 2, 3, 9]);
+    Ok(())
+}
