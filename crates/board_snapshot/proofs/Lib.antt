@@ -1,4 +1,3 @@
-pub mod GivenLemmas
 pub mod WrittenLemmas
 pub mod OneRunLemmas
 pub mod TopLemmas

@@ -1,59 +1,23 @@
 -- A line is told by its bytes, and what is told of a script's lines is settled by the lines.
-use Rattle.std.proofs.Common.{◌≡◌, ℕ, Bool, false, List, [], ◌∷◌, refl, sym, ap, subst, ◌∙◌, Option, Some, None}
-use Rattle.std.specs.Prelude.{codes}
-use Rattle.std.specs.Str.{bytes_eq}
-use Rattle.std.proofs.lemmas.Bool.{false≢true}
+use Rattle.std.proofs.Common.{◌≡◌, ℕ, List, [], ◌∷◌, refl, sym, ap, subst, ◌∙◌, Option, Some, None}
 use Rattle.script_model.specs.declared.line.ScriptLine.{ScriptLine}
 use Rattle.script_model.specs.LawsOfComposition.{state_met}
 use Rattle.script_model.specs.ScriptAnswers.{ScriptAnswer}
-use Rattle.script_model.specs.ScriptGrammar.{SpellsLine}
 use Rattle.script_model.proofs.AnswerLaws.{one_answer}
-use Rattle.script_grammar.specs.TokenReading.{split_tokens}
-use Rattle.script_grammar.proofs.ScriptLineLemmas.{one_line}
 use Rattle.script_exchanges.specs.declared.line.Drive.TheVariants.{Snapshots}
 use Rattle.script_exchanges.specs.declared.line.DriveLine.{DriveLine}
 use Rattle.script_exchanges.specs.declared.line.DriveLine.TheVariants.{Script, Start, Turn}
-use Rattle.script_exchanges.specs.DriveGrammar.{SpellsDrive, drive_tokens, start_word}
 use Rattle.script_exchanges.specs.DrivenParties.{abandoned_by, held_back, is_refused, kept_with}
-use Rattle.script_exchanges.specs.Exchanges.{Exchange, Exchanges, SpellsAll, Told, given}
-use Rattle.script_feed.proofs.DriveLines.{head_is, no_script, rest_is, split_drive, start_is_no_turn}
+use Rattle.script_exchanges.specs.Exchanges.{Exchanges, SpellsAll, Told, given}
 use Rattle.script_snapshots.specs.Takings.{Taking, next_line, taken}
 use Rattle.script_snapshots.specs.SnapshotExchanges.{IsExchange, Leads, OfScript, OfTurn, Takings, fed_with, if_taking, kept_of, let_go, no_takings, said_of}
+use Rattle.script_written.proofs.OneLineLemmas.{one_drive_line as one_line_of}
 use Rattle.board_snapshot.specs.LawsOfRuns.{BytesSpellOneLine, InputsHaveOneRun}
 
 -- ---- lines
 
-plain : (bytes : List ℕ) (l : ScriptLine) → SpellsDrive Snapshots bytes (Script l) → SpellsLine bytes l
-plain bytes l s = record { line = s.line; bytes = s.bytes; short = s.short }
-
-start_no_script : (bytes party : List ℕ) (things : List (List ℕ)) (l : ScriptLine) → SpellsDrive Snapshots bytes (Start party things) → SpellsDrive Snapshots bytes (Script l) → ⊥
-start_no_script bytes party things l s t = no_script Snapshots bytes (codes "snap") (party ∷ things) l (split_drive Snapshots bytes (Start party things) s) refl t
-
-turn_no_script : (bytes party : List ℕ) (l : ScriptLine) → SpellsDrive Snapshots bytes (Turn party) → SpellsDrive Snapshots bytes (Script l) → ⊥
-turn_no_script bytes party l s t = no_script Snapshots bytes (codes "turn") (party ∷ []) l (split_drive Snapshots bytes (Turn party) s) refl t
-
-start_no_turn : (bytes party : List ℕ) (things : List (List ℕ)) (q : List ℕ) → SpellsDrive Snapshots bytes (Start party things) → SpellsDrive Snapshots bytes (Turn q) → ⊥
-start_no_turn bytes party things q s t =
-    let e : codes "snap" ≡ codes "turn" = head_is (codes "snap") (codes "turn") (party ∷ things) (q ∷ []) (sym (split_drive Snapshots bytes (Start party things) s) ∙ split_drive Snapshots bytes (Turn q) t) in
-    let same : bytes_eq (codes "turn") (codes "turn") ≡ false = subst (λ (w : List ℕ). bytes_eq w (codes "turn") ≡ false) e (start_is_no_turn Snapshots) in
-    absurd cc
-
-start_is : (p q : List ℕ) (ps qs : List (List ℕ)) → p ∷ ps ≡ q ∷ qs → Start p ps ≡ Start q qs
-start_is p q ps qs e =
-    let a : p ≡ q = head_is p q ps qs e in
-    let b : ps ≡ qs = rest_is p q ps qs e in
-    rw (a, b) refl
-
 pub one_drive_line : BytesSpellOneLine
-one_drive_line bytes (Script k) (Script l) s t = ap Script (one_line bytes k l (plain bytes k s) (plain bytes l t))
-one_drive_line bytes (Script k) (Start p ps) s t = absurd (start_no_script bytes p ps k t s)
-one_drive_line bytes (Script k) (Turn p) s t = absurd (turn_no_script bytes p k t s)
-one_drive_line bytes (Start p ps) (Script l) s t = absurd (start_no_script bytes p ps l s t)
-one_drive_line bytes (Start p ps) (Start q qs) s t = start_is p q ps qs (rest_is (codes "snap") (codes "snap") (p ∷ ps) (q ∷ qs) (sym (split_drive Snapshots bytes (Start p ps) s) ∙ split_drive Snapshots bytes (Start q qs) t))
-one_drive_line bytes (Start p ps) (Turn q) s t = absurd (start_no_turn bytes p ps q s t)
-one_drive_line bytes (Turn p) (Script l) s t = absurd (turn_no_script bytes p l s t)
-one_drive_line bytes (Turn p) (Start q qs) s t = absurd (start_no_turn bytes q qs p t s)
-one_drive_line bytes (Turn p) (Turn q) s t = ap Turn (head_is p q [] [] (rest_is (codes "turn") (codes "turn") (p ∷ []) (q ∷ []) (sym (split_drive Snapshots bytes (Turn p) s) ∙ split_drive Snapshots bytes (Turn q) t)))
+one_drive_line bytes k l s t = one_line_of Snapshots bytes k l s t
 
 -- ---- what is told of a line
 

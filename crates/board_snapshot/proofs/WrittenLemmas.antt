@@ -1,116 +1,33 @@
 -- What is rightly told of a script's lines is clear, so the fed session is found again in the output.
-use Rattle.std.proofs.Common.{◌≡◌, ℕ, zero, suc, ◌+◌, Bool, true, false, eqb, List, [], ◌∷◌, ◌++◌, length, map, get_or, refl, sym, ap, subst, ◌∙◌, append_assoc, Option, Some, None}
-use Rattle.std.specs.Prelude.{◌==◌, if◌then◌else◌, codes, decimal, is_some, slice_index}
-use Rattle.std.specs.List.{flat_map, join_with_byte, slice_split, onto_first, AllByRecursion}
+use Rattle.std.proofs.Common.{◌≡◌, ℕ, ◌+◌, Bool, true, false, List, [], ◌∷◌, ◌++◌, length, refl, sym, subst, Option, Some, None}
+use Rattle.std.specs.Prelude.{◌==◌, if◌then◌else◌, codes, is_some}
 use Rattle.std.specs.Str.{bytes_eq}
-use Rattle.std.proofs.lemmas.List.{map-append}
-use Rattle.std.proofs.lemmas.List.Splits.{slice_split-cons_no, slice_split-cons_yes, slice_split_none}
-use Rattle.board_model.specs.AnswerGrammar.{number_text, reply_text, words_text}
+use Rattle.board_model.specs.AnswerGrammar.{reply_text}
 use Rattle.board_model.specs.declared.answer.Reply.TheVariants as reply
-use Rattle.board_model.specs.declared.value.ValueType.{ValueType}
 use Rattle.board_model.specs.declared.value.ValueType.TheVariants as type
-use Rattle.board_model.specs.LineGrammar.{is_name}
-use Rattle.board_model.specs.Lines.{lines_of, whole_parts}
 use Rattle.script_model.specs.declared.line.ScriptLine.{ScriptLine}
-use Rattle.script_model.specs.LawsOfComposition.{Pair, state_met}
+use Rattle.script_model.specs.LawsOfComposition.{state_met}
 use Rattle.script_model.specs.ScriptAnswers.{ScriptAnswer}
 use Rattle.script_model.specs.ScriptGrammar.{script_spell}
 use Rattle.script_model.specs.ScriptSession.{IsRight, Session}
-use Rattle.script_model.proofs.CompositionLemmas.{sound_at}
-use Rattle.script_grammar.proofs.BoardAnswerLemmas.{flat_number}
-use Rattle.script_grammar.proofs.ReaderLemmas.{both}
-use Rattle.script_grammar.proofs.ScriptAnswerLemmas.{right_is_one_line}
-use Rattle.script_grammar.proofs.SplitLemmas.{IsFree, free_append, free_joined, free_name}
+use Rattle.script_grammar.proofs.SplitLemmas.{IsFree, free_append}
 use Rattle.script_moments.specs.Gets.{Get, Round}
 use Rattle.script_moments.specs.Moments.{Moment}
 use Rattle.script_exchanges.specs.declared.line.Drive.TheVariants.{Snapshots}
 use Rattle.script_exchanges.specs.declared.line.DriveLine.{DriveLine}
 use Rattle.script_exchanges.specs.declared.line.DriveLine.TheVariants.{Script, Start, Turn}
-use Rattle.script_exchanges.specs.DriveGrammar.{SpellsDrive}
 use Rattle.script_exchanges.specs.DrivenParties.{Got, abandoned_by, got_by, held_back, is_refused, kept_with, party_text}
-use Rattle.script_exchanges.specs.Exchanges.{Exchange, Exchanges, SpellsAll, Told, fed_by, fed_session, given, output_of, said, text_of}
-use Rattle.script_snapshots.specs.Takings.{Outcome, Taking, after_get, after_round, ended, get_text, gets_text, goes_on, is_alike, moment_of, next_handle, next_line, next_of, snapshot_text, stepped_get, taken, taken_on, whole}
-use Rattle.script_snapshots.specs.SnapshotExchanges.{IsExchange, IsGiven, IsLawful, Leads, OfScript, OfTurn, Takings, if_taking, kept_of, let_go, no_takings, said_of, started}
+use Rattle.script_exchanges.specs.Exchanges.{Exchanges, Told, given}
+use Rattle.script_snapshots.specs.Takings.{Outcome, Taking, after_get, after_round, ended, get_text, gets_text, goes_on, is_alike, moment_of, next_handle, next_line, snapshot_text, stepped_get, taken, taken_on, whole}
+use Rattle.script_snapshots.specs.SnapshotExchanges.{IsExchange, Leads, OfScript, OfTurn, Takings, if_taking, kept_of, let_go, no_takings, said_of, started}
 use Rattle.script_snapshots.proofs.FedLemmas.{same_bytes}
 use Rattle.script_snapshots.proofs.TakingLaws.{IsKept, leads_kept, none_kept}
-use Rattle.board_snapshot.specs.GivenLines.{FedSessionsAreWritten, given_lines, is_given, pair_texts}
-use Rattle.board_snapshot.proofs.GivenLemmas.{IsClear, told_found}
+use Rattle.script_written.specs.GivenLines.{AllIsClear, AreClear, IsClear}
+use Rattle.script_written.proofs.ClearLemmas.{AreFree, AreFreeLines, IsFreeLine, got_free, index_free, input_free, name_free, names_free, next_free, pair_clear, said_free, says_clear, text_clear}
+use Rattle.script_written.proofs.GivenLemmas.{all_found}
+use Rattle.board_snapshot.specs.LawsOfRuns.{FedSessionsAreWritten}
 
--- ---- the lines of an input hold no newline
-
-abbrev AreFree : List (List ℕ) → Type 0
-AreFree ts = AllByRecursion (IsFree 10) ts
-
-abbrev is_newline : ℕ → Bool
-is_newline b = eqb b 10
-
-first_free : (x : ℕ) (parts : List (List ℕ)) → eqb x 10 ≡ false → AreFree parts → AreFree (onto_first x parts)
-first_free x [] e h = (rw e refl, tt)
-first_free x (t ∷ ts) e h = (rw (e, h.0) refl, h.1)
-
-split_free : (bs : List ℕ) → AreFree (slice_split is_newline bs)
-split_free [] = (refl, tt)
-split_free (x ∷ xs) = at (eqb x 10) refl (split_free xs)
-  where
-    at : (b : Bool) → eqb x 10 ≡ b → AreFree (slice_split is_newline xs) → AreFree (slice_split is_newline (x ∷ xs))
-    at true e h = subst AreFree (sym (slice_split-cons_yes is_newline x xs e)) (refl, h)
-    at false e h = subst AreFree (sym (slice_split-cons_no is_newline x xs e)) (first_free x (slice_split is_newline xs) e h)
-
-last_free : (x : List ℕ) (b : Bool) → IsFree 10 x → AreFree (if b then [] else x ∷ [])
-last_free x true h = tt
-last_free x false h = (h, tt)
-
-whole_free : (parts : List (List ℕ)) → AreFree parts → AreFree (whole_parts parts)
-whole_free [] h = tt
-whole_free (x ∷ []) h = last_free x (length x == 0) h.0
-whole_free (x ∷ y ∷ more) h = (h.0, whole_free (y ∷ more) h.1)
-
-lines_free : (input : List ℕ) → AreFree (lines_of input)
-lines_free input = whole_free (slice_split is_newline input) (split_free input)
-
--- the line of a plain script holds none
-abbrev IsFreeLine : DriveLine → Type 0
-IsFreeLine (Script l) = IsFree 10 (script_spell l)
-IsFreeLine (Start party things) = Unit {0}
-IsFreeLine (Turn party) = Unit {0}
-
-line_free : (bytes : List ℕ) (l : DriveLine) → IsFree 10 bytes → SpellsDrive Snapshots bytes l → IsFreeLine l
-line_free bytes (Script l) h s = subst (IsFree 10) s.bytes h
-line_free bytes (Start party things) h s = tt
-line_free bytes (Turn party) h s = tt
-
-abbrev AreFreeLines : Exchanges → Type 0
-AreFreeLines xs = AllByRecursion (λ (x : Exchange). IsFreeLine x.0) xs
-
-all_free : (lines : List (List ℕ)) (xs : Exchanges) → AreFree lines → SpellsAll Snapshots lines xs → AreFreeLines xs
-all_free [] [] h s = tt
-all_free (bytes ∷ more) (x ∷ xs) h s = (line_free bytes x.0 h.0 s.0, all_free more xs h.1 s.1)
-all_free [] (x ∷ xs) h s = absurd s
-all_free (bytes ∷ more) [] h s = absurd s
-
--- ---- what is said holds none
-
-name_free : (n : List ℕ) → is_name n ≡ true → IsFree 10 n
-name_free n h = free_name 10 refl n h
-
-decimal_free : (n : ℕ) → IsFree 10 (decimal n)
-decimal_free n = let h : IsFree 10 (32 ∷ decimal n) = flat_number n in h
-
-decimals_free : (ns : List ℕ) → AreFree (map decimal ns)
-decimals_free [] = tt
-decimals_free (n ∷ ns) = (decimal_free n, decimals_free ns)
-
-bool_free : (b : Bool) → IsFree 10 (codes "bool:" ++ (if b then codes "false" else codes "true"))
-bool_free true = refl
-bool_free false = refl
-
-words_free : (t : ValueType) (ws : List ℕ) → IsFree 10 (words_text t ws)
-words_free type.Bool ws = bool_free (slice_index ws 0 == 0)
-words_free type.U64 ws = free_append 10 (codes "u64:") (join_with_byte 44 (map decimal ws)) refl (free_joined 10 44 refl (map decimal ws) (decimals_free ws))
-words_free type.Q4 ws = free_append 10 (codes "q4:") (join_with_byte 44 (map decimal ws)) refl (free_joined 10 44 refl (map decimal ws) (decimals_free ws))
-
-got_free : (t : ValueType) (ws : List ℕ) (g : ℕ) → IsFree 10 (reply_text (reply.Got t ws g))
-got_free t ws g = free_append 10 (words_text t ws) (codes " gen" ++ number_text g) (words_free t ws) (free_append 10 (codes " gen") (number_text g) refl (flat_number g))
+-- ---- how a snapshot is told
 
 get_free : (h : List ℕ) (x : Get) → IsFree 10 h → IsFree 10 (get_text h x)
 get_free h x free = free_append 10 h (codes " " ++ reply_text (reply.Got x.type x.words x.generation)) free (got_free x.type x.words x.generation)
@@ -120,18 +37,11 @@ gets_free [] xs free = refl
 gets_free (h ∷ hs) [] free = refl
 gets_free (h ∷ hs) (x ∷ xs) free = free_append 10 (get_text h x) (gets_text hs xs) (get_free h x free.0) (gets_free hs xs free.1)
 
-said_free : (word party : List ℕ) → IsFree 10 word → IsFree 10 party → IsFree 10 (party_text word party)
-said_free word party h k = free_append 10 word (32 ∷ party) h k
-
 -- ---- the names that snapshots have
 
 record IsNamed (owner : List ℕ) (x : Taking) : Type 0 where
   party : IsFree 10 owner
   handles : AreFree x.handles
-
-names_free : (ns : List (List ℕ)) → AllByRecursion (λ n. is_name n ≡ true) ns → AreFree ns
-names_free [] h = tt
-names_free (n ∷ ns) h = (name_free n h.0, names_free ns h.1)
 
 -- what becomes of a snapshot has its handles
 abbrev HasHandles : List (List ℕ) → Outcome → Type 0
@@ -224,14 +134,8 @@ exchange_held s t l told h x = record {
 
 -- ---- what is told is clear
 
-abbrev AreClear : List Told → Type 0
-AreClear told = AllByRecursion IsClear told
-
-says_clear : (word party : List ℕ) (told : List Told) → IsFree 10 word → is_given (party_text word party) ≡ false → IsFree 10 party → told ≡ said (party_text word party) ∷ [] → AreClear told
-says_clear word party told free clear named e = subst AreClear (sym e) ((said_free word party free named, clear), tt)
-
 answer_free : (s : Takings) (l : ScriptLine) (a : ScriptAnswer) → IsHeld s → IsFree 10 (script_spell l) → IsRight (state_met s.fed) l a → IsClear (given (l, a))
-answer_free s l a h line right = (line, right_is_one_line (state_met s.fed) l a (0 + length s.fed) (sound_at s.fed h.kept.lawful) right)
+answer_free s l a h line right = pair_clear s.fed l a h.kept.lawful line right
 
 -- the party for which a line is held back takes a snapshot
 held_named : (s : Takings) (o : Option (List ℕ)) (party : List ℕ) → Names s.of → if_taking s o ≡ Some party → IsFree 10 party
@@ -246,20 +150,11 @@ script_clear : (s t : Takings) (l : ScriptLine) (told : List Told) (o : Option (
 script_clear s t l told None h line e k = subst AreClear (sym k.told_is) (answer_free s l k.answer h line k.right, tt)
 script_clear s t l told (Some party) h line e k = says_clear (codes "snapping") party told refl refl (held_named s (held_back l) party h.named e) k.0
 
--- a handle that isn't there has no bytes
-index_free : (hs : List (List ℕ)) (n : ℕ) → AreFree hs → IsFree 10 (get_or hs n [])
-index_free [] n h = refl
-index_free (x ∷ xs) zero h = h.0
-index_free (x ∷ xs) (suc n) h = index_free xs n h.1
-
-next_free : (party handle : List ℕ) (o : Option (Moment × List Moment)) → IsFree 10 party → IsFree 10 handle → IsFree 10 (script_spell (next_of party handle o))
-next_free party handle None p h = free_joined 10 32 refl (codes "begin" ∷ party ∷ codes "get" ∷ handle ∷ []) (refl, (p, (refl, (h, tt))))
-next_free party handle (Some get) p h = free_joined 10 32 refl (codes "step" ∷ party ∷ []) (refl, (p, tt))
-
 said_clear : (party : List ℕ) (hs : List (List ℕ)) (o : Outcome) → IsFree 10 party → AreFree hs → HasHandles hs o → AreClear (said_of party o)
 said_clear party hs (goes_on x) p free h = tt
-said_clear party hs ended p free h = ((said_free (codes "unsnapped") party refl p, refl), tt)
-said_clear party hs (whole x) p free h = ((free_append 10 (party_text (codes "snapshot") party) (gets_text x.handles x.shot.gets) (said_free (codes "snapshot") party refl p) (gets_free x.handles x.shot.gets (subst AreFree (sym h) free)), refl), tt)
+said_clear party hs ended p free h = (text_clear (party_text (codes "unsnapped") party) (said_free (codes "unsnapped") party refl p) refl, tt)
+said_clear party hs (whole x) p free h =
+    (text_clear (snapshot_text party x) (free_append 10 (party_text (codes "snapshot") party) (gets_text x.handles x.shot.gets) (said_free (codes "snapshot") party refl p) (gets_free x.handles x.shot.gets (subst AreFree (sym h) free))) refl, tt)
 
 turn_clear : (s t : Takings) (party : List ℕ) (told : List Told) (o : Option Taking) → IsHeld s → IsFree 10 party → s.of party ≡ o → OfTurn s party o told t → AreClear told
 turn_clear s t party told None h p e k = says_clear (codes "unsnapped") party told refl refl p k.0
@@ -277,15 +172,12 @@ exchange_clear s t (Turn party) told h line x = turn_clear s t party told (s.of 
 
 -- ---- the whole output
 
-all_found : (xs : Exchanges) (s t : Takings) → IsHeld s → AreFreeLines xs → Leads s xs t → given_lines (lines_of (output_of xs)) ≡ map pair_texts (fed_session xs)
-all_found [] s t h free k = refl
-all_found (x ∷ xs) s t h free k =
-    told_found x.1 (output_of xs) (exchange_clear s k.0 x.0 x.1 h free.0 k.1)
-    ∙ ap (λ (r : List (List ℕ × List ℕ)). map pair_texts (fed_by x.1) ++ r) (all_found xs k.0 t (exchange_held s k.0 x.0 x.1 h k.1) free.1 k.2)
-    ∙ sym (map-append pair_texts (fed_by x.1) (fed_session xs))
+all_clear : (xs : Exchanges) (s t : Takings) → IsHeld s → AreFreeLines xs → Leads s xs t → AllIsClear xs
+all_clear [] s t h free k = tt
+all_clear (x ∷ xs) s t h free k = (exchange_clear s k.0 x.0 x.1 h free.0 k.1, all_clear xs k.0 t (exchange_held s k.0 x.0 x.1 h k.1) free.1 k.2)
 
 none_held : IsHeld no_takings
 none_held = record { kept = none_kept; named = λ party x e. absurd cc }
 
 pub fed_written : FedSessionsAreWritten
-fed_written input xs lines lawful = all_found xs no_takings lawful.0 none_held (all_free (lines_of input) xs (lines_free input) lines) lawful.1
+fed_written input xs lines lawful = all_found xs (all_clear xs no_takings lawful.0 none_held (input_free Snapshots input xs lines) lawful.1)

@@ -1,3 +1,2 @@
-pub mod GivenLines
 pub mod LawsOfRuns
 pub mod Top

@@ -1,5 +1,5 @@
 -- The program of snapshots: what a script comes to, its status and its note.
-use Rattle.std.specs.Prelude.{◌≡◌, ℕ, List, [], ◌++◌, codes, Option, Some, Result}
+use Rattle.std.specs.Prelude.{◌≡◌, ℕ, List, [], ◌++◌, codes, Some, Result}
 use Rattle.script_model.specs.ScriptAnswers.{ScriptAnswer}
 use Rattle.script_model.specs.ScriptSession as script
 use Rattle.script_loop.specs.declared.error.ScriptError.{ScriptError}
@@ -11,7 +11,7 @@ use Rattle.script_drive.specs.DriveRuns.{DriveRuns}
 use Rattle.script_snapshots.specs.LawsOfTakings.{IsOfOneMoment, IsShortTaking, IsWhole}
 use Rattle.script_snapshots.specs.Takings.{Taking}
 use Rattle.script_snapshots.specs.SnapshotExchanges.{IsLawful, Leads, Takings, no_takings}
-use Rattle.board_snapshot.specs.GivenLines.{IsFedAsWritten}
+use Rattle.script_written.specs.GivenLines.{IsFedAsWritten}
 
 -- ---- what a script comes to
 

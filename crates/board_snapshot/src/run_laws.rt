@@ -1,6 +1,5 @@
 //! Laws of scripts with snapshots and of their output. Each function's contract is a theorem over the definitions alone.
-ghost use Rattle.board_snapshot.specs.GivenLines.{FedSessionsAreWritten};
-ghost use Rattle.board_snapshot.specs.LawsOfRuns.{BytesSpellOneLine, InputsHaveOneRun};
+ghost use Rattle.board_snapshot.specs.LawsOfRuns.{BytesSpellOneLine, FedSessionsAreWritten, InputsHaveOneRun};
 
 /// The lines of an output behind `> `, each with the line that follows it, are the session that was fed to the machine.
 pub fn fed_sessions_are_written()
