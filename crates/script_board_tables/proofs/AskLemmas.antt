@@ -209,32 +209,32 @@ module _ (old new : BoardTables) (party name : List ℕ) (of : Held) (found : Op
         (record { standing = has.standing ∙ ap (λ (p : ℕ). with_kind (kind.ReadHandle p)) (sym f.at); memory = has.memory; lists = has.lists }))
 
     pub entry_mut_made : ask (standing_of old) (published_of old) party q ≡ told_by (standing_of old) reply.EntryMutError (entry_mut_asked (tables_of old) of name found)
-        → list_any (is_write_handle of.board place) old.things.items ≡ false
+        → list_any (is_write_handle of.board place) old.things ≡ false
         → (port : ℕ) → port ≡ port_of of.kind → Has new (with_kind (kind.WriteHandle place port)) (memory_of old) (published_of old) → Asks old new party q (reply.Number id)
     entry_mut_made is free port port_is has = subst (λ (i : ℕ). Asks old new party q (reply.Number i)) f.known
-        (call_made old party q reply.EntryMutError (id_of found) (with_write_handle (tables_of old) of name found) (first_of (entry_mut_refusals old.things.items of.board found)) is
-        (rw (f.some, f.test (λ x. list_any (is_write_handle of.board x.0) old.things.items) (λ p. list_any (is_write_handle of.board p) old.things.items) (λ x. refl) ∙ free) refl) m l new
+        (call_made old party q reply.EntryMutError (id_of found) (with_write_handle (tables_of old) of name found) (first_of (entry_mut_refusals old.things of.board found)) is
+        (rw (f.some, f.test (λ x. list_any (is_write_handle of.board x.0) old.things) (λ p. list_any (is_write_handle of.board p) old.things) (λ x. refl) ∙ free) refl) m l new
         (record { standing = has.standing ∙ ap (λ (n : ℕ). with_kind (kind.WriteHandle place n)) port_is ∙ ap (λ (p : ℕ). with_kind (kind.WriteHandle p (port_of of.kind))) (sym f.at); memory = has.memory; lists = has.lists }))
 
   pub second_handle : (q : Request) → ask (standing_of old) (published_of old) party q ≡ told_by (standing_of old) reply.EntryMutError (entry_mut_asked (tables_of old) of name found)
-      → list_any (is_write_handle of.board place) old.things.items ≡ true
+      → list_any (is_write_handle of.board place) old.things ≡ true
       → memory_after (memory_of old) q (reply.EntryMutError entry_mut_error.HandleAlreadyExists) ≡ memory_of old → lists_after (published_of old) q (reply.EntryMutError entry_mut_error.HandleAlreadyExists) ≡ published_of old
       → Asks old old party q (reply.EntryMutError entry_mut_error.HandleAlreadyExists)
-  second_handle q is taken m l = call_refused old party q reply.EntryMutError (id_of found) (with_write_handle (tables_of old) of name found) (first_of (entry_mut_refusals old.things.items of.board found)) entry_mut_error.HandleAlreadyExists is
-      (rw (f.some, f.test (λ x. list_any (is_write_handle of.board x.0) old.things.items) (λ p. list_any (is_write_handle of.board p) old.things.items) (λ x. refl) ∙ taken) refl) m l
+  second_handle q is taken m l = call_refused old party q reply.EntryMutError (id_of found) (with_write_handle (tables_of old) of name found) (first_of (entry_mut_refusals old.things of.board found)) entry_mut_error.HandleAlreadyExists is
+      (rw (f.some, f.test (λ x. list_any (is_write_handle of.board x.0) old.things) (λ p. list_any (is_write_handle of.board p) old.things) (λ x. refl) ∙ taken) refl) m l
 
 -- ---- openings
 
 -- an opening that nothing refuses
 pub opened : (old new : BoardTables) (party f name : List ℕ) (k : KeyType) (limits : Limits) (needs : Requirements) (number : ℕ) → number ≡ number_of (board_named (tables_of old) name)
-    → first_of (open_refusals bytes_eq old.things.items party (board_named (tables_of old) name) (key_detail k) limits needs) ≡ None
+    → first_of (open_refusals bytes_eq old.things party (board_named (tables_of old) name) (key_detail k) limits needs) ≡ None
     → Has new (record (standing_of old) { tables = with_thing (tables_of old) (record { holder = party; name = f; board = number; kind = kind.Factory }) }) (memory_of old) (published_of old)
     → Asks old new party (requests.table (requests.open_ f name k limits needs)) (reply.Number number)
 opened old new party f name k limits needs number is none has =
     let board = board_named (tables_of old) name in
     subst (λ (n : ℕ). Asks old new party (requests.table (requests.open_ f name k limits needs)) (reply.Number n)) (sym is)
     (call_made old party (requests.table (requests.open_ f name k limits needs)) reply.OpenError (number_of board) (joined (tables_of old) party f board)
-    (first_of (open_refusals bytes_eq old.things.items party board (key_detail k) limits needs)) refl none refl refl new
+    (first_of (open_refusals bytes_eq old.things party board (key_detail k) limits needs)) refl none refl refl new
     (record {
       standing = has.standing ∙ ap (λ (n : ℕ). record (standing_of old) { tables = with_thing (tables_of old) (record { holder = party; name = f; board = n; kind = kind.Factory }) }) is;
       memory = has.memory;

@@ -1,4 +1,3 @@
-mod Takes
 mod Places
 mod TableLemmas
 mod FindLemmas

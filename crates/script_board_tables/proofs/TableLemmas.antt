@@ -13,7 +13,8 @@ use Rattle.board_model.specs.TableCalls.{boards_left}
 use Rattle.board_model.specs.Tables.{without_first}
 use Rattle.script_board_tables.specs.declared.tables.BoardTables.{BoardTables}
 use Rattle.script_board_tables.specs.declared.tables.KeptValue.{KeptValue}
-use Rattle.script_board_tables.specs.Tables.{Has, SeatOf, kept_at, kept_in, lists_in, loan_at, memory_of, published_of, same_seat, standing_of, tables_of, words_in}
+use Rattle.script_things.specs.Named.{SeatOf, same_seat}
+use Rattle.script_board_tables.specs.Tables.{Has, kept_at, kept_in, lists_in, loan_at, memory_of, published_of, standing_of, tables_of, words_in}
 
 -- ---- functions that agree everywhere are one
 
@@ -125,7 +126,7 @@ anew party from to s = record s { tables = with_name s.tables party from to }
 
 -- a thing has another name
 pub renamed : (mid new : BoardTables) (s : Standing) (m : ℕ → List ℕ) (l : Published) (party from to : List ℕ) → Has mid s m l
-    → new.things.items ≡ map (named_anew party from to) mid.things.items → new.boards.items ≡ mid.boards.items → new.last_board ≡ mid.last_board → new.last_port ≡ mid.last_port
+    → new.things ≡ map (named_anew party from to) mid.things → new.boards.items ≡ mid.boards.items → new.last_board ≡ mid.last_board → new.last_port ≡ mid.last_port
     → ((p n : List ℕ) → loan_at new p n ≡ loan_at mid p n) → ((p n : List ℕ) → kept_at new p n ≡ kept_at mid p n) → memory_of new ≡ memory_of mid → published_of new ≡ published_of mid
     → Has new (anew party from to s) m l
 renamed mid new s m l party from to h things boards b p loans values memory lists = record {
@@ -149,8 +150,8 @@ module _ (old new : BoardTables) (party name : List ℕ) (b : new.last_board ≡
   released_by o = record (standing_of old) { tables = released_thing (tables_of old) party name o }
 
   -- nothing was under the name
-  pub nothing_went : thing_of old.things.items party name ≡ None → new.things.items ≡ old.things.items → new.boards.items ≡ old.boards.items
-      → Has new (released_by (thing_of old.things.items party name)) (memory_of old) (published_of old)
+  pub nothing_went : thing_of old.things party name ≡ None → new.things ≡ old.things → new.boards.items ≡ old.boards.items
+      → Has new (released_by (thing_of old.things party name)) (memory_of old) (published_of old)
   nothing_went none things boards = record {
     standing = standing_is new (released_by None) (λ i. record { boards = boards i; things = things i; last_board = b i; last_port = p i }) loans values ∙ ap released_by (sym none);
     memory = memory;
@@ -158,9 +159,9 @@ module _ (old new : BoardTables) (party name : List ℕ) (b : new.last_board ≡
   }
 
   -- a thing was, and a board goes with its last one
-  pub thing_went : (x : Held) → thing_of old.things.items party name ≡ Some x → new.things.items ≡ without_first (is_held_as party name) old.things.items
-      → new.boards.items ≡ boards_left old.boards.items x.board (without_first (is_held_as party name) old.things.items)
-      → Has new (released_by (thing_of old.things.items party name)) (memory_of old) (published_of old)
+  pub thing_went : (x : Held) → thing_of old.things party name ≡ Some x → new.things ≡ without_first (is_held_as party name) old.things
+      → new.boards.items ≡ boards_left old.boards.items x.board (without_first (is_held_as party name) old.things)
+      → Has new (released_by (thing_of old.things party name)) (memory_of old) (published_of old)
   thing_went x found things boards = record {
     standing = standing_is new (released_by (Some x)) (λ i. record { boards = boards i; things = things i; last_board = b i; last_port = p i }) loans values ∙ ap released_by (sym found);
     memory = memory;

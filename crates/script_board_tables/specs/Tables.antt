@@ -1,6 +1,5 @@
 -- What of the definitions' state a checker's tables of boards have.
 use Rattle.std.specs.Prelude.{◌≡◌, ℕ, Bool, ◌&&◌, ◌==◌, if◌then◌else◌, nat_eq, List, [], slice_get, Option, Some, None, option_map}
-use Rattle.std.specs.Str.{bytes_eq}
 use Rattle.std.specs.HashMap.{get}
 use Rattle.std.specs.Global.{Vec}
 use Rattle.board_model.specs.Tables.{Tables}
@@ -9,19 +8,11 @@ use Rattle.board_model.specs.Requests.{Published}
 use Rattle.script_board_tables.specs.declared.tables.BoardTables.{BoardTables}
 use Rattle.script_board_tables.specs.declared.tables.BoardRow.{BoardRow}
 use Rattle.script_board_tables.specs.declared.tables.KeptValue.{KeptValue}
-use Rattle.script_board_tables.specs.declared.tables.Seat.{Seat}
-
--- what is kept under a party's name
-abbrev pub SeatOf : Type 0
-SeatOf = Seat
-
--- two parties' names under which something is kept are the same
-abbrev pub same_seat : Seat → Seat → Bool
-same_seat a b = bytes_eq a.party b.party && bytes_eq a.name b.name
+pub use Rattle.script_things.specs.Named.{SeatOf, same_seat}
 
 -- the boards and things
 abbrev pub tables_of : BoardTables → Tables (List ℕ) (List ℕ)
-tables_of t = record { boards = t.boards.items; things = t.things.items; last_board = t.last_board; last_port = t.last_port }
+tables_of t = record { boards = t.boards.items; things = t.things; last_board = t.last_board; last_port = t.last_port }
 
 -- the words of a loan
 abbrev pub loan_at : BoardTables → List ℕ → List ℕ → Option (List (Option ℕ))

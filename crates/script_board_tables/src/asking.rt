@@ -230,7 +230,14 @@ impl BoardTables {
     {
         let found = board_named(name, &self.boards);
         let number = number_of(found);
-        match open_refusal(party, found, key_type, limits, needs, &self.things) {
+        match open_refusal(
+            party,
+            found,
+            key_type,
+            limits,
+            needs,
+            self.things.as_slice(),
+        ) {
             Some(error) => Ok(Reply::OpenError(error)),
             None => {
                 self.hold(Held {
@@ -250,7 +257,7 @@ impl BoardTables {
             (λ b. nat_le b.max_readers (model.reader_slots b.number (tables_of self.now).things)) }
     {
         match self.board(number) {
-            Some(board) => board.max_readers <= reader_slots(board.number, &self.things),
+            Some(board) => board.max_readers <= reader_slots(board.number, self.things.as_slice()),
             None => false,
         }
     }
@@ -261,7 +268,7 @@ impl BoardTables {
             (λ b. nat_le b.max_writers (model.writer_slots b.number (tables_of self.now).things)) }
     {
         match self.board(number) {
-            Some(board) => board.max_writers <= writer_slots(board.number, &self.things),
+            Some(board) => board.max_writers <= writer_slots(board.number, self.things.as_slice()),
             None => false,
         }
     }
@@ -392,7 +399,7 @@ impl BoardTables {
         ensures { IfOk result (Asks self.old self.new party.now (requests.table
             (requests.entry_mut name writer.now key.now value_type))) }
     {
-        if has_write_handle(writer.board, found.0, &self.things) {
+        if has_write_handle(writer.board, found.0, self.things.as_slice()) {
             return Ok(Reply::EntryMutError(EntryHandleMutError::HandleAlreadyExists));
         }
         self.hold(Held {
@@ -425,11 +432,11 @@ impl BoardTables {
 
     // What is told of a board.
     fn info(&self, number: u64) -> Result<Info, AllocError>
-        ensures { IfOk result (λ info. info ≡ replies.info_of self.now.things.items
+        ensures { IfOk result (λ info. info ≡ replies.info_of self.now.things
             (model.board_at (tables_of self.now) number)) }
     {
         if let Some(board) = self.board(number) {
-            return info_of(self.alloc, board, &self.things);
+            return info_of(self.alloc, board, self.things.as_slice());
         }
         let name = LongName::new(self.alloc, Text::of(b""))?;
         Ok(Info {
@@ -506,7 +513,7 @@ impl BoardTables {
             } => self.make_entry_mut(party, handle, &writer, &key, value_type),
             TableCall::Keys { factory } => Ok(Reply::Keys(self.keys(factory.board)?)),
             TableCall::Nodes { factory } => {
-                let nodes = nodes_at(self.alloc, factory.board, &self.things)?;
+                let nodes = nodes_at(self.alloc, factory.board, self.things.as_slice())?;
                 Ok(Reply::Nodes(nodes))
             }
             TableCall::Info { factory } => Ok(Reply::Info(self.info(factory.board)?)),

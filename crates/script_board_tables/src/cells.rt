@@ -4,11 +4,12 @@ ghost use Rattle.std.specs.HashMap.{get};
 ghost use Rattle.board_model.specs.Memory.{store};
 ghost use Rattle.board_model.specs.Replies.{published_at};
 ghost use Rattle.board_model.specs.Things.{with_at, with_name};
-ghost use Rattle.script_board_tables.specs.Tables.{Has, SeatOf, kept_at, kept_in, lists_in, loan_at, memory_of, published_of, same_seat, standing_of, tables_of, words_in};
+ghost use Rattle.script_board_tables.specs.Tables.{Has, kept_at, kept_in, lists_in, loan_at, memory_of, published_of, standing_of, tables_of, words_in};
+ghost use Rattle.script_things.specs.Named.{SeatOf, same_seat};
 
-use crate::tables::{BoardRow, BoardTables, KeptValue, LoanWords, Seat};
+use crate::tables::{BoardRow, BoardTables, KeptValue, LoanWords};
 use board_model::{Name, Words};
-use script_things::rename;
+use script_things::Seat;
 use std::alloc::AllocError;
 use std::collections::HashMap;
 
@@ -136,7 +137,7 @@ impl BoardTables {
             (memory_of self.old) (published_of self.old)) }
     {
         self.set_words(party, loan, words)?;
-        rename(party, handle, loan, &mut self.things);
+        self.things.rename(party, handle, loan)?;
         Ok(())
     }
 
@@ -189,14 +190,20 @@ impl BoardTables {
     }
 
     // The loan becomes a write handle, and its words are forgotten.
-    pub(crate) fn give_back(&mut self, party: &Name, loan: &Name, handle: &Name)
-        ensures { Has self.new (record (standing_of self.old) {
+    pub(crate) fn give_back(
+        &mut self,
+        party: &Name,
+        loan: &Name,
+        handle: &Name,
+    ) -> Result<(), AllocError>
+        ensures { OnOk result (Has self.new (record (standing_of self.old) {
           tables = with_name (tables_of self.old) party.now loan.now handle.now;
           loans = with_at (loan_at self.old) party.now loan.now None;
         })
-            (memory_of self.old) (published_of self.old) }
+            (memory_of self.old) (published_of self.old)) }
     {
         self.forget_words(party, loan);
-        rename(party, loan, handle, &mut self.things);
+        self.things.rename(party, loan, handle)?;
+        Ok(())
     }
 }

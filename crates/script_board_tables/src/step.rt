@@ -242,7 +242,7 @@ impl BoardTables {
             });
         }
         self.publish(publishing.board, publishing.entry, publishing.words)?;
-        self.give_back(party, &loan, &handle);
+        self.give_back(party, &loan, &handle)?;
         Ok(Stepped::Ends {
             access,
             reply: Reply::Done,
@@ -282,7 +282,7 @@ impl BoardTables {
         let value = lent.generation + 1;
         self.write(lent.board, lent.shape.first, value);
         self.publish(lent.board, lent.entry, words)?;
-        self.give_back(party, &lent.loan, &lent.handle);
+        self.give_back(party, &lent.loan, &lent.handle)?;
         Ok(Stepped::Ends {
             access: Access::Write {
                 board: lent.board,
@@ -304,14 +304,14 @@ impl BoardTables {
         })
     }
 
-    fn step_discard(&mut self, party: &Name, lent: &Lent) -> Stepped
-        ensures { Steps self.old self.new party.now (call.Discard lent.now) result }
+    fn step_discard(&mut self, party: &Name, lent: &Lent) -> Result<Stepped, AllocError>
+        ensures { IfOk result (Steps self.old self.new party.now (call.Discard lent.now)) }
     {
-        self.give_back(party, &lent.loan, &lent.handle);
-        Stepped::Ends {
+        self.give_back(party, &lent.loan, &lent.handle)?;
+        Ok(Stepped::Ends {
             access: Access::Table,
             reply: Reply::Done,
-        }
+        })
     }
 
     /// Makes the next access of a party's call.
@@ -331,7 +331,7 @@ impl BoardTables {
                 })
             }
             BoardCall::Loan(lent) => self.step_loan(party, &lent),
-            BoardCall::Discard(lent) => Ok(self.step_discard(party, &lent)),
+            BoardCall::Discard(lent) => self.step_discard(party, &lent),
             BoardCall::Get { fetch, reading } => self.step_get(party, fetch, reading),
             BoardCall::Fresh(look) => Ok(self.step_fresh(party, &look)),
             BoardCall::Update(publishing) => self.step_update(party, publishing),

@@ -7,21 +7,12 @@ ghost use Rattle.board_model.specs.Tables as model;
 ghost use Rattle.script_board_tables.specs.Tables.{Has, kept_at, kept_in, loan_at, memory_of, published_of, same_seat, standing_of, tables_of};
 
 use board_model::{Board, Entry, Items, Kind, Name, ThingKind, ValueType, Words};
-use script_things::{Held, board_at, entry_at, entry_of, held_of_kind, thing_of};
+use script_things::{Held, NamedThings, Seat, board_at, entry_at, entry_of};
 use std::alloc::{AllocError, Global};
 use std::collections::HashMap;
 
 /// The words of a loan, none where a word was not put.
 pub type LoanWords = Items<Option<u64>>;
-
-/// What a party holds under a name is kept under both.
-#[derive(Clone, Copy, PartialEq, Eq, Hash)]
-pub struct Seat {
-    /// The party.
-    pub party: Name,
-    /// The name.
-    pub name: Name,
-}
 
 /// A value that a party read and kept.
 #[derive(Drop)]
@@ -46,7 +37,7 @@ pub(crate) struct BoardRow {
 pub struct BoardTables {
     pub(crate) alloc: Global,
     pub(crate) boards: Vec<Board>,
-    pub(crate) things: Vec<Held>,
+    pub(crate) things: NamedThings,
     pub(crate) last_board: u64,
     pub(crate) last_port: u64,
     // by the number of the board
@@ -63,7 +54,7 @@ impl BoardTables {
         BoardTables {
             alloc,
             boards: Vec::new(alloc),
-            things: Vec::new(alloc),
+            things: NamedThings::new(alloc),
             last_board: 0,
             last_port: 0,
             rows: HashMap::new(alloc),
@@ -77,7 +68,7 @@ impl BoardTables {
         ensures { result
             ≡ held.held_of_kind (standing_of self.now) kind party.now name.now }
     {
-        held_of_kind(kind, party, name, &self.things)
+        self.things.of_kind(kind, party, name)
     }
 
     // The words of a loan.
@@ -145,7 +136,7 @@ impl BoardTables {
     pub fn is_held(&self, party: &Name, name: &Name) -> bool
         ensures { result ≡ held.is_held (standing_of self.now) party.now name.now }
     {
-        thing_of(party, name, &self.things).is_some() || self.kept(party, name).is_some()
+        self.things.at(party, name).is_some() || self.kept(party, name).is_some()
     }
 
     /// Whether the board stands.

@@ -3,9 +3,8 @@ ghost use Rattle.std.specs.Prelude.{◌≡◌, Some, find, map, option_map};
 ghost use Rattle.board_model.specs.Tables as tables;
 ghost use Rattle.board_model.specs.Things as held;
 
-use crate::kinds::is_kind;
 use board_layout::Text;
-use board_model::{Board, Entry, Name, Thing, ThingKind};
+use board_model::{Board, Entry, Name, Thing};
 
 /// A thing of a board, under its party and its name.
 pub type Held = Thing<Name, Name>;
@@ -35,8 +34,8 @@ pub fn entry_at(number: u64, entry: u64, boards: &[Board]) -> Option<&Entry>
     }
 }
 
-/// The thing that a party holds under a name.
-pub fn thing_of<'a>(party: &Name, name: &Name, things: &'a [Held]) -> Option<&'a Held>
+// The thing that a party holds under a name.
+pub(crate) fn thing_of<'a>(party: &Name, name: &Name, things: &'a [Held]) -> Option<&'a Held>
     ensures { option_map (λ t. t.now) result ≡ held.thing_of things.now party.now name.now }
 {
     things
@@ -44,24 +43,8 @@ pub fn thing_of<'a>(party: &Name, name: &Name, things: &'a [Held]) -> Option<&'a
         .find(|t| t.holder == *party && t.name == *name)
 }
 
-/// The same, where it is of this kind.
-pub fn held_of_kind(kind: ThingKind, party: &Name, name: &Name, things: &[Held]) -> Option<Held>
-    ensures { result ≡ held.of_kind kind (held.thing_of things.now party.now name.now) }
-{
-    match thing_of(party, name, things) {
-        Some(t) => {
-            if is_kind(kind, &t.kind) {
-                Some(*t)
-            } else {
-                None
-            }
-        }
-        None => None,
-    }
-}
-
-/// Gives the party's thing another name.
-pub fn rename(party: &Name, old: &Name, new: &Name, things: &mut Vec<Held>)
+// Gives the party's thing another name.
+pub(crate) fn rename(party: &Name, old: &Name, new: &Name, things: &mut Vec<Held>)
     ensures { things.new.items
         ≡ map (held.named_anew party.now old.now new.now) things.old.items }
 {

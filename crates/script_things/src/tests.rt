@@ -1,6 +1,6 @@
 use crate::{
-    Held, has_thing, has_write_handle, held_of_kind, is_node, nodes_at, nodes_taken, reader_slots,
-    rename, thing_of, writer_slots,
+    Held, NamedThings, has_thing, has_write_handle, is_node, nodes_at, nodes_taken, reader_slots,
+    writer_slots,
 };
 use board_layout::Text;
 use board_model::{Kind, Name, ThingKind};
@@ -50,11 +50,20 @@ fn what_is_taken_of_a_board(rt: HostRuntime) -> Result<(), Fail> {
 
 #[test]
 fn a_thing_by_another_name(rt: HostRuntime) -> Result<(), Fail> {
-    let mut things = Vec::from_slice(rt.alloc(), &things())?;
-    rename(&name(b"b"), &name(b"m"), &name(b"l"), &mut things);
-    assert!(rt; thing_of(&name(b"b"), &name(b"m"), &things).is_none());
-    let lent = held_of_kind(ThingKind::WriteHandle, &name(b"b"), &name(b"l"), &things);
-    assert!(rt; lent.is_some());
-    assert!(rt; held_of_kind(ThingKind::Factory, &name(b"b"), &name(b"l"), &things).is_none());
+    let mut named = NamedThings::new(rt.alloc());
+    for thing in things() {
+        named.push(thing)?;
+    }
+    let (party, handle, loan) = (name(b"b"), name(b"m"), name(b"l"));
+    named.rename(&party, &handle, &loan)?;
+    assert!(rt; named.at(&party, &handle).is_none() && named.as_slice().len() == 6);
+    assert!(rt;
+        named
+            .of_kind(ThingKind::WriteHandle, &party, &loan)
+            .is_some()
+    );
+    assert!(rt; named.of_kind(ThingKind::Factory, &party, &loan).is_none());
+    assert!(rt; named.take(&party, &loan).is_some() && named.at(&party, &loan).is_none());
+    assert!(rt; named.take(&party, &loan).is_none() && named.as_slice().len() == 5);
     Ok(())
 }

@@ -10,4 +10,4 @@ publish-requires c = subst (λ (l : Published). 0 < length (l c.args.lent.now.bo
 pub returns : goal.returns
 returns c =
     let words : c.in_ok-words.words ≡ map word_put c.args.lent.now.words = search rules in
-    publishes c.args.self.now c.write.new.self c.args.lent.now c.write.ensures c.publish.new.self c.give_back.new.self c.args.party.now c.in_ok-words.words words c.in_ok-publish.ensures c.give_back.ensures
+    publishes c.args.self.now c.write.new.self c.args.lent.now c.write.ensures c.publish.new.self c.give_back.new.self c.args.party.now c.in_ok-words.words words c.in_ok-publish.ensures c.in_ok-give_back.ensures

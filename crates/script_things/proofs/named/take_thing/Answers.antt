@@ -1,8 +1,8 @@
 use Rattle.std.proofs.Common.{◌≡◌, ℕ, rules, sym, ap, ◌∙◌, Option, Some, None}
 use Rattle.std.specs.List.{position_from}
 use Rattle.board_model.specs.Things.{Held, is_held_as}
-use Rattle.script_board_tables.proofs.Takes.{first_at, none_at, without_at}
-use Rattle.script_board_tables.proofs.release.take_thing.Goals as goal
+use Rattle.script_things.proofs.Takes.{first_at, none_at, without_at}
+use Rattle.script_things.proofs.named.take_thing.Goals as goal
 
 abbrev a_place : ℕ → Option ℕ
 a_place n = Some n
