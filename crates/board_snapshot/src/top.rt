@@ -82,10 +82,14 @@ pub fn run_program<S: Source, K: Sink, N: Sink>(
     notes: &mut N,
 ) -> ExitCode
     // The process ends with the status of what the words ask for, and with its note.
-    ensures { HasEnded (map string_bytes words.now.items) (exit_status result)
+    ensures ended { HasEnded (map string_bytes words.now.items) (exit_status result)
         (stream_of S.left S.faults source.old source.new)
         (stream_of K.held K.faults sink.old sink.new)
         (stream_of N.held N.faults notes.old notes.new) }
+
+    // With words nothing is read or written.
+    ensures unread { 0 < length words.now.items → source.new ≡ source.old }
+    ensures unwritten { 0 < length words.now.items → sink.new ≡ sink.old }
 {
     ExitCode::from(snapshot_words(alloc, words, source, sink, notes))
 }

@@ -1,12 +1,13 @@
 //! The program's top call.
-ghost use Rattle.std.specs.Prelude.{◌≡◌, ◌⊎◌, ◌<◌, length, map};
+ghost use Rattle.std.specs.Prelude.{◌≡◌, ◌⊎◌, ℕ, ◌<◌, length, map};
 ghost use Rattle.std.specs.Process.{exit_status};
 ghost use Rattle.std.specs.String.{string_bytes};
 ghost use Rattle.std.specs.Io.KnownBytes.{IsAtEnd};
 ghost use Rattle.script_endings.specs.Endings.{IsNoted};
 ghost use Rattle.script_loop.specs.Runs.{stream_of};
 ghost use Rattle.script_exchanges.specs.declared.line.Drive.TheVariants.{Watchers};
-ghost use Rattle.script_drive.specs.DriveRuns.{IsUndisturbed};
+ghost use Rattle.script_drive.specs.DriveRuns.{IsRunnable, IsUndisturbed};
+ghost use Rattle.script_watches.specs.WatchExchanges.{IsLawful};
 ghost use Rattle.board_watch.specs.Top.{HasEnded, IsAnswered, IsWatchRun, usage_note};
 
 use board_cell::SeatWords;
@@ -48,11 +49,16 @@ pub fn watch_words<S: Source, K: Sink, N: Sink>(
         (stream_of K.held K.faults sink.old sink.new)
         (stream_of N.held N.faults notes.old notes.new) }
 
-    // A known script of the grammar ends with status 0 where nothing fails, or 7 where memory is refused.
-    ensures complete { length words.now.items ≡ 0
+    // A known script of the grammar ends with status 0, or 7 where memory is refused: where nothing failed in this run, and
+    // where nothing can fail of which the sink takes all that is told.
+    ensures undisturbed { length words.now.items ≡ 0
         → IsUndisturbed Watchers 4294967295
         (stream_of S.left S.faults source.old source.new)
         (stream_of K.held K.faults sink.old sink.new)
+        → (result ≡ 0) ⊎ (result ≡ 7) }
+    ensures complete { length words.now.items ≡ 0
+        → S.never_fails source.old → (room : ℕ) → K.never_fails_within sink.old room
+        → IsRunnable Watchers IsLawful room 4294967295 (S.left source.old)
         → (result ≡ 0) ⊎ (result ≡ 7) }
 
     // The status is 2 exactly where there are words. Then nothing is read or written.
@@ -82,10 +88,14 @@ pub fn run_program<S: Source, K: Sink, N: Sink>(
     notes: &mut N,
 ) -> ExitCode
     // The process ends with the status of what the words ask for, and with its note.
-    ensures { HasEnded (map string_bytes words.now.items) (exit_status result)
+    ensures ended { HasEnded (map string_bytes words.now.items) (exit_status result)
         (stream_of S.left S.faults source.old source.new)
         (stream_of K.held K.faults sink.old sink.new)
         (stream_of N.held N.faults notes.old notes.new) }
+
+    // With words nothing is read or written.
+    ensures unread { 0 < length words.now.items → source.new ≡ source.old }
+    ensures unwritten { 0 < length words.now.items → sink.new ≡ sink.old }
 {
     ExitCode::from(watch_words(alloc, words, source, sink, notes))
 }

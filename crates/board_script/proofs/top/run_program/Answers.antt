@@ -2,8 +2,8 @@ use Rattle.std.specs.String.{string_bytes}
 use Rattle.script_endings.proofs.StatusLemmas.{no_words}
 use Rattle.board_script.proofs.top.run_program.Goals as goal
 
-pub returns : goal.returns
-returns g c = rw c.from.ensures (record {
+pub returns-clause-ended : goal.returns-clause-ended
+returns-clause-ended g c = rw c.from.ensures (record {
   ran = λ none. c.run_words.ensures.ran (no_words string_bytes c.args.words.now.items none);
   generated = c.run_words.ensures.generated;
   usage = c.run_words.ensures.usage;

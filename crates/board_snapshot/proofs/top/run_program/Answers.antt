@@ -3,8 +3,8 @@ use Rattle.script_endings.proofs.StatusLemmas.{no_words}
 use Rattle.board_snapshot.proofs.TopLemmas.{some_words}
 use Rattle.board_snapshot.proofs.top.run_program.Goals as goal
 
-pub returns : goal.returns
-returns g c = rw c.from.ensures (record {
+pub returns-clause-ended : goal.returns-clause-ended
+returns-clause-ended g c = rw c.from.ensures (record {
   ran = λ none. c.snapshot_words.ensures.ran (no_words string_bytes c.args.words.now.items none);
   ok = c.snapshot_words.ensures.ok;
   usage = λ some. c.snapshot_words.ensures.usage (some_words string_bytes c.args.words.now.items some);

@@ -1,3 +1,4 @@
+use Rattle.script_endings.proofs.StatusLemmas.{run_through}
 use Rattle.board_watch.proofs.TopLemmas.{no_words_status, none_lawful, run_ends, run_is, runs_through}
 use Rattle.board_watch.proofs.top.watch_words.Goals as goal
 
@@ -14,7 +15,11 @@ pub returns-clause-ran : goal.returns-clause-ran
 returns-clause-ran g c = λ none. record { answer = c.run_driven.result; run = c.run_driven.ensures.runs; is = c.end_with.ensures.is; note = c.end_with.ensures.noted }
 
 pub returns-clause-complete : goal.returns-clause-complete
-returns-clause-complete g c = λ none sure. runs_through c.run_driven.result _ _ _ c.run_driven.ensures.runs c.end_with.ensures.is sure
+returns-clause-complete g c = λ none sure room takes fits.
+    run_through c.run_driven.result c.end_with.result c.end_with.ensures.is (c.run_driven.ensures.complete sure room takes fits)
+
+pub returns-clause-undisturbed : goal.returns-clause-undisturbed
+returns-clause-undisturbed g c = λ none sure. runs_through c.run_driven.result _ _ _ c.run_driven.ensures.runs c.end_with.ensures.is sure
 
 pub returns-clause-usage_only : goal.returns-clause-usage_only
 returns-clause-usage_only g c = λ two. absurd (no_words_status c.run_driven.result _ _ _ c.run_driven.ensures.runs c.end_with.ensures.is two)
