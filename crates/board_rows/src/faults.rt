@@ -30,6 +30,21 @@ struct Ended {
     note: Vec<u8>,
 }
 
+impl Ended {
+    // The program without words, from this source to this sink.
+    fn of(alloc: Global, source: MemorySource, sink: MemorySink) -> Result<Ended, Fail> {
+        let mut source = source;
+        let mut sink = sink;
+        let mut notes = MemorySink::new(alloc, 100, 0, Vec::new(alloc))?;
+        let status = run_words(alloc, &Vec::new(alloc), &mut source, &mut sink, &mut notes);
+        Ok(Ended {
+            status,
+            output: sink.held().to_vec(alloc)?,
+            note: notes.held().to_vec(alloc)?,
+        })
+    }
+}
+
 impl Whole {
     fn new(alloc: Global, name: &'static str) -> Whole {
         Whole {
@@ -90,15 +105,9 @@ impl Whole {
     fn run(&self, alloc: Global, failed_read: usize, failed_write: usize) -> Result<Ended, Fail> {
         let reads = Vec::from_slice(alloc, &[failed_read as u64])?;
         let writes = Vec::from_slice(alloc, &[failed_write as u64])?;
-        let mut source = MemorySource::new(self.input.to_vec(alloc)?, 1, reads);
-        let mut sink = MemorySink::new(alloc, self.output.len(), 1, writes)?;
-        let mut notes = MemorySink::new(alloc, 100, 0, Vec::new(alloc))?;
-        let status = run_words(alloc, &Vec::new(alloc), &mut source, &mut sink, &mut notes);
-        Ok(Ended {
-            status,
-            output: sink.held().to_vec(alloc)?,
-            note: notes.held().to_vec(alloc)?,
-        })
+        let source = MemorySource::new(self.input.to_vec(alloc)?, 1, reads);
+        let sink = MemorySink::new(alloc, self.output.len(), 1, writes)?;
+        Ended::of(alloc, source, sink)
     }
 
     /// After a read fault the lines stand answered that were whole before it.
@@ -205,4 +214,83 @@ fn each_read_may_fail_in_300_lines(rt: HostRuntime) -> Result<(), Fail> {
 fn each_write_may_fail_in_300_lines(rt: HostRuntime) -> Result<(), Fail> {
     let whole = many_updates(rt.alloc())?;
     whole.ends_at_each_write(&rt, rt.alloc())
+}
+
+/// A run of which one call fails. Source and sink give and take so many bytes a call, or any number where that is 0.
+#[derive(Clone, Copy)]
+struct Fault {
+    script: &'static str,
+    piece: usize,
+    failed_reads: &'static [u64],
+    failed_writes: &'static [u64],
+    status: u8,
+    output: &'static str,
+    note: &'static str,
+}
+
+const FAULTS: [Fault; 4] = [
+    // The second answer isn't written.
+    Fault {
+        script: "abandon a\nabandon b\n",
+        piece: 0,
+        failed_reads: &[],
+        failed_writes: &[1],
+        status: 4,
+        output: "gone\n",
+        note: "write fault\n",
+    },
+    // The second line is cut.
+    Fault {
+        script: "abandon a\nabandon b\n",
+        piece: 1,
+        failed_reads: &[12],
+        failed_writes: &[],
+        status: 3,
+        output: "gone\n",
+        note: "read fault\n",
+    },
+    Fault {
+        script: "abandon a\n",
+        piece: 1,
+        failed_reads: &[],
+        failed_writes: &[3],
+        status: 4,
+        output: "gon",
+        note: "write fault\n",
+    },
+    Fault {
+        script: "abandon a\n",
+        piece: 1,
+        failed_reads: &[4],
+        failed_writes: &[],
+        status: 3,
+        output: "",
+        note: "read fault\n",
+    },
+];
+
+#[test]
+fn what_stands_written_after_a_fault(rt: HostRuntime) -> Result<(), Fail> {
+    let alloc = rt.alloc();
+    for fault in &FAULTS {
+        let script = fault.script.as_bytes().to_vec(alloc)?;
+        let source = MemorySource::new(script, fault.piece, fault.failed_reads.to_vec(alloc)?);
+        let writes = fault.failed_writes.to_vec(alloc)?;
+        let sink = MemorySink::new(alloc, 100, fault.piece, writes)?;
+        let ended = Ended::of(alloc, source, sink)?;
+        assert_eq!(rt; ended.status, fault.status, "{}", fault.script);
+        assert_eq!(rt;
+            ended.output.as_slice(),
+            fault.output.as_bytes(),
+            "{}",
+            fault.script
+        );
+        assert_eq!(rt;
+            ended.note.as_slice(),
+            fault.note.as_bytes(),
+            "{}",
+            fault.script
+        );
+    }
+    Ok(())
 }

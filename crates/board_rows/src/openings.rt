@@ -33,8 +33,8 @@ pub(crate) const FOUR_WORDS: Part = &[
     ("step b", "table = ok 0"),
 ];
 
-/// `a` makes a board of one number, and `b` reads and writes it. It keeps the first value as `v`.
-pub(crate) const ONE_PARTY_READS_AND_WRITES: Part = &[
+/// `a` makes a board of one number, and `b` reads it. It keeps the first value as `v`.
+pub(crate) const ONE_PARTY_READS: Part = &[
     ("begin a create f b u64 add u64:1 u64:5", "ok"),
     ("step a", "table = ok 1"),
     ("begin b open f b u64", "ok"),
@@ -47,10 +47,30 @@ pub(crate) const ONE_PARTY_READS_AND_WRITES: Part = &[
     ("step b", "read 1:0 1"),
     ("step b", "read 1:2 5"),
     ("step b", "read 1:0 1 = u64:5 gen 1"),
+];
+
+/// `b` takes the place of the board's writer.
+pub(crate) const IT_IS_THE_WRITER: Part = &[
     ("begin b writer w f", "ok"),
     ("step b", "table = ok 2"),
+];
+
+/// `b` writes the number.
+pub(crate) const IT_WRITES: Part = &[
     ("begin b entrymut m w u64:1 u64", "ok"),
     ("step b", "table = ok 0"),
+];
+
+/// `a` and `b` are both writers of a board of one number, which has two.
+pub(crate) const TWO_WRITERS: Part = &[
+    ("begin a create f b u64 writers 2 add u64:1 u64:5", "ok"),
+    ("step a", "table = ok 1"),
+    ("begin a writer w f", "ok"),
+    ("step a", "table = ok 1"),
+    ("begin b open f b u64", "ok"),
+    ("step b", "table = ok 1"),
+    ("begin b writer w f", "ok"),
+    ("step b", "table = ok 2"),
 ];
 
 /// `a` takes a loan.

@@ -1,5 +1,5 @@
 //! Readers beside a writer.
-use crate::openings::{FOUR_WORDS, ONE_NUMBER, ONE_PARTY_READS_AND_WRITES};
+use crate::openings::{FOUR_WORDS, IT_IS_THE_WRITER, IT_WRITES, ONE_NUMBER, ONE_PARTY_READS};
 use crate::row::{PLAIN, Row, all_hold};
 use std::test::Fail;
 
@@ -93,7 +93,7 @@ pub(crate) const ROWS: [Row; 8] = [
     },
     Row {
         name: "a kept value is fresh until an update",
-        opening: &[ONE_PARTY_READS_AND_WRITES],
+        opening: &[ONE_PARTY_READS, IT_IS_THE_WRITER, IT_WRITES],
         lines: &[
             ("begin b fresh h v", "ok"),
             ("step b", "read 1:0 1 = true"),

@@ -18,6 +18,31 @@ pub(super) const B_LEFT: Part = &[
     ),
 ];
 
+/// Its call runs no more.
+pub(super) const B_GONE: Part = &[
+    ("abandon b", "gone"),
+    ("step b", "refused abandoned"),
+    ("abandon b", "refused abandoned"),
+];
+
+/// The place of the writer is free.
+pub(super) const A_BECOMES_THE_WRITER: Part = &[
+    ("begin a writer w f", "ok"),
+    ("step a", "table = ok 2"),
+];
+
+/// The entry is free to be written.
+pub(super) const A_GETS_THE_HANDLE: Part = &[
+    ("begin a entrymut m w u64:1 u64", "ok"),
+    ("step a", "table = ok 0"),
+];
+
+/// The entry's write handle is held.
+pub(super) const A_GETS_NO_HANDLE: Part = &[
+    ("begin a entrymut m w u64:1 u64", "ok"),
+    ("step a", "table = EntryHandleMutError::HandleAlreadyExists"),
+];
+
 /// Another party makes a board, reads the one that stands, and listens and waits.
 pub(super) const C_GOES_ON: Part = &[
     ("begin c create g d u64 add u64:1 u64:5", "ok"),

@@ -1,7 +1,7 @@
 //! The table of calls whose parties are abandoned, in three parts. Each call of a script begins and makes its steps, and ends, or goes on where it waits or reads without end.
 use super::boards::{
-    A_WORD_WRITTEN, AS_IT_WAS, B_LEFT, C_GETS_THE_UPDATE, C_GOES_ON, C_GOES_ON_AFTER_A_BOARD,
-    C_GOES_ON_AFTER_A_PORT, UPDATED,
+    A_BECOMES_THE_WRITER, A_GETS_NO_HANDLE, A_GETS_THE_HANDLE, A_WORD_WRITTEN, AS_IT_WAS, B_GONE,
+    B_LEFT, C_GETS_THE_UPDATE, C_GOES_ON, C_GOES_ON_AFTER_A_BOARD, C_GOES_ON_AFTER_A_PORT, UPDATED,
 };
 use super::events::{
     A_SIGNALLED_ID_IS_FOUND, AN_ID_IS_FOUND, ANOTHER_NOTIFIER, ANOTHER_OF_THE_QUEUE, E_LEFT,
@@ -14,15 +14,18 @@ use super::loans::{
 };
 use super::{Abandoned, C_MAKES_THE_FIRST_BOARD, C_MAKES_THE_SECOND_BOARD};
 use crate::openings::{
-    A_LOAN, A_QUEUE, A_SET_OF_128, FOUR_WORDS, FOURTH_WORD_PUT, ONE_PARTY_READS_AND_WRITES,
-    THREE_WORDS_PUT,
+    A_LOAN, A_QUEUE, A_SET_OF_128, FOUR_WORDS, FOURTH_WORD_PUT, IT_IS_THE_WRITER, IT_WRITES,
+    ONE_PARTY_READS, THREE_WORDS_PUT, TWO_WRITERS,
 };
+use crate::row::Part;
+
+const B_READS_AND_WRITES: &[Part] = &[ONE_PARTY_READS, IT_IS_THE_WRITER, IT_WRITES];
 
 /// Calls on boards of one number.
-pub(super) const ON_BOARDS: [Abandoned; 14] = [
+pub(super) const ON_BOARDS: [Abandoned; 16] = [
     // The board stands with the step, since `b` still holds its factory.
     Abandoned {
-        opening: &[ONE_PARTY_READS_AND_WRITES],
+        opening: B_READS_AND_WRITES,
         call: &[
             ("begin b create g c u64 add u64:1 u64:5", "ok"),
             ("step b", "table = ok 2"),
@@ -31,19 +34,19 @@ pub(super) const ON_BOARDS: [Abandoned; 14] = [
         other: &[C_GOES_ON, C_GOES_ON_AFTER_A_BOARD],
     },
     Abandoned {
-        opening: &[ONE_PARTY_READS_AND_WRITES],
+        opening: B_READS_AND_WRITES,
         call: &[("begin b open g b u64", "ok"), ("step b", "table = ok 1")],
         after: &[&[B_LEFT, AS_IT_WAS]],
         other: &[C_GOES_ON],
     },
     Abandoned {
-        opening: &[ONE_PARTY_READS_AND_WRITES],
+        opening: B_READS_AND_WRITES,
         call: &[("begin b reader s f", "ok"), ("step b", "table = ok 3")],
         after: &[&[B_LEFT, AS_IT_WAS]],
         other: &[C_GOES_ON, C_GOES_ON_AFTER_A_PORT],
     },
     Abandoned {
-        opening: &[ONE_PARTY_READS_AND_WRITES],
+        opening: B_READS_AND_WRITES,
         call: &[
             ("begin b writer x f", "ok"),
             (
@@ -54,8 +57,18 @@ pub(super) const ON_BOARDS: [Abandoned; 14] = [
         after: &[&[B_LEFT, AS_IT_WAS]],
         other: &[C_GOES_ON],
     },
+    // The place of the writer is taken with the step.
     Abandoned {
-        opening: &[ONE_PARTY_READS_AND_WRITES],
+        opening: &[ONE_PARTY_READS],
+        call: &[("begin b writer w f", "ok"), ("step b", "table = ok 2")],
+        after: &[
+            &[B_GONE, A_BECOMES_THE_WRITER, AS_IT_WAS],
+            &[B_LEFT, AS_IT_WAS],
+        ],
+        other: &[C_GOES_ON],
+    },
+    Abandoned {
+        opening: B_READS_AND_WRITES,
         call: &[
             ("begin b entry i r u64:1 u64", "ok"),
             ("step b", "table = ok 0"),
@@ -64,7 +77,7 @@ pub(super) const ON_BOARDS: [Abandoned; 14] = [
         other: &[C_GOES_ON],
     },
     Abandoned {
-        opening: &[ONE_PARTY_READS_AND_WRITES],
+        opening: B_READS_AND_WRITES,
         call: &[
             ("begin b entrymut n w u64:1 u64", "ok"),
             ("step b", "table = EntryHandleMutError::HandleAlreadyExists"),
@@ -72,20 +85,33 @@ pub(super) const ON_BOARDS: [Abandoned; 14] = [
         after: &[&[B_LEFT, AS_IT_WAS]],
         other: &[C_GOES_ON],
     },
+    // The write handle is held with the step, and another writer doesn't get it.
     Abandoned {
-        opening: &[ONE_PARTY_READS_AND_WRITES],
+        opening: &[TWO_WRITERS],
+        call: &[
+            ("begin b entrymut m w u64:1 u64", "ok"),
+            ("step b", "table = ok 0"),
+        ],
+        after: &[
+            &[B_GONE, A_GETS_THE_HANDLE, AS_IT_WAS],
+            &[B_GONE, A_GETS_NO_HANDLE, AS_IT_WAS],
+        ],
+        other: &[C_GOES_ON],
+    },
+    Abandoned {
+        opening: B_READS_AND_WRITES,
         call: &[("begin b gen m", "ok"), ("step b", "table = gen 1")],
         after: &[&[B_LEFT, AS_IT_WAS]],
         other: &[C_GOES_ON],
     },
     Abandoned {
-        opening: &[ONE_PARTY_READS_AND_WRITES],
+        opening: B_READS_AND_WRITES,
         call: &[("begin b id h", "ok"), ("step b", "table = id 0")],
         after: &[&[B_LEFT, AS_IT_WAS]],
         other: &[C_GOES_ON],
     },
     Abandoned {
-        opening: &[ONE_PARTY_READS_AND_WRITES],
+        opening: B_READS_AND_WRITES,
         call: &[
             ("begin b info f", "ok"),
             (
@@ -97,25 +123,25 @@ pub(super) const ON_BOARDS: [Abandoned; 14] = [
         other: &[C_GOES_ON],
     },
     Abandoned {
-        opening: &[ONE_PARTY_READS_AND_WRITES],
+        opening: B_READS_AND_WRITES,
         call: &[("begin b nodes f", "ok"), ("step b", "table = nodes a b")],
         after: &[&[B_LEFT, AS_IT_WAS]],
         other: &[C_GOES_ON],
     },
     Abandoned {
-        opening: &[ONE_PARTY_READS_AND_WRITES],
+        opening: B_READS_AND_WRITES,
         call: &[("begin b keys f", "ok"), ("step b", "table = keys u64:1")],
         after: &[&[B_LEFT, AS_IT_WAS]],
         other: &[C_GOES_ON],
     },
     Abandoned {
-        opening: &[ONE_PARTY_READS_AND_WRITES],
+        opening: B_READS_AND_WRITES,
         call: &[("begin b fresh h v", "ok"), ("step b", "read 1:0 1 = true")],
         after: &[&[B_LEFT, AS_IT_WAS]],
         other: &[C_GOES_ON],
     },
     Abandoned {
-        opening: &[ONE_PARTY_READS_AND_WRITES],
+        opening: B_READS_AND_WRITES,
         call: &[
             ("begin b get h x", "ok"),
             ("step b", "read 1:0 1"),
@@ -127,7 +153,7 @@ pub(super) const ON_BOARDS: [Abandoned; 14] = [
     },
     // The value is published with the last step.
     Abandoned {
-        opening: &[ONE_PARTY_READS_AND_WRITES],
+        opening: B_READS_AND_WRITES,
         call: &[
             ("begin b update m u64:6", "ok"),
             ("step b", "write 1:3 6"),
@@ -269,7 +295,7 @@ pub(super) const ON_FOUR_WORDS: [Abandoned; 8] = [
 ];
 
 /// Calls on events.
-pub(super) const ON_EVENTS: [Abandoned; 13] = [
+pub(super) const ON_EVENTS: [Abandoned; 18] = [
     // The id is pending with the set, and signalled with the post.
     Abandoned {
         opening: &[A_SET_OF_128, ANOTHER_NOTIFIER],
@@ -313,6 +339,23 @@ pub(super) const ON_EVENTS: [Abandoned; 13] = [
         after: &[&[E_LEFT, THE_SET_STANDS]],
         other: &[C_MAKES_THE_FIRST_BOARD],
     },
+    // A wait that finds nothing goes on and on: up to eight steps of each.
+    Abandoned {
+        opening: &[A_SET_OF_128, ANOTHER_NOTIFIER],
+        call: &[
+            ("begin e wait e one timed", "ok"),
+            ("step e", "signal bits:ev no"),
+            ("step e", "scan bits:ev 0 0"),
+            ("step e", "scan bits:ev 1 0"),
+            ("step e", "signal bits:ev no"),
+            ("step e", "signal bits:ev no"),
+            ("step e", "signal bits:ev no"),
+            ("step e", "signal bits:ev no"),
+            ("step e", "signal bits:ev no"),
+        ],
+        after: &[&[E_LEFT, THE_SET_STANDS]],
+        other: &[C_MAKES_THE_FIRST_BOARD],
+    },
     Abandoned {
         opening: &[A_SET_OF_128, ANOTHER_NOTIFIER],
         call: &[
@@ -320,6 +363,9 @@ pub(super) const ON_EVENTS: [Abandoned; 13] = [
             ("step e", "signal bits:ev no"),
             ("step e", "scan bits:ev 0 0"),
             ("step e", "scan bits:ev 1 0"),
+            ("step e", "signal bits:ev no"),
+            ("step e", "signal bits:ev no"),
+            ("step e", "signal bits:ev no"),
             ("step e", "signal bits:ev no"),
             ("step e", "signal bits:ev no"),
         ],
@@ -333,6 +379,25 @@ pub(super) const ON_EVENTS: [Abandoned; 13] = [
             ("step e", "signal bits:ev no"),
             ("step e", "swap bits:ev 0 0"),
             ("step e", "swap bits:ev 1 0"),
+            ("step e", "signal bits:ev no"),
+            ("step e", "signal bits:ev no"),
+            ("step e", "signal bits:ev no"),
+            ("step e", "signal bits:ev no"),
+            ("step e", "signal bits:ev no"),
+        ],
+        after: &[&[E_LEFT, THE_SET_STANDS]],
+        other: &[C_MAKES_THE_FIRST_BOARD],
+    },
+    Abandoned {
+        opening: &[A_SET_OF_128, ANOTHER_NOTIFIER],
+        call: &[
+            ("begin e wait e all block", "ok"),
+            ("step e", "signal bits:ev no"),
+            ("step e", "swap bits:ev 0 0"),
+            ("step e", "swap bits:ev 1 0"),
+            ("step e", "signal bits:ev no"),
+            ("step e", "signal bits:ev no"),
+            ("step e", "signal bits:ev no"),
             ("step e", "signal bits:ev no"),
             ("step e", "signal bits:ev no"),
         ],
@@ -391,7 +456,61 @@ pub(super) const ON_EVENTS: [Abandoned; 13] = [
     Abandoned {
         opening: &[A_QUEUE, ANOTHER_OF_THE_QUEUE],
         call: &[
+            ("begin e wait e one timed", "ok"),
+            ("step e", "pop queue:q none"),
+            ("step e", "pop queue:q none"),
+            ("step e", "pop queue:q none"),
+            ("step e", "pop queue:q none"),
+            ("step e", "pop queue:q none"),
+            ("step e", "pop queue:q none"),
+            ("step e", "pop queue:q none"),
+            ("step e", "pop queue:q none"),
+        ],
+        after: &[&[E_LEFT, THE_QUEUE_IS_GONE]],
+        other: &[C_MAKES_THE_FIRST_BOARD],
+    },
+    Abandoned {
+        opening: &[A_QUEUE, ANOTHER_OF_THE_QUEUE],
+        call: &[
             ("begin e wait e one block", "ok"),
+            ("step e", "pop queue:q none"),
+            ("step e", "pop queue:q none"),
+            ("step e", "pop queue:q none"),
+            ("step e", "pop queue:q none"),
+            ("step e", "pop queue:q none"),
+            ("step e", "pop queue:q none"),
+            ("step e", "pop queue:q none"),
+            ("step e", "pop queue:q none"),
+        ],
+        after: &[&[E_LEFT, THE_QUEUE_IS_GONE]],
+        other: &[C_MAKES_THE_FIRST_BOARD],
+    },
+    Abandoned {
+        opening: &[A_QUEUE, ANOTHER_OF_THE_QUEUE],
+        call: &[
+            ("begin e wait e all timed", "ok"),
+            ("step e", "pop queue:q none"),
+            ("step e", "pop queue:q none"),
+            ("step e", "pop queue:q none"),
+            ("step e", "pop queue:q none"),
+            ("step e", "pop queue:q none"),
+            ("step e", "pop queue:q none"),
+            ("step e", "pop queue:q none"),
+            ("step e", "pop queue:q none"),
+        ],
+        after: &[&[E_LEFT, THE_QUEUE_IS_GONE]],
+        other: &[C_MAKES_THE_FIRST_BOARD],
+    },
+    Abandoned {
+        opening: &[A_QUEUE, ANOTHER_OF_THE_QUEUE],
+        call: &[
+            ("begin e wait e all block", "ok"),
+            ("step e", "pop queue:q none"),
+            ("step e", "pop queue:q none"),
+            ("step e", "pop queue:q none"),
+            ("step e", "pop queue:q none"),
+            ("step e", "pop queue:q none"),
+            ("step e", "pop queue:q none"),
             ("step e", "pop queue:q none"),
             ("step e", "pop queue:q none"),
         ],
