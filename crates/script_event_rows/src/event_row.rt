@@ -125,12 +125,11 @@ impl EventRow {
         self.notifiers += 1;
     }
 
-    /// A notifier fewer.
+    /// A notifier fewer, where there is one.
     pub fn release_notifier(&mut self)
-        requires { OfSome self.old (λ e. 0 < e.notifiers) }
         ensures { Becomes self.old self.new (λ e. record e { notifiers = e.notifiers - 1 }) }
     {
-        self.notifiers -= 1;
+        self.notifiers = self.notifiers.saturating_sub(1);
     }
 
     /// The listener was released.

@@ -144,8 +144,7 @@ impl EventTable {
 
     // The event has a notifier less.
     fn let_notifier_go(&mut self, number: u64)
-        requires made { IsMade self.old number }
-        requires some { OfSomeEvent self.old number (λ e. 0 < e.notifiers) }
+        requires { IsMade self.old number }
         ensures events { EventsBecome self.old self.new
             (with_changed number one_notifier_less) }
         ensures count { length self.new.rows.items ≡ length self.old.rows.items }
@@ -165,8 +164,7 @@ impl EventTable {
 
     /// A notifier of an event goes.
     pub fn release_notifier(&mut self, number: u64)
-        requires made { IsMade self.old number }
-        requires some { OfSomeEvent self.old number (λ e. 0 < e.notifiers) }
+        requires { IsMade self.old number }
         ensures { EventsBecome self.old self.new (with_released number one_notifier_less) }
     {
         self.let_notifier_go(number);

@@ -5,6 +5,3 @@ use Rattle.script_event_rows.proofs.tests.a_name_is_held_by_listener_and_notifie
 
 pub add_notifier-requires : goal.add_notifier-requires
 add_notifier-requires g c = (new_event kind.Bits _ 0, c.in_ok-row.ensures, omega arith)
-
-pub release_notifier-requires : goal.release_notifier-requires
-release_notifier-requires g c = (_, c.release_listener.ensures _ (c.abandon_listener.ensures _ (c.add_notifier.ensures _ c.in_ok-row.ensures)), omega arith)

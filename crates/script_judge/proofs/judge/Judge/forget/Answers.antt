@@ -1,0 +1,5 @@
+use Rattle.std.proofs.Common.{◌≡◌, ℕ, Bool, List, [], refl, sym, ap, subst, ◌∙◌, Option, Some, None}
+use Rattle.script_judge.proofs.judge.Judge.forget.Goals as goal
+
+pub returns : goal.returns
+returns c = record { boards = refl; events = refl; things = λ p n. c.remove.ensures.updates.0 (record { party = p; name = n }); tasks = λ p. refl }

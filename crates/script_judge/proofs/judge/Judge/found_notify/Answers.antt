@@ -1,0 +1,28 @@
+use Rattle.std.proofs.Common.{◌≡◌, ℕ, Bool, List, [], refl, sym, ap, subst, ◌∙◌, Option, Some, None}
+use Rattle.script_judge.specs.declared.task.EventThing.TheVariants as thing
+use Rattle.script_judge.specs.declared.task.EventThing.{EventThing}
+use Rattle.script_judge.specs.Judges.{thing_at}
+use Rattle.script_judge.proofs.EventLemmas.{kept_of}
+use Rattle.script_judge.proofs.EventSteps.{thing_made}
+use Rattle.script_judge.proofs.Others.{no_notify, notify_found}
+use Rattle.script_judge.proofs.judge.Judge.found_notify.Goals as goal
+
+pub get-event-requires : goal.get-event-requires
+get-event-requires c =
+    let is : thing_at c.args.self.now c.args.party.now c.args.notifier.now ≡ Some (thing.Notifier c.in-Notifier.number) = sym c.event_thing.ensures ∙ c.in-Some.is ∙ ap (λ (t : EventThing). Some t) c.in-Notifier.is in
+    thing_made c.args.self.now c.requires c.args.party.now c.args.notifier.now (thing.Notifier c.in-Notifier.number) is
+
+pub returns-in-Notifier : goal.returns-in-Notifier
+returns-in-Notifier c = λ s count rep reached.
+    let is : thing_at c.args.self.now c.args.party.now c.args.notifier.now ≡ Some (thing.Notifier c.in-Notifier.number) = sym c.event_thing.ensures ∙ c.in-Some.is ∙ ap (λ (t : EventThing). Some t) c.in-Notifier.is in
+    notify_found c.args.self.now s count rep reached c.args.party.now [] c.args.notifier.now c.args.id c.in-Notifier.number c.get-event.result.now _ is (c.get-event.ensures (kept_of s.events) rep.events) c.notify-call.ensures
+
+pub returns-in-None : goal.returns-in-None
+returns-in-None c = λ s count rep reached.
+    let none : thing_at c.args.self.now c.args.party.now c.args.notifier.now ≡ None = sym c.event_thing.ensures ∙ c.in-None.is in
+    no_notify c.args.self.now s count rep reached c.args.party.now [] c.args.notifier.now c.args.id (λ n e. (let z : None ≡ Some (thing.Notifier n) = sym none ∙ e in absurd cc))
+
+pub returns-in-Listener : goal.returns-in-Listener
+returns-in-Listener c = λ s count rep reached.
+    let is : thing_at c.args.self.now c.args.party.now c.args.notifier.now ≡ Some c.in-Some.thing = sym c.event_thing.ensures ∙ c.in-Some.is in
+    no_notify c.args.self.now s count rep reached c.args.party.now [] c.args.notifier.now c.args.id (λ n e. (let z : Some c.in-Some.thing ≡ Some (thing.Notifier n) = sym is ∙ e in let y : c.in-Some.thing ≡ thing.Notifier n = cc in let w = c.in-Listener.is in absurd cc))
