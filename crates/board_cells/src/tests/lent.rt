@@ -25,11 +25,9 @@ fn has_entry(core: &DomainCore<BoardCells>, board: u64, entry: u64) -> bool
 
 #[test]
 fn a_lent_boards_entries_have_their_cells(rt: HostRuntime) -> Result<(), Fail> {
-    let (mut core, made) = one_board(rt.alloc(), 7)?;
+    let (core, made) = one_board(rt.alloc(), 7)?;
     let board = made.number;
-    let taken = core.change_cells(board, |cells| cells.take_write(0));
-    assert!(rt; taken.is_some_and(|end| end.is_some()), "the end is parked");
     assert!(rt; has_entry(&core, board, 0) && !has_entry(&core, board, 1));
-    assert!(rt; core.change_cells(2, |cells| cells.take_write(0)).is_none());
+    assert!(rt; !has_entry(&core, board + 1, 0));
     Ok(())
 }
