@@ -6,3 +6,4 @@ pub mod Stands
 pub mod BoardSteps
 pub mod EventSteps
 pub mod Others
+pub mod Sessions

@@ -9,6 +9,7 @@ use board_model::{Line, Name, Reason};
 use script_board_tables::{BoardTables, Seat};
 use script_event_tables::EventTable;
 use script_model::ScriptLine;
+use script_pairs::KnowsAnswers;
 use script_print::push_refused;
 use std::alloc::{AllocError, Global};
 use std::collections::HashMap;
@@ -110,5 +111,17 @@ impl Judge {
             ScriptLine::Event { party, request } => self.begin_on_events(party, request, answer),
             ScriptLine::Expire { party } => self.expire(party, answer),
         }
+    }
+}
+
+impl KnowsAnswers for Judge {
+    ghost use Rattle.std.specs.Prelude.{◌≡◌};
+    ghost use Rattle.script_judge.specs.Judges.{Represents};
+
+    ghost stands = { λ judge n s. Represents judge s };
+
+    fn right_answer(&mut self, line: &ScriptLine, answer: &mut Vec<u8>) -> Result<(), AllocError> {
+        answer.clear();
+        self.answer(line, answer)
     }
 }

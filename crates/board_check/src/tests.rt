@@ -1,0 +1,138 @@
+mod rows_1;
+mod rows_2;
+
+use crate::{Rule, Verdict, check, check_words};
+use script_loop::{MemorySink, MemorySource};
+use std::alloc::Global;
+use std::test::Fail;
+
+// Lines and answers in turn, and the program's status, output and note on them.
+#[derive(Clone, Copy)]
+struct Trial {
+    lines: &'static [u8],
+    status: u8,
+    output: &'static [u8],
+    note: &'static [u8],
+}
+
+fn is_so(alloc: Global, trial: &Trial) -> Result<bool, Fail> {
+    let lines = Vec::from_slice(alloc, trial.lines)?;
+    let mut source = MemorySource::new(lines, 7, Vec::new(alloc));
+    let mut sink = MemorySink::new(alloc, 100, 0, Vec::new(alloc))?;
+    let mut notes = MemorySink::new(alloc, 100, 0, Vec::new(alloc))?;
+    let words = Vec::new(alloc);
+    let status = check_words(alloc, &words, &mut source, &mut sink, &mut notes);
+    Ok(status == trial.status && sink.held() == trial.output && notes.held() == trial.note)
+}
+
+// The pairs of a stored script with its answers.
+#[derive(Clone, Copy)]
+struct Row {
+    pairs: u64,
+    lines: &'static [u8],
+}
+
+fn is_lawful(alloc: Global, row: &Row) -> Result<bool, Fail> {
+    let lines = Vec::from_slice(alloc, row.lines)?;
+    let mut source = MemorySource::new(lines, 0, Vec::new(alloc));
+    Ok(check(alloc, &mut source) == Ok(Verdict::Lawful { pairs: row.pairs }))
+}
+
+#[test]
+fn stored_scripts_are_lawful(rt: HostRuntime) -> Result<(), Fail> {
+    for row in &rows_1::ROWS {
+        assert!(rt; is_lawful(rt.alloc(), row)?);
+    }
+    for row in &rows_2::ROWS {
+        assert!(rt; is_lawful(rt.alloc(), row)?);
+    }
+    Ok(())
+}
+
+// A board with an entry of one word, and its first pairs.
+const MADE: &[u8] = b"begin a create f b u64 add u64:1 u64:7\nok\nstep a\ntable = ok 1\n";
+
+#[test]
+fn sessions_of_few_pairs(rt: HostRuntime) -> Result<(), Fail> {
+    let trials = [
+        Trial {
+            lines: b"",
+            status: 0,
+            output: b"lawful 0\n",
+            note: b"",
+        },
+        Trial {
+            lines: b"abandon a\ngone\n",
+            status: 0,
+            output: b"lawful 1\n",
+            note: b"",
+        },
+        Trial {
+            lines: b"abandon a\ngone\nstep a\nrefused idle\n",
+            status: 1,
+            output: b"line 2: reason\n",
+            note: b"",
+        },
+        Trial {
+            lines: b"abandon a\n",
+            status: 1,
+            output: b"line 1: answer\n",
+            note: b"",
+        },
+        Trial {
+            lines: b"abandon\ngone\n",
+            status: 1,
+            output: b"line 1: line\n",
+            note: b"",
+        },
+        Trial {
+            lines: MADE,
+            status: 0,
+            output: b"lawful 2\n",
+            note: b"",
+        },
+    ];
+    for trial in &trials {
+        assert!(rt; is_so(rt.alloc(), trial)?);
+    }
+    Ok(())
+}
+
+fn with_more(alloc: Global, more: &[u8]) -> Result<Vec<u8>, Fail> {
+    let mut lines = Vec::from_slice(alloc, MADE)?;
+    lines.extend_from_slice(more)?;
+    Ok(lines)
+}
+
+#[test]
+fn the_rule_is_that_of_the_first_wrong_part(rt: HostRuntime) -> Result<(), Fail> {
+    let alloc = rt.alloc();
+    let cases: [(&'static [u8], u64, Rule); 3] = [
+        (b"step a\ntable = ok 2\n", 3, Rule::Reason),
+        (b"words 1\nwords 1 0 8 0\n", 3, Rule::Word),
+        (
+            b"begin a writer w f\nok\nstep a\ntable = ok 1\n\
+            begin a entrymut m w u64:1 u64\nok\nstep a\ntable = ok 0\n\
+            begin a update m u64:9\nok\nstep a\nwrite 1:2 9\n",
+            8,
+            Rule::Owed,
+        ),
+    ];
+    for (more, pair, rule) in cases {
+        let mut source = MemorySource::new(with_more(alloc, more)?, 0, Vec::new(alloc));
+        assert!(rt; check(alloc, &mut source) == Ok(Verdict::No { pair, rule }));
+    }
+    let wrong = Vec::from_slice(
+        alloc,
+        b"begin a create f b u64 add u64:1 u64:7\nok\nstep a\ntable = ok 2\n",
+    )?;
+    let mut source = MemorySource::new(wrong, 0, Vec::new(alloc));
+    assert!(rt;
+        check(alloc, &mut source)
+            == Ok(Verdict::No {
+                pair: 2,
+                rule: Rule::Reply
+            })
+    );
+    Ok(())
+}
