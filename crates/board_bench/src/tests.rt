@@ -1,3 +1,4 @@
+//! Tasks from their words, each task done once, and words that are no task.
 use crate::done::measure;
 use crate::shared::run_shared;
 use crate::task::{Call, Calls, Task, task_of};

@@ -6,7 +6,7 @@ use thiserror::Error;
 #[derive(Error, Drop, Clone, Copy, Debug, PartialEq, Eq)]
 pub enum CellError {
     /// Memory was refused.
-    #[error("CellError::{:?}", self)]
+    #[error("CellError::OutOfMemory")]
     OutOfMemory,
 }
 

@@ -306,7 +306,8 @@ impl<K: BoardKey, P> PortFactory<K, P> {
         Ok(PortFactoryWriter::new(self.alloc, self.made.thing, domain))
     }
 
-    /// `release` over the domain's state itself.
+    /// `release` over the domain's state itself, which is that of the factory's own domain, also where other calls on the factory were
+    /// typed ones. A state where no such factory is held by its number is left as it is.
     pub fn release_in(self, state: &mut DomainState)
         ensures tables { let keys = details K.type_bytes K.SIZE K.ALIGNMENT in
             let thing = self.made.thing in
@@ -316,7 +317,9 @@ impl<K: BoardKey, P> PortFactory<K, P> {
         give_up::<K>(&mut state.tables, self.made.thing, ThingKind::Factory);
     }
 
-    /// Gives the factory up. Ports that it made go on, and the board stands while one of them or of their handles does.
+    /// Gives the factory up, in the domain that it came from. Ports that it made go on, and the board stands while one of them
+    /// or of their handles does. A factory that a lent form made over another state is given up by `release_in` over that
+    /// state.
     pub fn release<R: Wait>(self, rt: &R) {
         let mut state = self.domain.lock(rt);
         give_up::<K>(&mut state.tables, self.made.thing, ThingKind::Factory);

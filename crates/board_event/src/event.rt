@@ -54,7 +54,8 @@ pub trait Notifier: NamedConcept + Sized {
     fn notify<R: Wait>(&self, rt: &R, id: TriggerId) -> Result<(), NotifierNotifyError>
         ensures answer { IsNotifyAnswer (greatest self.now) id result };
 
-    /// Gives this end up. The event goes with its last end.
+    /// Gives this end up, in the registry that its builder was handed. The event goes with its last end. An end that a lent
+    /// form made over other events is given up by `release_in` over those.
     fn release<R: Wait>(self, rt: &R);
 }
 
@@ -143,8 +144,9 @@ pub trait Listener: NamedConcept + Sized {
         requires { F.IsAlwaysCallable callback }
         ensures { IsOk result };
 
-    /// Gives this end up: notifiers find it gone from then on. A queue's name is free at once, a set's with the last
-    /// notifier.
+    /// Gives this end up, in the registry that its builder was handed: notifiers find it gone from then on. A queue's name is
+    /// free at once, a set's with the last notifier. An end that a lent form made over other events is given up by
+    /// `release_in` over those.
     fn release<R: Wait>(self, rt: &R);
 }
 

@@ -123,7 +123,8 @@ impl<K: KindOfEvents + Drop> EventListener<K> {
         take_all(&mut state.events, self.event, K::kind(), self.max, callback);
     }
 
-    /// `release` over the events themselves.
+    /// `release` over the events themselves, which are those that the listener was made in, also where other calls on it were
+    /// typed ones. Events that have no such listener are left as they are.
     pub fn release_in(self, state: &mut EventsOf<K>)
         ensures gone { HasListener self state.old → state.new ≡ listener_gone state.old self }
         ensures stays { (¬ HasListener self state.old) → state.new ≡ state.old }

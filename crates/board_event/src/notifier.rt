@@ -76,7 +76,8 @@ impl<K: KindOfEvents + Drop> EventNotifier<K> {
         answer
     }
 
-    /// `release` over the events themselves.
+    /// `release` over the events themselves, which are those that the notifier was made in, also where other calls on it were
+    /// typed ones. Events that have no such notifier are left as they are.
     pub fn release_in(self, state: &mut EventsOf<K>)
         ensures gone { HasNotifier self state.old → state.new ≡ notifier_gone state.old self }
         ensures stays { (¬ HasNotifier self state.old) → state.new ≡ state.old }

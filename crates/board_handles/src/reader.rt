@@ -273,7 +273,8 @@ impl<K: BoardKey, P> Reader<K, P> {
         self.entry_in(&mut state, key)
     }
 
-    /// `release` over the domain's state itself.
+    /// `release` over the domain's state itself, which is that of the reader's own domain, also where other calls on the reader were
+    /// typed ones. A state where no such reader is held by its number is left as it is.
     pub fn release_in(self, state: &mut DomainState)
         ensures tables { let keys = details K.type_bytes K.SIZE K.ALIGNMENT in
             state.new.tables ≡ lent.given_up state.old.tables keys self.thing ThingKind.Reader }
@@ -282,7 +283,8 @@ impl<K: BoardKey, P> Reader<K, P> {
         give_up::<K>(&mut state.tables, self.made.thing, ThingKind::Reader);
     }
 
-    /// Gives the reader up. Handles that it made go on.
+    /// Gives the reader up, in the domain that it came from. Handles that it made go on. A reader that a lent form made over
+    /// another state is given up by `release_in` over that state.
     pub fn release<R: Wait>(self, rt: &R) {
         let mut state = self.domain.lock(rt);
         give_up::<K>(&mut state.tables, self.made.thing, ThingKind::Reader);
@@ -290,7 +292,8 @@ impl<K: BoardKey, P> Reader<K, P> {
 }
 
 impl<K: BoardKey, V: ZeroCopySend, P> EntryHandle<K, V, P> {
-    /// `release` over the domain's state itself.
+    /// `release` over the domain's state itself, which is that of the handle's own domain, also where other calls on the handle were
+    /// typed ones. A state where no such handle is held by its number is left as it is.
     pub fn release_in(self, state: &mut DomainState)
         ensures tables { let keys = details K.type_bytes K.SIZE K.ALIGNMENT in
             let thing = self.found.thing in
@@ -301,7 +304,8 @@ impl<K: BoardKey, V: ZeroCopySend, P> EntryHandle<K, V, P> {
         give_up::<K>(&mut state.tables, found.thing, ThingKind::ReadHandle);
     }
 
-    /// Gives the handle up.
+    /// Gives the handle up, in the domain that it came from. A handle that a lent form made over another state is given up by
+    /// `release_in` over that state.
     pub fn release<R: Wait>(self, rt: &R) {
         let (found, domain) = self.into_parts();
         let mut state = domain.lock(rt);

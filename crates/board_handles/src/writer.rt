@@ -271,7 +271,8 @@ impl<K: BoardKey, P> Writer<K, P> {
         self.entry_in(&mut state, key)
     }
 
-    /// `release` over the domain's state itself.
+    /// `release` over the domain's state itself, which is that of the writer's own domain, also where other calls on the writer were
+    /// typed ones. A state where no such writer is held by its number is left as it is.
     pub fn release_in(self, state: &mut DomainState)
         ensures tables { let keys = details K.type_bytes K.SIZE K.ALIGNMENT in
             state.new.tables ≡ lent.given_up state.old.tables keys self.thing ThingKind.Writer }
@@ -280,7 +281,8 @@ impl<K: BoardKey, P> Writer<K, P> {
         give_up::<K>(&mut state.tables, self.made.thing, ThingKind::Writer);
     }
 
-    /// Gives the writer up. Handles that it made go on, and keep its slot.
+    /// Gives the writer up, in the domain that it came from. Handles that it made go on, and keep its slot. A writer that a
+    /// lent form made over another state is given up by `release_in` over that state.
     pub fn release<R: Wait>(self, rt: &R) {
         let mut state = self.domain.lock(rt);
         give_up::<K>(&mut state.tables, self.made.thing, ThingKind::Writer);
@@ -288,7 +290,8 @@ impl<K: BoardKey, P> Writer<K, P> {
 }
 
 impl<K: BoardKey, V: ZeroCopySend, P> EntryHandleMut<K, V, P> {
-    /// `release` over the domain's state itself.
+    /// `release` over the domain's state itself, which is that of the handle's own domain, also where other calls on the handle were
+    /// typed ones. A state where no such handle is held by its number is left as it is.
     pub fn release_in(self, state: &mut DomainState)
         ensures tables { let keys = details K.type_bytes K.SIZE K.ALIGNMENT in
             state.new.tables ≡ lent.write_given_up state.old.tables keys self }
@@ -298,7 +301,9 @@ impl<K: BoardKey, V: ZeroCopySend, P> EntryHandleMut<K, V, P> {
         give_up_writing::<K>(&mut state.tables, found, end);
     }
 
-    /// Gives the handle up, and parks its write end at the entry. The end goes where the board is gone or an end is parked there.
+    /// Gives the handle up, in the domain that it came from, and parks its write end at the entry. The end goes where the board
+    /// is gone or an end is parked there. A handle that a lent form made over another state is given up by `release_in` over
+    /// that state.
     pub fn release<R: Wait>(self, rt: &R) {
         let (found, end, domain) = self.into_parts();
         let mut state = domain.lock(rt);
@@ -307,7 +312,8 @@ impl<K: BoardKey, V: ZeroCopySend, P> EntryHandleMut<K, V, P> {
 }
 
 impl<K: BoardKey, V: ZeroCopySend, P> EntryValueUninit<K, V, P> {
-    /// `release` over the domain's state itself.
+    /// `release` over the domain's state itself, which is that of the loan's own domain, also where other calls on the loan were
+    /// typed ones. A state where no such loan is held by its number is left as it is.
     pub fn release_in(self, state: &mut DomainState)
         ensures tables { let keys = details K.type_bytes K.SIZE K.ALIGNMENT in
             state.new.tables ≡ lent.write_given_up state.old.tables keys self.handle }

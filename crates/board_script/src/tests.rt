@@ -1,3 +1,4 @@
+//! A script is run in memory, from its words to its status.
 use crate::run_in_memory;
 use std::test::Fail;
 

@@ -36,7 +36,8 @@ pub fn watch_words<S: Source, K: Sink, N: Sink>(
     notes: &mut N,
 ) -> u8
     // With status 0 the source was read to its end. The sink gained what is rightly told of its lines: those that were
-    // given are a lawful session, and what is reported rises, is an item of its list, and misses nothing notified.
+    // given are a lawful session, and what is reported rises, is an item of its list, and is fresh once a get that a
+    // taken id called for has ended.
     ensures ok { result ≡ 0 → IsWatchRun
         (stream_of S.left S.faults source.old source.new)
         (stream_of K.held K.faults sink.old sink.new) }

@@ -1,3 +1,4 @@
+//! Texts that are answers and texts that are none, and the first rule that a differing answer breaks.
 use crate::{broken_rule_of, is_answer};
 use board_layout::Text;
 use board_model::Line;

@@ -1,3 +1,4 @@
+//! What a row of a board does: gets, publications, keys, first values, and the attributes that a port asks for.
 use crate::{
     Reading, Written, current_at, find, has_equal_keys, heard, meets, open, spare_at, word_to_read,
     word_to_write,

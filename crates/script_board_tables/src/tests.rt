@@ -1,3 +1,4 @@
+//! Boards of a session: how long each stands, and where the factory of a call is found.
 use crate::{BoardCall, BoardTables, Stepped, TableCall};
 use board_layout::Text;
 use board_model::{

@@ -1,3 +1,4 @@
+//! The status and the note of each ending, and words that are refused with the usage.
 use crate::{end_with, refuse_words};
 use script_loop::{MemorySink, ScriptError};
 use std::test::Fail;

@@ -1,3 +1,4 @@
+//! Events of a session: ids in queues and in sets, waits that expire, and who holds a name.
 use crate::{EventCall, EventRow, Took};
 use board_event_model::{EventAccess, EventAnswer, EventKind, WaitMode};
 use board_layout::Text;

@@ -1,3 +1,4 @@
+//! Names of listeners and notifiers are held by kind.
 use crate::EventTable;
 use board_event_model::EventKind;
 use board_layout::Text;

@@ -1,3 +1,4 @@
+//! Lines of driven scripts: which are the driver's, which are held back, which are given, and what answers tell.
 use crate::{
     Parties, abandoned_by, got_of, held_back, is_refusal, parse_drive, say, write_get, write_step,
 };

@@ -1,3 +1,4 @@
+//! The judge of sessions.
 use crate::Judge;
 use std::test::Fail;
 

@@ -1,3 +1,4 @@
+//! Pairs of a line and its answer are judged until one is wrong, within the limit of pairs.
 ghost use Rattle.std.specs.Prelude.{◌≡◌, IsTrue, List, ℕ};
 
 use crate::{CheckError, KnowsAnswers, Rule, Verdict, check_pairs};

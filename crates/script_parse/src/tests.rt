@@ -1,3 +1,4 @@
+//! Bytes that are lines of the grammar and bytes that are none.
 use crate::parse_line;
 use std::test::Fail;
 

@@ -1,3 +1,4 @@
+//! Answers as bytes, of boards and of events.
 use crate::{push_answer, push_event_asked, push_event_step, push_expired};
 use board_cell_model::Access;
 use board_event_model::{EventAccess, EventAnswer, EventKind};

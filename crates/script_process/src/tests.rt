@@ -1,3 +1,4 @@
+//! The adapters of a process's streams.
 use crate::{InSource, OutSink};
 use script_loop::{Failed, Sink, Source};
 use std::io::Cursor;

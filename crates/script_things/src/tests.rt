@@ -1,3 +1,4 @@
+//! Things of a session: what is taken of a board, and a thing by another name.
 use crate::{
     Held, NamedThings, has_thing, has_write_handle, is_node, nodes_at, nodes_taken, reader_slots,
     writer_slots,

@@ -1,7 +1,7 @@
 //! Words, through their trait.
 ghost use Rattle.std.specs.Prelude.{◌≡◌, length};
 
-use crate::{PlainWords, SeatWords, Words};
+use crate::{CellError, PlainWords, SeatWords, Words};
 use std::test::*;
 
 fn stored_and_loaded<W: Words>(words: &mut W) -> (u64, u64, u64)
@@ -19,5 +19,13 @@ fn words_keep_what_is_stored(rt: HostRuntime) -> Result<(), Fail> {
     assert_eq!(rt; stored_and_loaded(&mut seat), (2, 7, 2));
     let mut plain = PlainWords::new(words);
     assert_eq!(rt; stored_and_loaded(&mut plain), (2, 7, 2));
+    Ok(())
+}
+
+#[test]
+fn an_error_prints_its_name(rt: HostRuntime) -> Result<(), Fail> {
+    let error = CellError::OutOfMemory;
+    let printed = format!(in rt.alloc(); "{error}")?;
+    assert_eq!(rt; printed.as_str(), "CellError::OutOfMemory");
     Ok(())
 }
