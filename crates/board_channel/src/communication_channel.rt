@@ -110,12 +110,14 @@ pub trait CommunicationChannelCreator: NamedConceptBuilder {
     /// A full channel gives its oldest number back in place of a refusal.
     fn enable_safe_overflow(self) -> Self
         ensures capacity { asked_capacity result ≡ asked_capacity self }
-        ensures overflow { asked_overflow result ≡ true };
+        ensures overflow { asked_overflow result ≡ true }
+        ensures named { Self.named result ≡ Self.named self };
 
     /// How many numbers the channel holds; 0 counts as 1.
     fn buffer_size(self, value: usize) -> Self
         ensures capacity { asked_capacity result ≡ value }
-        ensures overflow { asked_overflow result ≡ asked_overflow self };
+        ensures overflow { asked_overflow result ≡ asked_overflow self }
+        ensures named { Self.named result ≡ Self.named self };
 
     /// The channel, and its receiver.
     ///

@@ -39,6 +39,10 @@ pub use board_event_core::{
     NotifyCall, NotifyStage, QUEUE_CAPACITY, Semaphore, SignalMechanism, TriggerId, WaitCall,
     WaitMode, WaitStage, notify_step, table_stands, wait_step,
 };
+pub use board_names::{
+    Configuration, FileName, NamedConcept, NamedConceptBuilder, NamedConceptConfiguration,
+    NamedConceptMgmt, RegistryError,
+};
 pub use event::{Event, Listener, ListenerBuilder, Notifier, NotifierBuilder};
 pub use events_of::{EventsOf, KindOfEvents, QueueOfIds, SetOfIds};
 pub use listener::EventListener;

@@ -79,7 +79,8 @@ pub trait StaticStorageBuilder: NamedConceptBuilder {
 
     /// Whether what is made owns its name.
     fn has_ownership(self, value: bool) -> Self
-        ensures { owns_it result ≡ value };
+        ensures owner { owns_it result ≡ value }
+        ensures named { Self.named result ≡ Self.named self };
 
     /// A storage with these bytes.
     ///

@@ -1,5 +1,5 @@
 -- What a session comes to: how many lines, refusals, steps, finished updates and gets, and the generations of the first board.
-use Rattle.std.specs.Prelude.{◌≡◌, ℕ, ◌+◌, Bool, true, false, if◌then◌else◌, List, [], ◌∷◌, ◌++◌, length, map, take, codes, decimal, Option, Some, None, Result, IfErr, IsErrOf, OnOk}
+use Rattle.std.specs.Prelude.{◌≡◌, ◌≢◌, ℕ, ◌+◌, Bool, true, false, if◌then◌else◌, List, [], ◌∷◌, ◌++◌, length, map, take, codes, decimal, Option, Some, None, Result, Err, IfErr, IsErrOf, OnOk}
 use Rattle.board_model.specs.declared.answer.Answer.{Answer}
 use Rattle.board_model.specs.declared.answer.Answer.TheVariants as answer
 use Rattle.board_model.specs.declared.line.Line.TheVariants as line
@@ -12,7 +12,7 @@ use Rattle.script_model.specs.ScriptSession.{IsLawful, Session, after, asked_lin
 use Rattle.script_model.specs.ScriptTurns.{ScriptState}
 use Rattle.script_loop.specs.declared.error.ScriptError.{ScriptError}
 use Rattle.script_loop.specs.declared.error.ScriptError.TheVariants.{ReadFault, WriteFault, BadLine, TooLong, OutOfMemory}
-use Rattle.script_loop.specs.Runs.{CountsOn, Gains, HasFailed, Stream}
+use Rattle.script_loop.specs.Runs.{CountStays, CountsOn, Gains, HasFailed, Stream}
 use Rattle.script_generator.specs.declared.summary.Counts.{Counts}
 use Rattle.script_generator.specs.Generator.{generated}
 
@@ -115,4 +115,6 @@ pub record IsGenerated (n : ℕ) (sink : Stream) (result : Result (Unit {0}) Scr
   pub err : IfErr result (λ e. LeavesOff e n sink)
   -- the fault is the sink's
   pub write : IsErrOf result WriteFault → HasFailed sink
+  -- a fault is told: with any other answer the sink's count of faults stays
+  pub write_told : result ≢ Err WriteFault → CountStays sink
   pub write_later : CountsOn sink
