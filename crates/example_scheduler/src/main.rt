@@ -1,7 +1,8 @@
 //! A scheduler's state table: two workers write how much of their tasks is left, and a scheduler reads what changed.
 //!
 //! Each worker has a writer of its own, and notifies of the entry that changed by its id; the scheduler waits for an id
-//! and gets the value behind it. In iceoryx2 one writer would write for all, and `entry_id` would tie two services.
+//! and gets the value behind it. In iceoryx2 one writer would write for all, and `entry_id` would tie two services; the
+//! scheduler would see the same ids and values.
 #![tactic(auto)]
 
 use anyhow::Result;

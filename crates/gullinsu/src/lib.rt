@@ -11,7 +11,10 @@
 //! let factory = creator.add(1, 0u64)?.create(rt)?;
 //! let writer = factory.writer_builder()?.create(rt)?;
 //! let mut speed = writer.entry::<u64, _>(rt, &1)?;
-//! speed.update_with_copy(7);
+//! // A publication asks for room for one more generation.
+//! if speed.generation() < u64::MAX {
+//!     speed.update_with_copy(7);
+//! }
 //! ```
 #![tactic(auto)]
 
@@ -28,7 +31,7 @@ pub mod prelude {
 /// Nodes, and the domain that they share.
 pub mod node {
     pub use board_domain::Node;
-    pub use board_handles::{Domain, DomainState};
+    pub use board_handles::{BoardCells, Domain, DomainState};
     pub use board_names::DomainError;
     pub use board_service::NodeId;
 
@@ -60,7 +63,7 @@ pub mod port {
     /// Writers, write handles and loans.
     pub mod writer {
         pub use board_cell::Receipt;
-        pub use board_handles::{EntryHandleMut, EntryValueUninit, SentReceipt, Writer};
+        pub use board_handles::{EntryHandleMut, EntryValueUninit, SentReceipt, WriteEnd, Writer};
         pub use board_names::{EntryHandleMutError, WriterCreateError};
     }
 }
@@ -115,6 +118,11 @@ pub mod service {
 
     /// What is fixed of a board.
     pub mod static_config {
+        /// What is told of the types of its keys and values.
+        pub mod message_type_details {
+            pub use board_layout::{TypeDetail, TypeVariant};
+        }
+
         /// The type of its keys, its limits, and how many entries it has.
         pub mod blackboard {
             pub use board_service::StaticConfig;
@@ -149,11 +157,12 @@ pub mod event {
     };
 }
 
-// A value between threads without keys; policies, static storage, monitoring and channels; types as words and keys;
-// names, and the errors of all calls; the tables of boards as plain data, the calls on their entries as step machines,
-// and whole calls for a thread that has them alone.
+// A value between threads without keys; policies, static storage, monitoring and channels; events as plain data, with
+// their calls as step machines; types as words and keys; names, and the errors of all calls; the tables of boards as plain
+// data, the calls on their entries as step machines, and whole calls for a thread that has them alone.
 pub use board_cell as cell;
 pub use board_concepts as concepts;
+pub use board_event as events;
 pub use board_layout as layout;
 pub use board_names as names;
 pub use board_ports as ports;
