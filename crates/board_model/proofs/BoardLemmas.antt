@@ -130,7 +130,7 @@ kept_release t party name (Some x) single = left_boards t (released_thing t part
 
 -- ---- lines
 
-line_boards : (s : State) (l : Line) (a : Answer) → IsRight s l a → Sound s → KeepsBoards s.standing.tables (after s l a).standing.tables
+pub line_boards : (s : State) (l : Line) (a : Answer) → IsRight s l a → Sound s → KeepsBoards s.standing.tables (after s l a).standing.tables
 line_boards s l a r sound = after_cases (λ (x : State). KeepsBoards s.standing.tables x.standing.tables) s l a r
     (none s.standing.tables)
     (λ party c _ _. none s.standing.tables)

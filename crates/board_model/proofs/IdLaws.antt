@@ -1,5 +1,5 @@
 -- Entry ids.
-use Rattle.std.proofs.Common.{◌≡◌, ℕ, zero, suc, ◌+◌, ◌<◌, ◌≤◌, Bool, true, false, cond, List, [], ◌∷◌, arith, refl, sym, ap, subst, ◌∙◌, Option, Some, None, inl, inr}
+use Rattle.std.proofs.Common.{◌≡◌, ℕ, zero, suc, ◌+◌, ◌<◌, ◌≤◌, Bool, true, false, cond, List, [], ◌∷◌, ◌++◌, arith, refl, sym, ap, subst, ◌∙◌, Option, Some, None, inl, inr}
 use Rattle.std.specs.Prelude.{slice_get, ◌⊎◌, if◌then◌else◌, is_some}
 use Rattle.std.specs.List.{list_any}
 use Rattle.board_layout.specs.declared.type_detail.TypeDetail.{TypeDetail}
@@ -20,12 +20,14 @@ use Rattle.board_model.specs.TableCalls.{asked, entry_asked, entry_mut_asked, fi
 use Rattle.board_model.specs.Things.{Held, Standing, is_held_as}
 use Rattle.board_model.specs.Requests.{Request, create, info, entry, entry_mut, fill, fresh, get, discard, id, open_, loan, keys, nodes, publish, put, reader, table, gen, update, writer}
 use Rattle.board_model.specs.Replies.{ask, id_number, keeps_key, number_or, place_in}
-use Rattle.board_model.specs.LawfulSession.{IsRight, State, state_after}
-use Rattle.board_model.specs.Sound.{BoardTables, HasBoard, Sound}
+use Rattle.board_model.specs.LawfulSession.{IsRight, State, start, state_after}
+use Rattle.board_model.specs.Sound.{BoardTables, HasBoard, HasEntry, HasEntryAt, Sound}
 use Rattle.board_model.specs.LawsOfSessions.{Pairs, at_one, at_two}
-use Rattle.board_model.specs.LawsOfIds.{AsksForHandle, EntriesHaveOtherPlaces, HandlesTellAlike, HandlesTellTheirIds, IsHandleAt, IsMade, IsToldId, OneKeyOneId, OtherEntriesOtherIds}
-use Rattle.board_model.proofs.SessionLaws.{apart, pair_step}
+use Rattle.board_model.specs.LawsOfIds.{AsksForHandle, EntriesHaveOtherPlaces, HandlesTellAlike, HandlesTellTheirIds, IsHandleAt, IsMade, IsToldId, LaterHandlesTellAlike, OneKeyOneId, OtherEntriesOtherIds, OtherEntriesTellOtherIds}
+use Rattle.board_model.proofs.SessionLaws.{apart, lawful_split, pair_step}
+use Rattle.board_model.proofs.SoundLemmas.{sound_start}
 use Rattle.board_model.proofs.BoardLemmas.{session_boards}
+use Rattle.board_model.proofs.HandleLemmas.{AreAsked, HasAsked, HasAskedOf, asked_session}
 use Rattle.board_model.proofs.RunningLemmas.{runs}
 use Rattle.board_model.proofs.ThingLemmas.{all_found}
 
@@ -266,3 +268,45 @@ tell_alike p n place one two x y =
     let drawn : n ≤ (at_one p).standing.tables.last_board = a.sound.boards.numbered n f.stands.board f.stands.is in
     let same : board_at (at_one p).standing.tables n ≡ board_at (at_two p).standing.tables n = stood p n g.stands.board drawn g.stands.is ∙ sym g.stands.is in
     f.told ∙ ap (λ (o : Option Board). place_in (entry_in o place)) same ∙ sym g.told
+
+pub later_alike : LaterHandlesTellAlike
+later_alike p n place one two k t x y =
+    let a = apart p in
+    let f = told_place (at_one p) p.one n place one a.sound a.one x in
+    let g = made (at_two p) p.two n place two k t a.two y in
+    let drawn : n ≤ (at_one p).standing.tables.last_board = a.sound.boards.numbered n f.stands.board f.stands.is in
+    let there : entry_at (at_one p).standing.tables n place ≡ Some g.item = placed_at (at_one p).standing.tables n place g.board (keeps_key k) g.item (stood p n g.board drawn g.stands) g.first in
+    f.told ∙ ap place_in there ∙ sym g.told
+
+-- ---- ids that are told of two entries
+
+some_entry : (o : Option Entry) → is_some o ≡ true → (e : Entry) × (o ≡ Some e)
+some_entry None h = absurd cc
+some_entry (Some e) h = (e, refl)
+
+handle_at : (t : BoardTables) (board n place : ℕ) (k : Kind) → board ≡ n → IsHandleAt k place → HasEntryAt t board k → is_some (entry_at t n place) ≡ true
+handle_at t board n place kind.Factory of at h = absurd at
+handle_at t board n place (kind.Reader port) of at h = absurd at
+handle_at t board n place (kind.Writer port) of at h = absurd at
+handle_at t board n place (kind.ReadHandle i) of at h = ap (λ (b : ℕ). is_some (entry_at t b place)) (sym of) ∙ ap (λ (j : ℕ). is_some (entry_at t board j)) (sym at) ∙ h
+handle_at t board n place (kind.WriteHandle i port) of at h = ap (λ (b : ℕ). is_some (entry_at t b place)) (sym of) ∙ ap (λ (j : ℕ). is_some (entry_at t board j)) (sym at) ∙ h
+
+-- the entry of a handle that was asked for its id stands
+told_entry : (s : State) (pair : Line × Answer) (n place number : ℕ) → AreAsked s.standing.tables s.parties → IsToldId s pair n place number → (e : Entry) × (entry_at s.standing.tables n place ≡ Some e)
+told_entry s pair n place number asked m =
+    let h : HasEntry s.standing.tables m.handle = subst (HasAsked s.standing.tables) m.request (subst (HasAskedOf s.standing.tables) m.runs (asked m.party)) in
+    some_entry (entry_at s.standing.tables n place) (handle_at s.standing.tables m.handle.board n place m.handle.kind m.board m.of_entry h)
+
+pub tell_others : OtherEntriesTellOtherIds
+tell_others p n i j number x y =
+    let a = apart p in
+    let first : AreAsked (at_one p).standing.tables (at_one p).parties = asked_session p.before start (lawful_split p.before (p.one ∷ (p.between ++ p.two ∷ [])) start p.lawful).0 sound_start (λ q. tt) in
+    let second : AreAsked (at_two p).standing.tables (at_two p).parties =
+    subst (λ (s : State). AreAsked s.standing.tables s.parties) (sym a.state) (asked_session (p.one ∷ p.between) (at_one p) (a.one, a.between) a.sound first) in
+    let f = told_place (at_one p) p.one n i number a.sound a.one x in
+    let g = told_place (at_two p) p.two n j number a.last a.two y in
+    let drawn : n ≤ (at_one p).standing.tables.last_board = a.sound.boards.numbered n f.stands.board f.stands.is in
+    let same : board_at (at_one p).standing.tables n ≡ board_at (at_two p).standing.tables n = stood p n g.stands.board drawn g.stands.is ∙ sym g.stands.is in
+    let e = told_entry (at_one p) p.one n i number first x in
+    let d = told_entry (at_two p) p.two n j number second y in
+    other_places (at_one p) n i j e.0 d.0 a.sound e.1 (ap (λ (o : Option Board). entry_in o j) same ∙ d.1) (sym (f.told ∙ ap place_in e.1) ∙ g.told ∙ ap place_in d.1)

@@ -24,6 +24,7 @@ pub mod AnswerLaws
 pub mod GrowthLemmas
 pub mod SessionLaws
 pub mod BoardLemmas
+pub mod HandleLemmas
 pub mod IdLaws
 pub mod WorkedLemmas
 pub mod KeptKeyLemmas

@@ -89,3 +89,12 @@ HandlesTellTheirIds = (p : Pairs) (n place one two : ℕ) (k : Key) (t : ValueTy
 -- and so does each handle of the entry, at any two moments of a session
 abbrev pub HandlesTellAlike : Type 0
 HandlesTellAlike = (p : Pairs) (n place one two : ℕ) → IsToldId (at_one p) p.one n place one → IsToldId (at_two p) p.two n place two → one ≡ two
+
+-- a handle that is made later tells the id that an earlier one of its entry told
+abbrev pub LaterHandlesTellAlike : Type 0
+LaterHandlesTellAlike = (p : Pairs) (n place one two : ℕ) (k : Key) (t : ValueType) → IsToldId (at_one p) p.one n place one → IsMade (at_two p) p.two n place k t two
+    → one ≡ two
+
+-- handles of two entries of a board tell two ids
+abbrev pub OtherEntriesTellOtherIds : Type 0
+OtherEntriesTellOtherIds = (p : Pairs) (n i j id : ℕ) → IsToldId (at_one p) p.one n i id → IsToldId (at_two p) p.two n j id → i ≡ j

@@ -1,5 +1,5 @@
 //! Laws of entry ids. Each function's contract is a theorem over the definitions alone.
-ghost use Rattle.board_model.specs.LawsOfIds.{EntriesHaveOtherPlaces, HandlesTellAlike, HandlesTellTheirIds, OneKeyOneId, OtherEntriesOtherIds};
+ghost use Rattle.board_model.specs.LawsOfIds.{EntriesHaveOtherPlaces, HandlesTellAlike, HandlesTellTheirIds, LaterHandlesTellAlike, OneKeyOneId, OtherEntriesOtherIds, OtherEntriesTellOtherIds};
 
 /// Two entries of a board have two places.
 pub fn entries_have_other_places()
@@ -24,4 +24,14 @@ pub fn handles_tell_their_ids()
 /// Two handles of one entry tell the same id, at any two moments of a session.
 pub fn handles_tell_alike()
     ensures { HandlesTellAlike }
+{}
+
+/// A handle that is made later tells the id that an earlier one of its entry told.
+pub fn later_handles_tell_alike()
+    ensures { LaterHandlesTellAlike }
+{}
+
+/// Handles of two entries of a board tell two ids, at any two moments of a session.
+pub fn other_entries_tell_other_ids()
+    ensures { OtherEntriesTellOtherIds }
 {}
