@@ -14,8 +14,9 @@ use Rattle.board_event_model.proofs.SoundLemmas.{none_some, some_same}
 use Rattle.board_model.specs.Things.{with_at}
 use Rattle.script_model.specs.ScriptEvents.{EventThing, ScriptEvents, listener, names_left, notifier, same_event_kind, with_listener, name_held, notifier_more, without_name}
 use Rattle.script_model.specs.ScriptGrammar.{is_event_name}
-use Rattle.script_model.specs.SoundEvents.{AreSoundEvents, IsEventThing, IsFormedEvent, IsListening, IsNamed, name_asked}
+use Rattle.script_model.specs.SoundEvents.{AreNotifiers, AreSoundEvents, IsEventThing, IsFormedEvent, IsListening, IsNamed, name_asked}
 use Rattle.script_model.proofs.EachLemmas.{changed_holds, each, each_and, each_event, each_some, each_was, event_in, one_changed, same_event, same_formed}
+use Rattle.script_model.proofs.NotifierLemmas.{notifiers_beside, notifiers_fewer, notifiers_more, notifiers_without}
 use Rattle.script_model.proofs.TurnLemmas.{another, at_cases, at_other, held_call, if_cases, more_of, same_text, text_itself}
 
 -- ---- numbers
@@ -74,6 +75,20 @@ no_listener_yet x n h p m k e f =
     let same : x.session.count + 1 ≡ k = cc in
     let some = thing_some x p k (h.things p m (listener k) f) in
     false≢true (sym (not_next x.session h.numbered k (x.session.stands k) refl some) ∙ ap (eqb k) same ∙ eqb_self k)
+
+not_both : (k j : ℕ) → notifier k ≡ listener j → ⊥
+not_both k j e = cc
+
+notifier_is : (n m : ℕ) → notifier n ≡ notifier m → n ≡ m
+notifier_is n m e = cc
+
+-- no notifier either, nor beside a listener of it
+no_notifier_yet : (x : ScriptEvents) (n : ℕ) (party name : List ℕ) (m : ℕ) → AreSoundEvents x n → (m == x.session.count + 1) ≡ true → (p q : List ℕ) → with_at x.things party name (Some (listener (x.session.count + 1))) p q ≡ Some (notifier m) → ⊥
+no_notifier_yet x n party name m h next p q e =
+    elim (at_cases x.things party name (Some (listener (x.session.count + 1))) p q (Some (notifier m)) e) [
+      | inl is ↦ not_both m (x.session.count + 1) (sym (some_same _ _ is.2))
+      | inr is ↦ false≢true (sym (not_next x.session h.numbered m (x.session.stands m) refl (h.things p q (notifier m) is.1)) ∙ next)
+    ]
 
 -- the same listener, which is held or not as it was
 record IsSameHolder (st su : StandingEvent) : Type 0 where
@@ -155,6 +170,10 @@ listener_made x n party name k event max text low unnamed unheld free idle h =
             (name, ap (λ (q : List ℕ). with_at x.things party name (Some (listener next)) q name) (sym (ap (λ (z : StandingEvent). z.listener) (some_same _ st is.1))) ∙ here ∙ ap (λ (j : ℕ). Some (listener j)) (sym (eqb_true m next is.0))))
         | inr is ↦ (let k = h.listeners m st is.1 held in (k.0, still_held x party name (listener next) st.listener k.0 (listener m) unheld k.1))
       ];
+      notifiers = λ m st e. elim (if_cases (m == next) (Some new) (x.session.stands m) (Some st) e) [
+        | inl is ↦ subst (λ (z : StandingEvent). AreNotifiers (with_at x.things party name (Some (listener next))) m z.event.notifiers) (some_same _ st is.1) (no_notifier_yet x n party name m h is.0)
+        | inr is ↦ notifiers_beside st.event.notifiers m x.things party name (listener next) (λ same. not_both m next (sym same)) unheld (h.notifiers m st is.1)
+      ];
       apart = h.apart;
       asked = h.asked;
       unheld = λ p q e. at_other x.things party name _ p (name_asked q) (another x.asked p party q e free) ∙ h.unheld p q e;
@@ -174,9 +193,6 @@ positive c = lt-ltb 0 (c + 1) (omega arith)
 found_some : (o : Option StandingEvent) (e : Event) → event_in o ≡ Some e → IsSome o
 found_some None e h = absurd (none_some e h)
 found_some (Some st) e h = refl
-
-not_both : (k j : ℕ) → notifier k ≡ listener j → ⊥
-not_both k j e = cc
 
 found_formed : (n : ℕ) (o : Option StandingEvent) (e : Event) → event_in o ≡ Some e → ((st : StandingEvent) → o ≡ Some st → IsFormedEvent n st.event) → IsFormedEvent n e
 found_formed n None e h f = absurd (none_some e h)
@@ -232,6 +248,15 @@ notifier_made x n party name k e found named unheld free idle h =
           let same : IsSameHolder w.old st = subst (λ (z : StandingEvent). IsSameHolder w.old z) (sym w.is) (changed_holder k m f w.old (λ y. refl)) in
           let old = h.listeners m w.old w.was (sym same.held ∙ held) in
           (old.0, still_held x party name (notifier k) st.listener old.0 (listener m) unheld (ap (λ (q : List ℕ). x.things q old.0) same.listener ∙ old.1)));
+      notifiers = λ m st g. (
+          let w = each_was (one_changed k f m) (x.session.stands m) st g in
+          let was = h.notifiers m w.old w.was in
+          subst (λ (z : StandingEvent). AreNotifiers (with_at x.things party name (Some (notifier k))) m z.event.notifiers) (sym w.is) (changed_holds (λ s. AreNotifiers (with_at x.things party name (Some (notifier k))) m s.event.notifiers) k m f w.old
+          (λ at.
+          let same : w.old.event ≡ e = some_same _ e (ap event_in (sym w.was) ∙ ap (λ (j : ℕ). event_in (x.session.stands j)) at ∙ found) in
+          let old : AreNotifiers x.things m e.notifiers = subst (λ (y : Event). AreNotifiers x.things m y.notifiers) same was in
+          subst (λ (j : ℕ). AreNotifiers (with_at x.things party name (Some (notifier j))) m (e.notifiers + 1)) at (notifiers_more e.notifiers m x.things party name unheld old))
+          (λ apart. notifiers_beside w.old.event.notifiers m x.things party name (notifier k) (λ same. apart (sym (notifier_is k m same))) unheld was)));
       apart = h.apart;
       asked = h.asked;
       unheld = λ p q g. at_other x.things party name _ p (name_asked q) (another x.asked p party q g free) ∙ h.unheld p q g;
@@ -433,6 +458,10 @@ listener_dropped x c party name n e found holds idle h =
           let same : IsSameHolder w.old st = subst (λ (z : StandingEvent). IsSameHolder w.old z) (sym w.is) (unchanged_holder n m f w.old apart) in
           let old = h.listeners m w.old w.was (sym same.held ∙ held) in
           (old.0, left_held x party name (listener n) st.listener old.0 (listener m) holds (λ e. apart (sym (listener_is n m e))) (ap (λ (q : List ℕ). x.things q old.0) same.listener ∙ old.1)));
+      notifiers = λ m st g. (
+          let w = each_was (one_changed n f m) (x.session.stands m) st g in
+          let left : AreNotifiers (with_at x.things party name None) m w.old.event.notifiers = notifiers_without w.old.event.notifiers m x.things party name (listener n) (λ same. not_both m n (sym same)) holds (h.notifiers m w.old w.was) in
+          subst (λ (z : StandingEvent). AreNotifiers (with_at x.things party name None) m z.event.notifiers) (sym w.is) (changed_holds (λ s. AreNotifiers (with_at x.things party name None) m s.event.notifiers) n m f w.old (λ at. left) (λ apart. left)));
       apart = h.apart;
       asked = h.asked;
       unheld = λ p q g. at_none x.things party name p (name_asked q) (h.unheld p q g);
@@ -472,6 +501,15 @@ notifier_dropped x c party name n e found holds idle h =
           let same : IsSameHolder w.old st = subst (λ (z : StandingEvent). IsSameHolder w.old z) (sym w.is) (changed_holder n m f w.old (λ y. refl)) in
           let old = h.listeners m w.old w.was (sym same.held ∙ held) in
           (old.0, left_held x party name (notifier n) st.listener old.0 (listener m) holds (not_both n m) (ap (λ (q : List ℕ). x.things q old.0) same.listener ∙ old.1)));
+      notifiers = λ m st g. (
+          let w = each_was (one_changed n f m) (x.session.stands m) st g in
+          let was = h.notifiers m w.old w.was in
+          subst (λ (z : StandingEvent). AreNotifiers (with_at x.things party name None) m z.event.notifiers) (sym w.is) (changed_holds (λ s. AreNotifiers (with_at x.things party name None) m s.event.notifiers) n m f w.old
+          (λ at.
+          let same : w.old.event ≡ e = some_same _ e (ap event_in (sym w.was) ∙ ap (λ (j : ℕ). event_in (x.session.stands j)) at ∙ found) in
+          let old : AreNotifiers x.things m e.notifiers = subst (λ (y : Event). AreNotifiers x.things m y.notifiers) same was in
+          notifiers_fewer e.notifiers m x.things party name (holds ∙ ap (λ (j : ℕ). Some (notifier j)) (sym at)) old)
+          (λ apart. notifiers_without w.old.event.notifiers m x.things party name (notifier n) (λ same. apart (sym (notifier_is n m same))) holds was)));
       apart = h.apart;
       asked = h.asked;
       unheld = λ p q g. at_none x.things party name p (name_asked q) (h.unheld p q g);

@@ -12,6 +12,7 @@ use Rattle.board_model.specs.declared.line.Line.{Line}
 use Rattle.board_model.specs.declared.line.Line.TheVariants as board_line
 use Rattle.board_model.specs.LawfulSession as boards
 use Rattle.board_model.specs.LawsOfOthers.{IsLeft}
+use Rattle.board_model.specs.LawsOfSessions.{publications_in}
 use Rattle.board_model.specs.Parties.{Party, free, gone, running}
 use Rattle.board_model.proofs.GrowthLemmas.{line_growth}
 use Rattle.board_model.proofs.OtherLemmas.{left_same, line_left}
@@ -24,7 +25,7 @@ use Rattle.script_model.specs.ScriptTurns.{EventTurn, IsTurnAnswer, ScriptState,
 use Rattle.script_model.specs.ScriptSession.{IsRight, Session, after, after_boards, after_turn, start, IsLawfulFrom, state_after}
 use Rattle.script_model.specs.LawsOfRules.{IsRuled}
 use Rattle.script_model.specs.LawsOfComposition.{of_pair}
-use Rattle.script_model.specs.LawsOfLines.{BoardStepsAreAlone, IsLeftAlone, LinesLeaveParties, LinesLengthenLists, PairsAreOfBoards, PartsJoin, at_one, at_two, names, publishes, SessionsLengthenLists, publications}
+use Rattle.script_model.specs.LawsOfLines.{BoardStepsAreAlone, IsLeftAlone, LinesLeaveParties, LinesLengthenLists, PairsAreOfBoards, PartsJoin, PublicationsAreOfBoards, at_one, at_two, names, publishes, SessionsLengthenLists, publications}
 use Rattle.script_model.specs.Parts.{board_part, part_of}
 use Rattle.script_model.proofs.CompositionLemmas.{alone_step, lawful_split, part_append}
 use Rattle.script_model.proofs.PartLemmas.{board_part_leads, boards_law_holds}
@@ -265,6 +266,23 @@ sessions_lengthen s pairs b i le ok = let k = session_longer pairs s b i le ok i
 
 -- ---- sessions of boards in a script
 
+-- one line more
+part_publications : (s : ScriptState) (l : ScriptLine) (a : ScriptAnswer) (o : Option EventTurn) (rest : boards.Session) (b i n : ℕ) → ((t : EventTurn) → o ≡ Some t → IsTurnAnswer s.events t a → publishes s l a b i ≡ false) → IsRuled s l a o
+    → n ≡ publications_in (after_turn s l a o).boards rest b i → counted (publishes s l a b i) + n ≡ publications_in s.boards (part_of o l a ++ rest) b i
+part_publications s l a (Some t) rest b i n none ok h =
+    let nothing : counted false + n ≡ n = omega arith in
+    ap (λ (x : Bool). counted x + n) (none t refl ok) ∙ nothing ∙ h
+part_publications s (line.Board l) a None rest b i n none ok h =
+    subst (λ (x : ScriptAnswer). counted (publishes s (line.Board l) x b i) + n ≡ publications_in s.boards (part_of None (line.Board l) x ++ rest) b i) (sym ok.is)
+    (ap (λ (m : ℕ). counted (publishes s (line.Board l) (of_boards ok.answer) b i) + m) (h ∙ ap (λ (x : ScriptAnswer). publications_in (after_turn s (line.Board l) x None).boards rest b i) ok.is))
+part_publications s (line.Event p q) a None rest b i n none ok h = absurd ok
+part_publications s (line.Expire p) a None rest b i n none ok h = absurd ok
+
+pub publications_of_boards : PublicationsAreOfBoards
+publications_of_boards s [] b i ok = refl
+publications_of_boards s (x ∷ xs) b i ok =
+    part_publications s x.0 x.1 (turn_of s x.0) (board_part (after s x.0 x.1) xs) b i (publications (after s x.0 x.1) xs b i) (turn_publishes s x.0 x.1 b i) (ruled s x.0 x.1 ok.0) (publications_of_boards (after s x.0 x.1) xs b i ok.1)
+
 pub parts_join : PartsJoin
 parts_join s xs ys = part_append xs ys s
 
@@ -296,7 +314,9 @@ pairs_of_boards p one_alone two_alone =
         two = p.two;
         lawful = subst boards.IsLawful all (boards_law_holds (upto_two ++ of_pair p.two ∷ []) p.lawful).lawful;
       };
+      before = refl;
       one = refl;
+      between = refl;
       two = refl;
       met_one = (board_part_leads start xs first.0).state;
       met_two = ap (boards.state_after boards.start) (sym upto) ∙ (board_part_leads start upto_two whole.0).state;

@@ -92,8 +92,12 @@ printed_taken l party a b told p =
     let owes : a ≡ owed (call_of call) = cc in
     let answer_is : k.access.answer ≡ b = cc in
     let told_is : told ≡ step_told call (turn (call_of call) k.access.answer).0 = cc in
+    let kind_is : p.kind ≡ st.event.kind = cc in
+    let name_is : p.name ≡ st.event.name = cc in
     record {
       of = k.of;
+      kind_is = kind_is;
+      name_is = name_is;
       reached = events_law_holds l.before (lawful_split l.before (l.pair ∷ []) start l.lawful).0 k.of.doing.on st k.of.stands;
       takes = record {
         runs = ap (running_on k.of.doing.on) k.of.runs ∙ runs_here k.of.doing;
@@ -169,7 +173,7 @@ module _ (now : Moment) (p : List ℕ) (r : RunningCall) (w : Wait) (a : EventAc
 
 -- ---- replies
 
-reply_true : (l : Last) (party : List ℕ) (a : EventAccess) (b : EventAnswer) (told : EventReply) → PrintsAccess l.pair party a b (Some told) → (k : IsEventStep (at_last l) party a b (Some told)) → (c : EventCall) → call_of k.of.doing.call ≡ c
+reply_true : (l : Last) (party : List ℕ) (a : EventAccess) (b : EventAnswer) (told : EventReply) (p : PrintsAccess l.pair party a b (Some told)) (k : IsEventStep (at_last l) party p.kind p.name a b (Some told)) (c : EventCall) → call_of k.of.doing.call ≡ c
     → IsTrue (moment_of (at_last l) party k.of) k.of.doing.call a c told
 reply_true l party a b told p k (a_notify n) is =
     let last = last_told k.of.doing.call (progress_with k.of.doing.call b) told k.tells in

@@ -31,6 +31,7 @@ use Rattle.script_model.specs.SoundEvents.{AreNumbered, AreSoundEvents, IsFormed
 use Rattle.script_model.specs.LawsOfSound.{NamesAgree, SessionsAreSound, StaysSound}
 use Rattle.script_model.proofs.EachLemmas.{event_in}
 use Rattle.script_model.proofs.TurnLemmas.{asks, asks_no_more, call_begun, call_ended, call_stepped, grown, if_cases, other_text, party_abandoned, put_other, same_text, text_itself}
+use Rattle.script_model.proofs.NotifierLemmas.{is_notified, one_of}
 use Rattle.script_model.proofs.HolderLemmas.{listener_dropped, listener_made, notifier_dropped, notifier_made}
 use Rattle.script_model.proofs.NumberedLemmas.{line_keeps}
 use Rattle.script_model.proofs.RuleLemmas.{ruled}
@@ -300,6 +301,7 @@ script_start = record {
     names = λ k text n e. absurd (none_some _ e);
     holders = λ n st e. absurd (none_some _ e);
     listeners = λ n st e. absurd (none_some _ e);
+    notifiers = λ n st e. absurd (none_some _ e);
     apart = λ p q e. absurd (none_some _ e);
     asked = λ p q e. absurd (none_some _ e);
     unheld = λ p q e. absurd (none_some _ e);
@@ -327,4 +329,7 @@ names_agree = record {
   by_event = λ s count h. h.events.holders;
   by_thing = λ s count h p name n e. h.events.things p name (listener n) e;
   by_listener = λ s count h. h.events.listeners;
+  by_notifier = λ s count h p name n is. is_notified s.events count h.events p name n (s.events.session.stands n) refl is;
+  by_count = λ s count h n st stands some. one_of st.event.notifiers n s.events.things some (h.events.notifiers n st stands);
+  by_notifiers = λ s count h. h.events.notifiers;
 }

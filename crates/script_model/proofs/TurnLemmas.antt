@@ -14,7 +14,7 @@ use Rattle.board_event_model.proofs.SetLemmas.{and_join, and_split, is_false}
 use Rattle.board_event_model.proofs.SoundLemmas.{none_some, some_same}
 use Rattle.board_model.specs.Things.{with_at}
 use Rattle.script_model.specs.ScriptEvents.{EventAsk, EventThing, ScriptEvents, events_abandoned, listener, notifier, with_ask}
-use Rattle.script_model.specs.SoundEvents.{AreSoundEvents, HoldersAreNamed, IsCallOfThing, IsEventThing, IsFormedAsk, IsFormedEvent, IsHeldCall, IsListening, IsNamed, IsOfSession, ListenersAreThings, name_asked}
+use Rattle.script_model.specs.SoundEvents.{AreNotifiers, AreSoundEvents, HoldersAreNamed, IsCallOfThing, IsEventThing, IsFormedAsk, IsFormedEvent, IsHeldCall, IsListening, IsNamed, IsOfSession, ListenersAreThings, NotifiersAreThings, name_asked}
 use Rattle.script_model.proofs.EachLemmas.{IsSameEvent, IsSameStanding, after_same, changed_same, each, each_and, each_event, each_some, each_was, event_in, gone_same, one_changed, same_event, same_formed, same_holds, same_listening, same_named}
 
 -- ---- tables of functions
@@ -89,6 +89,7 @@ grown x n h = record {
   names = h.names;
   holders = h.holders;
   listeners = h.listeners;
+  notifiers = h.notifiers;
   apart = h.apart;
   asked = h.asked;
   unheld = h.unheld;
@@ -110,6 +111,7 @@ asks x n party o ok h = record {
   names = h.names;
   holders = h.holders;
   listeners = h.listeners;
+  notifiers = h.notifiers;
   apart = λ p q e. elim (put_cases x.asked party o p (Some q) e) [
     | inl is ↦ ap x.session.doing is.0 ∙ (ok q is.1).0
     | inr is ↦ h.apart p q is.1
@@ -150,6 +152,7 @@ call_begun x n party on c free held ok h = record {
   names = h.names;
   holders = h.holders;
   listeners = h.listeners;
+  notifiers = h.notifiers;
   apart = λ p q e. put_other x.session.doing party _ p (another x.asked p party q e free) ∙ h.apart p q e;
   asked = h.asked;
   unheld = h.unheld;
@@ -175,6 +178,7 @@ call_ended x n party ok h = record {
   names = h.names;
   holders = h.holders;
   listeners = h.listeners;
+  notifiers = h.notifiers;
   apart = λ p q e. none_other x.session.doing party p (h.apart p q e);
   asked = h.asked;
   unheld = h.unheld;
@@ -205,6 +209,13 @@ listeners_kept x y g is same things old n st e held =
     let owner : st.listener ≡ w.old.listener = ap (λ (z : StandingEvent). z.listener) w.is ∙ s.listener in
     (k.0, ap (λ (f : List ℕ → List ℕ → Option EventThing). f st.listener k.0) things ∙ ap (λ (p : List ℕ). x.things p k.0) owner ∙ k.1)
 
+-- the notifiers that an event counts are still those of parties
+notifiers_kept : (x y : ScriptEvents) (g : ℕ → StandingEvent → StandingEvent) → ((m : ℕ) → y.session.stands m ≡ each (g m) (x.session.stands m)) → ((m : ℕ) (st : StandingEvent) → IsSameEvent st.event (g m st).event) → y.things ≡ x.things → NotifiersAreThings x → NotifiersAreThings y
+notifiers_kept x y g is same things old n st e =
+    let w = each_was (g n) (x.session.stands n) st (sym (is n) ∙ e) in
+    let count : st.event.notifiers ≡ w.old.event.notifiers = ap (λ (z : StandingEvent). z.event.notifiers) w.is ∙ (same n w.old).notifiers in
+    subst (λ (f : List ℕ → List ℕ → Option EventThing). AreNotifiers f n st.event.notifiers) (sym things) (subst (AreNotifiers x.things n) (sym count) (old n w.old w.was))
+
 -- the thing still stands, where each event is as it was to its holders
 thing_kept : (x y : ScriptEvents) (g : ℕ → StandingEvent → StandingEvent) → ((m : ℕ) → y.session.stands m ≡ each (g m) (x.session.stands m)) → ((m : ℕ) (p : List ℕ) (st : StandingEvent) → IsListening p st → IsListening p (g m st)) → (p : List ℕ) (t : EventThing) → IsEventThing x p t → IsEventThing y p t
 thing_kept x y g is kept p (listener m) h = subst (λ (o : Option StandingEvent). IsSomeAnd o (IsListening p)) (sym (is m)) (each_and (IsListening p) (IsListening p) (g m) (x.session.stands m) (kept m p) h)
@@ -225,6 +236,7 @@ party_abandoned x n party old =
       names = λ k text m e. each_event (IsNamed k text) (IsNamed k text) (gone_with party) (x.session.stands m) (λ st l. same_named k text st.event (gone_with party st).event (gone_same party st).event l) (old.names k text m e);
       holders = holders_kept x (events_abandoned x party) (λ k. gone_with party) (λ k. refl) (λ k st. (gone_same party st).event) refl old.holders;
       listeners = listeners_kept x (events_abandoned x party) (λ k. gone_with party) (λ k. refl) (λ k st. gone_same party st) refl old.listeners;
+      notifiers = notifiers_kept x (events_abandoned x party) (λ k. gone_with party) (λ k. refl) (λ k st. (gone_same party st).event) refl old.notifiers;
       apart = λ p q e. none_other x.session.doing party p (h.apart p q e);
       asked = h.asked;
       unheld = h.unheld;
@@ -267,6 +279,7 @@ call_stepped x n party a b d st runs stands owes right h =
       names = λ k text m e. each_event (IsNamed k text) (IsNamed k text) (one_changed d.on (λ y. after y a) m) (x.session.stands m) (λ s l. same_named k text s.event _ (changed_same d.on m (λ y. after y a) s (λ y. after_same y a)).event l) (h.names k text m e);
       holders = holders_kept x (record x { session = took_step x.session party a b d (Some st.event) }) (one_changed d.on (λ y. after y a)) (λ k. refl) (λ k s. (changed_same d.on k (λ y. after y a) s (λ y. after_same y a)).event) refl h.holders;
       listeners = listeners_kept x (record x { session = took_step x.session party a b d (Some st.event) }) (one_changed d.on (λ y. after y a)) (λ k. refl) (λ k s. changed_same d.on k (λ y. after y a) s (λ y. after_same y a)) refl h.listeners;
+      notifiers = notifiers_kept x (record x { session = took_step x.session party a b d (Some st.event) }) (one_changed d.on (λ y. after y a)) (λ k. refl) (λ k s. (changed_same d.on k (λ y. after y a) s (λ y. after_same y a)).event) refl h.notifiers;
       apart = λ p q e. put_other x.session.doing party _ p (λ same. none_some d (sym (h.apart p q e) ∙ ap x.session.doing same ∙ runs)) ∙ h.apart p q e;
       asked = h.asked;
       unheld = h.unheld;

@@ -1,5 +1,5 @@
 -- The session that was worked out by hand, with a notifier that is abandoned after its set.
-use Rattle.std.proofs.Common.{rules, ℕ, ◌+◌, false, refl, inl, lit<, Some, None, Option, [], ◌∷◌, ◌++◌}
+use Rattle.std.proofs.Common.{rules, ℕ, false, refl, inl, Some, None, Option, [], ◌∷◌, ◌++◌}
 use Rattle.std.specs.Prelude.{codes}
 use lib.Count.{count_trailing_zeros}
 use Rattle.std.specs.FinSet as set
@@ -8,7 +8,6 @@ use Rattle.board_event_model.specs.declared.access.EventAnswer.TheVariants as ev
 use Rattle.board_event_model.specs.declared.call.WaitMode.TheVariants as mode
 use Rattle.board_event_model.specs.declared.call.WaitStage.TheVariants as stage
 use Rattle.board_event_model.specs.declared.kind.EventKind.TheVariants as kind
-use Rattle.board_event_model.specs.EventMemory.{taken}
 use Rattle.board_event_model.specs.WaitCalls.{Wait}
 use Rattle.board_event_model.proofs.SetLemmas.{has_itself}
 use Rattle.board_cell_model.specs.declared.access.Access.TheVariants as access

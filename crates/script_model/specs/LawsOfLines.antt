@@ -5,7 +5,7 @@ use Rattle.board_model.specs.declared.answer.Answer.{Answer}
 use Rattle.board_model.specs.declared.line.Line.{Line}
 use Rattle.board_model.specs.declared.line.Line.TheVariants as board_line
 use Rattle.board_model.specs.LawsOfOthers.{IsLeft, names_party}
-use Rattle.board_model.specs.LawsOfSessions.{Pairs, publishes_entry}
+use Rattle.board_model.specs.LawsOfSessions.{Pairs, publications_in, publishes_entry}
 use Rattle.board_model.specs.LawsOfSessions as board_pairs
 use Rattle.board_model.specs.Parties.{Running, running}
 use Rattle.board_model.specs.Sound.{Sound}
@@ -13,7 +13,7 @@ use Rattle.script_model.specs.declared.line.ScriptLine.{ScriptLine}
 use Rattle.script_model.specs.declared.line.ScriptLine.TheVariants as line
 use Rattle.script_model.specs.ScriptAnswers.{ScriptAnswer, of_boards}
 use Rattle.script_model.specs.ScriptTurns.{ScriptState, turn_of}
-use Rattle.script_model.specs.ScriptSession.{IsLawful, IsLawfulFrom, IsRight, Session, after, state_after}
+use Rattle.script_model.specs.ScriptSession.{IsLawful, IsLawfulFrom, IsRight, Session, after, start, state_after}
 use Rattle.script_model.specs.SoundEvents.{IsSoundScript}
 use Rattle.script_model.specs.Parts.{board_part}
 use Rattle.script_model.specs.LawsOfComposition.{of_pair, state_met}
@@ -62,6 +62,10 @@ SessionsLengthenLists = (s : ScriptState) (pairs : Session) (b i : ℕ) → b �
 
 -- ---- sessions of boards in a script
 
+-- a session publishes as many values of an entry as its boards' part
+abbrev pub PublicationsAreOfBoards : Type 0
+PublicationsAreOfBoards = (s : ScriptState) (pairs : Session) (b i : ℕ) → IsLawfulFrom s pairs → publications s pairs b i ≡ publications_in s.boards (board_part s pairs) b i
+
 -- the boards' part of two sessions, one after the other, is that of both
 abbrev pub PartsJoin : Type 0
 PartsJoin = (s : ScriptState) (xs ys : Session) → board_part s (xs ++ ys) ≡ board_part s xs ++ board_part (state_after s xs) ys
@@ -86,10 +90,12 @@ at_one p = state_met p.before
 abbrev pub at_two : ScriptPairs → ScriptState
 at_two p = state_met (p.before ++ of_pair p.one ∷ p.between)
 
--- the same two pairs in a lawful session of boards, where they met the same boards
+-- the same two pairs in a lawful session of boards, where they met the same boards; before and between them is the boards' part of what was there
 pub record ArePairsOfBoards (p : ScriptPairs) : Type 0 where
   pub pairs : Pairs
+  pub before : pairs.before ≡ board_part start p.before
   pub one : pairs.one ≡ p.one
+  pub between : pairs.between ≡ board_part (after (at_one p) (line.Board p.one.0) (of_boards p.one.1)) p.between
   pub two : pairs.two ≡ p.two
   pub met_one : board_pairs.at_one pairs ≡ (at_one p).boards
   pub met_two : board_pairs.at_two pairs ≡ (at_two p).boards

@@ -42,17 +42,19 @@ pub record RunsOnEvent (s : ScriptState) (party : List ℕ) : Type 0 where
 abbrev pub moment_of : (s : ScriptState) (party : List ℕ) → RunsOnEvent s party → Moment
 moment_of s party r = view s.events.session r.doing.on r.standing
 
--- the call takes this access as a step of the run on its event, and tells what it has come to
-pub record IsEventStep (s : ScriptState) (party : List ℕ) (a : EventAccess) (answer : EventAnswer) (told : Option EventReply) : Type 0 where
+-- the call takes this access as a step of the run on its event, which has this kind and name, and tells what it has come to
+pub record IsEventStep (s : ScriptState) (party : List ℕ) (kind : EventKind) (name : List ℕ) (a : EventAccess) (answer : EventAnswer) (told : Option EventReply) : Type 0 where
   pub of : RunsOnEvent s party
+  pub kind_is : kind ≡ of.standing.event.kind
+  pub name_is : name ≡ of.standing.event.name
   pub reached : IsReached (moment_of s party of)
   pub takes : Takes (moment_of s party of) party of.doing.call a answer
   pub tells : told ≡ step_told of.doing.call (progress_with of.doing.call answer)
 
--- so does each access that a right answer prints
+-- so does each access that a right answer prints, and the kind and the name are printed with it
 abbrev pub PrintedStepsAreTaken : Type 0
-PrintedStepsAreTaken = (l : Last) (party : List ℕ) (a : EventAccess) (answer : EventAnswer) (told : Option EventReply) → PrintsAccess l.pair party a answer told
-    → IsEventStep (at_last l) party a answer told
+PrintedStepsAreTaken = (l : Last) (party : List ℕ) (a : EventAccess) (answer : EventAnswer) (told : Option EventReply) (p : PrintsAccess l.pair party a answer told)
+    → IsEventStep (at_last l) party p.kind p.name a answer told
 
 -- ---- what is told is true
 
@@ -72,14 +74,14 @@ IsTrue now r a (a_wait w) (reply.Ids ids) = (w.many ≡ true) × (taken_by (with
 IsTrue now r a c told = ⊥
 
 -- a step of a call on an event that ends it, with a reply that is true
-pub record TellsTruth (s : ScriptState) (party : List ℕ) (a : EventAccess) (answer : EventAnswer) (told : EventReply) : Type 0 where
-  pub step : IsEventStep s party a answer (Some told)
+pub record TellsTruth (s : ScriptState) (party : List ℕ) (kind : EventKind) (name : List ℕ) (a : EventAccess) (answer : EventAnswer) (told : EventReply) : Type 0 where
+  pub step : IsEventStep s party kind name a answer (Some told)
   pub holds : IsTrue (moment_of s party step.of) step.of.doing.call a (call_of step.of.doing.call) told
 
 -- so is each reply that a right answer prints behind an access
 abbrev pub RepliesAreTrue : Type 0
-RepliesAreTrue = (l : Last) (party : List ℕ) (a : EventAccess) (answer : EventAnswer) (told : EventReply) → PrintsAccess l.pair party a answer (Some told)
-    → TellsTruth (at_last l) party a answer told
+RepliesAreTrue = (l : Last) (party : List ℕ) (a : EventAccess) (answer : EventAnswer) (told : EventReply) (p : PrintsAccess l.pair party a answer (Some told))
+    → TellsTruth (at_last l) party p.kind p.name a answer told
 
 -- ---- expiries
 

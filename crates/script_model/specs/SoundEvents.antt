@@ -1,11 +1,12 @@
 -- The facts on events that each line of a lawful script keeps.
-use Rattle.std.specs.Prelude.{◌≡◌, ℕ, ◌<◌, ◌≤◌, ◌^◌, true, List, length, Some, None, IsSome, IsSomeAnd}
+use Rattle.std.specs.Prelude.{◌≡◌, ℕ, zero, suc, ◌<◌, ◌≤◌, ◌^◌, true, List, length, Option, Some, None, IsSome, IsSomeAnd}
 use Rattle.std.specs.List.{AllByRecursion}
 use Rattle.board_event_model.specs.declared.kind.EventKind.{EventKind}
 use Rattle.board_event_model.specs.EventMemory.{Event, holds_name}
 use Rattle.board_event_model.specs.EventCalls.{EventCall, RunningCall, a_notify, a_wait, call_of}
 use Rattle.board_event_model.specs.EventSessions.{EventLine, EventSession, IsEventSession, PartyCall, StandingEvent, event_of, session_of}
 use Rattle.board_model.specs.LineGrammar.{IsNumber}
+use Rattle.board_model.specs.Things.{with_at}
 use Rattle.board_model.specs.Parties.{free}
 use Rattle.script_model.specs.ScriptGrammar.{is_event_name}
 use Rattle.script_model.specs.ScriptEvents.{EventAsk, EventThing, ScriptEvents, listener, notifier, runs_on_events, to_listen, to_notify}
@@ -55,6 +56,15 @@ HoldersAreNamed x = (n : ℕ) (st : StandingEvent) → x.session.stands n ≡ So
 abbrev pub ListenersAreThings : ScriptEvents → Type 0
 ListenersAreThings x = (n : ℕ) (st : StandingEvent) → x.session.stands n ≡ Some st → st.event.held ≡ true → (name : List ℕ) × (x.things st.listener name ≡ Some (listener n))
 
+-- so many things are notifiers of event n: none is, or one is, and one fewer are beside it
+abbrev pub AreNotifiers : (List ℕ → List ℕ → Option EventThing) → ℕ → ℕ → Type 0
+AreNotifiers things n zero = (p name : List ℕ) → things p name ≡ Some (notifier n) → ⊥
+AreNotifiers things n (suc k) = (p : List ℕ) × (name : List ℕ) × (things p name ≡ Some (notifier n)) × AreNotifiers (with_at things p name None) n k
+
+-- an event counts as many notifiers as parties have of it, each under a name
+abbrev pub NotifiersAreThings : ScriptEvents → Type 0
+NotifiersAreThings x = (n : ℕ) (st : StandingEvent) → x.session.stands n ≡ Some st → AreNotifiers x.things n st.event.notifiers
+
 -- a name and a greatest id of the grammar, and no more notifiers than lines
 pub record IsFormedEvent (count : ℕ) (e : Event) : Type 0 where
   pub text : is_event_name e.name ≡ true
@@ -83,6 +93,7 @@ pub record AreSoundEvents (x : ScriptEvents) (count : ℕ) : Type 0 where
   pub names : (k : EventKind) (text : List ℕ) (n : ℕ) → x.names k text ≡ Some n → IsSomeAnd (event_of x.session.stands n) (IsNamed k text)
   pub holders : HoldersAreNamed x
   pub listeners : ListenersAreThings x
+  pub notifiers : NotifiersAreThings x
   -- a party that asks runs no other call on events
   pub apart : (p : List ℕ) (q : EventAsk) → x.asked p ≡ Some q → x.session.doing p ≡ None
   pub asked : (p : List ℕ) (q : EventAsk) → x.asked p ≡ Some q → IsFormedAsk q

@@ -17,7 +17,7 @@ pub fn owed_accesses_can_be_made()
     ensures { OwedAccesses }
 {}
 
-/// An access that a right answer prints is a step of its event's run, and what is told with it is what the call has come to.
+/// An access that a right answer prints is a step of the run of the event whose kind and name are printed, and what is told with it is what the call has come to.
 pub fn printed_steps_are_taken()
     ensures { PrintedStepsAreTaken }
 {}

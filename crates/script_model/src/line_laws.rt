@@ -1,5 +1,5 @@
 //! Laws for programs that stand on scripts. Each function's contract is a theorem over the definitions alone.
-ghost use Rattle.script_model.specs.LawsOfLines.{BoardStepsAreAlone, LinesLeaveParties, LinesLengthenLists, PairsAreOfBoards, PartsJoin, SessionsLengthenLists};
+ghost use Rattle.script_model.specs.LawsOfLines.{BoardStepsAreAlone, LinesLeaveParties, LinesLengthenLists, PairsAreOfBoards, PartsJoin, PublicationsAreOfBoards, SessionsLengthenLists};
 
 /// A party that a line doesn't name holds what it held, and what it runs is where it was.
 pub fn lines_leave_parties()
@@ -21,7 +21,7 @@ pub fn board_steps_are_alone()
     ensures { BoardStepsAreAlone }
 {}
 
-/// Two pairs of boards in a script are two pairs of a lawful session of boards, so that session's laws hold of them.
+/// Two pairs of boards in a script are two pairs of a lawful session of boards, with the boards' part of what came before and between, so that session's laws hold of them.
 pub fn pairs_are_of_boards()
     ensures { PairsAreOfBoards }
 {}
@@ -29,4 +29,9 @@ pub fn pairs_are_of_boards()
 /// After a session a published list is longer by as many items as publications of the entry ended in it.
 pub fn sessions_lengthen_lists()
     ensures { SessionsLengthenLists }
+{}
+
+/// A session publishes as many values of an entry as its boards' part.
+pub fn publications_are_of_boards()
+    ensures { PublicationsAreOfBoards }
 {}

@@ -11,7 +11,7 @@ pub fn sessions_are_sound()
     ensures { SessionsAreSound }
 {}
 
-/// Who holds a name and the names agree, both ways.
+/// Who holds a name and the names agree, both ways, and an event counts exactly the notifiers that parties have.
 pub fn names_agree()
     ensures { NamesAgree }
 {}
