@@ -27,10 +27,6 @@ module _ {A : Type 0} (number : A → ℕ) (has : ℕ → A → Bool) (same : (n
       let other : has n x ≡ false = has_other n x (λ e. absurd (let le : number x ≤ last = h.0 in omega (arith, le, lt, e))) in
       rw (other) (none_above last n xs h.2 lt)
 
-  pub drawn_raised : (last more : ℕ) (xs : List A) → last ≤ more → AreDrawn number has last xs → AreDrawn number has more xs
-  drawn_raised last more [] le h = tt
-  drawn_raised last more (x ∷ xs) le h = (let small : number x ≤ last = h.0 in omega (arith, small, le), h.1, drawn_raised last more xs le h.2)
-
   pub find-push-other : (n : ℕ) (xs : List A) (y : A) → n ≢ number y → find (has n) (xs ++ y ∷ []) ≡ find (has n) xs
   find-push-other n [] y d = rw (has_other n y d) refl
   find-push-other n (x ∷ xs) y d = ap (λ (o : Option A). cond (has n x) (there x) o) (find-push-other n xs y d)

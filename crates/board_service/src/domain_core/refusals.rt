@@ -1,24 +1,27 @@
-//! Why a call would be refused, for callers that keep lists of their own beside the core. None of these takes memory.
-ghost use Rattle.std.specs.Prelude.{◌≡◌, ◌<◌, ◌-◌, ◌^◌, true, nat_eq, IfNone};
+//! Why a call would be refused, and what it would make, for callers that take memory of their own first. None of these takes memory.
+ghost use Rattle.std.specs.Prelude.{◌≡◌, ◌≤◌, ◌<◌, ◌-◌, ◌^◌, true, length, nat_eq, IfNone, OnOk};
 ghost use Rattle.std.specs.List.{list_any};
-ghost use Rattle.board_layout.specs.Keys.{is_key};
+ghost use Rattle.board_layout.specs.Keys.{is_key, same_keys};
 ghost use Rattle.board_layout.specs.Bytes.{details};
 ghost use Rattle.board_model.specs.TableCalls.{first_of};
 ghost use Rattle.board_model.specs.Tables as tables;
 ghost use Rattle.board_service.specs.Domain as domain;
+ghost use Rattle.board_service.specs.Entries.{HaveShapes, added};
 
 use super::DomainCore;
 use crate::cells::Cells;
 use crate::held::thing_of;
 use crate::ids::{NodeId, ThingId};
 use crate::lookups::{find_entry, has_all_readers, has_all_writers};
-use crate::refusals::{LAST, has_name, open_refusal};
+use crate::made::{Found, Made};
+use crate::new_entry::NewEntry;
+use crate::refusals::{LAST, create_refusal, has_name, number_of_named, open_refusal};
 use board_concepts::AttributeVerifier;
 use board_layout::{BoardKey, TypeDetail, TypeVariant};
 use board_model::{Limits, ThingKind};
 use board_names::{
-    BlackboardOpenError, EntryHandleError, EntryHandleMutError, ReaderCreateError, ServiceName,
-    WriterCreateError,
+    BlackboardCreateError, BlackboardOpenError, EntryHandleError, EntryHandleMutError,
+    ReaderCreateError, ServiceName, WriterCreateError,
 };
 
 impl<C: Cells> DomainCore<C> {
@@ -27,6 +30,26 @@ impl<C: Cells> DomainCore<C> {
         ensures { result ≡ list_any (tables.has_name name.now) self.now.tables.boards }
     {
         has_name(name, &self.boards)
+    }
+
+    /// Why `create` would be refused, want of memory aside.
+    pub fn create_refusal<K: BoardKey>(
+        &self,
+        name: &ServiceName,
+        entries: &[NewEntry],
+    ) -> Option<BlackboardCreateError>
+        requires size { 0 < length entries.now → K.SIZE ≤ 64 }
+        requires shapes { HaveShapes entries.now }
+        ensures { result ≡ first_of (domain.create_list self.now
+            (same_keys K.eq K.value_of K.SIZE K.WORDS) name.now (added entries.now)) }
+    {
+        create_refusal::<K>(
+            name,
+            entries,
+            &self.boards,
+            self.last_board,
+            self.things.last(),
+        )
     }
 
     /// Why `open` would be refused, want of memory aside.
@@ -57,6 +80,30 @@ impl<C: Cells> DomainCore<C> {
         )
     }
 
+    /// What `open` would answer, want of memory aside: the factory that it would make.
+    pub fn open_answer<K: BoardKey>(
+        &self,
+        node: NodeId,
+        name: &ServiceName,
+        limits: Limits,
+        verifier: &AttributeVerifier,
+    ) -> Result<Made, BlackboardOpenError>
+        ensures answer { result ≡ domain.open_answer self.now node name.now
+            (details K.type_bytes K.SIZE K.ALIGNMENT) limits verifier.now }
+
+        // Where it would make one, `open_unrefused` may be called.
+        ensures joins { OnOk result (domain.CanJoin nat_eq self.now.tables node name.now) }
+        ensures below { OnOk result (self.now.last_thing < 2 ^ 64 - 2) }
+    {
+        if let Some(why) = self.open_refusal::<K>(node, name, limits, verifier) {
+            return Err(why);
+        }
+        Ok(Made {
+            thing: ThingId(self.things.last() + 1),
+            number: number_of_named(name, &self.boards),
+        })
+    }
+
     /// Why `reader` would be refused, want of memory aside.
     pub fn reader_refusal(&self, factory: ThingId) -> Option<ReaderCreateError>
         requires { domain.Stands self.now factory }
@@ -85,6 +132,56 @@ impl<C: Cells> DomainCore<C> {
             return Some(WriterCreateError::NumbersSpent);
         }
         None
+    }
+
+    /// What `entry` would answer, want of memory aside: the handle that it would make.
+    pub fn entry_answer<K: BoardKey>(
+        &self,
+        reader: ThingId,
+        key: &K,
+        value: &TypeDetail,
+    ) -> Result<Found, EntryHandleError>
+        requires { domain.stands_as self.now (details K.type_bytes K.SIZE K.ALIGNMENT) reader
+            ThingKind.Reader ≡ true }
+        ensures { result ≡ domain.entry_answer self.now (domain.entry_of_thing self.now
+            reader (is_key K.eq K.value_of K.SIZE K.WORDS key.now) value.now) }
+    {
+        let of = thing_of(reader, &self.things);
+        let Some((entry, found)) = find_entry::<K>(of.board, key, value, &self.boards) else {
+            return Err(EntryHandleError::EntryDoesNotExist);
+        };
+        if self.things.last() >= LAST {
+            return Err(EntryHandleError::NumbersSpent);
+        }
+        let next = ThingId(self.things.last() + 1);
+        Ok(Found::at(next, entry, &found.cell))
+    }
+
+    /// What `entry_mut` would answer, want of memory aside: the handle that it would make.
+    pub fn entry_mut_answer<K: BoardKey>(
+        &self,
+        writer: ThingId,
+        key: &K,
+        value: &TypeDetail,
+    ) -> Result<Found, EntryHandleMutError>
+        requires { domain.stands_as self.now (details K.type_bytes K.SIZE K.ALIGNMENT) writer
+            ThingKind.Writer ≡ true }
+        ensures { result ≡ domain.entry_mut_answer self.now (domain.held self.now writer)
+            (domain.entry_of_thing self.now writer
+            (is_key K.eq K.value_of K.SIZE K.WORDS key.now) value.now) }
+    {
+        let of = thing_of(writer, &self.things);
+        let Some((entry, found)) = find_entry::<K>(of.board, key, value, &self.boards) else {
+            return Err(EntryHandleMutError::EntryDoesNotExist);
+        };
+        if self.things.has_write_handle(of.board, entry) {
+            return Err(EntryHandleMutError::HandleAlreadyExists);
+        }
+        if self.things.last() >= LAST {
+            return Err(EntryHandleMutError::NumbersSpent);
+        }
+        let next = ThingId(self.things.last() + 1);
+        Ok(Found::at(next, entry, &found.cell))
     }
 
     /// Why `entry` would be refused, want of memory aside.
