@@ -14,3 +14,4 @@ pub mod WorkedWatcher
 pub mod TurnLemmas
 pub mod WaitLemmas
 pub mod TakeLemmas
+pub mod ToldLemmas

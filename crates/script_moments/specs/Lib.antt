@@ -11,4 +11,5 @@ pub mod Watchers
 pub mod LawsOfWatchers
 pub mod WatcherLines
 pub mod LawsOfTurns
+pub mod LawsOfWaits
 pub mod WorkedWatchers
