@@ -1,6 +1,7 @@
 //! The bytes of answers, which are added to a buffer of the caller's.
-ghost use Rattle.std.specs.Prelude.{◌≡◌, ◌<◌, ◌≤◌, ◌++◌, OnErr, OnOk, decimal, vec_capacity};
+ghost use Rattle.std.specs.Prelude.{◌≡◌, ◌+◌, ◌<◌, ◌≤◌, ◌++◌, OnErr, OnOk, Some, codes, decimal, vec_capacity};
 ghost use Rattle.std.specs.List.{flat_map};
+ghost use Rattle.board_cell_model.specs.declared.access.Access.TheVariants as access;
 ghost use Rattle.board_model.specs.declared.answer.Answer.TheVariants as answer;
 ghost use Rattle.board_model.specs.AnswerGrammar.{access_text, answer_line, answer_text, number_text, place_text, reply_text, told_text};
 ghost use Rattle.script_print.specs.Room.{LacksRoomFor};
@@ -20,13 +21,13 @@ pub(crate) fn push_digits(n: u64, out: &mut Vec<u8>) -> Result<(), AllocError>
     ensures grows { vec_capacity out.old ≤ vec_capacity out.new }
 {
     if n < 10 {
-        out.push(b'0' + n as u8)?;
+        out.push(digit(n))?;
         return Ok(());
     }
     push_more_digits(n, out)
 }
 
-// Adds the digits of a number of two digits or more. Apart, so that `push_digits` is short.
+// Adds the digits of a number of two digits or more. Apart, so that `push_digits` is short. The short ones are copied in one go.
 #[inline(never)]
 fn push_more_digits(n: u64, out: &mut Vec<u8>) -> Result<(), AllocError>
     requires { 10 ≤ n }
@@ -37,8 +38,23 @@ fn push_more_digits(n: u64, out: &mut Vec<u8>) -> Result<(), AllocError>
     if n < 100 {
         return push_two_digits(n, out);
     }
+    if n < 1000 {
+        return push_three_digits(n, out);
+    }
+    if n < 10000 {
+        return push_four_digits(n, out);
+    }
     let mut buffer = Buffer::new();
     out.extend_from_slice(buffer.format(n).as_bytes())
+}
+
+// A digit as it is written.
+#[inline(always)]
+fn digit(n: u64) -> u8
+    requires { n < 10 }
+    ensures { result ≡ 48 + n }
+{
+    b'0' + n as u8
 }
 
 // Adds both digits of a number of two.
@@ -50,9 +66,36 @@ fn push_two_digits(n: u64, out: &mut Vec<u8>) -> Result<(), AllocError>
     ensures room { OnErr result (LacksRoomFor out.old (decimal n)) }
     ensures grows { vec_capacity out.old ≤ vec_capacity out.new }
 {
-    out.push(b'0' + (n / 10) as u8)?;
-    out.push(b'0' + (n % 10) as u8)?;
-    Ok(())
+    out.extend_from_slice(&[digit(n / 10), digit(n % 10)])
+}
+
+// Adds the digits of a number of three.
+#[inline(always)]
+fn push_three_digits(n: u64, out: &mut Vec<u8>) -> Result<(), AllocError>
+    requires low { 100 ≤ n }
+    requires high { n < 1000 }
+    ensures ok { OnOk result (out.new.items ≡ out.old.items ++ decimal n) }
+    ensures room { OnErr result (LacksRoomFor out.old (decimal n)) }
+    ensures grows { vec_capacity out.old ≤ vec_capacity out.new }
+{
+    out.extend_from_slice(&[digit(n / 100), digit(n / 10 % 10), digit(n % 10)])
+}
+
+// Adds the digits of a number of four.
+#[inline(always)]
+fn push_four_digits(n: u64, out: &mut Vec<u8>) -> Result<(), AllocError>
+    requires low { 1000 ≤ n }
+    requires high { n < 10000 }
+    ensures ok { OnOk result (out.new.items ≡ out.old.items ++ decimal n) }
+    ensures room { OnErr result (LacksRoomFor out.old (decimal n)) }
+    ensures grows { vec_capacity out.old ≤ vec_capacity out.new }
+{
+    out.extend_from_slice(&[
+        digit(n / 1000),
+        digit(n / 100 % 10),
+        digit(n / 10 % 10),
+        digit(n % 10),
+    ])
 }
 
 // Adds a space and the number.
@@ -65,16 +108,61 @@ pub(crate) fn push_number(n: u64, out: &mut Vec<u8>) -> Result<(), AllocError>
     push_digits(n, out)
 }
 
+// Adds a place and its value behind a word.
 #[inline(always)]
-fn push_place(board: u64, word: u64, value: u64, out: &mut Vec<u8>) -> Result<(), AllocError>
-    ensures ok { OnOk result (out.new.items ≡ out.old.items ++ place_text board word value) }
-    ensures room { OnErr result (LacksRoomFor out.old (place_text board word value)) }
+fn push_place(
+    kind: &[u8],
+    board: u64,
+    word: u64,
+    value: u64,
+    out: &mut Vec<u8>,
+) -> Result<(), AllocError>
+    ensures ok { OnOk result (out.new.items
+        ≡ out.old.items ++ (kind.now ++ place_text board word value)) }
+    ensures room { OnErr result (LacksRoomFor out.old (kind.now ++ place_text board word value)) }
     ensures grows { vec_capacity out.old ≤ vec_capacity out.new }
 {
+    out.extend_from_slice(kind)?;
     push_digits(board, out)?;
     out.push(b':')?;
     push_digits(word, out)?;
     push_number(value, out)
+}
+
+// Adds a read. Where both numbers of its place are below ten, as most are, what stands before the value is copied in one go.
+#[inline(always)]
+fn push_read(board: u64, word: u64, value: u64, out: &mut Vec<u8>) -> Result<(), AllocError>
+    ensures ok { OnOk result (out.new.items
+        ≡ out.old.items ++ access_text (access.Read board word value)) }
+    ensures room { OnErr result (LacksRoomFor out.old (access_text (access.Read board word value))) }
+    ensures grows { vec_capacity out.old ≤ vec_capacity out.new }
+{
+    if board > 9 || word > 9 {
+        return push_place(b"read ", board, word, value, out);
+    }
+    let mut place = *b"read 0:0 ";
+    place[5] = digit(board);
+    place[7] = digit(word);
+    out.extend_from_slice(&place)?;
+    push_digits(value, out)
+}
+
+// Adds a write, as `push_read` does a read.
+#[inline(always)]
+fn push_write(board: u64, word: u64, value: u64, out: &mut Vec<u8>) -> Result<(), AllocError>
+    ensures ok { OnOk result (out.new.items
+        ≡ out.old.items ++ access_text (access.Write board word value)) }
+    ensures room { OnErr result (LacksRoomFor out.old (access_text (access.Write board word value))) }
+    ensures grows { vec_capacity out.old ≤ vec_capacity out.new }
+{
+    if board > 9 || word > 9 {
+        return push_place(b"write ", board, word, value, out);
+    }
+    let mut place = *b"write 0:0 ";
+    place[6] = digit(board);
+    place[8] = digit(word);
+    out.extend_from_slice(&place)?;
+    push_digits(value, out)
 }
 
 #[inline(always)]
@@ -85,30 +173,39 @@ fn push_access(access: Access, out: &mut Vec<u8>) -> Result<(), AllocError>
 {
     match access {
         Access::Table => out.extend_from_slice(b"table"),
-        Access::Read { board, word, value } => {
-            out.extend_from_slice(b"read ")?;
-            push_place(board, word, value, out)
-        }
-        Access::Write { board, word, value } => {
-            out.extend_from_slice(b"write ")?;
-            push_place(board, word, value, out)
-        }
+        Access::Read { board, word, value } => push_read(board, word, value, out),
+        Access::Write { board, word, value } => push_write(board, word, value, out),
     }
 }
 
-// Adds what is told with the last step of a call.
-fn push_told(reply: &Option<Reply>, out: &mut Vec<u8>) -> Result<(), AllocError>
-    ensures ok { OnOk result (out.new.items ≡ out.old.items ++ told_text reply.now) }
-    ensures room { OnErr result (LacksRoomFor out.old (told_text reply.now)) }
+// Adds what ends the line of a step: what is told with the last one of a call, and the newline.
+#[inline(always)]
+fn push_end(reply: &Option<Reply>, out: &mut Vec<u8>) -> Result<(), AllocError>
+    ensures ok { OnOk result (out.new.items ≡ out.old.items ++ (told_text reply.now ++ codes "\n")) }
+    ensures room { OnErr result (LacksRoomFor out.old (told_text reply.now ++ codes "\n")) }
     ensures grows { vec_capacity out.old ≤ vec_capacity out.new }
 {
     match reply {
-        None => Ok(()),
-        Some(reply) => {
-            out.extend_from_slice(b" = ")?;
-            push_reply(reply, out)
+        None => {
+            out.push(b'\n')?;
+            Ok(())
         }
+        Some(Reply::Done) => out.extend_from_slice(b" = ok\n"),
+        Some(reply) => push_told(reply, out),
     }
+}
+
+// Adds what is told with the last step of a call, and the newline.
+#[inline(never)]
+fn push_told(reply: &Reply, out: &mut Vec<u8>) -> Result<(), AllocError>
+    ensures ok { OnOk result (out.new.items ≡ out.old.items ++ (told_text (Some reply.now) ++ codes "\n")) }
+    ensures room { OnErr result (LacksRoomFor out.old (told_text (Some reply.now) ++ codes "\n")) }
+    ensures grows { vec_capacity out.old ≤ vec_capacity out.new }
+{
+    out.extend_from_slice(b" = ")?;
+    push_reply(reply, out)?;
+    out.push(b'\n')?;
+    Ok(())
 }
 
 // Adds each number behind a space.
@@ -175,9 +272,7 @@ pub fn push_step(access: Access, reply: &Option<Reply>, out: &mut Vec<u8>) -> Re
     ensures grows { vec_capacity out.old ≤ vec_capacity out.new }
 {
     push_access(access, out)?;
-    push_told(reply, out)?;
-    out.push(b'\n')?;
-    Ok(())
+    push_end(reply, out)
 }
 
 /// Adds the line that lists these words.
