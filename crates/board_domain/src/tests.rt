@@ -4,7 +4,9 @@
 mod attributes;
 mod lent;
 mod loans;
+mod published;
 mod receipts;
+mod released;
 mod typed;
 
 use crate::callback_progression::CallbackProgression;
@@ -27,22 +29,32 @@ fn node_name<R: Abort>(rt: &R, name: &str) -> NodeName {
     NodeName::new(name).expect(rt, "a name")
 }
 
-fn builder<R: Abort>(rt: &R, node: &Node) -> ServiceBuilder {
-    let name = ServiceName::new("board").expect(rt, "a name");
+fn builder<R: Abort>(rt: &R, node: &Node, name: &str) -> ServiceBuilder {
+    let name = ServiceName::new(name).expect(rt, "a name");
     node.service_builder(&name).expect(rt, "memory")
 }
 
 // What makes a board of a number and of a truth value, under the keys 1 and 2.
 fn creator<P: Policy, R: Abort>(rt: &R, alloc: Global, node: &Node) -> Creator<u64, P> {
-    let creator = builder(rt, node).blackboard_creator::<u64, P>(alloc);
+    let creator = builder(rt, node, "board").blackboard_creator::<u64, P>(alloc);
     let creator = creator.max_readers(1).max_nodes(2).max_writers(1);
     let creator = creator.add(1, 7u64).expect(rt, "memory");
     creator.add_with_default::<bool>(2).expect(rt, "memory")
 }
 
+// What makes a second board, of a number alone.
+fn second_creator<P: Policy, R: Abort>(rt: &R, alloc: Global, node: &Node) -> Creator<u64, P> {
+    let creator = builder(rt, node, "second").blackboard_creator::<u64, P>(alloc);
+    creator.add(1, 3u64).expect(rt, "memory")
+}
+
 fn opener<P: Policy, R: Abort>(rt: &R, alloc: Global, node: &Node) -> Opener<u64, P> {
-    let opener = builder(rt, node).blackboard_opener::<u64, P>(alloc);
+    let opener = builder(rt, node, "board").blackboard_opener::<u64, P>(alloc);
     opener.max_readers(1).max_nodes(2)
+}
+
+fn second_opener<P: Policy, R: Abort>(rt: &R, alloc: Global, node: &Node) -> Opener<u64, P> {
+    builder(rt, node, "second").blackboard_opener::<u64, P>(alloc)
 }
 
 // One more digit, and whether a walk goes on: it does until it meets `last`.

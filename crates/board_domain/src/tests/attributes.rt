@@ -1,6 +1,6 @@
 //! A board is opened by what is needed of its attributes.
-use super::typed::new_node;
-use super::{creator, new_domain, opener};
+use super::typed::{new_board, new_node, new_reader, new_writer, read_handle};
+use super::{creator, new_domain, opener, second_creator, second_opener};
 use crate::node::Node;
 use crate::port_factory::PortFactory;
 use board_concepts::{AttributeSpecifier, AttributeVerifier, Policy, Shared, Single};
@@ -53,21 +53,57 @@ fn attributes_are_looked_at(rt: HostRuntime) {
     looked_at::<Single, HostRuntime>(&rt, rt.alloc());
 }
 
-fn nothing_is_needed<P: Policy, R: Wait + Abort>(rt: &R, alloc: Global) {
+// Makes a second board, without attributes.
+fn make_second<P: Policy, R: Wait + Abort>(
+    rt: &R,
+    alloc: Global,
+    node: &Node,
+) -> PortFactory<u64, P> {
+    let none = AttributeSpecifier::new(alloc);
+    let made = second_creator::<P, R>(rt, alloc, node).create_with_attributes(rt, none);
+    made.expect(rt, "a free name")
+}
+
+// Opens the second board, of which nothing is needed.
+fn open_second<P: Policy, R: Wait + Abort>(
+    rt: &R,
+    alloc: Global,
+    node: &Node,
+) -> PortFactory<u64, P> {
+    let nothing = AttributeVerifier::new(alloc);
+    let opened = second_opener::<P, R>(rt, alloc, node).open_with_attributes(rt, &nothing);
+    opened.expect(rt, "nothing is needed")
+}
+
+// A reader of the second board has the next number of all ports, and reads that board's value.
+fn is_read<P, R: Wait + Abort>(rt: &R, board: &PortFactory<u64, P>) {
+    let reader = new_reader(rt, board);
+    assert_eq!(rt; reader.id().0, 2);
+    let value = read_handle(rt, &reader).get(rt);
+    assert_eq!(rt; (*value.get_ref(), value.generation()), (3, 1));
+}
+
+fn two_boards<P: Policy, R: Wait + Abort>(rt: &R, alloc: Global) {
     let domain = new_domain(rt, alloc);
     let node = new_node(rt, &domain, "one");
-    let none = AttributeSpecifier::new(alloc);
-    let made = creator::<P, R>(rt, alloc, &node).create_with_attributes(rt, none);
-    let made = made.expect(rt, "a free name");
-    let nothing = AttributeVerifier::new(alloc);
-    let opened = opener::<P, R>(rt, alloc, &node).open_with_attributes(rt, &nothing);
-    let opened = opened.expect(rt, "nothing is needed");
-    assert_eq!(rt; opened.attributes().len(), 0);
-    assert_eq!(rt; made.attributes().len(), 0);
+    let first = new_board::<P, R>(rt, alloc, &node);
+    let writer = new_writer(rt, &first);
+    assert_eq!(rt; (first.unique_service_id(), writer.id().0), (1, 1));
+    let made = make_second::<P, R>(rt, alloc, &node);
+    let opened = open_second::<P, R>(rt, alloc, &node);
+    assert_eq!(rt;
+        (made.unique_service_id(), opened.unique_service_id()),
+        (2, 2)
+    );
+    assert_eq!(rt;
+        (made.attributes().len(), opened.attributes().len()),
+        (0, 0)
+    );
+    is_read(rt, &opened);
 }
 
 #[test]
-fn a_board_without_attributes_is_opened(rt: HostRuntime) {
-    nothing_is_needed::<Shared, HostRuntime>(&rt, rt.alloc());
-    nothing_is_needed::<Single, HostRuntime>(&rt, rt.alloc());
+fn a_second_board_is_opened_under_both_policies(rt: HostRuntime) {
+    two_boards::<Shared, HostRuntime>(&rt, rt.alloc());
+    two_boards::<Single, HostRuntime>(&rt, rt.alloc());
 }

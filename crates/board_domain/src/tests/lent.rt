@@ -1,26 +1,33 @@
 //! By lent forms.
-use super::loans::{publish_copy, publish_word};
-use super::{creator, new_domain, node_name, note, opener, taken};
+use super::published::publish;
+use super::{creator, new_domain, node_name, note, opener, second_creator, second_opener, taken};
 use crate::node::Node;
 use crate::port_factory::PortFactory;
 use board_concepts::{AttributeSpecifier, AttributeVerifier, Policy, Shared, Single};
 use board_handles::{Domain, DomainState, EntryHandle, EntryHandleMut, Reader, Writer};
 use board_names::{BlackboardCreateError, EntryHandleError, EntryHandleMutError};
-use board_service::DomainCore;
 use std::alloc::Global;
 use std::process::Abort;
 use std::sync::Wait;
 
-fn new_state(alloc: Global) -> DomainState {
-    DomainState {
-        tables: DomainCore::new(alloc),
-        nodes: 0,
-    }
-}
-
-fn new_node<R: Abort>(rt: &R, state: &mut DomainState, domain: &Domain, name: &str) -> Node {
+pub(super) fn new_node<R: Abort>(
+    rt: &R,
+    state: &mut DomainState,
+    domain: &Domain,
+    name: &str,
+) -> Node {
     let node = Node::new_in(state, domain, node_name(rt, name));
     node.expect(rt, "memory")
+}
+
+pub(super) fn new_board<P: Policy, R: Abort>(
+    rt: &R,
+    alloc: Global,
+    state: &mut DomainState,
+    node: &Node,
+) -> PortFactory<u64, P> {
+    let made = creator::<P, R>(rt, alloc, node).create_in(state);
+    made.expect(rt, "a free name")
 }
 
 // The board as one node made it, and as another opened it.
@@ -34,14 +41,13 @@ fn make_boards<P: Policy, R: Abort>(rt: &R, alloc: Global, state: &mut DomainSta
     let domain = new_domain(rt, alloc);
     let first = new_node(rt, state, &domain, "first");
     let second = new_node(rt, state, &domain, "second");
-    let made = creator::<P, R>(rt, alloc, &first).create_in(state);
-    let made = made.expect(rt, "a free name");
+    let made = new_board::<P, R>(rt, alloc, state, &first);
     let opened = opener::<P, R>(rt, alloc, &second).open_in(state);
     let opened = opened.expect(rt, "a board");
     Boards { made, opened }
 }
 
-fn new_reader<P, R: Abort>(
+pub(super) fn new_reader<P, R: Abort>(
     rt: &R,
     state: &mut DomainState,
     factory: &PortFactory<u64, P>,
@@ -50,7 +56,7 @@ fn new_reader<P, R: Abort>(
     builder.create_in(state).expect(rt, "room for a reader")
 }
 
-fn new_writer<P, R: Abort>(
+pub(super) fn new_writer<P, R: Abort>(
     rt: &R,
     state: &mut DomainState,
     factory: &PortFactory<u64, P>,
@@ -68,6 +74,14 @@ fn walks<P>(state: &DomainState, factory: &PortFactory<u64, P>) -> (u64, u64, u6
     (nodes, keys, first)
 }
 
+// The digits of the nodes and those of the keys, by callbacks that are lent.
+fn lent_walks<P>(state: &DomainState, factory: &PortFactory<u64, P>) -> (u64, u64) {
+    let (mut nodes, mut keys) = (0, 0);
+    factory.visit_nodes_in(state, &mut |node| note(&mut nodes, node.0, 9));
+    factory.visit_keys_in(state, &mut |key| note(&mut keys, *key, 9));
+    (nodes, keys)
+}
+
 fn ports_are_counted<P, R: Abort>(rt: &R, state: &mut DomainState, boards: &Boards<P>) {
     let writer = new_writer(rt, state, &boards.made);
     let reader = new_reader(rt, state, &boards.opened);
@@ -79,11 +93,12 @@ fn ports_are_counted<P, R: Abort>(rt: &R, state: &mut DomainState, boards: &Boar
 }
 
 fn told<P: Policy, R: Abort>(rt: &R, alloc: Global) {
-    let mut state = new_state(alloc);
+    let mut state = DomainState::new(alloc);
     let boards = make_boards::<P, R>(rt, alloc, &mut state);
     assert_eq!(rt; walks(&state, &boards.opened), (12, 12, 1));
+    assert_eq!(rt; lent_walks(&state, &boards.opened), (12, 12));
     // In another state the factory isn't held.
-    assert_eq!(rt; walks(&new_state(alloc), &boards.opened), (0, 0, 0));
+    assert_eq!(rt; walks(&DomainState::new(alloc), &boards.opened), (0, 0, 0));
     ports_are_counted(rt, &mut state, &boards);
     let Boards { made, opened } = boards;
     made.release_in(&mut state);
@@ -95,22 +110,6 @@ fn told<P: Policy, R: Abort>(rt: &R, alloc: Global) {
 fn a_board_is_told_of_a_lent_state(rt: HostRuntime) {
     told::<Shared, HostRuntime>(&rt, rt.alloc());
     told::<Single, HostRuntime>(&rt, rt.alloc());
-}
-
-// Publishes 9 and 11, which a reader sees at once.
-fn publish<P, R: Wait + Abort>(
-    rt: &R,
-    write: EntryHandleMut<u64, u64, P>,
-    read: &mut EntryHandle<u64, u64, P>,
-) -> EntryHandleMut<u64, u64, P> {
-    let mut write = write;
-    publish_copy(&mut write, 9);
-    let value = read.get(rt);
-    assert_eq!(rt; (*value.get_ref(), value.generation()), (9, 2));
-    let write = publish_word(write, 11);
-    let value = read.get(rt);
-    assert_eq!(rt; (*value.get_ref(), value.generation()), (11, 3));
-    write
 }
 
 // Asks for what there is not.
@@ -128,7 +127,7 @@ fn refusals<P, R: Abort>(
     assert_eq!(rt; other_type, Some(EntryHandleError::EntryDoesNotExist));
 }
 
-fn write_handle<P, R: Abort>(
+pub(super) fn write_handle<P, R: Abort>(
     rt: &R,
     state: &mut DomainState,
     writer: &Writer<u64, P>,
@@ -137,7 +136,7 @@ fn write_handle<P, R: Abort>(
     handle.expect(rt, "a free entry")
 }
 
-fn read_handle<P, R: Abort>(
+pub(super) fn read_handle<P, R: Abort>(
     rt: &R,
     state: &mut DomainState,
     reader: &Reader<u64, P>,
@@ -146,23 +145,42 @@ fn read_handle<P, R: Abort>(
     handle.expect(rt, "an entry")
 }
 
+// A number's entry begins the board's cells, and the truth value's comes after it.
+fn places<P, R: Abort>(
+    rt: &R,
+    state: &mut DomainState,
+    reader: &Reader<u64, P>,
+    write: &EntryHandleMut<u64, u64, P>,
+) {
+    let number = read_handle(rt, state, reader);
+    assert_eq!(rt; number.entry_id().as_value(), 0);
+    assert_eq!(rt; write.entry_id().as_value(), 0);
+    let truth = reader.entry_in::<bool>(state, &2).expect(rt, "an entry");
+    assert_eq!(rt; truth.entry_id().as_value(), 32);
+}
+
+pub(super) fn drop_loan<P>(state: &mut DomainState, write: EntryHandleMut<u64, u64, P>) {
+    if write.generation() < u64::MAX {
+        write.loan_uninit().release_in(state);
+    }
+}
+
 // The end of a handle that was given up is parked, and comes again.
 fn handed_again<P, R: Abort>(rt: &R, state: &mut DomainState, writer: &Writer<u64, P>) {
     let again = write_handle(rt, state, writer);
     assert_eq!(rt; again.generation(), 3, "its end was parked");
-    if again.generation() < u64::MAX {
-        again.loan_uninit().release_in(state);
-    }
+    drop_loan(state, again);
 }
 
-fn copied<P: Policy, R: Wait + Abort>(rt: &R, alloc: Global) {
-    let mut state = new_state(alloc);
+fn published<P: Policy, R: Wait + Abort>(rt: &R, alloc: Global) {
+    let mut state = DomainState::new(alloc);
     let Boards { made, opened } = make_boards::<P, R>(rt, alloc, &mut state);
     let writer = new_writer(rt, &mut state, &made);
     let reader = new_reader(rt, &mut state, &opened);
     let write = write_handle(rt, &mut state, &writer);
     let mut read = read_handle(rt, &mut state, &reader);
-    let write = publish(rt, write, &mut read);
+    places(rt, &mut state, &reader, &write);
+    let write = publish(rt, alloc, write, &mut read);
     refusals(rt, &mut state, &reader, &writer);
     read.release_in(&mut state);
     write.release_in(&mut state);
@@ -171,48 +189,64 @@ fn copied<P: Policy, R: Wait + Abort>(rt: &R, alloc: Global) {
 
 #[test]
 fn values_are_published_beside_a_lent_state(rt: HostRuntime) {
-    copied::<Shared, HostRuntime>(&rt, rt.alloc());
-    copied::<Single, HostRuntime>(&rt, rt.alloc());
+    published::<Shared, HostRuntime>(&rt, rt.alloc());
+    published::<Single, HostRuntime>(&rt, rt.alloc());
 }
 
-// Makes a board without attributes.
-fn make<P: Policy, R: Abort>(
+// Makes a second board, without attributes.
+fn make_second<P: Policy, R: Abort>(
     rt: &R,
     alloc: Global,
     state: &mut DomainState,
     node: &Node,
 ) -> PortFactory<u64, P> {
     let none = AttributeSpecifier::new(alloc);
-    let made = creator::<P, R>(rt, alloc, node).create_with_attributes_in(state, none);
+    let made = second_creator::<P, R>(rt, alloc, node).create_with_attributes_in(state, none);
     made.expect(rt, "a free name")
 }
 
-// Opens a board of which nothing is needed.
-fn open<P: Policy, R: Abort>(
+// Opens the second board, of which nothing is needed.
+fn open_second<P: Policy, R: Abort>(
     rt: &R,
     alloc: Global,
     state: &mut DomainState,
     node: &Node,
 ) -> PortFactory<u64, P> {
     let nothing = AttributeVerifier::new(alloc);
-    let opened = opener::<P, R>(rt, alloc, node).open_with_attributes_in(state, &nothing);
-    opened.expect(rt, "a board")
+    let opened = second_opener::<P, R>(rt, alloc, node).open_with_attributes_in(state, &nothing);
+    opened.expect(rt, "nothing is needed")
 }
 
-fn nothing_is_needed<P: Policy, R: Abort>(rt: &R, alloc: Global) {
-    let mut state = new_state(alloc);
+// A reader of the second board has the next number of all ports, and reads that board's value.
+fn is_read<P, R: Wait + Abort>(rt: &R, state: &mut DomainState, board: &PortFactory<u64, P>) {
+    let reader = new_reader(rt, state, board);
+    assert_eq!(rt; reader.id().0, 2);
+    let value = read_handle(rt, state, &reader).get(rt);
+    assert_eq!(rt; (*value.get_ref(), value.generation()), (3, 1));
+}
+
+fn two_boards<P: Policy, R: Wait + Abort>(rt: &R, alloc: Global) {
+    let mut state = DomainState::new(alloc);
     let domain = new_domain(rt, alloc);
     let node = new_node(rt, &mut state, &domain, "one");
-    let made = make::<P, R>(rt, alloc, &mut state, &node);
-    let again = creator::<P, R>(rt, alloc, &node).create_in(&mut state);
-    assert_eq!(rt; again.err(), Some(BlackboardCreateError::AlreadyExists));
-    let opened = open::<P, R>(rt, alloc, &mut state, &node);
-    assert_eq!(rt; opened.unique_service_id(), made.unique_service_id());
-    assert_eq!(rt; opened.name(), made.name());
+    let first = new_board::<P, R>(rt, alloc, &mut state, &node);
+    let writer = new_writer(rt, &mut state, &first);
+    assert_eq!(rt; (first.unique_service_id(), writer.id().0), (1, 1));
+    let made = make_second::<P, R>(rt, alloc, &mut state, &node);
+    let opened = open_second::<P, R>(rt, alloc, &mut state, &node);
+    assert_eq!(rt;
+        (made.unique_service_id(), opened.unique_service_id()),
+        (2, 2)
+    );
+    assert_eq!(rt;
+        (made.attributes().len(), opened.attributes().len()),
+        (0, 0)
+    );
+    is_read(rt, &mut state, &opened);
 }
 
 #[test]
-fn attributes_are_looked_at_in_a_lent_state(rt: HostRuntime) {
-    nothing_is_needed::<Shared, HostRuntime>(&rt, rt.alloc());
-    nothing_is_needed::<Single, HostRuntime>(&rt, rt.alloc());
+fn a_second_board_is_opened_in_a_lent_state(rt: HostRuntime) {
+    two_boards::<Shared, HostRuntime>(&rt, rt.alloc());
+    two_boards::<Single, HostRuntime>(&rt, rt.alloc());
 }

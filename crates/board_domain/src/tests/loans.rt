@@ -1,35 +1,12 @@
 //! A value is written as a loan, and published or not.
 use super::new_domain;
+use super::published::publish_word;
 use super::typed::{new_board, new_node, new_reader, new_writer, read_handle, write_handle};
 use board_concepts::{Policy, Shared, Single};
 use board_handles::{EntryHandle, EntryHandleMut};
 use std::alloc::Global;
 use std::process::Abort;
 use std::sync::Wait;
-use std::test::Fail;
-
-// Publishes a value by a copy.
-pub(super) fn publish_copy<P>(write: &mut EntryHandleMut<u64, u64, P>, value: u64) {
-    if write.generation() < u64::MAX {
-        write.update_with_copy(value);
-    }
-}
-
-// Publishes a value by a loan, word by word.
-pub(super) fn publish_word<P>(
-    write: EntryHandleMut<u64, u64, P>,
-    word: u64,
-) -> EntryHandleMut<u64, u64, P> {
-    if write.generation() == u64::MAX {
-        return write;
-    }
-    let mut loan = write.loan_uninit();
-    loan.write_word(0, word);
-    if loan.is_filled() {
-        return loan.assume_init_and_update();
-    }
-    loan.discard()
-}
 
 // Writes a value into a loan, and publishes another.
 fn publish_other<P>(
@@ -70,7 +47,7 @@ pub(super) fn make_handles<P: Policy, R: Wait + Abort>(rt: &R, alloc: Global) ->
     Handles { read, write }
 }
 
-fn drop_loan<P, R: Wait>(rt: &R, write: EntryHandleMut<u64, u64, P>) {
+pub(super) fn drop_loan<P, R: Wait>(rt: &R, write: EntryHandleMut<u64, u64, P>) {
     if write.generation() < u64::MAX {
         write.loan_uninit().release(rt);
     }
@@ -92,15 +69,4 @@ fn lent<P: Policy, R: Wait + Abort>(rt: &R, alloc: Global) {
 fn a_loan_is_published_or_not(rt: HostRuntime) {
     lent::<Shared, HostRuntime>(&rt, rt.alloc());
     lent::<Single, HostRuntime>(&rt, rt.alloc());
-}
-
-#[test]
-fn a_value_is_printed_as_its_own_type_is(rt: HostRuntime) -> Result<(), Fail> {
-    let Handles { mut read, write } = make_handles::<Shared, HostRuntime>(&rt, rt.alloc());
-    let value = read.get(&rt);
-    let mut text = String::new(rt.alloc());
-    write!(text, "{value}")?;
-    assert_eq!(rt; text.as_str(), "7");
-    write.release(&rt);
-    Ok(())
 }

@@ -1,9 +1,12 @@
 //! A writer tells a reader of each of its publications.
 use super::loans::{Handles, make_handles};
+use super::published::publish_copy;
 use board_cell::Receipt;
-use board_concepts::Shared;
+use board_concepts::{Policy, Shared, Single};
 use board_handles::{EntryHandle, EntryHandleMut};
+use std::alloc::Global;
 use std::collections::VecDeque;
+use std::process::Abort;
 use std::sync::{Condvar, Mutex, Wait};
 use std::thread;
 
@@ -76,4 +79,19 @@ fn a_hundred_receipts_are_of_what_was_read(rt: HostRuntime) {
         || read_all(&rt, read, &post),
     );
     assert_eq!(rt; counts, (100, 100));
+}
+
+fn sent<P: Policy, R: Wait + Abort>(rt: &R, alloc: Global) {
+    let Handles { read, write } = make_handles::<P, R>(rt, alloc);
+    let mut write = write;
+    publish_copy(&mut write, 9);
+    let sent = write.sent_receipt().expect(rt, "memory");
+    assert_eq!(rt; sent.generation(), 2);
+    read.release(rt);
+}
+
+#[test]
+fn a_receipt_goes_with_its_cell_under_both_policies(rt: HostRuntime) {
+    sent::<Shared, HostRuntime>(&rt, rt.alloc());
+    sent::<Single, HostRuntime>(&rt, rt.alloc());
 }

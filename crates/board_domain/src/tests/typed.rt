@@ -1,5 +1,5 @@
 //! By typed calls.
-use super::loans::publish_copy;
+use super::published::publish;
 use super::{creator, new_domain, node_name, note, opener, taken};
 use crate::messaging_pattern::MessagingPattern;
 use crate::node::Node;
@@ -88,6 +88,14 @@ fn walks<P, R: Wait>(rt: &R, factory: &PortFactory<u64, P>) -> (u64, u64, u64) {
     (nodes, keys, first)
 }
 
+// The digits of the nodes and those of the keys, by callbacks that are lent.
+fn lent_walks<P, R: Wait>(rt: &R, factory: &PortFactory<u64, P>) -> (u64, u64) {
+    let (mut nodes, mut keys) = (0, 0);
+    factory.visit_nodes(rt, &mut |node| note(&mut nodes, node.0, 9));
+    factory.visit_keys(rt, &mut |key| note(&mut keys, *key, 9));
+    (nodes, keys)
+}
+
 // The SHA-1 of `Blackboard/board`.
 const HASH: &[u8; 40] = b"081dc64409fb18fc57b4c36aa849ea376ffb7f25";
 
@@ -128,6 +136,7 @@ fn told<P: Policy, R: Wait + Abort>(rt: &R, alloc: Global) {
     are_of_one_board(rt, &made, &opened);
     limits_are_told(rt, &opened);
     assert_eq!(rt; walks(rt, &opened), (12, 12, 1));
+    assert_eq!(rt; lent_walks(rt, &opened), (12, 12));
     ports_are_counted(rt, &made, &opened);
     made.release(rt);
     assert_eq!(rt; opened.dynamic_config(rt), taken(0, 0, 1));
@@ -138,21 +147,6 @@ fn told<P: Policy, R: Wait + Abort>(rt: &R, alloc: Global) {
 fn a_board_is_told_under_both_policies(rt: HostRuntime) {
     told::<Shared, HostRuntime>(&rt, rt.alloc());
     told::<Single, HostRuntime>(&rt, rt.alloc());
-}
-
-// Publishes 9, which a reader sees at once.
-fn update<P, R: Wait + Abort>(
-    rt: &R,
-    write: &mut EntryHandleMut<u64, u64, P>,
-    read: &mut EntryHandle<u64, u64, P>,
-) {
-    let before = read.get(rt);
-    assert_eq!(rt; (*before.get_ref(), before.generation()), (7, 1));
-    assert!(rt; read.is_up_to_date(&before), "nothing was published");
-    publish_copy(write, 9);
-    assert!(rt; !read.is_up_to_date(&before), "it was published");
-    let after = read.get(rt);
-    assert_eq!(rt; (*after.get_ref(), after.generation()), (9, 2));
 }
 
 // Asks for what there is not.
@@ -172,29 +166,30 @@ fn places<P, R: Wait + Abort>(
     write: &EntryHandleMut<u64, u64, P>,
 ) {
     let number = read_handle(rt, reader);
-    assert_eq!(rt; write.entry_id(), number.entry_id());
+    assert_eq!(rt; number.entry_id().as_value(), 0);
+    assert_eq!(rt; write.entry_id().as_value(), 0);
     let truth = reader.entry::<bool, R>(rt, &2).expect(rt, "an entry");
     assert_eq!(rt; truth.entry_id().as_value(), 32);
 }
 
-fn copied<P: Policy, R: Wait + Abort>(rt: &R, alloc: Global) {
+fn published<P: Policy, R: Wait + Abort>(rt: &R, alloc: Global) {
     let Boards { made, opened } = make_boards::<P, R>(rt, alloc);
     let writer = new_writer(rt, &made);
     let reader = new_reader(rt, &opened);
-    let mut write = write_handle(rt, &writer);
+    let write = write_handle(rt, &writer);
     let mut read = read_handle(rt, &reader);
     places(rt, &reader, &write);
-    update(rt, &mut write, &mut read);
+    let write = publish(rt, alloc, write, &mut read);
     refusals(rt, &reader, &writer);
     write.release(rt);
     let again = write_handle(rt, &writer);
-    assert_eq!(rt; again.generation(), 2, "its end was parked");
+    assert_eq!(rt; again.generation(), 3, "its end was parked");
 }
 
 #[test]
-fn values_are_copied_under_both_policies(rt: HostRuntime) {
-    copied::<Shared, HostRuntime>(&rt, rt.alloc());
-    copied::<Single, HostRuntime>(&rt, rt.alloc());
+fn values_are_published_under_both_policies(rt: HostRuntime) {
+    published::<Shared, HostRuntime>(&rt, rt.alloc());
+    published::<Single, HostRuntime>(&rt, rt.alloc());
 }
 
 // What may go to another thread.
