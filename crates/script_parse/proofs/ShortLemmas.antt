@@ -40,6 +40,13 @@ is_cut word bytes begun party text rest at short cut lt space left found front =
   short = short;
 }
 
+-- a line that is cut at the first part of a word is cut at the whole
+pub cut_further : (word more whole bytes front text rest : List ℕ) → ((xs : List ℕ) → word ++ (more ++ xs) ≡ whole ++ xs) → IsCutAt word bytes front text → Some rest ≡ behind more text → IsCutAt whole bytes front rest
+cut_further word more whole bytes front text rest parts cut found = record {
+  bytes = cut.bytes ∙ ap (λ (end : List ℕ). codes "begin " ++ (front ++ 32 ∷ end)) (ap (λ (x : List ℕ). word ++ x) (behind_is more text rest (sym found)) ∙ parts rest);
+  short = cut.short;
+}
+
 -- a name that is read before a space
 named_before : (text name rest : List ℕ) (at : ℕ) → at < length text → get_or text at 0 ≡ 32 → take at text ≡ name → rest ≡ drop (at + 1) text → text ≡ name ++ 32 ∷ rest
 named_before text name rest at lt space is left =

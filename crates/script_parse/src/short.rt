@@ -58,7 +58,9 @@ pub fn update_of(bytes: &[u8]) -> Option<(Name, Name, Value)>
     ensures { IfSome result (λ parts. SpellsLine bytes.now
         (line.Board (board_line.Begin parts.0 (call.Update parts.1 parts.2)))) }
 {
-    let (front, text) = cut_at_word(bytes, b"update ")?;
+    // The word is looked for without its space, since six bytes are compared in place.
+    let (front, after) = cut_at_word(bytes, b"update")?;
+    let text = bytes_behind(after, b" ")?;
     let party = name_of(front)?;
     let at = place_of(text, b' ')?;
     let handle = name_of(&text[..at])?;
