@@ -1,6 +1,6 @@
--- Cells that are lent and come back, and calls of the tables that are undone.
-use Rattle.std.proofs.Common.{◌≡◌, ℕ, zero, suc, ◌+◌, ◌<◌, Bool, true, false, cond, List, [], ◌∷◌, ◌++◌, length, set, Option, Some, None, refl, sym, ap, ◌∙◌, subst, arith}
-use Rattle.std.specs.Prelude.{slice_get, find, is_some, IsSome, if◌then◌else◌, nat_eq, Result, Ok, Err, IsErr}
+-- Handles that were found and made, and things that stand.
+use Rattle.std.proofs.Common.{◌≡◌, ℕ, ◌+◌, Bool, true, false, cond, List, [], ◌∷◌, ◌++◌, Option, Some, None, refl, sym, ap, ◌∙◌}
+use Rattle.std.specs.Prelude.{find, is_some, IsSome, if◌then◌else◌, nat_eq, Result, Ok, Err}
 use Rattle.std.proofs.lemmas.Bool.Decides.{Decides-eqb}
 use Rattle.board_names.specs.declared.errors.boards.EntryHandleError.TheVariants as entry_error
 use Rattle.board_names.specs.declared.errors.boards.EntryHandleMutError.TheVariants as entry_mut_error
@@ -8,13 +8,11 @@ use Rattle.board_names.specs.declared.errors.boards.EntryHandleError.{EntryHandl
 use Rattle.board_names.specs.declared.errors.boards.EntryHandleMutError.{EntryHandleMutError}
 use Rattle.board_layout.specs.declared.type_detail.TypeDetail.{TypeDetail}
 use Rattle.board_model.specs.declared.tables.Entry.{Entry}
-use Rattle.board_model.specs.declared.tables.Thing.{Thing}
 use Rattle.board_model.specs.declared.tables.ThingKind.TheVariants.{Reader, Writer}
 use Rattle.board_model.specs.TableCalls.{answer_of, place_of}
 use Rattle.board_service.specs.declared.made.Found.{Found}
-use Rattle.board_service.specs.Domain.{Domain, is_thing, stands_as, held, entry_answer, entry_mut_answer, after_entry, after_entry_mut, found, at, set_at, place_of_board, cells_of, with_cells}
-use Rattle.board_cell.specs.Passes.{CellSeen}
-use Rattle.board_cells.specs.Cells.{cell_width, end_width}
+use Rattle.board_service.specs.Domain.{Domain, stands_as, held, entry_answer, entry_mut_answer, found}
+use Rattle.board_cells.specs.Cells.{cell_width, end_width, fits}
 use Rattle.board_handles.specs.BoardEnds.{Core, cell_of, parked_of, taken}
 use Rattle.board_handles.specs.LentForms as lent
 
@@ -50,74 +48,77 @@ answered (Some w) x y e = absurd (cc)
 pub ok_is_no_refusal : {A E : Type 0} (x : A) (e : E) → Ok x ≡ Err e → ⊥
 ok_is_no_refusal x e h = cc
 
--- what is Ok is not refused
-pub no_refusal : {A E : Type 0} (r : Result A E) (x : A) → Ok x ≡ r → IsErr r → ⊥
-no_refusal (Ok y) x e refused = cc
-no_refusal (Err w) x e refused = cc
+-- where an answer is Ok no refusal is it
+pub no_refusal : {A E : Type 0} (r : Result A E) (x : A) (e : E) → Ok x ≡ r → r ≡ Err e → ⊥
+no_refusal r x e ok refused = ok_is_no_refusal x e (ok ∙ refused)
+
+-- ---- what fits
+
+-- what isn't there, or not of the width, is refused
+pub unfit : {A E : Type 0} (u : E) (width : ℕ) (width_of : A → ℕ) (x : Found) (o : Option A) → fits width width_of o ≡ false → Err u ≡ lent.fitting u width width_of x o
+unfit u width width_of x o h = sym (ap (λ b. if b then lent.given u x o else Err u) h)
+
+-- what fits is given
+pub is_given : {A E : Type 0} (u : E) (width : ℕ) (width_of : A → ℕ) (x y : Found) (o : Option A) (z : A) → fits width width_of o ≡ true → y ≡ x → o ≡ Some z → Ok (y, z) ≡ lent.fitting u width width_of x o
+is_given u width width_of x y None z h e q = absurd cc
+is_given u width width_of x y (Some a) z h e q =
+    let same : a ≡ z = cc in
+    (λ k. Ok (e k, sym same k)) ∙ sym (ap (λ b. if b then Ok (x, a) else Err u) h)
+
+-- so it isn't refused
+pub fit_is_no_refusal : {A E : Type 0} (u e : E) (width : ℕ) (width_of : A → ℕ) (x : Found) (o : Option A) → fits width width_of o ≡ true → lent.fitting u width width_of x o ≡ Err e → ⊥
+fit_is_no_refusal u e width width_of x None h r = absurd cc
+fit_is_no_refusal u e width width_of x (Some a) h r = ok_is_no_refusal (x, a) e (sym (ap (λ b. if b then Ok (x, a) else Err u) h) ∙ r)
 
 -- ---- readers
 
--- what was found for a reader is what the tables answer it
-pub read_was_asked : (d : Core) (keys v values : TypeDetail) (is_key : List ℕ → Bool) (width reader thing : ℕ) (x : Found) (b : Bool)
-    → v ≡ values → reader ≡ thing → b ≡ stands_as d keys reader Reader → b ≡ true
-    → Ok x ≡ entry_answer d (lent.entry_for d (lent.asked keys is_key v width) reader)
-    → Ok x ≡ lent.read_asked d (lent.asked keys is_key values width) thing
-read_was_asked d keys v values is_key width reader thing x b tv te is_b stands ans =
-    ans
-    ∙ sym (ap (λ c. if c then entry_answer d (lent.entry_for d (lent.asked keys is_key v width) reader) else Err (entry_error.ThingUnknown reader)) (sym is_b ∙ stands))
-    ∙ (λ k. lent.read_asked d (lent.asked keys is_key (tv k) width) (te k))
-
--- a read handle that was made stands
-pub read_stands : (d : Core) (of : Thing ℕ ℕ) (f : Option (ℕ × Entry)) (x : Found) (t : Core) → Ok x ≡ entry_answer d f → t ≡ after_entry d of f → IsSome (find (is_thing x.thing) t.tables.things)
-read_stands d of f x t ans is =
-    let same : x.thing ≡ d.last_thing + 1 = ap (λ (y : Found). y.thing) (answered _ x (found d f) ans) ∙ found_thing d f in
-    subst (λ (s : Core). IsSome (find (is_thing x.thing) s.tables.things)) (sym is)
-    (found_last (is_thing x.thing) d.tables.things _ (ap (λ n. nat_eq (d.last_thing + 1) n) same ∙ is_same (d.last_thing + 1)))
-
--- what a read handle that is undone is refused with
-pub read_undone : (d : Core) (keys v values : TypeDetail) (is_key : List ℕ → Bool) (width reader thing board : ℕ) (x : Found) (why : EntryHandleError) (t : Core) (b : Bool)
+-- a reader's answer, once its entry was found
+pub read_is : (d : Core) (keys v values : TypeDetail) (is_key : List ℕ → Bool) (width reader thing board : ℕ) (x : Found) (b : Bool)
     → v ≡ values → reader ≡ thing → board ≡ (held d reader).board → b ≡ stands_as d keys reader Reader → b ≡ true
-    → Ok x ≡ entry_answer d (lent.entry_for d (lent.asked keys is_key v width) reader) → t ≡ lent.with_read d (lent.asked keys is_key v width) reader
-    → Err why ≡ lent.fitting (entry_error.ThingUnknown reader) width cell_width x (cell_of t board x.entry)
-    → Err why ≡ lent.read_answer d (lent.asked keys is_key values width) thing
-read_undone d keys v values is_key width reader thing board x why t b tv te tb is_b stands ans is err =
-    err
-    ∙ (λ k. lent.fitting (entry_error.ThingUnknown reader) width cell_width x (cell_of (is k) (tb k) x.entry))
+    → Ok x ≡ entry_answer d (lent.entry_for d (lent.asked keys is_key v width) reader)
+    → lent.fitting (entry_error.ThingUnknown reader) width cell_width x (cell_of d board x.entry) ≡ lent.read_answer d (lent.asked keys is_key values width) thing
+read_is d keys v values is_key width reader thing board x b tv te tb is_b stands ans =
+    (λ k. lent.fitting (entry_error.ThingUnknown reader) width cell_width x (cell_of d (tb k) x.entry))
     ∙ sym (ap (lent.handed (entry_error.ThingUnknown reader) width cell_width (cell_of d (held d reader).board))
+    (ap (λ c. if c then entry_answer d (lent.entry_for d (lent.asked keys is_key v width) reader) else Err (entry_error.ThingUnknown reader)) (sym is_b ∙ stands) ∙ sym ans))
+    ∙ (λ k. lent.read_answer d (lent.asked keys is_key (tv k) width) (te k))
+
+-- a reader's answer, once its entry was refused
+pub read_refused : (d : Core) (keys v values : TypeDetail) (is_key : List ℕ → Bool) (width reader thing : ℕ) (why : EntryHandleError) (b : Bool)
+    → v ≡ values → reader ≡ thing → b ≡ stands_as d keys reader Reader → b ≡ true
+    → Err why ≡ entry_answer d (lent.entry_for d (lent.asked keys is_key v width) reader)
+    → Err why ≡ lent.read_answer d (lent.asked keys is_key values width) thing
+read_refused d keys v values is_key width reader thing why b tv te is_b stands ans =
+    sym (ap (lent.handed (entry_error.ThingUnknown reader) width cell_width (cell_of d (held d reader).board))
     (ap (λ c. if c then entry_answer d (lent.entry_for d (lent.asked keys is_key v width) reader) else Err (entry_error.ThingUnknown reader)) (sym is_b ∙ stands) ∙ sym ans))
     ∙ (λ k. lent.read_answer d (lent.asked keys is_key (tv k) width) (te k))
 
 -- ---- writers
 
--- what was found for a writer is what the tables answer it
-pub write_was_asked : (d : Core) (keys v values : TypeDetail) (is_key : List ℕ → Bool) (width writer thing : ℕ) (x : Found) (b : Bool)
-    → v ≡ values → writer ≡ thing → b ≡ stands_as d keys writer Writer → b ≡ true
-    → Ok x ≡ entry_mut_answer d (held d writer) (lent.entry_for d (lent.asked keys is_key v width) writer)
-    → Ok x ≡ lent.write_asked d (lent.asked keys is_key values width) thing
-write_was_asked d keys v values is_key width writer thing x b tv te is_b stands ans =
-    ans
-    ∙ sym (ap (λ c. if c then entry_mut_answer d (held d writer) (lent.entry_for d (lent.asked keys is_key v width) writer) else Err (entry_mut_error.ThingUnknown writer)) (sym is_b ∙ stands))
-    ∙ (λ k. lent.write_asked d (lent.asked keys is_key (tv k) width) (te k))
-
--- a write handle that was made stands
-pub write_stands : (d : Core) (of : Thing ℕ ℕ) (f : Option (ℕ × Entry)) (x : Found) (t : Core) → Ok x ≡ entry_mut_answer d of f → t ≡ after_entry_mut d of f → IsSome (find (is_thing x.thing) t.tables.things)
-write_stands d of f x t ans is =
-    let same : x.thing ≡ d.last_thing + 1 = ap (λ (y : Found). y.thing) (answered _ x (found d f) ans) ∙ found_thing d f in
-    subst (λ (s : Core). IsSome (find (is_thing x.thing) s.tables.things)) (sym is)
-    (found_last (is_thing x.thing) d.tables.things _ (ap (λ n. nat_eq (d.last_thing + 1) n) same ∙ is_same (d.last_thing + 1)))
-
--- what a write handle that is undone is refused with
-pub write_undone : (d : Core) (keys v values : TypeDetail) (is_key : List ℕ → Bool) (width writer thing board : ℕ) (x : Found) (why : EntryHandleMutError) (t : Core) (b : Bool)
+-- a writer's answer, once its entry was found
+pub write_is : (d : Core) (keys v values : TypeDetail) (is_key : List ℕ → Bool) (width writer thing board : ℕ) (x : Found) (b : Bool)
     → v ≡ values → writer ≡ thing → board ≡ (held d writer).board → b ≡ stands_as d keys writer Writer → b ≡ true
-    → Ok x ≡ entry_mut_answer d (held d writer) (lent.entry_for d (lent.asked keys is_key v width) writer) → t ≡ lent.with_write d (lent.asked keys is_key v width) writer
-    → Err why ≡ lent.fitting (entry_mut_error.ThingUnknown writer) width end_width x (parked_of t board x.entry)
-    → Err why ≡ lent.write_answer d (lent.asked keys is_key values width) thing
-write_undone d keys v values is_key width writer thing board x why t b tv te tb is_b stands ans is err =
-    err
-    ∙ (λ k. lent.fitting (entry_mut_error.ThingUnknown writer) width end_width x (parked_of (is k) (tb k) x.entry))
+    → Ok x ≡ entry_mut_answer d (held d writer) (lent.entry_for d (lent.asked keys is_key v width) writer)
+    → lent.fitting (entry_mut_error.ThingUnknown writer) width end_width x (parked_of d board x.entry) ≡ lent.write_answer d (lent.asked keys is_key values width) thing
+write_is d keys v values is_key width writer thing board x b tv te tb is_b stands ans =
+    (λ k. lent.fitting (entry_mut_error.ThingUnknown writer) width end_width x (parked_of d (tb k) x.entry))
     ∙ sym (ap (lent.handed (entry_mut_error.ThingUnknown writer) width end_width (parked_of d (held d writer).board))
     (ap (λ c. if c then entry_mut_answer d (held d writer) (lent.entry_for d (lent.asked keys is_key v width) writer) else Err (entry_mut_error.ThingUnknown writer)) (sym is_b ∙ stands) ∙ sym ans))
     ∙ (λ k. lent.write_answer d (lent.asked keys is_key (tv k) width) (te k))
+
+-- a writer's answer, once its entry was refused
+pub write_refused : (d : Core) (keys v values : TypeDetail) (is_key : List ℕ → Bool) (width writer thing : ℕ) (why : EntryHandleMutError) (b : Bool)
+    → v ≡ values → writer ≡ thing → b ≡ stands_as d keys writer Writer → b ≡ true
+    → Err why ≡ entry_mut_answer d (held d writer) (lent.entry_for d (lent.asked keys is_key v width) writer)
+    → Err why ≡ lent.write_answer d (lent.asked keys is_key values width) thing
+write_refused d keys v values is_key width writer thing why b tv te is_b stands ans =
+    sym (ap (lent.handed (entry_mut_error.ThingUnknown writer) width end_width (parked_of d (held d writer).board))
+    (ap (λ c. if c then entry_mut_answer d (held d writer) (lent.entry_for d (lent.asked keys is_key v width) writer) else Err (entry_mut_error.ThingUnknown writer)) (sym is_b ∙ stands) ∙ sym ans))
+    ∙ (λ k. lent.write_answer d (lent.asked keys is_key (tv k) width) (te k))
+
+-- the tables' call leaves the ends where they are
+pub same_end : (d : Core) (a : lent.Asked) (writer board entry : ℕ) (t : Core) → t ≡ lent.with_write d a writer → parked_of t board entry ≡ parked_of d board entry
+same_end d a writer board entry t is = ap (λ (s : Core). parked_of s board entry) is
 
 -- the tables after a write handle was made and its end taken
 pub write_done : (d : Core) (keys v values : TypeDetail) (is_key : List ℕ → Bool) (width writer thing board : ℕ) (x : Found) (t now : Core)

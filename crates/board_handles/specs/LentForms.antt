@@ -1,5 +1,5 @@
 -- What the lent forms of ports and handles answer over a domain's tables, and how they leave them.
-use Rattle.std.specs.Prelude.{◌≡◌, ℕ, ◌+◌, ◌⊎◌, Bool, if◌then◌else◌, List, Option, Some, None, Result, Ok, Err, IsOk, IsErr}
+use Rattle.std.specs.Prelude.{ℕ, Bool, if◌then◌else◌, List, Option, Some, None, Result, Ok, Err}
 use Rattle.board_layout.specs.Answer.{Answers, Refuses, with_value}
 use Rattle.board_layout.specs.declared.type_detail.TypeDetail.{TypeDetail}
 use Rattle.board_model.specs.declared.tables.Entry.{Entry}
@@ -89,49 +89,30 @@ write_answer d a writer =
 abbrev pub read_given : ReadSeen → Found × CellSeen
 read_given h = (h.found, h.cell)
 
-abbrev pub read_found : ReadSeen → Found
-read_found h = h.found
-
 abbrev pub write_given : WriteSeen → Found × EndSeen
 write_given h = (h.found, h.held)
-
-abbrev pub write_found : WriteSeen → Found
-write_found h = h.found
 
 -- a read handle, or want of memory
 abbrev pub AnswersReader : Result ReadSeen EntryHandleError → Core → Asked → ℕ → Type 0
 AnswersReader result d a reader = Answers (with_value read_given result) entry_error.OutOfMemory (read_answer d a reader)
 
--- what the tables refuse is refused
+-- each refusal comes where it is due
 abbrev pub RefusesReader : Result ReadSeen EntryHandleError → Core → Asked → ℕ → Type 0
-RefusesReader result d a reader = Refuses (with_value read_found result) (read_asked d a reader)
+RefusesReader result d a reader = Refuses (with_value read_given result) (read_answer d a reader)
 
 -- a write handle, or want of memory
 abbrev pub AnswersWriter : Result WriteSeen EntryHandleMutError → Core → Asked → ℕ → Type 0
 AnswersWriter result d a writer = Answers (with_value write_given result) entry_mut_error.OutOfMemory (write_answer d a writer)
 
--- what the tables refuse is refused
+-- each refusal comes where it is due
 abbrev pub RefusesWriter : Result WriteSeen EntryHandleMutError → Core → Asked → ℕ → Type 0
-RefusesWriter result d a writer = Refuses (with_value write_found result) (write_asked d a writer)
+RefusesWriter result d a writer = Refuses (with_value write_given result) (write_answer d a writer)
 
 -- ---- what is left
 
 -- the tables without a thing; where it was its board's last, the board goes
 abbrev pub without_thing : Core → ℕ → Core
 without_thing d thing = after_release d thing (held d thing).board
-
--- where this is refused, the tables stay
-abbrev pub StaysIfRefused : {A E : Type 0} → Result A E → Core → Core → Type 0
-StaysIfRefused asked before now = IsErr asked → now ≡ before
-
--- where this is not refused, but the call is with this cause, what was made is gone again, and its number stays drawn
-abbrev pub IsUndone : {A B E : Type 0} → Result B E → E → Result A E → Core → Core → Core → Type 0
-IsUndone asked why result before made now = IsOk asked → result ≡ Err why → now ≡ without_thing made (before.last_thing + 1)
-
--- the tables after a call: with Ok all is done, else nothing was made, or what was made is gone again and its number stays drawn
-abbrev pub Leaves : {A E : Type 0} → Result A E → Core → Core → Core → Core → Type 0
-Leaves (Ok x) before made after now = now ≡ after
-Leaves (Err e) before made after now = (now ≡ before) ⊎ (now ≡ without_thing made (before.last_thing + 1))
 
 -- the tables with a read handle more
 abbrev pub with_read : Core → Asked → ℕ → Core
@@ -144,32 +125,6 @@ with_write d a writer = after_entry_mut d (held d writer) (entry_for d a writer)
 -- the same, and the entry's end is taken
 abbrev pub with_write_taken : Core → Asked → ℕ → Core
 with_write_taken d a writer = taken (with_write d a writer) (held d writer).board (place_of (entry_for d a writer))
-
--- the tables after a reader's `entry`
-abbrev pub LeavesRead : Result ReadSeen EntryHandleError → Core → Asked → ℕ → Core → Type 0
-LeavesRead result before a reader now = Leaves result before (with_read before a reader) (with_read before a reader) now
-
--- the tables after a writer's `entry`
-abbrev pub LeavesWritten : Result WriteSeen EntryHandleMutError → Core → Asked → ℕ → Core → Type 0
-LeavesWritten result before a writer now = Leaves result before (with_write before a writer) (with_write_taken before a writer) now
-
--- what the tables refuse a reader leaves them as they were
-abbrev pub StaysUnread : Core → Asked → ℕ → Core → Type 0
-StaysUnread before a reader now = StaysIfRefused (read_asked before a reader) before now
-
--- a read handle that the tables made, but whose cell isn't there, is gone again
-abbrev pub UndoesRead : Result ReadSeen EntryHandleError → Core → Asked → ℕ → Core → Type 0
-UndoesRead result before a reader now =
-    IsUndone (read_asked before a reader) (entry_error.ThingUnknown reader) result before (with_read before a reader) now
-
--- what the tables refuse a writer leaves them as they were
-abbrev pub StaysUnwritten : Core → Asked → ℕ → Core → Type 0
-StaysUnwritten before a writer now = StaysIfRefused (write_asked before a writer) before now
-
--- a write handle that the tables made, but whose end isn't parked, is gone again
-abbrev pub UndoesWritten : Result WriteSeen EntryHandleMutError → Core → Asked → ℕ → Core → Type 0
-UndoesWritten result before a writer now =
-    IsUndone (write_asked before a writer) (entry_mut_error.ThingUnknown writer) result before (with_write before a writer) now
 
 -- ---- typed calls: what stands behind the lock is some domain, of which nothing more is known
 

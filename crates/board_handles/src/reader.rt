@@ -141,7 +141,7 @@ impl<K: BoardKey, P> PortFactoryReader<K, P> {
     }
 }
 
-// The read handle of an entry that was found for a reader. All memory is taken before the cell is shared.
+// The read handle of an entry that was found for a reader. The tables stay as they are.
 fn read_handle_of<K, V: ZeroCopySend, P>(
     alloc: Global,
     owner: &Domain,
@@ -190,7 +190,7 @@ impl<K: BoardKey, P> Reader<K, P> {
     /// `entry` over the domain's state itself.
     ///
     /// # Errors
-    /// `ThingUnknown` where this reader isn't held; else `EntryDoesNotExist` where no entry has an equal key, or its values are of another type; `NumbersSpent`; `OutOfMemory`. `ThingUnknown` too where the board has no cell of the entry with as many words as a `V`. Where memory is refused behind the tables, or there is no such cell, the handle's thing is gone again, and its number stays drawn.
+    /// `ThingUnknown` where this reader isn't held; else `EntryDoesNotExist` where no entry has an equal key, or its values are of another type; `NumbersSpent`; `OutOfMemory`. `ThingUnknown` too, before memory is taken, where the board has no cell of the entry with as many words as a `V`. All stays as it was.
     pub fn entry_in<V: ZeroCopySend>(
         &self,
         state: &mut DomainState,
@@ -206,21 +206,13 @@ impl<K: BoardKey, P> Reader<K, P> {
             let values = details V.type_bytes V.SIZE V.ALIGNMENT in
             let asked = lent.asked keys is_it values V.WORDS in
             lent.RefusesReader result state.old.tables asked self.now.thing }
-        ensures tables { let keys = details K.type_bytes K.SIZE K.ALIGNMENT in
+        ensures ok { let keys = details K.type_bytes K.SIZE K.ALIGNMENT in
             let is_it = is_key K.eq K.value_of K.SIZE K.WORDS key.now in
             let values = details V.type_bytes V.SIZE V.ALIGNMENT in
             let asked = lent.asked keys is_it values V.WORDS in
-            lent.LeavesRead result state.old.tables asked self.now.thing state.new.tables }
-        ensures stays { let keys = details K.type_bytes K.SIZE K.ALIGNMENT in
-            let is_it = is_key K.eq K.value_of K.SIZE K.WORDS key.now in
-            let values = details V.type_bytes V.SIZE V.ALIGNMENT in
-            let asked = lent.asked keys is_it values V.WORDS in
-            lent.StaysUnread state.old.tables asked self.now.thing state.new.tables }
-        ensures undone { let keys = details K.type_bytes K.SIZE K.ALIGNMENT in
-            let is_it = is_key K.eq K.value_of K.SIZE K.WORDS key.now in
-            let values = details V.type_bytes V.SIZE V.ALIGNMENT in
-            let asked = lent.asked keys is_it values V.WORDS in
-            lent.UndoesRead result state.old.tables asked self.now.thing state.new.tables }
+            let after = lent.with_read state.old.tables asked self.now.thing in
+            OnOk result (state.new.tables ≡ after) }
+        ensures err { OnErr result (state.new.tables ≡ state.old.tables) }
         ensures fresh { IfOk result (λ h. IsUnread h.pass) }
         ensures tied { IfOk result (λ h. IsOfCell h V.WORDS) }
         ensures nodes { state.new.nodes ≡ state.old.nodes }
@@ -231,12 +223,11 @@ impl<K: BoardKey, P> Reader<K, P> {
         }
         let board = state.tables.board_of(reader);
         let value = TypeDetail::new::<V>(TypeVariant::FixedSize);
-        let found = match state.tables.entry::<K>(reader, key, &value) {
+        let found = match state.tables.entry_answer::<K>(reader, key, &value) {
             Ok(found) => found,
             Err(why) => return Err(why),
         };
-        let thing = found.thing;
-        match read_handle_of(
+        let handle = match read_handle_of(
             self.alloc,
             &self.domain,
             &mut state.tables,
@@ -244,11 +235,13 @@ impl<K: BoardKey, P> Reader<K, P> {
             board,
             found,
         ) {
-            Ok(handle) => Ok(handle),
-            Err(why) => {
-                let _ = state.tables.release(thing);
-                Err(why)
-            }
+            Ok(handle) => handle,
+            Err(why) => return Err(why),
+        };
+        // All other memory is taken, so the tables change last.
+        match state.tables.entry::<K>(reader, key, &value) {
+            Ok(_) => Ok(handle),
+            Err(why) => Err(why),
         }
     }
 

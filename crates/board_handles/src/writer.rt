@@ -1,10 +1,10 @@
 //! Writers of a board, and the write handles that they make.
-ghost use Rattle.std.specs.Prelude.{◌≡◌, IfOk, OnOk, OnErr};
+ghost use Rattle.std.specs.Prelude.{◌≡◌, true, Some, length, IfOk, OnOk, OnErr};
 ghost use Rattle.board_layout.specs.Answer.{Answers, Refuses, with_value};
 ghost use Rattle.board_layout.specs.Bytes.{details};
 ghost use Rattle.board_layout.specs.Keys.{is_key};
 ghost use Rattle.board_service.specs.Domain as calls;
-ghost use Rattle.board_cells.specs.Cells.{end_width};
+ghost use Rattle.board_cells.specs.Cells.{end_width, fits};
 ghost use Rattle.board_handles.specs.BoardEnds as ends;
 ghost use Rattle.board_handles.specs.LentForms as lent;
 
@@ -19,7 +19,7 @@ use board_cells::BoardCells;
 use board_layout::{BoardKey, TypeDetail, TypeVariant, ZeroCopySend};
 use board_names::{EntryHandleMutError, WriterCreateError};
 use board_service::{DomainCore, Found, Made, ThingId, ThingKind};
-use std::alloc::Global;
+use std::alloc::{AllocError, Global};
 use std::marker::{Model, PhantomData};
 use std::sync::Wait;
 
@@ -139,41 +139,52 @@ impl<K: BoardKey, P> PortFactoryWriter<K, P> {
     }
 }
 
-// The write handle of an entry that was found for a writer. All memory is taken before the entry's end is.
-fn write_handle_of<K, V: ZeroCopySend, P>(
-    alloc: Global,
-    owner: &Domain,
+// What a write handle takes memory for.
+#[derive(Drop)]
+struct Room {
+    words: Vec<u64>,
+    places: Vec<Option<u64>>,
+    domain: Domain,
+}
+
+// The room of a write handle whose values have so many words.
+fn room_for(alloc: Global, owner: &Domain, width: usize) -> Result<Room, AllocError>
+    ensures words { IfOk result (λ room. length room.words.items ≡ width) }
+    ensures places { IfOk result (λ room. length room.places.items ≡ width) }
+{
+    let words = vec![in alloc; 0; width]?;
+    let places = vec![in alloc; None; width]?;
+    let domain = owner.share()?;
+    Ok(Room {
+        words,
+        places,
+        domain,
+    })
+}
+
+// The write handle of an entry, which takes the end that is parked there.
+fn take_handle<K, V: ZeroCopySend, P>(
     tables: &mut DomainCore<BoardCells>,
-    writer: ThingId,
     board: u64,
     found: Found,
-) -> Result<EntryHandleMut<K, V, P>, EntryHandleMutError>
-    ensures answer { let unknown = EntryHandleMutError.ThingUnknown writer in
-        let end = ends.parked_of tables.old board found.entry in
-        let answer = lent.fitting unknown V.WORDS end_width found end in
-        Answers (with_value lent.write_given result) EntryHandleMutError.OutOfMemory answer }
-    ensures refused { let unknown = EntryHandleMutError.ThingUnknown writer in
-        let end = ends.parked_of tables.old board found.entry in
-        let answer = lent.fitting unknown V.WORDS end_width found end in
-        Refuses (with_value lent.write_given result) answer }
-    ensures ok { OnOk result (tables.new ≡ ends.taken tables.old board found.entry) }
-    ensures err { OnErr result (tables.new ≡ tables.old) }
-    ensures width { IfOk result (λ h. h.held.cell.width ≡ V.WORDS) }
+    room: Room,
+) -> EntryHandleMut<K, V, P>
+    requires words { length room.words.items ≡ V.WORDS }
+    requires places { length room.places.items ≡ V.WORDS }
+    requires parked { let end = ends.parked_of tables.old board found.entry in
+        fits V.WORDS end_width end ≡ true }
+    ensures found { result.found ≡ found }
+    ensures end { ends.parked_of tables.old board found.entry ≡ Some result.held }
+    ensures after { tables.new ≡ ends.taken tables.old board found.entry }
+    ensures width { result.held.cell.width ≡ V.WORDS }
 {
-    if !has_parked(tables, board, found.entry, V::WORDS as u64) {
-        return Err(EntryHandleMutError::ThingUnknown(writer.0));
-    }
-    let Ok(words) = vec![in alloc; 0; V::WORDS] else {
-        return Err(EntryHandleMutError::OutOfMemory);
-    };
-    let Ok(places) = vec![in alloc; None; V::WORDS] else {
-        return Err(EntryHandleMutError::OutOfMemory);
-    };
-    let Ok(domain) = owner.share() else {
-        return Err(EntryHandleMutError::OutOfMemory);
-    };
+    let Room {
+        words,
+        places,
+        domain,
+    } = room;
     match take_end_of(tables, board, found.entry) {
-        Some(end) => Ok(EntryHandleMut::new(found, end, words, places, domain)),
+        Some(end) => EntryHandleMut::new(found, end, words, places, domain),
         // An end is parked there.
         None => unreachable!(),
     }
@@ -190,7 +201,7 @@ impl<K: BoardKey, P> Writer<K, P> {
     /// `entry` over the domain's state itself.
     ///
     /// # Errors
-    /// `ThingUnknown` where this writer isn't held; else `EntryDoesNotExist` where no entry has an equal key, or its values are of another type; `HandleAlreadyExists` where the entry has a write handle or a loan; `NumbersSpent`; `OutOfMemory`. `ThingUnknown` too where no write end with as many words as a `V` is parked at the entry. Where memory is refused behind the tables, or there is no such end, the handle's thing is gone again, and its number stays drawn.
+    /// `ThingUnknown` where this writer isn't held; else `EntryDoesNotExist` where no entry has an equal key, or its values are of another type; `HandleAlreadyExists` where the entry has a write handle or a loan; `NumbersSpent`; `OutOfMemory`. `ThingUnknown` too, before memory is taken, where no write end with as many words as a `V` is parked at the entry. All stays as it was.
     pub fn entry_in<V: ZeroCopySend>(
         &self,
         state: &mut DomainState,
@@ -206,21 +217,13 @@ impl<K: BoardKey, P> Writer<K, P> {
             let values = details V.type_bytes V.SIZE V.ALIGNMENT in
             let asked = lent.asked keys is_it values V.WORDS in
             lent.RefusesWriter result state.old.tables asked self.now.thing }
-        ensures tables { let keys = details K.type_bytes K.SIZE K.ALIGNMENT in
+        ensures ok { let keys = details K.type_bytes K.SIZE K.ALIGNMENT in
             let is_it = is_key K.eq K.value_of K.SIZE K.WORDS key.now in
             let values = details V.type_bytes V.SIZE V.ALIGNMENT in
             let asked = lent.asked keys is_it values V.WORDS in
-            lent.LeavesWritten result state.old.tables asked self.now.thing state.new.tables }
-        ensures stays { let keys = details K.type_bytes K.SIZE K.ALIGNMENT in
-            let is_it = is_key K.eq K.value_of K.SIZE K.WORDS key.now in
-            let values = details V.type_bytes V.SIZE V.ALIGNMENT in
-            let asked = lent.asked keys is_it values V.WORDS in
-            lent.StaysUnwritten state.old.tables asked self.now.thing state.new.tables }
-        ensures undone { let keys = details K.type_bytes K.SIZE K.ALIGNMENT in
-            let is_it = is_key K.eq K.value_of K.SIZE K.WORDS key.now in
-            let values = details V.type_bytes V.SIZE V.ALIGNMENT in
-            let asked = lent.asked keys is_it values V.WORDS in
-            lent.UndoesWritten result state.old.tables asked self.now.thing state.new.tables }
+            let after = lent.with_write_taken state.old.tables asked self.now.thing in
+            OnOk result (state.new.tables ≡ after) }
+        ensures err { OnErr result (state.new.tables ≡ state.old.tables) }
         ensures width { IfOk result (λ h. h.held.cell.width ≡ V.WORDS) }
         ensures nodes { state.new.nodes ≡ state.old.nodes }
     {
@@ -230,24 +233,20 @@ impl<K: BoardKey, P> Writer<K, P> {
         }
         let board = state.tables.board_of(writer);
         let value = TypeDetail::new::<V>(TypeVariant::FixedSize);
-        let found = match state.tables.entry_mut::<K>(writer, key, &value) {
+        let found = match state.tables.entry_mut_answer::<K>(writer, key, &value) {
             Ok(found) => found,
             Err(why) => return Err(why),
         };
-        let thing = found.thing;
-        match write_handle_of(
-            self.alloc,
-            &self.domain,
-            &mut state.tables,
-            writer,
-            board,
-            found,
-        ) {
-            Ok(handle) => Ok(handle),
-            Err(why) => {
-                let _ = state.tables.release(thing);
-                Err(why)
-            }
+        if !has_parked(&state.tables, board, found.entry, V::WORDS as u64) {
+            return Err(EntryHandleMutError::ThingUnknown(writer.0));
+        }
+        let Ok(room) = room_for(self.alloc, &self.domain, V::WORDS) else {
+            return Err(EntryHandleMutError::OutOfMemory);
+        };
+        // All other memory is taken, so the tables change last.
+        match state.tables.entry_mut::<K>(writer, key, &value) {
+            Ok(_) => Ok(take_handle(&mut state.tables, board, found, room)),
+            Err(why) => Err(why),
         }
     }
 

@@ -2,50 +2,45 @@ use Rattle.std.proofs.Common.{rules, ◌≡◌, ap, ◌∙◌, true}
 use Rattle.board_layout.specs.Bytes.{details}
 use Rattle.board_layout.specs.Keys.{is_key}
 use Rattle.board_service.specs.declared.made.Made.{Made}
-use Rattle.board_service.specs.Domain.{held}
-use Rattle.board_handles.specs.LentForms as lent
-use Rattle.board_handles.proofs.LentLemmas.{ok_is_no_refusal, no_refusal, read_was_asked, read_stands, read_undone}
+use Rattle.board_handles.proofs.LentLemmas.{read_is, read_refused}
 use Rattle.board_handles.proofs.reader.Reader.entry_in.Goals as goal
 
-pub release-requires : goal.release-requires
-release-requires g c =
+pub returns-in-Err-clause-answer : goal.returns-in-Err-clause-answer
+returns-in-Err-clause-answer g c = λ not_memory.
     let K = g.K.ZeroCopySend in
     let V = g.V.ZeroCopySend in
-    let d = c.args.state.now.tables in
-    let it = is_key g.K.PartialEq.eq K.value_of K.SIZE K.WORDS c.args.key.now in
-    let a = lent.asked (details K.type_bytes K.SIZE K.ALIGNMENT) it c.new-value.result V.WORDS in
-    read_stands d (held d c.self.inside.made.thing) (lent.entry_for d a c.self.inside.made.thing)
-    c.in-Ok.found c.read_handle_of.new.tables (c.in-Ok.ensures.answer (ok_is_no_refusal _ _)) (c.read_handle_of.ensures.same ∙ c.in-Ok.ensures.ok)
+    let stands : c.is_held.result ≡ true = search rules in
+    read_refused c.args.state.now.tables (details K.type_bytes K.SIZE K.ALIGNMENT) c.new-value.result (details V.type_bytes V.SIZE V.ALIGNMENT)
+    (is_key g.K.PartialEq.eq K.value_of K.SIZE K.WORDS c.args.key.now) V.WORDS c.self.inside.made.thing c.args.self.now.thing
+    c.in-Err.why c.is_held.result c.new-value.ensures (ap (λ (m : Made). m.thing) c.self.view_is) c.is_held.ensures.value stands c.in-Err.ensures
+
+pub returns-in-Err-clause-refused : goal.returns-in-Err-clause-refused
+returns-in-Err-clause-refused g c = λ e refused.
+    let K = g.K.ZeroCopySend in
+    let V = g.V.ZeroCopySend in
+    let stands : c.is_held.result ≡ true = search rules in
+    read_refused c.args.state.now.tables (details K.type_bytes K.SIZE K.ALIGNMENT) c.new-value.result (details V.type_bytes V.SIZE V.ALIGNMENT)
+    (is_key g.K.PartialEq.eq K.value_of K.SIZE K.WORDS c.args.key.now) V.WORDS c.self.inside.made.thing c.args.self.now.thing
+    c.in-Err.why c.is_held.result c.new-value.ensures (ap (λ (m : Made). m.thing) c.self.view_is) c.is_held.ensures.value stands c.in-Err.ensures
+    ∙ refused
 
 pub returns-in-Err-read_handle_of-clause-answer : goal.returns-in-Err-read_handle_of-clause-answer
 returns-in-Err-read_handle_of-clause-answer g c = λ not_memory.
     let K = g.K.ZeroCopySend in
     let V = g.V.ZeroCopySend in
     let stands : c.is_held.result ≡ true = search rules in
-    read_undone c.args.state.now.tables (details K.type_bytes K.SIZE K.ALIGNMENT) c.new-value.result (details V.type_bytes V.SIZE V.ALIGNMENT)
+    c.in-Err-read_handle_of.ensures.answer not_memory
+    ∙ read_is c.args.state.now.tables (details K.type_bytes K.SIZE K.ALIGNMENT) c.new-value.result (details V.type_bytes V.SIZE V.ALIGNMENT)
     (is_key g.K.PartialEq.eq K.value_of K.SIZE K.WORDS c.args.key.now) V.WORDS c.self.inside.made.thing c.args.self.now.thing c.board_of-board.result
-    c.in-Ok.found c.in-Err-read_handle_of.why c.entry.new.self c.is_held.result
-    c.new-value.ensures (ap (λ (m : Made). m.thing) c.self.view_is) c.board_of-board.ensures.value c.is_held.ensures.value stands
-    (c.in-Ok.ensures.answer (ok_is_no_refusal _ _)) c.in-Ok.ensures.ok (c.in-Err-read_handle_of.ensures.answer not_memory)
+    c.in-Ok.found c.is_held.result c.new-value.ensures (ap (λ (m : Made). m.thing) c.self.view_is) c.board_of-board.ensures.value c.is_held.ensures.value stands c.in-Ok.ensures
 
-pub returns-in-Ok-read_handle_of-clause-stays : goal.returns-in-Ok-read_handle_of-clause-stays
-returns-in-Ok-read_handle_of-clause-stays g c = λ refused.
+pub returns-in-Err-read_handle_of-clause-refused : goal.returns-in-Err-read_handle_of-clause-refused
+returns-in-Err-read_handle_of-clause-refused g c = λ e refused.
     let K = g.K.ZeroCopySend in
     let V = g.V.ZeroCopySend in
     let stands : c.is_held.result ≡ true = search rules in
-    absurd (no_refusal _ c.in-Ok.found
-    (read_was_asked c.args.state.now.tables (details K.type_bytes K.SIZE K.ALIGNMENT) c.new-value.result (details V.type_bytes V.SIZE V.ALIGNMENT)
-    (is_key g.K.PartialEq.eq K.value_of K.SIZE K.WORDS c.args.key.now) V.WORDS c.self.inside.made.thing c.args.self.now.thing c.in-Ok.found c.is_held.result
-    c.new-value.ensures (ap (λ (m : Made). m.thing) c.self.view_is) c.is_held.ensures.value stands
-    (c.in-Ok.ensures.answer (ok_is_no_refusal _ _))) refused)
-
-pub returns-in-Err-read_handle_of-clause-stays : goal.returns-in-Err-read_handle_of-clause-stays
-returns-in-Err-read_handle_of-clause-stays g c = λ refused.
-    let K = g.K.ZeroCopySend in
-    let V = g.V.ZeroCopySend in
-    let stands : c.is_held.result ≡ true = search rules in
-    absurd (no_refusal _ c.in-Ok.found
-    (read_was_asked c.args.state.now.tables (details K.type_bytes K.SIZE K.ALIGNMENT) c.new-value.result (details V.type_bytes V.SIZE V.ALIGNMENT)
-    (is_key g.K.PartialEq.eq K.value_of K.SIZE K.WORDS c.args.key.now) V.WORDS c.self.inside.made.thing c.args.self.now.thing c.in-Ok.found c.is_held.result
-    c.new-value.ensures (ap (λ (m : Made). m.thing) c.self.view_is) c.is_held.ensures.value stands
-    (c.in-Ok.ensures.answer (ok_is_no_refusal _ _))) refused)
+    c.in-Err-read_handle_of.ensures.refused e (
+    read_is c.args.state.now.tables (details K.type_bytes K.SIZE K.ALIGNMENT) c.new-value.result (details V.type_bytes V.SIZE V.ALIGNMENT)
+    (is_key g.K.PartialEq.eq K.value_of K.SIZE K.WORDS c.args.key.now) V.WORDS c.self.inside.made.thing c.args.self.now.thing c.board_of-board.result
+    c.in-Ok.found c.is_held.result c.new-value.ensures (ap (λ (m : Made). m.thing) c.self.view_is) c.board_of-board.ensures.value c.is_held.ensures.value stands c.in-Ok.ensures
+    ∙ refused)
