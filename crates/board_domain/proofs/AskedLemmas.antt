@@ -1,6 +1,6 @@
 -- What is told of a board that was made or opened is as was asked.
-use Rattle.std.proofs.Common.{◌≡◌, ℕ, zero, suc, ◌+◌, ◌≤◌, Bool, true, false, List, [], ◌∷◌, ◌++◌, length, map, Option, Some, None, refl, sym, ap, ◌∙◌, subst, arith, cond}
-use Rattle.std.specs.Prelude.{◌&&◌, ◌==◌, find, is_none, not, nat_eq, nat_lt, option_map, Result, Ok, Err, IfSome}
+use Rattle.std.proofs.Common.{◌≡◌, ℕ, suc, ◌+◌, ◌≤◌, Bool, true, false, List, [], ◌∷◌, ◌++◌, length, Option, Some, None, refl, sym, ap, ◌∙◌, subst, arith, cond}
+use Rattle.std.specs.Prelude.{◌&&◌, ◌==◌, find, not, nat_eq, nat_lt, option_map, Ok, Err}
 use Rattle.std.specs.Str.{bytes_eq}
 use Rattle.std.proofs.lemmas.Slice.Eq.{bytes_eq-Decides}
 use Rattle.board_layout.specs.declared.shape.CellPlace.{CellPlace}
@@ -12,9 +12,8 @@ use Rattle.board_layout.proofs.Cells.{length-places_from}
 use Rattle.board_model.specs.declared.attributes.Attribute.{Attribute}
 use Rattle.board_model.specs.declared.attributes.Requirements.{Requirements}
 use Rattle.board_model.specs.declared.tables.Board.{Board}
-use Rattle.board_model.specs.declared.tables.Entry.{Entry}
 use Rattle.board_model.specs.declared.tables.Limits.{Limits}
-use Rattle.board_model.specs.Tables.{Added, board_at, board_named, entries_of, has_name, holds_at, is_numbered, meets, new_board, shapes_of}
+use Rattle.board_model.specs.Tables.{Added, board_at, board_named, entries_of, has_name, is_numbered, meets, new_board, shapes_of}
 use Rattle.board_model.specs.TableCalls.{answer_of, asks_above, first_of, number_of, open_refusals}
 use Rattle.board_model.specs.TypeTable.{same_type, same_variant}
 use Rattle.board_names.specs.declared.errors.boards.BlackboardOpenError.TheVariants as open_error
@@ -64,11 +63,9 @@ module _ (b : lent.NewBoard) (d t : Core) (is : lent.IsMade b d t) (facts : IsDo
       let told : c ≡ config the_board = cc in
       told ∙ ap (config_asked b.keys b.limits) as_many
 
-  -- its attributes
-  pub attributes_made : (n : ℕ) (c : StaticConfig) (attributes : List Attribute) → n ≡ d.tables.last_board + 1 → ShowsBoard (board_at t.tables n) c attributes → attributes ≡ b.attributes
-  attributes_made n c attributes e shows =
-      let same : Some attributes ≡ Some b.attributes = shows.1 ∙ ap (option_map attributes_of) (board_found n e) in
-      cc
+  -- its attributes are shown
+  pub attributes_shown : (n : ℕ) (attributes : List Attribute) → n ≡ d.tables.last_board + 1 → attributes ≡ b.attributes → Some attributes ≡ option_map attributes_of (board_at t.tables n)
+  attributes_shown n attributes e same = ap Some same ∙ sym (ap (option_map attributes_of) (board_found n e))
 
 -- ---- open
 

@@ -1,11 +1,11 @@
 -- One more entry of a new board.
-use Rattle.std.proofs.Common.{◌≡◌, ℕ, zero, suc, List, [], ◌∷◌, ◌++◌, map, sym, ap, ◌∙◌, subst, arith}
+use Rattle.std.proofs.Common.{◌≡◌, zero, suc, List, [], ◌∷◌, ◌++◌, map, sym, ap, ◌∙◌, subst, arith}
 use Rattle.std.specs.Prelude.{All}
 use Rattle.std.proofs.lemmas.List.{map-append}
 use Rattle.std.proofs.lemmas.List.Elements.{All-append}
 use Rattle.board_layout.specs.declared.shape.Shape.{Shape}
 use Rattle.board_layout.specs.Layout.{IsShape}
-use Rattle.board_model.specs.Tables.{Added, shape_of, shapes_of}
+use Rattle.board_model.specs.Tables.{shape_of, shapes_of}
 use Rattle.board_service.specs.declared.new_entry.NewEntry.{NewEntry}
 use Rattle.board_service.specs.Entries.{as_added}
 

@@ -1,6 +1,6 @@
 -- Boards and factories that were made stand.
-use Rattle.std.proofs.Common.{◌≡◌, ℕ, ◌+◌, ◌⊎◌, Bool, true, false, cond, List, [], ◌∷◌, ◌++◌, Option, Some, None, refl, sym, ap, ◌∙◌, subst, inl, inr}
-use Rattle.std.specs.Prelude.{find, IsSome, is_some, is_none, option_map, nat_eq, Result, Ok, Err}
+use Rattle.std.proofs.Common.{◌≡◌, ℕ, ◌+◌, Bool, true, false, cond, List, [], ◌∷◌, ◌++◌, Option, Some, None, refl, sym, ap, ◌∙◌, subst}
+use Rattle.std.specs.Prelude.{find, IsSome, is_some, is_none, nat_eq, Ok, Err}
 use Rattle.board_layout.specs.declared.type_detail.TypeDetail.{TypeDetail}
 use Rattle.board_model.specs.declared.attributes.Attribute.{Attribute}
 use Rattle.board_model.specs.declared.attributes.Requirements.{Requirements}
@@ -10,17 +10,13 @@ use Rattle.board_model.specs.Tables.{Added, board_at, board_named, has_name, is_
 use Rattle.board_model.specs.TableCalls.{answer_of, first_of, number_of, open_refusals}
 use Rattle.board_names.specs.declared.errors.boards.BlackboardOpenError.TheVariants as open_error
 use Rattle.board_service.specs.declared.made.Made.{Made}
+use Rattle.board_service.specs.declared.told.StaticConfig.{StaticConfig}
 use Rattle.board_cells.specs.Cells.{PlaceSeen, AreNew}
-use Rattle.board_service.specs.Domain.{IsCreated, spent, is_thing, held, made, create_answer, create_list, open_answer, open_list, after_open, after_release}
+use Rattle.board_service.specs.Domain.{IsCreated, spent, made, create_answer, create_list, open_answer, open_list, after_open}
 use Rattle.board_handles.specs.BoardEnds.{Core}
-use Rattle.board_handles.specs.LentForms.{without_thing}
 use Rattle.board_handles.proofs.LentLemmas.{is_same, kept_some, found_last, answered}
+use Rattle.board_domain.specs.Kept.{ShowsBoard}
 use Rattle.board_domain.specs.LentForms as lent
-
--- what stands is shown
-pub is_shown : {A B : Type 0} (f : A → B) (o : Option A) → IsSome o → None ≡ option_map f o → ⊥
-is_shown f None s e = cc
-is_shown f (Some x) s e = cc
 
 -- ---- create
 
@@ -35,25 +31,12 @@ module _ (b : lent.NewBoard) (d t : Core) (is : lent.IsMade b d t) where
       subst (λ (s : Core). IsSome (board_at s.tables n)) (sym is.2)
       (found_last (is_numbered n) d.tables.boards _ (ap (λ m. nat_eq (d.tables.last_board + 1) m) e ∙ is_same (d.tables.last_board + 1)))
 
-  -- so does its factory
-  pub factory_made : (n : ℕ) → n ≡ d.last_thing + 1 → IsSome (find (is_thing n) t.tables.things)
-  factory_made n e =
-      subst (λ (s : Core). IsSome (find (is_thing n) s.tables.things)) (sym is.2)
-      (found_last (is_thing n) d.tables.things _ (ap (λ m. nat_eq (d.last_thing + 1) m) e ∙ is_same (d.last_thing + 1)))
-
-  -- and where that goes again, the board was made and is gone
-  pub made_and_gone : (n : ℕ) (now : Core) → n ≡ d.last_thing + 1 → now ≡ after_release t n (held t n).board → lent.IsNotMade b d now
-  made_and_gone n now e gone = inr (t, is, gone ∙ (λ k. after_release t (e k) (held t (e k)).board))
-
 module _ (d : Core) (same_key : List ℕ → List ℕ → Bool) (name : List ℕ) (entries : List Added) (x : Made) (ok : Ok x ≡ create_answer d same_key name entries) where
   same : x ≡ made d (d.tables.last_board + 1)
   same = answered (first_of (create_list d same_key name entries)) x (made d (d.tables.last_board + 1)) ok
 
   pub created_number : x.number ≡ d.tables.last_board + 1
   created_number = ap (λ (m : Made). m.number) same
-
-  pub created_thing : x.thing ≡ d.last_thing + 1
-  created_thing = ap (λ (m : Made). m.thing) same
 
 -- ---- open
 
@@ -84,24 +67,13 @@ module _ (d : Core) (node : ℕ) (name : List ℕ) (keys : TypeDetail) (limits :
   same_opened : Ok x ≡ open_answer d node name keys limits needs → x ≡ made d (number_of (board_named d.tables name))
   same_opened ok = answered (first_of (open_list d node name keys limits needs)) x (made d (number_of (board_named d.tables name))) ok
 
-  -- a board that was opened stands
-  pub board_opened : (t : Core) → Ok x ≡ open_answer d node name keys limits needs → t ≡ after_open d node name → IsSome (board_at t.tables x.number)
-  board_opened t ok is =
+  -- a board that is opened stands
+  pub board_to_open : Ok x ≡ open_answer d node name keys limits needs → IsSome (board_at d.tables x.number)
+  board_to_open ok =
       let number : x.number ≡ number_of (board_named d.tables name) = ap (λ (m : Made). m.number) (same_opened ok) in
       let stands = named_stands d.tables.boards name (board_named d.tables name) refl (opened_number_from (board_named d.tables name) refl ok) in
-      subst (λ n. IsSome (board_at t.tables n)) (sym number)
-      (subst (λ (s : Core). IsSome (board_at s.tables (number_of (board_named d.tables name)))) (sym is) stands)
+      subst (λ n. IsSome (board_at d.tables n)) (sym number) stands
 
-  pub opened_thing : Ok x ≡ open_answer d node name keys limits needs → x.thing ≡ d.last_thing + 1
-  opened_thing ok = ap (λ (m : Made). m.thing) (same_opened ok)
-
-  -- so does its factory
-  pub factory_opened : (t : Core) → Ok x ≡ open_answer d node name keys limits needs → t ≡ after_open d node name → IsSome (find (is_thing x.thing) t.tables.things)
-  factory_opened t ok is =
-      subst (λ (s : Core). IsSome (find (is_thing x.thing) s.tables.things)) (sym is)
-      (found_last (is_thing x.thing) d.tables.things _ (ap (λ n. nat_eq (d.last_thing + 1) n) (opened_thing ok) ∙ is_same (d.last_thing + 1)))
-
-  -- and where that goes again its number stays drawn
-  pub opened_and_gone : (t now : Core) → Ok x ≡ open_answer d node name keys limits needs → t ≡ after_open d node name → now ≡ after_release t x.thing (held t x.thing).board
-      → (now ≡ d) ⊎ (now ≡ without_thing (after_open d node name) (d.last_thing + 1))
-  opened_and_gone t now ok is gone = inr (gone ∙ (λ k. after_release (is k) (opened_thing ok k) (held (is k) (opened_thing ok k)).board))
+-- what is fixed of a board stays so when it is opened
+pub shown_still : (d t : Core) (node : ℕ) (name : List ℕ) (n : ℕ) (c : StaticConfig) (attributes : List Attribute) → t ≡ after_open d node name → ShowsBoard (board_at d.tables n) c attributes → ShowsBoard (board_at t.tables n) c attributes
+shown_still d t node name n c attributes is shows = subst (λ (s : Core). ShowsBoard (board_at s.tables n) c attributes) (sym is) shows

@@ -3,9 +3,8 @@ use Rattle.std.proofs.Common.{◌≡◌, ℕ, zero, suc, ◌+◌, ◌<◌, ◌�
 use Rattle.std.specs.Prelude.{◌&&◌, ◌||◌, ◌==◌, not, nat_eq, nat_lt, if◌then◌else◌}
 use Rattle.std.specs.List.{AllByRecursion, cons_option, list_any}
 use Rattle.std.proofs.lemmas.Bool.{eqb-true, eq-eqb, lt-ltb, le-ltb, ltb-true, ltb-false, false≢true, false_from_ne_true}
-use Rattle.board_model.specs.declared.tables.Board.{Board}
 use Rattle.board_model.specs.declared.tables.Thing.{Thing}
-use Rattle.board_model.specs.Tables.{is_held_by, is_node, is_of_board, nodes_taken}
+use Rattle.board_model.specs.Tables.{is_node, is_of_board, nodes_taken}
 use Rattle.board_service.specs.Told.{node_from, nodes_below}
 use Rattle.board_domain.specs.Walks.{at_places}
 use Rattle.board_domain.specs.LawsOfNodes.{Ascends, NodesAreTold}

@@ -1,5 +1,5 @@
 -- What the lent forms of creators, openers and factories answer over a domain's tables, and how they leave them.
-use Rattle.std.specs.Prelude.{◌≡◌, ℕ, ◌+◌, ◌⊎◌, ◌&&◌, nat_le, Bool, if◌then◌else◌, List, [], Option, Some, None, option_map, Result, Ok, Err, IfOk}
+use Rattle.std.specs.Prelude.{◌≡◌, ℕ, ◌&&◌, nat_le, Bool, if◌then◌else◌, List, [], Option, Some, None, option_map, Result, Ok, Err, IfOk}
 use Rattle.board_layout.specs.Answer.{Answers, Refuses, with_value}
 use Rattle.board_layout.specs.declared.type_detail.TypeDetail.{TypeDetail}
 use Rattle.board_model.specs.declared.attributes.Attribute.{Attribute}
@@ -22,7 +22,6 @@ use Rattle.board_service.specs.Told.{use_in}
 use Rattle.board_cells.specs.Cells.{PlaceSeen, AreNew}
 use Rattle.board_domain.specs.Walks.{nodes_in, keys_in}
 use Rattle.board_handles.specs.BoardEnds.{Core}
-use Rattle.board_handles.specs.LentForms.{without_thing, StaysIfRefused}
 use Rattle.board_domain.specs.Factories.{KeepsBoard}
 
 -- ---- create
@@ -50,18 +49,10 @@ IsMade b old new =
     (cells : List PlaceSeen) × AreNew b.entries cells
     × (new ≡ after_create old b.node b.name b.keys b.limits b.attributes b.entries cells)
 
--- nothing was made, or the board was made and is gone again, and the numbers that it drew stay drawn
-abbrev pub IsNotMade : NewBoard → Core → Core → Type 0
-IsNotMade b old new = (new ≡ old) ⊎ ((made : Core) × IsMade b old made × (new ≡ without_thing made (old.last_thing + 1)))
-
--- the tables after a `create`
+-- the tables after a `create`: where it is refused, or wants memory, they are as they were
 abbrev pub LeavesMade : {A E : Type 0} → Result A E → NewBoard → Core → Core → Type 0
 LeavesMade (Ok x) b old new = IsMade b old new
-LeavesMade (Err e) b old new = IsNotMade b old new
-
--- where the tables refuse a board they stay
-abbrev pub StaysUnmade : NewBoard → (List ℕ → List ℕ → Bool) → Core → Core → Type 0
-StaysUnmade b same_key old new = StaysIfRefused (calls.create_answer old same_key b.name b.entries) old new
+LeavesMade (Err e) b old new = new ≡ old
 
 -- a typed `create` was made over the tables of some domain, of which nothing more is known, and left them in some way
 abbrev pub CreatesSomewhere : Result FactorySeen BlackboardCreateError → (List ℕ → List ℕ → Bool) → NewBoard → Type 0
@@ -77,14 +68,10 @@ CreatesSomewhere result same_key b =
 abbrev pub open_answer : Core → TypeDetail → OpenerSeen → Requirements → Result Made BlackboardOpenError
 open_answer d keys o needs = calls.open_answer d o.node o.name keys o.limits needs
 
--- the tables after an `open`: with Err nothing was made, or the factory is gone again, and its number stays drawn
+-- the tables after an `open`: where it is refused, or wants memory, they are as they were
 abbrev pub LeavesOpened : {A E : Type 0} → Result A E → ℕ → List ℕ → Core → Core → Type 0
 LeavesOpened (Ok x) node name old new = new ≡ after_open old node name
-LeavesOpened (Err e) node name old new = (new ≡ old) ⊎ (new ≡ without_thing (after_open old node name) (old.last_thing + 1))
-
--- where the tables refuse to open a board they stay
-abbrev pub StaysUnopened : OpenerSeen → TypeDetail → Requirements → Core → Core → Type 0
-StaysUnopened o keys needs old new = StaysIfRefused (open_answer old keys o needs) old new
+LeavesOpened (Err e) node name old new = new ≡ old
 
 -- a typed `open` was made over the tables of some domain, of which nothing more is known, and left them in some way
 abbrev pub OpensSomewhere : Result FactorySeen BlackboardOpenError → OpenerSeen → TypeDetail → Requirements → Type 0

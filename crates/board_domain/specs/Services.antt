@@ -46,10 +46,6 @@ pub record OpenerSeen : Type 0 where
   pub name : List ℕ
   pub limits : Limits
 
--- an opener of the node, for the board of this name
-abbrev pub opening : ℕ → List ℕ → Limits → OpenerSeen
-opening node name limits = record { node = node; name = name; limits = limits }
-
 -- a factory: its thing and its board's number, the board's name, and what is fixed of the board
 pub record FactorySeen : Type 0 where
   pub made : Made

@@ -1,5 +1,5 @@
 //! What makes a board.
-ghost use Rattle.std.specs.Prelude.{◌≡◌, ◌≤◌, ◌<◌, ◌↔◌, [], Some, length, IfOk, IsErrOf};
+ghost use Rattle.std.specs.Prelude.{◌≡◌, ◌≤◌, ◌<◌, ◌↔◌, [], Some, length, IfOk, IsErrOf, OnOk, OnErr};
 ghost use Rattle.board_layout.specs.Answer.{Answers, Refuses, with_value};
 ghost use Rattle.board_layout.specs.Bytes.{details};
 ghost use Rattle.board_layout.specs.Keys.{same_keys};
@@ -150,7 +150,7 @@ impl<K: BoardKey, P> Creator<K, P> {
     /// `create_with_attributes` over the domain's state itself.
     ///
     /// # Errors
-    /// The first that holds: `AlreadyExists`, a board of this name stands; `NoEntriesProvided`; `ServiceInCorruptedState`, two keys are equal, or the cells ask for more than 4294967295 bytes; `NumbersSpent`; `OutOfMemory`. All stays as it was; but where memory is refused behind the tables, the numbers that the board drew stay drawn.
+    /// The first that holds: `AlreadyExists`, a board of this name stands; `NoEntriesProvided`; `ServiceInCorruptedState`, two keys are equal, or the cells ask for more than 4294967295 bytes; `NumbersSpent`; `OutOfMemory`. All stays as it was.
     pub fn create_with_attributes_in(
         self,
         state: &mut DomainState,
@@ -162,13 +162,10 @@ impl<K: BoardKey, P> Creator<K, P> {
         ensures refused { let same_key = same_keys K.eq K.value_of K.SIZE K.WORDS in
             let answer = calls.create_answer state.old.tables same_key self.name self.entries in
             Refuses (with_value factory_made result) answer }
-        ensures tables { let keys = details K.type_bytes K.SIZE K.ALIGNMENT in
+        ensures ok { let keys = details K.type_bytes K.SIZE K.ALIGNMENT in
             let asked = lent.asked_board self keys attributes in
-            lent.LeavesMade result asked state.old.tables state.new.tables }
-        ensures stays { let keys = details K.type_bytes K.SIZE K.ALIGNMENT in
-            let asked = lent.asked_board self keys attributes in
-            let same_key = same_keys K.eq K.value_of K.SIZE K.WORDS in
-            lent.StaysUnmade asked same_key state.old.tables state.new.tables }
+            OnOk result (lent.IsMade asked state.old.tables state.new.tables) }
+        ensures err { OnErr result (state.new.tables ≡ state.old.tables) }
         ensures kept { IfOk result (λ f. KeepsBoard state.new.tables f) }
         ensures named { IfOk result (λ f. f.name ≡ self.name) }
         ensures config { let keys = details K.type_bytes K.SIZE K.ALIGNMENT in
@@ -206,13 +203,10 @@ impl<K: BoardKey, P> Creator<K, P> {
         ensures refused { let same_key = same_keys K.eq K.value_of K.SIZE K.WORDS in
             let answer = calls.create_answer state.old.tables same_key self.name self.entries in
             Refuses (with_value factory_made result) answer }
-        ensures tables { let keys = details K.type_bytes K.SIZE K.ALIGNMENT in
+        ensures ok { let keys = details K.type_bytes K.SIZE K.ALIGNMENT in
             let asked = lent.asked_board self keys [] in
-            lent.LeavesMade result asked state.old.tables state.new.tables }
-        ensures stays { let keys = details K.type_bytes K.SIZE K.ALIGNMENT in
-            let asked = lent.asked_board self keys [] in
-            let same_key = same_keys K.eq K.value_of K.SIZE K.WORDS in
-            lent.StaysUnmade asked same_key state.old.tables state.new.tables }
+            OnOk result (lent.IsMade asked state.old.tables state.new.tables) }
+        ensures err { OnErr result (state.new.tables ≡ state.old.tables) }
         ensures kept { IfOk result (λ f. KeepsBoard state.new.tables f) }
         ensures named { IfOk result (λ f. f.name ≡ self.name) }
         ensures config { let keys = details K.type_bytes K.SIZE K.ALIGNMENT in

@@ -1,5 +1,5 @@
 //! What a factory keeps of its board, and how boards are made and opened behind the lock.
-ghost use Rattle.std.specs.Prelude.{◌≡◌, ◌≤◌, ◌<◌, length, map, All, IfOk, IsSome};
+ghost use Rattle.std.specs.Prelude.{◌≡◌, ◌≤◌, ◌<◌, Some, length, map, option_map, All, IfOk, IsSome, OnOk, OnErr};
 ghost use Rattle.board_layout.specs.Answer.{Answers, Refuses, with_value};
 ghost use Rattle.board_layout.specs.Bytes.{details};
 ghost use Rattle.board_layout.specs.Keys.{same_keys};
@@ -8,15 +8,14 @@ ghost use Rattle.board_model.specs.Tables.{board_at, shapes_of};
 ghost use Rattle.board_service.specs.Domain as calls;
 ghost use Rattle.board_service.specs.Entries.{as_added};
 ghost use Rattle.board_domain.specs.Asked.{IsAsAsked, config_asked};
-ghost use Rattle.board_domain.specs.Kept.{kept_made, KeepsBoard};
+ghost use Rattle.board_domain.specs.Kept.{attributes_of, kept_made, KeepsBoard};
 ghost use Rattle.board_domain.specs.LentForms as lent;
-ghost use Rattle.board_domain.specs.Services.{opening};
 
 use board_concepts::{AttributeSet, AttributeVerifier};
 use board_handles::{BoardCells, DomainState};
 use board_layout::BoardKey;
 use board_model::{Limits, NewLimits};
-use board_names::{AttributeError, BlackboardCreateError, BlackboardOpenError, ServiceName};
+use board_names::{BlackboardCreateError, BlackboardOpenError, ServiceName};
 use board_service::{DomainCore, Made, NewEntry, NodeId, StaticConfig};
 use std::alloc::AllocError;
 
@@ -28,6 +27,24 @@ pub(crate) struct Kept {
     pub(crate) attributes: AttributeSet,
 }
 
+// What is fixed of a board that stands, with its attributes.
+fn kept_with(tables: &DomainCore<BoardCells>, made: Made, attributes: AttributeSet) -> Kept
+    requires { Some attributes ≡ option_map attributes_of (board_at tables.now.tables made.number) }
+    ensures made { result.made ≡ made }
+    ensures kept { KeepsBoard tables.now result }
+    ensures attributes { result.attributes ≡ attributes }
+{
+    // The board stands.
+    let Some(config) = tables.config_of(made.number) else {
+        unreachable!()
+    };
+    Kept {
+        made,
+        config,
+        attributes,
+    }
+}
+
 // What is fixed of a board that stands.
 fn kept_of(tables: &DomainCore<BoardCells>, made: Made) -> Result<Kept, AllocError>
     requires { IsSome (board_at tables.now.tables made.number) }
@@ -35,28 +52,20 @@ fn kept_of(tables: &DomainCore<BoardCells>, made: Made) -> Result<Kept, AllocErr
     ensures kept { IfOk result (λ k. KeepsBoard tables.now k) }
 {
     // The board stands.
-    let Some(config) = tables.config_of(made.number) else {
-        unreachable!()
-    };
     let Some(attributes) = tables.attributes_of(made.number) else {
         unreachable!()
     };
+    // Only for want of memory is a copy refused.
     match attributes.copy() {
-        Ok(attributes) => Ok(Kept {
-            made,
-            config,
-            attributes,
-        }),
-        Err(AttributeError::OutOfMemory) => Err(AllocError),
-        // Only for want of memory is a copy refused.
-        Err(_) => unreachable!(),
+        Ok(copied) => Ok(kept_with(tables, made, copied)),
+        Err(_) => Err(AllocError),
     }
 }
 
-/// Makes a board, and a factory of it for a node. Where memory is refused behind the tables, the board is gone again.
+/// Makes a board, and a factory of it for a node.
 ///
 /// # Errors
-/// As the tables' `create`.
+/// As the tables' `create`. All stays as it was.
 pub(crate) fn new_board<K: BoardKey>(
     state: &mut DomainState,
     node: NodeId,
@@ -75,15 +84,11 @@ pub(crate) fn new_board<K: BoardKey>(
         let added = map as_added entries.items in
         let answer = calls.create_answer state.old.tables same_key name.now added in
         Refuses (with_value kept_made result) answer }
-    ensures tables { let keys = details K.type_bytes K.SIZE K.ALIGNMENT in
+    ensures ok { let keys = details K.type_bytes K.SIZE K.ALIGNMENT in
         let added = map as_added entries.items in
         let asked = lent.new_board node name.now keys limits attributes added in
-        lent.LeavesMade result asked state.old.tables state.new.tables }
-    ensures stays { let keys = details K.type_bytes K.SIZE K.ALIGNMENT in
-        let added = map as_added entries.items in
-        let asked = lent.new_board node name.now keys limits attributes added in
-        let same_key = same_keys K.eq K.value_of K.SIZE K.WORDS in
-        lent.StaysUnmade asked same_key state.old.tables state.new.tables }
+        OnOk result (lent.IsMade asked state.old.tables state.new.tables) }
+    ensures err { OnErr result (state.new.tables ≡ state.old.tables) }
     ensures kept { IfOk result (λ k. KeepsBoard state.new.tables k) }
     ensures config { let keys = details K.type_bytes K.SIZE K.ALIGNMENT in
         let config = config_asked keys limits (length (map as_added entries.items)) in
@@ -92,7 +97,14 @@ pub(crate) fn new_board<K: BoardKey>(
     ensures nodes { state.new.nodes ≡ state.old.nodes }
 {
     state.tables.facts();
-    let made = match state.tables.create::<K>(
+    if let Some(why) = state.tables.create_refusal::<K>(name, entries.as_slice()) {
+        return Err(why);
+    }
+    // The factory's memory is taken before the tables change.
+    let Ok(copied) = attributes.copy() else {
+        return Err(BlackboardCreateError::OutOfMemory);
+    };
+    match state.tables.create::<K>(
         node,
         name,
         limits.shared,
@@ -100,23 +112,15 @@ pub(crate) fn new_board<K: BoardKey>(
         attributes,
         entries,
     ) {
-        Ok(made) => made,
-        Err(why) => return Err(why),
-    };
-    let thing = made.thing;
-    match kept_of(&state.tables, made) {
-        Ok(kept) => Ok(kept),
-        Err(AllocError) => {
-            let _ = state.tables.release(thing);
-            Err(BlackboardCreateError::OutOfMemory)
-        }
+        Ok(made) => Ok(kept_with(&state.tables, made, copied)),
+        Err(why) => Err(why),
     }
 }
 
-/// Makes one more factory of a board, for a node. Where memory is refused behind the tables, it is gone again.
+/// Makes one more factory of a board, for a node.
 ///
 /// # Errors
-/// As the tables' `open`.
+/// As the tables' `open`. All stays as it was.
 pub(crate) fn open_board<K: BoardKey>(
     state: &mut DomainState,
     node: NodeId,
@@ -130,26 +134,24 @@ pub(crate) fn open_board<K: BoardKey>(
     ensures refused { let keys = details K.type_bytes K.SIZE K.ALIGNMENT in
         let answer = calls.open_answer state.old.tables node name.now keys limits verifier.now in
         Refuses (with_value kept_made result) answer }
-    ensures tables { lent.LeavesOpened result node name.now state.old.tables state.new.tables }
-    ensures stays { let keys = details K.type_bytes K.SIZE K.ALIGNMENT in
-        let asked = opening node name.now limits in
-        lent.StaysUnopened asked keys verifier.now state.old.tables state.new.tables }
+    ensures ok { OnOk result (state.new.tables ≡ calls.after_open state.old.tables node name.now) }
+    ensures err { OnErr result (state.new.tables ≡ state.old.tables) }
     ensures kept { IfOk result (λ k. KeepsBoard state.new.tables k) }
     ensures asked { let keys = details K.type_bytes K.SIZE K.ALIGNMENT in
         IfOk result (λ k. IsAsAsked keys limits verifier.now k.config k.attributes) }
     ensures nodes { state.new.nodes ≡ state.old.nodes }
 {
     state.tables.facts();
-    let made = match state.tables.open::<K>(node, name, limits, verifier) {
+    let made = match state.tables.open_answer::<K>(node, name, limits, verifier) {
         Ok(made) => made,
         Err(why) => return Err(why),
     };
-    let thing = made.thing;
-    match kept_of(&state.tables, made) {
-        Ok(kept) => Ok(kept),
-        Err(AllocError) => {
-            let _ = state.tables.release(thing);
-            Err(BlackboardOpenError::OutOfMemory)
-        }
+    // The factory's memory is taken before the tables change.
+    let Ok(kept) = kept_of(&state.tables, made) else {
+        return Err(BlackboardOpenError::OutOfMemory);
+    };
+    match state.tables.open_unrefused(node, name) {
+        Ok(_) => Ok(kept),
+        Err(AllocError) => Err(BlackboardOpenError::OutOfMemory),
     }
 }

@@ -1,7 +1,8 @@
 //! What opens a board.
-ghost use Rattle.std.specs.Prelude.{◌≡◌, [], Some, IfOk};
+ghost use Rattle.std.specs.Prelude.{◌≡◌, [], Some, IfOk, OnOk, OnErr};
 ghost use Rattle.board_layout.specs.Answer.{Answers, Refuses, with_value};
 ghost use Rattle.board_layout.specs.Bytes.{details};
+ghost use Rattle.board_service.specs.Domain as calls;
 ghost use Rattle.board_domain.specs.Asked.{IsAsAsked};
 ghost use Rattle.board_domain.specs.LentForms as lent;
 ghost use Rattle.board_domain.specs.Services.{no_limits, with_readers, with_nodes, factory_made, no_requirements};
@@ -81,7 +82,7 @@ impl<K: BoardKey, P> Opener<K, P> {
     /// `open_with_attributes` over the domain's state itself.
     ///
     /// # Errors
-    /// The first that holds: `DoesNotExist`, no such board; `IncompatibleKeys`, its keys are of another type than `K`; `IncompatibleAttributes`, a requirement isn't met; `DoesNotSupportRequestedAmountOfReaders`, `DoesNotSupportRequestedAmountOfNodes`, the board's limit is below the asked one; `ExceedsMaxNumberOfNodes`, the node has no thing of the board and as many nodes as its limit have one; `NumbersSpent`; `OutOfMemory`. All stays as it was; but where memory is refused behind the tables, the number that the factory drew stays drawn.
+    /// The first that holds: `DoesNotExist`, no such board; `IncompatibleKeys`, its keys are of another type than `K`; `IncompatibleAttributes`, a requirement isn't met; `DoesNotSupportRequestedAmountOfReaders`, `DoesNotSupportRequestedAmountOfNodes`, the board's limit is below the asked one; `ExceedsMaxNumberOfNodes`, the node has no thing of the board and as many nodes as its limit have one; `NumbersSpent`; `OutOfMemory`. All stays as it was.
     pub fn open_with_attributes_in(
         self,
         state: &mut DomainState,
@@ -93,10 +94,9 @@ impl<K: BoardKey, P> Opener<K, P> {
         ensures refused { let keys = details K.type_bytes K.SIZE K.ALIGNMENT in
             let answer = lent.open_answer state.old.tables keys self verifier.now in
             Refuses (with_value factory_made result) answer }
-        ensures tables { let before = state.old.tables in
-            lent.LeavesOpened result self.node self.name before state.new.tables }
-        ensures stays { let keys = details K.type_bytes K.SIZE K.ALIGNMENT in
-            lent.StaysUnopened self keys verifier.now state.old.tables state.new.tables }
+        ensures ok { let after = calls.after_open state.old.tables self.node self.name in
+            OnOk result (state.new.tables ≡ after) }
+        ensures err { OnErr result (state.new.tables ≡ state.old.tables) }
         ensures kept { IfOk result (λ f. KeepsBoard state.new.tables f) }
         ensures named { IfOk result (λ f. f.name ≡ self.name) }
         ensures asked { let keys = details K.type_bytes K.SIZE K.ALIGNMENT in
@@ -121,10 +121,9 @@ impl<K: BoardKey, P> Opener<K, P> {
         ensures refused { let keys = details K.type_bytes K.SIZE K.ALIGNMENT in
             let answer = lent.open_answer state.old.tables keys self no_requirements in
             Refuses (with_value factory_made result) answer }
-        ensures tables { let before = state.old.tables in
-            lent.LeavesOpened result self.node self.name before state.new.tables }
-        ensures stays { let keys = details K.type_bytes K.SIZE K.ALIGNMENT in
-            lent.StaysUnopened self keys no_requirements state.old.tables state.new.tables }
+        ensures ok { let after = calls.after_open state.old.tables self.node self.name in
+            OnOk result (state.new.tables ≡ after) }
+        ensures err { OnErr result (state.new.tables ≡ state.old.tables) }
         ensures kept { IfOk result (λ f. KeepsBoard state.new.tables f) }
         ensures named { IfOk result (λ f. f.name ≡ self.name) }
         ensures asked { let keys = details K.type_bytes K.SIZE K.ALIGNMENT in

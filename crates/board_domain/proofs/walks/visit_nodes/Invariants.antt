@@ -1,4 +1,4 @@
-use Rattle.std.proofs.Common.{ℕ, ◌-◌, ◌≤◌, List}
+use Rattle.std.proofs.Common.{◌-◌, ◌≤◌}
 use denote.Param.Always.{always_mut}
 use Rattle.board_model.specs.Tables.{board_at}
 use Rattle.board_service.specs.Told.{node_in}

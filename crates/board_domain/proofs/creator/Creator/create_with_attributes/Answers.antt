@@ -19,7 +19,7 @@ returns-in-Ok-clause-answer g c =
     let kept = c.in-Ok.kept in
     let facts : IsDomain c.deref_mut.result.now.tables = search rules in
     let b = lent.new_board s.node s.name keys s.limits c.into_set-set.result (map as_added s.entries.items) in
-    let here = created_somewhere c.deref_mut.result.now.tables c.new_board-made.new.state.tables same_key b kept s.name facts c.in-Ok.ensures.answer c.in-Ok.ensures.refused c.in-Ok.ensures.tables c.in-Ok.ensures.kept in
+    let here = created_somewhere c.deref_mut.result.now.tables c.new_board-made.new.state.tables same_key b kept s.name facts c.in-Ok.ensures.answer c.in-Ok.ensures.refused c.in-Ok.ensures.ok c.in-Ok.ensures.kept in
     subst (λ (f : FactorySeen). lent.CreatesSomewhere (Ok f) same_key (lent.asked_board c.args.self keys c.args.attributes)) (sym c.new.ensures)
     (subst (λ (t : CreatorSeen). lent.CreatesSomewhere (Ok (factory_of kept s.name)) same_key (lent.asked_board t keys c.args.attributes)) c.self.view_is
     (subst (λ attributes. lent.CreatesSomewhere (Ok (factory_of kept s.name)) same_key (lent.new_board s.node s.name keys s.limits attributes (map as_added s.entries.items))) c.into_set-set.ensures here))
