@@ -37,12 +37,23 @@ pub fn is_same_name(a: &Name, b: &Name) -> bool
     *a == *b
 }
 
+// Whether a thing is the one that a party holds under a name. The last byte of its name is looked at first.
+#[inline(always)]
+fn is_held_as(thing: &Held, party: &Name, name: &Name) -> bool
+    ensures { result ≡ held.is_held_as party.now name.now thing.now }
+{
+    if last_byte(&thing.name) != last_byte(name) {
+        return false;
+    }
+    is_same_name(&thing.holder, party) && thing.name == *name
+}
+
 /// Where the thing stands that a party holds under a name.
 pub(crate) fn place_of_thing(party: &Name, name: &Name, things: &[Held]) -> Option<usize>
     ensures { result ≡ position_from (held.is_held_as party.now name.now) 0 things.now }
 {
     for (i, thing) in things.iter().enumerate() {
-        if is_same_name(&thing.holder, party) && is_same_name(&thing.name, name) {
+        if is_held_as(thing, party, name) {
             return Some(i);
         }
     }
@@ -53,7 +64,7 @@ pub(crate) fn place_of_thing(party: &Name, name: &Name, things: &[Held]) -> Opti
 pub(crate) fn thing_of<'a>(party: &Name, name: &Name, things: &'a [Held]) -> Option<&'a Held>
     ensures { option_map (λ t. t.now) result ≡ held.thing_of things.now party.now name.now }
 {
-    things.iter().find(|t| is_same_name(&t.holder, party) && is_same_name(&t.name, name))
+    things.iter().find(|t| is_held_as(t, party, name))
 }
 
 /// The same, where it is of this kind.
