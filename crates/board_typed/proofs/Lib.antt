@@ -5,6 +5,5 @@ pub mod Left
 pub mod Calls
 pub mod Made
 pub mod Keeps
-pub mod Undone
 pub mod Running
 pub mod Known

@@ -15,9 +15,9 @@ use Rattle.board_model.specs.TypeTable.{same_type}
 use Rattle.board_names.specs.declared.errors.boards.EntryHandleError.TheVariants as entry_error
 use Rattle.board_names.specs.declared.errors.boards.EntryHandleMutError.TheVariants as entry_mut_error
 use Rattle.board_service.specs.declared.made.Found.{Found}
-use Rattle.board_service.specs.Domain.{Stands, after_open, entry_answer, entry_list, entry_mut_answer, entry_mut_list, found, held, is_thing, stands_as, thing_or_none}
+use Rattle.board_service.specs.Domain.{Stands, entry_answer, entry_list, entry_mut_answer, entry_mut_list, found, held, is_thing, stands_as, thing_or_none}
 use Rattle.board_service.specs.Facts.{AreDrawn, IsDomain, handle_entry}
-use Rattle.board_service.proofs.DrawnLemmas.{drawn_more, drawn_raised, drawn_without, find-without, none_above, there}
+use Rattle.board_service.proofs.DrawnLemmas.{drawn_more, drawn_without, find-without, there}
 use Rattle.board_service.proofs.HeldLemmas.{next_found}
 use Rattle.board_cells.specs.Cells.{EndSeen}
 use Rattle.board_handles.specs.BoardEnds.{Core, cell_of}
@@ -26,13 +26,12 @@ use Rattle.board_handles.specs.LentForms as lent
 use Rattle.board_handles.proofs.LentLemmas.{answered}
 use Rattle.board_typed.specs.Order.{IsInOrder}
 use Rattle.board_typed.specs.Laws.{KeepsAll, KeepsOthers}
-use Rattle.board_typed.specs.Runs.{Call, Comes, Happens, Holds, IsGood, IsUndone, Value, World, a_value, has_thing, value_thing}
-use Rattle.board_typed.specs.Runs.{Creates, Opens, MakesReader, MakesWriter, Reads, Writes, GivesUp, GivesUpWriting, UndoesCreate, UndoesOpen, UndoesRead, UndoesWrite}
+use Rattle.board_typed.specs.Runs.{Call, Comes, Happens, Holds, IsGood, Value, World, a_value, has_thing, value_thing}
+use Rattle.board_typed.specs.Runs.{Creates, Opens, MakesReader, MakesWriter, Reads, Writes, GivesUp, GivesUpWriting}
 use Rattle.board_typed.proofs.Calls.{new_order, opens, makes_reader, makes_writer, reads, writes}
 use Rattle.board_typed.proofs.Left.{gives_up, gives_up_writing}
 use Rattle.board_typed.proofs.Made.{creates}
-use Rattle.board_typed.proofs.Keeps.{create_keeps, open_keeps, reader_keeps, writer_keeps, entry_keeps, entry_mut_keeps, more_keeps, release_keeps, release_mut_keeps, taken_same, parked_same}
-use Rattle.board_typed.proofs.Undone.{undone_keeps, undone_order, undone_order_mut}
+use Rattle.board_typed.proofs.Keeps.{create_keeps, open_keeps, reader_keeps, writer_keeps, entry_keeps, entry_mut_keeps, release_keeps, release_mut_keeps, taken_same, parked_same}
 use Rattle.board_typed.proofs.Known.{some_is, handed_found, read_cell, write_cell}
 
 -- ---- lists
@@ -163,23 +162,6 @@ written_last d keys h = elim (stands_as d keys h.found.thing thing_kind.WriteHan
   | false ↦ refl
 ]
 
--- no value is of the next thing
-none_next : (last : ℕ) (vs : List Value) → AreDrawn value_thing has_thing last vs → find (has_thing (last + 1)) vs ≡ None
-none_next last vs apart = none_above value_thing has_thing (λ n u. refl) last (last + 1) vs apart (omega arith)
-
--- with a thing that is gone again
-undoes : (old new : World) (s : Sound old) (facts : IsDomain old.tables) (made : Core) (x : Thing ℕ ℕ) (after : IsDomain made) (things : made.tables.things ≡ old.tables.tables.things ++ x ∷ []) (named : x.name ≡ old.tables.last_thing + 1)
-    → IsInOrder new.tables → KeepsAll old.tables made → made.last_thing ≡ old.tables.last_thing + 1 → IsUndone old new made → Sound new
-undoes old new s facts made x after things named order keeps last h = record {
-  order = order;
-  good = subst (AllByRecursion (IsGood new.tables)) (sym h.3) (others_kept (old.tables.last_thing + 1) old.tables new.tables old.values
-      (subst (KeepsOthers (old.tables.last_thing + 1) old.tables) (sym h.2)
-      (undone_keeps old.tables made x facts after things named keeps (subst IsDomain h.2 h.1)))
-      (none_next old.tables.last_thing old.values s.apart) s.good);
-  apart = subst (λ n. AreDrawn value_thing has_thing n new.values) (sym (ap (λ (d : Core). d.last_thing) h.2 ∙ last)) (subst (AreDrawn value_thing has_thing (old.tables.last_thing + 1)) (sym h.3)
-      (drawn_raised value_thing has_thing (λ n u. refl) old.tables.last_thing (old.tables.last_thing + 1) old.values (omega arith) s.apart));
-}
-
 step : (c : Call) (old new : World) → IsDomain old.tables → Sound old → Happens c old new → Sound new
 step (Creates b) old new facts s h =
     gains old new (a_value (old.tables.last_thing + 1) thing_kind.Factory b.keys None) s
@@ -244,22 +226,6 @@ step (GivesUpWriting v w) old new facts s h =
     (subst (KeepsOthers v.thing d) (sym h.4) (subst (λ n. KeepsOthers n d (lent.write_given_up d v.keys w)) h.2
     (release_mut_keeps d v.keys w facts (subst (λ n. IsDomain (lent.without_thing d n)) (sym h.2) h.5))))
     (ap (λ (e : Core). e.last_thing) h.4 ∙ written_last d v.keys w) h.6
-step (UndoesCreate b made) old new facts s h =
-    undoes old new s facts made _ h.3.0 (ap (λ (d : Core). d.tables.things) h.2.2) refl
-    (subst IsInOrder (sym h.3.2) (undone_order old.tables made _ facts h.3.0 (ap (λ (d : Core). d.tables.things) h.2.2) refl (creates b old.tables made facts s.order h.0 h.1 h.2) (λ c i. refl)))
-    (λ gone. create_keeps gone b old.tables made facts h.2) (ap (λ (d : Core). d.last_thing) h.2.2) h.3
-step (UndoesOpen node name) old new facts s h =
-    undoes old new s facts (after_open old.tables node name) _ h.0 refl refl
-    (subst IsInOrder (sym h.2) (undone_order old.tables (after_open old.tables node name) _ facts h.0 refl refl (opens old.tables node name s.order) (λ c i. refl)))
-    (λ gone. open_keeps gone old.tables node name) refl h
-step (UndoesRead v a) old new facts s h =
-    undoes old new s facts (lent.with_read old.tables a v.thing) _ h.1.0 refl refl
-    (subst IsInOrder (sym h.1.2) (undone_order old.tables (lent.with_read old.tables a v.thing) _ facts h.1.0 refl refl (reads old.tables a v.thing s.order) (λ c i. refl)))
-    (λ gone. entry_keeps gone old.tables a v.thing) refl h.1
-step (UndoesWrite v a) old new facts s h =
-    undoes old new s facts (lent.with_write old.tables a v.thing) _ h.1.0 refl refl
-    (subst IsInOrder (sym h.1.2) (undone_order_mut old.tables (lent.with_write old.tables a v.thing) _ facts h.1.0 refl refl refl refl s.order))
-    (λ gone. more_keeps gone old.tables (lent.with_write old.tables a v.thing) _ refl (λ b i. refl) refl) refl h.1
 
 -- so it is wherever a program comes
 pub sound : (calls : List Call) (w : World) → Comes calls w → Sound w

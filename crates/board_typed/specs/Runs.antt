@@ -15,7 +15,7 @@ use Rattle.board_service.specs.Facts.{IsDomain, IsHeldAs, IsHeldBeside, handle_e
 use Rattle.board_cells.specs.Cells.{EndSeen}
 use Rattle.board_handles.specs.BoardEnds.{Core, cell_of}
 use Rattle.board_handles.specs.Handles.{WriteSeen}
-use Rattle.board_handles.specs.LentForms.{Asked, given_up, read_answer, with_read, with_write, with_write_taken, without_thing, write_answer, write_given_up}
+use Rattle.board_handles.specs.LentForms.{Asked, given_up, read_answer, with_read, with_write_taken, without_thing, write_answer, write_given_up}
 use Rattle.board_domain.specs.LentForms.{IsMade, NewBoard}
 use Rattle.board_typed.specs.Laws.{TakesItsWords}
 
@@ -55,12 +55,7 @@ Gains old new kind keys end = new.values ≡ old.values ++ a_value (old.tables.l
 abbrev pub Loses : World → World → Value → Type 0
 Loses old new v = new.values ≡ without_first (has_thing v.thing) old.values
 
--- a thing was made, and is gone again for want of memory; all are domains in between
-abbrev pub IsUndone : World → World → Core → Type 0
-IsUndone old new made =
-    IsDomain made × IsDomain new.tables × (new.tables ≡ without_thing made (old.tables.last_thing + 1)) × (new.values ≡ old.values)
-
--- a call that changes something: one that goes through, or one whose thing is gone again. Every other call leaves all as it was
+-- a call that changes something: one that goes through. A call that is refused, or wants memory, leaves all as it was
 pub data Call : Type 0 where
   Creates : NewBoard → Call
   Opens : ℕ → List ℕ → TypeDetail → Call
@@ -70,10 +65,6 @@ pub data Call : Type 0 where
   Writes : Value → Asked → Found → EndSeen → Call
   GivesUp : Value → Call
   GivesUpWriting : Value → WriteSeen → Call
-  UndoesCreate : NewBoard → Core → Call
-  UndoesOpen : ℕ → List ℕ → Call
-  UndoesRead : Value → Asked → Call
-  UndoesWrite : Value → Asked → Call
 
 -- what the call's clauses say, by its own and the tables'
 abbrev pub Happens : Call → World → World → Type 0
@@ -100,11 +91,6 @@ Happens (GivesUp v) old new =
 Happens (GivesUpWriting v h) old new =
     Holds old v × (v.kind ≡ WriteHandle) × (h.found.thing ≡ v.thing) × (v.end ≡ Some (h.found.entry, h.held.cell))
     × (new.tables ≡ write_given_up old.tables v.keys h) × IsDomain (without_thing old.tables v.thing) × Loses old new v
-Happens (UndoesCreate b made) old new =
-    (b.keys.size ≤ 64) × AllByRecursion TakesItsWords b.entries × IsMade b old.tables made × IsUndone old new made
-Happens (UndoesOpen node name) old new = IsUndone old new (after_open old.tables node name)
-Happens (UndoesRead v a) old new = Holds old v × IsUndone old new (with_read old.tables a v.thing)
-Happens (UndoesWrite v a) old new = Holds old v × IsUndone old new (with_write old.tables a v.thing)
 
 -- calls one after another lead from the start to here; each leaves a domain
 abbrev pub Comes : List Call → World → Type 0
