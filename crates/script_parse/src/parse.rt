@@ -10,6 +10,7 @@ ghost use Rattle.script_parse.specs.Kept.{SpellsKept, is_kept_board_line, is_kep
 use crate::bytes::is_word;
 use crate::calls::{call_of, one_name, two_names};
 use crate::events::event_line_of;
+use crate::short::short_line_of;
 use crate::tokens::Tokens;
 use board_model::Line;
 use script_model::ScriptLine;
@@ -104,6 +105,9 @@ pub fn parse_line(alloc: Global, bytes: &[u8]) -> Result<Option<ScriptLine>, All
 {
     if bytes.len() > MOST_BYTES {
         return Ok(None);
+    }
+    if let Some(line) = short_line_of(bytes) {
+        return Ok(Some(line));
     }
     script_line_of(alloc, bytes)
 }
