@@ -1,5 +1,5 @@
 -- The lines and the output of a run, in turn, are told to be lawful.
-use Rattle.std.proofs.Common.{◌≡◌, ℕ, ◌<◌, ◌≤◌, ◌^◌, List, length, arith, subst, sym, Option, Some, None}
+use Rattle.std.proofs.Common.{ℕ, ◌<◌, ◌≤◌, ◌^◌, List, length, arith, subst, sym, Option, Some, None}
 use Rattle.std.specs.Prelude.{Result}
 use Rattle.board_model.specs.Lines.{lines_of}
 use Rattle.script_rules.specs.SessionPairs.{AreLawful}

@@ -28,15 +28,15 @@ name_short rule.Reply = omega arith
 -- ---- statuses
 
 -- the status of an error is that of the error as a run has it
-pub error_of : {e : CheckError} {noted : ScriptError} → noted ≡ error_in e → status_of (Err noted) ≡ status_of (Err (error_in e))
-error_of q = ap (λ (w : ScriptError). status_of (Err w)) q
+pub error_of : (e : CheckError) (noted : ScriptError) → noted ≡ error_in e → status_of (Err noted) ≡ status_of (Err (error_in e))
+error_of e noted q = ap (λ (w : ScriptError). status_of (Err w)) q
 
 -- an error is noted, and nothing is written
 pub unjudged : (e : CheckError) (noted : ScriptError) → noted ≡ error_in e → (status : ℕ) (sink notes : Stream)
     → sink.after ≡ sink.before → status ≡ status_of (Err noted) → IsNoted notes (note_of (Err noted)) → IsUnjudged e status sink notes
 unjudged e noted q status sink notes unwritten is note = record {
   unwritten = unwritten;
-  is = is ∙ error_of q;
+  is = is ∙ error_of e noted q;
   note = subst (λ (w : ScriptError). IsNoted notes (note_of (Err w))) q note;
 }
 
@@ -66,7 +66,7 @@ no_words_status (Err e) status sink notes h two = bad_status (error_in e) 2 (ome
 -- what is told of a run: the verdict, or want of memory
 pub run_told : (v : Verdict) (bytes : Option (List ℕ)) → AcceptsRuns bytes (Ok v) → IsRunIn bytes → status_told v ≡ 0
 run_told v None h run = absurd run
-run_told v (Some bytes) h run = ap status_told (h run.0 run.1.0 run.1.1)
+run_told v (Some bytes) h run = ap status_told (h run.0 run.1 run.2)
 
 spent : (e : CheckError) → e ≢ error.TooLong → e ≢ error.ReadFault → status_of (Err (error_in e)) ≡ 7
 spent error.ReadFault long fault = absurd (fault refl)
@@ -75,7 +75,7 @@ spent error.OutOfMemory long fault = refl
 
 pub run_spent : (e : CheckError) (bytes : Option (List ℕ)) → AcceptsRuns bytes (Err e) → IsRunIn bytes → e ≢ error.ReadFault → status_of (Err (error_in e)) ≡ 7
 run_spent e None h run fault = absurd run
-run_spent e (Some bytes) h run fault = spent e (h run.0 run.1.0 run.1.1) fault
+run_spent e (Some bytes) h run fault = spent e (h run.0 run.1 run.2) fault
 
 -- texts are those of words
 pub some_words : {A : Type 0} (f : A → List ℕ) (ws : List A) → (map f ws ≡ [] → ⊥) → 0 < length ws

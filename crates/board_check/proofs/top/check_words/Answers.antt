@@ -1,7 +1,8 @@
-use Rattle.std.proofs.Common.{◌≡◌, refl, ap, ◌∙◌, inl, inr}
+use Rattle.std.proofs.Common.{◌≡◌, arith, refl, ap, sym, ◌∙◌, inl, inr}
 use Rattle.std.specs.Prelude.{Ok, Err}
 use Rattle.script_pairs.specs.declared.verdict.CheckError.{CheckError}
 use Rattle.script_pairs.specs.declared.verdict.CheckError.TheVariants as error
+use Rattle.script_endings.proofs.StatusLemmas.{bad_status}
 use Rattle.board_check.proofs.TopLemmas.{broken_in, error_of, lawful_in, no_words_status, run_spent, run_told, unjudged}
 use Rattle.board_check.proofs.top.check_words.Goals as goal
 
@@ -44,8 +45,8 @@ returns-in-Err-clause-ran g c = λ none. record {
 
 pub returns-in-Err-clause-runs : goal.returns-in-Err-clause-runs
 returns-in-Err-clause-runs g c = λ none sure takes run.
-    inr (c.end_with.ensures.is ∙ error_of c.as_of_run.ensures ∙ run_spent c.in-Err.error _ (rw c.in-Err.is at c.check.ensures.runs) run
+    inr (c.end_with.ensures.is ∙ error_of c.in-Err.error _ c.as_of_run.ensures ∙ run_spent c.in-Err.error _ (rw c.in-Err.is at c.check.ensures.runs) run
     (λ (q : c.in-Err.error ≡ error.ReadFault). rw c.in-Err.is at c.check.ensures.reads sure (ap (λ (e : CheckError). Err e) q)))
 
 pub returns-in-Err-clause-usage_only : goal.returns-in-Err-clause-usage_only
-returns-in-Err-clause-usage_only g c = λ two. absurd (no_words_status (Err c.in-Err.error) _ _ _ (unjudged c.in-Err.error _ c.as_of_run.ensures _ _ _ refl c.end_with.ensures.is c.end_with.ensures.noted) two)
+returns-in-Err-clause-usage_only g c = λ two. absurd (bad_status c.as_of_run.result 2 (omega arith) (sym c.end_with.ensures.is ∙ two))
