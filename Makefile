@@ -4,6 +4,7 @@ SHELL = /bin/bash
 RUN = crates/board_run/out/board_run
 SNAPSHOT = crates/board_snapshot_run/out/board_snapshot_run
 WATCH = crates/board_watch_run/out/board_watch_run
+CHECK = crates/board_check_run/out/board_check_run
 BENCH = crates/board_bench/out/board_bench
 
 .PHONY: test run bench smoke
@@ -38,8 +39,8 @@ bench: $(RUN) $(BENCH)
 	done
 
 # The proved programs from outside: what they write, what they note, and their status.
-smoke: $(RUN) $(SNAPSHOT) $(WATCH) $(BENCH)
+smoke: $(RUN) $(SNAPSHOT) $(WATCH) $(CHECK) $(BENCH)
 	./smoke.sh
 
-$(RUN) $(SNAPSHOT) $(WATCH) $(BENCH):
+$(RUN) $(SNAPSHOT) $(WATCH) $(CHECK) $(BENCH):
 	@echo '$@ is not there: make test leaves it' >&2; exit 1

@@ -1,13 +1,14 @@
 #!/bin/bash
 # Runs the built programs from outside, on real files and pipes, and compares what they write, what they note and their
 # status. It ends with status 1 where one of them does otherwise. `make test` leaves the programs where this looks; RUN,
-# SNAPSHOT, WATCH and BENCH name others.
+# SNAPSHOT, WATCH, CHECK and BENCH name others.
 cd "$(dirname "${BASH_SOURCE[0]}")" || exit 1
 run=${RUN:-$PWD/crates/board_run/out/board_run}
 snapshot=${SNAPSHOT:-$PWD/crates/board_snapshot_run/out/board_snapshot_run}
 watch=${WATCH:-$PWD/crates/board_watch_run/out/board_watch_run}
+check=${CHECK:-$PWD/crates/board_check_run/out/board_check_run}
 bench=${BENCH:-$PWD/crates/board_bench/out/board_bench}
-for program in "$run" "$snapshot" "$watch" "$bench"; do
+for program in "$run" "$snapshot" "$watch" "$check" "$bench"; do
     [ -x "$program" ] || { echo "$program is not there: make test leaves it" >&2; exit 1; }
 done
 folder=$(mktemp -d) && trap 'rm -r "$folder"' EXIT
@@ -38,6 +39,8 @@ usage='usage: board_run [gen N]\n'
 watch_script=crates/board_watch_run/stdin
 watch_told=$(sed 's/%/%%/g' crates/board_watch_run/stdout)
 watch_usage='usage: board_watch_run\n'
+session=crates/board_check_run/stdin
+check_usage='usage: board_check_run\n'
 snapshot_usage='usage: board_snapshot_run\n'
 bench_usage='usage: board_bench solo|typed 1|4|32 get|try_get|update COUNT, board_bench event bits|queue COUNT, or board_bench shared 1|4|32 1|2|3 UPDATES\n'
 
@@ -105,6 +108,24 @@ gives 'a watcher without handles' 5 'unwatched b\n' 'line 2: not in the grammar\
 gives "watchers' usage" 2 '' "$watch_usage" "$watch" x < "$watch_script"
 gives 'watchers from a closed input' 3 '' 'read fault\n' "$watch" <&-
 gives 'watchers on a full device' 4 '' 'write fault\n' bash -c '"$0" > /dev/full' "$watch" < "$watch_script"
+
+# the checker
+gives 'the stored session' 0 'lawful 14\n' '' "$check" < "$session"
+gives 'a session, a byte at a time' 0 'lawful 14\n' '' "$check" < <(by_bytes "$session")
+gives 'no pairs' 0 'lawful 0\n' '' "$check" < /dev/null
+gives 'a last answer without a newline' 0 'lawful 1\n' '' "$check" < <(printf 'abandon a\ngone')
+gives 'a line outside the grammar' 1 'line 2: line\n' '' "$check" < <(printf 'abandon a\ngone\nabandon  b\ngone\n')
+gives 'a session without its last answer' 1 'line 2: answer\n' '' "$check" < <(printf 'abandon a\ngone\nabandon b\n')
+gives 'a refusal that is none' 1 'line 2: reason\n' '' "$check" < <(printf 'abandon a\ngone\nabandon b\nrefused abandoned\nabandon c\nrefused busy\n')
+gives 'a word of another access' 1 'line 8: owed\n' '' "$check" < <(sed '16s/1:7/1:6/' "$session")
+gives 'a word that is not there' 1 'line 9: word\n' '' "$check" < <(sed '18s/9$/8/' "$session")
+gives 'a listener that is there' 1 'line 6: event\n' '' "$check" < <(printf 'begin e listen e bits ev 63\nok\nstep e\ntable = ok\nbegin n notifier n bits ev\nok\nstep n\ntable = ok\nbegin n notify n 1\nok\nstep n\nlistener bits:ev no\n')
+gives 'a reply of another number' 1 'line 2: reply\n' '' "$check" < <(sed '4s/1$/2/' "$session")
+"$run" < "$script" > "$folder/answers" && paste -d '\n' "$script" "$folder/answers" > "$folder/session"
+gives 'a run and its output' 0 "lawful $(grep -c '' "$script")\n" '' "$check" < "$folder/session"
+gives "the checker's usage" 2 '' "$check_usage" "$check" x < "$session"
+gives 'a session from a closed input' 3 '' 'read fault\n' "$check" <&-
+gives 'a verdict on a full device' 4 '' 'write fault\n' bash -c '"$0" > /dev/full' "$check" < "$session"
 
 # the bench
 for words in 'solo 4 get' 'solo 1 try_get' 'solo 32 update' 'typed 1 get' 'typed 32 try_get' 'typed 4 update' 'event bits' 'event queue'; do

@@ -1,0 +1,52 @@
+use Rattle.std.proofs.Common.{◌≡◌, arith, refl, ap, sym, ◌∙◌, inl, inr}
+use Rattle.std.specs.Prelude.{Ok, Err}
+use Rattle.script_pairs.specs.declared.verdict.CheckError.{CheckError}
+use Rattle.script_pairs.specs.declared.verdict.CheckError.TheVariants as error
+use Rattle.script_endings.proofs.StatusLemmas.{bad_status}
+use Rattle.board_check.proofs.TopLemmas.{broken_in, error_of, lawful_in, no_words_status, run_spent, run_told, unjudged}
+use Rattle.board_check.proofs.top.check_words.Goals as goal
+
+pub returns-in-Ok-clause-lawful : goal.returns-in-Ok-clause-lawful
+returns-in-Ok-clause-lawful g c = λ zero. lawful_in (Ok c.in-Ok.verdict) _ _ _ _ (rw c.in-Ok.is at c.check.ensures.checks) c.tell.ensures.ending zero
+
+pub returns-in-Ok-clause-broken : goal.returns-in-Ok-clause-broken
+returns-in-Ok-clause-broken g c = λ one. broken_in (Ok c.in-Ok.verdict) _ _ _ _ (rw c.in-Ok.is at c.check.ensures.checks) c.tell.ensures.ending one
+
+pub returns-in-Ok-clause-ran : goal.returns-in-Ok-clause-ran
+returns-in-Ok-clause-ran g c = λ none. record {
+  answer = Ok c.in-Ok.verdict;
+  checks = rw c.in-Ok.is at c.check.ensures.checks;
+  runs = rw c.in-Ok.is at c.check.ensures.runs;
+  read = rw c.in-Ok.is at c.check.ensures.cause;
+  ending = c.tell.ensures.ending;
+}
+
+pub returns-in-Ok-clause-runs : goal.returns-in-Ok-clause-runs
+returns-in-Ok-clause-runs g c = λ none sure takes run.
+    inl (c.tell.ensures.unfailing takes ∙ run_told c.in-Ok.verdict _ (rw c.in-Ok.is at c.check.ensures.runs) run)
+
+pub returns-in-Ok-clause-usage_only : goal.returns-in-Ok-clause-usage_only
+returns-in-Ok-clause-usage_only g c = λ two. absurd (no_words_status (Ok c.in-Ok.verdict) _ _ _ c.tell.ensures.ending two)
+
+pub returns-in-Err-clause-lawful : goal.returns-in-Err-clause-lawful
+returns-in-Err-clause-lawful g c = λ zero. lawful_in (Err c.in-Err.error) _ _ _ _ (rw c.in-Err.is at c.check.ensures.checks) (unjudged c.in-Err.error _ c.as_of_run.ensures _ _ _ refl c.end_with.ensures.is c.end_with.ensures.noted) zero
+
+pub returns-in-Err-clause-broken : goal.returns-in-Err-clause-broken
+returns-in-Err-clause-broken g c = λ one. broken_in (Err c.in-Err.error) _ _ _ _ (rw c.in-Err.is at c.check.ensures.checks) (unjudged c.in-Err.error _ c.as_of_run.ensures _ _ _ refl c.end_with.ensures.is c.end_with.ensures.noted) one
+
+pub returns-in-Err-clause-ran : goal.returns-in-Err-clause-ran
+returns-in-Err-clause-ran g c = λ none. record {
+  answer = Err c.in-Err.error;
+  checks = rw c.in-Err.is at c.check.ensures.checks;
+  runs = rw c.in-Err.is at c.check.ensures.runs;
+  read = rw c.in-Err.is at c.check.ensures.cause;
+  ending = unjudged c.in-Err.error _ c.as_of_run.ensures _ _ _ refl c.end_with.ensures.is c.end_with.ensures.noted;
+}
+
+pub returns-in-Err-clause-runs : goal.returns-in-Err-clause-runs
+returns-in-Err-clause-runs g c = λ none sure takes run.
+    inr (c.end_with.ensures.is ∙ error_of c.in-Err.error _ c.as_of_run.ensures ∙ run_spent c.in-Err.error _ (rw c.in-Err.is at c.check.ensures.runs) run
+    (λ (q : c.in-Err.error ≡ error.ReadFault). rw c.in-Err.is at c.check.ensures.reads sure (ap (λ (e : CheckError). Err e) q)))
+
+pub returns-in-Err-clause-usage_only : goal.returns-in-Err-clause-usage_only
+returns-in-Err-clause-usage_only g c = λ two. absurd (bad_status c.as_of_run.result 2 (omega arith) (sym c.end_with.ensures.is ∙ two))
