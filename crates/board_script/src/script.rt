@@ -5,7 +5,7 @@ ghost use Rattle.script_loop.specs.Memory.{sink_holds};
 ghost use Rattle.board_script.specs.Whole.{FitsRoom, RunsScript};
 ghost use Rattle.script_loop.specs.Runs.{stream_of};
 
-use board_cell::PlainWords;
+use board_cell::SeatWords;
 use board_service::BoardWords;
 use script_loop::{
     MemorySink, MemorySource, RunsLines, ScriptError, Sink, SinkError, Source, run_lines,
@@ -37,7 +37,7 @@ pub fn run_script_on<C: BoardWords + Drop, S: Source, K: Sink>(
     run_lines(alloc, limit, &mut machine, source, sink)
 }
 
-/// The same, over plain words.
+/// The same, over words that threads may share.
 ///
 /// # Errors
 /// As `run_script_on`.
@@ -53,7 +53,7 @@ pub fn run_script_within<S: Source, K: Sink>(
         (stream_of K.held K.faults sink.old sink.new)
         result }
 {
-    run_script_on::<PlainWords, S, K>(alloc, limit, source, sink)
+    run_script_on::<SeatWords, S, K>(alloc, limit, source, sink)
 }
 
 /// The same with at most 4294967295 lines.
