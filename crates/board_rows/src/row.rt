@@ -2,7 +2,10 @@
 ghost use Rattle.script_model.specs.ScriptSession.{start};
 
 use board_cell::{PlainWords, SeatWords};
-use board_script::{LineError, Machine, MemorySink, MemorySource, RunsLines, run_words};
+use board_script::{
+    LineError, Machine, MemorySink, MemorySource, RunsLines, run_script_on, run_words,
+};
+use board_service::BoardWords;
 use std::alloc::{AllocError, Global};
 use std::process::Abort;
 use std::test::Fail;
@@ -88,8 +91,26 @@ impl Script<'_> {
     pub(crate) fn holds(&self, rt: &impl Abort, alloc: Global) -> Result<(), Fail> {
         answers_each_line(rt, alloc, &mut Machine::<PlainWords>::new(alloc), self)?;
         answers_each_line(rt, alloc, &mut Machine::<SeatWords>::new(alloc), self)?;
+        self.runs_on::<PlainWords>(rt, alloc)?;
+        self.runs_on::<SeatWords>(rt, alloc)?;
         self.runs_in_pieces(rt, alloc, 0)?;
         self.runs_in_pieces(rt, alloc, 1)
+    }
+
+    // Runs it from a source to a sink, over words of one kind.
+    fn runs_on<C: BoardWords + Drop>(&self, rt: &impl Abort, alloc: Global) -> Result<(), Fail> {
+        let (script, output) = bytes_of(alloc, self.lines)?;
+        let mut source = MemorySource::new(script, 0, Vec::new(alloc));
+        let mut sink = MemorySink::new(alloc, output.len(), 0, Vec::new(alloc))?;
+        let ran = run_script_on::<C, MemorySource, MemorySink>(
+            alloc,
+            4294967295,
+            &mut source,
+            &mut sink,
+        );
+        assert_eq!(rt; sink.held(), output.as_slice(), "output of {}", self.name);
+        assert_eq!(rt; ran.is_ok(), self.status == 0, "end of {}", self.name);
+        Ok(())
     }
 
     // Runs it as the program does. Source and sink give and take so many bytes a call, or any number where that is 0.

@@ -16,7 +16,7 @@ mod tests;
 mod top;
 
 pub use board_model::worked_updates::{an_update_at_once_is_wrong, an_update_writes_a_word_a_step};
-pub use script::{run_in_memory, run_script, run_script_within};
+pub use script::{run_in_memory, run_script, run_script_on, run_script_within};
 pub use script_endings::end_without_words;
 pub use script_generator::{
     generated_scripts_are_scripts, run_generated, the_run_for_one_is_lawful,

@@ -1,12 +1,12 @@
 //! Scripts, from their source to their sink.
-ghost use Rattle.std.specs.Prelude.{◌≡◌, ◌≢◌, ◌≤◌, ℕ, IfErr, IfOk, IsErrOf};
+ghost use Rattle.std.specs.Prelude.{◌≡◌, ◌≤◌, IfErr, IfOk};
 ghost use Rattle.script_model.specs.ScriptOutput.{IsOutputOf};
 ghost use Rattle.script_loop.specs.Memory.{sink_holds};
-ghost use Rattle.board_script.specs.Whole.{FitsRoom};
-ghost use Rattle.script_loop.specs.Runs.{FitsInto, IsRunnable, Runs, StopsForMemory, stream_of};
-ghost use Rattle.script_machine.specs.Wants.{SpellsTakingAfter};
+ghost use Rattle.board_script.specs.Whole.{FitsRoom, RunsScript};
+ghost use Rattle.script_loop.specs.Runs.{stream_of};
 
-use board_cell::PlainWords;
+use board_cell::SeatWords;
+use board_service::BoardWords;
 use script_loop::{
     MemorySink, MemorySource, RunsLines, ScriptError, Sink, SinkError, Source, run_lines,
 };
@@ -17,9 +17,30 @@ use std::alloc::Global;
 const MAX_LINES: u64 = 4294967295;
 
 /// Runs the lines of the source to its end, at most `limit` of them, and writes the answer to each before the next is run.
+/// The words of the script's boards are held by `C`.
 ///
 /// # Errors
 /// `ReadFault` and `WriteFault` where source or sink failed; `BadLine` with the number, from 1 on, of the first line outside the grammar; `TooLong` where a byte follows the last line that is allowed; `OutOfMemory`, before the first line or at one that takes memory. The answers to the lines before are written.
+pub fn run_script_on<C: BoardWords + Drop, S: Source, K: Sink>(
+    alloc: Global,
+    limit: u64,
+    source: &mut S,
+    sink: &mut K,
+) -> Result<(), ScriptError>
+    requires { limit ≤ 4294967295 }
+    ensures { RunsScript limit (S.never_fails source.old) (K.never_fails_within sink.old)
+        (stream_of S.left S.faults source.old source.new)
+        (stream_of K.held K.faults sink.old sink.new)
+        result }
+{
+    let mut machine = Machine::<C>::new(alloc);
+    run_lines(alloc, limit, &mut machine, source, sink)
+}
+
+/// The same, over words that threads may share.
+///
+/// # Errors
+/// As `run_script_on`.
 pub fn run_script_within<S: Source, K: Sink>(
     alloc: Global,
     limit: u64,
@@ -27,54 +48,27 @@ pub fn run_script_within<S: Source, K: Sink>(
     sink: &mut K,
 ) -> Result<(), ScriptError>
     requires { limit ≤ 4294967295 }
-
-    // The sink gained the output of the lawful session of the input's lines, or the error says what stands.
-    ensures runs { Runs limit
+    ensures { RunsScript limit (S.never_fails source.old) (K.never_fails_within sink.old)
         (stream_of S.left S.faults source.old source.new)
         (stream_of K.held K.faults sink.old sink.new)
         result }
-
-    // A known script is run to its end where no read fails, and no write within its output.
-    ensures reads { S.never_fails source.old → result ≢ Err ScriptError.ReadFault }
-    ensures writes { (room : ℕ) → K.never_fails_within sink.old room
-        → FitsInto room limit (S.left source.old) → result ≢ Err ScriptError.WriteFault }
-    ensures complete { S.never_fails source.old → (room : ℕ) → K.never_fails_within sink.old room
-        → IsRunnable room limit (S.left source.old)
-        → IfErr result (λ e. e ≡ ScriptError.OutOfMemory) }
-
-    // Memory is refused before the first line, or at one that takes some after the lines before it.
-    ensures memory { IsErrOf result ScriptError.OutOfMemory
-        → StopsForMemory SpellsTakingAfter limit
-        (stream_of S.left S.faults source.old source.new)
-        (stream_of K.held K.faults sink.old sink.new) }
 {
-    let mut machine = Machine::<PlainWords>::new(alloc);
-    run_lines(alloc, limit, &mut machine, source, sink)
+    run_script_on::<SeatWords, S, K>(alloc, limit, source, sink)
 }
 
 /// The same with at most 4294967295 lines.
 ///
 /// # Errors
-/// As `run_script_within`.
+/// As `run_script_on`.
 pub fn run_script<S: Source, K: Sink>(
     alloc: Global,
     source: &mut S,
     sink: &mut K,
 ) -> Result<(), ScriptError>
-    ensures runs { Runs 4294967295
+    ensures { RunsScript 4294967295 (S.never_fails source.old) (K.never_fails_within sink.old)
         (stream_of S.left S.faults source.old source.new)
         (stream_of K.held K.faults sink.old sink.new)
         result }
-    ensures reads { S.never_fails source.old → result ≢ Err ScriptError.ReadFault }
-    ensures writes { (room : ℕ) → K.never_fails_within sink.old room
-        → FitsInto room 4294967295 (S.left source.old) → result ≢ Err ScriptError.WriteFault }
-    ensures complete { S.never_fails source.old → (room : ℕ) → K.never_fails_within sink.old room
-        → IsRunnable room 4294967295 (S.left source.old)
-        → IfErr result (λ e. e ≡ ScriptError.OutOfMemory) }
-    ensures memory { IsErrOf result ScriptError.OutOfMemory
-        → StopsForMemory SpellsTakingAfter 4294967295
-        (stream_of S.left S.faults source.old source.new)
-        (stream_of K.held K.faults sink.old sink.new) }
 {
     run_script_within(alloc, MAX_LINES, source, sink)
 }
