@@ -6,11 +6,11 @@
 //! `script_judge`, which runs no machine.
 #![tactic(auto)]
 
-mod check;
+mod checking;
 #[cfg(test)]
 mod tests;
 mod top;
 
-pub use check::check;
+pub use checking::check;
 pub use script_pairs::{CheckError, Rule, Verdict};
 pub use top::{check_words, run_program};

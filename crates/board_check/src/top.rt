@@ -6,7 +6,7 @@ ghost use Rattle.script_endings.specs.Endings.{IsNoted};
 ghost use Rattle.script_loop.specs.Runs.{stream_of};
 ghost use Rattle.board_check.specs.Top.{HasEnded, IsAnswered, IsBrokenIn, IsEnding, IsLawfulIn, IsRunIn, error_in, status_told, usage_note, verdict_text};
 
-use crate::check::check;
+use crate::checking::check;
 use board_layout::Text;
 use itoa::Buffer;
 use script_endings::{end_with, refuse_words};
