@@ -80,7 +80,7 @@ both_hold : (a b : Bool) → (a && b) ≡ true → (a ≡ true) × (b ≡ true)
 both_hold true b e = (refl, e)
 both_hold false b e = absurd cc
 
-not_false : (b : Bool) → not b ≡ false → b ≡ true
+pub not_false : (b : Bool) → not b ≡ false → b ≡ true
 not_false true e = refl
 not_false false e = absurd cc
 
@@ -103,11 +103,11 @@ type_is a b e =
     λ k. record { variant = same_variant_too k; type_name = same_name k; size = same_size k; alignment = same_alignment k }
 
 -- what isn't refused passes each test
-passed : {A E : Type 0} (o : Option E) (x y : A) → Ok x ≡ answer_of o y → o ≡ None
+pub passed : {A E : Type 0} (o : Option E) (x y : A) → Ok x ≡ answer_of o y → o ≡ None
 passed None x y e = refl
 passed (Some w) x y e = absurd cc
 
-split : {E : Type 0} (b : Bool) (e : E) (rest : Option E) → cond b (Some e) rest ≡ None → (b ≡ false) × (rest ≡ None)
+pub split : {E : Type 0} (b : Bool) (e : E) (rest : Option E) → cond b (Some e) rest ≡ None → (b ≡ false) × (rest ≡ None)
 split true e rest h = absurd cc
 split false e rest h = (refl, h)
 

@@ -3,7 +3,9 @@ ghost use Rattle.std.specs.Prelude.{◌≡◌, ◌≤◌, ◌<◌, ◌↔◌, []
 ghost use Rattle.board_layout.specs.Answer.{Answers, Refuses, with_value};
 ghost use Rattle.board_layout.specs.Bytes.{details};
 ghost use Rattle.board_layout.specs.Keys.{same_keys};
+ghost use Rattle.board_model.specs.declared.tables.ThingKind.TheVariants.{Factory};
 ghost use Rattle.board_service.specs.Domain as calls;
+ghost use Rattle.board_service.specs.Facts.{IsHeldAs, KeepsHeld};
 ghost use Rattle.board_domain.specs.Asked.{config_asked};
 ghost use Rattle.board_domain.specs.LentForms as lent;
 ghost use Rattle.board_service.specs.Entries.{IsEntryOf};
@@ -166,6 +168,9 @@ impl<K: BoardKey, P> Creator<K, P> {
             let asked = lent.asked_board self keys attributes in
             OnOk result (lent.IsMade asked state.old.tables state.new.tables) }
         ensures err { OnErr result (state.new.tables ≡ state.old.tables) }
+        ensures held { let keys = details K.type_bytes K.SIZE K.ALIGNMENT in
+            IfOk result (λ f. IsHeldAs state.new.tables keys f.made.thing Factory) }
+        ensures others { OnOk result (KeepsHeld state.old.tables state.new.tables) }
         ensures kept { IfOk result (λ f. KeepsBoard state.new.tables f) }
         ensures named { IfOk result (λ f. f.name ≡ self.name) }
         ensures config { let keys = details K.type_bytes K.SIZE K.ALIGNMENT in
@@ -207,6 +212,9 @@ impl<K: BoardKey, P> Creator<K, P> {
             let asked = lent.asked_board self keys [] in
             OnOk result (lent.IsMade asked state.old.tables state.new.tables) }
         ensures err { OnErr result (state.new.tables ≡ state.old.tables) }
+        ensures held { let keys = details K.type_bytes K.SIZE K.ALIGNMENT in
+            IfOk result (λ f. IsHeldAs state.new.tables keys f.made.thing Factory) }
+        ensures others { OnOk result (KeepsHeld state.old.tables state.new.tables) }
         ensures kept { IfOk result (λ f. KeepsBoard state.new.tables f) }
         ensures named { IfOk result (λ f. f.name ≡ self.name) }
         ensures config { let keys = details K.type_bytes K.SIZE K.ALIGNMENT in

@@ -5,8 +5,10 @@ ghost use Rattle.board_layout.specs.Bytes.{details};
 ghost use Rattle.board_layout.specs.Keys.{same_keys};
 ghost use Rattle.board_layout.specs.Layout.{IsShape};
 ghost use Rattle.board_model.specs.Tables.{board_at, shapes_of};
+ghost use Rattle.board_model.specs.declared.tables.ThingKind.TheVariants.{Factory};
 ghost use Rattle.board_service.specs.Domain as calls;
 ghost use Rattle.board_service.specs.Entries.{as_added};
+ghost use Rattle.board_service.specs.Facts.{IsHeldAs, KeepsHeld};
 ghost use Rattle.board_domain.specs.Asked.{IsAsAsked, config_asked};
 ghost use Rattle.board_domain.specs.Kept.{attributes_of, kept_made, KeepsBoard};
 ghost use Rattle.board_domain.specs.LentForms as lent;
@@ -89,6 +91,9 @@ pub(crate) fn new_board<K: BoardKey>(
         let asked = lent.new_board node name.now keys limits attributes added in
         OnOk result (lent.IsMade asked state.old.tables state.new.tables) }
     ensures err { OnErr result (state.new.tables ≡ state.old.tables) }
+    ensures held { let keys = details K.type_bytes K.SIZE K.ALIGNMENT in
+        IfOk result (λ k. IsHeldAs state.new.tables keys k.made.thing Factory) }
+    ensures others { OnOk result (KeepsHeld state.old.tables state.new.tables) }
     ensures kept { IfOk result (λ k. KeepsBoard state.new.tables k) }
     ensures config { let keys = details K.type_bytes K.SIZE K.ALIGNMENT in
         let config = config_asked keys limits (length (map as_added entries.items)) in
@@ -136,6 +141,9 @@ pub(crate) fn open_board<K: BoardKey>(
         Refuses (with_value kept_made result) answer }
     ensures ok { OnOk result (state.new.tables ≡ calls.after_open state.old.tables node name.now) }
     ensures err { OnErr result (state.new.tables ≡ state.old.tables) }
+    ensures held { let keys = details K.type_bytes K.SIZE K.ALIGNMENT in
+        IfOk result (λ k. IsHeldAs state.new.tables keys k.made.thing Factory) }
+    ensures others { OnOk result (KeepsHeld state.old.tables state.new.tables) }
     ensures kept { IfOk result (λ k. KeepsBoard state.new.tables k) }
     ensures asked { let keys = details K.type_bytes K.SIZE K.ALIGNMENT in
         IfOk result (λ k. IsAsAsked keys limits verifier.now k.config k.attributes) }

@@ -2,7 +2,9 @@
 ghost use Rattle.std.specs.Prelude.{◌≡◌, [], Some, IfOk, OnOk, OnErr};
 ghost use Rattle.board_layout.specs.Answer.{Answers, Refuses, with_value};
 ghost use Rattle.board_layout.specs.Bytes.{details};
+ghost use Rattle.board_model.specs.declared.tables.ThingKind.TheVariants.{Factory};
 ghost use Rattle.board_service.specs.Domain as calls;
+ghost use Rattle.board_service.specs.Facts.{IsHeldAs, KeepsHeld};
 ghost use Rattle.board_domain.specs.Asked.{IsAsAsked};
 ghost use Rattle.board_domain.specs.LentForms as lent;
 ghost use Rattle.board_domain.specs.Services.{no_limits, with_readers, with_nodes, factory_made, no_requirements};
@@ -97,6 +99,9 @@ impl<K: BoardKey, P> Opener<K, P> {
         ensures ok { let after = calls.after_open state.old.tables self.node self.name in
             OnOk result (state.new.tables ≡ after) }
         ensures err { OnErr result (state.new.tables ≡ state.old.tables) }
+        ensures held { let keys = details K.type_bytes K.SIZE K.ALIGNMENT in
+            IfOk result (λ f. IsHeldAs state.new.tables keys f.made.thing Factory) }
+        ensures others { OnOk result (KeepsHeld state.old.tables state.new.tables) }
         ensures kept { IfOk result (λ f. KeepsBoard state.new.tables f) }
         ensures named { IfOk result (λ f. f.name ≡ self.name) }
         ensures asked { let keys = details K.type_bytes K.SIZE K.ALIGNMENT in
@@ -124,6 +129,9 @@ impl<K: BoardKey, P> Opener<K, P> {
         ensures ok { let after = calls.after_open state.old.tables self.node self.name in
             OnOk result (state.new.tables ≡ after) }
         ensures err { OnErr result (state.new.tables ≡ state.old.tables) }
+        ensures held { let keys = details K.type_bytes K.SIZE K.ALIGNMENT in
+            IfOk result (λ f. IsHeldAs state.new.tables keys f.made.thing Factory) }
+        ensures others { OnOk result (KeepsHeld state.old.tables state.new.tables) }
         ensures kept { IfOk result (λ f. KeepsBoard state.new.tables f) }
         ensures named { IfOk result (λ f. f.name ≡ self.name) }
         ensures asked { let keys = details K.type_bytes K.SIZE K.ALIGNMENT in

@@ -4,6 +4,7 @@ ghost use Rattle.board_layout.specs.Answer.{Answers, Refuses, with_value};
 ghost use Rattle.board_layout.specs.Bytes.{details};
 ghost use Rattle.board_layout.specs.Keys.{is_key};
 ghost use Rattle.board_service.specs.Domain as calls;
+ghost use Rattle.board_service.specs.Facts.{IsHeldBeside, KeepsHeld};
 ghost use Rattle.board_cells.specs.Cells.{cell_width};
 ghost use Rattle.board_cells.specs.Ends.{IsUnread};
 ghost use Rattle.board_handles.specs.BoardEnds as ends;
@@ -72,6 +73,9 @@ fn new_reader<K: BoardKey>(
     ensures ok { let before = state.old.tables in
         OnOk result (state.new.tables ≡ calls.after_reader before (calls.held before factory)) }
     ensures err { OnErr result (state.new.tables ≡ state.old.tables) }
+    ensures held { let before = state.old.tables in
+        IfOk result (λ m. IsHeldBeside before state.new.tables factory m.thing ThingKind.Reader) }
+    ensures kept { OnOk result (KeepsHeld state.old.tables state.new.tables) }
     ensures nodes { state.new.nodes ≡ state.old.nodes }
 {
     if !state.tables.is_held::<K>(factory, ThingKind::Factory) {
@@ -117,6 +121,9 @@ impl<K: BoardKey, P> PortFactoryReader<K, P> {
         ensures ok { let before = state.old.tables in
             OnOk result (state.new.tables ≡ calls.after_reader before (calls.held before self)) }
         ensures err { OnErr result (state.new.tables ≡ state.old.tables) }
+        ensures held { let before = state.old.tables in
+            IfOk result (λ p. IsHeldBeside before state.new.tables self p.thing ThingKind.Reader) }
+        ensures kept { OnOk result (KeepsHeld state.old.tables state.new.tables) }
         ensures nodes { state.new.nodes ≡ state.old.nodes }
     {
         match new_reader::<K>(state, self.factory) {
@@ -213,6 +220,10 @@ impl<K: BoardKey, P> Reader<K, P> {
             let after = lent.with_read state.old.tables asked self.now.thing in
             OnOk result (state.new.tables ≡ after) }
         ensures err { OnErr result (state.new.tables ≡ state.old.tables) }
+        ensures held { let port = self.now.thing in
+            let is_held = IsHeldBeside state.old.tables state.new.tables port in
+            IfOk result (λ h. is_held h.found.thing ThingKind.ReadHandle) }
+        ensures kept { OnOk result (KeepsHeld state.old.tables state.new.tables) }
         ensures fresh { IfOk result (λ h. IsUnread h.pass) }
         ensures tied { IfOk result (λ h. IsOfCell h V.WORDS) }
         ensures nodes { state.new.nodes ≡ state.old.nodes }

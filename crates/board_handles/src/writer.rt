@@ -4,6 +4,7 @@ ghost use Rattle.board_layout.specs.Answer.{Answers, Refuses, with_value};
 ghost use Rattle.board_layout.specs.Bytes.{details};
 ghost use Rattle.board_layout.specs.Keys.{is_key};
 ghost use Rattle.board_service.specs.Domain as calls;
+ghost use Rattle.board_service.specs.Facts.{IsHeldBeside, KeepsHeld};
 ghost use Rattle.board_cells.specs.Cells.{end_width, fits};
 ghost use Rattle.board_handles.specs.BoardEnds as ends;
 ghost use Rattle.board_handles.specs.LentForms as lent;
@@ -70,6 +71,9 @@ fn new_writer<K: BoardKey>(
     ensures ok { let before = state.old.tables in
         OnOk result (state.new.tables ≡ calls.after_writer before (calls.held before factory)) }
     ensures err { OnErr result (state.new.tables ≡ state.old.tables) }
+    ensures held { let before = state.old.tables in
+        IfOk result (λ m. IsHeldBeside before state.new.tables factory m.thing ThingKind.Writer) }
+    ensures kept { OnOk result (KeepsHeld state.old.tables state.new.tables) }
     ensures nodes { state.new.nodes ≡ state.old.nodes }
 {
     if !state.tables.is_held::<K>(factory, ThingKind::Factory) {
@@ -115,6 +119,9 @@ impl<K: BoardKey, P> PortFactoryWriter<K, P> {
         ensures ok { let before = state.old.tables in
             OnOk result (state.new.tables ≡ calls.after_writer before (calls.held before self)) }
         ensures err { OnErr result (state.new.tables ≡ state.old.tables) }
+        ensures held { let before = state.old.tables in
+            IfOk result (λ p. IsHeldBeside before state.new.tables self p.thing ThingKind.Writer) }
+        ensures kept { OnOk result (KeepsHeld state.old.tables state.new.tables) }
         ensures nodes { state.new.nodes ≡ state.old.nodes }
     {
         match new_writer::<K>(state, self.factory) {
@@ -224,6 +231,10 @@ impl<K: BoardKey, P> Writer<K, P> {
             let after = lent.with_write_taken state.old.tables asked self.now.thing in
             OnOk result (state.new.tables ≡ after) }
         ensures err { OnErr result (state.new.tables ≡ state.old.tables) }
+        ensures held { let port = self.now.thing in
+            let is_held = IsHeldBeside state.old.tables state.new.tables port in
+            IfOk result (λ h. is_held h.found.thing ThingKind.WriteHandle) }
+        ensures kept { OnOk result (KeepsHeld state.old.tables state.new.tables) }
         ensures width { IfOk result (λ h. h.held.cell.width ≡ V.WORDS) }
         ensures nodes { state.new.nodes ≡ state.old.nodes }
     {

@@ -1,10 +1,13 @@
-use Rattle.std.proofs.Common.{subst, refl}
+use Rattle.std.proofs.Common.{subst, sym, refl}
 use Rattle.board_layout.specs.Bytes.{details}
 use Rattle.board_model.specs.Tables.{board_at}
 use Rattle.board_service.specs.declared.made.Made.{Made}
 use Rattle.board_service.specs.Domain.{after_open}
 use Rattle.board_domain.specs.Kept.{ShowsBoard}
+use Rattle.board_model.specs.declared.tables.ThingKind.TheVariants.{Factory}
+use Rattle.board_service.specs.Facts.{IsHeldAs}
 use Rattle.board_domain.proofs.AskedLemmas.{as_asked}
+use Rattle.board_domain.proofs.FactoryLemmas.{opened_held, opened_keeps}
 use Rattle.board_domain.proofs.KeptLemmas.{board_to_open, shown_still}
 use Rattle.board_domain.proofs.kept.open_board.Goals as goal
 
@@ -28,3 +31,15 @@ returns-in-Ok-open_unrefused-clause-asked g c =
     as_asked d c.args.node c.args.name.now (details K.type_bytes K.SIZE K.ALIGNMENT) c.args.limits c.args.verifier.now
     c.in-Ok.made c.facts.ensures kept.config kept.attributes (after_open d c.args.node c.args.name.now) c.in-Ok.ensures.answer refl
     (subst (λ (m : Made). ShowsBoard (board_at d.tables m.number) kept.config kept.attributes) c.in-Ok-kept_of.ensures.made c.in-Ok-kept_of.ensures.kept)
+
+pub returns-in-Ok-open_unrefused-clause-held : goal.returns-in-Ok-open_unrefused-clause-held
+returns-in-Ok-open_unrefused-clause-held g c =
+    let K = g.K.ZeroCopySend in
+    let keys = details K.type_bytes K.SIZE K.ALIGNMENT in
+    let t = c.open_unrefused.new.self in
+    subst (λ (m : Made). IsHeldAs t keys m.thing Factory) (sym c.in-Ok-kept_of.ensures.made)
+    (opened_held c.args.state.now.tables c.args.node c.args.name.now keys c.args.limits c.args.verifier.now c.in-Ok.made c.in-Ok.ensures.answer t c.facts.ensures c.in-Ok-open_unrefused.ensures.ok)
+
+pub returns-in-Ok-open_unrefused-clause-others : goal.returns-in-Ok-open_unrefused-clause-others
+returns-in-Ok-open_unrefused-clause-others g c =
+    opened_keeps c.args.state.now.tables c.open_unrefused.new.self c.args.node c.args.name.now c.in-Ok-open_unrefused.ensures.ok
