@@ -15,7 +15,7 @@ use board_concepts::{AttributeSet, AttributeVerifier};
 use board_handles::{BoardCells, DomainState};
 use board_layout::BoardKey;
 use board_model::{Limits, NewLimits};
-use board_names::{BlackboardCreateError, BlackboardOpenError, ServiceName};
+use board_names::{AttributeError, BlackboardCreateError, BlackboardOpenError, ServiceName};
 use board_service::{DomainCore, Made, NewEntry, NodeId, StaticConfig};
 use std::alloc::AllocError;
 
@@ -45,6 +45,18 @@ fn kept_with(tables: &DomainCore<BoardCells>, made: Made, attributes: AttributeS
     }
 }
 
+// An equal list of attributes.
+fn copied(attributes: &AttributeSet) -> Result<AttributeSet, AllocError>
+    ensures ok { IfOk result (λ set. set ≡ attributes.now) }
+{
+    match attributes.copy() {
+        Ok(copied) => Ok(copied),
+        Err(AttributeError::OutOfMemory) => Err(AllocError),
+        // Only for want of memory is a copy refused.
+        Err(_) => unreachable!(),
+    }
+}
+
 // What is fixed of a board that stands.
 fn kept_of(tables: &DomainCore<BoardCells>, made: Made) -> Result<Kept, AllocError>
     requires { IsSome (board_at tables.now.tables made.number) }
@@ -55,11 +67,8 @@ fn kept_of(tables: &DomainCore<BoardCells>, made: Made) -> Result<Kept, AllocErr
     let Some(attributes) = tables.attributes_of(made.number) else {
         unreachable!()
     };
-    // Only for want of memory is a copy refused.
-    match attributes.copy() {
-        Ok(copied) => Ok(kept_with(tables, made, copied)),
-        Err(_) => Err(AllocError),
-    }
+    let copied = copied(attributes)?;
+    Ok(kept_with(tables, made, copied))
 }
 
 /// Makes a board, and a factory of it for a node.
@@ -101,7 +110,7 @@ pub(crate) fn new_board<K: BoardKey>(
         return Err(why);
     }
     // The factory's memory is taken before the tables change.
-    let Ok(copied) = attributes.copy() else {
+    let Ok(copied) = copied(&attributes) else {
         return Err(BlackboardCreateError::OutOfMemory);
     };
     match state.tables.create::<K>(

@@ -85,7 +85,7 @@ pub enum ReaderCreateError {
 /// Why a writer was not made.
 #[derive(Clone, Copy, Debug, PartialEq, Eq, Hash, Error)]
 pub enum WriterCreateError {
-    /// A writer of the board, or a handle made from one, stands.
+    /// The board has as many writers as it allows, each itself or with a handle made from it.
     #[error("WriterCreateError::ExceedsMaxSupportedWriters")]
     ExceedsMaxSupportedWriters,
     /// Kept from iceoryx2; no call here gives it.
