@@ -1,12 +1,11 @@
 -- The gets of a watcher's handle are of one entry: its own lines move nothing that it holds.
-use Rattle.std.proofs.Common.{◌≡◌, ℕ, Bool, true, List, [], ◌∷◌, ◌++◌, refl, sym, ap, subst, ◌∙◌, Option, Some, None}
+use Rattle.std.proofs.Common.{◌≡◌, ℕ, true, List, [], ◌∷◌, ◌++◌, refl, sym, ap, subst, ◌∙◌, Option, Some, None}
 use Rattle.std.specs.List.{AllByRecursion, flat_map}
 use Rattle.std.specs.Str.{bytes_eq}
 use Rattle.board_model.proofs.ListLemmas.{same_bytes}
 use Rattle.board_cell_model.specs.declared.access.Access.TheVariants as access
 use Rattle.board_model.specs.declared.answer.Answer.TheVariants as answer
 use Rattle.board_model.specs.declared.answer.Reply.TheVariants as reply
-use Rattle.board_model.specs.declared.line.Line.{Line}
 use Rattle.board_model.specs.declared.line.Line.TheVariants as board_line
 use Rattle.board_model.specs.LawfulSession as boards
 use Rattle.board_model.specs.Parties.{Running, running}
@@ -20,7 +19,7 @@ use Rattle.script_model.specs.declared.line.ScriptLine.TheVariants as line
 use Rattle.script_model.specs.declared.reply.EventReply.{EventReply}
 use Rattle.script_model.specs.ScriptAnswers.{ScriptAnswer, of_boards, of_event}
 use Rattle.script_model.specs.ScriptTurns.{EventTurn, ScriptState, turn_of}
-use Rattle.script_model.specs.ScriptSession.{IsRight, Session, after, after_turn, start}
+use Rattle.script_model.specs.ScriptSession.{IsRight, after, after_turn, start}
 use Rattle.script_model.specs.LawsOfRules.{IsRuled}
 use Rattle.script_model.specs.LawsOfComposition.{Pair, state_met}
 use Rattle.script_model.proofs.CompositionLemmas.{lawful_split}
