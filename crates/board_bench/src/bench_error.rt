@@ -23,8 +23,10 @@ pub enum BenchError {
 impl From<CellError> for BenchError {
     ghost from_gives = { λ _ e. e ≡ bench_error.OutOfMemory };
 
-    fn from(_: CellError) -> BenchError {
-        BenchError::OutOfMemory
+    fn from(error: CellError) -> BenchError {
+        match error {
+            CellError::OutOfMemory => BenchError::OutOfMemory,
+        }
     }
 }
 

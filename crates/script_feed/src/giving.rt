@@ -43,6 +43,7 @@ pub fn give<M: RunsLines>(
 {
     match machine.line(line, answer) {
         Ok(()) => write_given(line, answer, told),
+        // The line is of the grammar, and clause `bad` of `line` refuses none that is.
         Err(LineError::Bad) => unreachable!(),
         Err(LineError::OutOfMemory) => Err(AllocError),
     }
