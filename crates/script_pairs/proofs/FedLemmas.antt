@@ -1,5 +1,5 @@
 -- Pairs that were read, and what is still to come.
-use Rattle.std.proofs.Common.{◌≡◌, ℕ, ◌+◌, ◌-◌, ◌*◌, ◌<◌, ◌≤◌, List, [], ◌∷◌, ◌++◌, length, take, arith, refl, sym, ap, subst, ◌∙◌, append_assoc, Option, Some, None}
+use Rattle.std.proofs.Common.{◌≡◌, ℕ, ◌+◌, ◌-◌, ◌*◌, ◌<◌, ◌≤◌, List, [], ◌∷◌, ◌++◌, length, take, arith, refl, sym, ap, subst, ◌∙◌, append_assoc, inl, inr, Option, Some, None}
 use Rattle.std.specs.Prelude.{⊤}
 use Rattle.std.specs.Io.KnownBytes.{IsAtEnd, prepend_known}
 use Rattle.std.proofs.lemmas.List.{append-nil, length-append, take-append-le, take_all}
@@ -15,15 +15,16 @@ use Rattle.script_loop.proofs.LineLemmas.{some_lines}
 use Rattle.script_loop.proofs.RunLemmas.{length_more, state_more}
 use Rattle.script_rules.specs.declared.rule.Rule.{Rule}
 use Rattle.script_rules.specs.declared.rule.Rule.TheVariants as rule
-use Rattle.script_rules.specs.PrintedAnswers.{SpellsAnswer}
+use Rattle.script_rules.specs.PrintedAnswers.{SpellsAnswer, printed_of}
 use Rattle.script_rules.specs.BrokenRules.{Breaks, Differs, IsLineText, broken_rule}
 use Rattle.script_rules.specs.SessionPairs.{SpellsPairs, next_line}
-use Rattle.script_rules.proofs.GroupLemmas.{none_same, not_answer, not_line}
+use Rattle.script_rules.proofs.GroupLemmas.{not_answer, not_line}
+use Rattle.script_rules.proofs.RightPrintedLemmas.{right_printed}
 use Rattle.script_rules.proofs.VerdictLemmas.{lawful_push, sessions_go_on}
 use Rattle.script_pairs.specs.declared.pair_lines.Found.{Found}
 use Rattle.script_pairs.specs.declared.pair_lines.Found.TheVariants as found
 use Rattle.script_pairs.specs.PairLines.{HasLonger, IsFound, IsLonger}
-use Rattle.script_pairs.specs.Checks.{AreLawfulIn, BreaksIn, GoesOnIn, HasTold}
+use Rattle.script_pairs.specs.Checks.{AreLawfulIn, BreaksIn, GoesOnIn, HasTold, IsBroken}
 
 -- the first lines are the pairs of the session, and the others are those of what is left
 pub record ReadPairs (bytes left : List ℕ) (session : Session) : Type 0 where
@@ -161,9 +162,9 @@ module _ {T : Type 0} (stands : T → ℕ → ScriptState → Type 0) (t : T) (c
       numbered stands t count bytes left j rule.Answer (answer_breaks bytes left mid j.session text (Some answer) rule.Answer j.read j.lawful took (next_taken mid rest answer k)
       ((l, spelled), λ (x : SpellsAnswer (length j.session + 1) answer). none (subst (λ (n : ℕ). SpellsAnswer n answer) (sym count_is) x)))
 
-  -- nothing, too much, or no answer follows the line
-  pub is_unanswered : (f : Found) (most : ℕ) (rest : Option (List ℕ)) (answer : List ℕ) → most ≡ 1048576 + 17 * (count + 1) → IsFound f most answer mid rest → (f ≡ found.Line → SpellsAnswer (count + 1) answer → ⊥) → BreaksIn bytes (count + 1) rule.Answer
-  is_unanswered found.Line most rest answer e h none = is_no_answer rest answer h.0 (none refl)
+  -- nothing follows the line, or what is too long for an answer
+  pub is_unanswered : (f : Found) (most : ℕ) (rest : Option (List ℕ)) (answer : List ℕ) → most ≡ 1048576 + 17 * (count + 1) → IsFound f most answer mid rest → (f ≡ found.Line → ⊥) → BreaksIn bytes (count + 1) rule.Answer
+  is_unanswered found.Line most rest answer e h none = absurd (none refl)
   is_unanswered found.Long most rest answer e h none = is_too_long (subst (λ (m : ℕ). HasLonger m mid) e h)
   is_unanswered found.End most rest answer e h none = is_missing h
 
@@ -203,23 +204,34 @@ pair_read (Some bs) (Some ls) (Some ms) (Some rs) session text answer l right h 
   spelled = (sessions_go_on 1 h.lines session text answer l right ok h.spelled spelled is_right e k).1;
 }
 
-module _ {T : Type 0} (stands : T → ℕ → ScriptState → Type 0) (t new : T) (count : ℕ) (bytes left mid rest : Option (List ℕ)) (text answer line right : List ℕ) (j : HasJudged stands t count bytes left) (took : TakesLine left mid text) (l : ScriptLine) (spelled : SpellsLine text l) (answered : TakesLine mid rest answer) (formed : SpellsAnswer (count + 1) answer) (k : HasTold stands new j.session l line) (is : right ≡ script_answer_text k.answer) where
-  pub is_broken : (r : Rule) → broken_rule l right answer ≡ Some r → BreaksIn bytes (count + 1) r
-  is_broken r e =
+-- a right answer that is short enough is an answer
+spelled_right : (session : Session) (l : ScriptLine) (right : ScriptAnswer) (n : ℕ) (text : List ℕ) → IsLawful session → IsRight (state_after start session) l right → text ≡ script_answer_text right → length text ≤ 1048576 + 17 * n → SpellsAnswer n text
+spelled_right session l right n text ok is_right e short =
+    let k = right_printed session l right ok is_right in
+    record { printed = printed_of right; formed = k.formed; bytes = e ∙ k.text; short = short }
+
+module _ {T : Type 0} (stands : T → ℕ → ScriptState → Type 0) (t new : T) (count : ℕ) (bytes left mid rest : Option (List ℕ)) (text answer line right : List ℕ) (j : HasJudged stands t count bytes left) (took : TakesLine left mid text) (l : ScriptLine) (spelled : SpellsLine text l) (answered : TakesLine mid rest answer) (k : HasTold stands new j.session l line) (is : right ≡ script_answer_text k.answer) where
+  other_breaks : (r : Rule) → SpellsAnswer (count + 1) answer → broken_rule l right answer ≡ Some r → BreaksIn bytes (count + 1) r
+  other_breaks r formed e =
       let d = differs stands t count bytes left mid text j took l spelled new line answer r k formed (subst (λ (x : List ℕ). broken_rule l x answer ≡ Some r) is e) in
       numbered stands t count bytes left j r (answer_breaks bytes left mid j.session text (Some answer) r j.read j.lawful took (next_taken mid rest answer answered) (differs_breaks (state_after start j.session) (length j.session + 1) text (Some answer) r d))
 
+  pub is_broken : (r : Rule) → IsBroken l right (count + 1) answer r → BreaksIn bytes (count + 1) r
+  is_broken r (inl h) = subst (BreaksIn bytes (count + 1)) (sym h.1) (is_no_answer stands t count bytes left mid text j took l spelled rest answer answered h.0)
+  is_broken r (inr h) = other_breaks r h.0 h.1
+
   -- one right pair more
-  pub goes_on : broken_rule l right answer ≡ None → HasJudged stands new (count + 1) bytes rest
-  goes_on e =
-      let same : answer ≡ script_answer_text k.answer = sym (none_same l right answer e) ∙ is in
+  pub goes_on : (most : ℕ) → most ≡ 1048576 + 17 * (count + 1) → length answer ≤ most → right ≡ answer → HasJudged stands new (count + 1) bytes rest
+  goes_on most m short e =
+      let same : answer ≡ script_answer_text k.answer = sym e ∙ is in
+      let formed : SpellsAnswer (1 + length j.session) answer = spelled_right j.session l k.answer (1 + length j.session) answer j.lawful k.right same (omega (arith, short, m, j.counted)) in
       let p : ScriptLine × ScriptAnswer = (l, k.answer) in
       record {
         session = j.session ++ p ∷ [];
         lawful = lawful_push j.session start p j.lawful k.right;
         state = subst (λ n. stands new n (state_after start (j.session ++ p ∷ []))) (sym (length_more j.session p)) (subst (stands new (length j.session + 1)) (sym (state_more start j.session p)) k.state);
         counted = length_more j.session p ∙ ap (λ n. n + 1) j.counted;
-        read = pair_read bytes left mid rest j.session text answer l k.answer j.read j.lawful took answered spelled k.right same (subst (λ (n : ℕ). SpellsAnswer n answer) (omega (arith, j.counted)) formed);
+        read = pair_read bytes left mid rest j.session text answer l k.answer j.read j.lawful took answered spelled k.right same formed;
       }
 
 -- ---- another line follows

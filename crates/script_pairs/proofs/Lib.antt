@@ -1,4 +1,5 @@
 pub mod FirstLines
+pub mod RuleLemmas
 pub mod FedLemmas
 pub mod EndLemmas
 pub mod NoCalls

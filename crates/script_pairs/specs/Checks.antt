@@ -1,5 +1,5 @@
 -- What a check of pairs comes to.
-use Rattle.std.specs.Prelude.{◌≡◌, ◌≢◌, ℕ, ◌+◌, ◌≤◌, List, ◌∷◌, ◌++◌, length, IsSomeAnd, Option, Some, None, ⊤, Result, IfOk, IsErr, IsErrOf, MatchResult}
+use Rattle.std.specs.Prelude.{◌≡◌, ◌≢◌, ◌⊎◌, ℕ, ◌+◌, ◌≤◌, List, ◌∷◌, ◌++◌, length, IsSomeAnd, Option, Some, None, ⊤, Result, IfOk, IsErr, IsErrOf, MatchResult}
 use Rattle.board_model.specs.Lines.{lines_of}
 use Rattle.script_model.specs.declared.line.ScriptLine.{ScriptLine}
 use Rattle.script_model.specs.ScriptAnswers.{ScriptAnswer, script_answer_line}
@@ -7,6 +7,9 @@ use Rattle.script_model.specs.ScriptSession.{IsRight, Session, after, start, sta
 use Rattle.script_model.specs.ScriptTurns.{ScriptState}
 use Rattle.script_loop.specs.Machines.{StandsFor}
 use Rattle.script_rules.specs.declared.rule.Rule.{Rule}
+use Rattle.script_rules.specs.declared.rule.Rule.TheVariants as rule
+use Rattle.script_rules.specs.PrintedAnswers.{SpellsAnswer}
+use Rattle.script_rules.specs.BrokenRules.{broken_rule}
 use Rattle.script_rules.specs.SessionPairs.{AreLawful, BreaksAt}
 use Rattle.script_pairs.specs.declared.verdict.Verdict.{Verdict}
 use Rattle.script_pairs.specs.declared.verdict.Verdict.TheVariants.{Lawful, No}
@@ -25,6 +28,12 @@ pub record HasTold {T : Type 0} (stands : T → ℕ → ScriptState → Type 0) 
 -- so for each session that they stand for
 abbrev pub TellsEach : {T : Type 0} → (T → ℕ → ScriptState → Type 0) → T → T → ScriptLine → List ℕ → Type 0
 TellsEach stands old new l text = (session : Session) → StandsFor stands old session → HasTold stands new session l text
+
+-- ---- an answer beside the right one
+
+-- the first rule that an answer to the n-th line breaks, where the text of the right one is this: it is no answer, or differs so
+abbrev pub IsBroken : ScriptLine → List ℕ → ℕ → List ℕ → Rule → Type 0
+IsBroken l right n text r = ((SpellsAnswer n text → ⊥) × (r ≡ rule.Answer)) ⊎ (SpellsAnswer n text × (broken_rule l right text ≡ Some r))
 
 -- ---- verdicts
 

@@ -1,20 +1,18 @@
 //! Pairs that are judged one after another.
-ghost use Rattle.std.specs.Prelude.{◌≡◌, ◌≢◌, ◌≤◌, ◌-◌, Err, IsErrOf, IsTrue, OnOk, false, length, take, ℕ};
+ghost use Rattle.std.specs.Prelude.{◌≡◌, ◌≢◌, ◌≤◌, ◌-◌, Err, IfNone, IfSome, IsErrOf, IsTrue, OnOk, false, length, take, ℕ};
 ghost use Rattle.board_model.specs.Lines.{Rose};
 ghost use Rattle.script_model.specs.ScriptGrammar.{IsScriptLine};
 ghost use Rattle.script_model.specs.ScriptSession.{Session, start};
 ghost use Rattle.script_model.specs.ScriptTurns.{ScriptState};
 ghost use Rattle.script_loop.specs.Machines.{StandsFor};
-ghost use Rattle.script_rules.specs.BrokenRules.{broken_rule};
-ghost use Rattle.script_rules.specs.PrintedAnswers.{SpellsAnswer};
-ghost use Rattle.script_pairs.specs.Checks.{Checks, TellsEach};
+ghost use Rattle.script_pairs.specs.Checks.{Checks, IsBroken, TellsEach};
 
+use crate::lines::line_of;
 use crate::pair_lines::{Found, PairLines};
 use crate::verdict::{CheckError, Verdict};
 use script_answers::{broken_rule_of, is_answer, most_bytes};
 use script_loop::Source;
 use script_model::ScriptLine;
-use script_parse::parse_line;
 use script_rules::Rule;
 use std::alloc::{AllocError, Global};
 
@@ -48,26 +46,32 @@ fn without_newline(line: &[u8]) -> &[u8]
     }
 }
 
-// Whether a line was found that is an answer to the n-th line.
-fn is_answered(found: Found, n: u64, answer: &Vec<u8>) -> bool
-    requires { n ≤ 4294967296 }
-    ensures right { IsTrue result → SpellsAnswer n answer.now.items }
+// Whether a line was found.
+fn is_line(found: Found) -> bool
     ensures line { IsTrue result → found ≡ Found.Line }
-    ensures wrong { result ≡ false → found ≡ Found.Line → SpellsAnswer n answer.now.items → ⊥ }
+    ensures other { result ≡ false → found ≡ Found.Line → ⊥ }
 {
     match found {
-        Found::Line => is_answer(n, answer),
-        Found::Long => false,
-        Found::End => false,
+        Found::Line => true,
+        Found::Long | Found::End => false,
     }
 }
 
-// The rule that the answer breaks, where the line of the right one is this.
-fn rule_broken(asked: &ScriptLine, right: &Vec<u8>, answer: &Vec<u8>) -> Option<Rule>
-    ensures { result ≡ broken_rule asked.now
-        (take (length right.now.items - 1) right.now.items) answer.now.items }
+// The first rule that an answer to the n-th line breaks, where the text of the right one is this.
+//
+// A right answer is an answer, so only another text is read.
+fn rule_broken(asked: &ScriptLine, right: &[u8], n: u64, answer: &[u8]) -> Option<Rule>
+    requires { n ≤ 4294967296 }
+    ensures none { IfNone result (right.now ≡ answer.now) }
+    ensures some { IfSome result (IsBroken asked.now right.now n answer.now) }
 {
-    broken_rule_of(asked, without_newline(right), answer)
+    if right == answer {
+        return None;
+    }
+    if !is_answer(n, answer) {
+        return Some(Rule::Answer);
+    }
+    broken_rule_of(asked, right, answer)
 }
 
 /// Judges the lines of the source in turn, a line of a script and then its answer, for at most `limit` pairs.
@@ -111,21 +115,21 @@ pub fn check_pairs<T: KnowsAnswers, S: Source>(
             }
             Found::Line => {}
         }
-        let Some(asked) = parse_line(alloc, &line)? else {
+        let Some(asked) = line_of(alloc, &line)? else {
             return Ok(Verdict::No {
                 pair,
                 rule: Rule::Line,
             });
         };
         let found = reader.next(source, most_bytes(pair) as usize, &mut answer)?;
-        if !is_answered(found, pair, &answer) {
+        if !is_line(found) {
             return Ok(Verdict::No {
                 pair,
                 rule: Rule::Answer,
             });
         }
         tables.right_answer(&asked, &mut right)?;
-        if let Some(rule) = rule_broken(&asked, &right, &answer) {
+        if let Some(rule) = rule_broken(&asked, without_newline(&right), pair, &answer) {
             return Ok(Verdict::No { pair, rule });
         }
     }

@@ -6,6 +6,7 @@
 #![tactic(auto)]
 
 mod check;
+mod lines;
 mod pair_lines;
 #[cfg(test)]
 mod tests;

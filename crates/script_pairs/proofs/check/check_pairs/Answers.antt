@@ -1,4 +1,4 @@
-use Rattle.std.proofs.Common.{◌≡◌, ℕ, ◌∙◌, arith, refl, rules, subst, sym}
+use Rattle.std.proofs.Common.{◌≡◌, ℕ, ◌∙◌, arith, refl, rules, subst}
 use Rattle.script_loop.specs.Machines.{SpellsNone}
 use Rattle.script_pairs.specs.Checks.{AreLawfulIn}
 use Rattle.script_pairs.proofs.EndLemmas.{told_ok, told_past}
@@ -30,14 +30,14 @@ returns-in_default-clause-checks g c =
     let none : SpellsNone c.deref.result.now = rw c.in_default.is at c.in_ok-asked.ensures.only in
     told_ok _ _ _ (omega arith, is_no_line _ _ _ _ _ c.loop-n.invariant.judged _ _ f.0 (subst SpellsNone c.deref.ensures.value none))
 
-pub returns-then-not-is_answered-clause-checks : goal.returns-then-not-is_answered-clause-checks
-returns-then-not-is_answered-clause-checks g c =
+pub returns-then-not-is_line-clause-checks : goal.returns-then-not-is_line-clause-checks
+returns-then-not-is_line-clause-checks g c =
     let f = rw c.in-Line.is at c.in_ok-next.ensures.found in
     let read = rw c.in-Some.is at c.in_ok-asked.ensures.found in
     let spelled = rw c.deref.ensures.value at read in
     told_ok _ _ _ (
       omega arith,
-      is_unanswered _ _ _ _ _ _ _ c.loop-n.invariant.judged f.0 c.in-Some.asked spelled c.in_ok-found.found c.most_bytes.result _ c.next-in-loop-n.new.line.items c.most_bytes.ensures c.in_ok-found.ensures.found (c.if-not-is_answered.ensures.wrong refl),
+      is_unanswered _ _ _ _ _ _ _ c.loop-n.invariant.judged f.0 c.in-Some.asked spelled c.in_ok-found.found c.most_bytes.result _ c.next-in-loop-n.new.line.items c.most_bytes.ensures c.in_ok-found.ensures.found (c.if-not-is_line.ensures.other refl),
     )
 
 pub returns-in-Some-rule_broken-clause-checks : goal.returns-in-Some-rule_broken-clause-checks
@@ -46,13 +46,12 @@ returns-in-Some-rule_broken-clause-checks g c =
     let f = rw c.in-Line.is at c.in_ok-next.ensures.found in
     let read = rw c.in-Some.is at c.in_ok-asked.ensures.found in
     let spelled = rw c.deref.ensures.value at read in
-    let is_line = c.if-not-is_answered.ensures.line refl in
+    let is_line = c.if-not-is_line.ensures.line refl in
     let h = rw is_line at c.in_ok-found.ensures.found in
     let k = c.in_ok-right_answer.ensures.ok j.session (stands_for _ _ _ c.args.limit _ _ c.loop-n-test.true c.requires.limit j) in
-    told_ok _ _ _ (
-      omega arith,
-      is_broken _ _ _ _ _ _ _ _ _ _ _ _ j f.0 c.in-Some.asked spelled h.0 (c.if-not-is_answered.ensures.right refl) k (cut_line _ _ k.told) c.in-Some-rule_broken.rule (sym c.in-Some-rule_broken.ensures),
-    )
+    let right = (rw c.deref-in-loop-n.ensures.value at c.without_newline.ensures) ∙ cut_line _ _ k.told in
+    let broken = rw c.deref-in-loop-n-2.ensures.value at c.in-Some-rule_broken.ensures.some in
+    told_ok _ _ _ (omega arith, is_broken _ _ _ _ _ _ _ _ _ _ _ _ j f.0 c.in-Some.asked spelled h.0 k right c.in-Some-rule_broken.rule broken)
 
 pub loop-n-preserved : goal.loop-n-preserved
 loop-n-preserved g c =
@@ -60,11 +59,14 @@ loop-n-preserved g c =
     let f = rw c.in-Line.is at c.in_ok-next.ensures.found in
     let read = rw c.in-Some.is at c.in_ok-asked.ensures.found in
     let spelled = rw c.deref.ensures.value at read in
-    let is_line = c.if-not-is_answered.ensures.line refl in
+    let is_line = c.if-not-is_line.ensures.line refl in
     let h = rw is_line at c.in_ok-found.ensures.found in
     let k = c.in_ok-right_answer.ensures.ok j.session (stands_for _ _ _ c.args.limit _ _ c.loop-n-test.true c.requires.limit j) in
+    let right = (rw c.deref-in-loop-n.ensures.value at c.without_newline.ensures) ∙ cut_line _ _ k.told in
+    let none = rw c.in_default-rule_broken.is at c.rule_broken.ensures.none in
+    let same = rw c.deref-in-loop-n-2.ensures.value at none in
     record {
-      judged = goes_on _ _ _ _ _ _ _ _ _ _ _ _ j f.0 c.in-Some.asked spelled h.0 (c.if-not-is_answered.ensures.right refl) k (cut_line _ _ k.told) (sym c.rule_broken.ensures ∙ c.in_default-rule_broken.is);
+      judged = goes_on _ _ _ _ _ _ _ _ _ _ _ _ j f.0 c.in-Some.asked spelled h.0 k right c.most_bytes.result c.most_bytes.ensures h.1 same;
       one_source = c.in_ok-found.ensures.one_source;
       none = c.in_ok-found.ensures.none;
       same = c.in_ok-found.ensures.told (λ e. cc) ∙ c.in_ok-next.ensures.told (λ e. cc) ∙ c.loop-n.invariant.same;

@@ -1,4 +1,4 @@
-use Rattle.std.proofs.Common.{Bool, true, false, arith, subst, sym, ◌∙◌}
+use Rattle.std.proofs.Common.{Bool, arith, subst, sym, ◌∙◌}
 use Rattle.script_pairs.specs.PairLines.{TakesAll, TakesPart, TakesWhole, in_hand}
 use Rattle.script_pairs.proofs.FirstLines.{last_found, line_found, long_found, more_behind}
 use Rattle.script_pairs.proofs.pair_lines.PairLines.next.Goals as goal
