@@ -1,3 +1,4 @@
+mod Takes
 mod Places
 mod TableLemmas
 mod FindLemmas

@@ -9,7 +9,7 @@ use Rattle.board_model.specs.Tables.{entry_found, entry_from, of_type}
 use Rattle.board_model.specs.TypeTable.{same_type}
 use Rattle.script_board_rows.specs.Found.{place_found}
 use Rattle.script_board_tables.specs.Calls.{place_and_id}
-use Rattle.script_things.proofs.Takes.{chosen}
+use Rattle.script_board_tables.proofs.Takes.{chosen}
 
 abbrev pub an_entry : Entry → Option Entry
 an_entry e = Some e

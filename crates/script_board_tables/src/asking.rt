@@ -27,10 +27,7 @@ use board_names::{
     ReaderCreateError, WriterCreateError,
 };
 use script_board_rows::{find, has_equal_keys, meets, open};
-use script_things::{
-    Held, board_named, entry_of, has_write_handle, info_of, is_node, keys_of, nodes_at,
-    nodes_taken, port_of, reader_slots, writer_slots,
-};
+use script_things::{Held, NamedThings, board_named, entry_of, info_of, keys_of, port_of};
 use std::alloc::AllocError;
 use std::collections::HashMap;
 
@@ -70,7 +67,7 @@ fn open_refusal(
     key_type: KeyType,
     limits: Limits,
     needs: &Requirements,
-    things: &[Held],
+    things: &NamedThings,
 ) -> Option<BlackboardOpenError>
     ensures { result ≡ calls.first_of (calls.open_refusals bytes_eq things.now party.now
         (option_map (λ b. b.now) board.entry) (types.key_detail key_type) limits needs.now) }
@@ -90,9 +87,7 @@ fn open_refusal(
     if asks_above(limits.max_nodes, board.max_nodes) {
         return Some(BlackboardOpenError::DoesNotSupportRequestedAmountOfNodes);
     }
-    if !is_node(board.number, party, things)
-        && board.max_nodes <= nodes_taken(board.number, things)
-    {
+    if !things.is_node(board.number, party) && board.max_nodes <= things.nodes_taken(board.number) {
         return Some(BlackboardOpenError::ExceedsMaxNumberOfNodes);
     }
     None
@@ -230,14 +225,7 @@ impl BoardTables {
     {
         let found = board_named(name, &self.boards);
         let number = number_of(found);
-        match open_refusal(
-            party,
-            found,
-            key_type,
-            limits,
-            needs,
-            self.things.as_slice(),
-        ) {
+        match open_refusal(party, found, key_type, limits, needs, &self.things) {
             Some(error) => Ok(Reply::OpenError(error)),
             None => {
                 self.hold(Held {
@@ -257,7 +245,7 @@ impl BoardTables {
             (λ b. nat_le b.max_readers (model.reader_slots b.number (tables_of self.now).things)) }
     {
         match self.board(number) {
-            Some(board) => board.max_readers <= reader_slots(board.number, self.things.as_slice()),
+            Some(board) => board.max_readers <= self.things.reader_slots(board.number),
             None => false,
         }
     }
@@ -268,7 +256,7 @@ impl BoardTables {
             (λ b. nat_le b.max_writers (model.writer_slots b.number (tables_of self.now).things)) }
     {
         match self.board(number) {
-            Some(board) => board.max_writers <= writer_slots(board.number, self.things.as_slice()),
+            Some(board) => board.max_writers <= self.things.writer_slots(board.number),
             None => false,
         }
     }
@@ -399,7 +387,7 @@ impl BoardTables {
         ensures { IfOk result (Asks self.old self.new party.now (requests.table
             (requests.entry_mut name writer.now key.now value_type))) }
     {
-        if has_write_handle(writer.board, found.0, self.things.as_slice()) {
+        if self.things.has_write_handle(writer.board, found.0) {
             return Ok(Reply::EntryMutError(EntryHandleMutError::HandleAlreadyExists));
         }
         self.hold(Held {
@@ -436,7 +424,7 @@ impl BoardTables {
             (model.board_at (tables_of self.now) number)) }
     {
         if let Some(board) = self.board(number) {
-            return info_of(self.alloc, board, self.things.as_slice());
+            return info_of(self.alloc, board, &self.things);
         }
         let name = LongName::new(self.alloc, Text::of(b""))?;
         Ok(Info {
@@ -513,7 +501,7 @@ impl BoardTables {
             } => self.make_entry_mut(party, handle, &writer, &key, value_type),
             TableCall::Keys { factory } => Ok(Reply::Keys(self.keys(factory.board)?)),
             TableCall::Nodes { factory } => {
-                let nodes = nodes_at(self.alloc, factory.board, self.things.as_slice())?;
+                let nodes = self.things.nodes_at(self.alloc, factory.board)?;
                 Ok(Reply::Nodes(nodes))
             }
             TableCall::Info { factory } => Ok(Reply::Info(self.info(factory.board)?)),

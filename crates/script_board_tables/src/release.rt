@@ -8,7 +8,6 @@ ghost use Rattle.script_board_tables.specs.Tables.{Has, memory_of, published_of,
 
 use crate::tables::BoardTables;
 use board_model::{Board, Name};
-use script_things::has_thing;
 
 // Where the board with the number stands.
 fn place_of_board(number: u64, boards: &[Board]) -> Option<usize>
@@ -53,7 +52,7 @@ impl BoardTables {
         let Some(gone) = self.things.take(party, name) else {
             return;
         };
-        if has_thing(gone.board, self.things.as_slice()) {
+        if self.things.has_thing(gone.board) {
             return;
         }
         take_board(gone.board, &mut self.boards);

@@ -1,2 +1,4 @@
-pub mod Takes
-pub mod NamedLemmas
+mod PlaceLemmas
+mod TakenLemmas
+mod ToldLemmas
+mod SeatLemmas

@@ -1,2 +1,4 @@
 pub mod Listings
 pub mod Named
+pub mod Places
+pub mod Taken

@@ -1,5 +1,5 @@
 //! What a thing is.
-ghost use Rattle.std.specs.Prelude.{◌≡◌};
+ghost use Rattle.std.specs.Prelude.{◌≡◌, ℕ, ◌==◌};
 ghost use Rattle.board_model.specs.Tables as tables;
 
 use board_model::{Kind, ThingKind};
@@ -41,5 +41,36 @@ pub(crate) fn is_kind(kind: ThingKind, of: &Kind) -> bool
         (Kind::ReadHandle { entry: _ }, ThingKind::ReadHandle) => true,
         (Kind::WriteHandle { entry: _, port: _ }, ThingKind::WriteHandle) => true,
         _ => false,
+    }
+}
+
+pub(crate) fn is_reader(kind: &Kind) -> bool
+    ensures { result ≡ tables.is_reader kind.now }
+{
+    match kind {
+        Kind::Reader { port: _ } => true,
+        _ => false,
+    }
+}
+
+// The port of a writer, or of a handle made from one.
+pub(crate) fn writer_port(kind: &Kind) -> Option<u64>
+    ensures { result ≡ tables.writer_port kind.now }
+{
+    match kind {
+        Kind::Writer { port } => Some(*port),
+        Kind::WriteHandle { entry: _, port } => Some(*port),
+        _ => None,
+    }
+}
+
+// The entry of a write handle.
+pub(crate) fn written_entry(kind: &Kind) -> Option<u64>
+    ensures { (entry : ℕ) → tables.writes_entry entry kind.now
+        ≡ tables.holds_at result (λ e. e == entry) }
+{
+    match kind {
+        Kind::WriteHandle { entry, port: _ } => Some(*entry),
+        _ => None,
     }
 }

@@ -1,8 +1,11 @@
-//! What stands among things and boards.
-ghost use Rattle.std.specs.Prelude.{◌≡◌, Some, find, map, option_map};
+//! What stands among boards, and among things without an index.
+ghost use Rattle.std.specs.Prelude.{◌≡◌, ◌<◌, Some, find, length, map, option_map, slice_get, slice_set};
 ghost use Rattle.board_model.specs.Tables as tables;
 ghost use Rattle.board_model.specs.Things as held;
+ghost use Rattle.script_things.specs.Named.{called, is_at};
+ghost use Rattle.script_things.specs.Places.{IsFirstPlace};
 
+use crate::seats::Seat;
 use board_layout::Text;
 use board_model::{Board, Entry, Name, Thing};
 
@@ -34,23 +37,41 @@ pub fn entry_at(number: u64, entry: u64, boards: &[Board]) -> Option<&Entry>
     }
 }
 
-// The thing that a party holds under a name.
-pub(crate) fn thing_of<'a>(party: &Name, name: &Name, things: &'a [Held]) -> Option<&'a Held>
-    ensures { option_map (λ t. t.now) result ≡ held.thing_of things.now party.now name.now }
+// Where the first thing stands that a party holds under a name.
+pub(crate) fn first_place(seat: &Seat, places: &[Option<Held>]) -> Option<usize>
+    ensures { IsFirstPlace (is_at seat.now) places.now result }
 {
-    things
-        .iter()
-        .find(|t| t.holder == *party && t.name == *name)
+    for (i, place) in places.iter().enumerate() {
+        if let Some(thing) = place {
+            if thing.holder == seat.party && thing.name == seat.name {
+                return Some(i);
+            }
+        }
+    }
+    None
 }
 
-// Gives the party's thing another name.
-pub(crate) fn rename(party: &Name, old: &Name, new: &Name, things: &mut Vec<Held>)
-    ensures { things.new.items
-        ≡ map (held.named_anew party.now old.now new.now) things.old.items }
+// Gives the thing at a place another name.
+pub(crate) fn rename_at(place: usize, new: &Name, places: &mut Vec<Option<Held>>)
+    requires { place < length places.old.items }
+    ensures { (t : held.Held) → slice_get places.old.items place ≡ Some (Some t)
+        → places.new.items ≡ slice_set places.old.items place (Some (called new.now t)) }
 {
-    for thing in things.iter_mut() {
-        if thing.holder == *party && thing.name == *old {
-            thing.name = *new;
+    if let Some(thing) = &mut places[place] {
+        thing.name = *new;
+    }
+}
+
+// Gives the things of the party that have the name another one.
+pub(crate) fn rename_all(party: &Name, old: &Name, new: &Name, places: &mut Vec<Option<Held>>)
+    ensures { places.new.items
+        ≡ map (option_map (held.named_anew party.now old.now new.now)) places.old.items }
+{
+    for place in places.iter_mut() {
+        if let Some(thing) = place {
+            if thing.holder == *party && thing.name == *old {
+                thing.name = *new;
+            }
         }
     }
 }

@@ -1,123 +1,43 @@
-//! Things under their parties and names, found by an index.
-ghost use Rattle.std.specs.Prelude.{◌≡◌, ◌++◌, ◌∷◌, [], ◌+◌, ◌<◌, ◌≤◌, if◌then◌else◌, IfNone, IsOk, IsSome, OnErr, OnOk, Some, is_some, map};
-ghost use Rattle.std.specs.HashMap.{get, spare};
-ghost use Rattle.std.specs.List.{position_from};
+//! Things under their parties and names, and what is taken of boards.
+ghost use Rattle.std.specs.Prelude.{◌≡◌, ◌++◌, ◌∷◌, [], IfNone, IfOk, OnErr, OnOk, map};
+ghost use Rattle.std.specs.List.{list_any};
+ghost use Rattle.std.specs.Str.{bytes_eq};
+ghost use Rattle.board_model.specs.Replies as replies;
 ghost use Rattle.board_model.specs.Tables as tables;
 ghost use Rattle.board_model.specs.Things as held;
-ghost use Rattle.script_things.specs.Named.{SeatOf, same_seat, seat};
 
 use crate::kinds::is_kind;
-use crate::lookups::{Held, rename, thing_of};
-use board_model::{Name, ThingKind};
+use crate::lookups::{Held, rename_all, rename_at};
+use crate::seats::{Renaming, Seat, Seats};
+use crate::taken::{Taken, lower, raise};
+use board_model::{Name, Names, ThingKind};
 use std::alloc::{AllocError, Global};
 use std::collections::HashMap;
 use std::marker::Model;
 
-/// What a party holds under a name is kept under both.
-#[derive(Clone, Copy, PartialEq, Eq, Hash)]
-pub struct Seat {
-    /// The party.
-    pub party: Name,
-    /// The name.
-    pub name: Name,
-}
-
-/// The things of a script in the order of their making, with the first under each party's name in an index. Contracts see the
-/// list.
+/// The things of a script in the order of their making, with an index by party and name, and with what is taken of each board.
+/// A thing's place stays empty when it goes. Contracts see the list of those that stand.
 #[derive(Drop)]
 pub struct NamedThings {
-    items: Vec<Held>,
-    seats: HashMap<Seat, Held>,
+    alloc: Global,
+    places: Vec<Option<Held>>,
+    seats: Seats,
+    taken: HashMap<u64, Taken>,
 }
 
 impl Model for NamedThings {
     ghost use Rattle.std.specs.Prelude.{List};
     ghost use Rattle.board_model.specs.Things as held;
     ghost use Rattle.script_things.specs.Named.{IsIndex};
+    ghost use Rattle.script_things.specs.Places.{standing};
+    ghost use Rattle.script_things.specs.Taken.{AreTaken};
 
     ghost Value = { List held.Held };
 
-    ghost view = { λ d. d.items.items };
+    ghost view = { λ d. standing d.places.items };
 
-    ghost invariant = { λ d. IsIndex d.seats d.items.items };
-}
-
-// Where the thing stands that a party holds under a name.
-fn place_of_thing(party: &Name, name: &Name, things: &[Held]) -> Option<usize>
-    ensures { result ≡ position_from (held.is_held_as party.now name.now) 0 things.now }
-{
-    for (i, thing) in things.iter().enumerate() {
-        if thing.holder == *party && thing.name == *name {
-            return Some(i);
-        }
-    }
-    None
-}
-
-// Takes the thing that a party holds under a name out of the others.
-fn take_thing(party: &Name, name: &Name, things: &mut Vec<Held>) -> Option<Held>
-    ensures taken { result ≡ held.thing_of things.old.items party.now name.now }
-    ensures rest { things.new.items
-        ≡ tables.without_first (held.is_held_as party.now name.now) things.old.items }
-    ensures same { IfNone result (things.new.items ≡ things.old.items) }
-{
-    match place_of_thing(party, name, things) {
-        Some(place) => Some(things.remove(place)),
-        None => None,
-    }
-}
-
-// What the list has under the name stands under it in the index.
-fn show(
-    party: &Name,
-    name: &Name,
-    things: &[Held],
-    seats: &mut HashMap<Seat, Held>,
-) -> Result<(), AllocError>
-    ensures shown { OnOk result ((s : SeatOf) → get same_seat seats.new s
-        ≡ (if same_seat (seat party.now name.now) s
-        then held.thing_of things.now party.now name.now
-        else get same_seat seats.old s)) }
-    ensures there { IsSome (get same_seat seats.old (seat party.now name.now)) → IsOk result }
-    ensures room { 0 < spare seats.old → IsOk result }
-    ensures spare { spare seats.old ≤ spare seats.new + 1 }
-{
-    let seat = Seat {
-        party: *party,
-        name: *name,
-    };
-    match thing_of(party, name, things) {
-        Some(thing) => {
-            let _ = seats.insert(seat, *thing)?;
-        }
-        None => {
-            let _ = seats.remove(&seat);
-        }
-    }
-    Ok(())
-}
-
-// A new thing stands in the index, unless another does under its name.
-fn show_new(thing: &Held, seats: &mut HashMap<Seat, Held>) -> Result<(), AllocError>
-    ensures ok { OnOk result ((s : SeatOf) → get same_seat seats.new s
-        ≡ (if is_some (get same_seat seats.old (seat thing.now.holder thing.now.name))
-        then get same_seat seats.old s
-        else if same_seat (seat thing.now.holder thing.now.name) s
-        then Some thing.now else get same_seat seats.old s)) }
-    ensures err { OnErr result ((s : SeatOf) → get same_seat seats.new s
-        ≡ get same_seat seats.old s) }
-{
-    let seat = Seat {
-        party: thing.holder,
-        name: thing.name,
-    };
-    if seats.contains_key(&seat) {
-        return Ok(());
-    }
-    match seats.insert(seat, *thing) {
-        Ok(_) => Ok(()),
-        Err(_) => Err(AllocError),
-    }
+    ghost invariant = { λ d. IsIndex d.seats d.places.items
+        × AreTaken d.taken (standing d.places.items) };
 }
 
 impl NamedThings {
@@ -126,8 +46,10 @@ impl NamedThings {
         ensures { result ≡ [] }
     {
         NamedThings {
-            items: Vec::new(alloc),
-            seats: HashMap::new(alloc),
+            alloc,
+            places: Vec::new(alloc),
+            seats: Seats::new(alloc),
+            taken: HashMap::new(alloc),
         }
     }
 
@@ -135,12 +57,14 @@ impl NamedThings {
     pub fn at(&self, party: &Name, name: &Name) -> Option<Held>
         ensures { result ≡ held.thing_of self.now party.now name.now }
     {
-        self.seats
-            .get(&Seat {
-                party: *party,
-                name: *name,
-            })
-            .copied()
+        let seat = Seat {
+            party: *party,
+            name: *name,
+        };
+        match self.seats.place_of(&seat, &self.places) {
+            Some(place) => self.places[place],
+            None => None,
+        }
     }
 
     /// The same, where it is of this kind.
@@ -159,11 +83,71 @@ impl NamedThings {
         }
     }
 
-    /// The things, in the order of their making.
-    pub fn as_slice(&self) -> &[Held]
-        ensures { result.now ≡ self.now }
+    /// The readers of the board.
+    pub fn reader_slots(&self, board: u64) -> u64
+        ensures { result ≡ tables.reader_slots board self.now }
     {
-        &self.items
+        match self.taken.get(&board) {
+            Some(taken) => taken.readers,
+            None => 0,
+        }
+    }
+
+    /// The different ports of the board's writers and of the handles made from them.
+    pub fn writer_slots(&self, board: u64) -> u64
+        ensures { result ≡ tables.writer_slots board self.now }
+    {
+        match self.taken.get(&board) {
+            Some(taken) => taken.ports.len() as u64,
+            None => 0,
+        }
+    }
+
+    /// The different parties with a thing of the board.
+    pub fn nodes_taken(&self, board: u64) -> u64
+        ensures { result ≡ tables.nodes_taken bytes_eq board self.now }
+    {
+        match self.taken.get(&board) {
+            Some(taken) => taken.nodes.len() as u64,
+            None => 0,
+        }
+    }
+
+    /// Whether the party has a thing of the board.
+    pub fn is_node(&self, board: u64, party: &Name) -> bool
+        ensures { result ≡ tables.is_node bytes_eq board party.now self.now }
+    {
+        match self.taken.get(&board) {
+            Some(taken) => taken.nodes.contains_key(party),
+            None => false,
+        }
+    }
+
+    /// Whether a thing of the board stands.
+    pub fn has_thing(&self, board: u64) -> bool
+        ensures { result ≡ list_any (tables.is_of_board board) self.now }
+    {
+        self.nodes_taken(board) >= 1
+    }
+
+    /// Whether a write handle of the entry stands.
+    pub fn has_write_handle(&self, board: u64, entry: u64) -> bool
+        ensures { result ≡ list_any (tables.is_write_handle board entry) self.now }
+    {
+        match self.taken.get(&board) {
+            Some(taken) => taken.handles.contains_key(&entry),
+            None => false,
+        }
+    }
+
+    /// The parties with a thing of the board, in the order of their bytes.
+    pub fn nodes_at(&self, alloc: Global, board: u64) -> Result<Names, AllocError>
+        ensures { IfOk result (λ names. names ≡ replies.nodes_of board self.now) }
+    {
+        match self.taken.get(&board) {
+            Some(taken) => Ok(Names::from_vec(taken.nodes.keys().copied().collect(alloc)?)),
+            None => Ok(Names::from_vec(Vec::new(alloc))),
+        }
     }
 
     /// Adds a thing behind the others.
@@ -174,9 +158,11 @@ impl NamedThings {
         ensures ok { OnOk result (self.new ≡ self.old ++ thing ∷ []) }
         ensures err { OnErr result (self.new ≡ self.old) }
     {
-        self.items.reserve(1)?;
-        show_new(&thing, &mut self.seats)?;
-        self.items.push_reserved(thing);
+        self.places.reserve(1)?;
+        self.seats.reserve()?;
+        raise(self.alloc, &thing, &mut self.taken)?;
+        self.seats.push(&thing, &self.places);
+        self.places.push_reserved(Some(thing));
         Ok(())
     }
 
@@ -187,11 +173,16 @@ impl NamedThings {
             ≡ tables.without_first (held.is_held_as party.now name.now) self.old }
         ensures same { IfNone result (self.new ≡ self.old) }
     {
-        let gone = take_thing(party, name, &mut self.items)?;
-        let Ok(()) = show(party, name, &self.items, &mut self.seats) else {
-            // A thing stood under the name.
+        let seat = Seat {
+            party: *party,
+            name: *name,
+        };
+        let place = self.seats.take(&seat, &self.places)?;
+        let Some(gone) = self.places[place].take() else {
+            // A thing stands there.
             unreachable!()
         };
+        lower(&gone, &mut self.taken);
         Some(gone)
     }
 
@@ -204,16 +195,20 @@ impl NamedThings {
             (self.new ≡ map (held.named_anew party.now old.now new.now) self.old) }
         ensures err { OnErr result (self.new ≡ self.old) }
     {
-        self.seats.reserve(2)?;
-        rename(party, old, new, &mut self.items);
-        let Ok(()) = show(party, old, &self.items, &mut self.seats) else {
-            // There is room.
-            unreachable!()
+        self.seats.reserve()?;
+        let from = Seat {
+            party: *party,
+            name: *old,
         };
-        let Ok(()) = show(party, new, &self.items, &mut self.seats) else {
-            // There still is.
-            unreachable!()
+        let to = Seat {
+            party: *party,
+            name: *new,
         };
+        match self.seats.rename(&from, &to) {
+            Renaming::Nothing => {}
+            Renaming::At(place) => rename_at(place, new, &mut self.places),
+            Renaming::All => rename_all(party, old, new, &mut self.places),
+        }
         Ok(())
     }
 }

@@ -1,7 +1,7 @@
 use Rattle.std.proofs.Common.{◌≡◌, ℕ, rules, sym, ◌∙◌, Option, Some, None}
 use Rattle.std.specs.List.{position_from}
 use Rattle.board_model.specs.Tables.{is_numbered}
-use Rattle.script_things.proofs.Takes.{first_at, none_at, without_at}
+use Rattle.script_board_tables.proofs.Takes.{first_at, none_at, without_at}
 use Rattle.script_board_tables.proofs.release.take_board.Goals as goal
 
 abbrev a_place : ℕ → Option ℕ

@@ -1,8 +1,11 @@
-use Rattle.std.specs.Prelude.{nat_eq, option_map}
+use Rattle.std.specs.Prelude.{ℕ, List, nat_eq, option_map}
 use Rattle.std.specs.Map.{lookup}
-use Rattle.script_things.specs.Named.{same_seat, seat}
+use Rattle.script_things.specs.Named.{SeatOf, same_seat}
 use Rattle.script_board_tables.specs.Tables.{kept_in, lists_in, words_in}
 use Rattle.script_board_tables.proofs.tables.BoardTables.new.Goals as goal
+
+abbrev seat : List ℕ → List ℕ → SeatOf
+seat party name = record { party = party; name = name }
 
 pub returns : goal.returns
 returns c = record {

@@ -1,11 +1,30 @@
-use Rattle.std.proofs.Common.{List, [], ◌∷◌, ◌++◌, ap, ◌∙◌}
-use Rattle.std.specs.HashMap.{get}
+use Rattle.std.proofs.Common.{◌≡◌, ◌<◌, ◌^◌, List, [], ◌∷◌, ◌++◌, length, Option, Some, rules, arith, sym, ap, subst, ◌∙◌}
 use Rattle.board_model.specs.Things.{Held}
-use Rattle.script_things.specs.Named.{SeatOf, same_seat}
-use Rattle.script_things.proofs.NamedLemmas.{pushed}
+use Rattle.script_things.specs.Named.{IsIndex}
+use Rattle.script_things.specs.Places.{standing}
+use Rattle.script_things.specs.Taken.{AreTaken}
+use Rattle.script_things.proofs.PlaceLemmas.{standing_pushed, standing_short}
+use Rattle.script_things.proofs.TakenLemmas.{all_more, all_small}
 use Rattle.script_things.proofs.named.NamedThings.push.Goals as goal
+
+pub raise-requires : goal.raise-requires
+raise-requires c =
+    let places = c.self.inside.places.items in
+    let few : length places < 2 ^ 63 = search rules in
+    all_small c.self.inside.taken c.self.inside.taken (standing places) c.self.invariant.1 c.args.thing.board (omega (arith, few, standing_short places))
 
 pub invariant_of-self-2 : goal.invariant_of-self-2
 invariant_of-self-2 c =
-    pushed (λ (s : SeatOf). get same_seat c.self.inside.seats s) c.self.inside.items.items c.self.invariant c.args.thing (λ (s : SeatOf). get same_seat c.show_new.new.seats s) c.push_reserved.new.self.items
-    (c.push_reserved.ensures.items ∙ ap (λ (zs : List Held). zs ++ c.args.thing ∷ []) c.reserve.ensures.items) c.in_ok-show_new.ensures.ok
+    let places = c.self.inside.places.items in
+    let old = ap (λ (xs : List (Option Held)). xs ++ Some c.args.thing ∷ []) c.reserve.ensures.items in
+    let items : c.push_reserved.new.self.items ≡ places ++ Some c.args.thing ∷ [] = c.push_reserved.ensures.items ∙ old in
+    subst (λ (xs : List (Option Held)). IsIndex c.push.new.self xs × AreTaken c.raise.new.rows (standing xs)) (sym items) (
+      subst (IsIndex c.push.new.self) (ap (λ (xs : List (Option Held)). xs ++ Some c.args.thing ∷ []) c.deref.ensures.value ∙ old) c.push.ensures,
+      subst (AreTaken c.raise.new.rows) (sym (standing_pushed places c.args.thing)) (all_more c.self.inside.taken c.raise.new.rows (standing places) c.self.invariant.1 c.args.thing c.in_ok-raise.ensures.ok),
+    )
+
+pub returns-clause-ok : goal.returns-clause-ok
+returns-clause-ok c =
+    let places = c.self.inside.places.items in
+    let items : c.push_reserved.new.self.items ≡ places ++ Some c.args.thing ∷ [] = c.push_reserved.ensures.items ∙ ap (λ (xs : List (Option Held)). xs ++ Some c.args.thing ∷ []) c.reserve.ensures.items in
+    ap (λ (xs : List (Option Held)). standing xs) items ∙ standing_pushed places c.args.thing ∙ ap (λ (xs : List Held). xs ++ c.args.thing ∷ []) c.self.view_is
