@@ -5,7 +5,7 @@ use Rattle.script_rules.specs.declared.rule.Rule.{Rule}
 use Rattle.script_rules.specs.declared.rule.Rule.TheVariants as rule
 use Rattle.script_rules.specs.RuleNames.{rule_name}
 use Rattle.script_loop.specs.declared.error.ScriptError.{ScriptError}
-use Rattle.script_loop.specs.Runs.{Stream}
+use Rattle.script_loop.specs.Runs.{HasFailed, Stream}
 use Rattle.script_endings.specs.Endings.{IsNoted, note_of, status_of}
 use Rattle.script_endings.proofs.StatusLemmas.{bad_status}
 use Rattle.script_pairs.specs.declared.verdict.Verdict.{Verdict}
@@ -62,6 +62,15 @@ no_words_status (Ok (Lawful n)) status sink notes (inl w) two = omega (arith, w.
 no_words_status (Ok (No n r)) status sink notes (inl w) two = omega (arith, w.is, two)
 no_words_status (Ok v) status sink notes (inr c) two = omega (arith, c.is, two)
 no_words_status (Err e) status sink notes h two = bad_status (error_in e) 2 (omega arith) (sym h.is ∙ two)
+
+-- with status 4 the sink has failed
+pub write_failed : (answer : Result Verdict CheckError) (status : ℕ) (sink notes : Stream) → IsEnding answer status sink notes → status ≡ 4 → HasFailed sink
+write_failed (Ok (Lawful n)) status sink notes (inl w) four = absurd (omega (arith, w.is, four))
+write_failed (Ok (No n r)) status sink notes (inl w) four = absurd (omega (arith, w.is, four))
+write_failed (Ok v) status sink notes (inr c) four = c.failed
+write_failed (Err error.ReadFault) status sink notes h four = absurd (omega (arith, h.is, four))
+write_failed (Err error.TooLong) status sink notes h four = absurd (omega (arith, h.is, four))
+write_failed (Err error.OutOfMemory) status sink notes h four = absurd (omega (arith, h.is, four))
 
 -- what is told of a run: the verdict, or want of memory
 pub run_told : (v : Verdict) (bytes : Option (List ℕ)) → AcceptsRuns bytes (Ok v) → IsRunIn bytes → status_told v ≡ 0

@@ -1,5 +1,5 @@
 -- The program of the checker: its verdicts as text, its statuses and its notes.
-use Rattle.std.specs.Prelude.{◌≡◌, ◌⊎◌, ℕ, ◌≤◌, List, [], ◌++◌, length, codes, decimal, take, IsErrOf, IsSomeAnd, Option, Some, None, ⊤, Result, Ok, Err}
+use Rattle.std.specs.Prelude.{◌≡◌, ◌≢◌, ◌⊎◌, ℕ, ◌≤◌, List, [], ◌++◌, length, codes, decimal, take, IsErrOf, IsSomeAnd, Option, Some, None, ⊤, Result, Ok, Err}
 use Rattle.board_model.specs.Lines.{lines_of}
 use Rattle.script_model.specs.ScriptOutput.{IsOutputOf}
 use Rattle.script_lengths.specs.CheckedRuns.{in_turn}
@@ -7,7 +7,7 @@ use Rattle.script_rules.specs.declared.rule.Rule.{Rule}
 use Rattle.script_rules.specs.RuleNames.{rule_name}
 use Rattle.script_loop.specs.declared.error.ScriptError.{ScriptError}
 use Rattle.script_loop.specs.declared.error.ScriptError.TheVariants as script_error
-use Rattle.script_loop.specs.Runs.{Gains, HasFailed, Stream}
+use Rattle.script_loop.specs.Runs.{CountStays, CountsOn, Gains, HasFailed, Stream}
 use Rattle.script_endings.specs.Endings.{IsNoted, note_of, status_of}
 use Rattle.script_pairs.specs.declared.verdict.Verdict.{Verdict}
 use Rattle.script_pairs.specs.declared.verdict.Verdict.TheVariants.{Lawful, No}
@@ -102,8 +102,15 @@ pub record IsAnswered (status : ℕ) (source sink notes : Stream) : Type 0 where
   pub answer : Result Verdict CheckError
   pub checks : Checks 4294967295 source.before answer
   pub runs : AcceptsRuns source.before answer
-  pub read : IsErrOf answer error.ReadFault → HasFailed source
   pub ending : IsEnding answer status sink notes
+  -- the faults are those of the source and of the sink
+  pub read : IsErrOf answer error.ReadFault → HasFailed source
+  pub write : status ≡ 4 → HasFailed sink
+  -- a fault is told: with any other answer the source's count of faults stays, and with any other status the sink's
+  pub read_told : answer ≢ Err error.ReadFault → CountStays source
+  pub write_told : status ≢ 4 → CountStays sink
+  pub read_later : CountsOn source
+  pub write_later : CountsOn sink
 
 -- the status and the note are those that the words of the command line ask for
 pub record HasEnded (words : List (List ℕ)) (status : ℕ) (source sink notes : Stream) : Type 0 where

@@ -1,5 +1,5 @@
 //! The program's top call.
-ghost use Rattle.std.specs.Prelude.{◌≡◌, ◌⊎◌, ℕ, ◌<◌, ◌≤◌, Err, Ok, length, map};
+ghost use Rattle.std.specs.Prelude.{◌≡◌, ◌≢◌, ◌⊎◌, ℕ, ◌<◌, ◌≤◌, Err, Ok, length, map};
 ghost use Rattle.std.specs.Process.{exit_status};
 ghost use Rattle.std.specs.String.{string_bytes};
 ghost use Rattle.script_endings.specs.Endings.{IsNoted};
@@ -65,6 +65,10 @@ fn tell<K: Sink, N: Sink>(verdict: Verdict, sink: &mut K, notes: &mut N) -> u8
         (stream_of K.held K.faults sink.old sink.new)
         (stream_of N.held N.faults notes.old notes.new) }
     ensures unfailing { K.never_fails_within sink.old 64 → result ≡ status_told verdict }
+
+    // A fault of the sink is told by the status 4.
+    ensures told { result ≢ 4 → K.faults sink.new ≡ K.faults sink.old }
+    ensures later { K.faults sink.old ≤ K.faults sink.new }
 {
     let text = text_of(verdict);
     match write_whole(sink, text.as_bytes()) {
@@ -93,6 +97,7 @@ pub fn check_words<S: Source, K: Sink, N: Sink>(
         (stream_of K.held K.faults sink.old sink.new) }
 
     // Without words the status, what is written and the note are those of the check's answer, which comes where `Checks` says.
+    // Faults of the source and of the sink are told.
     ensures ran { length words.now.items ≡ 0
         → IsAnswered result
         (stream_of S.left S.faults source.old source.new)

@@ -3,7 +3,7 @@ use Rattle.std.specs.Prelude.{Ok, Err}
 use Rattle.script_pairs.specs.declared.verdict.CheckError.{CheckError}
 use Rattle.script_pairs.specs.declared.verdict.CheckError.TheVariants as error
 use Rattle.script_endings.proofs.StatusLemmas.{bad_status}
-use Rattle.board_check.proofs.TopLemmas.{broken_in, error_of, lawful_in, no_words_status, run_spent, run_told, unjudged}
+use Rattle.board_check.proofs.TopLemmas.{broken_in, error_of, lawful_in, no_words_status, run_spent, run_told, unjudged, write_failed}
 use Rattle.board_check.proofs.top.check_words.Goals as goal
 
 pub returns-in-Ok-clause-lawful : goal.returns-in-Ok-clause-lawful
@@ -17,8 +17,13 @@ returns-in-Ok-clause-ran g c = λ none. record {
   answer = Ok c.in-Ok.verdict;
   checks = rw c.in-Ok.is at c.check.ensures.checks;
   runs = rw c.in-Ok.is at c.check.ensures.runs;
-  read = rw c.in-Ok.is at c.check.ensures.cause;
   ending = c.tell.ensures.ending;
+  read = rw c.in-Ok.is at c.check.ensures.cause;
+  write = write_failed (Ok c.in-Ok.verdict) _ _ _ c.tell.ensures.ending;
+  read_told = rw c.in-Ok.is at c.check.ensures.told;
+  write_told = c.tell.ensures.told;
+  read_later = c.check.ensures.later;
+  write_later = c.tell.ensures.later;
 }
 
 pub returns-in-Ok-clause-runs : goal.returns-in-Ok-clause-runs
@@ -39,8 +44,13 @@ returns-in-Err-clause-ran g c = λ none. record {
   answer = Err c.in-Err.error;
   checks = rw c.in-Err.is at c.check.ensures.checks;
   runs = rw c.in-Err.is at c.check.ensures.runs;
-  read = rw c.in-Err.is at c.check.ensures.cause;
   ending = unjudged c.in-Err.error _ c.as_of_run.ensures _ _ _ refl c.end_with.ensures.is c.end_with.ensures.noted;
+  read = rw c.in-Err.is at c.check.ensures.cause;
+  write = write_failed (Err c.in-Err.error) _ _ _ (unjudged c.in-Err.error _ c.as_of_run.ensures _ _ _ refl c.end_with.ensures.is c.end_with.ensures.noted);
+  read_told = rw c.in-Err.is at c.check.ensures.told;
+  write_told = λ other. refl;
+  read_later = c.check.ensures.later;
+  write_later = omega arith;
 }
 
 pub returns-in-Err-clause-runs : goal.returns-in-Err-clause-runs
