@@ -70,11 +70,7 @@ takes_anyway (Err e) m l out takes = λ room fits s count rep reached. inl (take
 -- where there is room for 400 bytes, it takes memory
 pub roomy : {C : Type 0} (m : Machine C) (bytes : List ℕ) (room : ℕ) → short_room ≤ room → SpellsWanting m bytes room → SpellsTaking m bytes
 roomy m bytes room fits w =
-    let taking : TakesOrIsCramped m w.0 room → TakesMemory m w.0 = λ wants s count rep reached. roomy_at s w.0 room fits (wants s count rep reached) in (
-      w.0,
-      w.1,
-      elim w.2 [ inl kept ↦ inl kept | inr wants ↦ inr (taking wants) ],
-    )
+    (w.0, w.1, λ s count rep reached. roomy_at s w.0 room fits (w.2 s count rep reached))
   where
     roomy_at : (s : ScriptState) (l : ScriptLine) (room : ℕ) → short_room ≤ room → LineTakes s l ⊎ IsCramped s l room → LineTakes s l
     roomy_at s l room fits (inl takes) = takes
