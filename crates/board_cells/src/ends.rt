@@ -13,6 +13,7 @@ pub struct ReadEnd {
     pub cell: Arc<ThreadedCell>,
     /// A reader's pass of this cell.
     pub pass: ReaderPass,
+    /// The pass is of this cell.
     pub ghost own: { pass.cell ≡ (arc_value cell).cell },
 }
 
@@ -23,6 +24,7 @@ pub struct WriteEnd {
     pub cell: Arc<ThreadedCell>,
     /// The pass of its writer.
     pub pass: WriterPass,
+    /// The pass is of this cell.
     pub ghost own: { pass.cell ≡ (arc_value cell).cell },
 }
 
@@ -51,6 +53,7 @@ pub struct SentReceipt {
     pub cell: Arc<ThreadedCell>,
     /// A receipt of this cell.
     pub receipt: Receipt,
+    /// The receipt is of this cell.
     pub ghost own: { receipt.cell ≡ (arc_value cell).cell },
 }
 

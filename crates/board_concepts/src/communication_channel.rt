@@ -6,3 +6,6 @@ pub use board_channel::{
     CommunicationChannelSender, Connector, Creator, DEFAULT_RECEIVER_BUFFER_SIZE, Duplex,
     NameTable, Queue, SharedQueue,
 };
+pub use board_names::{
+    Configuration, FileName, NamedConcept, NamedConceptBuilder, NamedConceptMgmt, RegistryError,
+};

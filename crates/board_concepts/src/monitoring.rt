@@ -5,3 +5,6 @@ pub use board_monitoring::{
     MonitoringMonitor, MonitoringRegistry, MonitoringToken, Monitors, NameTable,
     ProcessLocalMonitoring, State, Token,
 };
+pub use board_names::{
+    Configuration, FileName, NamedConcept, NamedConceptBuilder, NamedConceptMgmt, RegistryError,
+};

@@ -6,7 +6,7 @@ use Rattle.std.proofs.lemmas.Nat.Bits.{bit_at-zero}
 use Rattle.std.specs.FinSet as set
 use Rattle.board_event_model.specs.declared.access.EventAnswer.TheVariants as answer
 use Rattle.board_event_model.specs.Ids.{has, IsWord}
-use Rattle.board_event_model.specs.WorkedRuns.{RunsOnBits, a_look_before_the_post, a_made_up_id, a_post_before_the_set, an_expire_after_a_look, an_expire_after_a_signal, an_expire_after_the_drain, an_expire_of_a_blocking_wait}
+use Rattle.board_event_model.specs.WorkedRuns.{RunsOnBits, a_look_before_the_post, a_made_up_id, a_post_before_the_set, an_expire_after_a_look, an_expire_after_a_signal, an_expire_after_the_drain, an_expire_of_a_blocking_wait, an_expire_that_drops_an_id, an_expire_that_leaves_an_id}
 use Rattle.board_event_model.proofs.SetLemmas.{is_false, has_empty}
 
 no_word : (k : ℕ) → IsWord set.empty k 0
@@ -42,3 +42,9 @@ blocking_is_wrong h = false≢true h.1.0
 
 pub signal_is_wrong : RunsOnBits an_expire_after_a_signal → ⊥
 signal_is_wrong h = false≢true h.1.1
+
+pub all_is_wrong : RunsOnBits an_expire_that_leaves_an_id → ⊥
+all_is_wrong h = false≢true h.1.1
+
+pub taken_is_wrong : RunsOnBits an_expire_that_drops_an_id → ⊥
+taken_is_wrong h = h.1

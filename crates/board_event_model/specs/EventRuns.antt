@@ -1,5 +1,5 @@
 -- Runs on one event: what many parties may do, one move after another, abandoned anywhere.
-use Rattle.std.specs.Prelude.{◌≡◌, ℕ, ◌+◌, ◌/◌, Bool, true, false, ◌||◌, ◌&&◌, if◌then◌else◌, List, [], ◌∷◌, ◌++◌, Option, Some, None, IsSomeAnd, ⊤}
+use Rattle.std.specs.Prelude.{◌≡◌, ℕ, ◌+◌, ◌/◌, true, false, ◌||◌, ◌&&◌, if◌then◌else◌, List, [], ◌∷◌, Option, Some, None, IsSomeAnd, ⊤}
 use Rattle.std.specs.Str.{bytes_eq}
 use Rattle.board_event_model.specs.declared.kind.EventKind.{EventKind}
 use Rattle.board_event_model.specs.declared.access.EventAccess.{EventAccess}
@@ -7,7 +7,7 @@ use Rattle.board_event_model.specs.declared.access.EventAnswer.{EventAnswer}
 use Rattle.board_event_model.specs.EventMemory.{Event, new_event, is_bits, IsRight, after}
 use Rattle.board_event_model.specs.NotifyCalls.{notify_bits, notify_queue}
 use Rattle.board_event_model.specs.WaitCalls.{wait_bits, wait_queue}
-use Rattle.board_event_model.specs.EventCalls.{EventCall, a_notify, a_wait, answered, owed, turn, reported, is_last, is_waiting, is_timed, PartyName, MetAccess, RunningCall, call_of, TakenAccess, new_call, went_on}
+use Rattle.board_event_model.specs.EventCalls.{EventCall, a_notify, a_wait, owed, turn, is_last, is_timed, PartyName, RunningCall, call_of, TakenAccess, new_call, went_on}
 
 -- where a run stands: the event, its listener's party, the calls that run, how many have begun, and all accesses so far, the last one first
 pub record Moment : Type 0 where

@@ -1,5 +1,5 @@
 -- Runs that were worked out by hand, of an event of 64 ids. `e` listens, `n` notifies; the last move comes first.
-use Rattle.std.specs.Prelude.{false, List, [], ◌∷◌, codes}
+use Rattle.std.specs.Prelude.{true, false, List, [], ◌∷◌, codes}
 use Rattle.board_event_model.specs.declared.access.EventAccess.TheVariants as access
 use Rattle.board_event_model.specs.declared.access.EventAnswer.TheVariants as answer
 use Rattle.board_event_model.specs.declared.call.WaitMode.{WaitMode}
@@ -66,3 +66,17 @@ n_notifies before = step n access.Post answer.Done ∷ step n (access.Set 32) an
 -- a timed wait expires after a look that found a signal
 abbrev pub an_expire_after_a_signal : List EventMove
 an_expire_after_a_signal = expire e ∷ step e access.Signal answer.Yes ∷ n_notifies (first_look mode.Timed)
+
+-- e waits for all while 32 is pending: it drains the signal, and expires before it takes the id
+abbrev pub an_expire_that_leaves_an_id : List EventMove
+an_expire_that_leaves_an_id = expire e ∷ step e access.Signal answer.No ∷ step e access.Signal answer.Yes ∷ begin e (a_wait (wait_bits 1 true mode.Timed)) ∷ n_notifies []
+
+-- or it takes the id, and expires then
+abbrev pub an_expire_that_drops_an_id : List EventMove
+an_expire_that_drops_an_id =
+    expire e
+    ∷ step e (access.Swap 0) (answer.Word 4294967296)
+    ∷ step e access.Signal answer.No
+    ∷ step e access.Signal answer.Yes
+    ∷ begin e (a_wait (wait_bits 1 true mode.Timed))
+    ∷ n_notifies []

@@ -1,5 +1,5 @@
 //! Runs that were worked out by hand, and whether they are runs.
-ghost use Rattle.board_event_model.specs.WorkedRuns.{RunsOnBits, a_look_before_the_post, a_made_up_id, a_post_before_the_set, an_expire_after_a_look, an_expire_after_a_signal, an_expire_after_the_drain, an_expire_of_a_blocking_wait};
+ghost use Rattle.board_event_model.specs.WorkedRuns.{RunsOnBits, a_look_before_the_post, a_made_up_id, a_post_before_the_set, an_expire_after_a_look, an_expire_after_a_signal, an_expire_after_the_drain, an_expire_of_a_blocking_wait, an_expire_that_drops_an_id, an_expire_that_leaves_an_id};
 
 /// A waiting look may miss an id that was set and whose signal wasn't posted yet.
 pub fn a_look_may_come_before_the_post()
@@ -22,8 +22,11 @@ pub fn a_made_up_id_is_wrong()
 {}
 
 /// A wait that hasn't made its waiting look doesn't expire, nor one whose look found a signal, and a blocking one never does.
+/// So a wait for all doesn't expire while an id is left that was pending at its first step, nor once it has taken one.
 pub fn an_early_expire_is_wrong()
     ensures timed { RunsOnBits an_expire_after_the_drain → ⊥ }
     ensures signal { RunsOnBits an_expire_after_a_signal → ⊥ }
     ensures blocking { RunsOnBits an_expire_of_a_blocking_wait → ⊥ }
+    ensures all { RunsOnBits an_expire_that_leaves_an_id → ⊥ }
+    ensures taken { RunsOnBits an_expire_that_drops_an_id → ⊥ }
 {}

@@ -13,6 +13,7 @@ pub struct DomainState {
     pub tables: DomainCore<BoardCells>,
     /// The number of the last node, at most 2^64 - 2.
     pub nodes: u64,
+    /// So one more node has a number.
     pub ghost few: { nodes ≤ 18446744073709551614 },
 }
 

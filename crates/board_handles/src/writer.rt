@@ -321,7 +321,8 @@ impl<K: BoardKey, V: ZeroCopySend, P> EntryValueUninit<K, V, P> {
         self.discard().release_in(state);
     }
 
-    /// Gives the loan up with its handle, and publishes nothing.
+    /// Gives the loan up with its handle, in the domain that it came from, and publishes nothing. A loan that a lent form made over
+    /// another state is given up by `release_in` over that state.
     pub fn release<R: Wait>(self, rt: &R) {
         self.discard().release(rt);
     }

@@ -1,6 +1,6 @@
 -- Boards that stay what they are: a number that was drawn never gets another board.
 use Rattle.std.proofs.Common.{◌≡◌, ℕ, ◌+◌, ◌≤◌, Bool, true, false, cond, List, [], ◌∷◌, ◌++◌, length, map, arith, refl, sym, ap, subst, ◌∙◌, Option, Some, None, inl, inr}
-use Rattle.std.specs.Prelude.{find, ◌⊎◌}
+use Rattle.std.specs.Prelude.{find, ◌⊎◌, IfSome}
 use Rattle.std.specs.List.{count_by, list_any}
 use Rattle.std.specs.Str.{bytes_eq}
 use Rattle.std.proofs.lemmas.Bool.{eqb-true}
@@ -15,6 +15,7 @@ use Rattle.board_model.specs.Requests.{Fetch, Published, Request, TableCall, cre
 use Rattle.board_model.specs.Replies.{added_of, ask, ask_tables, keeps_key, latest, released_thing, with_fetched}
 use Rattle.board_model.specs.LawfulSession.{IsLawfulFrom, IsRight, Session, State, after, state_after}
 use Rattle.board_model.specs.Sound.{BoardTables, Sound}
+use Rattle.board_model.specs.LawsOfOthers.{BoardsStay, NumbersAreOfOneBoard}
 use Rattle.board_model.proofs.ListLemmas.{count_without, find_back, find_none, find_push_cases, find_true}
 use Rattle.board_model.proofs.LineCases.{after_cases}
 use Rattle.board_model.proofs.GrowthLemmas.{line_growth}
@@ -148,3 +149,18 @@ session_boards (x ∷ xs) s h sound n b le f =
     let g = line_growth s x.0 x.1 n 0 le h.0 in
     let k = session_boards xs (after s x.0 x.1) h.1 (sound_after s x.0 x.1 h.0 sound) n b (omega (arith, g.drawn)) f in
     line_boards s x.0 x.1 h.0 sound n b le k
+
+-- ---- a board that stands
+
+kept_same : (t new : BoardTables) (n : ℕ) (b : Board) → KeepsBoards t new → n ≤ t.last_board → board_at t n ≡ Some b → IfSome (board_at new n) (λ c. c ≡ b)
+kept_same t new n b keeps le e = at (board_at new n) (keeps n)
+  where
+    at : (o : Option Board) → ((c : Board) → n ≤ t.last_board → o ≡ Some c → board_at t n ≡ Some c) → IfSome o (λ c. c ≡ b)
+    at None k = tt
+    at (Some c) k = let f = k c le refl in cc (e, f)
+
+pub boards_stay : BoardsStay
+boards_stay s l a n b sound r e = kept_same s.standing.tables (after s l a).standing.tables n b (line_boards s l a r sound) (sound.boards.numbered n b e) e
+
+pub numbers_of_one : NumbersAreOfOneBoard
+numbers_of_one s pairs n b sound h e = kept_same s.standing.tables (state_after s pairs).standing.tables n b (session_boards pairs s h sound) (sound.boards.numbered n b e) e

@@ -36,4 +36,5 @@ pub mod FormLaws
 pub mod KeyLaws
 pub mod OtherLemmas
 pub mod SlowLemmas
+pub mod CounterLemmas
 pub mod ListingLaws

@@ -105,6 +105,11 @@ abbrev pub FirstCountersAreLengths : Type 0
 FirstCountersAreLengths = (s : State) (party : List ℕ) (r : Running) (a : Access) (f : Fetch) → IsTaking s party r a → r.request ≡ get f → length r.so_far ≡ 0
     → first_counter (r.so_far ++ a ∷ []) ≡ Some (length (s.published f.board f.entry))
 
+-- and it stays while the call runs
+abbrev pub FirstCountersStay : Type 0
+FirstCountersStay = (s : State) (pairs : Session) (party : List ℕ) (r later : Running) → IsLawfulFrom s pairs → s.parties party ≡ running r → 0 < length r.so_far
+    → begins_in party pairs ≡ false → (state_after s pairs).parties party ≡ running later → first_counter later.so_far ≡ first_counter r.so_far
+
 -- a get whose list had this length at its first step, and has this one at its last: w + 2 steps, and w + 1 more for each value that was published meanwhile
 pub record IsShortFor (low high words steps : ℕ) : Type 0 where
   pub grown : low ≤ high

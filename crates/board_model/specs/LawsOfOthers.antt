@@ -1,12 +1,14 @@
--- Laws of what a line leaves: a party that it doesn't name holds what it held, and its call runs on.
-use Rattle.std.specs.Prelude.{◌≡◌, ℕ, Bool, false, List}
+-- Laws of what a line leaves: a party that it doesn't name holds what it held, and its call runs on; and a board is the same until it goes.
+use Rattle.std.specs.Prelude.{◌≡◌, ℕ, Bool, false, List, IfSome, Some}
 use Rattle.std.specs.Str.{bytes_eq}
 use Rattle.board_model.specs.declared.answer.Answer.{Answer}
 use Rattle.board_model.specs.declared.line.Line.{Line}
 use Rattle.board_model.specs.declared.line.Line.TheVariants as line
+use Rattle.board_model.specs.declared.tables.Board.{Board}
+use Rattle.board_model.specs.Tables.{board_at}
 use Rattle.board_model.specs.Things.{Standing, thing_of}
 use Rattle.board_model.specs.Parties.{Running, free, gone, running}
-use Rattle.board_model.specs.LawfulSession.{State, after}
+use Rattle.board_model.specs.LawfulSession.{IsLawfulFrom, IsRight, Session, State, after, state_after}
 use Rattle.board_model.specs.Sound.{Sound}
 
 -- the line names the party
@@ -33,3 +35,13 @@ pub record IsLeft (old new : State) (party : List ℕ) : Type 0 where
 -- so a line leaves each party that it doesn't name
 abbrev pub LinesLeaveOthers : Type 0
 LinesLeaveOthers = (s : State) (l : Line) (a : Answer) (party : List ℕ) → Sound s → names_party party l ≡ false → IsLeft s (after s l a) party
+
+-- a board that stands is the same after a right line, if it still stands
+abbrev pub BoardsStay : Type 0
+BoardsStay = (s : State) (l : Line) (a : Answer) (n : ℕ) (b : Board) → Sound s → IsRight s l a → board_at s.standing.tables n ≡ Some b
+    → IfSome (board_at (after s l a).standing.tables n) (λ c. c ≡ b)
+
+-- and after a lawful session: no other board ever gets its number
+abbrev pub NumbersAreOfOneBoard : Type 0
+NumbersAreOfOneBoard = (s : State) (pairs : Session) (n : ℕ) (b : Board) → Sound s → IsLawfulFrom s pairs → board_at s.standing.tables n ≡ Some b
+    → IfSome (board_at (state_after s pairs).standing.tables n) (λ c. c ≡ b)

@@ -1,5 +1,5 @@
 //! Laws of how many steps a call takes. Each function's contract is a theorem over the definitions alone.
-ghost use Rattle.board_model.specs.LawsOfCounts.{FillsTakeTheirWords, FinishedGetsAreShort, FirstCountersAreLengths, GetsAloneTakeTheirWords, GetsAreShortByGrowth, NothingIsPassedAtFirst, OtherCallsTakeOneStep, PassedWritesArePrinted, RunningGetsAreShort, UpdatesTakeTheirWords};
+ghost use Rattle.board_model.specs.LawsOfCounts.{FillsTakeTheirWords, FinishedGetsAreShort, FirstCountersAreLengths, FirstCountersStay, GetsAloneTakeTheirWords, GetsAreShortByGrowth, NothingIsPassedAtFirst, OtherCallsTakeOneStep, PassedWritesArePrinted, RunningGetsAreShort, UpdatesTakeTheirWords};
 
 /// From its first step on, what a running get has passed are the writes of its counter that were printed.
 pub fn passed_writes_are_printed()
@@ -44,6 +44,11 @@ pub fn other_calls_take_one_step()
 /// The counter that a get reads first is the length of its list at that step.
 pub fn first_counters_are_lengths()
     ensures { FirstCountersAreLengths }
+{}
+
+/// The counter that a get has read first stays the same while it runs.
+pub fn first_counters_stay()
+    ensures { FirstCountersStay }
 {}
 
 /// A finished get has taken w + 2 steps, and at most w + 1 more for each value that was published since its first step.

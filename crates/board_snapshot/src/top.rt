@@ -87,6 +87,13 @@ pub fn run_program<S: Source, K: Sink, N: Sink>(
         (stream_of K.held K.faults sink.old sink.new)
         (stream_of N.held N.faults notes.old notes.new) }
 
+    // Without words a known script of the grammar, over streams that can't fail and take all that is told, ends with status
+    // 0, or 7 where memory is refused.
+    ensures complete { length words.now.items ≡ 0
+        → S.never_fails source.old → (room : ℕ) → K.never_fails_within sink.old room
+        → IsRunnable Snapshots IsLawful room 4294967295 (S.left source.old)
+        → (exit_status result ≡ 0) ⊎ (exit_status result ≡ 7) }
+
     // With words nothing is read or written.
     ensures unread { 0 < length words.now.items → source.new ≡ source.old }
     ensures unwritten { 0 < length words.now.items → sink.new ≡ sink.old }

@@ -11,7 +11,7 @@ use Rattle.script_exchanges.specs.declared.line.Drive.TheVariants.{Watchers}
 use Rattle.script_exchanges.specs.Exchanges.{AreLinesOf, Exchanges, fed_session}
 use Rattle.script_drive.specs.DriveRuns.{DriveRuns, IsUndisturbed}
 use Rattle.script_watches.specs.WatchExchanges.{IsLawful, no_watchings}
-use Rattle.script_watches.proofs.WatchLaws.{fed_lawful_law, fresh_law, items_law, rise_law, watched_law}
+use Rattle.script_watches.proofs.WatchLaws.{fed_lawful_law, fresh_law, highest_law, items_law, rise_law, watched_law}
 use Rattle.board_watch.specs.Top.{AllReportRightly, IsWatchRun}
 use Rattle.board_watch.proofs.SaidLemmas.{reports_written}
 use Rattle.board_watch.proofs.WrittenLemmas.{fed_written, read_back}
@@ -28,6 +28,7 @@ all_rightly xs s party x met = record {
   watched = watched_law met.earlier s met.leads party x met.watches;
   written = reports_written met.earlier s met.leads party x met.watches;
   rise = rise_law met.earlier s met.leads party x met.watches;
+  highest = highest_law met.earlier s met.leads party x met.watches;
   items = items_law met.earlier s met.leads party x met.watches;
   fresh = λ handle c b i n id g words q. fresh_law met.earlier s met.leads party x met.watches handle c b i n id g words q;
 }

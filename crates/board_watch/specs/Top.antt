@@ -1,5 +1,6 @@
 -- The program of watchers: what a script comes to, its status and its note.
 use Rattle.std.specs.Prelude.{◌≡◌, ℕ, ◌≤◌, List, [], ◌++◌, codes, Some, Result}
+use Rattle.std.specs.List.{AllByRecursion}
 use Rattle.std.specs.Io.KnownBytes.{IsAtEnd}
 use Rattle.script_model.specs.ScriptSession as script
 use Rattle.script_model.specs.LawsOfComposition.{state_met}
@@ -12,6 +13,7 @@ use Rattle.script_exchanges.specs.Exchanges.{AreLinesOf, Exchanges, fed_session,
 use Rattle.script_drive.specs.DriveRuns.{DriveRuns}
 use Rattle.script_written.specs.GivenLines.{IsFedAsWritten, IsReadBack}
 use Rattle.script_watches.specs.LawsOfWatches.{AreItems, IsCalledGet, IsWatched, Rise}
+use Rattle.script_exchanges.specs.DrivenParties.{Got}
 use Rattle.script_watches.specs.Watchings.{Watching, highest_of, reports_through}
 use Rattle.script_watches.specs.WatchExchanges.{IsLawful, Leads, Watchings, no_watchings}
 use Rattle.board_watch.specs.LawsOfWatchRuns.{AreReportsWritten}
@@ -28,13 +30,15 @@ pub record IsMet (xs : Exchanges) (s : Watchings) (party : List ℕ) (x : Watchi
 
 -- what a watcher reports, at whatever moment it is met: after these exchanges
 pub record ReportsRightly (earlier : Exchanges) (s : Watchings) (party : List ℕ) (x : Watching) : Type 0 where
-  -- the party's own lines ask for its ids, wait, and get what the ids call for
+  -- since its `watch` the party's own lines ask for its ids, wait, and get what the ids call for
   pub watched : IsWatched s.fed party x
   -- what it has reported is what was written behind the party's turns since it began
   pub written : AreReportsWritten earlier party x
   -- the generations that are reported of a handle rise
   pub rise : (handle : List ℕ) → Rise 0 (reports_through handle x.reported)
-  -- each is an item of its entry's list
+  -- the last of them is the highest
+  pub highest : (handle : List ℕ) → AllByRecursion (λ (r : Got). r.generation ≤ highest_of x handle) (reports_through handle x.reported)
+  -- each is an item of the list of the one entry that the handle named when the watcher began
   pub items : (handle : List ℕ) → AreItems (state_met s.fed) party handle x
   -- once a get that a taken id called for has ended, the last is at least what was published before the notify
   pub fresh : (handle : List ℕ) (c : Take) (b i n id g : ℕ) (words : List ℕ) → IsCalledGet s.fed party handle x c b i n id g words → g ≤ highest_of x handle

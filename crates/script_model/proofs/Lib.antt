@@ -7,6 +7,7 @@ pub mod FormLaws
 pub mod FormedLemmas
 pub mod HolderLemmas
 pub mod LineLaws
+pub mod NewListLemmas
 pub mod NotifierLemmas
 pub mod NumberLemmas
 pub mod NumberedLemmas

@@ -13,7 +13,7 @@ use Rattle.script_model.specs.ScriptTurns.{EventTurn, ScriptState, turn_of}
 use Rattle.script_model.specs.LawsOfRules.{IsRuled}
 use Rattle.script_model.specs.ScriptSession.{IsLawfulFrom, Session, after, after_turn, start, state_after}
 use Rattle.script_model.specs.Parts.{board_part, part_of}
-use Rattle.script_model.specs.LawsOfParts.{BoardsLaw, EventsLaw}
+use Rattle.script_model.specs.LawsOfParts.{BoardsLaw, BoardsLawFrom, EventsLaw}
 use Rattle.script_model.proofs.RuleLemmas.{ruled}
 use Rattle.script_model.proofs.ScriptSoundLemmas.{sessions_sound}
 
@@ -54,6 +54,11 @@ board_part_short s (pair ∷ pairs) =
     let one = part_short (turn_of s pair.0) pair.0 pair.1 in
     let sum = length-append (part_of (turn_of s pair.0) pair.0 pair.1) (board_part (after s pair.0 pair.1) pairs) in
     omega arith
+
+pub boards_law_from : BoardsLawFrom
+boards_law_from s pairs ok =
+    let h = board_part_leads s pairs ok in
+    record { lawful = h.lawful; state = h.state; short = board_part_short s pairs }
 
 pub boards_law_holds : BoardsLaw
 boards_law_holds pairs ok =

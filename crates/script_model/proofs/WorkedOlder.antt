@@ -1,5 +1,5 @@
 -- The session that was worked out by hand, with an older take.
-use Rattle.std.proofs.Common.{rules, refl, inr, Some, [], ◌∷◌, ◌++◌}
+use Rattle.std.proofs.Common.{rules, refl, inr, Some, None, [], ◌∷◌, ◌++◌}
 use Rattle.std.specs.Prelude.{codes, false}
 use Rattle.board_event_model.specs.declared.access.EventAccess.TheVariants as event_access
 use Rattle.board_event_model.specs.declared.access.EventAnswer.TheVariants as event_answer
@@ -13,11 +13,12 @@ use Rattle.board_model.specs.declared.answer.Reply.TheVariants as reply
 use Rattle.board_model.specs.declared.value.ValueType.TheVariants as type
 use Rattle.board_model.specs.Parties.{Running}
 use Rattle.board_model.specs.Requests.{get}
+use Rattle.board_model.specs.Tables.{entry_at}
 use Rattle.board_model.specs.WorkedSessions as boards
 use Rattle.script_model.specs.declared.reply.EventReply.TheVariants as event_reply
 use Rattle.script_model.specs.ScriptSession.{IsLawful}
-use Rattle.script_model.specs.LawsOfComposition.{EndsGet, EndsPublication, Notifies, TakesId, state_met}
-use Rattle.script_model.specs.WorkedScripts.{the_new_value, the_newer_notify, the_old_value, the_older_take, to_new_value, to_newer_notify, to_old_value, to_older_take}
+use Rattle.script_model.specs.LawsOfComposition.{BeginsGet, EndsGet, EndsPublication, IsIdOf, Notifies, TakesId, state_met}
+use Rattle.script_model.specs.WorkedScripts.{the_new_value, the_newer_notify, the_old_get, the_old_value, the_older_take, to_new_value, to_newer_notify, to_old_value, to_older_take}
 use Rattle.script_model.proofs.WorkedScript.{found, runs, the_get}
 
 pub lawful : IsLawful (to_newer_notify ++ the_newer_notify ∷ [])
@@ -39,6 +40,14 @@ taken =
       stands = event.is;
       takes = refl;
     }
+
+pub place : IsIdOf (state_met to_newer_notify) 1 0 0
+place =
+    let entry = found (entry_at (state_met to_newer_notify).boards.standing.tables 1 0) refl in
+    record { entry = entry.it; found = entry.is; place = refl }
+
+pub asked : BeginsGet (state_met (to_older_take ++ the_older_take ∷ [])) the_old_get (codes "b") 1 0
+asked = record { handle = codes "h"; value = None; fetch = the_get; found = refl; board = refl; place = refl; is = refl }
 
 -- the get, after its two reads
 abbrev old_get : Running

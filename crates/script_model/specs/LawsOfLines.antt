@@ -1,5 +1,5 @@
 -- Laws for programs that stand on scripts: what a line leaves of other parties, where it lengthens a list, and how the laws of boards are used.
-use Rattle.std.specs.Prelude.{◌≡◌, ℕ, ◌+◌, ◌≤◌, Bool, false, if◌then◌else◌, List, [], ◌∷◌, ◌++◌, length, None}
+use Rattle.std.specs.Prelude.{◌≡◌, ℕ, ◌+◌, ◌<◌, ◌≤◌, Bool, false, if◌then◌else◌, List, [], ◌∷◌, ◌++◌, length, None, is_some}
 use Rattle.std.specs.Str.{bytes_eq}
 use Rattle.board_model.specs.declared.answer.Answer.{Answer}
 use Rattle.board_model.specs.declared.line.Line.{Line}
@@ -7,6 +7,7 @@ use Rattle.board_model.specs.declared.line.Line.TheVariants as board_line
 use Rattle.board_model.specs.LawsOfOthers.{IsLeft, names_party}
 use Rattle.board_model.specs.LawsOfSessions.{Pairs, publications_in, publishes_entry}
 use Rattle.board_model.specs.LawsOfSessions as board_pairs
+use Rattle.board_model.specs.Tables.{entry_at}
 use Rattle.board_model.specs.Parties.{Running, running}
 use Rattle.board_model.specs.Sound.{Sound}
 use Rattle.script_model.specs.declared.line.ScriptLine.{ScriptLine}
@@ -49,6 +50,11 @@ publishes s l a b i = false
 abbrev pub LinesLengthenLists : Type 0
 LinesLengthenLists = (s : ScriptState) (l : ScriptLine) (a : ScriptAnswer) (b i : ℕ) → b ≤ s.boards.standing.tables.last_board → IsRight s l a
     → (more : List (List ℕ)) × ((after s l a).boards.published b i ≡ s.boards.published b i ++ more) × (length more ≡ (if publishes s l a b i then 1 else 0))
+
+-- a board that wasn't drawn before a line has no list after it; or the line made it, and each of its entries has one value
+abbrev pub NewBoardsHaveOneValueEach : Type 0
+NewBoardsHaveOneValueEach = (s : ScriptState) (l : ScriptLine) (a : ScriptAnswer) (b i : ℕ) → Sound s.boards → IsRight s l a → s.boards.standing.tables.last_board < b
+    → length ((after s l a).boards.published b i) ≡ (if is_some (entry_at (after s l a).boards.standing.tables b i) then 1 else 0)
 
 -- how many values of the entry a session publishes from this state on
 abbrev pub publications : ScriptState → Session → ℕ → ℕ → ℕ

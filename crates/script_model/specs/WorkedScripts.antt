@@ -150,11 +150,14 @@ to_older_take =
 abbrev pub the_older_take : Pair
 the_older_take = queued (codes "b") event_access.Pop (event_answer.Id 0) (event_reply.Id 0)
 
--- then b gets the entry, while a's update of it runs
+-- then b begins to get the entry
+abbrev pub the_old_get : Pair
+the_old_get = of_pair (boards.accepted (codes "b") (call.Get (codes "h") None))
+
+-- which it reads while a's update of it runs
 abbrev pub to_old_value : Session
-to_old_value = to_older_take ++ (the_older_take ∷ map of_pair (
-    boards.accepted (codes "b") (call.Get (codes "h") None)
-    ∷ boards.accepted (codes "a") (call.Update (codes "m") (value.U64 9))
+to_old_value = to_older_take ++ (the_older_take ∷ the_old_get ∷ map of_pair (
+    boards.accepted (codes "a") (call.Update (codes "m") (value.U64 9))
     ∷ boards.one_step (codes "a") (access.Write 1 3 9)
     ∷ boards.one_step (codes "b") (access.Read 1 0 1)
     ∷ boards.one_step (codes "b") (access.Read 1 2 7)

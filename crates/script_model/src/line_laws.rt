@@ -1,5 +1,5 @@
 //! Laws for programs that stand on scripts. Each function's contract is a theorem over the definitions alone.
-ghost use Rattle.script_model.specs.LawsOfLines.{BoardStepsAreAlone, LinesLeaveParties, LinesLengthenLists, PairsAreOfBoards, PartsJoin, PublicationsAreOfBoards, SessionsLengthenLists};
+ghost use Rattle.script_model.specs.LawsOfLines.{BoardStepsAreAlone, LinesLeaveParties, LinesLengthenLists, NewBoardsHaveOneValueEach, PairsAreOfBoards, PartsJoin, PublicationsAreOfBoards, SessionsLengthenLists};
 
 /// A party that a line doesn't name holds what it held, and what it runs is where it was.
 pub fn lines_leave_parties()
@@ -9,6 +9,11 @@ pub fn lines_leave_parties()
 /// A line makes a published list longer by one exactly where it ends a publication of the entry, and leaves what stands in it.
 pub fn lines_lengthen_lists()
     ensures { LinesLengthenLists }
+{}
+
+/// A board that wasn't drawn before a line has no list after it; or the line made it, and each of its entries has one value.
+pub fn new_boards_have_one_value_each()
+    ensures { NewBoardsHaveOneValueEach }
 {}
 
 /// The boards' part of two sessions, one after the other, is that of both.

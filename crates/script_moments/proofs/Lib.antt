@@ -15,3 +15,4 @@ pub mod TurnLemmas
 pub mod WaitLemmas
 pub mod TakeLemmas
 pub mod ToldLemmas
+pub mod KeptEntryLemmas

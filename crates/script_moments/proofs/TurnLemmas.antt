@@ -170,7 +170,7 @@ watchers_step before since party listener handles asked turns w gets m steps pai
 
 -- ---- a question for an id
 
-abbrev id_call : Held → Running
+abbrev pub id_call : Held → Running
 id_call t = record { request = table (id t); so_far = []; passed = 0 }
 
 id_found : (s : boards.State) (party h : List ℕ) → call_reason s.standing party (call.Id h) (request_of s.standing s.published party (call.Id h)) ≡ None → (t : Held) × (request_of s.standing s.published party (call.Id h) ≡ Some (table (id t)))
@@ -180,13 +180,13 @@ id_found s party h ok = at (identified s.standing party h) ok
     at None k = absurd cc
     at (Some t) k = (t, refl)
 
-id_begun : (s : boards.State) (party h : List ℕ) → boards.IsRight s (board_line.Begin party (call.Id h)) answer.Begun → (t : Held) × ((boards.after s (board_line.Begin party (call.Id h)) answer.Begun).parties party ≡ running (id_call t))
+pub id_begun : (s : boards.State) (party h : List ℕ) → boards.IsRight s (board_line.Begin party (call.Id h)) answer.Begun → (t : Held) × ((boards.after s (board_line.Begin party (call.Id h)) answer.Begun).parties party ≡ running (id_call t))
 id_begun s party h ok =
     let why = accepted (reason_of s (board_line.Begin party (call.Id h))) answer.Begun refl ok.reason in
     let x = id_found s party h (free_none (s.parties party) _ why) in
     (x.0, party_here s.parties party (begun (request_of s.standing s.published party (call.Id h))) ∙ ap begun x.1)
 
-own_id : (m : Moment) (party h : List ℕ) → IsIdBegin party h m → IsRight m.met m.pair.0 m.pair.1 → IsOwn m (board_line.Begin party (call.Id h), answer.Begun)
+pub own_id : (m : Moment) (party h : List ℕ) → IsIdBegin party h m → IsRight m.met m.pair.0 m.pair.1 → IsOwn m (board_line.Begin party (call.Id h), answer.Begun)
 own_id m party h e ok = own_is m (board_line.Begin party (call.Id h), answer.Begun) e (begin_alone m.met party (call.Id h)) ok
 
 first_open : (party : List ℕ) (hs : List (List ℕ)) (asked : List AskedId) (m : Moment) → AreFirstIds party hs asked (Some m) → (h : List ℕ) × IsIdBegin party h m

@@ -153,7 +153,7 @@ run_link party f low n s t link r =
       slow = r.slow;
     }
 
-after_step_is : (s : State) (party : List ℕ) (r : Running) (a : Access) (told : Option Reply) → s.parties party ≡ running r → after s (board_line.Step party) (answer.Step a told) ≡ stepped s party r a told
+pub after_step_is : (s : State) (party : List ℕ) (r : Running) (a : Access) (told : Option Reply) → s.parties party ≡ running r → after s (board_line.Step party) (answer.Step a told) ≡ stepped s party r a told
 after_step_is s party r a told e = ap (λ (y : Party). after_step s party y a told) e
 
 is_true : (told : Option Reply) (b : Bool) → is_some told ≡ b → told ≡ None → b ≡ false

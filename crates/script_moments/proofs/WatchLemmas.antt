@@ -18,7 +18,7 @@ use Rattle.script_model.specs.LawsOfLines.{names}
 use Rattle.script_moments.specs.Moments.{Moment, moments, own}
 use Rattle.script_moments.specs.Gets.{Get, IsGet, IsPart, IsRound, Round, moments_of, moments_of_get, moments_of_open}
 use Rattle.script_moments.specs.Reports.{IsItem, entry_got, last_report, reports, reports_above, to_taken}
-use Rattle.script_moments.specs.Watchers.{AskedId, IsOpenTurn, IsTurn, OpenTurn, Turn, Watcher, calls, getting, gets_in_turn, gets_of, gets_of_handle, idle, moments_of_id, moments_of_open_turn, moments_of_turn, moments_of_wait, moments_of_watcher, turn_begun, turns_of, waiting}
+use Rattle.script_moments.specs.Watchers.{AskedId, IsOpenTurn, IsTurn, IsWaited, OpenTurn, Turn, Watcher, calls, getting, gets_in_turn, gets_of, gets_of_handle, idle, moments_of_id, moments_of_open_turn, moments_of_turn, moments_of_wait, moments_of_watcher, turn_begun, turns_of, waiting}
 use Rattle.script_moments.specs.LawsOfWatchers.{WatchersAreFresh, WatchersReportItems}
 use Rattle.script_moments.proofs.ReportLemmas.{gets_items, last_fresh}
 use Rattle.script_moments.proofs.SessionLemmas.{moments_append, own_append, state_append}
@@ -63,8 +63,10 @@ watcher_moments x =
 
 -- ---- the turns whose wait has ended
 
--- the gets of such a turn are the first of those that it calls for
+-- the wait of such a turn has ended, and its gets are the first of those that it calls for
 pub record HasPart (party : List ℕ) (hs : List (List ℕ)) (asked : List AskedId) (t : Turn) : Type 0 where
+  pub listener : List ℕ
+  pub wait : IsWaited party listener t.wait
   pub runs : Option (Moment × List Moment)
   pub part : IsPart party (calls hs asked t.wait.ids) t.gets runs
 
@@ -74,12 +76,12 @@ round_part party [] (x ∷ xs) k = absurd k
 round_part party (h ∷ hs) [] k = absurd k
 round_part party (h ∷ hs) (x ∷ xs) k = (k.0, round_part party hs xs k.1)
 
-ended_parts : (party listener : List ℕ) (hs : List (List ℕ)) (asked : List AskedId) (ts : List Turn) (o : OpenTurn) → AllByRecursion (IsTurn party listener hs asked) ts → IsOpenTurn party listener hs asked o → AllByRecursion (HasPart party hs asked) (ts ++ turn_begun o)
+pub ended_parts : (party listener : List ℕ) (hs : List (List ℕ)) (asked : List AskedId) (ts : List Turn) (o : OpenTurn) → AllByRecursion (IsTurn party listener hs asked) ts → IsOpenTurn party listener hs asked o → AllByRecursion (HasPart party hs asked) (ts ++ turn_begun o)
 ended_parts party listener hs asked [] idle k r = tt
 ended_parts party listener hs asked [] (waiting m ms) k r = tt
-ended_parts party listener hs asked [] (getting w gets p) k r = (record { runs = p; part = r.1 }, tt)
+ended_parts party listener hs asked [] (getting w gets p) k r = (record { listener = listener; wait = r.0; runs = p; part = r.1 }, tt)
 ended_parts party listener hs asked (t ∷ ts) o k r =
-    (record { runs = None; part = round_part party (calls hs asked t.wait.ids) t.gets k.0.gets }, ended_parts party listener hs asked ts o k.1 r)
+    (record { listener = listener; wait = k.0.wait; runs = None; part = round_part party (calls hs asked t.wait.ids) t.gets k.0.gets }, ended_parts party listener hs asked ts o k.1 r)
 
 pub turn_at : (P : Turn → Type 0) (earlier later : List Turn) (t : Turn) → AllByRecursion P (earlier ++ t ∷ later) → P t
 turn_at P [] later t h = h.0
@@ -180,7 +182,7 @@ fresh before since party listener hs x w earlier later t c behind k b i n id g w
 
 -- ---- what is reported
 
-all_reports : (P : Get → Type 0) (top : ℕ) (xs : List Get) → AllByRecursion P xs → AllByRecursion P (reports_above top xs)
+pub all_reports : (P : Get → Type 0) (top : ℕ) (xs : List Get) → AllByRecursion P xs → AllByRecursion P (reports_above top xs)
 all_reports P top [] h = tt
 all_reports P top (x ∷ xs) h = at (nat_lt top x.generation) (all_reports P top xs h.1) (all_reports P x.generation xs h.1)
   where
@@ -188,12 +190,12 @@ all_reports P top (x ∷ xs) h = at (nat_lt top x.generation) (all_reports P top
     at true k l = (h.0, l)
     at false k l = k
 
-all_append : (P : Get → Type 0) (xs ys : List Get) → AllByRecursion P xs → AllByRecursion P ys → AllByRecursion P (xs ++ ys)
+pub all_append : (P : Get → Type 0) (xs ys : List Get) → AllByRecursion P xs → AllByRecursion P ys → AllByRecursion P (xs ++ ys)
 all_append P [] ys h k = k
 all_append P (x ∷ xs) ys h k = (h.0, all_append P xs ys h.1 k)
 
 module _ (P : Get → Type 0) (party handle : List ℕ) where
-  one_get : (b : Bool) (h : List ℕ) (x : Get) (rest : List Get) → (b ≡ true → h ≡ handle) → IsGet party h x → (IsGet party handle x → P x) → AllByRecursion P rest → AllByRecursion P (if b then x ∷ rest else rest)
+  pub one_get : (b : Bool) (h : List ℕ) (x : Get) (rest : List Get) → (b ≡ true → h ≡ handle) → IsGet party h x → (IsGet party handle x → P x) → AllByRecursion P rest → AllByRecursion P (if b then x ∷ rest else rest)
   one_get true h x rest e k f r = (f (subst (λ (n : List ℕ). IsGet party n x) (e refl) k), r)
   one_get false h x rest e k f r = r
 

@@ -5,10 +5,10 @@ use Rattle.script_model.specs.ScriptSession.{Session}
 use Rattle.script_model.specs.LawsOfComposition.{TakesId, state_met}
 use Rattle.script_model.specs.LawsOfLines.{names}
 use Rattle.script_moments.specs.Moments.{Moment, moments, own}
-use Rattle.script_moments.specs.Gets.{Get, IsGet, Round}
+use Rattle.script_moments.specs.Gets.{Get, IsGet, Round, named_entry}
 use Rattle.script_moments.specs.Reports.{IsAnsweredTake, IsItem, IsOfEntry, Take, entry_got, last_report, to_taken}
 use Rattle.script_moments.specs.LawsOfReports.{Rise}
-use Rattle.script_moments.specs.Watchers.{IsWatcher, Turn, Watcher, moments_of_id, moments_of_turn, moments_of_wait, reports_of, turns_of}
+use Rattle.script_moments.specs.Watchers.{IsWatcher, Turn, Watcher, gets_of, moments_of_id, moments_of_turn, moments_of_wait, reports_of, turns_of}
 
 -- the generations that a watcher reports for a handle rise
 abbrev pub WatchersReportsRise : Type 0
@@ -19,6 +19,12 @@ abbrev pub WatchersReportItems : Type 0
 WatchersReportItems =
     (before since : Session) (party listener : List ℕ) (handles : List (List ℕ)) (x : Watcher) → IsWatcher before since party listener handles x
     → (handle : List ℕ) → AllByRecursion (λ (r : Get). IsItem (state_met (before ++ since)) (entry_got party handle r) r) (reports_of handle handles x)
+
+-- each get of a watcher is of the entry that its handle named when the watcher began
+abbrev pub WatchersKeepEntries : Type 0
+WatchersKeepEntries =
+    (before since : Session) (party listener : List ℕ) (handles : List (List ℕ)) (x : Watcher) → IsWatcher before since party listener handles x
+    → (handle : List ℕ) → AllByRecursion (λ (r : Get). entry_got party handle r ≡ named_entry (state_met before) party handle) (gets_of handle handles x)
 
 -- ---- what a taken id calls for
 

@@ -1,6 +1,6 @@
 //! Laws of watchers. Each function's contract is a theorem over the definitions alone.
 ghost use Rattle.script_moments.specs.LawsOfReports.{GetsAfterTakesAreFresh, GetsAreItems, LastReportsAreFresh, LastReportsAreHighest, ReportsRise};
-ghost use Rattle.script_moments.specs.LawsOfWatchers.{TakenIdsAreTold, WatchersAreFresh, WatchersReportItems, WatchersReportsRise};
+ghost use Rattle.script_moments.specs.LawsOfWatchers.{TakenIdsAreTold, WatchersAreFresh, WatchersKeepEntries, WatchersReportItems, WatchersReportsRise};
 ghost use Rattle.script_moments.specs.WatcherLines.{WatchersGoOn, WatchersOpen};
 
 /// The generations that are reported of gets rise.
@@ -36,6 +36,11 @@ pub fn watchers_reports_rise()
 /// Each report of a watcher is an item of its entry's list, at its generation.
 pub fn watchers_report_items()
     ensures { WatchersReportItems }
+{}
+
+/// Each get of a watcher is of the entry that its handle named when the watcher began, so a handle's gets are of one entry.
+pub fn watchers_keep_entries()
+    ensures { WatchersKeepEntries }
 {}
 
 /// An id that a watcher's wait took is told to it, so the handles of that id are called for.

@@ -12,20 +12,21 @@ use Rattle.script_model.specs.ScriptAnswers.{ScriptAnswer}
 use Rattle.script_model.specs.ScriptSession.{IsLawful, IsRight, Session}
 use Rattle.script_model.specs.LawsOfComposition.{Pair, state_met}
 use Rattle.script_model.specs.LawsOfLines.{names}
-use Rattle.script_moments.specs.Gets.{Get}
+use Rattle.script_moments.specs.Gets.{Get, NamedEntry, named_entry}
 use Rattle.script_moments.specs.LawsOfReports as laws
 use Rattle.script_moments.specs.Reports.{IsItem, entry_got, last_report}
-use Rattle.script_moments.specs.Watchers.{AskedId, IsWatcher, OpenTurn, getting, idle, reports_of, waiting}
+use Rattle.script_moments.specs.Watchers.{AskedId, IsWatcher, OpenTurn, getting, gets_of, idle, reports_of, waiting}
 use Rattle.script_moments.proofs.ReportLemmas.{watchers_rise}
-use Rattle.script_moments.proofs.WatchLemmas.{fresh, report_items}
+use Rattle.script_moments.proofs.KeptEntryLemmas.{entries_kept}
+use Rattle.script_moments.proofs.WatchLemmas.{all_reports, fresh, report_items}
 use Rattle.script_exchanges.specs.declared.line.DriveLine.{DriveLine}
 use Rattle.script_exchanges.specs.declared.line.DriveLine.TheVariants.{Script, Start, Turn}
-use Rattle.script_exchanges.specs.DrivenParties.{abandoned_by, held_back, is_refused, kept_with, party_text}
+use Rattle.script_exchanges.specs.DrivenParties.{Got, abandoned_by, held_back, is_refused, kept_with, party_text}
 use Rattle.script_exchanges.specs.Exchanges.{Exchanges, Told, fed_by, fed_session, given, said}
 use Rattle.script_snapshots.specs.SnapshotExchanges.{let_go}
 use Rattle.script_snapshots.proofs.FedLemmas.{fed_lawful, same_bytes}
-use Rattle.script_watches.specs.Watchings.{Outcome, Watching, ended, goes_on, line_at, new_watching, next_line, reports, taken}
-use Rattle.script_watches.specs.LawsOfWatches.{FedSessionsAreLawful, ReportedGenerationsRise, ReportsAreFresh, ReportsAreItems, Rise, WatchedPartiesHaveWatchers, got_of}
+use Rattle.script_watches.specs.Watchings.{Outcome, Watching, ended, goes_on, last_generation, line_at, new_watching, next_line, reports, reports_through, taken}
+use Rattle.script_watches.specs.LawsOfWatches.{FedSessionsAreLawful, LastReportsAreHighest, ReportedGenerationsRise, ReportsAreFresh, ReportsAreItems, Rise, WatchedPartiesHaveWatchers, got_of}
 use Rattle.script_watches.specs.WatchExchanges.{AreToldIds, IsExchange, IsOpened, IsTurnedDown, Leads, OfScript, OfStart, OfTurn, Watchings, fed_with, id_line, if_watched, kept_of, no_watchings, pairs_of_id, pairs_of_ids, said_of}
 use Rattle.script_watches.proofs.OpeningLemmas.{ids_count, ids_lawful, opened_sound}
 use Rattle.script_watches.proofs.ReportedLemmas.{highest_is}
@@ -247,12 +248,32 @@ rise_so top (x ∷ xs) h = (h.0, rise_so x.generation xs h.1)
 pub rise_law : ReportedGenerationsRise
 rise_law xs s k party x e handle = subst (Rise 0) (sym ((sound_now xs s k party x e).told handle)) (rise_so 0 (reports_of handle x.handles x.watcher) (watchers_rise handle x.handles x.watcher))
 
+none_above : (top : ℕ) (gs : List Got) → Rise top gs → (top ≤ last_generation top gs) × AllByRecursion (λ (r : Got). r.generation ≤ last_generation top gs) gs
+none_above top [] h = (omega arith, tt)
+none_above top (x ∷ xs) h =
+    let k = none_above x.generation xs h.1 in
+    (omega (arith, h.0, k.0), (k.0, k.1))
+
+pub highest_law : LastReportsAreHighest
+highest_law xs s k party x e handle = (none_above 0 (reports_through handle x.reported) (rise_law xs s k party x e handle)).1
+
+all_with : {X : Type 0} (P Q R : X → Type 0) → ((x : X) → P x → Q x → R x) → (xs : List X) → AllByRecursion P xs → AllByRecursion Q xs → AllByRecursion R xs
+all_with P Q R f [] h k = tt
+all_with P Q R f (x ∷ xs) h k = (f x h.0 k.0, all_with P Q R f xs h.1 k.1)
+
 pub items_law : ReportsAreItems
 items_law xs s k party x e handle =
     let h = sound_now xs s k party x e in
+    let told : List Get = reports_of handle x.handles x.watcher in
+    let named : NamedEntry = named_entry (state_met x.before) party handle in
+    let is_kept : Get → Type 0 = λ r. entry_got party handle r ≡ named in
+    let is_item : Session → NamedEntry → Get → Type 0 = λ f n r. IsItem (state_met f) n r in
+    let items = report_items x.before h.since party x.listener x.handles x.watcher h.watcher handle in
+    let kept = all_reports is_kept 0 (gets_of handle x.handles x.watcher) (entries_kept x.before h.since party x.listener x.handles x.watcher h.watcher handle) in
+    let both = all_with (λ (r : Get). is_item (x.before ++ h.since) (entry_got party handle r) r) is_kept (is_item (x.before ++ h.since) named) (λ r i q. subst (λ (n : NamedEntry). is_item (x.before ++ h.since) n r) q i) told items kept in
     record {
       gets = h.told handle;
-      items = subst (λ (f : Session). AllByRecursion (λ (r : Get). IsItem (state_met f) (entry_got party handle r) r) (reports_of handle x.handles x.watcher)) (sym h.fed_is) (report_items x.before h.since party x.listener x.handles x.watcher h.watcher handle);
+      items = subst (λ (f : Session). AllByRecursion (is_item f named) told) (sym h.fed_is) both;
     }
 
 -- the rest of a list behind a front is the same

@@ -5,9 +5,9 @@ use Rattle.script_model.specs.ScriptSession as script
 use Rattle.script_model.specs.ScriptSession.{Session}
 use Rattle.script_model.specs.LawsOfComposition.{state_met}
 use Rattle.script_model.specs.ScriptTurns.{ScriptState}
-use Rattle.script_moments.specs.Gets.{Get}
+use Rattle.script_moments.specs.Gets.{Get, named_entry}
 use Rattle.script_moments.specs.LawsOfWatchers.{IsGetOf, IsTakenIn}
-use Rattle.script_moments.specs.Reports.{IsAnsweredTake, IsItem, IsOfEntry, Take, entry_got}
+use Rattle.script_moments.specs.Reports.{IsAnsweredTake, IsItem, IsOfEntry, Take}
 use Rattle.script_moments.specs.Watchers.{IsWatcher, Turn, reports_of}
 use Rattle.script_exchanges.specs.DrivenParties.{Got}
 use Rattle.script_exchanges.specs.Exchanges.{Exchanges, fed_session}
@@ -42,14 +42,20 @@ Rise top (x ∷ xs) = (top < x.generation) × Rise x.generation xs
 abbrev pub ReportedGenerationsRise : Type 0
 ReportedGenerationsRise = (xs : Exchanges) (s : Watchings) → Leads no_watchings xs s → (party : List ℕ) (x : Watching) → s.of party ≡ Some x → (handle : List ℕ) → Rise 0 (reports_through handle x.reported)
 
+-- the last of them is the highest
+abbrev pub LastReportsAreHighest : Type 0
+LastReportsAreHighest =
+    (xs : Exchanges) (s : Watchings) → Leads no_watchings xs s → (party : List ℕ) (x : Watching) → s.of party ≡ Some x
+    → (handle : List ℕ) → AllByRecursion (λ (r : Got). r.generation ≤ highest_of x handle) (reports_through handle x.reported)
+
 -- what a get was told
 abbrev pub got_of : Get → Got
 got_of x = record { type = x.type; words = x.words; generation = x.generation }
 
--- the reports of the handle are those of its gets whose generations are above all before, and each of these is an item of its entry's list, at its generation
+-- the reports of the handle are those of its gets whose generations are above all before; and each is an item, at its generation, of the list of the one entry that the handle named when the watcher began
 pub record AreItems (s : ScriptState) (party handle : List ℕ) (x : Watching) : Type 0 where
   pub gets : reports_through handle x.reported ≡ map got_of (reports_of handle x.handles x.watcher)
-  pub items : AllByRecursion (λ (r : Get). IsItem s (entry_got party handle r) r) (reports_of handle x.handles x.watcher)
+  pub items : AllByRecursion (λ (r : Get). IsItem s (named_entry (state_met x.before) party handle) r) (reports_of handle x.handles x.watcher)
 
 abbrev pub ReportsAreItems : Type 0
 ReportsAreItems = (xs : Exchanges) (s : Watchings) → Leads no_watchings xs s → (party : List ℕ) (x : Watching) → s.of party ≡ Some x → (handle : List ℕ) → AreItems (state_met s.fed) party handle x

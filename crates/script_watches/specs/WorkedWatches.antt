@@ -1,4 +1,4 @@
--- A script with a watcher that was worked out by hand: b is watched, a updates an entry and notifies b of its id, and six turns later the new value is reported.
+-- A script with a watcher that was worked out by hand: b is watched, a updates an entry and notifies b of its id, and with b's seventh turn the new value is reported.
 use Rattle.std.specs.Prelude.{◌≡◌, [], ◌∷◌, ◌++◌, codes, map, Some}
 use Rattle.board_model.specs.declared.value.ValueType.TheVariants as type
 use Rattle.script_model.specs.LawsOfComposition.{Pair}

@@ -1,12 +1,12 @@
 //! Laws of scripts whose parties can be watchers. Each function's contract is a theorem over the definitions alone.
-ghost use Rattle.script_watches.specs.LawsOfWatches.{FedSessionsAreLawful, ReportedGenerationsRise, ReportsAreFresh, ReportsAreItems, WatchedPartiesHaveWatchers};
+ghost use Rattle.script_watches.specs.LawsOfWatches.{FedSessionsAreLawful, LastReportsAreHighest, ReportedGenerationsRise, ReportsAreFresh, ReportsAreItems, WatchedPartiesHaveWatchers};
 
 /// The lines that were given have the answers of a lawful session.
 pub fn fed_sessions_are_lawful()
     ensures { FedSessionsAreLawful }
 {}
 
-/// The own lines of a watched party ask for its ids, wait, and get what the ids call for.
+/// Since its `watch` the own lines of a watched party ask for its ids, wait, and get what the ids call for.
 pub fn watched_parties_have_watchers()
     ensures { WatchedPartiesHaveWatchers }
 {}
@@ -16,7 +16,12 @@ pub fn reported_generations_rise()
     ensures { ReportedGenerationsRise }
 {}
 
-/// Each report is an item of its entry's list, at its generation.
+/// No report of a handle has a generation above its last one's.
+pub fn last_reports_are_highest()
+    ensures { LastReportsAreHighest }
+{}
+
+/// Each report of a handle is an item, at its generation, of the list of the one entry that the handle named when its party began to be watched.
 pub fn reports_are_items()
     ensures { ReportsAreItems }
 {}

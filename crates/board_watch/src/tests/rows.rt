@@ -151,6 +151,35 @@ const REPORTED: Part = &[
     ("turn b", &["> step b", "read 1:0 2 = u64:9 gen 2"]),
 ];
 
+/// The same value published anew has a generation of its own, and is reported again.
+const SAME_VALUE: Part = &[
+    (
+        "begin a update m u64:9",
+        &["> begin a update m u64:9", "ok"],
+    ),
+    ("step a", &["> step a", "write 1:2 9"]),
+    ("step a", &["> step a", "write 1:0 3 = ok"]),
+    ("begin a notify n 0", &["> begin a notify n 0", "ok"]),
+    ("step a", &["> step a", "listener bits:ev yes"]),
+    ("step a", &["> step a", "set bits:ev 0"]),
+    ("step a", &["> step a", "post bits:ev = ok"]),
+    ("turn b", &["> begin b wait e all try", "ok"]),
+    ("turn b", &["> step b", "signal bits:ev yes"]),
+    ("turn b", &["> step b", "signal bits:ev no"]),
+    ("turn b", &["> step b", "swap bits:ev 0 1 = ids 0"]),
+    ("turn b", &["> begin b get h", "ok"]),
+    ("turn b", &["> step b", "read 1:0 3"]),
+    ("turn b", &["> step b", "read 1:2 9"]),
+    (
+        "turn b",
+        &[
+            "> step b",
+            "read 1:0 3 = u64:9 gen 3",
+            "report b h u64:9 gen 3",
+        ],
+    ),
+];
+
 /// Lines of a watched party are held back; its abandonment ends its watcher.
 const HELD_BACK: Part = &[
     (
@@ -225,6 +254,15 @@ const TURNED_DOWN: Part = &[
     ),
     ("step b", &["> step b", "refused idle"]),
     ("turn b", &["unwatched b"]),
+    (
+        "begin a update m u64:9",
+        &["> begin a update m u64:9", "ok"],
+    ),
+    (
+        "watch a e m",
+        &["> begin a id m", "refused busy", "unwatched a"],
+    ),
+    ("step a", &["> step a", "write 1:3 9"]),
 ];
 
 /// A watcher is abandoned in the midst of a get.
@@ -395,6 +433,7 @@ const A_READER: Part = &[
 fn what_was_notified_is_reported(rt: HostRuntime) -> Result<(), Fail> {
     let alloc = rt.alloc();
     tells(&rt, alloc, "reported", &[BOARD, BITS, REPORTED])?;
+    tells(&rt, alloc, "anew", &[BOARD, BITS, REPORTED, SAME_VALUE])?;
     tells(&rt, alloc, "nothing", &[BOARD, BITS, NOTHING])?;
     tells(&rt, alloc, "two handles", &[BOARD, QUEUE, TWO_HANDLES])
 }

@@ -1,3 +1,4 @@
+//! Lines as a reader gives them out of a source.
 use crate::{Failed, Fetched, LineReader, MemorySink, MemorySource, write_whole};
 use std::alloc::{AllocError, Global};
 use std::test::Fail;

@@ -1,3 +1,4 @@
+//! Scripts run over streams in memory: what is answered and written.
 use super::idle::Idle;
 use crate::{MemorySink, MemorySource, ScriptError, run_lines};
 use std::alloc::Global;

@@ -11,3 +11,6 @@ returns-clause-ended g c = rw c.from.ensures (record {
   usage = λ some. c.watch_words.ensures.usage (some_words string_bytes c.args.words.now.items some);
   usage_note = λ some. c.watch_words.ensures.usage_note (some_words string_bytes c.args.words.now.items some);
 })
+
+pub returns-clause-complete : goal.returns-clause-complete
+returns-clause-complete g c = rw c.from.ensures (λ none sure room takes fits. c.watch_words.ensures.complete none sure room takes fits)
