@@ -1,13 +1,17 @@
 -- Why a line is refused of which only so much is known as a refusal depends on.
 use Rattle.std.proofs.Common.{◌≡◌, ℕ, Bool, true, false, List, refl, sym, ap, subst, ◌∙◌, Option, Some, None}
-use Rattle.std.specs.Prelude.{◌||◌, if◌then◌else◌, not, Result, Ok, Err, OnErr, OnOk}
+use Rattle.std.specs.Prelude.{◌||◌, if◌then◌else◌, not, Result, Ok, Err, OnErr}
+use Rattle.std.specs.Global.{Vec}
 use Rattle.std.specs.List.{list_all}
+use Rattle.board_event_model.specs.declared.kind.EventKind.TheVariants as kind
+use Rattle.board_model.specs.declared.answer.Answer.TheVariants as answer
 use Rattle.board_model.specs.declared.answer.Reason.{Reason}
 use Rattle.board_model.specs.declared.answer.Reason.TheVariants as reason
 use Rattle.board_model.specs.declared.line.Call.{Call}
 use Rattle.board_model.specs.declared.line.Call.TheVariants as call
 use Rattle.board_model.specs.declared.line.Line.{Line}
 use Rattle.board_model.specs.declared.line.Line.TheVariants as board_line
+use Rattle.board_model.specs.AnswerGrammar.{answer_line}
 use Rattle.board_model.specs.LawfulSession.{free_reason, has_key_type, reason_of}
 use Rattle.board_model.specs.Parties.{Party, free, gone, running}
 use Rattle.board_model.specs.Things.{is_held}
@@ -16,12 +20,19 @@ use Rattle.script_model.specs.declared.line.EventRequest.{EventRequest}
 use Rattle.script_model.specs.declared.line.EventRequest.TheVariants as request
 use Rattle.script_model.specs.declared.line.ScriptLine.{ScriptLine}
 use Rattle.script_model.specs.declared.line.ScriptLine.TheVariants as line
-use Rattle.script_model.specs.ScriptEvents.{EventTask, holds_event, runs_on_events}
+use Rattle.script_model.specs.ScriptAnswers.{of_boards}
+use Rattle.script_model.specs.ScriptSession.{IsRight}
+use Rattle.script_model.specs.ScriptEvents.{EventTask, ask, holds_event, runs_on_events, to_listen, to_notify}
 use Rattle.script_model.specs.ScriptTurns.{EventTurn, ScriptState, begin_turn, begins, free_turn, is_name_taken, refused}
 use Rattle.script_parse.specs.declared.unkept.Made.{Made}
 use Rattle.script_parse.specs.declared.unkept.Unkept.{Unkept}
-use Rattle.script_parse.specs.Kept.{board_made, event_made, unkept, unkept_of}
-use Rattle.script_machine.specs.Wants.{LineTakes, refusal, refusal_at}
+use Rattle.script_parse.specs.Kept.{board_made, event_made, made_as, unkept, unkept_of}
+use Rattle.script_print.specs.Room.{LacksRoomFor}
+use Rattle.script_machine.specs.declared.machine.Machine.{Machine}
+use Rattle.script_machine.specs.ScriptMachine.{OfEachState}
+use Rattle.script_machine.specs.Unkept.{OfEachLine}
+use Rattle.script_machine.specs.Wants.{LineTakes, MayWant, refusal, refusal_at}
+use Rattle.script_machine.proofs.Wants.{refused_wants}
 
 -- the reasons in their order, by what is looked at for each
 abbrev refusal_by : (runs : Bool) → Option Reason → (held typed : Bool) → Option Reason
@@ -66,17 +77,24 @@ module _ (s : ScriptState) where
 
   on_board_call : (party : List ℕ) (c : Call) (u : Unkept) → unkept party (board_made c) ≡ Some u → refusal s (line.Board (board_line.Begin party c)) ≡ looked_at u
   on_board_call party (call.Create f n k limits attributes entries) u e =
-      known _ party _ u e
-      (on_boards s (board_line.Begin party (call.Create f n k limits attributes entries)) (runs_on_events s.events party) (holds_event s.events party f) (is_held s.boards.standing party f) (list_all (has_key_type k) entries) (s.boards.parties party) refl)
+      let l : Line = board_line.Begin party (call.Create f n k limits attributes entries) in
+      known (line.Board l) party (record { name = f; is_typed = list_all (has_key_type k) entries }) u e
+      (on_boards s l (runs_on_events s.events party) (holds_event s.events party f) (is_held s.boards.standing party f) (list_all (has_key_type k) entries) (s.boards.parties party) refl)
   on_board_call party (call.Open f n k limits needs) u e =
-      known _ party _ u e
-      (on_boards s (board_line.Begin party (call.Open f n k limits needs)) (runs_on_events s.events party) (holds_event s.events party f) (is_held s.boards.standing party f) true (s.boards.parties party) refl)
+      let l : Line = board_line.Begin party (call.Open f n k limits needs) in
+      known (line.Board l) party (made_as f) u e (on_boards s l (runs_on_events s.events party) (holds_event s.events party f) (is_held s.boards.standing party f) true (s.boards.parties party) refl)
   on_board_call party c u e = absurd cc
 
   on_event_call : (party : List ℕ) (q : EventRequest) (u : Unkept) → unkept party (event_made q) ≡ Some u → refusal s (line.Event party q) ≡ looked_at u
-  on_event_call party (request.ListenBits name event max) u e = known _ party _ u e (on_events (runs_on_events s.events party) (is_name_taken s party (Some name)) (s.boards.parties party) party _)
-  on_event_call party (request.ListenQueue name event) u e = known _ party _ u e (on_events (runs_on_events s.events party) (is_name_taken s party (Some name)) (s.boards.parties party) party _)
-  on_event_call party (request.Notifier name k event) u e = known _ party _ u e (on_events (runs_on_events s.events party) (is_name_taken s party (Some name)) (s.boards.parties party) party _)
+  on_event_call party (request.ListenBits name event max) u e =
+      known (line.Event party (request.ListenBits name event max)) party (made_as name) u e
+      (on_events (runs_on_events s.events party) (is_name_taken s party (Some name)) (s.boards.parties party) party (ask (to_listen name kind.Bits event max)))
+  on_event_call party (request.ListenQueue name event) u e =
+      known (line.Event party (request.ListenQueue name event)) party (made_as name) u e
+      (on_events (runs_on_events s.events party) (is_name_taken s party (Some name)) (s.boards.parties party) party (ask (to_listen name kind.Queue event 0)))
+  on_event_call party (request.Notifier name k event) u e =
+      known (line.Event party (request.Notifier name k event)) party (made_as name) u e
+      (on_events (runs_on_events s.events party) (is_name_taken s party (Some name)) (s.boards.parties party) party (ask (to_notify name k event)))
   on_event_call party (request.Notify name id) u e = absurd cc
   on_event_call party (request.Wait name many mode) u e = absurd cc
 
@@ -116,3 +134,9 @@ module _ (s : ScriptState) where
   takes_unrefused (line.Board (board_line.Words n)) u e none = absurd cc
   takes_unrefused (line.Event party q) u e none = none
   takes_unrefused (line.Expire party) u e none = absurd cc
+
+-- a refusal that was told of such a line
+pub each_refused_wants : {C T E : Type 0} (r : Result T E) (m : Machine C) (u : Unkept) (out : Vec ℕ) (why : Reason) → OnErr r (LacksRoomFor out (answer_line (answer.Refused why))) → OfEachLine u (λ l. OfEachState m (λ s. IsRight s l (of_boards (answer.Refused why))))
+    → OnErr r (OfEachLine u (λ l. MayWant m l out))
+each_refused_wants (Ok x) m u out why lacks right = tt
+each_refused_wants {T = T} (Err e) m u out why lacks right = λ l formed known. refused_wants {T = T} (Err e) m l out why lacks (right l formed known)
