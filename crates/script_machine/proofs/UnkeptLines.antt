@@ -1,5 +1,5 @@
 -- Why a line is refused of which only so much is known as a refusal depends on.
-use Rattle.std.proofs.Common.{◌≡◌, ℕ, Bool, true, false, List, refl, sym, ap, subst, ◌∙◌, Option, Some, None}
+use Rattle.std.proofs.Common.{◌≡◌, ℕ, Bool, true, false, List, refl, sym, subst, ◌∙◌, Option, Some, None}
 use Rattle.std.specs.Prelude.{◌||◌, if◌then◌else◌, not, Result, Ok, Err, OnErr}
 use Rattle.std.specs.Global.{Vec}
 use Rattle.std.specs.List.{list_all}
@@ -23,7 +23,7 @@ use Rattle.script_model.specs.declared.line.ScriptLine.TheVariants as line
 use Rattle.script_model.specs.ScriptAnswers.{of_boards}
 use Rattle.script_model.specs.ScriptSession.{IsRight}
 use Rattle.script_model.specs.ScriptEvents.{EventTask, ask, holds_event, runs_on_events, to_listen, to_notify}
-use Rattle.script_model.specs.ScriptTurns.{EventTurn, ScriptState, begin_turn, begins, free_turn, is_name_taken, refused}
+use Rattle.script_model.specs.ScriptTurns.{ScriptState, begin_turn, begins, free_turn, is_name_taken, refused}
 use Rattle.script_parse.specs.declared.unkept.Made.{Made}
 use Rattle.script_parse.specs.declared.unkept.Unkept.{Unkept}
 use Rattle.script_parse.specs.Kept.{board_made, event_made, made_as, unkept, unkept_of}

@@ -28,7 +28,7 @@ use Rattle.script_model.specs.ScriptEvents.{EventAsk, runs_on_events}
 use Rattle.script_print.specs.Room.{LacksRoomFor}
 use Rattle.script_machine.specs.declared.machine.Machine.{Machine}
 use Rattle.script_machine.specs.ScriptMachine.{OfEachState}
-use Rattle.script_machine.specs.Wants.{BoardMayWant, IsCramped, LineTakes, MayWant, SpellsTaking, SpellsWanting, StepTakesAt, TakesMemory, TakesOrIsCramped, refusal, refusal_at}
+use Rattle.script_machine.specs.Wants.{BoardMayWant, IsCramped, LineTakes, MayWant, SpellsTaking, SpellsWanting, StepTakesAt, TakesMemory, refusal, refusal_at}
 
 -- a line whose right answer has no room takes memory, or the answer is short
 cramped : (s : ScriptState) (l : ScriptLine) (room : ℕ) (a : ScriptAnswer) → IsRight s l a → room < length (script_answer_line a) → ((IsShortScriptAnswer a → ⊥) → LineTakes s l) → LineTakes s l ⊎ IsCramped s l room
