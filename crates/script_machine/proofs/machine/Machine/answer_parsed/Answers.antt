@@ -13,7 +13,7 @@ returns-in_err-answer-in-Ok-Some-clause-memory g c =
 
 pub returns-in_err-answer_unkept-in-Err-clause-memory : goal.returns-in_err-answer_unkept-in-Err-clause-memory
 returns-in_err-answer_unkept-in-Err-clause-memory g c =
-    anyway c.from_residual-in-Err.result _ (unkept_want c.args.self.now c.args.bytes.now c.args.out.now c.in-Err.line c.in-Err.ensures.memory c.in_err-answer_unkept-in-Err.ensures.memory)
+    anyway c.from_residual-in_err-answer_unkept-in-Err.result _ (unkept_want c.args.self.now c.args.bytes.now c.args.out.now c.in-Err.line c.in-Err.ensures.memory c.in_err-answer_unkept-in-Err.ensures.memory)
 
 pub returns-in_ok-answer_unkept-in-Err-clause-tells : goal.returns-in_ok-answer_unkept-in-Err-clause-tells
 returns-in_ok-answer_unkept-in-Err-clause-tells g c =
