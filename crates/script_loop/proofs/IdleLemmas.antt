@@ -1,5 +1,5 @@
 -- What the machine of the tests answers is right.
-use Rattle.std.proofs.Common.{◌≡◌, ℕ, List, refl, sym, subst, Option, Some}
+use Rattle.std.proofs.Common.{◌≡◌, ℕ, true, List, refl, sym, subst, Option, Some, None}
 use Rattle.board_model.specs.declared.line.Line.{Line}
 use Rattle.board_model.specs.declared.line.Line.TheVariants as board_line
 use Rattle.board_model.specs.declared.answer.Reason.{Reason}
@@ -14,8 +14,26 @@ use Rattle.script_model.specs.ScriptGrammar.{IsScriptLine, SpellsLine}
 use Rattle.script_model.specs.ScriptSession.{Session, start, after, IsRight}
 use Rattle.script_model.specs.ScriptTurns.{ScriptState}
 use Rattle.script_model.proofs.RuleLemmas.{right_by}
+use Rattle.script_parse.specs.Kept.{SpellsKept, is_kept_line}
 use Rattle.script_loop.specs.Machines.{HasAnswered, StandsFor}
-use Rattle.script_loop.specs.IdleMachine.{idle_reason}
+use Rattle.script_loop.specs.IdleMachine.{IdleWants, idle_reason}
+
+-- a line that is kept is none that it refuses
+kept_unrefused : (l : ScriptLine) → is_kept_line l ≡ true → idle_reason l ≡ None
+kept_unrefused (line.Board (board_line.Begin p c)) e = refl
+kept_unrefused (line.Board (board_line.Step p)) e = absurd cc
+kept_unrefused (line.Board (board_line.Release p t)) e = refl
+kept_unrefused (line.Board (board_line.Abandon p)) e = refl
+kept_unrefused (line.Board (board_line.Words n)) e = absurd cc
+kept_unrefused (line.Event p (request.ListenBits n event max)) e = refl
+kept_unrefused (line.Event p (request.ListenQueue n event)) e = refl
+kept_unrefused (line.Event p (request.Notifier n k event)) e = refl
+kept_unrefused (line.Event p (request.Notify n id)) e = absurd cc
+kept_unrefused (line.Event p (request.Wait n many m)) e = absurd cc
+kept_unrefused (line.Expire p) e = absurd cc
+
+pub kept_wants : (bytes : List ℕ) → SpellsKept bytes → IdleWants bytes
+kept_wants bytes s = (s.0, s.1, kept_unrefused s.0 s.2)
 
 abbrev refused : Reason → ScriptAnswer
 refused why = of_boards (answer.Refused why)

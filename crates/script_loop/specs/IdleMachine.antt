@@ -1,5 +1,5 @@
 -- The machine of the tests, on which no call was begun and nothing is held.
-use Rattle.std.specs.Prelude.{◌≡◌, ◌⊎◌, ℕ, true, List, Option, Some, None}
+use Rattle.std.specs.Prelude.{◌≡◌, ℕ, List, Option, Some, None}
 use Rattle.board_model.specs.declared.answer.Reason.{Reason}
 use Rattle.board_model.specs.declared.answer.Reason.TheVariants as reason
 use Rattle.board_model.specs.declared.line.Line.TheVariants as board_line
@@ -7,7 +7,6 @@ use Rattle.script_model.specs.declared.line.EventRequest.TheVariants as request
 use Rattle.script_model.specs.declared.line.ScriptLine.{ScriptLine}
 use Rattle.script_model.specs.declared.line.ScriptLine.TheVariants as line
 use Rattle.script_model.specs.ScriptGrammar.{SpellsLine}
-use Rattle.script_parse.specs.Kept.{is_kept_line}
 
 -- why it refuses a line
 abbrev pub idle_reason : ScriptLine → Option Reason
@@ -18,6 +17,6 @@ idle_reason (line.Event party (request.Wait listener many mode)) = Some reason.U
 idle_reason (line.Expire party) = Some reason.Idle
 idle_reason l = None
 
--- the bytes spell a line that is kept in memory while it is run, or one for which it has none
+-- the bytes spell a line for which it has no memory: it refuses none for another reason
 abbrev pub IdleWants : List ℕ → Type 0
-IdleWants bytes = (l : ScriptLine) × SpellsLine bytes l × ((is_kept_line l ≡ true) ⊎ (idle_reason l ≡ None))
+IdleWants bytes = (l : ScriptLine) × SpellsLine bytes l × (idle_reason l ≡ None)

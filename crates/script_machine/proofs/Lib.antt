@@ -5,3 +5,5 @@ pub mod Wants
 mod Reports
 pub mod ShortSteps
 pub mod BytesWant
+mod Refusals
+mod UnkeptLines

@@ -1,5 +1,5 @@
 -- A machine that stands for a lawful session, and one line more.
-use Rattle.std.proofs.Common.{ℕ, ◌+◌, ◌<◌, ◌≤◌, ◌^◌, List, length, arith, subst, inl, inr}
+use Rattle.std.proofs.Common.{ℕ, ◌+◌, ◌<◌, ◌≤◌, ◌^◌, List, length, arith, subst}
 use Rattle.script_boards.specs.Machine as boards_machine
 use Rattle.script_boards.specs.Machine.{drawn_by}
 use Rattle.script_boards.proofs.Listings.{reached_by}
@@ -55,12 +55,5 @@ has_answered_bytes old new session bytes text h a = has_answered old new session
 -- a machine that stands for a lawful session wants memory only for a line that takes some after it
 pub taking_after : {C : Type 0} (session : Session) (bytes : List ℕ) → IsLawful session → length session < 2 ^ 63 → SomeWants {M = Machine C} StandsAfter SpellsTaking session bytes → SpellsTakingAfter session bytes
 taking_after session bytes h lt w =
-    let m = w.0 in
-    let taking = w.2 in (
-      taking.0,
-      taking.1,
-      elim taking.2 [
-        | inl kept ↦ inl kept
-        | inr takes ↦ inr (takes (state_after start session) (length session) w.1.represents (session_reached session h lt))
-      ],
-    )
+    let taking = w.2 in
+    (taking.0, taking.1, taking.2 (state_after start session) (length session) w.1.represents (session_reached session h lt))

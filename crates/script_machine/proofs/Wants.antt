@@ -28,7 +28,7 @@ use Rattle.script_model.specs.ScriptEvents.{EventAsk, runs_on_events}
 use Rattle.script_print.specs.Room.{LacksRoomFor}
 use Rattle.script_machine.specs.declared.machine.Machine.{Machine}
 use Rattle.script_machine.specs.ScriptMachine.{OfEachState}
-use Rattle.script_machine.specs.Wants.{BoardMayWant, IsCramped, LineTakes, MayWant, SpellsTaking, SpellsWanting, StepTakesAt, TakesMemory, TakesOrIsCramped, refusal, refusal_at}
+use Rattle.script_machine.specs.Wants.{BoardMayWant, IsCramped, LineTakes, MayWant, SpellsTaking, SpellsWanting, StepTakesAt, TakesMemory, refusal, refusal_at}
 
 -- a line whose right answer has no room takes memory, or the answer is short
 cramped : (s : ScriptState) (l : ScriptLine) (room : ℕ) (a : ScriptAnswer) → IsRight s l a → room < length (script_answer_line a) → ((IsShortScriptAnswer a → ⊥) → LineTakes s l) → LineTakes s l ⊎ IsCramped s l room
@@ -70,11 +70,7 @@ takes_anyway (Err e) m l out takes = λ room fits s count rep reached. inl (take
 -- where there is room for 400 bytes, it takes memory
 pub roomy : {C : Type 0} (m : Machine C) (bytes : List ℕ) (room : ℕ) → short_room ≤ room → SpellsWanting m bytes room → SpellsTaking m bytes
 roomy m bytes room fits w =
-    let taking : TakesOrIsCramped m w.0 room → TakesMemory m w.0 = λ wants s count rep reached. roomy_at s w.0 room fits (wants s count rep reached) in (
-      w.0,
-      w.1,
-      elim w.2 [ inl kept ↦ inl kept | inr wants ↦ inr (taking wants) ],
-    )
+    (w.0, w.1, λ s count rep reached. roomy_at s w.0 room fits (w.2 s count rep reached))
   where
     roomy_at : (s : ScriptState) (l : ScriptLine) (room : ℕ) → short_room ≤ room → LineTakes s l ⊎ IsCramped s l room → LineTakes s l
     roomy_at s l room fits (inl takes) = takes

@@ -32,7 +32,7 @@ abbrev pub LeavesUnknown : {C : Type 0} → Machine C → Machine C → Bool →
 LeavesUnknown old new true bytes text = Unit {0}
 LeavesUnknown old new false bytes text = IsUnknown old new bytes text
 
--- memory is wanted only for bytes that spell a line: one that is kept or takes memory, or whose short answer has no room
+-- memory is wanted only for bytes that spell a line: one that takes memory, or whose short answer has no room
 pub record BytesMayWant {C : Type 0} (m : Machine C) (bytes : List ℕ) (out : Vec ℕ) : Type 0 where
   pub spelled : SpellsSome bytes
   pub wanting : (room : ℕ) → vec_len out + room ≤ vec_capacity out → SpellsWanting m bytes room

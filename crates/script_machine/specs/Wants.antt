@@ -15,7 +15,6 @@ use Rattle.script_model.specs.ScriptEvents.{runs_on_events}
 use Rattle.script_model.specs.ScriptGrammar.{SpellsLine}
 use Rattle.script_model.specs.ScriptSession.{IsRight, Session, start, state_after}
 use Rattle.script_model.specs.ScriptTurns.{EventTurn, ScriptState, turn_of}
-use Rattle.script_parse.specs.Kept.{is_kept_line}
 use Rattle.script_machine.specs.declared.machine.Machine.{Machine}
 use Rattle.script_machine.specs.ScriptMachine.{OfEachState}
 
@@ -76,14 +75,14 @@ BoardMayWant m l out = MayWant m (line.Board l) out
 abbrev pub SpellsSome : List ℕ → Type 0
 SpellsSome bytes = (l : ScriptLine) × SpellsLine bytes l
 
--- the bytes spell a line that is kept in memory while it is run, or one that takes memory or has no room for its short answer
+-- the bytes spell a line that takes memory, or whose short answer has no room
 abbrev pub SpellsWanting : {C : Type 0} → Machine C → List ℕ → ℕ → Type 0
-SpellsWanting m bytes room = (l : ScriptLine) × SpellsLine bytes l × ((is_kept_line l ≡ true) ⊎ TakesOrIsCramped m l room)
+SpellsWanting m bytes room = (l : ScriptLine) × SpellsLine bytes l × TakesOrIsCramped m l room
 
--- the bytes spell a line that is kept in memory while it is run, or one that takes memory
+-- the bytes spell a line that takes memory
 abbrev pub SpellsTaking : {C : Type 0} → Machine C → List ℕ → Type 0
-SpellsTaking m bytes = (l : ScriptLine) × SpellsLine bytes l × ((is_kept_line l ≡ true) ⊎ TakesMemory m l)
+SpellsTaking m bytes = (l : ScriptLine) × SpellsLine bytes l × TakesMemory m l
 
 -- the same after a session, in the words of the definitions alone
 abbrev pub SpellsTakingAfter : Session → List ℕ → Type 0
-SpellsTakingAfter session bytes = (l : ScriptLine) × SpellsLine bytes l × ((is_kept_line l ≡ true) ⊎ LineTakes (state_after start session) l)
+SpellsTakingAfter session bytes = (l : ScriptLine) × SpellsLine bytes l × LineTakes (state_after start session) l

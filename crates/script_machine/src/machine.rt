@@ -16,7 +16,7 @@ use script_boards::BoardMachine;
 use script_events::PartyEvents;
 use script_loop::{LineError, RunsLines};
 use script_model::ScriptLine;
-use script_parse::{get_of, parse_line, step_of, update_of};
+use script_parse::{get_of, line_or_unkept, step_of, update_of};
 use std::alloc::{AllocError, Global};
 
 /// Runs the lines of one script, one after another. The words of its boards are held by `C`.
@@ -98,10 +98,11 @@ impl<C: BoardWords + Drop> Machine<C> {
         ensures memory { OnErr result (BytesMayWant self.old bytes.now out.old) }
         ensures room { vec_capacity out.old ≤ vec_capacity out.new }
     {
-        let Some(line) = parse_line(self.alloc, bytes)? else {
-            return Ok(false);
-        };
-        self.answer(line, out)?;
+        match line_or_unkept(self.alloc, bytes) {
+            Ok(Some(line)) => self.answer(line, out)?,
+            Ok(None) => return Ok(false),
+            Err(line) => self.answer_unkept(&line, out)?,
+        }
         Ok(true)
     }
 
@@ -165,8 +166,8 @@ impl<C: BoardWords + Drop> Machine<C> {
     /// `Bad` exactly where the line is outside the grammar, and then the machine stays as it was. After `OutOfMemory` the
     /// machine is spent. On both `answer` is empty. `OutOfMemory` never comes for a line outside the grammar. Where `answer` has
     /// room for the right answer, or for 400 bytes, it comes neither for a step that makes and lends nothing, keeps nothing that
-    /// it read and tells no list, nor for a drop, an expiry or an abandonment of a party whose call on boards runs, nor for a
-    /// refused line without the name of a board or an event.
+    /// it read and tells no list, nor for a drop, an expiry or an abandonment of a party whose call on boards runs, nor for any
+    /// refused line.
     pub fn line(&mut self, line: &[u8], answer: &mut Vec<u8>) -> Result<(), LineError>
         // The machine isn't spent, and it stands for a lawful session of fewer than 2^63 lines.
         requires { (session : Session) × StandsFor StandsAfter self.old session }
@@ -179,8 +180,8 @@ impl<C: BoardWords + Drop> Machine<C> {
         ensures bad { IsErrOf result LineError.Bad → SpellsNone line.now }
         ensures same { IsErrOf result LineError.Bad → self.new ≡ self.old }
 
-        // A line outside the grammar wants no memory. Nor does a line that takes none and hasn't the name of a board or an
-        // event, which is kept, where `answer` has room for its right answer. The room stays.
+        // A line outside the grammar wants no memory. Nor does a line that takes none, where `answer` has room for its right
+        // answer: a line that is refused takes none. The room stays.
         ensures spelled { IsErrOf result LineError.OutOfMemory → SpellsSome line.now }
         ensures memory { IsErrOf result LineError.OutOfMemory
             → SpellsWanting self.old line.now (vec_capacity answer.old) }

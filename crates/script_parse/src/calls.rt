@@ -1,14 +1,16 @@
 //! Calls, from their tokens.
-ghost use Rattle.std.specs.Prelude.{◌≡◌, true, is_some, IfOk, OnErr};
+ghost use Rattle.std.specs.Prelude.{◌≡◌, Some, IfErr, IfOk};
+ghost use Rattle.board_model.specs.Requests.{and_then};
 ghost use Rattle.script_grammar.specs.LineReading.{read_call, read_create, read_entry_parts, read_fill, read_get, read_name_if_any, read_needs, read_named_call, read_one_name, read_open, read_plain_call, read_put, read_two_names, read_update};
-ghost use Rattle.script_parse.specs.Kept.{is_kept_call, is_read};
+ghost use Rattle.script_parse.specs.Kept.{board_made};
 ghost use Rattle.script_parse.specs.Tokens.{left_behind, rest_where};
 
 use crate::atoms::name_of;
 use crate::bytes::is_word;
 use crate::options::{attributes_of, needs_of, skip_parts};
 use crate::tokens::Tokens;
-use crate::values::{are_entries, entries_of};
+use crate::unkept::Made;
+use crate::values::{entries_of, have_key_type};
 use board_layout::Text;
 use board_model::{Attribute, Call, Key, LongName, Name, NewLimits, ValueType};
 use std::alloc::{AllocError, Global};
@@ -195,18 +197,21 @@ fn plain_call_of(word: &[u8], tokens: &mut Tokens) -> Option<Call>
     named_call_of(word, tokens)
 }
 
-// Whether a `create` stands here. Takes no memory.
+// What the `create` makes that stands here, where one does. Takes no memory.
 #[tactic(auto, unfolding(script_grammar::specs::LineReading::read_create))]
-fn is_create(tokens: &mut Tokens) -> bool
-    ensures { result ≡ is_some (read_create tokens.old) }
+fn create_made(tokens: &mut Tokens) -> Option<Made>
+    ensures { result ≡ and_then (read_create tokens.old) board_made }
 {
-    if tokens.board().is_none() || tokens.limit(b"writers").is_none() {
-        return false;
-    }
+    let (factory, _name, key_type, _limits) = tokens.board()?;
+    tokens.limit(b"writers")?;
     if !skip_parts::<Attribute>(b"attr", tokens) {
-        return false;
+        return None;
     }
-    are_entries(tokens)
+    let is_typed = have_key_type(key_type, tokens)?;
+    Some(Made {
+        name: factory,
+        is_typed,
+    })
 }
 
 #[tactic(auto, unfolding(script_grammar::specs::LineReading::read_create))]
@@ -239,19 +244,17 @@ fn collect_create(alloc: Global, tokens: &mut Tokens) -> Result<Option<Call>, Al
 }
 
 // Where memory is refused in the midst of it, what is left is looked at all the same: a line outside the grammar wants none.
-fn create_of(alloc: Global, tokens: &mut Tokens) -> Result<Option<Call>, AllocError>
+fn create_of(alloc: Global, tokens: &mut Tokens) -> Result<Option<Call>, Made>
     ensures read { IfOk result (λ o. o ≡ read_create tokens.old) }
-    ensures memory { OnErr result (is_read is_kept_call (read_create tokens.old) ≡ true) }
+    ensures memory { IfErr result (λ made. and_then (read_create tokens.old) board_made ≡ Some made) }
 {
     let mut again = tokens.again();
     match collect_create(alloc, tokens) {
         Ok(call) => Ok(call),
-        Err(error) => {
-            if is_create(&mut again) {
-                return Err(error);
-            }
-            Ok(None)
-        }
+        Err(AllocError) => match create_made(&mut again) {
+            Some(made) => Err(made),
+            None => Ok(None),
+        },
     }
 }
 
@@ -266,18 +269,20 @@ fn skip_needs(tokens: &mut Tokens) -> bool
     skip_parts::<Text<64>>(b"needkey", tokens)
 }
 
-// Whether an `open` stands here. Takes no memory.
+// What the `open` makes that stands here, where one does. Takes no memory.
 #[tactic(auto, unfolding(script_grammar::specs::LineReading::read_open))]
-fn is_open(tokens: &mut Tokens) -> bool
-    ensures { result ≡ is_some (read_open tokens.old) }
+fn open_made(tokens: &mut Tokens) -> Option<Made>
+    ensures { result ≡ and_then (read_open tokens.old) board_made }
 {
-    if tokens.board().is_none() {
-        return false;
-    }
+    let (factory, _name, _key_type, _limits) = tokens.board()?;
     if !skip_needs(tokens) {
-        return false;
+        return None;
     }
-    tokens.is_end()
+    tokens.end()?;
+    Some(Made {
+        name: factory,
+        is_typed: true,
+    })
 }
 
 #[tactic(auto, unfolding(script_grammar::specs::LineReading::read_open))]
@@ -303,27 +308,25 @@ fn collect_open(alloc: Global, tokens: &mut Tokens) -> Result<Option<Call>, Allo
 }
 
 // The same as for a `create`.
-fn open_of(alloc: Global, tokens: &mut Tokens) -> Result<Option<Call>, AllocError>
+fn open_of(alloc: Global, tokens: &mut Tokens) -> Result<Option<Call>, Made>
     ensures read { IfOk result (λ o. o ≡ read_open tokens.old) }
-    ensures memory { OnErr result (is_read is_kept_call (read_open tokens.old) ≡ true) }
+    ensures memory { IfErr result (λ made. and_then (read_open tokens.old) board_made ≡ Some made) }
 {
     let mut again = tokens.again();
     match collect_open(alloc, tokens) {
         Ok(call) => Ok(call),
-        Err(error) => {
-            if is_open(&mut again) {
-                return Err(error);
-            }
-            Ok(None)
-        }
+        Err(AllocError) => match open_made(&mut again) {
+            Some(made) => Err(made),
+            None => Ok(None),
+        },
     }
 }
 
-// A call, by its word.
+// A call, by its word. Where memory is refused, what the call makes.
 #[tactic(auto, unfolding(script_grammar::specs::LineReading::read_call))]
-pub(crate) fn call_of(alloc: Global, tokens: &mut Tokens) -> Result<Option<Call>, AllocError>
+pub(crate) fn call_of(alloc: Global, tokens: &mut Tokens) -> Result<Option<Call>, Made>
     ensures read { IfOk result (λ o. o ≡ read_call tokens.old) }
-    ensures memory { OnErr result (is_read is_kept_call (read_call tokens.old) ≡ true) }
+    ensures memory { IfErr result (λ made. and_then (read_call tokens.old) board_made ≡ Some made) }
 {
     let Some(word) = tokens.next() else {
         return Ok(None);

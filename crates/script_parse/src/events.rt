@@ -1,9 +1,10 @@
 //! Lines of events, from their tokens.
-ghost use Rattle.std.specs.Prelude.{◌≡◌, true, IfOk, OnErr};
+ghost use Rattle.std.specs.Prelude.{◌≡◌, Some, IfErr, IfOk};
 ghost use Rattle.std.specs.List.{list_all};
+ghost use Rattle.board_model.specs.Requests.{and_then};
 ghost use Rattle.script_grammar.specs.TokenReading.{first_by};
 ghost use Rattle.script_grammar.specs.EventReading.{read_count, read_event_begin, read_event_line, read_event_name, read_expire, read_kind, read_listen, read_max, read_mode, read_notifier, read_notify, read_port, read_request, read_wait};
-ghost use Rattle.script_parse.specs.Kept.{is_kept_line, is_kept_request, is_read};
+ghost use Rattle.script_parse.specs.Kept.{event_made, made_as, unkept_of};
 ghost use Rattle.script_parse.specs.Tokens.{with_rest};
 ghost use Rattle.script_model.specs.ScriptGrammar.{is_event_byte, is_event_name};
 
@@ -11,10 +12,11 @@ use crate::atoms::{is_visible, number_of};
 use crate::bytes::{beside, is_word};
 use crate::calls::one_name;
 use crate::tokens::Tokens;
+use crate::unkept::{Made, Unkept};
 use board_event_model::{EventKind, WaitMode};
 use board_layout::Text;
 use board_model::{LongName, Name};
-use script_model::{EventRequest, ScriptLine};
+use script_model::{EventName, EventRequest, ScriptLine};
 use std::alloc::{AllocError, Global};
 
 // The ids of a set are at most this.
@@ -130,10 +132,24 @@ impl<'a> Tokens<'a> {
     }
 }
 
+// The name of an event, for which memory is taken. Where it is refused, what the call makes: a thing of this name.
+fn event_name_in(alloc: Global, event: Text<255>, name: Name) -> Result<EventName, Made>
+    ensures text { IfOk result (λ text. text ≡ event) }
+    ensures memory { IfErr result (λ made. made ≡ made_as name) }
+{
+    match LongName::new(alloc, event) {
+        Ok(event) => Ok(event),
+        Err(AllocError) => Err(Made {
+            name,
+            is_typed: true,
+        }),
+    }
+}
+
 #[tactic(auto, unfolding(script_grammar::specs::EventReading::read_listen, script_grammar::specs::EventReading::read_listener))]
-fn listen_of(alloc: Global, tokens: &mut Tokens) -> Result<Option<EventRequest>, AllocError>
+fn listen_of(alloc: Global, tokens: &mut Tokens) -> Result<Option<EventRequest>, Made>
     ensures read { IfOk result (λ o. o ≡ read_listen tokens.old) }
-    ensures memory { OnErr result (is_read is_kept_request (read_listen tokens.old) ≡ true) }
+    ensures memory { IfErr result (λ made. and_then (read_listen tokens.old) event_made ≡ Some made) }
 {
     let Some((listener, kind, event)) = tokens.port() else {
         return Ok(None);
@@ -148,7 +164,7 @@ fn listen_of(alloc: Global, tokens: &mut Tokens) -> Result<Option<EventRequest>,
             }
             Ok(Some(EventRequest::ListenBits {
                 listener,
-                event: LongName::new(alloc, event)?,
+                event: event_name_in(alloc, event, listener)?,
                 max,
             }))
         }
@@ -158,16 +174,16 @@ fn listen_of(alloc: Global, tokens: &mut Tokens) -> Result<Option<EventRequest>,
             }
             Ok(Some(EventRequest::ListenQueue {
                 listener,
-                event: LongName::new(alloc, event)?,
+                event: event_name_in(alloc, event, listener)?,
             }))
         }
     }
 }
 
 #[tactic(auto, unfolding(script_grammar::specs::EventReading::read_notifier))]
-fn notifier_of(alloc: Global, tokens: &mut Tokens) -> Result<Option<EventRequest>, AllocError>
+fn notifier_of(alloc: Global, tokens: &mut Tokens) -> Result<Option<EventRequest>, Made>
     ensures read { IfOk result (λ o. o ≡ read_notifier tokens.old) }
-    ensures memory { OnErr result (is_read is_kept_request (read_notifier tokens.old) ≡ true) }
+    ensures memory { IfErr result (λ made. and_then (read_notifier tokens.old) event_made ≡ Some made) }
 {
     let Some((notifier, kind, event)) = tokens.port() else {
         return Ok(None);
@@ -178,7 +194,7 @@ fn notifier_of(alloc: Global, tokens: &mut Tokens) -> Result<Option<EventRequest
     Ok(Some(EventRequest::Notifier {
         notifier,
         kind,
-        event: LongName::new(alloc, event)?,
+        event: event_name_in(alloc, event, notifier)?,
     }))
 }
 
@@ -208,9 +224,9 @@ fn wait_of(tokens: &mut Tokens) -> Option<EventRequest>
 }
 
 #[tactic(auto, unfolding(script_grammar::specs::EventReading::read_request))]
-fn request_of(alloc: Global, tokens: &mut Tokens) -> Result<Option<EventRequest>, AllocError>
+fn request_of(alloc: Global, tokens: &mut Tokens) -> Result<Option<EventRequest>, Made>
     ensures read { IfOk result (λ o. o ≡ read_request tokens.old) }
-    ensures memory { OnErr result (is_read is_kept_request (read_request tokens.old) ≡ true) }
+    ensures memory { IfErr result (λ made. and_then (read_request tokens.old) event_made ≡ Some made) }
 {
     let Some(word) = tokens.next() else {
         return Ok(None);
@@ -231,17 +247,19 @@ fn request_of(alloc: Global, tokens: &mut Tokens) -> Result<Option<EventRequest>
 }
 
 #[tactic(auto, unfolding(script_grammar::specs::EventReading::read_event_begin))]
-fn event_begin_of(alloc: Global, tokens: &mut Tokens) -> Result<Option<ScriptLine>, AllocError>
+fn event_begin_of(alloc: Global, tokens: &mut Tokens) -> Result<Option<ScriptLine>, Unkept>
     ensures read { IfOk result (λ o. o ≡ read_event_begin tokens.old) }
-    ensures memory { OnErr result (is_read is_kept_line (read_event_begin tokens.old) ≡ true) }
+    ensures memory { IfErr result (λ line. and_then (read_event_begin tokens.old) unkept_of
+        ≡ Some line) }
 {
     let Some(party) = tokens.name() else {
         return Ok(None);
     };
-    let Some(request) = request_of(alloc, tokens)? else {
-        return Ok(None);
-    };
-    Ok(Some(ScriptLine::Event { party, request }))
+    match request_of(alloc, tokens) {
+        Ok(Some(request)) => Ok(Some(ScriptLine::Event { party, request })),
+        Ok(None) => Ok(None),
+        Err(made) => Err(Unkept { party, made }),
+    }
 }
 
 #[tactic(auto, unfolding(script_grammar::specs::EventReading::read_expire))]
@@ -257,9 +275,10 @@ fn expire_of(tokens: &mut Tokens) -> Option<ScriptLine>
 pub(crate) fn event_line_of(
     alloc: Global,
     tokens: &mut Tokens,
-) -> Result<Option<ScriptLine>, AllocError>
+) -> Result<Option<ScriptLine>, Unkept>
     ensures read { IfOk result (λ o. o ≡ read_event_line tokens.old) }
-    ensures memory { OnErr result (is_read is_kept_line (read_event_line tokens.old) ≡ true) }
+    ensures memory { IfErr result (λ line. and_then (read_event_line tokens.old) unkept_of
+        ≡ Some line) }
 {
     let Some(word) = tokens.next() else {
         return Ok(None);

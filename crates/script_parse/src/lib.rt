@@ -15,9 +15,11 @@ mod short;
 #[cfg(test)]
 mod tests;
 mod tokens;
+mod unkept;
 mod values;
 
 pub use atoms::number_of;
 pub use bytes::place_of;
-pub use parse::parse_line;
+pub use parse::{line_or_unkept, parse_line};
 pub use short::{get_of, step_of, update_of};
+pub use unkept::{Made, Unkept};

@@ -1,6 +1,8 @@
 //! Values and added entries, from their tokens.
 ghost use Rattle.std.specs.Prelude.{◌≡◌, IfOk};
-ghost use Rattle.std.specs.Option.{is_some, option_map};
+ghost use Rattle.std.specs.List.{list_all};
+ghost use Rattle.std.specs.Option.{option_map};
+ghost use Rattle.board_model.specs.LawfulSession.{has_key_type};
 ghost use Rattle.script_grammar.specs.LineReading.{read_entries, read_entry};
 ghost use Rattle.script_grammar.specs.TokenReading.{first_by, read_four, read_value};
 ghost use Rattle.script_parse.specs.Tokens.{with_rest};
@@ -8,7 +10,7 @@ ghost use Rattle.script_parse.specs.Tokens.{with_rest};
 use crate::atoms::{key_of, number_of};
 use crate::bytes::{bytes_behind, is_word};
 use crate::tokens::Tokens;
-use board_model::{AddedEntries, AddedEntry, Key, Value};
+use board_model::{AddedEntries, AddedEntry, Key, KeyType, Value, same_key_type, type_of_key};
 use std::alloc::{AllocError, Global};
 
 #[tactic(auto, unfolding(script_grammar::specs::TokenReading::read_four))]
@@ -83,20 +85,17 @@ pub(crate) fn entries_of(
     Ok(Some(AddedEntries::from_vec(entries)))
 }
 
-// Whether entries are left, and nothing else. Takes no memory.
-pub(crate) fn are_entries(tokens: &mut Tokens) -> bool
-    ensures { result ≡ is_some (read_entries tokens.old) }
+// Whether the keys of the entries that are left are of this type, where entries are left and nothing else. Takes no memory.
+pub(crate) fn have_key_type(key_type: KeyType, tokens: &mut Tokens) -> Option<bool>
+    ensures { result ≡ option_map (λ entries. list_all (has_key_type key_type) entries)
+        (read_entries tokens.old) }
 {
+    let mut are_typed = true;
     while let Some(word) = tokens.next() {
-        let Some(key) = tokens.next() else {
-            return false;
-        };
-        let Some(value) = tokens.next() else {
-            return false;
-        };
-        if entry_of(word, key, value).is_none() {
-            return false;
-        }
+        let key = tokens.next()?;
+        let value = tokens.next()?;
+        let (key, _value) = entry_of(word, key, value)?;
+        are_typed = are_typed && same_key_type(type_of_key(&key), key_type);
     }
-    true
+    Some(are_typed)
 }

@@ -39,6 +39,7 @@ fn reason_of(line: &ScriptLine) -> Option<Reason>
 }
 
 // Why the line of these bytes is refused.
+#[tactic(auto, using(crate::proofs::IdleLemmas::kept_wants))]
 fn refusal(alloc: Global, bytes: &[u8]) -> Result<Reason, LineError>
     ensures ok { IfOk result (λ why.
         (l : ScriptLine) × SpellsLine bytes.now l × (Some why ≡ idle_reason l)) }

@@ -1,9 +1,9 @@
-use Rattle.std.proofs.Common.{List, ℕ, ap, sym, ◌∙◌}
-use Rattle.std.specs.Prelude.{is_some}
+use Rattle.std.proofs.Common.{List, ℕ, ap, ◌∙◌}
+use Rattle.board_model.specs.Requests.{and_then}
 use Rattle.script_grammar.specs.LineReading.{read_create}
-use Rattle.script_parse.proofs.KeptLemmas.{create_kept}
+use Rattle.script_parse.specs.Kept.{board_made}
+use Rattle.script_parse.proofs.KeptLemmas.{create_makes}
 use Rattle.script_parse.proofs.calls.create_of.Goals as goal
 
-pub returns-then-is_create-clause-memory : goal.returns-then-is_create-clause-memory
-returns-then-is_create-clause-memory c =
-    create_kept c.args.tokens.now ∙ ap (λ (ts : List (List ℕ)). is_some (read_create ts)) (sym c.again-again.ensures) ∙ sym c.is_create.ensures ∙ c.if-is_create.true
+pub returns-in-None-clause-read : goal.returns-in-None-clause-read
+returns-in-None-clause-read c = create_makes c.args.tokens.now (c.in-None.ensures ∙ ap (λ (ts : List (List ℕ)). and_then (read_create ts) board_made) c.again-again.ensures)

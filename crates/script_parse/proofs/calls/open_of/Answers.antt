@@ -1,9 +1,9 @@
-use Rattle.std.proofs.Common.{List, ℕ, ap, sym, ◌∙◌}
-use Rattle.std.specs.Prelude.{is_some}
+use Rattle.std.proofs.Common.{List, ℕ, ap, ◌∙◌}
+use Rattle.board_model.specs.Requests.{and_then}
 use Rattle.script_grammar.specs.LineReading.{read_open}
-use Rattle.script_parse.proofs.KeptLemmas.{open_kept}
+use Rattle.script_parse.specs.Kept.{board_made}
+use Rattle.script_parse.proofs.KeptLemmas.{open_makes}
 use Rattle.script_parse.proofs.calls.open_of.Goals as goal
 
-pub returns-then-is_open-clause-memory : goal.returns-then-is_open-clause-memory
-returns-then-is_open-clause-memory c =
-    open_kept c.args.tokens.now ∙ ap (λ (ts : List (List ℕ)). is_some (read_open ts)) (sym c.again-again.ensures) ∙ sym c.is_open.ensures ∙ c.if-is_open.true
+pub returns-in-None-clause-read : goal.returns-in-None-clause-read
+returns-in-None-clause-read c = open_makes c.args.tokens.now (c.in-None.ensures ∙ ap (λ (ts : List (List ℕ)). and_then (read_open ts) board_made) c.again-again.ensures)
