@@ -10,7 +10,8 @@ use Rattle.std.proofs.Math.Seq.{take-append-add}
 use Rattle.board_model.specs.Lines.{IsOneLine, lines_of, TakesLine}
 use Rattle.script_loop.specs.declared.error.ScriptError.TheVariants.{ReadFault, WriteFault, BadLine, TooLong, OutOfMemory}
 use Rattle.script_loop.specs.Reader.{HasLongLine}
-use Rattle.script_loop.specs.Runs.{CountStays, CountsOn, HasFailed, Stream}
+use Rattle.script_loop.specs.Runs.{CountStays, CountsOn, HasFailedOnce, Stream}
+use Rattle.script_loop.proofs.CompleteLemmas.{has_failed}
 use Rattle.script_exchanges.specs.declared.line.Drive.{Drive}
 use Rattle.script_exchanges.specs.declared.line.DriveLine.{DriveLine}
 use Rattle.script_exchanges.specs.DriveGrammar.{SpellsDrive, SpellsNoDrive}
@@ -200,11 +201,11 @@ module _ (d : Drive) (Lawful : Exchanges → Type 0) (limit : ℕ) (source sink 
   pub ran : CountStays source → CountStays sink → IsRunOf d Lawful limit source sink → IsAtEnd source.after → DriveRuns d Lawful limit source sink (Ok tt)
   ran reads writes run end = record { ok = run; end = end; err = tt; complete = λ u. tt; read = λ e. absurd cc; write = λ e. absurd cc; read_told = λ n. reads; write_told = λ n. writes; read_later = omega (arith, reads); write_later = omega (arith, writes) }
 
-  pub unread : CountsOn source → CountStays sink → IsReadCut d Lawful limit source sink → HasFailed source → DriveRuns d Lawful limit source sink (Err ReadFault)
-  unread reads writes cut fault = record { ok = tt; end = tt; err = cut; complete = λ u. absurd (u.read fault); read = λ e. fault; write = λ e. absurd cc; read_told = λ n. absurd (n refl); write_told = λ n. writes; read_later = reads; write_later = omega (arith, writes) }
+  pub unread : CountsOn source → CountStays sink → IsReadCut d Lawful limit source sink → HasFailedOnce source → DriveRuns d Lawful limit source sink (Err ReadFault)
+  unread reads writes cut fault = record { ok = tt; end = tt; err = cut; complete = λ u. absurd (u.read (has_failed source fault)); read = λ e. fault; write = λ e. absurd cc; read_told = λ n. absurd (n refl); write_told = λ n. writes; read_later = reads; write_later = omega (arith, writes) }
 
-  pub unwritten : CountStays source → CountsOn sink → IsWriteCut d Lawful limit source sink → HasFailed sink → DriveRuns d Lawful limit source sink (Err WriteFault)
-  unwritten reads writes cut fault = record { ok = tt; end = tt; err = cut; complete = λ u. absurd (u.written fault); read = λ e. absurd cc; write = λ e. fault; read_told = λ n. reads; write_told = λ n. absurd (n refl); read_later = omega (arith, reads); write_later = writes }
+  pub unwritten : CountStays source → CountsOn sink → IsWriteCut d Lawful limit source sink → HasFailedOnce sink → DriveRuns d Lawful limit source sink (Err WriteFault)
+  unwritten reads writes cut fault = record { ok = tt; end = tt; err = cut; complete = λ u. absurd (u.written (has_failed sink fault)); read = λ e. absurd cc; write = λ e. fault; read_told = λ n. reads; write_told = λ n. absurd (n refl); read_later = omega (arith, reads); write_later = writes }
 
   pub left_grammar : CountStays source → CountStays sink → (n : ℕ) → IsBadAt d Lawful n limit source sink → DriveRuns d Lawful limit source sink (Err (BadLine n))
   left_grammar reads writes n bad = record { ok = tt; end = tt; err = bad; complete = λ u. absurd (not_outside d limit source.before bad.exchanges bad.lines u.script); read = λ e. absurd cc; write = λ e. absurd cc; read_told = λ n. reads; write_told = λ n. writes; read_later = omega (arith, reads); write_later = omega (arith, writes) }

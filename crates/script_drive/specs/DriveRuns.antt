@@ -5,7 +5,7 @@ use Rattle.std.specs.Io.KnownBytes.{IsAtEnd, prepend_known}
 use Rattle.board_model.specs.Lines.{IsOneLine}
 use Rattle.script_loop.specs.declared.error.ScriptError.{ScriptError}
 use Rattle.script_loop.specs.declared.error.ScriptError.TheVariants.{ReadFault, WriteFault, BadLine, TooLong, OutOfMemory}
-use Rattle.script_loop.specs.Runs.{CountStays, CountsOn, Gains, HasFailed, Stream}
+use Rattle.script_loop.specs.Runs.{CountStays, CountsOn, Gains, HasFailed, HasFailedOnce, Stream}
 use Rattle.script_loop.specs.WholeLines.{with_newlines}
 use Rattle.script_exchanges.specs.declared.line.Drive.{Drive}
 use Rattle.script_exchanges.specs.Exchanges.{AreLinesOf, BeginsWith, Exchanges, GoesOnAfter, IsDriveScript, LeavesGrammarAfter, SpellsAll, output_of}
@@ -113,9 +113,9 @@ pub record DriveRuns (d : Drive) (Lawful : Exchanges → Type 0) (limit : ℕ) (
   pub err : IfErr result (λ e. IsStopped e d Lawful limit source sink)
   -- a known script is run to its end where nothing fails
   pub complete : IsUndisturbed d limit source sink → IfErr result (λ e. e ≡ OutOfMemory)
-  -- the faults are those of the source and of the sink
-  pub read : IsErrOf result ReadFault → HasFailed source
-  pub write : IsErrOf result WriteFault → HasFailed sink
+  -- the faults are those of the source and of the sink, and one call failed, not a second
+  pub read : IsErrOf result ReadFault → HasFailedOnce source
+  pub write : IsErrOf result WriteFault → HasFailedOnce sink
   -- a fault is told: with any other answer the count of faults stays
   pub read_told : result ≢ Err ReadFault → CountStays source
   pub write_told : result ≢ Err WriteFault → CountStays sink

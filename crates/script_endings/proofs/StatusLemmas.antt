@@ -1,6 +1,6 @@
 -- Statuses of runs, and the words of a command line.
 use Rattle.std.proofs.Common.{◌≡◌, ℕ, ◌≤◌, List, [], ◌∷◌, length, map, arith, refl, ap, ◌∙◌, inl, inr}
-use Rattle.std.specs.Prelude.{◌⊎◌, IfErr, Result, Ok, Err}
+use Rattle.std.specs.Prelude.{◌≢◌, ◌⊎◌, IfErr, Result, Ok, Err}
 use Rattle.script_loop.specs.declared.error.ScriptError.{ScriptError}
 use Rattle.script_loop.specs.declared.error.ScriptError.TheVariants as error
 use Rattle.script_endings.specs.Endings.{status_of}
@@ -22,3 +22,21 @@ bad_status error.WriteFault n few e = omega (arith, few, e)
 bad_status (error.BadLine line) n few e = omega (arith, few, e)
 bad_status error.TooLong n few e = omega (arith, few, e)
 bad_status error.OutOfMemory n few e = omega (arith, few, e)
+
+-- the status is 3 after a read fault alone
+pub not_three : (answer : Result (Unit {0}) ScriptError) (status : ℕ) → status ≡ status_of answer → answer ≢ Err error.ReadFault → status ≢ 3
+not_three (Ok x) status is sure same = omega (arith, is, same)
+not_three (Err error.ReadFault) status is sure same = sure refl
+not_three (Err error.WriteFault) status is sure same = omega (arith, is, same)
+not_three (Err (error.BadLine line)) status is sure same = omega (arith, is, same)
+not_three (Err error.TooLong) status is sure same = omega (arith, is, same)
+not_three (Err error.OutOfMemory) status is sure same = omega (arith, is, same)
+
+-- and 4 after a write fault alone
+pub not_four : (answer : Result (Unit {0}) ScriptError) (status : ℕ) → status ≡ status_of answer → answer ≢ Err error.WriteFault → status ≢ 4
+not_four (Ok x) status is sure same = omega (arith, is, same)
+not_four (Err error.ReadFault) status is sure same = omega (arith, is, same)
+not_four (Err error.WriteFault) status is sure same = sure refl
+not_four (Err (error.BadLine line)) status is sure same = omega (arith, is, same)
+not_four (Err error.TooLong) status is sure same = omega (arith, is, same)
+not_four (Err error.OutOfMemory) status is sure same = omega (arith, is, same)

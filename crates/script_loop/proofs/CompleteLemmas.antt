@@ -11,7 +11,7 @@ use Rattle.script_model.specs.ScriptSession.{Session}
 use Rattle.script_model.specs.ScriptOutput.{FollowedBy, GoesOnAfter, IsScript, LeavesGrammarAfter, SpellsAll}
 use Rattle.script_loop.specs.declared.error.ScriptError.{ScriptError}
 use Rattle.script_loop.specs.declared.error.ScriptError.TheVariants.{ReadFault, WriteFault, BadLine, TooLong, OutOfMemory}
-use Rattle.script_loop.specs.Runs.{CountStays, CountsOn, HasFailed, Stream}
+use Rattle.script_loop.specs.Runs.{CountStays, CountsOn, HasFailed, HasFailedOnce, Stream}
 use Rattle.script_loop.specs.Runs.{IsBadAt, IsPast, IsReadCut, IsRunOf, IsSpent, IsWriteCut, Runs}
 
 abbrev IsSpelled : List ℕ → Type 0
@@ -49,15 +49,19 @@ not_past limit source sink b s = more source.before b.session b.lines b.full s
 
 -- ---- runs that end so
 
+-- a count that has risen by one has risen
+pub has_failed : (stream : Stream) → HasFailedOnce stream → HasFailed stream
+has_failed stream once = omega (arith, once)
+
 module _ (limit : ℕ) (source sink : Stream) where
   pub ran : CountStays source → CountStays sink → IsRunOf limit source sink → IsAtEnd source.after → Runs limit source sink (Ok tt)
   ran reads writes run end = record { ok = run; end = end; err = tt; complete = λ u. tt; read = λ e. absurd cc; write = λ e. absurd cc; read_told = λ n. reads; write_told = λ n. writes; read_later = omega (arith, reads); write_later = omega (arith, writes) }
 
-  pub unread : CountsOn source → CountStays sink → IsReadCut limit source sink → HasFailed source → Runs limit source sink (Err ReadFault)
-  unread reads writes cut fault = record { ok = tt; end = tt; err = cut; complete = λ u. absurd (u.read fault); read = λ e. fault; write = λ e. absurd cc; read_told = λ n. absurd (n refl); write_told = λ n. writes; read_later = reads; write_later = omega (arith, writes) }
+  pub unread : CountsOn source → CountStays sink → IsReadCut limit source sink → HasFailedOnce source → Runs limit source sink (Err ReadFault)
+  unread reads writes cut fault = record { ok = tt; end = tt; err = cut; complete = λ u. absurd (u.read (has_failed source fault)); read = λ e. fault; write = λ e. absurd cc; read_told = λ n. absurd (n refl); write_told = λ n. writes; read_later = reads; write_later = omega (arith, writes) }
 
-  pub unwritten : CountStays source → CountsOn sink → IsWriteCut limit source sink → HasFailed sink → Runs limit source sink (Err WriteFault)
-  unwritten reads writes cut fault = record { ok = tt; end = tt; err = cut; complete = λ u. absurd (u.written fault); read = λ e. absurd cc; write = λ e. fault; read_told = λ n. reads; write_told = λ n. absurd (n refl); read_later = omega (arith, reads); write_later = writes }
+  pub unwritten : CountStays source → CountsOn sink → IsWriteCut limit source sink → HasFailedOnce sink → Runs limit source sink (Err WriteFault)
+  unwritten reads writes cut fault = record { ok = tt; end = tt; err = cut; complete = λ u. absurd (u.written (has_failed sink fault)); read = λ e. absurd cc; write = λ e. fault; read_told = λ n. reads; write_told = λ n. absurd (n refl); read_later = omega (arith, reads); write_later = writes }
 
   pub left_grammar : CountStays source → CountStays sink → (n : ℕ) → IsBadAt n limit source sink → Runs limit source sink (Err (BadLine n))
   left_grammar reads writes n bad = record { ok = tt; end = tt; err = bad; complete = λ u. absurd (not_bad n limit source sink bad u.script); read = λ e. absurd cc; write = λ e. absurd cc; read_told = λ n. reads; write_told = λ n. writes; read_later = omega (arith, reads); write_later = omega (arith, writes) }

@@ -5,6 +5,7 @@ use Rattle.board_model.specs.Lines.{IsOneLine, Rose}
 use Rattle.script_model.specs.ScriptSession.{Session, IsLawful, start, state_after}
 use Rattle.script_model.specs.ScriptTurns.{ScriptState}
 use Rattle.script_model.specs.ScriptOutput.{AreLinesOf, BeginsWith, FollowedBy, GoesOnAfter, IsScript, LeavesGrammarAfter, output_of}
+use Rattle.script_loop.specs.Streams.{one_fault_more}
 use Rattle.script_loop.specs.WholeLines.{HasWholeLines}
 use Rattle.script_loop.specs.declared.error.ScriptError.{ScriptError}
 use Rattle.script_loop.specs.declared.error.ScriptError.TheVariants.{ReadFault, WriteFault, BadLine, TooLong, OutOfMemory}
@@ -29,6 +30,10 @@ Gains sink bytes = Appends sink.before sink.after bytes
 -- its count of faults has risen
 abbrev pub HasFailed : Stream → Type 0
 HasFailed stream = Rose stream.faults_before stream.faults_after
+
+-- its count of faults has risen by one: one call failed, and not a second
+abbrev pub HasFailedOnce : Stream → Type 0
+HasFailedOnce stream = stream.faults_after ≡ one_fault_more stream.faults_before
 
 -- its count of faults hasn't fallen
 abbrev pub CountsOn : Stream → Type 0
@@ -156,9 +161,9 @@ pub record Runs (limit : ℕ) (source sink : Stream) (result : Result (Unit {0})
   pub err : IfErr result (λ e. IsStopped e limit source sink)
   -- a known script is run to its end where nothing fails
   pub complete : IsUndisturbed limit source sink → IfErr result (λ e. e ≡ OutOfMemory)
-  -- the faults are those of the source and of the sink
-  pub read : IsErrOf result ReadFault → HasFailed source
-  pub write : IsErrOf result WriteFault → HasFailed sink
+  -- the faults are those of the source and of the sink, and one call failed, not a second
+  pub read : IsErrOf result ReadFault → HasFailedOnce source
+  pub write : IsErrOf result WriteFault → HasFailedOnce sink
   -- a fault is told: with any other answer the count of faults stays
   pub read_told : result ≢ Err ReadFault → CountStays source
   pub write_told : result ≢ Err WriteFault → CountStays sink

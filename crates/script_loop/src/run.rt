@@ -101,7 +101,6 @@ pub fn run_lines<M: RunsLines, S: Source, K: Sink>(
     };
     for n in 0..limit {
         match reader.next(source) {
-            Err(_) => return Err(ScriptError::ReadFault),
             Ok(Fetched::End) => return Ok(()),
             Ok(Fetched::Long) => return Err(ScriptError::BadLine(n + 1)),
             Ok(Fetched::Line) => match machine.line(reader.line(), &mut answer) {
@@ -112,6 +111,7 @@ pub fn run_lines<M: RunsLines, S: Source, K: Sink>(
                     Ok(()) => {}
                 },
             },
+            Err(_) => return Err(ScriptError::ReadFault),
         }
     }
     match reader.is_at_end(source) {

@@ -1,9 +1,9 @@
 //! Where a script's bytes come from, and where its output goes.
-ghost use Rattle.std.specs.Prelude.{List, ℕ, Option, ◌≡◌, ◌-◌, ◌≤◌, IsOk, IsOkAnd, OnOk, length};
+ghost use Rattle.std.specs.Prelude.{List, ℕ, Option, ◌≡◌, ◌-◌, ◌≤◌, IsOk, IsOkAnd, OnErr, OnOk, length};
 ghost use Rattle.std.specs.Io.{ReadsAtMost};
 ghost use Rattle.std.specs.Io.KnownBytes.{ReadConsumes, WriteAppends};
 ghost use Rattle.board_model.specs.Lines.{HasCause};
-ghost use Rattle.script_loop.specs.Streams.{Writes};
+ghost use Rattle.script_loop.specs.Streams.{Writes, one_fault_more};
 
 use thiserror::Error;
 
@@ -33,8 +33,9 @@ pub trait Source {
         // The next bytes are given, and lost to the source. None comes only where none is left. A failed read takes none.
         ensures bytes { ReadConsumes (left self.old) (left self.new) result buf.new }
 
-        // It fails only where the count of faults rises, and the count rises only there.
+        // It fails only where the count of faults rises, by one, and the count rises only there.
         ensures cause { HasCause (faults self.old) (faults self.new) result }
+        ensures once { OnErr result (faults self.new ≡ one_fault_more (faults self.old)) }
         ensures told { OnOk result (faults self.new ≡ faults self.old) }
 
         ensures unfailing { never_fails self.old → IsOk result }
@@ -62,8 +63,9 @@ pub trait Sink {
         // The sink holds the bytes that it took. A failed write takes none.
         ensures bytes { WriteAppends (held self.old) (held self.new) result bytes.now }
 
-        // It fails only where the count of faults rises, and the count rises only there.
+        // It fails only where the count of faults rises, by one, and the count rises only there.
         ensures cause { HasCause (faults self.old) (faults self.new) result }
+        ensures once { OnErr result (faults self.new ≡ one_fault_more (faults self.old)) }
         ensures told { OnOk result (faults self.new ≡ faults self.old) }
 
         // Where no write fails within so many bytes, this one doesn't, and none does within those that are left of them.

@@ -2,6 +2,7 @@
 ghost use Rattle.std.specs.Prelude.{◌≡◌, ◌-◌, ◌≤◌, IsOk, OnOk, OnErr, ℕ, length, take};
 ghost use Rattle.std.specs.Io.KnownBytes.{Appends};
 ghost use Rattle.board_model.specs.Lines.{HasCause};
+ghost use Rattle.script_loop.specs.Streams.{one_fault_more};
 
 use crate::stream::{Failed, Sink};
 
@@ -12,10 +13,11 @@ use crate::stream::{Failed, Sink};
 pub fn write_whole<K: Sink>(sink: &mut K, bytes: &[u8]) -> Result<(), Failed>
     ensures ok { OnOk result (Appends (K.held sink.old) (K.held sink.new) bytes.now) }
 
-    // A front of the bytes was written before a fault.
+    // A front of the bytes was written before a fault, and after it no write was tried.
     ensures err { OnErr result ((n : ℕ)
         × Appends (K.held sink.old) (K.held sink.new) (take n bytes.now)) }
     ensures cause { HasCause (K.faults sink.old) (K.faults sink.new) result }
+    ensures once { OnErr result (K.faults sink.new ≡ one_fault_more (K.faults sink.old)) }
     ensures told { OnOk result (K.faults sink.new ≡ K.faults sink.old) }
 
     // It doesn't fail where the sink is known to take so many bytes, and the sink then takes the others of them.
@@ -26,7 +28,9 @@ pub fn write_whole<K: Sink>(sink: &mut K, bytes: &[u8]) -> Result<(), Failed>
 {
     let mut at = 0;
     while at < bytes.len() {
-        let taken = sink.write(&bytes[at..])?;
+        let Ok(taken) = sink.write(&bytes[at..]) else {
+            return Err(Failed);
+        };
         at += taken;
     }
     Ok(())

@@ -2,10 +2,10 @@
 //!
 //! No contract knows what bytes these have. That an adapter passes on all that its reader gives and all that its writer
 //! takes is proved of any reader and any writer.
-ghost use Rattle.std.specs.Prelude.{◌≡◌, OnOk};
+ghost use Rattle.std.specs.Prelude.{◌≡◌, OnErr, OnOk};
 ghost use Rattle.std.specs.Io.KnownBytes.{WriteAppends};
 ghost use Rattle.board_model.specs.Lines.{HasCause};
-ghost use Rattle.script_loop.specs.Streams.{Writes};
+ghost use Rattle.script_loop.specs.Streams.{Writes, one_fault_more};
 
 use script_loop::{Failed, Sink, Source};
 use std::io::{Read, Stderr, Stdin, Stdout, Write};
@@ -74,6 +74,7 @@ fn write_front<W: Write>(out: &mut W, faults: &mut u64, bytes: &[u8]) -> Result<
     ensures bound { Writes result bytes.now }
     ensures bytes { WriteAppends (W.contents out.old) (W.contents out.new) result bytes.now }
     ensures cause { HasCause faults.old faults.new result }
+    ensures once { OnErr result (faults.new ≡ one_fault_more faults.old) }
     ensures told { OnOk result (faults.new ≡ faults.old) }
 {
     match out.write(bytes) {

@@ -2,6 +2,7 @@
 ghost use Rattle.std.specs.Prelude.{◌≡◌, ◌<◌, ◌≤◌, ◌+◌, [], IfErr, IfNone, IfOk, IfSome, IsOk, IsTrue, OnErr, OnOk, drop, false, length, slice_index, take};
 ghost use Rattle.std.specs.Io.KnownBytes.{Consumes, Keeps, IsAtEnd};
 ghost use Rattle.board_model.specs.Lines.{HasCause, IsOneLine};
+ghost use Rattle.script_loop.specs.Streams.{one_fault_more};
 ghost use Rattle.script_loop.specs.Reader.{NeedsBytes, source_ended, hand_length, in_hand, line_given, to_come};
 
 use super::LineReader;
@@ -20,6 +21,7 @@ fn read_behind<S: Source>(bytes: &mut [u8], from: usize, source: &mut S) -> Resu
     ensures end { IfOk result (λ count. count ≡ 0 → IsAtEnd (S.left source.new)) }
     ensures err { OnErr result (Keeps (S.left source.old) (S.left source.new)) }
     ensures cause { HasCause (S.faults source.old) (S.faults source.new) result }
+    ensures once { OnErr result (S.faults source.new ≡ one_fault_more (S.faults source.old)) }
     ensures told { OnOk result (S.faults source.new ≡ S.faults source.old) }
     ensures unfailing { S.never_fails source.old → IsOk result }
     ensures never_later { S.never_fails source.old → S.never_fails source.new }
@@ -127,6 +129,7 @@ impl LineReader {
         ensures ended { IsTrue (source_ended self.new) → IsAtEnd (S.left source.new) }
         ensures unended { OnErr result (source_ended self.new ≡ false) }
         ensures cause { HasCause (S.faults source.old) (S.faults source.new) result }
+        ensures once { OnErr result (S.faults source.new ≡ one_fault_more (S.faults source.old)) }
         ensures told { OnOk result (S.faults source.new ≡ S.faults source.old) }
         ensures unfailing { S.never_fails source.old → IsOk result }
         ensures never_later { S.never_fails source.old → S.never_fails source.new }

@@ -2,6 +2,7 @@
 ghost use Rattle.std.specs.Prelude.{◌≡◌, IfOk, IsOk, IsTrue, OnErr, OnOk, false};
 ghost use Rattle.std.specs.Io.KnownBytes.{IsAtEnd, Keeps};
 ghost use Rattle.board_model.specs.Lines.{HasCause, IsOneLine};
+ghost use Rattle.script_loop.specs.Streams.{one_fault_more};
 ghost use Rattle.script_loop.specs.Reader.{HasMore, NeedsBytes, source_ended, in_hand, line_given, to_come};
 ghost use Rattle.script_loop.specs.Reader.{FoundFull, FoundShort, IsEnd, IsFetched, IsFull};
 
@@ -36,12 +37,13 @@ impl LineReader {
         ensures at_end { IfOk result (λ f. IsEnd f → IsAtEnd (S.left source.new)) }
         ensures unended { source_ended self.new ≡ false → source_ended self.old ≡ false }
 
-        // It fails only where the source's count of faults rises. Then no byte is lost, and no newline is in hand.
+        // It fails only where the source's count of faults rises, by one. Then no byte is lost, and no newline is in hand.
         ensures kept { OnErr result
             (Keeps (to_come self.old (S.left source.old)) (to_come self.new (S.left source.new))) }
         ensures cut { OnErr result (IsOneLine (in_hand self.new)) }
         ensures more { OnErr result (source_ended self.new ≡ false) }
         ensures cause { HasCause (S.faults source.old) (S.faults source.new) result }
+        ensures once { OnErr result (S.faults source.new ≡ one_fault_more (S.faults source.old)) }
 
         // A fault is told.
         ensures told { OnOk result (S.faults source.new ≡ S.faults source.old) }
@@ -82,6 +84,7 @@ impl LineReader {
         ensures cut { OnErr result (IsOneLine (in_hand self.new)) }
         ensures unended { OnErr result (source_ended self.old ≡ false) }
         ensures cause { HasCause (S.faults source.old) (S.faults source.new) result }
+        ensures once { OnErr result (S.faults source.new ≡ one_fault_more (S.faults source.old)) }
         ensures told { OnOk result (S.faults source.new ≡ S.faults source.old) }
         ensures unfailing { S.never_fails source.old → IsOk result }
     {

@@ -1,11 +1,11 @@
 //! What sources and sinks in memory give and take, and which of their calls fail.
-ghost use Rattle.std.specs.Prelude.{◌≡◌, ◌≤◌, ◌<◌, ◌-◌, ◌↔◌, ℕ, IfOk, IsErr, IsOk, IsOkAnd, IsTrue, OnOk, length};
+ghost use Rattle.std.specs.Prelude.{◌≡◌, ◌≤◌, ◌<◌, ◌-◌, ◌↔◌, ℕ, IfOk, IsErr, IsOk, IsOkAnd, IsTrue, OnErr, OnOk, length};
 ghost use Rattle.std.specs.Io.{ReadsAtMost};
 ghost use Rattle.std.specs.Io.KnownBytes.{ReadConsumes, WriteAppends};
 ghost use Rattle.board_model.specs.Lines.{HasCause};
 ghost use Rattle.script_loop.specs.Memory as memory;
 ghost use Rattle.script_loop.specs.Memory.{CannotTake, FindsNoRoom, IsListed, NoneIsListed, SinkNeverFails, one_more, sink_calls, sink_held, source_calls, source_left, piece_given, piece_taken};
-ghost use Rattle.script_loop.specs.Streams.{Writes};
+ghost use Rattle.script_loop.specs.Streams.{Writes, one_fault_more};
 
 use super::{MemorySink, MemorySource};
 use crate::stream::{Failed, Sink, Source};
@@ -33,6 +33,7 @@ impl Source for MemorySource {
         ensures bound { ReadsAtMost result buf.new }
         ensures bytes { ReadConsumes (source_left self.old) (source_left self.new) result buf.new }
         ensures cause { HasCause self.old.faults self.new.faults result }
+        ensures once { OnErr result (self.new.faults ≡ one_fault_more self.old.faults) }
         ensures told { OnOk result (self.new.faults ≡ self.old.faults) }
         ensures unfailing { NoneIsListed (source_calls self.old) → IsOk result }
         ensures never_later { NoneIsListed (source_calls self.old)
@@ -77,6 +78,7 @@ impl Sink for MemorySink {
         ensures bound { Writes result bytes.now }
         ensures bytes { WriteAppends (sink_held self.old) (sink_held self.new) result bytes.now }
         ensures cause { HasCause self.old.faults self.new.faults result }
+        ensures once { OnErr result (self.new.faults ≡ one_fault_more self.old.faults) }
         ensures told { OnOk result (self.new.faults ≡ self.old.faults) }
         ensures unfailing { (n : ℕ) → SinkNeverFails self.old n → length bytes.now ≤ n
             → IsOkAnd result (λ count. SinkNeverFails self.new (n - count)) }

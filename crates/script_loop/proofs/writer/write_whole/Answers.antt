@@ -13,20 +13,20 @@ loop-at-init g c = record {
 pub loop-at-preserved : goal.loop-at-preserved
 loop-at-preserved g c = record {
   inside = search rules;
-  written = more_written _ _ _ c.args.bytes.now c.loop-at.at c.in_ok-taken.taken c.loop-at.invariant.written c.in_ok-taken.ensures.bytes;
+  written = more_written _ _ _ c.args.bytes.now c.loop-at.at c.in-Ok.taken c.loop-at.invariant.written c.in-Ok.ensures.bytes;
   same = search rules;
   room = λ n h le.
-      more_gone (g.K.Sink.never_fails_within _) n c.loop-at.at c.in_ok-taken.taken
-      (c.in_ok-taken.ensures.unfailing (n - c.loop-at.at) (c.loop-at.invariant.room n h le) (rest_fits c.args.bytes.now c.loop-at.at n le));
+      more_gone (g.K.Sink.never_fails_within _) n c.loop-at.at c.in-Ok.taken
+      (c.in-Ok.ensures.unfailing (n - c.loop-at.at) (c.loop-at.invariant.room n h le) (rest_fits c.args.bytes.now c.loop-at.at n le));
 }
 
-pub returns-in_err-taken-clause-unfailing : goal.returns-in_err-taken-clause-unfailing
-returns-in_err-taken-clause-unfailing g c = λ n h le.
-    absurd (c.in_err-taken.ensures.unfailing (n - c.loop-at.at) (c.loop-at.invariant.room n h le) (rest_fits c.args.bytes.now c.loop-at.at n le))
+pub returns-in_default-clause-unfailing : goal.returns-in_default-clause-unfailing
+returns-in_default-clause-unfailing g c = λ n h le.
+    absurd (c.in_default.ensures.unfailing (n - c.loop-at.at) (c.loop-at.invariant.room n h le) (rest_fits c.args.bytes.now c.loop-at.at n le))
 
-pub returns-in_err-taken-clause-never_later : goal.returns-in_err-taken-clause-never_later
-returns-in_err-taken-clause-never_later g c = λ n h le.
-    absurd (c.in_err-taken.ensures.unfailing (n - c.loop-at.at) (c.loop-at.invariant.room n h le) (rest_fits c.args.bytes.now c.loop-at.at n le))
+pub returns-in_default-clause-never_later : goal.returns-in_default-clause-never_later
+returns-in_default-clause-never_later g c = λ n h le.
+    absurd (c.in_default.ensures.unfailing (n - c.loop-at.at) (c.loop-at.invariant.room n h le) (rest_fits c.args.bytes.now c.loop-at.at n le))
 
 pub returns-clause-never_later : goal.returns-clause-never_later
 returns-clause-never_later g c = λ n h le.
