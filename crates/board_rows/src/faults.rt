@@ -228,7 +228,7 @@ struct Fault {
     note: &'static str,
 }
 
-const FAULTS: [Fault; 4] = [
+const FAULTS: [Fault; 5] = [
     // The second answer isn't written.
     Fault {
         script: "abandon a\nabandon b\n",
@@ -262,6 +262,16 @@ const FAULTS: [Fault; 4] = [
         script: "abandon a\n",
         piece: 1,
         failed_reads: &[4],
+        failed_writes: &[],
+        status: 3,
+        output: "",
+        note: "read fault\n",
+    },
+    // All nine bytes are read, and the read that would tell the end fails: the line isn't whole.
+    Fault {
+        script: "abandon a",
+        piece: 1,
+        failed_reads: &[9],
         failed_writes: &[],
         status: 3,
         output: "",

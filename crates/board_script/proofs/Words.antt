@@ -1,6 +1,6 @@
 -- The words of the command line.
 use Rattle.std.proofs.Common.{◌≡◌, ℕ, ◌<◌, ◌≤◌, Bool, true, false, List, [], ◌∷◌, length, map, get_or, arith, refl, sym, ap, subst, ◌∙◌, Option, Some, None, inl, inr}
-use Rattle.std.specs.Prelude.{codes, decimal, ◌⊎◌, not, IfErr, IfNone, OnOk, Result, Ok, Err}
+use Rattle.std.specs.Prelude.{codes, decimal, ◌≢◌, ◌⊎◌, not, IfNone, OnOk, Result, Ok, Err}
 use Rattle.std.specs.Str.{bytes_eq}
 use Rattle.std.proofs.lemmas.Slice.Eq.{bytes_eq-Decides}
 use Rattle.script_grammar.specs.TokenReading.{read_number}
@@ -70,8 +70,8 @@ no_other words a b k e r (inr l) n h = let i = read_is words a b k e r n h in ab
 
 -- ---- runs
 
-pub summed_up : (answer : Result (Unit {0}) ScriptError) (k n status : ℕ) (sink notes : Stream) → k ≡ n → IsGenerated k sink answer → status ≡ status_of answer → IsNoted notes (note_of answer) → IsSummedUp status n sink notes
-summed_up answer k n status sink notes same run is note = record { answer = answer; run = subst (λ (j : ℕ). IsGenerated j sink answer) same run; is = is; note = note }
+pub summed_up : (answer : Result (Unit {0}) ScriptError) (k n status : ℕ) (takes : ℕ → Type 0) (sink notes : Stream) → k ≡ n → IsGenerated k takes sink answer → status ≡ status_of answer → IsNoted notes (note_of answer) → IsSummedUp status n takes sink notes
+summed_up answer k n status takes sink notes same run is note = record { answer = answer; run = subst (λ (j : ℕ). IsGenerated j takes sink answer) same run; is = is; note = note }
 
 summed_at : (answer : Result (Unit {0}) ScriptError) (n status : ℕ) (sink : Stream) → OnOk answer (IsSummed n sink) → status ≡ status_of answer → status ≡ 0 → IsSummed n sink
 summed_at (Ok x) n status sink ok is zero = ok
@@ -81,5 +81,14 @@ summed_at (Err (error.BadLine k)) n status sink ok is zero = absurd cc
 summed_at (Err error.TooLong) n status sink ok is zero = absurd cc
 summed_at (Err error.OutOfMemory) n status sink ok is zero = absurd cc
 
-pub summed : (answer : Result (Unit {0}) ScriptError) (k n status : ℕ) (sink : Stream) → k ≡ n → IsGenerated k sink answer → status ≡ status_of answer → status ≡ 0 → IsSummed n sink
-summed answer k n status sink same run is zero = subst (λ (j : ℕ). IsSummed j sink) same (summed_at answer k status sink run.ok is zero)
+pub summed : (answer : Result (Unit {0}) ScriptError) (k n status : ℕ) (takes : ℕ → Type 0) (sink : Stream) → k ≡ n → IsGenerated k takes sink answer → status ≡ status_of answer → status ≡ 0 → IsSummed n sink
+summed answer k n status takes sink same run is zero = subst (λ (j : ℕ). IsSummed j sink) same (summed_at answer k status sink run.ok is zero)
+
+-- a generated script is read from nowhere
+pub no_read_fault : (answer : Result (Unit {0}) ScriptError) (n : ℕ) (takes : ℕ → Type 0) (sink : Stream) → IsGenerated n takes sink answer → answer ≢ Err error.ReadFault
+no_read_fault (Ok x) n takes sink run same = absurd cc
+no_read_fault (Err error.ReadFault) n takes sink run same = run.err
+no_read_fault (Err error.WriteFault) n takes sink run same = absurd cc
+no_read_fault (Err (error.BadLine k)) n takes sink run same = absurd cc
+no_read_fault (Err error.TooLong) n takes sink run same = absurd cc
+no_read_fault (Err error.OutOfMemory) n takes sink run same = absurd cc

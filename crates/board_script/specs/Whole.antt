@@ -1,5 +1,5 @@
 -- What running a script comes to, and scripts in memory that can be run to their end.
-use Rattle.std.specs.Prelude.{◌≡◌, ◌≢◌, ℕ, ◌≤◌, List, length, IfErr, IsErrOf, Result, Err}
+use Rattle.std.specs.Prelude.{◌≡◌, ◌≢◌, ℕ, ◌≤◌, List, [], length, Some, ⊤, IfErr, IsErrOf, Result, Err}
 use Rattle.script_model.specs.ScriptOutput.{IsOutputOf, IsScript}
 use Rattle.script_loop.specs.declared.error.ScriptError.{ScriptError}
 use Rattle.script_loop.specs.declared.error.ScriptError.TheVariants.{ReadFault, WriteFault, OutOfMemory}
@@ -22,3 +22,11 @@ pub record RunsScript (limit : ℕ) (reads : Type 0) (takes : ℕ → Type 0) (s
 pub record FitsRoom (room : ℕ) (bytes : List ℕ) : Type 0 where
   pub script : IsScript 4294967295 bytes
   pub output : (output : List ℕ) → IsOutputOf bytes output → length output ≤ room
+
+-- a script in memory was run into an empty room of so many bytes, and answered so; no read fails, and no write within the room
+pub record RunsInMemory (room : ℕ) (script : List ℕ) (result : Result (Unit {0}) ScriptError) : Type 0 where
+  pub source : Stream
+  pub sink : Stream
+  pub whole : source.before ≡ Some script
+  pub empty : sink.before ≡ Some []
+  pub run : RunsScript 4294967295 ⊤ (λ bytes. bytes ≤ room) source sink result

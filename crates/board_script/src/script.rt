@@ -1,8 +1,8 @@
 //! Scripts, from their source to their sink.
-ghost use Rattle.std.specs.Prelude.{◌≡◌, ◌≤◌, IfErr, IfOk};
+ghost use Rattle.std.specs.Prelude.{◌≡◌, ◌≤◌, Err, IfErr, IfOk};
 ghost use Rattle.script_model.specs.ScriptOutput.{IsOutputOf};
 ghost use Rattle.script_loop.specs.Memory.{sink_holds};
-ghost use Rattle.board_script.specs.Whole.{FitsRoom, RunsScript};
+ghost use Rattle.board_script.specs.Whole.{FitsRoom, RunsInMemory, RunsScript};
 ghost use Rattle.script_loop.specs.Runs.{stream_of};
 
 use board_cell::SeatWords;
@@ -80,6 +80,9 @@ pub fn run_script<S: Source, K: Sink>(
 pub fn run_in_memory(alloc: Global, script: Vec<u8>, room: usize) -> Result<MemorySink, ScriptError>
     // The sink holds the output of the lawful session of the script's lines.
     ensures output { IfOk result (λ sink. IsOutputOf script.items (sink_holds sink)) }
+
+    // An error comes where it comes of `run_script` over streams of which no call is listed to fail, and leaves the same.
+    ensures err { IfErr result (λ e. RunsInMemory room script.items (Err e)) }
 
     // A script of the grammar whose output fits is run to its end, or memory is refused.
     ensures complete { FitsRoom room script.items

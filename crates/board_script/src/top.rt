@@ -1,10 +1,10 @@
 //! The program's top call, its statuses and its notes.
-ghost use Rattle.std.specs.Prelude.{◌≡◌, ◌⊎◌, ℕ, ◌<◌, length, map, IfNone, IfSome};
+ghost use Rattle.std.specs.Prelude.{◌≡◌, ◌≢◌, ◌⊎◌, ℕ, ◌<◌, length, map, IfNone, IfSome};
 ghost use Rattle.std.specs.Process.{exit_status};
 ghost use Rattle.std.specs.String.{string_bytes};
 ghost use Rattle.std.specs.Io.KnownBytes.{IsAtEnd};
-ghost use Rattle.script_loop.specs.Runs.{IsRunOf, IsRunnable, stream_of};
-ghost use Rattle.script_generator.specs.Summary.{IsSummed};
+ghost use Rattle.script_loop.specs.Runs.{FitsInto, IsRunOf, IsRunnable, stream_of};
+ghost use Rattle.script_generator.specs.Summary.{IsSummed, SummaryFits};
 ghost use Rattle.board_script.specs.Top.{IsAnswered, AreGenWords, HasEnded, IsNoted, IsSummedUp, IsUsage, usage_note};
 
 use crate::script::run_script;
@@ -50,12 +50,20 @@ pub fn run_words<S: Source, K: Sink, N: Sink>(
         (stream_of K.held K.faults sink.old sink.new) }
     ensures end { length words.now.items ≡ 0 → result ≡ 0 → IsAtEnd (S.left source.new) }
 
-    // Without words the status and the note are those of the script's answer, which comes where `Runs` says.
+    // Without words the status and the note are those of the script's answer, which comes where `RunsScript` says.
     ensures ran { length words.now.items ≡ 0
-        → IsAnswered result
+        → IsAnswered result (S.never_fails source.old) (K.never_fails_within sink.old)
         (stream_of S.left S.faults source.old source.new)
         (stream_of K.held K.faults sink.old sink.new)
         (stream_of N.held N.faults notes.old notes.new) }
+
+    // The status is 3 only where the source may fail, and 4 only where the sink may before all is written.
+    ensures reads { S.never_fails source.old → result ≢ 3 }
+    ensures writes { length words.now.items ≡ 0
+        → (room : ℕ) → K.never_fails_within sink.old room
+        → FitsInto room 4294967295 (S.left source.old) → result ≢ 4 }
+    ensures written { (n : ℕ) → AreGenWords (map string_bytes words.now.items) n
+        → (room : ℕ) → K.never_fails_within sink.old room → SummaryFits room n → result ≢ 4 }
 
     // A known script of the grammar whose output the sink takes ends with status 0, or 7 where memory is refused.
     ensures complete { length words.now.items ≡ 0
@@ -68,7 +76,7 @@ pub fn run_words<S: Source, K: Sink, N: Sink>(
 
     // The other statuses are 4, after a front of the summary, and 7, after nothing; the note is the status's.
     ensures generated { (n : ℕ) → AreGenWords (map string_bytes words.now.items) n
-        → IsSummedUp result n
+        → IsSummedUp result n (K.never_fails_within sink.old)
         (stream_of K.held K.faults sink.old sink.new)
         (stream_of N.held N.faults notes.old notes.new) }
 
@@ -101,9 +109,25 @@ pub fn run_program<S: Source, K: Sink, N: Sink>(
 ) -> ExitCode
     // The process ends with the status of what the words ask for, and with its note.
     ensures ended { HasEnded (map string_bytes words.now.items) (exit_status result)
+        (S.never_fails source.old) (K.never_fails_within sink.old)
         (stream_of S.left S.faults source.old source.new)
         (stream_of K.held K.faults sink.old sink.new)
         (stream_of N.held N.faults notes.old notes.new) }
+
+    // The status is 3 only where the source may fail, and 4 only where the sink may before all is written.
+    ensures reads { S.never_fails source.old → exit_status result ≢ 3 }
+    ensures writes { length words.now.items ≡ 0
+        → (room : ℕ) → K.never_fails_within sink.old room
+        → FitsInto room 4294967295 (S.left source.old) → exit_status result ≢ 4 }
+    ensures written { (n : ℕ) → AreGenWords (map string_bytes words.now.items) n
+        → (room : ℕ) → K.never_fails_within sink.old room → SummaryFits room n
+        → exit_status result ≢ 4 }
+
+    // A known script of the grammar whose output the sink takes ends with status 0, or 7 where memory is refused.
+    ensures complete { length words.now.items ≡ 0
+        → S.never_fails source.old → (room : ℕ) → K.never_fails_within sink.old room
+        → IsRunnable room 4294967295 (S.left source.old)
+        → (exit_status result ≡ 0) ⊎ (exit_status result ≡ 7) }
 
     // With any words nothing is read, and with those that ask for the usage nothing is written.
     ensures unread { 0 < length words.now.items → source.new ≡ source.old }

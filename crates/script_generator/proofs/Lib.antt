@@ -6,3 +6,4 @@ pub mod GeneratorRuns
 pub mod PlainCalls
 pub mod QuietScripts
 pub mod Tallies
+pub mod SummaryCuts

@@ -1,5 +1,5 @@
 -- What a session comes to: how many lines, refusals, steps, finished updates and gets, and the generations of the first board.
-use Rattle.std.specs.Prelude.{◌≡◌, ◌≢◌, ℕ, ◌+◌, Bool, true, false, if◌then◌else◌, List, [], ◌∷◌, ◌++◌, length, map, take, codes, decimal, Option, Some, None, Result, Err, IfErr, IsErrOf, OnOk}
+use Rattle.std.specs.Prelude.{◌≡◌, ◌≢◌, ℕ, ◌+◌, ◌≤◌, Bool, true, false, if◌then◌else◌, List, [], ◌∷◌, ◌++◌, length, map, take, codes, decimal, Option, Some, None, Result, Err, IfErr, IsErrOf, OnOk}
 use Rattle.board_model.specs.declared.answer.Answer.{Answer}
 use Rattle.board_model.specs.declared.answer.Answer.TheVariants as answer
 use Rattle.board_model.specs.declared.line.Line.TheVariants as line
@@ -12,7 +12,7 @@ use Rattle.script_model.specs.ScriptSession.{IsLawful, Session, after, asked_lin
 use Rattle.script_model.specs.ScriptTurns.{ScriptState}
 use Rattle.script_loop.specs.declared.error.ScriptError.{ScriptError}
 use Rattle.script_loop.specs.declared.error.ScriptError.TheVariants.{ReadFault, WriteFault, BadLine, TooLong, OutOfMemory}
-use Rattle.script_loop.specs.Runs.{CountStays, CountsOn, Gains, HasFailed, Stream}
+use Rattle.script_loop.specs.Runs.{CountStays, CountsOn, Gains, HasFailedOnce, Stream}
 use Rattle.script_generator.specs.declared.summary.Counts.{Counts}
 use Rattle.script_generator.specs.Generator.{generated}
 
@@ -107,14 +107,21 @@ LeavesOff ReadFault n sink = ⊥
 LeavesOff (BadLine line) n sink = ⊥
 LeavesOff TooLong n sink = ⊥
 
--- what a run of the script of n comes to
-pub record IsGenerated (n : ℕ) (sink : Stream) (result : Result (Unit {0}) ScriptError) : Type 0 where
+-- the summary of a lawful session of the generated lines has at most so many bytes
+abbrev pub SummaryFits : ℕ → ℕ → Type 0
+SummaryFits room n = (session : Session) → IsLawful session → asked_lines session ≡ map script_line.Board (generated n) → length (summary session) ≤ room
+
+-- what a run of the script of n comes to; `takes room` is that no write fails within so many bytes
+pub record IsGenerated (n : ℕ) (takes : ℕ → Type 0) (sink : Stream) (result : Result (Unit {0}) ScriptError) : Type 0 where
   -- the sink gained the summary of the lawful session whose lines are the generated script
   pub ok : OnOk result (IsSummed n sink)
   -- only two errors come, and leave what this says
   pub err : IfErr result (λ e. LeavesOff e n sink)
-  -- the fault is the sink's
-  pub write : IsErrOf result WriteFault → HasFailed sink
+  -- the fault is the sink's, and one call failed, not a second
+  pub write : IsErrOf result WriteFault → HasFailedOnce sink
+  -- where no write fails within the summary, of at most 256 bytes, there is no fault
+  pub written : (room : ℕ) → takes room → SummaryFits room n → result ≢ Err WriteFault
+  pub written_short : (room : ℕ) → takes room → 256 ≤ room → result ≢ Err WriteFault
   -- a fault is told: with any other answer the sink's count of faults stays
   pub write_told : result ≢ Err WriteFault → CountStays sink
   pub write_later : CountsOn sink

@@ -231,7 +231,8 @@ pub fn run_generated<K: Sink>(alloc: Global, n: u64, sink: &mut K) -> Result<(),
     requires { n ≤ 1000000 }
 
     // The sink gained the summary of the lawful session of the generated lines, or the error says what stands.
-    ensures run { IsGenerated n (stream_of K.held K.faults sink.old sink.new) result }
+    ensures run { IsGenerated n (K.never_fails_within sink.old)
+        (stream_of K.held K.faults sink.old sink.new) result }
 
     // The sink is untouched where memory was refused.
     ensures untouched { IsErrOf result ScriptError.OutOfMemory → sink.new ≡ sink.old }

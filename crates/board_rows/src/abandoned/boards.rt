@@ -11,6 +11,8 @@ pub(super) const B_LEFT: Part = &[
     ("step b", "refused abandoned"),
     ("abandon b", "refused abandoned"),
     ("begin b get h", "refused abandoned"),
+    ("drop b m", "refused abandoned"),
+    ("drop b w", "refused abandoned"),
     ("begin a writer w f", "ok"),
     (
         "step a",
@@ -41,6 +43,14 @@ pub(super) const A_GETS_THE_HANDLE: Part = &[
 pub(super) const A_GETS_NO_HANDLE: Part = &[
     ("begin a entrymut m w u64:1 u64", "ok"),
     ("step a", "table = EntryHandleMutError::HandleAlreadyExists"),
+];
+
+/// `a` publishes another value.
+pub(super) const A_UPDATES: Part = &[
+    ("begin a update m u64:6", "ok"),
+    ("step a", "write 1:3 6"),
+    ("step a", "write 1:0 2 = ok"),
+    ("words 1", "words 2 0 7 6"),
 ];
 
 /// Another party makes a board, reads the one that stands, and listens and waits.

@@ -1,7 +1,8 @@
 //! The table of calls whose parties are abandoned, in three parts. Each call of a script begins and makes its steps, and ends, or goes on where it waits or reads without end.
 use super::boards::{
-    A_BECOMES_THE_WRITER, A_GETS_NO_HANDLE, A_GETS_THE_HANDLE, A_WORD_WRITTEN, AS_IT_WAS, B_GONE,
-    B_LEFT, C_GETS_THE_UPDATE, C_GOES_ON, C_GOES_ON_AFTER_A_BOARD, C_GOES_ON_AFTER_A_PORT, UPDATED,
+    A_BECOMES_THE_WRITER, A_GETS_NO_HANDLE, A_GETS_THE_HANDLE, A_UPDATES, A_WORD_WRITTEN,
+    AS_IT_WAS, B_GONE, B_LEFT, C_GETS_THE_UPDATE, C_GOES_ON, C_GOES_ON_AFTER_A_BOARD,
+    C_GOES_ON_AFTER_A_PORT, UPDATED,
 };
 use super::events::{
     A_SIGNALLED_ID_IS_FOUND, AN_ID_IS_FOUND, ANOTHER_NOTIFIER, ANOTHER_OF_THE_QUEUE, E_LEFT,
@@ -15,14 +16,14 @@ use super::loans::{
 use super::{Abandoned, C_MAKES_THE_FIRST_BOARD, C_MAKES_THE_SECOND_BOARD};
 use crate::openings::{
     A_LOAN, A_QUEUE, A_SET_OF_128, FOUR_WORDS, FOURTH_WORD_PUT, IT_IS_THE_WRITER, IT_WRITES,
-    ONE_PARTY_READS, THREE_WORDS_PUT, TWO_WRITERS,
+    ONE_NUMBER, ONE_PARTY_READS, THREE_WORDS_PUT, TWO_WRITERS,
 };
 use crate::row::Part;
 
 const B_READS_AND_WRITES: &[Part] = &[ONE_PARTY_READS, IT_IS_THE_WRITER, IT_WRITES];
 
 /// Calls on boards of one number.
-pub(super) const ON_BOARDS: [Abandoned; 16] = [
+pub(super) const ON_BOARDS: [Abandoned; 17] = [
     // The board stands with the step, since `b` still holds its factory.
     Abandoned {
         opening: B_READS_AND_WRITES,
@@ -150,6 +151,18 @@ pub(super) const ON_BOARDS: [Abandoned; 16] = [
         ],
         after: &[&[B_LEFT, AS_IT_WAS]],
         other: &[C_GOES_ON],
+    },
+    // A get that was abandoned keeps nobody from publishing a value, or from reading it.
+    Abandoned {
+        opening: &[ONE_NUMBER],
+        call: &[
+            ("begin b get h", "ok"),
+            ("step b", "read 1:0 1"),
+            ("step b", "read 1:2 7"),
+            ("step b", "read 1:0 1 = u64:7 gen 1"),
+        ],
+        after: &[&[GETTER_LEFT, A_UPDATES]],
+        other: &[C_GETS_THE_UPDATE],
     },
     // The value is published with the last step.
     Abandoned {
@@ -295,7 +308,7 @@ pub(super) const ON_FOUR_WORDS: [Abandoned; 8] = [
 ];
 
 /// Calls on events.
-pub(super) const ON_EVENTS: [Abandoned; 18] = [
+pub(super) const ON_EVENTS: [Abandoned; 20] = [
     // The id is pending with the set, and signalled with the post.
     Abandoned {
         opening: &[A_SET_OF_128, ANOTHER_NOTIFIER],
@@ -335,6 +348,20 @@ pub(super) const ON_EVENTS: [Abandoned; 18] = [
             ("step e", "signal bits:ev no"),
             ("step e", "swap bits:ev 0 2"),
             ("step e", "swap bits:ev 1 2 = ids 1 65"),
+        ],
+        after: &[&[E_LEFT, THE_SET_STANDS]],
+        other: &[C_MAKES_THE_FIRST_BOARD],
+    },
+    // A timed wait that finds an id.
+    Abandoned {
+        opening: &[A_SET_OF_128, ANOTHER_NOTIFIER, TWO_OF_THE_SET],
+        call: &[
+            ("begin e wait e one timed", "ok"),
+            ("step e", "signal bits:ev yes"),
+            ("step e", "signal bits:ev yes"),
+            ("step e", "signal bits:ev no"),
+            ("step e", "scan bits:ev 0 2"),
+            ("step e", "clear bits:ev 1 = id 1"),
         ],
         after: &[&[E_LEFT, THE_SET_STANDS]],
         other: &[C_MAKES_THE_FIRST_BOARD],
@@ -437,6 +464,15 @@ pub(super) const ON_EVENTS: [Abandoned; 18] = [
         opening: &[A_QUEUE, ANOTHER_OF_THE_QUEUE, TWO_OF_THE_QUEUE],
         call: &[
             ("begin e wait e one try", "ok"),
+            ("step e", "pop queue:q 7 = id 7"),
+        ],
+        after: &[&[E_LEFT, THE_QUEUE_IS_GONE]],
+        other: &[C_MAKES_THE_FIRST_BOARD],
+    },
+    Abandoned {
+        opening: &[A_QUEUE, ANOTHER_OF_THE_QUEUE, TWO_OF_THE_QUEUE],
+        call: &[
+            ("begin e wait e one timed", "ok"),
             ("step e", "pop queue:q 7 = id 7"),
         ],
         after: &[&[E_LEFT, THE_QUEUE_IS_GONE]],

@@ -34,7 +34,11 @@ pub(super) const TWO_OF_THE_QUEUE: Part = &[
 ];
 
 /// `e` is abandoned.
-pub(super) const E_LEFT: Part = &[("abandon e", "gone"), ("step e", "refused abandoned")];
+pub(super) const E_LEFT: Part = &[
+    ("abandon e", "gone"),
+    ("step e", "refused abandoned"),
+    ("drop e e", "refused abandoned"),
+];
 
 /// `n` is abandoned.
 pub(super) const N_LEFT: Part = &[("abandon n", "gone"), ("step n", "refused abandoned")];

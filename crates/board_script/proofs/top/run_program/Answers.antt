@@ -9,3 +9,15 @@ returns-clause-ended g c = rw c.from.ensures (record {
   usage = c.run_words.ensures.usage;
   usage_note = c.run_words.ensures.usage_note;
 })
+
+pub returns-clause-reads : goal.returns-clause-reads
+returns-clause-reads g c = rw c.from.ensures c.run_words.ensures.reads
+
+pub returns-clause-writes : goal.returns-clause-writes
+returns-clause-writes g c = rw c.from.ensures c.run_words.ensures.writes
+
+pub returns-clause-written : goal.returns-clause-written
+returns-clause-written g c = rw c.from.ensures c.run_words.ensures.written
+
+pub returns-clause-complete : goal.returns-clause-complete
+returns-clause-complete g c = rw c.from.ensures c.run_words.ensures.complete
