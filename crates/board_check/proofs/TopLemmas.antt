@@ -63,14 +63,17 @@ no_words_status (Ok (No n r)) status sink notes (inl w) two = omega (arith, w.is
 no_words_status (Ok v) status sink notes (inr c) two = omega (arith, c.is, two)
 no_words_status (Err e) status sink notes h two = bad_status (error_in e) 2 (omega arith) (sym h.is ∙ two)
 
--- with status 4 the sink has failed
-pub write_failed : (answer : Result Verdict CheckError) (status : ℕ) (sink notes : Stream) → IsEnding answer status sink notes → status ≡ 4 → HasFailed sink
-write_failed (Ok (Lawful n)) status sink notes (inl w) four = absurd (omega (arith, w.is, four))
-write_failed (Ok (No n r)) status sink notes (inl w) four = absurd (omega (arith, w.is, four))
-write_failed (Ok v) status sink notes (inr c) four = c.failed
-write_failed (Err error.ReadFault) status sink notes h four = absurd (omega (arith, h.is, four))
-write_failed (Err error.TooLong) status sink notes h four = absurd (omega (arith, h.is, four))
-write_failed (Err error.OutOfMemory) status sink notes h four = absurd (omega (arith, h.is, four))
+-- with status 4 behind a verdict the sink has failed
+pub write_failed : (v : Verdict) (status : ℕ) (sink notes : Stream) → IsEnding (Ok v) status sink notes → status ≡ 4 → HasFailed sink
+write_failed (Lawful n) status sink notes (inl w) four = absurd (omega (arith, w.is, four))
+write_failed (No n r) status sink notes (inl w) four = absurd (omega (arith, w.is, four))
+write_failed v status sink notes (inr c) four = c.failed
+
+-- and no error of a check is a write fault
+pub no_write_fault : (e : CheckError) → status_of (Err (error_in e)) ≡ 4 → ⊥
+no_write_fault error.ReadFault four = omega (arith, four)
+no_write_fault error.TooLong four = omega (arith, four)
+no_write_fault error.OutOfMemory four = omega (arith, four)
 
 -- what is told of a run: the verdict, or want of memory
 pub run_told : (v : Verdict) (bytes : Option (List ℕ)) → AcceptsRuns bytes (Ok v) → IsRunIn bytes → status_told v ≡ 0

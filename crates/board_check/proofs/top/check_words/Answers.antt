@@ -3,7 +3,7 @@ use Rattle.std.specs.Prelude.{Ok, Err}
 use Rattle.script_pairs.specs.declared.verdict.CheckError.{CheckError}
 use Rattle.script_pairs.specs.declared.verdict.CheckError.TheVariants as error
 use Rattle.script_endings.proofs.StatusLemmas.{bad_status}
-use Rattle.board_check.proofs.TopLemmas.{broken_in, error_of, lawful_in, no_words_status, run_spent, run_told, unjudged, write_failed}
+use Rattle.board_check.proofs.TopLemmas.{broken_in, error_of, lawful_in, no_words_status, no_write_fault, run_spent, run_told, unjudged, write_failed}
 use Rattle.board_check.proofs.top.check_words.Goals as goal
 
 pub returns-in-Ok-clause-lawful : goal.returns-in-Ok-clause-lawful
@@ -19,7 +19,7 @@ returns-in-Ok-clause-ran g c = λ none. record {
   runs = rw c.in-Ok.is at c.check.ensures.runs;
   ending = c.tell.ensures.ending;
   read = rw c.in-Ok.is at c.check.ensures.cause;
-  write = write_failed (Ok c.in-Ok.verdict) _ _ _ c.tell.ensures.ending;
+  write = write_failed c.in-Ok.verdict _ _ _ c.tell.ensures.ending;
   read_told = rw c.in-Ok.is at c.check.ensures.told;
   write_told = c.tell.ensures.told;
   read_later = c.check.ensures.later;
@@ -46,7 +46,7 @@ returns-in-Err-clause-ran g c = λ none. record {
   runs = rw c.in-Err.is at c.check.ensures.runs;
   ending = unjudged c.in-Err.error _ c.as_of_run.ensures _ _ _ refl c.end_with.ensures.is c.end_with.ensures.noted;
   read = rw c.in-Err.is at c.check.ensures.cause;
-  write = write_failed (Err c.in-Err.error) _ _ _ (unjudged c.in-Err.error _ c.as_of_run.ensures _ _ _ refl c.end_with.ensures.is c.end_with.ensures.noted);
+  write = λ four. absurd (no_write_fault c.in-Err.error (sym (c.end_with.ensures.is ∙ error_of c.in-Err.error _ c.as_of_run.ensures) ∙ four));
   read_told = rw c.in-Err.is at c.check.ensures.told;
   write_told = λ other. refl;
   read_later = c.check.ensures.later;
