@@ -13,7 +13,7 @@ use Rattle.script_drive.specs.DriveRuns.{DriveRuns}
 use Rattle.script_snapshots.specs.SnapshotExchanges.{IsLawful, no_takings}
 use Rattle.script_snapshots.proofs.TakingLaws.{fed_lawful_law, takings_short, written_law}
 use Rattle.board_snapshot.specs.Top.{IsSnapshotRun}
-use Rattle.board_snapshot.proofs.WrittenLemmas.{fed_written}
+use Rattle.board_snapshot.proofs.WrittenLemmas.{fed_written, read_back}
 
 -- nothing is a lawful script
 pub none_lawful : IsLawful []
@@ -35,6 +35,7 @@ module _ (answer : Result (Unit {0}) ScriptError) (status : ℕ) (source sink : 
         lawful = h.ok.lawful;
         fed = fed_is_lawful h.ok.exchanges h.ok.lawful;
         written = λ input k. fed_written input h.ok.exchanges (subst (λ (o : Option (List ℕ)). AreLinesOf Snapshots o h.ok.exchanges) k h.ok.lines) h.ok.lawful;
+        read_back = λ input k. read_back input h.ok.exchanges (subst (λ (o : Option (List ℕ)). AreLinesOf Snapshots o h.ok.exchanges) k h.ok.lines) h.ok.lawful;
         moments = λ s met party a y w. written_law met.earlier s met.leads party a y w;
         short = λ s met party x taking. takings_short met.earlier s met.leads party x taking;
       }

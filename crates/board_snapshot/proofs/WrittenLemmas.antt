@@ -17,15 +17,15 @@ use Rattle.script_exchanges.specs.declared.line.Drive.TheVariants.{Snapshots}
 use Rattle.script_exchanges.specs.declared.line.DriveLine.{DriveLine}
 use Rattle.script_exchanges.specs.declared.line.DriveLine.TheVariants.{Script, Start, Turn}
 use Rattle.script_exchanges.specs.DrivenParties.{Got, abandoned_by, got_by, held_back, is_refused, kept_with, party_text}
-use Rattle.script_exchanges.specs.Exchanges.{Exchanges, Told, given}
+use Rattle.script_exchanges.specs.Exchanges.{AreLinesOf, Exchanges, Told, given}
 use Rattle.script_snapshots.specs.Takings.{Outcome, Taking, after_get, after_round, ended, get_text, gets_text, goes_on, is_alike, moment_of, next_handle, next_line, snapshot_text, stepped_get, taken, taken_on, whole}
-use Rattle.script_snapshots.specs.SnapshotExchanges.{IsExchange, Leads, OfScript, OfTurn, Takings, if_taking, kept_of, let_go, no_takings, said_of, started}
+use Rattle.script_snapshots.specs.SnapshotExchanges.{IsExchange, IsLawful, Leads, OfScript, OfTurn, Takings, if_taking, kept_of, let_go, no_takings, said_of, started}
 use Rattle.script_snapshots.proofs.FedLemmas.{same_bytes}
 use Rattle.script_snapshots.proofs.TakingLaws.{IsKept, leads_kept, none_kept}
 use Rattle.script_written.specs.GivenLines.{AllIsClear, AreClear, IsClear}
 use Rattle.script_written.proofs.ClearLemmas.{AreFree, AreFreeLines, IsFreeLine, got_free, index_free, input_free, name_free, names_free, next_free, pair_clear, said_free, says_clear, text_clear}
-use Rattle.script_written.proofs.GivenLemmas.{all_found}
-use Rattle.board_snapshot.specs.LawsOfRuns.{FedSessionsAreWritten}
+use Rattle.script_written.proofs.GivenLemmas.{all_found, all_read}
+use Rattle.board_snapshot.specs.LawsOfRuns.{FedSessionsAreWritten, OutputsAreReadBack}
 
 -- ---- how a snapshot is told
 
@@ -179,5 +179,11 @@ all_clear (x ∷ xs) s t h free k = (exchange_clear s k.0 x.0 x.1 h free.0 k.1, 
 none_held : IsHeld no_takings
 none_held = record { kept = none_kept; named = λ party x e. absurd cc }
 
+clear : (input : List ℕ) (xs : Exchanges) → AreLinesOf Snapshots (Some input) xs → IsLawful xs → AllIsClear xs
+clear input xs lines lawful = all_clear xs no_takings lawful.0 none_held (input_free Snapshots input xs lines) lawful.1
+
 pub fed_written : FedSessionsAreWritten
-fed_written input xs lines lawful = all_found xs (all_clear xs no_takings lawful.0 none_held (input_free Snapshots input xs lines) lawful.1)
+fed_written input xs lines lawful = all_found xs (clear input xs lines lawful)
+
+pub read_back : OutputsAreReadBack
+read_back input xs lines lawful = all_read xs (clear input xs lines lawful)

@@ -1,5 +1,6 @@
 -- The program of snapshots: what a script comes to, its status and its note.
 use Rattle.std.specs.Prelude.{◌≡◌, ℕ, List, [], ◌++◌, codes, Some, Result}
+use Rattle.std.specs.Io.KnownBytes.{IsAtEnd}
 use Rattle.script_model.specs.ScriptAnswers.{ScriptAnswer}
 use Rattle.script_model.specs.ScriptSession as script
 use Rattle.script_loop.specs.declared.error.ScriptError.{ScriptError}
@@ -11,7 +12,7 @@ use Rattle.script_drive.specs.DriveRuns.{DriveRuns}
 use Rattle.script_snapshots.specs.LawsOfTakings.{IsOfOneMoment, IsShortTaking, IsWhole}
 use Rattle.script_snapshots.specs.Takings.{Taking}
 use Rattle.script_snapshots.specs.SnapshotExchanges.{IsLawful, Leads, Takings, no_takings}
-use Rattle.script_written.specs.GivenLines.{IsFedAsWritten}
+use Rattle.script_written.specs.GivenLines.{IsFedAsWritten, IsReadBack}
 
 -- ---- what a script comes to
 
@@ -43,6 +44,8 @@ pub record IsSnapshotRun (source sink : Stream) : Type 0 where
   -- the lines that were given are a lawful session, which stands behind each `> ` of what is told
   pub fed : script.IsLawful (fed_session exchanges)
   pub written : (input : List ℕ) → source.before ≡ Some input → IsFedAsWritten exchanges
+  -- read line by line, it is these lines with their answers and, in their places, those that the program says of its own
+  pub read_back : (input : List ℕ) → source.before ≡ Some input → IsReadBack exchanges
   pub moments : WrittenAreOfOneMoment exchanges
   pub short : RunningAreShort exchanges
 
@@ -64,6 +67,7 @@ pub record HasEnded (words : List (List ℕ)) (status : ℕ) (source sink notes 
   -- without words the script of the source was run
   pub ran : words ≡ [] → IsAnswered status source sink notes
   pub ok : status ≡ 0 → IsSnapshotRun source sink
+  pub end : status ≡ 0 → IsAtEnd source.after
   -- and with words nothing
   pub usage : (words ≡ [] → ⊥) → status ≡ 2
   pub usage_note : (words ≡ [] → ⊥) → IsNoted notes usage_note

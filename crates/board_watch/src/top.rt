@@ -1,12 +1,12 @@
 //! The program's top call.
-ghost use Rattle.std.specs.Prelude.{◌≡◌, ◌⊎◌, ℕ, ◌<◌, length, map};
+ghost use Rattle.std.specs.Prelude.{◌≡◌, ◌≢◌, ◌⊎◌, ℕ, ◌<◌, length, map};
 ghost use Rattle.std.specs.Process.{exit_status};
 ghost use Rattle.std.specs.String.{string_bytes};
 ghost use Rattle.std.specs.Io.KnownBytes.{IsAtEnd};
 ghost use Rattle.script_endings.specs.Endings.{IsNoted};
 ghost use Rattle.script_loop.specs.Runs.{stream_of};
 ghost use Rattle.script_exchanges.specs.declared.line.Drive.TheVariants.{Watchers};
-ghost use Rattle.script_drive.specs.DriveRuns.{IsRunnable, IsUndisturbed};
+ghost use Rattle.script_drive.specs.DriveRuns.{FitsInto, IsRunnable, IsUndisturbed};
 ghost use Rattle.script_watches.specs.WatchExchanges.{IsLawful};
 ghost use Rattle.board_watch.specs.Top.{HasEnded, IsAnswered, IsWatchRun, usage_note};
 
@@ -49,6 +49,12 @@ pub fn watch_words<S: Source, K: Sink, N: Sink>(
         (stream_of S.left S.faults source.old source.new)
         (stream_of K.held K.faults sink.old sink.new)
         (stream_of N.held N.faults notes.old notes.new) }
+
+    // The status is 3 only where the source may fail, and 4 only where the sink may before all is told.
+    ensures reads { S.never_fails source.old → result ≢ 3 }
+    ensures writes { length words.now.items ≡ 0
+        → (room : ℕ) → K.never_fails_within sink.old room
+        → FitsInto Watchers IsLawful room 4294967295 (S.left source.old) → result ≢ 4 }
 
     // A known script of the grammar ends with status 0, or 7 where memory is refused: where nothing failed in this run, and
     // where nothing can fail of which the sink takes all that is told.
@@ -93,6 +99,12 @@ pub fn run_program<S: Source, K: Sink, N: Sink>(
         (stream_of S.left S.faults source.old source.new)
         (stream_of K.held K.faults sink.old sink.new)
         (stream_of N.held N.faults notes.old notes.new) }
+
+    // The status is 3 only where the source may fail, and 4 only where the sink may before all is told.
+    ensures reads { S.never_fails source.old → exit_status result ≢ 3 }
+    ensures writes { length words.now.items ≡ 0
+        → (room : ℕ) → K.never_fails_within sink.old room
+        → FitsInto Watchers IsLawful room 4294967295 (S.left source.old) → exit_status result ≢ 4 }
 
     // Without words a known script of the grammar, over streams that can't fail and take all that is told, ends with status
     // 0, or 7 where memory is refused.

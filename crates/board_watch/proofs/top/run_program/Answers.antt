@@ -14,3 +14,9 @@ returns-clause-ended g c = rw c.from.ensures (record {
 
 pub returns-clause-complete : goal.returns-clause-complete
 returns-clause-complete g c = rw c.from.ensures (λ none sure room takes fits. c.watch_words.ensures.complete none sure room takes fits)
+
+pub returns-clause-reads : goal.returns-clause-reads
+returns-clause-reads g c = rw c.from.ensures c.watch_words.ensures.reads
+
+pub returns-clause-writes : goal.returns-clause-writes
+returns-clause-writes g c = rw c.from.ensures c.watch_words.ensures.writes

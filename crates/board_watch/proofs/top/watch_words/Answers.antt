@@ -1,4 +1,4 @@
-use Rattle.script_endings.proofs.StatusLemmas.{run_through}
+use Rattle.script_endings.proofs.StatusLemmas.{not_four, not_three, run_through}
 use Rattle.board_watch.proofs.TopLemmas.{no_words_status, none_lawful, run_ends, run_is, runs_through}
 use Rattle.board_watch.proofs.top.watch_words.Goals as goal
 
@@ -23,3 +23,11 @@ returns-clause-undisturbed g c = λ none sure. runs_through c.run_driven.result 
 
 pub returns-clause-usage_only : goal.returns-clause-usage_only
 returns-clause-usage_only g c = λ two. absurd (no_words_status c.run_driven.result _ _ _ c.run_driven.ensures.runs c.end_with.ensures.is two)
+
+pub returns-clause-reads : goal.returns-clause-reads
+returns-clause-reads g c = λ sure.
+    not_three c.run_driven.result c.end_with.result c.end_with.ensures.is (c.run_driven.ensures.reads sure)
+
+pub returns-clause-writes : goal.returns-clause-writes
+returns-clause-writes g c = λ none room takes fits.
+    not_four c.run_driven.result c.end_with.result c.end_with.ensures.is (c.run_driven.ensures.writes room takes fits)
