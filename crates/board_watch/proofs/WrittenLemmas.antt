@@ -1,5 +1,5 @@
 -- What is rightly told of a script's lines is clear, so the fed session is found again in the output.
-use Rattle.std.proofs.Common.{◌≡◌, ℕ, ◌+◌, Bool, true, false, cond, List, [], ◌∷◌, ◌++◌, length, map, refl, sym, subst, inl, inr, Option, Some, None}
+use Rattle.std.proofs.Common.{◌≡◌, ℕ, Bool, true, false, cond, List, [], ◌∷◌, ◌++◌, length, map, refl, sym, subst, inl, inr, Option, Some, None}
 use Rattle.std.specs.Prelude.{◌==◌, if◌then◌else◌, codes, filter, is_some}
 use Rattle.std.specs.List.{list_any, AllByRecursion}
 use Rattle.board_model.specs.AnswerGrammar.{reply_text}
@@ -11,11 +11,11 @@ use Rattle.script_model.specs.ScriptSession.{Session}
 use Rattle.script_model.specs.ScriptSession as script
 use Rattle.script_grammar.proofs.SplitLemmas.{IsFree, free_append, free_joined}
 use Rattle.script_moments.specs.Gets.{Round}
-use Rattle.script_moments.specs.Watchers.{AskedId, OpenTurn, Waited, called, calls, each_once, getting, idle, waiting}
+use Rattle.script_moments.specs.Watchers.{AskedId, OpenTurn, Waited, called, each_once, getting, idle, waiting}
 use Rattle.script_exchanges.specs.declared.line.Drive.TheVariants.{Watchers}
 use Rattle.script_exchanges.specs.declared.line.DriveLine.{DriveLine}
 use Rattle.script_exchanges.specs.declared.line.DriveLine.TheVariants.{Script, Start, Turn}
-use Rattle.script_exchanges.specs.DrivenParties.{Got, abandoned_by, held_back, is_refused, kept_with, party_text}
+use Rattle.script_exchanges.specs.DrivenParties.{abandoned_by, held_back, is_refused, kept_with, party_text}
 use Rattle.script_exchanges.specs.Exchanges.{AreLinesOf, Exchanges, Told, given, said}
 use Rattle.script_snapshots.proofs.FedLemmas.{fed_lawful}
 use Rattle.script_written.specs.GivenLines.{AllIsClear, AreClear, IsClear}
