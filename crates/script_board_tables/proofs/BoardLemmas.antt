@@ -1,14 +1,14 @@
 -- The indexes of boards, after a change of them.
-use Rattle.std.proofs.Common.{◌≡◌, ℕ, ◌+◌, ◌<◌, ◌≤◌, Bool, true, false, cond, List, [], ◌∷◌, ◌++◌, length, get_or, set, Option, Some, None, refl, sym, ap, ◌∙◌, subst, arith, ◌⊎◌, inl, inr}
-use Rattle.std.specs.Prelude.{◌==◌, find, is_some, nat_eq}
+use Rattle.std.proofs.Common.{◌≡◌, ℕ, ◌<◌, Bool, true, false, cond, List, [], ◌∷◌, ◌++◌, length, get_or, set, Option, Some, None, refl, sym, ap, ◌∙◌, subst, arith}
+use Rattle.std.specs.Prelude.{find, nat_eq}
 use Rattle.std.specs.HashMap.{HashMap, get}
 use Rattle.std.specs.Str.{bytes_eq}
-use Rattle.std.proofs.lemmas.Bool.Decides.{nat_tests, same_from_decides}
+use Rattle.std.proofs.lemmas.Bool.Decides.{nat_tests}
 use Rattle.std.proofs.lemmas.Slice.Eq.{bytes_eq-Decides}
 use Rattle.board_model.specs.declared.tables.Board.{Board}
 use Rattle.board_model.specs.Tables.{has_name, holds_at, is_numbered}
 use Rattle.script_board_tables.specs.Boards.{AreIndexed}
-use Rattle.script_things.specs.Places.{IsFirstAt, IsNowhere, IsOnlyAt, IsPlace, standing}
+use Rattle.script_things.specs.Places.{IsNowhere, IsOnlyAt, IsPlace, standing}
 use Rattle.script_things.proofs.PlaceLemmas.{first_of_only, found_at, gone_set, here_pushed, inside, none_pushed, none_set, other_pushed, other_set, passes_at}
 use Rattle.script_board_tables.proofs.BoardPlaces.{any_default, only_here}
 

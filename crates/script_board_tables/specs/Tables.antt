@@ -1,5 +1,5 @@
 -- What of the definitions' state a checker's tables of boards have.
-use Rattle.std.specs.Prelude.{◌≡◌, ℕ, Bool, ◌&&◌, ◌==◌, if◌then◌else◌, nat_eq, List, [], slice_get, Option, Some, None, option_map}
+use Rattle.std.specs.Prelude.{◌≡◌, ℕ, ◌==◌, if◌then◌else◌, nat_eq, List, [], slice_get, Option, Some, None, option_map}
 use Rattle.std.specs.HashMap.{get}
 use Rattle.std.specs.Global.{Vec}
 use Rattle.board_model.specs.Tables.{Tables}

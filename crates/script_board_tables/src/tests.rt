@@ -5,17 +5,11 @@ use board_model::{
     AddedEntries, AddedEntry, Attributes, Call, Key, KeyType, Limits, LongName, Name, NewLimits,
     Reply, Value, ValueType,
 };
-use board_names::BlackboardCreateError;
 use std::alloc::{AllocError, Global};
 use std::test::Fail;
 
 // A board with one entry, a number under the key 7.
 fn a_board(alloc: Global, factory: Name) -> Result<TableCall, AllocError> {
-    board_named(alloc, factory, Text::of(b"door"))
-}
-
-// The same, by another name.
-fn board_named(alloc: Global, factory: Name, name: Text<255>) -> Result<TableCall, AllocError> {
     let mut entries = Vec::new(alloc);
     entries.push(AddedEntry {
         key: Key::U64(7),
@@ -23,7 +17,7 @@ fn board_named(alloc: Global, factory: Name, name: Text<255>) -> Result<TableCal
     })?;
     Ok(TableCall::Create {
         factory,
-        name: LongName::new(alloc, name)?,
+        name: LongName::new(alloc, Text::of(b"door"))?,
         key_type: KeyType::U64,
         limits: NewLimits {
             shared: Limits {
@@ -55,48 +49,6 @@ fn a_board_stands_until_its_factory_goes(rt: HostRuntime) -> Result<(), Fail> {
     assert!(rt; first == Some(1) && tables.words(2).is_empty());
     tables.release(&party, &factory);
     assert!(rt; !tables.stands(1) && !tables.is_held(&party, &factory));
-    Ok(())
-}
-
-#[test]
-fn a_name_is_free_once_its_board_is_gone(rt: HostRuntime) -> Result<(), Fail> {
-    let party: Name = Text::of(b"a");
-    let (first, second, third): (Name, Name, Name) = (
-        Text::of(b"f"),
-        Text::of(b"g"),
-        Text::of(b"h"),
-    );
-    let (door, gate): (Text<255>, Text<255>) = (Text::of(b"door"), Text::of(b"gate"));
-    let mut tables = BoardTables::new(rt.alloc());
-    for (factory, name) in [(first, door), (second, gate)] {
-        let call = board_named(rt.alloc(), factory, name)?;
-        let _ = tables.step(&party, BoardCall::Table(call))?;
-    }
-    assert!(rt; tables.stands(1) && tables.stands(2));
-    // The name stands.
-    let again = board_named(rt.alloc(), third, door)?;
-    let told = tables.step(&party, BoardCall::Table(again))?;
-    let is_refused = matches!(
-        &told,
-        Stepped::Ends {
-            access: _,
-            reply: Reply::CreateError(BlackboardCreateError::AlreadyExists)
-        }
-    );
-    assert!(rt; is_refused && !tables.stands(3));
-    // It goes, and the other board stays where it is.
-    tables.release(&party, &first);
-    assert!(rt; !tables.stands(1) && tables.stands(2));
-    let again = board_named(rt.alloc(), third, door)?;
-    let told = tables.step(&party, BoardCall::Table(again))?;
-    let is_third = matches!(
-        &told,
-        Stepped::Ends {
-            access: _,
-            reply: Reply::Number(3)
-        }
-    );
-    assert!(rt; is_third && tables.stands(2) && tables.stands(3));
     Ok(())
 }
 

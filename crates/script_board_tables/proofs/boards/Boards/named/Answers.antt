@@ -1,7 +1,5 @@
-use Rattle.std.proofs.Common.{◌≡◌, List, Option, None, rules, sym, ap, subst, ◌∙◌}
-use Rattle.std.specs.Prelude.{ℕ, find, nat_eq, option_copied, option_map, slice_get, Some}
-use Rattle.std.specs.HashMap.{get}
-use Rattle.std.specs.Str.{bytes_eq}
+use Rattle.std.proofs.Common.{List, Option, rules, sym, ap, subst, ◌∙◌}
+use Rattle.std.specs.Prelude.{find, option_copied, slice_get}
 use Rattle.board_model.specs.declared.tables.Board.{Board}
 use Rattle.board_model.specs.Tables.{has_name}
 use Rattle.script_board_tables.specs.Boards.{Numbered}

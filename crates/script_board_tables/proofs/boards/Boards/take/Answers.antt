@@ -1,5 +1,5 @@
-use Rattle.std.proofs.Common.{◌≡◌, true, false, List, get_or, Option, Some, None, rules, sym, ap, subst, ◌∙◌}
-use Rattle.std.specs.Prelude.{ℕ, slice_set}
+use Rattle.std.proofs.Common.{◌≡◌, true, false, get_or, Option, Some, None, rules, sym, ap, subst, ◌∙◌}
+use Rattle.std.specs.Prelude.{slice_set}
 use Rattle.board_model.specs.declared.tables.Board.{Board}
 use Rattle.board_model.specs.Tables.{holds_at, is_numbered, without_first}
 use Rattle.script_things.specs.Places.{IsPlace, standing}
