@@ -75,18 +75,18 @@ module _ (old : BoardTables) (party f name : List ℕ) (k : KeyType) (limits : N
   a_create = requests.table (requests.create f name k limits attributes added)
 
   abbrev refusal : Option BlackboardCreateError
-  refusal = first_of (create_refusals (same_key k) old.boards.items name (map added_of added))
+  refusal = first_of (create_refusals (same_key k) old.boards.boards name (map added_of added))
 
   create_refused : (e : BlackboardCreateError) → refusal ≡ Some e → Asks old old party a_create (reply.CreateError e)
   create_refused e h = asks_by old old party a_create (reply.CreateError e) (record { reply = reply.CreateError e; standing = standing_of old })
-      (refused (standing_of old) reply.CreateError (old.last_board + 1) (created (tables_of old) party f name (key_detail k) limits attributes (map added_of added)) refusal e h) refl (same old)
+      (refused (standing_of old) reply.CreateError (old.boards.last + 1) (created (tables_of old) party f name (key_detail k) limits attributes (map added_of added)) refusal e h) refl (same old)
 
-  pub name_stands : is_some (find (has_name name) old.boards.items) ≡ true → Asks old old party a_create (reply.CreateError create_error.AlreadyExists)
-  name_stands h = create_refused create_error.AlreadyExists (rw (sym (found_any (has_name name) old.boards.items) ∙ h) refl)
+  pub name_stands : is_some (find (has_name name) old.boards.boards) ≡ true → Asks old old party a_create (reply.CreateError create_error.AlreadyExists)
+  name_stands h = create_refused create_error.AlreadyExists (rw (sym (found_any (has_name name) old.boards.boards) ∙ h) refl)
 
-  module _ (free : is_some (find (has_name name) old.boards.items) ≡ false) where
-    any : list_any (has_name name) old.boards.items ≡ false
-    any = sym (found_any (has_name name) old.boards.items) ∙ free
+  module _ (free : is_some (find (has_name name) old.boards.boards) ≡ false) where
+    any : list_any (has_name name) old.boards.boards ≡ false
+    any = sym (found_any (has_name name) old.boards.boards) ∙ free
 
     pub none_added : (length added == 0) ≡ true → Asks old old party a_create (reply.CreateError create_error.NoEntriesProvided)
     none_added h = create_refused create_error.NoEntriesProvided (rw any (rw (ap (λ (n : ℕ). n == 0) (length-map added added_of) ∙ h) refl))
@@ -125,18 +125,18 @@ module _ (old : BoardTables) (party f name : List ℕ) (k : KeyType) (limits : N
 
       pub board_made : has_equal_keys (same_key k) (map added_of added) ≡ false → nat_lt 4294967295 (payload (shapes_of (map added_of added))) ≡ false
           → (new : BoardTables) (board : Board) (words : List ℕ) (published : List (Vec (List ℕ)))
-          → board ≡ new_board (old.last_board + 1) name (key_detail k) limits attributes (map added_of added) → words ≡ opening_of added → AreFirstLists published added
+          → board ≡ new_board (old.boards.last + 1) name (key_detail k) limits attributes (map added_of added) → words ≡ opening_of added → AreFirstLists published added
           → Has new (record (standing_of old) { tables = with_thing (record (tables_of old) { boards = (tables_of old).boards ++ board ∷ []; last_board = board.number }) (record { holder = party; name = f; board = board.number; kind = kind.Factory }) })
           (with_board (memory_of old) board.number words) (with_lists (published_of old) board.number published)
-          → Asks old new party a_create (reply.Number (old.last_board + 1))
+          → Asks old new party a_create (reply.Number (old.boards.last + 1))
       board_made keys small new board words published is opening first has =
-          asks_by old new party a_create (reply.Number (old.last_board + 1)) (record { reply = reply.Number (old.last_board + 1); standing = record (standing_of old) { tables = created (tables_of old) party f name (key_detail k) limits attributes (map added_of added) } })
-          (made (standing_of old) reply.CreateError (old.last_board + 1) (created (tables_of old) party f name (key_detail k) limits attributes (map added_of added)) refusal (by_keys false (rw keys small))) refl
+          asks_by old new party a_create (reply.Number (old.boards.last + 1)) (record { reply = reply.Number (old.boards.last + 1); standing = record (standing_of old) { tables = created (tables_of old) party f name (key_detail k) limits attributes (map added_of added) } })
+          (made (standing_of old) reply.CreateError (old.boards.last + 1) (created (tables_of old) party f name (key_detail k) limits attributes (map added_of added)) refusal (by_keys false (rw keys small))) refl
           (record {
             standing = has.standing ∙ ap (λ (b : Board). record (standing_of old) { tables = with_thing (record (tables_of old) { boards = (tables_of old).boards ++ b ∷ []; last_board = b.number }) (record { holder = party; name = f; board = b.number; kind = kind.Factory }) }) is;
-            memory = has.memory ∙ ap (λ (b : Board). with_board (memory_of old) b.number words) is ∙ ap (λ (ws : List ℕ). with_board (memory_of old) (old.last_board + 1) ws) opening;
+            memory = has.memory ∙ ap (λ (b : Board). with_board (memory_of old) b.number words) is ∙ ap (λ (ws : List ℕ). with_board (memory_of old) (old.boards.last + 1) ws) opening;
             lists = has.lists ∙ ap (λ (b : Board). with_lists (published_of old) b.number published) is
-                ∙ (λ t n i. cond (n == old.last_board + 1) (firsts published first i t) (published_of old n i));
+                ∙ (λ t n i. cond (n == old.boards.last + 1) (firsts published first i t) (published_of old n i));
           })
 
 -- ---- a row more

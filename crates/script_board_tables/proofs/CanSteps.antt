@@ -87,7 +87,7 @@ module _ (t : BoardTables) (s : State) (n : ℕ) (party : List ℕ) (r : Running
 
   pub can_step : (c : BoardCall) → IsFor c r.request → HasCome c r.so_far → CanStep t c
   can_step (call.Table c) g come =
-      let last : t.last_board ≡ s.standing.tables.last_board = ap (λ (x : Standing). x.tables.last_board) of.has.standing in
+      let last : t.boards.last ≡ s.standing.tables.last_board = ap (λ (x : Standing). x.tables.last_board) of.has.standing in
       let port : t.last_port ≡ s.standing.tables.last_port = ap (λ (x : Standing). x.tables.last_port) of.has.standing in
       record {
         boards = omega (arith, last, of.within.boards, of.few);

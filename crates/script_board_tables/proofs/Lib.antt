@@ -1,4 +1,5 @@
-mod Takes
+mod BoardPlaces
+mod BoardLemmas
 mod Places
 mod TableLemmas
 mod FindLemmas

@@ -1,5 +1,5 @@
 -- The entry at a place that was found.
-use Rattle.std.proofs.Common.{◌≡◌, ℕ, suc, ◌+◌, Bool, true, false, cond, List, [], ◌∷◌, arith, sym, ap, ◌∙◌, subst, refl, Option, Some, None, inl, inr}
+use Rattle.std.proofs.Common.{◌≡◌, ℕ, suc, ◌+◌, Bool, true, false, cond, List, [], ◌∷◌, arith, sym, ap, ◌∙◌, subst, refl, Option, Some, None, ◌⊎◌, inl, inr}
 use Rattle.std.specs.Prelude.{option_map, slice_get}
 use Rattle.std.proofs.lemmas.Option.{some_pair_parts}
 use Rattle.board_layout.specs.declared.type_detail.TypeDetail.{TypeDetail}
@@ -9,7 +9,10 @@ use Rattle.board_model.specs.Tables.{entry_found, entry_from, of_type}
 use Rattle.board_model.specs.TypeTable.{same_type}
 use Rattle.script_board_rows.specs.Found.{place_found}
 use Rattle.script_board_tables.specs.Calls.{place_and_id}
-use Rattle.script_board_tables.proofs.Takes.{chosen}
+
+chosen : {A : Type 0} (b : Bool) (x y z : A) → cond b x y ≡ z → ((b ≡ true) × (x ≡ z)) ⊎ ((b ≡ false) × (y ≡ z))
+chosen true x y z e = inl (refl, e)
+chosen false x y z e = inr (refl, e)
 
 abbrev pub an_entry : Entry → Option Entry
 an_entry e = Some e

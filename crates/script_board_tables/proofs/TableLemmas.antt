@@ -126,7 +126,7 @@ anew party from to s = record s { tables = with_name s.tables party from to }
 
 -- a thing has another name
 pub renamed : (mid new : BoardTables) (s : Standing) (m : ℕ → List ℕ) (l : Published) (party from to : List ℕ) → Has mid s m l
-    → new.things ≡ map (named_anew party from to) mid.things → new.boards.items ≡ mid.boards.items → new.last_board ≡ mid.last_board → new.last_port ≡ mid.last_port
+    → new.things ≡ map (named_anew party from to) mid.things → new.boards.boards ≡ mid.boards.boards → new.boards.last ≡ mid.boards.last → new.last_port ≡ mid.last_port
     → ((p n : List ℕ) → loan_at new p n ≡ loan_at mid p n) → ((p n : List ℕ) → kept_at new p n ≡ kept_at mid p n) → memory_of new ≡ memory_of mid → published_of new ≡ published_of mid
     → Has new (anew party from to s) m l
 renamed mid new s m l party from to h things boards b p loans values memory lists = record {
@@ -144,13 +144,13 @@ unchanged t = record { standing = refl; memory = refl; lists = refl }
 
 -- ---- what goes
 
-module _ (old new : BoardTables) (party name : List ℕ) (b : new.last_board ≡ old.last_board) (p : new.last_port ≡ old.last_port)
+module _ (old new : BoardTables) (party name : List ℕ) (b : new.boards.last ≡ old.boards.last) (p : new.last_port ≡ old.last_port)
     (loans : (p n : List ℕ) → loan_at new p n ≡ loan_at old p n) (values : (p n : List ℕ) → kept_at new p n ≡ kept_at old p n) (memory : memory_of new ≡ memory_of old) (lists : published_of new ≡ published_of old) where
   abbrev released_by : Option Held → Standing
   released_by o = record (standing_of old) { tables = released_thing (tables_of old) party name o }
 
   -- nothing was under the name
-  pub nothing_went : thing_of old.things party name ≡ None → new.things ≡ old.things → new.boards.items ≡ old.boards.items
+  pub nothing_went : thing_of old.things party name ≡ None → new.things ≡ old.things → new.boards.boards ≡ old.boards.boards
       → Has new (released_by (thing_of old.things party name)) (memory_of old) (published_of old)
   nothing_went none things boards = record {
     standing = standing_is new (released_by None) (λ i. record { boards = boards i; things = things i; last_board = b i; last_port = p i }) loans values ∙ ap released_by (sym none);
@@ -160,7 +160,7 @@ module _ (old new : BoardTables) (party name : List ℕ) (b : new.last_board ≡
 
   -- a thing was, and a board goes with its last one
   pub thing_went : (x : Held) → thing_of old.things party name ≡ Some x → new.things ≡ without_first (is_held_as party name) old.things
-      → new.boards.items ≡ boards_left old.boards.items x.board (without_first (is_held_as party name) old.things)
+      → new.boards.boards ≡ boards_left old.boards.boards x.board (without_first (is_held_as party name) old.things)
       → Has new (released_by (thing_of old.things party name)) (memory_of old) (published_of old)
   thing_went x found things boards = record {
     standing = standing_is new (released_by (Some x)) (λ i. record { boards = boards i; things = things i; last_board = b i; last_port = p i }) loans values ∙ ap released_by (sym found);

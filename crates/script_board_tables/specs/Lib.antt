@@ -1,3 +1,4 @@
+pub mod Boards
 pub mod Tables
 pub mod Calls
 pub mod Steps

@@ -27,9 +27,9 @@ use Rattle.script_board_tables.specs.Calls.{HasCome, IsFor}
 
 -- more numbers of boards and ports are left, and the boards are those of a script
 pub record CanAsk (t : BoardTables) : Type 0 where
-  pub boards : t.last_board < 2 ^ 64 - 1
+  pub boards : t.boards.last < 2 ^ 64 - 1
   pub ports : t.last_port < 2 ^ 64 - 1
-  pub formed : AllByRecursion IsFormedBoard t.boards.items
+  pub formed : AllByRecursion IsFormedBoard t.boards.boards
 
 -- the word that the get owes is one of its board
 pub record CanRead (t : BoardTables) (f : Fetch) (r : Reading) : Type 0 where

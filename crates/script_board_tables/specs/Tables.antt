@@ -1,5 +1,5 @@
 -- What of the definitions' state a checker's tables of boards have.
-use Rattle.std.specs.Prelude.{◌≡◌, ℕ, Bool, ◌&&◌, ◌==◌, if◌then◌else◌, nat_eq, List, [], slice_get, Option, Some, None, option_map}
+use Rattle.std.specs.Prelude.{◌≡◌, ℕ, ◌==◌, if◌then◌else◌, nat_eq, List, [], slice_get, Option, Some, None, option_map}
 use Rattle.std.specs.HashMap.{get}
 use Rattle.std.specs.Global.{Vec}
 use Rattle.board_model.specs.Tables.{Tables}
@@ -12,7 +12,7 @@ pub use Rattle.script_things.specs.Named.{SeatOf, same_seat}
 
 -- the boards and things
 abbrev pub tables_of : BoardTables → Tables (List ℕ) (List ℕ)
-tables_of t = record { boards = t.boards.items; things = t.things; last_board = t.last_board; last_port = t.last_port }
+tables_of t = record { boards = t.boards.boards; things = t.things; last_board = t.boards.last; last_port = t.last_port }
 
 -- the words of a loan
 abbrev pub loan_at : BoardTables → List ℕ → List ℕ → Option (List (Option ℕ))

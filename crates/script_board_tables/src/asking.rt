@@ -1,5 +1,5 @@
 //! Calls on the tables: what they are told, and what they leave.
-ghost use Rattle.std.specs.Prelude.{◌≡◌, ◌++◌, ◌∷◌, [], if◌then◌else◌, IfOk, OnOk, Some, ℕ, nat_eq, nat_le, option_map};
+ghost use Rattle.std.specs.Prelude.{◌≡◌, ◌<◌, ◌++◌, ◌∷◌, [], None, find, if◌then◌else◌, IfOk, OnOk, Some, ℕ, nat_eq, nat_le, option_map};
 ghost use Rattle.std.specs.HashMap.{get};
 ghost use Rattle.board_model.specs.Memory.{with_board};
 ghost use Rattle.board_model.specs.declared.tables.Kind.TheVariants as kind;
@@ -27,7 +27,7 @@ use board_names::{
     ReaderCreateError, WriterCreateError,
 };
 use script_board_rows::{find, has_equal_keys, meets, open};
-use script_things::{Held, NamedThings, board_named, entry_of, info_of, keys_of, port_of};
+use script_things::{Held, NamedThings, entry_of, info_of, keys_of, port_of};
 use std::alloc::AllocError;
 use std::collections::HashMap;
 
@@ -136,6 +136,8 @@ impl BoardTables {
         words: Vec<u64>,
         published: Vec<Vec<Words>>,
     ) -> Result<(), AllocError>
+        requires above { (tables_of self.old).last_board < board.number }
+        requires free { find (model.has_name board.name) (tables_of self.old).boards ≡ None }
         ensures { OnOk result (Has self.new
             (record (standing_of self.old) {
               tables = calls.with_thing
@@ -162,7 +164,6 @@ impl BoardTables {
             board: number,
             kind: Kind::Factory,
         })?;
-        self.last_board = number;
         Ok(())
     }
 
@@ -180,7 +181,7 @@ impl BoardTables {
         ensures { IfOk result (Asks self.old self.new party.now (requests.table
             (requests.create factory name.now key_type limits attributes entries.now))) }
     {
-        if board_named(name, &self.boards).is_some() {
+        if self.boards.named(name).is_some() {
             return Ok(Reply::CreateError(BlackboardCreateError::AlreadyExists));
         }
         if entries.is_empty() {
@@ -193,7 +194,7 @@ impl BoardTables {
         match laid {
             None => Ok(Reply::CreateError(BlackboardCreateError::ServiceInCorruptedState)),
             Some(opening) => {
-                let number = self.last_board + 1;
+                let number = self.boards.last() + 1;
                 let board = board_of(number, name, key_type, limits, attributes, opening.entries);
                 self.make_board(party, factory, board, opening.words, opening.published)?;
                 Ok(Reply::Number(number))
@@ -223,7 +224,7 @@ impl BoardTables {
         ensures { IfOk result (Asks self.old self.new party.now (requests.table
             (requests.open_ factory name.now key_type limits needs.now))) }
     {
-        let found = board_named(name, &self.boards);
+        let found = self.boards.named(name);
         let number = number_of(found);
         match open_refusal(party, found, key_type, limits, needs, &self.things) {
             Some(error) => Ok(Reply::OpenError(error)),

@@ -3,10 +3,12 @@
 //!
 //! `specs/Tables` says what of the definitions' state a `BoardTables` has, `specs/Calls` which request a call is and how far it
 //! is. `find` looks a call up (`requests`), `step` makes its next access (`step`), `release` lets a thing go. Each contract is
-//! an equation with the definitions' own function. Nothing of a domain and no call core is used.
+//! an equation with the definitions' own function. `specs/Boards` has the indexes by which a board is found. Nothing of a domain and
+//! no call core is used.
 #![tactic(auto)]
 
 mod asking;
+mod boards;
 mod calls;
 mod cells;
 mod laws;

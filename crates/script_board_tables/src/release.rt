@@ -1,34 +1,10 @@
 //! Letting a thing or a value go.
-ghost use Rattle.std.specs.Prelude.{◌≡◌};
-ghost use Rattle.std.specs.List.{position_from};
 ghost use Rattle.board_model.specs.Replies.{dropped, released_thing};
-ghost use Rattle.board_model.specs.Tables as model;
 ghost use Rattle.board_model.specs.Things.{thing_of};
 ghost use Rattle.script_board_tables.specs.Tables.{Has, memory_of, published_of, standing_of, tables_of};
 
 use crate::tables::BoardTables;
-use board_model::{Board, Name};
-
-// Where the board with the number stands.
-fn place_of_board(number: u64, boards: &[Board]) -> Option<usize>
-    ensures { result ≡ position_from (model.is_numbered number) 0 boards.now }
-{
-    for (i, board) in boards.iter().enumerate() {
-        if board.number == number {
-            return Some(i);
-        }
-    }
-    None
-}
-
-// Takes the board with the number out of the others.
-fn take_board(number: u64, boards: &mut Vec<Board>)
-    ensures { boards.new.items ≡ model.without_first (model.is_numbered number) boards.old.items }
-{
-    if let Some(place) = place_of_board(number, boards) {
-        let _ = boards.remove(place);
-    }
-}
+use board_model::Name;
 
 impl BoardTables {
     /// What the party held under the name goes, and a board with its last thing.
@@ -55,6 +31,6 @@ impl BoardTables {
         if self.things.has_thing(gone.board) {
             return;
         }
-        take_board(gone.board, &mut self.boards);
+        self.boards.take(gone.board);
     }
 }

@@ -6,8 +6,9 @@ ghost use Rattle.board_model.specs.LawfulSession as session;
 ghost use Rattle.board_model.specs.Tables as model;
 ghost use Rattle.script_board_tables.specs.Tables.{Has, kept_at, kept_in, loan_at, memory_of, published_of, same_seat, standing_of, tables_of};
 
+use crate::boards::Boards;
 use board_model::{Board, Entry, Items, Kind, Name, ThingKind, ValueType, Words};
-use script_things::{Held, NamedThings, Seat, board_at, entry_at, entry_of};
+use script_things::{Held, NamedThings, Seat, entry_of};
 use std::alloc::{AllocError, Global};
 use std::collections::HashMap;
 
@@ -36,9 +37,8 @@ pub(crate) struct BoardRow {
 #[derive(Drop)]
 pub struct BoardTables {
     pub(crate) alloc: Global,
-    pub(crate) boards: Vec<Board>,
+    pub(crate) boards: Boards,
     pub(crate) things: NamedThings,
-    pub(crate) last_board: u64,
     pub(crate) last_port: u64,
     // by the number of the board
     pub(crate) rows: HashMap<u64, BoardRow>,
@@ -53,9 +53,8 @@ impl BoardTables {
     {
         BoardTables {
             alloc,
-            boards: Vec::new(alloc),
+            boards: Boards::new(alloc),
             things: NamedThings::new(alloc),
-            last_board: 0,
             last_port: 0,
             rows: HashMap::new(alloc),
             loans: HashMap::new(alloc),
@@ -122,14 +121,14 @@ impl BoardTables {
         ensures { option_map (λ e. e.now) result
             ≡ requests.handled (standing_of self.now) thing.now }
     {
-        entry_at(thing.board, entry_of(&thing.kind), &self.boards)
+        self.boards.entry_at(thing.board, entry_of(&thing.kind))
     }
 
     // The board that stands under a number.
     pub(crate) fn board(&self, number: u64) -> Option<&Board>
         ensures { option_map (λ b. b.now) result ≡ model.board_at (tables_of self.now) number }
     {
-        board_at(number, &self.boards)
+        self.boards.at(number)
     }
 
     /// Whether a party holds a thing or a value under a name.

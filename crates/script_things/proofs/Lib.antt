@@ -1,4 +1,4 @@
-mod PlaceLemmas
+pub mod PlaceLemmas
 mod TakenLemmas
 mod ToldLemmas
 mod SeatLemmas

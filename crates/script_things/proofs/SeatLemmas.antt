@@ -1,11 +1,11 @@
 -- The index of things, after a change of them.
-use Rattle.std.proofs.Common.{◌≡◌, ℕ, zero, suc, ◌<◌, Bool, true, false, cond, List, [], ◌∷◌, ◌++◌, length, get_or, set, Option, Some, None, refl, sym, ap, ◌∙◌, subst, ◌⊎◌, inl, inr}
+use Rattle.std.proofs.Common.{◌≡◌, ℕ, zero, suc, Bool, true, false, cond, List, [], ◌∷◌, ◌++◌, length, get_or, set, Option, Some, None, refl, sym, ap, ◌∙◌, subst, ◌⊎◌, inl, inr}
 use Rattle.std.specs.Prelude.{is_some, slice_get}
 use Rattle.std.specs.Str.{bytes_eq}
 use Rattle.std.proofs.lemmas.Bool.{and_parts}
 use Rattle.std.proofs.lemmas.Slice.Eq.{bytes_eq-Decides}
 use Rattle.board_model.specs.Tables.{holds_at}
-use Rattle.board_model.specs.Things.{Held, is_held_as}
+use Rattle.board_model.specs.Things.{Held}
 use Rattle.script_things.specs.Named.{SeatOf, called, is_at, same_seat}
 use Rattle.script_things.specs.Places.{IsFirstAt, IsNowhere, IsOnlyAt, IsPlace}
 use Rattle.script_things.proofs.PlaceLemmas.{first_of_only, gone_set, here_pushed, here_set, inside, none_pushed, none_set, other_pushed, other_set, passes_at}

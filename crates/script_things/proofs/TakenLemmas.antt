@@ -1,6 +1,6 @@
 -- What is kept of what is taken of a board, as things come and go.
 use Rattle.std.proofs.Common.{◌≡◌, ℕ, ◌+◌, ◌-◌, ◌<◌, ◌≤◌, ◌^◌, Bool, true, false, cond, List, [], ◌∷◌, ◌++◌, length, map, Option, Some, None, refl, sym, ap, ◌∙◌, subst, arith}
-use Rattle.std.specs.Prelude.{◌==◌, ◌&&◌, find, count_by, is_some, nat_eq, nat_le}
+use Rattle.std.specs.Prelude.{◌==◌, ◌&&◌, find, count_by, is_some, nat_eq}
 use Rattle.std.specs.List.{list_any}
 use Rattle.std.specs.Str.{bytes_eq}
 use Rattle.std.specs.BTreeMap as tree
@@ -13,7 +13,7 @@ use Rattle.std.proofs.lemmas.Bool.Decides.{nat_tests}
 use Rattle.std.proofs.lemmas.List.Sums.{count_by-le-length}
 use Rattle.std.proofs.lemmas.Slice.Eq.{bytes_eq-Decides}
 use Rattle.board_model.specs.declared.tables.Kind.{Kind}
-use Rattle.board_model.specs.Tables.{holds_at, is_held_by, is_node, is_of_board, is_of_port, is_reader, is_reader_of, is_write_handle, nodes_taken, reader_slots, without_first, writer_port, writes_entry}
+use Rattle.board_model.specs.Tables.{holds_at, is_held_by, is_of_board, is_of_port, is_reader, is_reader_of, is_write_handle, without_first, writer_port, writes_entry}
 use Rattle.board_model.specs.Things.{Held, is_held_as, named_anew}
 use Rattle.board_model.proofs.ListLemmas.{any_counts, count_agree, count_map, count_none, count_push, count_without}
 use Rattle.script_things.specs.declared.taken.Taken.{Taken}

@@ -1,41 +1,14 @@
-//! What stands among boards, and among things without an index.
-ghost use Rattle.std.specs.Prelude.{◌≡◌, ◌<◌, Some, find, length, map, option_map, slice_get, slice_set};
-ghost use Rattle.board_model.specs.Tables as tables;
+//! Things where no index says where they stand.
+ghost use Rattle.std.specs.Prelude.{◌≡◌, ◌<◌, Some, length, map, option_map, slice_get, slice_set};
 ghost use Rattle.board_model.specs.Things as held;
 ghost use Rattle.script_things.specs.Named.{called, is_at};
 ghost use Rattle.script_things.specs.Places.{IsFirstPlace};
 
 use crate::seats::Seat;
-use board_layout::Text;
-use board_model::{Board, Entry, Name, Thing};
+use board_model::{Name, Thing};
 
 /// A thing of a board, under its party and its name.
 pub type Held = Thing<Name, Name>;
-
-/// The board with the name.
-pub fn board_named<'a>(name: &Text<255>, boards: &'a [Board]) -> Option<&'a Board>
-    ensures { option_map (λ b. b.now) result ≡ find (tables.has_name name.now) boards.now }
-{
-    boards.iter().find(|b| b.name == *name)
-}
-
-/// The board with the number.
-pub fn board_at(number: u64, boards: &[Board]) -> Option<&Board>
-    ensures { option_map (λ b. b.now) result ≡ find (tables.is_numbered number) boards.now }
-{
-    boards.iter().find(|b| b.number == number)
-}
-
-/// The entry of a board at a place.
-pub fn entry_at(number: u64, entry: u64, boards: &[Board]) -> Option<&Entry>
-    ensures { option_map (λ e. e.now) result
-        ≡ tables.entry_in (find (tables.is_numbered number) boards.now) entry }
-{
-    match board_at(number, boards) {
-        Some(board) => board.entries.as_slice().get(entry as usize),
-        None => None,
-    }
-}
 
 // Where the first thing stands that a party holds under a name.
 pub(crate) fn first_place(seat: &Seat, places: &[Option<Held>]) -> Option<usize>

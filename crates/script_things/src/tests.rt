@@ -1,4 +1,4 @@
-//! Things and boards of a session: what is taken of a board, and things by other names.
+//! Things of a session: what is taken of a board, and things by other names.
 use crate::{Held, NamedThings, entry_of, info_of, port_of};
 use board_layout::Text;
 use board_model::{Attributes, Board, Entries, KeyType, Kind, Name, ThingKind, key_detail};

@@ -1,6 +1,6 @@
 use Rattle.std.specs.Prelude.{nat_eq}
 use Rattle.std.specs.HashMap.{get}
-use Rattle.script_things.proofs.TakenLemmas.{row_raised, row_same, small_same}
+use Rattle.script_things.proofs.TakenLemmas.{small_same}
 use Rattle.script_things.proofs.taken.raise.Goals as goal
 
 pub raise_row-requires-clause-small : goal.raise_row-requires-clause-small

@@ -12,6 +12,6 @@ a_board b = Some b
 
 pub returns-in_ok-keys-in-Some : goal.returns-in_ok-keys-in-Some
 returns-in_ok-keys-in-Some c =
-    let found : find (is_numbered c.args.number) c.args.self.now.boards.items ≡ a_board c.in-Some.board.now = search rules in
+    let found : find (is_numbered c.args.number) c.args.self.now.boards.boards ≡ a_board c.in-Some.board.now = search rules in
     let listed : c.in_ok-keys-in-Some.keys ≡ map (key_shown (key_type_of c.in-Some.board.now.key)) c.in-Some.board.now.entries = search rules in
-    listed ∙ board_shown c.args.number c.args.self.now.boards.items c.in-Some.board.now c.requires.formed found
+    listed ∙ board_shown c.args.number c.args.self.now.boards.boards c.in-Some.board.now c.requires.formed found

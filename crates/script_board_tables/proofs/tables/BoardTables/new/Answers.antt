@@ -10,7 +10,7 @@ seat party name = record { party = party; name = name }
 pub returns : goal.returns
 returns c = record {
   standing = λ i. record {
-    tables = record { boards = c.new.ensures.items i; things = c.new-2.ensures i; last_board = 0; last_port = 0 };
+    tables = record { boards = c.new.ensures.boards i; things = c.new-2.ensures i; last_board = c.new.ensures.last i; last_port = 0 };
     loans = λ p n. lookup (same_seat (seat p n)) (c.new-4.ensures.empty i);
     values = λ p n. option_map kept_in (lookup (same_seat (seat p n)) (c.new-5.ensures.empty i));
   };

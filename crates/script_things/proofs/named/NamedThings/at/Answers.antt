@@ -1,5 +1,4 @@
-use Rattle.std.proofs.Common.{◌≡◌, List, Option, None, rules, sym, ap, subst, ◌∙◌}
-use Rattle.std.specs.Prelude.{ℕ}
+use Rattle.std.proofs.Common.{List, Option, rules, sym, ap, subst, ◌∙◌}
 use Rattle.board_model.specs.Things.{Held, thing_of}
 use Rattle.script_things.specs.Named.{SeatOf, is_at}
 use Rattle.script_things.specs.Places.{IsFirstPlace}

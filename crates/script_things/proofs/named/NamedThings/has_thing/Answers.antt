@@ -1,6 +1,5 @@
 use Rattle.std.proofs.Common.{rules, ap, ◌∙◌}
 use Rattle.std.specs.Prelude.{nat_le}
-use Rattle.script_things.specs.Places.{standing}
 use Rattle.script_things.proofs.ToldLemmas.{thing_is_node}
 use Rattle.script_things.proofs.named.NamedThings.has_thing.Goals as goal
 

@@ -1,7 +1,6 @@
-use Rattle.std.proofs.Common.{◌≡◌, List, Option, rules, sym, ap, subst, ◌∙◌, []}
-use Rattle.std.specs.Prelude.{ℕ, nat_eq, option_copied}
+use Rattle.std.proofs.Common.{◌≡◌, List, rules, sym, ap, subst, ◌∙◌, []}
+use Rattle.std.specs.Prelude.{ℕ, option_copied}
 use Rattle.std.specs.BTreeMap as tree
-use Rattle.std.specs.HashMap.{get}
 use Rattle.board_model.specs.Replies.{nodes_of}
 use Rattle.script_things.specs.Taken.{IsTaken}
 use Rattle.script_things.specs.Places.{standing}

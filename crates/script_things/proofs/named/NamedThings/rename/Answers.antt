@@ -1,13 +1,11 @@
-use Rattle.std.proofs.Common.{◌≡◌, ◌<◌, List, length, map, get_or, set, Option, Some, None, rules, sym, ap, subst, ◌∙◌}
-use Rattle.std.specs.Prelude.{ℕ, option_map, slice_get, slice_set}
+use Rattle.std.proofs.Common.{List, map, Option, sym, ap, subst, ◌∙◌}
 use Rattle.board_model.specs.Things.{Held, named_anew}
 use Rattle.script_things.specs.declared.seats.Seats.{Seats}
-use Rattle.script_things.specs.declared.seats.Renaming.{Renaming}
-use Rattle.script_things.specs.Named.{IsIndex, IsRenamedAt, Renames, SeatOf, called, is_at}
+use Rattle.script_things.specs.Named.{IsIndex, Renames, SeatOf, called, is_at}
 use Rattle.script_things.specs.Places.{standing}
 use Rattle.script_things.specs.Taken.{AreTaken}
 use Rattle.script_things.proofs.PlaceLemmas.{changed_at, first_of_only, inside, none_changed, standing_mapped}
-use Rattle.script_things.proofs.SeatLemmas.{StandsAt, stands_at}
+use Rattle.script_things.proofs.SeatLemmas.{stands_at}
 use Rattle.script_things.proofs.TakenLemmas.{all_renamed}
 use Rattle.script_things.proofs.named.NamedThings.rename.Goals as goal
 

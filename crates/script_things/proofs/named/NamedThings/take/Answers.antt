@@ -1,9 +1,9 @@
-use Rattle.std.proofs.Common.{◌≡◌, true, false, List, get_or, set, Option, Some, None, rules, sym, ap, subst, ◌∙◌}
+use Rattle.std.proofs.Common.{◌≡◌, true, false, List, get_or, Option, Some, None, rules, sym, ap, subst, ◌∙◌}
 use Rattle.std.specs.Prelude.{ℕ, find, slice_set}
 use Rattle.board_model.specs.Tables.{holds_at, without_first}
 use Rattle.board_model.specs.Things.{Held, is_held_as, thing_of}
 use Rattle.script_things.specs.Named.{IsIndex, SeatOf, is_at}
-use Rattle.script_things.specs.Places.{IsFirstAt, IsFirstPlace, IsNowhere, standing}
+use Rattle.script_things.specs.Places.{IsFirstPlace, standing}
 use Rattle.script_things.specs.Taken.{AreTaken}
 use Rattle.script_things.proofs.PlaceLemmas.{found_at, inside, none_found, none_without, passes_at, without_at}
 use Rattle.script_things.proofs.TakenLemmas.{all_less, one_stands}

@@ -1,8 +1,6 @@
-use Rattle.std.proofs.Common.{◌≡◌, Option, Some, None, rules, sym, ap, subst, ◌∙◌}
-use Rattle.std.specs.Prelude.{nat_eq, nat_le, option_copied}
-use Rattle.std.specs.HashMap.{get}
+use Rattle.std.proofs.Common.{sym, ap, subst, ◌∙◌}
+use Rattle.std.specs.Prelude.{option_copied}
 use Rattle.board_model.specs.Tables.{writer_slots}
-use Rattle.script_things.specs.declared.taken.Taken.{Taken}
 use Rattle.script_things.specs.Taken.{IsTaken}
 use Rattle.script_things.specs.Places.{standing}
 use Rattle.script_things.proofs.ToldLemmas.{no_slots, slots_counted}

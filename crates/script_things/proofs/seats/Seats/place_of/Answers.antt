@@ -1,9 +1,8 @@
-use Rattle.std.proofs.Common.{◌≡◌, Option, Some, None, sym, ap, subst, ◌∙◌}
-use Rattle.std.specs.Prelude.{ℕ, cond, is_some}
+use Rattle.std.proofs.Common.{sym, subst, ◌∙◌}
 use Rattle.std.specs.HashMap.{get}
 use Rattle.script_things.specs.declared.seats.Seats.{Seats}
 use Rattle.script_things.specs.Named.{IsIndex, is_at, same_seat}
-use Rattle.script_things.specs.Places.{IsFirstPlace, IsPlace}
+use Rattle.script_things.specs.Places.{IsFirstPlace}
 use Rattle.script_things.proofs.PlaceLemmas.{first_place_of}
 use Rattle.script_things.proofs.seats.Seats.place_of.Goals as goal
 

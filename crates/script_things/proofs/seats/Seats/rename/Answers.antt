@@ -1,9 +1,9 @@
-use Rattle.std.proofs.Common.{◌≡◌, Option, Some, None, sym, ap, subst, ◌∙◌}
-use Rattle.std.specs.Prelude.{ℕ, cond, is_some}
+use Rattle.std.proofs.Common.{Option, Some, sym, ap, subst, ◌∙◌}
+use Rattle.std.specs.Prelude.{ℕ, cond}
 use Rattle.std.specs.HashMap.{get}
 use Rattle.script_things.specs.declared.seats.Seats.{Seats}
 use Rattle.script_things.specs.Named.{IsIndex, is_at, same_seat}
-use Rattle.script_things.specs.Places.{IsFirstPlace, IsPlace}
+use Rattle.script_things.specs.Places.{IsPlace}
 use Rattle.script_things.proofs.SeatLemmas.{only_there, renamed}
 use Rattle.script_things.proofs.seats.Seats.rename.Goals as goal
 

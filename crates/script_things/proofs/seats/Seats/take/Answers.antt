@@ -1,9 +1,9 @@
-use Rattle.std.proofs.Common.{◌≡◌, Option, Some, None, sym, ap, subst, ◌∙◌, rules}
+use Rattle.std.proofs.Common.{◌≡◌, Option, Some, subst, rules}
 use Rattle.std.specs.Prelude.{ℕ}
 use Rattle.std.specs.HashMap.{get}
 use Rattle.script_things.specs.declared.seats.Seats.{Seats}
 use Rattle.script_things.specs.Named.{IsIndex, is_at, same_seat}
-use Rattle.script_things.specs.Places.{IsFirstPlace, IsPlace}
+use Rattle.script_things.specs.Places.{IsFirstPlace}
 use Rattle.script_things.proofs.PlaceLemmas.{first_place_of}
 use Rattle.script_things.proofs.SeatLemmas.{taken}
 use Rattle.script_things.proofs.seats.Seats.take.Goals as goal
