@@ -2,32 +2,16 @@
 use board_channel::{
     Channel, ChannelRegistry, CommunicationChannel, CommunicationChannelConnector,
     CommunicationChannelCreator, CommunicationChannelReceiver, CommunicationChannelSender,
+    Connector, Creator,
 };
 use board_names::{
     CommunicationChannelOpenError, Configuration, FileName, NamedConceptBuilder,
-    NamedConceptConfiguration, NamedConceptMgmt,
+    NamedConceptConfiguration, NamedConceptDoesExistError, NamedConceptMgmt,
 };
 use std::alloc::Global;
 use std::process::Abort;
 use std::sync::Wait;
 use std::test::Fail;
-
-// A new channel's receiver, and two senders that were opened in the two ways.
-fn ends<R: Wait, C: CommunicationChannel>(
-    rt: &R,
-    alloc: Global,
-    registry: &C::Registry,
-    name: &FileName,
-) -> Result<(C::Receiver, C::Sender, C::Sender), Fail>
-where
-    C::Receiver: Drop,
-    C::Sender: Drop,
-{
-    let receiver = C::Creator::new(name, registry)?.create_receiver(rt, alloc)?;
-    let sender = C::Connector::new(name, registry)?.open_sender(rt)?;
-    let other = C::Connector::new(name, registry)?.try_open_sender(rt)?;
-    Ok((receiver, sender, other))
-}
 
 // What is sent in either way is received in its order, once.
 fn carries<R: Wait + Abort, T: CommunicationChannelReceiver, S: CommunicationChannelSender>(
@@ -48,29 +32,33 @@ fn carries<R: Wait + Abort, T: CommunicationChannelReceiver, S: CommunicationCha
     assert_eq!(rt; receiver.receive(rt), Ok(None));
 }
 
-// It goes to the channel that was opened, and to no other.
+// It goes to the channel that was opened, and to no other: the senders are opened when both channels are there.
 fn leads_to_its_channel<R: Wait + Abort, C: CommunicationChannel>(
     rt: &R,
     alloc: Global,
     registry: &C::Registry,
+    (c, d): (&FileName, &FileName),
 ) -> Result<(), Fail>
 where
     C::Receiver: Drop,
     C::Sender: Drop,
 {
-    let name = FileName::new(b"c")?;
-    let (receiver, sender, other) = ends::<_, C>(rt, alloc, registry, &name)?;
-    let (stranger, _, _) = ends::<_, C>(rt, alloc, registry, &FileName::new(b"d")?)?;
-    carries(rt, &receiver, &sender, &other);
-    assert_eq!(rt; stranger.receive(rt), Ok(None));
+    let at_c = C::Creator::new(c, registry)?.create_receiver(rt, alloc)?;
+    let at_d = C::Creator::new(d, registry)?.create_receiver(rt, alloc)?;
+    for (name, receiver, stranger) in [(c, &at_c, &at_d), (d, &at_d, &at_c)] {
+        let sender = C::Connector::new(name, registry)?.open_sender(rt)?;
+        let other = C::Connector::new(name, registry)?.try_open_sender(rt)?;
+        carries(rt, receiver, &sender, &other);
+        assert_eq!(rt; stranger.receive(rt), Ok(None));
+    }
     Ok(())
 }
 
-// A name is there until it is removed, once, and then nobody opens it.
+// A name is there until it is removed, once, and then nobody opens it. Another name stays.
 fn is_removed<R: Wait + Abort, C: CommunicationChannel>(
     rt: &R,
     registry: &C::Registry,
-    name: &FileName,
+    (name, stranger): (&FileName, &FileName),
 ) -> Result<(), Fail>
 where
     C::Sender: Drop,
@@ -82,6 +70,8 @@ where
     let after = C::does_exist_cfg(rt, registry, name, &config);
     assert_eq!(rt; (before, after), (Ok(true), Ok(false)));
     assert_eq!(rt; (first, second), (Ok(true), Ok(false)));
+    let held = C::does_exist_cfg(rt, registry, stranger, &config);
+    assert_eq!(rt; held, Ok(true));
     let opened = C::Connector::new(name, registry)?.open_sender(rt);
     assert_eq!(rt;
         opened.err(),
@@ -98,8 +88,33 @@ where
 #[test]
 fn any_channel_is_used_by_the_traits(rt: HostRuntime) -> Result<(), Fail> {
     let registry = ChannelRegistry::new(rt.alloc())?;
-    leads_to_its_channel::<_, Channel>(&rt, rt.alloc(), &registry)?;
-    let name = FileName::new(b"e")?;
-    let _ends = ends::<_, Channel>(&rt, rt.alloc(), &registry, &name)?;
-    is_removed::<_, Channel>(&rt, &registry, &name)
+    let (c, d) = (FileName::new(b"c")?, FileName::new(b"d")?);
+    leads_to_its_channel::<_, Channel>(&rt, rt.alloc(), &registry, (&c, &d))?;
+    is_removed::<_, Channel>(&rt, &registry, (&c, &d))
+}
+
+// Which of the two names are there.
+fn held<R: Wait>(
+    rt: &R,
+    registry: &ChannelRegistry,
+    (name, stranger): (&FileName, &FileName),
+) -> [Result<bool, NamedConceptDoesExistError>; 2] {
+    let config = Configuration::with_suffix(&Channel::default_suffix());
+    [name, stranger].map(|one| Channel::does_exist_cfg(rt, registry, one, &config))
+}
+
+#[test]
+fn a_name_goes_with_its_receiver_alone(rt: HostRuntime) -> Result<(), Fail> {
+    let registry = ChannelRegistry::new(rt.alloc())?;
+    let (c, d) = (FileName::new(b"c")?, FileName::new(b"d")?);
+    let receiver = Creator::new(&c, &registry)?.create_receiver(&rt, rt.alloc())?;
+    let _stranger = Creator::new(&d, &registry)?.create_receiver(&rt, rt.alloc())?;
+    let sender = Connector::new(&c, &registry)?.open_sender(&rt)?;
+    let other = Connector::new(&c, &registry)?.try_open_sender(&rt)?;
+    sender.release(&rt);
+    other.release(&rt);
+    assert_eq!(rt; held(&rt, &registry, (&c, &d)), [Ok(true), Ok(true)]);
+    receiver.release(&rt);
+    assert_eq!(rt; held(&rt, &registry, (&c, &d)), [Ok(false), Ok(true)]);
+    Ok(())
 }

@@ -41,16 +41,27 @@ fn is_filled<R: Wait + Abort, S: StaticStorage + Drop>(
     Ok(())
 }
 
+// What is opened under a name has its bytes: so many, which stand in the front of these three.
+fn has_bytes<R: Wait + Abort, S: StaticStorage + Drop>(
+    rt: &R,
+    registry: &S::Registry,
+    name: &FileName,
+    (len, wanted): (u64, [u8; 3]),
+) -> Result<S, Fail> {
+    let storage = S::Builder::new(name, registry)?.open(rt, 0)?;
+    let mut bytes = [0u8; 3];
+    assert_eq!(rt; (storage.len(), storage.read(&mut bytes)), (len, Ok(())));
+    assert_eq!(rt; bytes, wanted);
+    Ok(storage)
+}
+
 // What is opened has the bytes that were written, and gives up a name that it owns.
 fn is_opened_and_released<R: Wait + Abort, S: StaticStorage + Drop>(
     rt: &R,
     registry: &S::Registry,
     (name, config): (&FileName, &Configuration),
 ) -> Result<(), Fail> {
-    let mut storage = S::Builder::new(name, registry)?.open(rt, 0)?;
-    let mut bytes = [0u8; 3];
-    assert_eq!(rt; (storage.len(), storage.read(&mut bytes)), (2, Ok(())));
-    assert_eq!(rt; bytes, [4, 5, 0]);
+    let mut storage: S = has_bytes(rt, registry, name, (2, [4, 5, 0]))?;
     storage.acquire_ownership();
     storage.release(rt);
     let held = S::does_exist_cfg(rt, registry, name, config);
@@ -79,9 +90,16 @@ fn any_static_storage_is_used_by_the_traits(rt: HostRuntime) -> Result<(), Fail>
     let alloc = rt.alloc();
     let registry = StaticRegistry::new(alloc)?;
     let (name, config) = one_name::<Storage>()?;
+    let (before, behind) = (FileName::new(b"y")?, FileName::new(b"zz")?);
+    let _first = Builder::new(&before, &registry)?.create(&rt, alloc, &[1])?;
+    let _last = Builder::new(&behind, &registry)?.create(&rt, alloc, &[2, 3, 6])?;
     is_filled::<_, Storage>(&rt, alloc, &registry, (&name, &config))?;
     is_opened_and_released::<_, Storage>(&rt, &registry, (&name, &config))?;
-    is_removed::<_, Storage>(&rt, alloc, &registry, (&name, &config))
+    is_removed::<_, Storage>(&rt, alloc, &registry, (&name, &config))?;
+    // The storages before and behind it are as they were.
+    let _first: Storage = has_bytes(&rt, &registry, &before, (1, [1, 0, 0]))?;
+    let _last: Storage = has_bytes(&rt, &registry, &behind, (3, [2, 3, 6]))?;
+    Ok(())
 }
 
 fn unlock_late<R: Wait + Clock>(
