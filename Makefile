@@ -6,8 +6,10 @@ SNAPSHOT = crates/board_snapshot_run/out/board_snapshot_run
 WATCH = crates/board_watch_run/out/board_watch_run
 CHECK = crates/board_check_run/out/board_check_run
 BENCH = crates/board_bench/out/board_bench
+PARAMETERS = crates/example_parameters/out/example_parameters
+SCHEDULER = crates/example_scheduler/out/example_scheduler
 
-.PHONY: test run bench smoke
+.PHONY: test run bench smoke memory
 
 # Proves every crate, tries the must-fail edits, runs the tests and the programs, and tries the programs from outside.
 test:
@@ -42,5 +44,9 @@ bench: $(RUN) $(BENCH)
 smoke: $(RUN) $(SNAPSHOT) $(WATCH) $(CHECK) $(BENCH)
 	./smoke.sh
 
-$(RUN) $(SNAPSHOT) $(WATCH) $(CHECK) $(BENCH):
+# The proved programs with one growth of their memory refused, each in turn. It takes some minutes, and no other target asks for it.
+memory: $(RUN) $(SNAPSHOT) $(WATCH) $(CHECK) $(PARAMETERS) $(SCHEDULER)
+	./memory.sh
+
+$(RUN) $(SNAPSHOT) $(WATCH) $(CHECK) $(BENCH) $(PARAMETERS) $(SCHEDULER):
 	@echo '$@ is not there: make test leaves it' >&2; exit 1

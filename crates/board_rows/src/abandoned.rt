@@ -18,7 +18,7 @@ struct Abandoned {
     call: Part,
     /// What is done and answered then, after each of these lines, and what another party does. The last one stands for further lines too.
     after: &'static [&'static [Part]],
-    other: &'static [Part],
+    other: &'static [&'static [Part]],
 }
 
 // Another party makes the first board, reads it, and listens and waits.
@@ -68,11 +68,10 @@ impl Abandoned {
         for (n, line) in self.call.iter().enumerate() {
             begun.push(*line)?;
             let mut lines = begun.to_vec(alloc)?;
-            if let Some(after) = self.after.get(n).or(self.after.last()) {
-                lines.extend_from_slice(&joined(alloc, after)?)?;
-            }
-            if let Some(other) = self.other.get(n).or(self.other.last()) {
-                lines.extend_from_slice(other)?;
+            for parts in [self.after, self.other] {
+                if let Some(then) = parts.get(n).or(parts.last()) {
+                    lines.extend_from_slice(&joined(alloc, then)?)?;
+                }
             }
             Script {
                 name: line.0,

@@ -1,6 +1,8 @@
-//! What stands after calls on boards were abandoned; and whole scripts, abandoned at each line.
-use crate::readers::ROWS;
-use crate::row::{Part, Script};
+//! What stands after calls on boards were abandoned; what a single thing of an abandoned party holds; and whole scripts, abandoned at each line.
+use super::loans::STILL_HELD;
+use crate::openings::{A_LOAN, FOUR_WORDS};
+use crate::readers;
+use crate::row::{PLAIN, Part, Row, Script, all_hold};
 use std::alloc::Global;
 use std::process::Abort;
 use std::test::Fail;
@@ -75,7 +77,7 @@ pub(super) const C_GOES_ON: Part = &[
     ("step c", "swap bits:other 0 0 = none"),
 ];
 
-/// The same, where a board was made.
+/// The same, where a board was made, which stands.
 pub(super) const C_GOES_ON_AFTER_A_BOARD: Part = &[
     ("begin c create g d u64 add u64:1 u64:5", "ok"),
     ("step c", "table = ok 3"),
@@ -90,6 +92,9 @@ pub(super) const C_GOES_ON_AFTER_A_BOARD: Part = &[
     ("step c", "read 1:2 5"),
     ("step c", "read 1:0 1 = u64:5 gen 1"),
     ("words 3", "words 1 0 5 0"),
+    ("words 2", "words 1 0 5 0"),
+    ("begin c create k c u64 add u64:1 u64:5", "ok"),
+    ("step c", "table = BlackboardCreateError::AlreadyExists"),
     ("begin c listen l bits other 0", "ok"),
     ("step c", "table = ok"),
     ("begin c wait l all try", "ok"),
@@ -141,6 +146,33 @@ pub(super) const C_GETS_THE_UPDATE: Part = &[
     ("step c", "swap bits:other 0 0 = none"),
 ];
 
+/// Things of abandoned parties count: `c` is told of two readers, a writer and three parties.
+pub(super) const TWO_READERS_COUNT: Part = &[
+    ("begin c info f", "ok"),
+    (
+        "step c",
+        "table = info b u64 readers 8 nodes 20 writers 1 entries 1 attrs 0 taken 2 1 3",
+    ),
+];
+
+/// The same, where one more reader was made.
+pub(super) const THREE_READERS_COUNT: Part = &[
+    ("begin c info f", "ok"),
+    (
+        "step c",
+        "table = info b u64 readers 8 nodes 20 writers 1 entries 1 attrs 0 taken 3 1 3",
+    ),
+];
+
+/// The same, where both parties are writers, and `c` is the only reader.
+pub(super) const TWO_WRITERS_COUNT: Part = &[
+    ("begin c info f", "ok"),
+    (
+        "step c",
+        "table = info b u64 readers 8 nodes 20 writers 2 entries 1 attrs 0 taken 1 2 3",
+    ),
+];
+
 /// What then stands in the board.
 pub(super) const AS_IT_WAS: Part = &[("words 1", "words 1 0 5 0")];
 
@@ -149,6 +181,44 @@ pub(super) const A_WORD_WRITTEN: Part = &[("words 1", "words 1 0 5 6")];
 
 /// It was published.
 pub(super) const UPDATED: Part = &[("words 1", "words 2 0 5 6")];
+
+// `a` drops its writer, and is abandoned.
+const THE_WRITER_LEFT: Part = &[("drop a w", "table = ok"), ("abandon a", "gone")];
+
+const ROWS: [Row; 2] = [
+    Row {
+        name: "an abandoned loan holds the place of the writer",
+        opening: &[FOUR_WORDS, A_LOAN, THE_WRITER_LEFT, STILL_HELD],
+        ..PLAIN
+    },
+    Row {
+        name: "an abandoned read handle holds the board",
+        lines: &[
+            ("begin a create f b u64 add u64:1 u64:5", "ok"),
+            ("step a", "table = ok 1"),
+            ("begin a reader r f", "ok"),
+            ("step a", "table = ok 1"),
+            ("begin a entry h r u64:1 u64", "ok"),
+            ("step a", "table = ok 0"),
+            ("drop a f", "table = ok"),
+            ("drop a r", "table = ok"),
+            ("abandon a", "gone"),
+            ("words 1", "words 1 0 5 0"),
+            ("begin c create g b u64 add u64:1 u64:5", "ok"),
+            ("step c", "table = BlackboardCreateError::AlreadyExists"),
+            ("begin c open g b u64", "ok"),
+            ("step c", "table = ok 1"),
+            ("begin c nodes g", "ok"),
+            ("step c", "table = nodes a c"),
+        ],
+        ..PLAIN
+    },
+];
+
+#[test]
+fn a_single_thing_of_an_abandoned_party_holds(rt: HostRuntime) -> Result<(), Fail> {
+    all_hold(&rt, rt.alloc(), &ROWS)
+}
 
 // After these lines both parties are abandoned, and do nothing more.
 fn leaves_both(
@@ -184,7 +254,7 @@ fn leaves_both(
 #[test]
 fn each_row_of_readers_is_abandoned_at_every_line(rt: HostRuntime) -> Result<(), Fail> {
     let alloc = rt.alloc();
-    for row in &ROWS {
+    for row in &readers::ROWS {
         let mut begun = Vec::new(alloc);
         leaves_both(&rt, alloc, row.name, &begun)?;
         for line in &row.all_lines(alloc)? {

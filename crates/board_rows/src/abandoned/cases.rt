@@ -2,7 +2,7 @@
 use super::boards::{
     A_BECOMES_THE_WRITER, A_GETS_NO_HANDLE, A_GETS_THE_HANDLE, A_UPDATES, A_WORD_WRITTEN,
     AS_IT_WAS, B_GONE, B_LEFT, C_GETS_THE_UPDATE, C_GOES_ON, C_GOES_ON_AFTER_A_BOARD,
-    C_GOES_ON_AFTER_A_PORT, UPDATED,
+    C_GOES_ON_AFTER_A_PORT, THREE_READERS_COUNT, TWO_READERS_COUNT, TWO_WRITERS_COUNT, UPDATED,
 };
 use super::events::{
     A_SIGNALLED_ID_IS_FOUND, AN_ID_IS_FOUND, ANOTHER_NOTIFIER, ANOTHER_OF_THE_QUEUE, E_LEFT,
@@ -32,19 +32,25 @@ pub(super) const ON_BOARDS: [Abandoned; 17] = [
             ("step b", "table = ok 2"),
         ],
         after: &[&[B_LEFT, AS_IT_WAS]],
-        other: &[C_GOES_ON, C_GOES_ON_AFTER_A_BOARD],
+        other: &[
+            &[C_GOES_ON, TWO_READERS_COUNT],
+            &[C_GOES_ON_AFTER_A_BOARD, TWO_READERS_COUNT],
+        ],
     },
     Abandoned {
         opening: B_READS_AND_WRITES,
         call: &[("begin b open g b u64", "ok"), ("step b", "table = ok 1")],
         after: &[&[B_LEFT, AS_IT_WAS]],
-        other: &[C_GOES_ON],
+        other: &[&[C_GOES_ON, TWO_READERS_COUNT]],
     },
     Abandoned {
         opening: B_READS_AND_WRITES,
         call: &[("begin b reader s f", "ok"), ("step b", "table = ok 3")],
         after: &[&[B_LEFT, AS_IT_WAS]],
-        other: &[C_GOES_ON, C_GOES_ON_AFTER_A_PORT],
+        other: &[
+            &[C_GOES_ON, TWO_READERS_COUNT],
+            &[C_GOES_ON_AFTER_A_PORT, THREE_READERS_COUNT],
+        ],
     },
     Abandoned {
         opening: B_READS_AND_WRITES,
@@ -56,7 +62,7 @@ pub(super) const ON_BOARDS: [Abandoned; 17] = [
             ),
         ],
         after: &[&[B_LEFT, AS_IT_WAS]],
-        other: &[C_GOES_ON],
+        other: &[&[C_GOES_ON, TWO_READERS_COUNT]],
     },
     // The place of the writer is taken with the step.
     Abandoned {
@@ -66,7 +72,7 @@ pub(super) const ON_BOARDS: [Abandoned; 17] = [
             &[B_GONE, A_BECOMES_THE_WRITER, AS_IT_WAS],
             &[B_LEFT, AS_IT_WAS],
         ],
-        other: &[C_GOES_ON],
+        other: &[&[C_GOES_ON, TWO_READERS_COUNT]],
     },
     Abandoned {
         opening: B_READS_AND_WRITES,
@@ -75,7 +81,7 @@ pub(super) const ON_BOARDS: [Abandoned; 17] = [
             ("step b", "table = ok 0"),
         ],
         after: &[&[B_LEFT, AS_IT_WAS]],
-        other: &[C_GOES_ON],
+        other: &[&[C_GOES_ON, TWO_READERS_COUNT]],
     },
     Abandoned {
         opening: B_READS_AND_WRITES,
@@ -84,7 +90,7 @@ pub(super) const ON_BOARDS: [Abandoned; 17] = [
             ("step b", "table = EntryHandleMutError::HandleAlreadyExists"),
         ],
         after: &[&[B_LEFT, AS_IT_WAS]],
-        other: &[C_GOES_ON],
+        other: &[&[C_GOES_ON, TWO_READERS_COUNT]],
     },
     // The write handle is held with the step, and another writer doesn't get it.
     Abandoned {
@@ -97,19 +103,19 @@ pub(super) const ON_BOARDS: [Abandoned; 17] = [
             &[B_GONE, A_GETS_THE_HANDLE, AS_IT_WAS],
             &[B_GONE, A_GETS_NO_HANDLE, AS_IT_WAS],
         ],
-        other: &[C_GOES_ON],
+        other: &[&[C_GOES_ON, TWO_WRITERS_COUNT]],
     },
     Abandoned {
         opening: B_READS_AND_WRITES,
         call: &[("begin b gen m", "ok"), ("step b", "table = gen 1")],
         after: &[&[B_LEFT, AS_IT_WAS]],
-        other: &[C_GOES_ON],
+        other: &[&[C_GOES_ON, TWO_READERS_COUNT]],
     },
     Abandoned {
         opening: B_READS_AND_WRITES,
         call: &[("begin b id h", "ok"), ("step b", "table = id 0")],
         after: &[&[B_LEFT, AS_IT_WAS]],
-        other: &[C_GOES_ON],
+        other: &[&[C_GOES_ON, TWO_READERS_COUNT]],
     },
     Abandoned {
         opening: B_READS_AND_WRITES,
@@ -121,25 +127,25 @@ pub(super) const ON_BOARDS: [Abandoned; 17] = [
             ),
         ],
         after: &[&[B_LEFT, AS_IT_WAS]],
-        other: &[C_GOES_ON],
+        other: &[&[C_GOES_ON, TWO_READERS_COUNT]],
     },
     Abandoned {
         opening: B_READS_AND_WRITES,
         call: &[("begin b nodes f", "ok"), ("step b", "table = nodes a b")],
         after: &[&[B_LEFT, AS_IT_WAS]],
-        other: &[C_GOES_ON],
+        other: &[&[C_GOES_ON, TWO_READERS_COUNT]],
     },
     Abandoned {
         opening: B_READS_AND_WRITES,
         call: &[("begin b keys f", "ok"), ("step b", "table = keys u64:1")],
         after: &[&[B_LEFT, AS_IT_WAS]],
-        other: &[C_GOES_ON],
+        other: &[&[C_GOES_ON, TWO_READERS_COUNT]],
     },
     Abandoned {
         opening: B_READS_AND_WRITES,
         call: &[("begin b fresh h v", "ok"), ("step b", "read 1:0 1 = true")],
         after: &[&[B_LEFT, AS_IT_WAS]],
-        other: &[C_GOES_ON],
+        other: &[&[C_GOES_ON, TWO_READERS_COUNT]],
     },
     Abandoned {
         opening: B_READS_AND_WRITES,
@@ -150,7 +156,7 @@ pub(super) const ON_BOARDS: [Abandoned; 17] = [
             ("step b", "read 1:0 1 = u64:5 gen 1"),
         ],
         after: &[&[B_LEFT, AS_IT_WAS]],
-        other: &[C_GOES_ON],
+        other: &[&[C_GOES_ON, TWO_READERS_COUNT]],
     },
     // A get that was abandoned keeps nobody from publishing a value, or from reading it.
     Abandoned {
@@ -162,7 +168,7 @@ pub(super) const ON_BOARDS: [Abandoned; 17] = [
             ("step b", "read 1:0 1 = u64:7 gen 1"),
         ],
         after: &[&[GETTER_LEFT, A_UPDATES]],
-        other: &[C_GETS_THE_UPDATE],
+        other: &[&[C_GETS_THE_UPDATE, TWO_READERS_COUNT]],
     },
     // The value is published with the last step.
     Abandoned {
@@ -177,7 +183,11 @@ pub(super) const ON_BOARDS: [Abandoned; 17] = [
             &[B_LEFT, A_WORD_WRITTEN],
             &[B_LEFT, UPDATED],
         ],
-        other: &[C_GOES_ON, C_GOES_ON, C_GETS_THE_UPDATE],
+        other: &[
+            &[C_GOES_ON, TWO_READERS_COUNT],
+            &[C_GOES_ON, TWO_READERS_COUNT],
+            &[C_GETS_THE_UPDATE, TWO_READERS_COUNT],
+        ],
     },
 ];
 
@@ -196,7 +206,7 @@ pub(super) const ON_FOUR_WORDS: [Abandoned; 8] = [
             ("step b", "read 1:0 1 = q4:1,2,3,4 gen 1"),
         ],
         after: &[&[GETTER_LEFT, NO_WORD]],
-        other: &[C_MAKES_THE_SECOND_BOARD],
+        other: &[&[C_MAKES_THE_SECOND_BOARD]],
     },
     Abandoned {
         opening: &[FOUR_WORDS],
@@ -228,7 +238,7 @@ pub(super) const ON_FOUR_WORDS: [Abandoned; 8] = [
             &[GETTER_LEFT, ALL_WORDS],
             &[GETTER_LEFT, PUBLISHED],
         ],
-        other: &[C_MAKES_THE_SECOND_BOARD],
+        other: &[&[C_MAKES_THE_SECOND_BOARD]],
     },
     // An update of four words: its value is published with the last step, and what it wrote before is not read.
     Abandoned {
@@ -249,20 +259,20 @@ pub(super) const ON_FOUR_WORDS: [Abandoned; 8] = [
             &[FIRST_VALUE, ALL_WORDS, STILL_HELD],
             &[SECOND_VALUE, PUBLISHED, STILL_HELD],
         ],
-        other: &[C_MAKES_THE_SECOND_BOARD],
+        other: &[&[C_MAKES_THE_SECOND_BOARD]],
     },
-    // Loans: a word that was put stands, and nobody else gets it.
+    // Loans: a word that was put stands, and the place of the writer is taken.
     Abandoned {
         opening: &[FOUR_WORDS],
         call: &[("begin a loan l m", "ok"), ("step a", "table = ok")],
         after: &[&[FIRST_VALUE, NO_WORD, STILL_HELD]],
-        other: &[C_MAKES_THE_SECOND_BOARD],
+        other: &[&[C_MAKES_THE_SECOND_BOARD]],
     },
     Abandoned {
         opening: &[FOUR_WORDS, A_LOAN, THREE_WORDS_PUT, FOURTH_WORD_PUT],
         call: &[("begin a discard l m", "ok"), ("step a", "table = ok")],
         after: &[&[FIRST_VALUE, ALL_WORDS, STILL_HELD]],
-        other: &[C_MAKES_THE_SECOND_BOARD],
+        other: &[&[C_MAKES_THE_SECOND_BOARD]],
     },
     Abandoned {
         opening: &[FOUR_WORDS, A_LOAN],
@@ -271,7 +281,7 @@ pub(super) const ON_FOUR_WORDS: [Abandoned; 8] = [
             &[FIRST_VALUE, NO_WORD, STILL_HELD],
             &[FIRST_VALUE, THIRD_WORD, STILL_HELD],
         ],
-        other: &[C_MAKES_THE_SECOND_BOARD],
+        other: &[&[C_MAKES_THE_SECOND_BOARD]],
     },
     Abandoned {
         opening: &[FOUR_WORDS, A_LOAN, THREE_WORDS_PUT, FOURTH_WORD_PUT],
@@ -283,7 +293,7 @@ pub(super) const ON_FOUR_WORDS: [Abandoned; 8] = [
             &[FIRST_VALUE, ALL_WORDS, STILL_HELD],
             &[SECOND_VALUE, PUBLISHED, STILL_HELD],
         ],
-        other: &[C_MAKES_THE_SECOND_BOARD],
+        other: &[&[C_MAKES_THE_SECOND_BOARD]],
     },
     Abandoned {
         opening: &[FOUR_WORDS, A_LOAN],
@@ -303,7 +313,7 @@ pub(super) const ON_FOUR_WORDS: [Abandoned; 8] = [
             &[FIRST_VALUE, ALL_WORDS, STILL_HELD],
             &[SECOND_VALUE, PUBLISHED, STILL_HELD],
         ],
-        other: &[C_MAKES_THE_SECOND_BOARD],
+        other: &[&[C_MAKES_THE_SECOND_BOARD]],
     },
 ];
 
@@ -324,7 +334,7 @@ pub(super) const ON_EVENTS: [Abandoned; 20] = [
             &[N_LEFT, AN_ID_IS_FOUND, STILL_A_SET],
             &[N_LEFT, A_SIGNALLED_ID_IS_FOUND, STILL_A_SET],
         ],
-        other: &[C_MAKES_THE_FIRST_BOARD],
+        other: &[&[C_MAKES_THE_FIRST_BOARD]],
     },
     Abandoned {
         opening: &[A_SET_OF_128, ANOTHER_NOTIFIER, TWO_OF_THE_SET],
@@ -337,7 +347,7 @@ pub(super) const ON_EVENTS: [Abandoned; 20] = [
             ("step e", "clear bits:ev 1 = id 1"),
         ],
         after: &[&[E_LEFT, THE_SET_STANDS]],
-        other: &[C_MAKES_THE_FIRST_BOARD],
+        other: &[&[C_MAKES_THE_FIRST_BOARD]],
     },
     Abandoned {
         opening: &[A_SET_OF_128, ANOTHER_NOTIFIER, TWO_OF_THE_SET],
@@ -350,7 +360,7 @@ pub(super) const ON_EVENTS: [Abandoned; 20] = [
             ("step e", "swap bits:ev 1 2 = ids 1 65"),
         ],
         after: &[&[E_LEFT, THE_SET_STANDS]],
-        other: &[C_MAKES_THE_FIRST_BOARD],
+        other: &[&[C_MAKES_THE_FIRST_BOARD]],
     },
     // A timed wait that finds an id.
     Abandoned {
@@ -364,7 +374,7 @@ pub(super) const ON_EVENTS: [Abandoned; 20] = [
             ("step e", "clear bits:ev 1 = id 1"),
         ],
         after: &[&[E_LEFT, THE_SET_STANDS]],
-        other: &[C_MAKES_THE_FIRST_BOARD],
+        other: &[&[C_MAKES_THE_FIRST_BOARD]],
     },
     // A wait that finds nothing goes on and on: up to eight steps of each.
     Abandoned {
@@ -381,7 +391,7 @@ pub(super) const ON_EVENTS: [Abandoned; 20] = [
             ("step e", "signal bits:ev no"),
         ],
         after: &[&[E_LEFT, THE_SET_STANDS]],
-        other: &[C_MAKES_THE_FIRST_BOARD],
+        other: &[&[C_MAKES_THE_FIRST_BOARD]],
     },
     Abandoned {
         opening: &[A_SET_OF_128, ANOTHER_NOTIFIER],
@@ -397,7 +407,7 @@ pub(super) const ON_EVENTS: [Abandoned; 20] = [
             ("step e", "signal bits:ev no"),
         ],
         after: &[&[E_LEFT, THE_SET_STANDS]],
-        other: &[C_MAKES_THE_FIRST_BOARD],
+        other: &[&[C_MAKES_THE_FIRST_BOARD]],
     },
     Abandoned {
         opening: &[A_SET_OF_128, ANOTHER_NOTIFIER],
@@ -413,7 +423,7 @@ pub(super) const ON_EVENTS: [Abandoned; 20] = [
             ("step e", "signal bits:ev no"),
         ],
         after: &[&[E_LEFT, THE_SET_STANDS]],
-        other: &[C_MAKES_THE_FIRST_BOARD],
+        other: &[&[C_MAKES_THE_FIRST_BOARD]],
     },
     Abandoned {
         opening: &[A_SET_OF_128, ANOTHER_NOTIFIER],
@@ -429,7 +439,7 @@ pub(super) const ON_EVENTS: [Abandoned; 20] = [
             ("step e", "signal bits:ev no"),
         ],
         after: &[&[E_LEFT, THE_SET_STANDS]],
-        other: &[C_MAKES_THE_FIRST_BOARD],
+        other: &[&[C_MAKES_THE_FIRST_BOARD]],
     },
     // The id is pending with the push.
     Abandoned {
@@ -458,7 +468,7 @@ pub(super) const ON_EVENTS: [Abandoned; 20] = [
                 STILL_A_QUEUE,
             ],
         ],
-        other: &[C_MAKES_THE_FIRST_BOARD],
+        other: &[&[C_MAKES_THE_FIRST_BOARD]],
     },
     Abandoned {
         opening: &[A_QUEUE, ANOTHER_OF_THE_QUEUE, TWO_OF_THE_QUEUE],
@@ -467,7 +477,7 @@ pub(super) const ON_EVENTS: [Abandoned; 20] = [
             ("step e", "pop queue:q 7 = id 7"),
         ],
         after: &[&[E_LEFT, THE_QUEUE_IS_GONE]],
-        other: &[C_MAKES_THE_FIRST_BOARD],
+        other: &[&[C_MAKES_THE_FIRST_BOARD]],
     },
     Abandoned {
         opening: &[A_QUEUE, ANOTHER_OF_THE_QUEUE, TWO_OF_THE_QUEUE],
@@ -476,7 +486,7 @@ pub(super) const ON_EVENTS: [Abandoned; 20] = [
             ("step e", "pop queue:q 7 = id 7"),
         ],
         after: &[&[E_LEFT, THE_QUEUE_IS_GONE]],
-        other: &[C_MAKES_THE_FIRST_BOARD],
+        other: &[&[C_MAKES_THE_FIRST_BOARD]],
     },
     Abandoned {
         opening: &[A_QUEUE, ANOTHER_OF_THE_QUEUE, TWO_OF_THE_QUEUE],
@@ -487,7 +497,7 @@ pub(super) const ON_EVENTS: [Abandoned; 20] = [
             ("step e", "pop queue:q none = ids 7 8"),
         ],
         after: &[&[E_LEFT, THE_QUEUE_IS_GONE]],
-        other: &[C_MAKES_THE_FIRST_BOARD],
+        other: &[&[C_MAKES_THE_FIRST_BOARD]],
     },
     Abandoned {
         opening: &[A_QUEUE, ANOTHER_OF_THE_QUEUE],
@@ -503,7 +513,7 @@ pub(super) const ON_EVENTS: [Abandoned; 20] = [
             ("step e", "pop queue:q none"),
         ],
         after: &[&[E_LEFT, THE_QUEUE_IS_GONE]],
-        other: &[C_MAKES_THE_FIRST_BOARD],
+        other: &[&[C_MAKES_THE_FIRST_BOARD]],
     },
     Abandoned {
         opening: &[A_QUEUE, ANOTHER_OF_THE_QUEUE],
@@ -519,7 +529,7 @@ pub(super) const ON_EVENTS: [Abandoned; 20] = [
             ("step e", "pop queue:q none"),
         ],
         after: &[&[E_LEFT, THE_QUEUE_IS_GONE]],
-        other: &[C_MAKES_THE_FIRST_BOARD],
+        other: &[&[C_MAKES_THE_FIRST_BOARD]],
     },
     Abandoned {
         opening: &[A_QUEUE, ANOTHER_OF_THE_QUEUE],
@@ -535,7 +545,7 @@ pub(super) const ON_EVENTS: [Abandoned; 20] = [
             ("step e", "pop queue:q none"),
         ],
         after: &[&[E_LEFT, THE_QUEUE_IS_GONE]],
-        other: &[C_MAKES_THE_FIRST_BOARD],
+        other: &[&[C_MAKES_THE_FIRST_BOARD]],
     },
     Abandoned {
         opening: &[A_QUEUE, ANOTHER_OF_THE_QUEUE],
@@ -551,7 +561,7 @@ pub(super) const ON_EVENTS: [Abandoned; 20] = [
             ("step e", "pop queue:q none"),
         ],
         after: &[&[E_LEFT, THE_QUEUE_IS_GONE]],
-        other: &[C_MAKES_THE_FIRST_BOARD],
+        other: &[&[C_MAKES_THE_FIRST_BOARD]],
     },
     // The event and its name stand with the step.
     Abandoned {
@@ -588,7 +598,7 @@ pub(super) const ON_EVENTS: [Abandoned; 20] = [
                 ],
             ],
         ],
-        other: &[C_MAKES_THE_FIRST_BOARD],
+        other: &[&[C_MAKES_THE_FIRST_BOARD]],
     },
     Abandoned {
         opening: &[],
@@ -617,7 +627,7 @@ pub(super) const ON_EVENTS: [Abandoned; 20] = [
                 ],
             ],
         ],
-        other: &[C_MAKES_THE_FIRST_BOARD],
+        other: &[&[C_MAKES_THE_FIRST_BOARD]],
     },
     // The notifier holds the name of a set with the step, after its listener was dropped.
     Abandoned {
@@ -651,7 +661,7 @@ pub(super) const ON_EVENTS: [Abandoned; 20] = [
                 ],
             ],
         ],
-        other: &[C_MAKES_THE_FIRST_BOARD],
+        other: &[&[C_MAKES_THE_FIRST_BOARD]],
     },
     // It never holds that of a queue.
     Abandoned {
@@ -682,6 +692,6 @@ pub(super) const ON_EVENTS: [Abandoned; 20] = [
                 ],
             ],
         ],
-        other: &[C_MAKES_THE_FIRST_BOARD],
+        other: &[&[C_MAKES_THE_FIRST_BOARD]],
     },
 ];
