@@ -1,3 +1,4 @@
 mod TableLemmas
+mod ListenerLemmas
 mod Abandonments
 mod Settling

@@ -1,7 +1,7 @@
 -- The events of a script as a checker keeps them, and which events of the definitions they stand for.
 use Rattle.std.specs.Prelude.{◌≡◌, ℕ, Bool, ◌+◌, ◌-◌, ◌^◌, ◌<◌, ◌≤◌, ◌==◌, if◌then◌else◌, List, length, Option, Some, None, IsSome, IsSomeAnd, is_some, nat_lt, slice_index_or, true, false, ⊤}
 use Rattle.std.specs.Str.{bytes_eq}
-use Rattle.std.specs.HashMap.{get}
+use Rattle.std.specs.HashMap.{get, spare}
 use Rattle.board_event_model.specs.declared.kind.EventKind.{EventKind}
 use Rattle.board_event_model.specs.declared.kind.EventKind.TheVariants as event_kind
 use Rattle.board_event_model.specs.EventMemory.{Event, new_event}
@@ -32,6 +32,11 @@ kept_at t k name = of_kind (get bytes_eq t.sets) (get bytes_eq t.queues) k name
 abbrev pub AreNames : EventNames → Names → Type 0
 AreNames t names = (k : EventKind) (name : List ℕ) → kept_at t k name ≡ names k name
 
+-- there is memory for one name more of a kind
+abbrev pub HasRoom : EventNames → EventKind → Type 0
+HasRoom t event_kind.Bits = 0 < spare t.sets
+HasRoom t event_kind.Queue = 0 < spare t.queues
+
 -- the names that were kept have become these
 abbrev pub NamesBecome : EventNames → EventNames → (Names → Names) → Type 0
 NamesBecome old new change = (names : Names) → AreNames old names → AreNames new (change names)
@@ -49,8 +54,8 @@ pub record AreEvents (t : EventTable) (s : EventsThatStand) : Type 0 where
   pub count : length t.rows.items ≡ s.count
   pub rows : (i : ℕ) (d : EventRow) → i < length t.rows.items → IsSomeAnd (event_of s.stands (i + 1)) (StandsFor (slice_index_or t.rows.items i d))
   pub names : AreNames t.names s.names
-  pub each : length t.listeners.items ≡ s.count
-  pub owners : (i : ℕ) (d : List ℕ) → i < length t.listeners.items → IsSomeAnd (s.stands (i + 1)) (λ st. st.listener ≡ slice_index_or t.listeners.items i d)
+  pub each : length t.listeners ≡ s.count
+  pub owners : (i : ℕ) (d : List ℕ) → i < length t.listeners → IsSomeAnd (s.stands (i + 1)) (λ st. st.listener ≡ slice_index_or t.listeners i d)
 
 -- the events for which the table stood have become these
 abbrev pub EventsBecome : EventTable → EventTable → (EventsThatStand → EventsThatStand) → Type 0
@@ -120,11 +125,6 @@ one_notifier_less e = record e { notifiers = e.notifiers - 1 }
 abbrev pub without_listener : Event → Event
 without_listener e = record e { held = false }
 
--- the listener that was looked up is the party's
-abbrev pub is_party : Option (List ℕ) → List ℕ → Bool
-is_party None party = false
-is_party (Some listener) party = bytes_eq party listener
-
 -- a notifier of the event of a name was asked for: it has no listener, or it has this number and one notifier more
 abbrev pub HasNotified : EventTable → EventTable → EventKind → List ℕ → Option ℕ → Type 0
 HasNotified old new k name None = (s : EventsThatStand) → AreEvents old s → IsUnlistened (and_then (s.names k name) (event_of s.stands)) × AreEvents new s
@@ -148,14 +148,14 @@ with_released n f s = with_settled n (with_changed n f s)
 abbrev pub with_abandoned : List ℕ → EventsThatStand → EventsThatStand
 with_abandoned party s = record s { stands = all_gone s.stands party }
 
--- the event at a place, where the first i places were gone through
+-- the event at a place, where the places from i on were gone through
 abbrev pub after_at : Bool → List ℕ → StandingEvent → Event
-after_at b party st = if b then (gone_with party st).event else st.event
+after_at b party st = if b then st.event else (gone_with party st).event
 
--- the events at the first i places were gone through
+-- the events at the places from i on were gone through
 pub record IsPartGone (i : ℕ) (party : List ℕ) (t : EventTable) (s : EventsThatStand) : Type 0 where
   pub count : length t.rows.items ≡ s.count
   pub rows : (k : ℕ) (d : EventRow) → k < length t.rows.items → IsSomeAnd (s.stands (k + 1)) (λ st. StandsFor (slice_index_or t.rows.items k d) (after_at (nat_lt k i) party st))
   pub names : AreNames t.names s.names
-  pub each : length t.listeners.items ≡ s.count
-  pub owners : (k : ℕ) (d : List ℕ) → k < length t.listeners.items → IsSomeAnd (s.stands (k + 1)) (λ st. st.listener ≡ slice_index_or t.listeners.items k d)
+  pub each : length t.listeners ≡ s.count
+  pub owners : (k : ℕ) (d : List ℕ) → k < length t.listeners → IsSomeAnd (s.stands (k + 1)) (λ st. st.listener ≡ slice_index_or t.listeners k d)

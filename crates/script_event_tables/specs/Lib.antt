@@ -1,1 +1,2 @@
 pub mod EventTables
+pub mod Listeners

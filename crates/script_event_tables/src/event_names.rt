@@ -1,9 +1,9 @@
 //! Which event holds a name of a kind.
-ghost use Rattle.std.specs.Prelude.{◌≡◌, if◌then◌else◌, List, None, OnErr, OnOk, Some, ℕ};
-ghost use Rattle.std.specs.HashMap.{get};
+ghost use Rattle.std.specs.Prelude.{◌≡◌, ◌<◌, if◌then◌else◌, List, None, OnOk, Some, ℕ};
+ghost use Rattle.std.specs.HashMap.{get, spare};
 ghost use Rattle.std.specs.Str.{bytes_eq};
 ghost use Rattle.script_model.specs.ScriptEvents.{name_held};
-ghost use Rattle.script_event_tables.specs.EventTables.{AreNames, NamesBecome, kept_at};
+ghost use Rattle.script_event_tables.specs.EventTables.{AreNames, HasRoom, NamesBecome, kept_at};
 
 use board_event_model::EventKind;
 use board_layout::Text;
@@ -11,18 +11,15 @@ use std::alloc::{AllocError, Global};
 use std::collections::HashMap;
 
 // The number goes under the name.
-fn put(
-    numbers: &mut HashMap<Text<255>, u64>,
-    name: Text<255>,
-    number: u64,
-) -> Result<(), AllocError>
-    ensures ok { OnOk result ((text : List ℕ) → get bytes_eq numbers.new text
-        ≡ (if bytes_eq name text then Some number else get bytes_eq numbers.old text)) }
-    ensures err { OnErr result ((text : List ℕ) → get bytes_eq numbers.new text
-        ≡ get bytes_eq numbers.old text) }
+fn put(numbers: &mut HashMap<Text<255>, u64>, name: Text<255>, number: u64)
+    requires { 0 < spare numbers.old }
+    ensures { (text : List ℕ) → get bytes_eq numbers.new text
+        ≡ (if bytes_eq name text then Some number else get bytes_eq numbers.old text) }
 {
-    let _ = numbers.insert(name, number)?;
-    Ok(())
+    let Ok(_) = numbers.insert(name, number) else {
+        // There is room.
+        unreachable!()
+    };
 }
 
 // Nothing is under the name.
@@ -71,16 +68,22 @@ impl EventNames {
         }
     }
 
+    // Makes room for one name more of the kind.
+    pub(crate) fn reserve(&mut self, kind: EventKind) -> Result<(), AllocError>
+        ensures names { NamesBecome self.old self.new (λ names. names) }
+        ensures room { OnOk result (HasRoom self.new kind) }
+    {
+        match kind {
+            EventKind::Bits => self.sets.reserve(1),
+            EventKind::Queue => self.queues.reserve(1),
+        }
+    }
+
     // The event with this number holds the name from now on.
-    pub(crate) fn hold(
-        &mut self,
-        kind: EventKind,
-        name: Text<255>,
-        number: u64,
-    ) -> Result<(), AllocError>
-        ensures ok { OnOk result (NamesBecome self.old self.new
-            (λ names. name_held names kind name (Some number))) }
-        ensures err { OnErr result (NamesBecome self.old self.new (λ names. names)) }
+    pub(crate) fn hold(&mut self, kind: EventKind, name: Text<255>, number: u64)
+        requires { HasRoom self.old kind }
+        ensures { NamesBecome self.old self.new
+            (λ names. name_held names kind name (Some number)) }
     {
         match kind {
             EventKind::Bits => put(&mut self.sets, name, number),

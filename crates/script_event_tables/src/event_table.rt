@@ -1,11 +1,12 @@
 //! The events that were made, by number, and who holds their names.
-ghost use Rattle.std.specs.Prelude.{◌≡◌, ◌<◌, ◌+◌, ◌-◌, ◌^◌, IfOk, OnErr, OnOk, length, slice_get};
+ghost use Rattle.std.specs.Prelude.{◌≡◌, ◌<◌, ◌+◌, ◌-◌, ◌^◌, [], IfOk, OnErr, OnOk, length, slice_index_or};
 ghost use Rattle.board_event_model.specs.EventMemory as event;
 ghost use Rattle.board_event_model.specs.EventMemory.{CanPerform, IsRight};
 ghost use Rattle.script_event_rows.specs.EventRows.{StandsFor};
-ghost use Rattle.script_event_tables.specs.EventTables.{AreEvents, EventsBecome, EventsThatStand, HasListened, HasNotified, IsMade, IsPartGone, IsSoundTable, OfEvent, OfSomeEvent, is_party, nothing_stands, one_notifier_less, one_notifier_more, with_abandoned, with_changed, with_released, with_settled, without_listener};
+ghost use Rattle.script_event_tables.specs.EventTables.{AreEvents, EventsBecome, EventsThatStand, HasListened, HasNotified, IsMade, IsPartGone, IsSoundTable, OfEvent, OfSomeEvent, nothing_stands, one_notifier_less, one_notifier_more, with_abandoned, with_changed, with_released, with_settled, without_listener};
 
 use crate::event_names::EventNames;
+use crate::listeners::Listeners;
 use board_event_model::{EventAccess, EventAnswer, EventKind};
 use board_layout::Text;
 use board_model::Name;
@@ -19,7 +20,7 @@ pub struct EventTable {
     // event n at place n - 1
     rows: Vec<EventRow>,
     // the parties of their listeners
-    listeners: Vec<Name>,
+    listeners: Listeners,
     names: EventNames,
 }
 
@@ -31,7 +32,7 @@ impl EventTable {
         EventTable {
             alloc,
             rows: Vec::new(alloc),
-            listeners: Vec::new(alloc),
+            listeners: Listeners::new(alloc),
             names: EventNames::new(alloc),
         }
     }
@@ -81,11 +82,11 @@ impl EventTable {
         }
         let row = EventRow::new(self.alloc, kind, *name, max)?;
         self.rows.reserve(1)?;
-        self.listeners.reserve(1)?;
+        self.names.reserve(kind)?;
+        self.listeners.push(*party)?;
         let number = self.rows.len() as u64 + 1;
-        self.names.hold(kind, *name, number)?;
+        self.names.hold(kind, *name, number);
         self.rows.push_reserved(row);
-        self.listeners.push_reserved(*party);
         Ok(Some(number))
     }
 
@@ -171,36 +172,29 @@ impl EventTable {
         self.settle(number);
     }
 
-    // Whether the listener at a place is the party's.
-    fn is_listener(&self, place: usize, party: &Name) -> bool
-        ensures { result ≡ is_party (slice_get self.now.listeners.items place) party.now }
+    // The event at a place has its listener gone, if that is held.
+    fn pass(&mut self, place: usize)
+        requires { place < length self.old.listeners }
+        ensures passed { let party = slice_index_or self.old.listeners place [] in
+            (s : EventsThatStand) → IsPartGone (place + 1) party self.old s
+            → IsPartGone place party self.new s }
+        ensures listeners { self.new.listeners ≡ self.old.listeners }
     {
-        match self.listeners.get(place) {
-            Some(listener) => *party == *listener,
-            None => false,
+        // A table that stands for events has a row for each listener.
+        if place < self.rows.len() {
+            let row = &mut self.rows[place];
+            row.abandon_listener();
         }
-    }
-
-    // The event at a place has its listener gone where it is the party's.
-    fn pass(&mut self, place: usize, party: &Name)
-        requires { place < length self.old.rows.items }
-        ensures passed { (s : EventsThatStand) → IsPartGone place party.now self.old s
-            → IsPartGone (place + 1) party.now self.new s }
-        ensures count { length self.new.rows.items ≡ length self.old.rows.items }
-    {
-        if !self.is_listener(place, party) {
-            return;
-        }
-        let row = &mut self.rows[place];
-        row.abandon_listener();
     }
 
     /// The party was abandoned, with the listeners that it holds.
     pub fn abandon(&mut self, party: &Name)
         ensures { EventsBecome self.old self.new (with_abandoned party.now) }
     {
-        for i in 0..self.rows.len() {
-            self.pass(i, party);
+        let mut next = self.listeners.last(party);
+        while let Some(place) = next {
+            self.pass(place);
+            next = self.listeners.before(place);
         }
     }
 }

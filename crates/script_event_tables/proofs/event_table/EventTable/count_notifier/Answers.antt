@@ -12,7 +12,7 @@ returns c = λ s are. record {
   rows = changed_rows c.args.self.now.rows.items s.stands c.args.number c.index_mut-row.result.now c.add_notifier.new.self are.rows c.requires.made.first c.requires.made.last c.index_mut-row.ensures.value one_notifier_more c.add_notifier.ensures;
   names = are.names;
   each = are.each;
-  owners = changed_owners c.args.self.now.listeners.items s.stands c.args.number one_notifier_more are.owners;
+  owners = changed_owners c.args.self.now.listeners s.stands c.args.number one_notifier_more are.owners;
 }
 
 pub add_notifier-requires : goal.add_notifier-requires

@@ -10,5 +10,5 @@ returns-clause-events c = λ s are. record {
   rows = changed_rows c.args.self.now.rows.items s.stands c.args.number c.index_mut-row.result.now c.release_notifier.new.self are.rows c.requires.first c.requires.last c.index_mut-row.ensures.value one_notifier_less c.release_notifier.ensures;
   names = are.names;
   each = are.each;
-  owners = changed_owners c.args.self.now.listeners.items s.stands c.args.number one_notifier_less are.owners;
+  owners = changed_owners c.args.self.now.listeners s.stands c.args.number one_notifier_less are.owners;
 }

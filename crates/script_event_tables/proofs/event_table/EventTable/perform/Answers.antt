@@ -29,5 +29,5 @@ returns-clause-after c = λ s are. record {
   rows = changed_rows c.args.self.now.rows.items s.stands c.args.number c.index_mut-row.result.now c.perform.new.self are.rows c.requires.made.first c.requires.made.last c.index_mut-row.ensures.value (λ e. event.after e c.args.access) c.in_ok-answer.ensures.after;
   names = are.names;
   each = are.each;
-  owners = changed_owners c.args.self.now.listeners.items s.stands c.args.number (λ e. event.after e c.args.access) are.owners;
+  owners = changed_owners c.args.self.now.listeners s.stands c.args.number (λ e. event.after e c.args.access) are.owners;
 }
