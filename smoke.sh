@@ -31,6 +31,34 @@ gives() {
     tells "$name" "$good"
 }
 
+# breaks NAME ANSWER PROGRAM: who reads its answers to many lines (this one, of the party %s) goes after five bytes
+breaks() {
+    local good=yes
+    { timeout 60 "$3" < "$folder/many" 2> "$folder/note"; echo $? > "$folder/status"; } | head -c 5 > "$folder/output"
+    printf "$2" a | head -c 5 | cmp - "$folder/output" >&2 || good=no
+    [ "$(cat "$folder/status" "$folder/note")" = $'4\nwrite fault' ] || good=no
+    tells "$1" "$good"
+}
+
+# speaks NAME ANSWER PROGRAM: each answer, which is this one of the party %s, comes before the next line is sent
+speaks() {
+    local good=yes party wanted answer process to
+    coproc talk { timeout 60 "$3" 2>&1; }
+    # (bash forgets the number of a process that has ended)
+    process=$talk_PID
+    exec {to}>&"${talk[1]}"
+    eval "exec ${talk[1]}>&-"
+    for party in a b c; do
+        (echo "abandon $party") >&"$to"
+        while read -r wanted; do
+            read -r -t 20 answer <&"${talk[0]}" && [ "$answer" = "$wanted" ] || good=no
+        done < <(printf "$2" "$party")
+    done
+    exec {to}>&-
+    wait "$process" || good=no
+    tells "$1" "$good"
+}
+
 script=crates/board_run/stdin
 answers=$(sed 's/%/%%/g' crates/board_run/stdout)
 snapshot_script=crates/board_snapshot_run/stdin
@@ -61,6 +89,7 @@ gives 'the script of 1000' 0 'lines 1024\nrefused 433\nsteps 489\nupdates 47\nge
 for words in 'x' 'gen' 'gen 0' 'gen 01' 'gen +1' 'gen 1000001' 'gen 1 2' '1' 'gen gen' $'\xff'; do
     gives "usage: $words" 2 '' "$usage" "$run" $words < "$script"
 done
+gives 'usage: an empty word' 2 '' "$usage" "$run" '' < "$script"
 
 # faults
 gives 'a closed input' 3 '' 'read fault\n' "$run" <&-
@@ -70,23 +99,12 @@ gives 'a full device for a summary' 4 '' 'write fault\n' bash -c '"$0" gen 1 > /
 gives 'a closed output' 4 '' 'write fault\n' bash -c '"$0" >&-' "$run" < "$script"
 gives 'no room for the note' 5 'gone\n' '' bash -c '"$0" 2> /dev/full' "$run" < <(printf 'abandon a\n\n')
 yes 'abandon a' | head -n 200000 > "$folder/many"
-{ timeout 60 "$run" < "$folder/many" 2> "$folder/note"; echo $? > "$folder/status"; } | head -c 5 > "$folder/output"
-[ "$(cat "$folder/status" "$folder/output" "$folder/note")" = $'4\ngone\nwrite fault' ] && good=yes || good=no
-tells 'a closed pipe' "$good"
+breaks 'a closed pipe' 'gone\n' "$run"
 
 # pipes
 by_bytes() { local text; text=$(cat "$1"; echo .); text=${text%.}; local i; for ((i = 0; i < ${#text}; i++)); do printf '%s' "${text:i:1}"; done; }
 gives 'a byte at a time' 0 "$answers\n" '' "$run" < <(by_bytes "$script")
-coproc talk { timeout 60 "$run" 2>&1; }
-good=yes
-for party in a b c; do
-    echo "abandon $party" >&"${talk[1]}"
-    read -r -t 20 answer <&"${talk[0]}" && [ "$answer" = gone ] || good=no
-done
-exec {end}>&"${talk[1]}"
-eval "exec ${talk[1]}>&-" && exec {end}>&-
-wait "$talk_PID" || good=no
-tells 'answers before the next line' "$good"
+speaks 'answers before the next line' 'gone\n' "$run"
 
 # snapshots
 gives 'the stored snapshot' 0 "$snapshot_told\n" '' "$snapshot" < "$snapshot_script"
@@ -97,17 +115,24 @@ gives 'a snapshot without handles' 5 'snapping b\n' 'line 2: not in the grammar\
 for words in 'x' 'gen 1' '1' $'\xff'; do
     gives "snapshots' usage: $words" 2 '' "$snapshot_usage" "$snapshot" $words < "$snapshot_script"
 done
+gives "snapshots' usage: an empty word" 2 '' "$snapshot_usage" "$snapshot" '' < "$snapshot_script"
 gives 'snapshots from a closed input' 3 '' 'read fault\n' "$snapshot" <&-
 gives 'snapshots on a full device' 4 '' 'write fault\n' bash -c '"$0" > /dev/full' "$snapshot" < "$snapshot_script"
+breaks "snapshots' closed pipe" '> abandon %s\ngone\n' "$snapshot"
+speaks "snapshots' answers before the next line" '> abandon %s\ngone\n' "$snapshot"
 
 # watchers
 gives 'the stored watcher' 0 "$watch_told\n" '' "$watch" < "$watch_script"
 gives 'a watcher, a byte at a time' 0 "$watch_told\n" '' "$watch" < <(by_bytes "$watch_script")
 gives 'a watcher of nothing' 0 '> begin b id h\nrefused unknown\nunwatched b\nunwatched b\n' '' "$watch" < <(printf 'watch b e h\nturn b')
 gives 'a watcher without handles' 5 'unwatched b\n' 'line 2: not in the grammar\n' "$watch" < <(printf 'turn b\nwatch b e\nturn b\n')
-gives "watchers' usage" 2 '' "$watch_usage" "$watch" x < "$watch_script"
+for word in x ''; do
+    gives "watchers' usage: '$word'" 2 '' "$watch_usage" "$watch" "$word" < "$watch_script"
+done
 gives 'watchers from a closed input' 3 '' 'read fault\n' "$watch" <&-
 gives 'watchers on a full device' 4 '' 'write fault\n' bash -c '"$0" > /dev/full' "$watch" < "$watch_script"
+breaks "watchers' closed pipe" '> abandon %s\ngone\n' "$watch"
+speaks "watchers' answers before the next line" '> abandon %s\ngone\n' "$watch"
 
 # the checker
 gives 'the stored session' 0 'lawful 14\n' '' "$check" < "$session"
@@ -123,17 +148,29 @@ gives 'a listener that is there' 1 'line 6: event\n' '' "$check" < <(printf 'beg
 gives 'a reply of another number' 1 'line 2: reply\n' '' "$check" < <(sed '4s/1$/2/' "$session")
 "$run" < "$script" > "$folder/answers" && paste -d '\n' "$script" "$folder/answers" > "$folder/session"
 gives 'a run and its output' 0 "lawful $(grep -c '' "$script")\n" '' "$check" < "$folder/session"
-gives "the checker's usage" 2 '' "$check_usage" "$check" x < "$session"
+for word in x ''; do
+    gives "the checker's usage: '$word'" 2 '' "$check_usage" "$check" "$word" < "$session"
+done
 gives 'a session from a closed input' 3 '' 'read fault\n' "$check" <&-
 gives 'a verdict on a full device' 4 '' 'write fault\n' bash -c '"$0" > /dev/full' "$check" < "$session"
 
 # the bench
-for words in 'solo 4 get' 'solo 1 try_get' 'solo 32 update' 'typed 1 get' 'typed 32 try_get' 'typed 4 update' 'event bits' 'event queue'; do
-    gives "calls: $words" 0 '' '' "$bench" $words 1000
-done
+while read -r counted words; do
+    gives "calls: $words" 0 "$counted 1000\n" '' "$bench" $words 1000 < /dev/null
+done <<'END'
+gets solo 4 get
+gets solo 1 try_get
+updates solo 32 update
+gets typed 1 get
+gets typed 32 try_get
+updates typed 4 update
+trips event bits
+trips event queue
+END
 for words in '' 'solo' 'solo 4 get' 'solo 2 get 1' 'solo 4 put 1' 'solo 4 get 01' 'typed 2 get 1' 'event set 1' 'shared 1 4 1' 'shared 1 0 1'; do
     gives "the bench's usage: $words" 2 '' "$bench_usage" "$bench" $words
 done
+gives "the bench's usage: an empty word" 2 '' "$bench_usage" "$bench" ''
 gets=$("$bench" shared 1 2 1000) && [[ $gets =~ ^gets\ [1-9][0-9]*$ ]] && good=yes || good=no
 tells 'readers beside a writer' "$good"
 

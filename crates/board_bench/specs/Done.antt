@@ -1,5 +1,5 @@
 -- What a task leaves that was done.
-use Rattle.std.specs.Prelude.{◌≡◌, ℕ, ◌+◌, ◌*◌, ◌⊎◌, List, length, map, Option, Some, None}
+use Rattle.std.specs.Prelude.{◌≡◌, ℕ, ◌+◌, ◌*◌, ◌⊎◌, List, codes, length, map}
 use Rattle.board_cell.specs.Passes.{notes_of}
 use Rattle.board_cell.specs.History.{IsLegal, history}
 use Rattle.board_event_model.specs.declared.kind.EventKind.{EventKind}
@@ -18,11 +18,11 @@ use Rattle.board_bench.specs.Handles.{read_seen, write_seen}
 use Rattle.board_bench.specs.Task.{IsTaskOf}
 use Rattle.board_bench.specs.Watchers.{AreCopiedWide, AreWide, gets_of}
 
--- as many gets or updates of a cell, each of as many words; a get of one try loads the counter twice
+-- as many gets or updates of a cell, each of as many words, which the program tells; a get of one try loads the counter twice
 abbrev pub HasCalled : Call → ℕ → ℕ → Done → Type 0
-HasCalled Get width count (Got reader) = (length reader.notes ≡ count) × AreCopiedWide width reader.notes
-HasCalled TryGet width count (Got reader) = (length reader.notes ≡ count) × (length reader.loads ≡ 2 * count) × AreCopiedWide width reader.notes
-HasCalled Update width count (Updated writer) = (length writer.published ≡ count + 1) × AreWide width writer.published
+HasCalled Get width count (Got reader made) = (made ≡ count) × (length reader.notes ≡ count) × AreCopiedWide width reader.notes
+HasCalled TryGet width count (Got reader made) = (made ≡ count) × (length reader.notes ≡ count) × (length reader.loads ≡ 2 * count) × AreCopiedWide width reader.notes
+HasCalled Update width count (Updated writer made) = (made ≡ count) × (length writer.published ≡ count + 1) × AreWide width writer.published
 HasCalled call width count done = ⊥
 
 -- the same by a handle, of an entry of as many words
@@ -36,9 +36,9 @@ abbrev pub HasPublished : ℕ → ℕ → WriteSeen → Type 0
 HasPublished width count h = (length h.held.published ≡ count + 1) × (h.held.cell.width ≡ width)
 
 abbrev pub HasCalledTyped : Call → ℕ → ℕ → Done → Type 0
-HasCalledTyped Get width count (GotTyped h) = HasGot width count (read_seen h)
-HasCalledTyped TryGet width count (GotTyped h) = HasTried width count (read_seen h)
-HasCalledTyped Update width count (UpdatedTyped h) = HasPublished width count (write_seen h)
+HasCalledTyped Get width count (GotTyped h made) = (made ≡ count) × HasGot width count (read_seen h)
+HasCalledTyped TryGet width count (GotTyped h made) = (made ≡ count) × HasTried width count (read_seen h)
+HasCalledTyped Update width count (UpdatedTyped h made) = (made ≡ count) × HasPublished width count (write_seen h)
 HasCalledTyped call width count done = ⊥
 
 -- as many ids came back over events of the kind
@@ -81,7 +81,22 @@ EndsBy (Solo calls) e = MayEnd calls.call e
 EndsBy (Shared width readers updates) e = e ≡ OutOfMemory
 EndsBy task e = Unit {0}
 
--- how many gets were made beside updates
-abbrev pub told_of : Done → Option ℕ
-told_of (Raced outcome) = Some outcome.gets
-told_of done = None
+-- how many calls or round trips were made, and of a race how many gets
+abbrev pub told_of : Done → ℕ
+told_of (Got reader made) = made
+told_of (Updated writer made) = made
+told_of (GotTyped h made) = made
+told_of (UpdatedTyped h made) = made
+told_of (BitsReturned trips) = trips.made
+told_of (QueueReturned trips) = trips.made
+told_of (Raced outcome) = outcome.gets
+
+-- what that number counts
+abbrev pub counted_of : Done → List ℕ
+counted_of (Got reader made) = codes "gets"
+counted_of (Updated writer made) = codes "updates"
+counted_of (GotTyped h made) = codes "gets"
+counted_of (UpdatedTyped h made) = codes "updates"
+counted_of (BitsReturned trips) = codes "trips"
+counted_of (QueueReturned trips) = codes "trips"
+counted_of (Raced outcome) = codes "gets"

@@ -1,6 +1,6 @@
 //! What the words of the command line ask for is done.
 ghost use Rattle.std.specs.Prelude.{◌≡◌, ◌<◌, ◌^◌, map, Ok, IfOk, IfErr, IfSome, IsSome, IsTrue, string_bytes};
-ghost use Rattle.board_bench.specs.Done.{EndsBy, HasCalled, HasCalledTyped, HasDone, HasDoneOne, HasReturned, MayEnd, told_of};
+ghost use Rattle.board_bench.specs.Done.{EndsBy, HasCalled, HasCalledTyped, HasDone, HasDoneOne, HasReturned, MayEnd, counted_of, told_of};
 ghost use Rattle.board_bench.specs.Task.{IsBenchTask, IsCount, is_width, spelling};
 ghost use Rattle.board_bench.specs.declared.bench_error.BenchError.TheVariants as bench_error;
 ghost use Rattle.board_bench.specs.declared.task.Task.{Task};
@@ -17,17 +17,17 @@ use std::alloc::Global;
 use std::sync::Wait;
 use std::thread::Threads;
 
-/// A task that was done, by what it leaves.
+/// A task that was done, by what it leaves: the number beside a pass or a handle is that of its calls.
 #[derive(Drop)]
 pub enum Done {
     /// The reader that made the gets.
-    Got(ReaderPass),
+    Got(ReaderPass, u64),
     /// The writer that made the updates.
-    Updated(WriterPass),
+    Updated(WriterPass, u64),
     /// The read handle that made the gets.
-    GotTyped(ReadHandle),
+    GotTyped(ReadHandle, u64),
     /// The write handle that made the updates.
-    UpdatedTyped(WriteHandle),
+    UpdatedTyped(WriteHandle, u64),
     /// Ids that went over sets and came back.
     BitsReturned(Trips<SetOfIds>),
     /// Ids that went over queues and came back.
@@ -37,13 +37,29 @@ pub enum Done {
 }
 
 impl Done {
-    /// How many gets were made beside updates, which the program tells.
-    pub fn told(&self) -> Option<u64>
+    /// How many calls or round trips were made, and of a race how many gets. The program tells it.
+    pub fn told(&self) -> u64
         ensures { result ≡ told_of self.now }
     {
         match self {
-            Done::Raced(outcome) => Some(outcome.gets),
-            _ => None,
+            Done::Got(_, count) => *count,
+            Done::Updated(_, count) => *count,
+            Done::GotTyped(_, count) => *count,
+            Done::UpdatedTyped(_, count) => *count,
+            Done::BitsReturned(trips) => trips.made,
+            Done::QueueReturned(trips) => trips.made,
+            Done::Raced(outcome) => outcome.gets,
+        }
+    }
+
+    /// What the number that is told counts.
+    pub fn counted(&self) -> &'static str
+        ensures { result.now ≡ counted_of self.now }
+    {
+        match self {
+            Done::Got(..) | Done::GotTyped(..) | Done::Raced(_) => "gets",
+            Done::Updated(..) | Done::UpdatedTyped(..) => "updates",
+            Done::BitsReturned(_) | Done::QueueReturned(_) => "trips",
         }
     }
 }
@@ -61,9 +77,9 @@ fn run_solo<R: Wait>(
     ensures err { IfErr result (MayEnd call) }
 {
     Ok(match call {
-        Call::Get => Done::Got(run_gets(rt, alloc, width, count)?),
-        Call::TryGet => Done::Got(run_tries(alloc, width, count)?),
-        Call::Update => Done::Updated(run_updates(alloc, width, count)?),
+        Call::Get => Done::Got(run_gets(rt, alloc, width, count)?, count),
+        Call::TryGet => Done::Got(run_tries(alloc, width, count)?, count),
+        Call::Update => Done::Updated(run_updates(alloc, width, count)?, count),
     })
 }
 
@@ -79,9 +95,9 @@ fn run_typed<R: Wait>(
     ensures { IfOk result (HasCalledTyped call width count) }
 {
     Ok(match call {
-        Call::Get => Done::GotTyped(typed_gets(rt, alloc, width, count)?),
-        Call::TryGet => Done::GotTyped(typed_tries(rt, alloc, width, count)?),
-        Call::Update => Done::UpdatedTyped(typed_updates(rt, alloc, width, count)?),
+        Call::Get => Done::GotTyped(typed_gets(rt, alloc, width, count)?, count),
+        Call::TryGet => Done::GotTyped(typed_tries(rt, alloc, width, count)?, count),
+        Call::Update => Done::UpdatedTyped(typed_updates(rt, alloc, width, count)?, count),
     })
 }
 

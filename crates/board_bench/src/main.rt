@@ -41,9 +41,7 @@ fn main(rt: HostRuntime) -> anyhow::Result<ExitCode> {
         eprintln!(rt; "{USAGE}")?;
         return Ok(ExitCode::from(2));
     };
-    if let Some(gets) = done.told() {
-        println!(rt; "gets {gets}")?;
-    }
+    println!(rt; "{} {}", done.counted(), done.told())?;
     Ok(ExitCode::SUCCESS)
 }
 

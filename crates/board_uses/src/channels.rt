@@ -32,8 +32,25 @@ fn carries<R: Wait + Abort, T: CommunicationChannelReceiver, S: CommunicationCha
     assert_eq!(rt; receiver.receive(rt), Ok(None));
 }
 
-// It goes to the channel that was opened, and to no other: the senders are opened when both channels are there.
+// What senders of the name send goes to its receiver, and not to the stranger.
 fn leads_to_its_channel<R: Wait + Abort, C: CommunicationChannel>(
+    rt: &R,
+    registry: &C::Registry,
+    name: &FileName,
+    (receiver, stranger): (&C::Receiver, &C::Receiver),
+) -> Result<(), Fail>
+where
+    C::Sender: Drop,
+{
+    let sender = C::Connector::new(name, registry)?.open_sender(rt)?;
+    let other = C::Connector::new(name, registry)?.try_open_sender(rt)?;
+    carries(rt, receiver, &sender, &other);
+    assert_eq!(rt; stranger.receive(rt), Ok(None));
+    Ok(())
+}
+
+// The senders of both channels are opened when both are there.
+fn lead_to_their_channels<R: Wait + Abort, C: CommunicationChannel>(
     rt: &R,
     alloc: Global,
     registry: &C::Registry,
@@ -45,13 +62,8 @@ where
 {
     let at_c = C::Creator::new(c, registry)?.create_receiver(rt, alloc)?;
     let at_d = C::Creator::new(d, registry)?.create_receiver(rt, alloc)?;
-    for (name, receiver, stranger) in [(c, &at_c, &at_d), (d, &at_d, &at_c)] {
-        let sender = C::Connector::new(name, registry)?.open_sender(rt)?;
-        let other = C::Connector::new(name, registry)?.try_open_sender(rt)?;
-        carries(rt, receiver, &sender, &other);
-        assert_eq!(rt; stranger.receive(rt), Ok(None));
-    }
-    Ok(())
+    leads_to_its_channel::<_, C>(rt, registry, c, (&at_c, &at_d))?;
+    leads_to_its_channel::<_, C>(rt, registry, d, (&at_d, &at_c))
 }
 
 // A name is there until it is removed, once, and then nobody opens it. Another name stays.
@@ -89,7 +101,7 @@ where
 fn any_channel_is_used_by_the_traits(rt: HostRuntime) -> Result<(), Fail> {
     let registry = ChannelRegistry::new(rt.alloc())?;
     let (c, d) = (FileName::new(b"c")?, FileName::new(b"d")?);
-    leads_to_its_channel::<_, Channel>(&rt, rt.alloc(), &registry, (&c, &d))?;
+    lead_to_their_channels::<_, Channel>(&rt, rt.alloc(), &registry, (&c, &d))?;
     is_removed::<_, Channel>(&rt, &registry, (&c, &d))
 }
 
