@@ -5,6 +5,7 @@ use Rattle.script_rules.specs.declared.rule.Rule.{Rule}
 use Rattle.script_rules.specs.declared.rule.Rule.TheVariants as rule
 use Rattle.script_rules.specs.RuleNames.{rule_name}
 use Rattle.script_loop.specs.declared.error.ScriptError.{ScriptError}
+use Rattle.script_loop.specs.declared.error.ScriptError.TheVariants as script_error
 use Rattle.script_loop.specs.Runs.{HasFailed, Stream}
 use Rattle.script_endings.specs.Endings.{IsNoted, note_of, status_of}
 use Rattle.script_endings.proofs.StatusLemmas.{bad_status}
@@ -74,6 +75,29 @@ pub no_write_fault : (e : CheckError) → status_of (Err (error_in e)) ≡ 4 →
 no_write_fault error.ReadFault four = omega (arith, four)
 no_write_fault error.TooLong four = omega (arith, four)
 no_write_fault error.OutOfMemory four = omega (arith, four)
+
+-- a verdict's status is none of a fault
+pub verdict_is_not_four : (v : Verdict) → status_told v ≡ 4 → ⊥
+verdict_is_not_four (Lawful n) four = omega (arith, four)
+verdict_is_not_four (No n r) four = omega (arith, four)
+
+pub verdict_is_not_three : (v : Verdict) (status : ℕ) (sink notes : Stream) → IsEnding (Ok v) status sink notes → status ≡ 3 → ⊥
+verdict_is_not_three (Lawful n) status sink notes (inl w) three = omega (arith, w.is, three)
+verdict_is_not_three (No n r) status sink notes (inl w) three = omega (arith, w.is, three)
+verdict_is_not_three v status sink notes (inr c) three = omega (arith, c.is, three)
+
+-- an error's status is above those of verdicts, and 3 is that of a read fault
+pub error_is_above : (e : ScriptError) (status : ℕ) → status ≡ status_of (Err e) → status < 2 → ⊥
+error_is_above script_error.ReadFault status is few = omega (arith, is, few)
+error_is_above script_error.WriteFault status is few = omega (arith, is, few)
+error_is_above (script_error.BadLine line) status is few = omega (arith, is, few)
+error_is_above script_error.TooLong status is few = omega (arith, is, few)
+error_is_above script_error.OutOfMemory status is few = omega (arith, is, few)
+
+pub three_is_read : (e : CheckError) → status_of (Err (error_in e)) ≡ 3 → e ≡ error.ReadFault
+three_is_read error.ReadFault three = refl
+three_is_read error.TooLong three = absurd (omega (arith, three))
+three_is_read error.OutOfMemory three = absurd (omega (arith, three))
 
 -- what is told of a run: the verdict, or want of memory
 pub run_told : (v : Verdict) (bytes : Option (List ℕ)) → AcceptsRuns bytes (Ok v) → IsRunIn bytes → status_told v ≡ 0

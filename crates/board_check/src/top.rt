@@ -66,6 +66,9 @@ fn tell<K: Sink, N: Sink>(verdict: Verdict, sink: &mut K, notes: &mut N) -> u8
         (stream_of N.held N.faults notes.old notes.new) }
     ensures unfailing { K.never_fails_within sink.old 64 → result ≡ status_told verdict }
 
+    // Nothing is noted of a verdict that was written.
+    ensures silent { result ≢ 4 → notes.new ≡ notes.old }
+
     // A fault of the sink is told by the status 4.
     ensures told { result ≢ 4 → K.faults sink.new ≡ K.faults sink.old }
     ensures later { K.faults sink.old ≤ K.faults sink.new }
@@ -104,6 +107,13 @@ pub fn check_words<S: Source, K: Sink, N: Sink>(
         (stream_of K.held K.faults sink.old sink.new)
         (stream_of N.held N.faults notes.old notes.new) }
 
+    // Nothing is noted of a verdict that was written.
+    ensures silent { result < 2 → notes.new ≡ notes.old }
+
+    // The status is 3 only where the source may fail, and 4 only where the sink may within a verdict's bytes.
+    ensures reads { S.never_fails source.old → result ≢ 3 }
+    ensures writes { K.never_fails_within sink.old 64 → result ≢ 4 }
+
     // The lines and the output of a run, in turn, end with status 0, or 7 where memory is refused.
     ensures runs { length words.now.items ≡ 0
         → S.never_fails source.old → K.never_fails_within sink.old 64
@@ -139,6 +149,18 @@ pub fn run_program<S: Source, K: Sink, N: Sink>(
         (stream_of S.left S.faults source.old source.new)
         (stream_of K.held K.faults sink.old sink.new)
         (stream_of N.held N.faults notes.old notes.new) }
+
+    // Nothing is noted of a verdict that was written.
+    ensures silent { exit_status result < 2 → notes.new ≡ notes.old }
+
+    // The status is 3 only where the source may fail, and 4 only where the sink may within a verdict's bytes.
+    ensures reads { S.never_fails source.old → exit_status result ≢ 3 }
+    ensures writes { K.never_fails_within sink.old 64 → exit_status result ≢ 4 }
+
+    // The lines and the output of a run, in turn, end with status 0, or 7 where memory is refused.
+    ensures runs { length words.now.items ≡ 0
+        → S.never_fails source.old → K.never_fails_within sink.old 64
+        → IsRunIn (S.left source.old) → (exit_status result ≡ 0) ⊎ (exit_status result ≡ 7) }
 
     // With words nothing is read or written.
     ensures unread { 0 < length words.now.items → source.new ≡ source.old }

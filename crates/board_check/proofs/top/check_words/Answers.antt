@@ -3,7 +3,7 @@ use Rattle.std.specs.Prelude.{Ok, Err}
 use Rattle.script_pairs.specs.declared.verdict.CheckError.{CheckError}
 use Rattle.script_pairs.specs.declared.verdict.CheckError.TheVariants as error
 use Rattle.script_endings.proofs.StatusLemmas.{bad_status}
-use Rattle.board_check.proofs.TopLemmas.{broken_in, error_of, lawful_in, no_words_status, no_write_fault, run_spent, run_told, unjudged, write_failed}
+use Rattle.board_check.proofs.TopLemmas.{broken_in, error_is_above, error_of, lawful_in, no_words_status, no_write_fault, run_spent, run_told, three_is_read, unjudged, verdict_is_not_four, verdict_is_not_three, write_failed}
 use Rattle.board_check.proofs.top.check_words.Goals as goal
 
 pub returns-in-Ok-clause-lawful : goal.returns-in-Ok-clause-lawful
@@ -60,3 +60,22 @@ returns-in-Err-clause-runs g c = λ none sure takes run.
 
 pub returns-in-Err-clause-usage_only : goal.returns-in-Err-clause-usage_only
 returns-in-Err-clause-usage_only g c = λ two. absurd (bad_status c.as_of_run.result 2 (omega arith) (sym c.end_with.ensures.is ∙ two))
+
+pub returns-in-Ok-clause-silent : goal.returns-in-Ok-clause-silent
+returns-in-Ok-clause-silent g c = λ few. c.tell.ensures.silent (λ four. omega (arith, few, four))
+
+pub returns-in-Ok-clause-writes : goal.returns-in-Ok-clause-writes
+returns-in-Ok-clause-writes g c = λ takes four. verdict_is_not_four c.in-Ok.verdict (sym (c.tell.ensures.unfailing takes) ∙ four)
+
+pub returns-in-Ok-clause-reads : goal.returns-in-Ok-clause-reads
+returns-in-Ok-clause-reads g c = λ sure three. verdict_is_not_three c.in-Ok.verdict _ _ _ c.tell.ensures.ending three
+
+pub returns-in-Err-clause-silent : goal.returns-in-Err-clause-silent
+returns-in-Err-clause-silent g c = λ few. absurd (error_is_above c.as_of_run.result c.end_with.result c.end_with.ensures.is few)
+
+pub returns-in-Err-clause-reads : goal.returns-in-Err-clause-reads
+returns-in-Err-clause-reads g c = λ sure three.
+    rw c.in-Err.is at c.check.ensures.reads sure (ap (λ (e : CheckError). Err e) (three_is_read c.in-Err.error (sym (c.end_with.ensures.is ∙ error_of c.in-Err.error _ c.as_of_run.ensures) ∙ three)))
+
+pub returns-in-Err-clause-writes : goal.returns-in-Err-clause-writes
+returns-in-Err-clause-writes g c = λ takes four. absurd (no_write_fault c.in-Err.error (sym (c.end_with.ensures.is ∙ error_of c.in-Err.error _ c.as_of_run.ensures) ∙ four))

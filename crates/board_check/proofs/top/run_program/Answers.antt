@@ -11,3 +11,15 @@ returns-clause-ended g c = rw c.from.ensures (record {
   usage = λ some. c.check_words.ensures.usage (some_words string_bytes c.args.words.now.items some);
   usage_note = λ some. c.check_words.ensures.usage_note (some_words string_bytes c.args.words.now.items some);
 })
+
+pub returns-clause-silent : goal.returns-clause-silent
+returns-clause-silent g c = rw c.from.ensures c.check_words.ensures.silent
+
+pub returns-clause-reads : goal.returns-clause-reads
+returns-clause-reads g c = rw c.from.ensures c.check_words.ensures.reads
+
+pub returns-clause-writes : goal.returns-clause-writes
+returns-clause-writes g c = rw c.from.ensures c.check_words.ensures.writes
+
+pub returns-clause-runs : goal.returns-clause-runs
+returns-clause-runs g c = rw c.from.ensures c.check_words.ensures.runs
