@@ -1,7 +1,8 @@
 #!/bin/bash
 # Runs the built programs with one growth of their memory refused, each in turn, and looks at what each run leaves. It ends
 # with status 1 where a run leaves something else than it may. No gate runs this; `make memory` does, by hand. `make test`
-# leaves the programs where this looks; RUN, SNAPSHOT, WATCH, CHECK, PARAMETERS and SCHEDULER name others.
+# leaves the programs where this looks; RUN, SNAPSHOT, WATCH, CHECK, PARAMETERS and SCHEDULER name others. RETRIES names a
+# program that makes a refused call once more, and tells its error on a line of its own behind `~ `; it is run where it is named.
 cd "$(dirname "${BASH_SOURCE[0]}")" || exit 1
 run=${RUN:-$PWD/crates/board_run/out/board_run}
 snapshot=${SNAPSHOT:-$PWD/crates/board_snapshot_run/out/board_snapshot_run}
@@ -173,6 +174,15 @@ a_server() {
     [ "$told" = ${#output[@]} ]
 }
 
+# But for the line that tells of the refused call, it is as without a refusal.
+a_retry() {
+    local line told=0 rest=()
+    for line in "${output[@]}"; do
+        if [[ $line = '~ '*$'OutOfMemory\n' ]]; then told=$((told + 1)); else rest+=("$line"); fi
+    done
+    [ "$status: $told: ${note[*]}" = '0: 1: ' ] && [ "${rest[*]}" = "${whole_output[*]}" ]
+}
+
 # takes INPUT OUTPUT NOTE STATUS: the lines that a program is given, and what a whole run of it does
 takes() {
     given=$1 whole_status=$4
@@ -209,19 +219,26 @@ stored() {
     refuses "$1" "$2" "$4"
 }
 
+# told NAME KIND COMMAND..: the same of a command that is given no lines
+told() {
+    "${@:3}" < /dev/null > "$folder/told" || exit 1
+    takes /dev/null "$folder/told" /dev/null 0
+    refuses "$@"
+}
+
 for row in "$folder"/rows/*.script; do
     row=${row%.script}
     takes "$row.script" "$row.answers" "$row.note" "$(< "$row.status")"
     refuses "${row##*/}" a_script "$run"
 done
-"$run" gen 100 > "$folder/summary" || exit 1
-takes /dev/null "$folder/summary" /dev/null 0
-refuses 'the script of 100' without_output "$run" gen 100
+
+told 'the script of 100' without_output "$run" gen 100
 stored 'the stored snapshot' a_driven_script board_snapshot_run "$snapshot"
 stored 'the stored watcher' a_driven_script board_watch_run "$watch"
 stored 'the stored session' without_output board_check_run "$check"
 stored parameters a_server example_parameters "$parameters"
 stored scheduler an_example example_scheduler "$scheduler"
+[ -z "$RETRIES" ] || told 'a program that calls once more' a_retry "$RETRIES"
 
 echo "$runs runs"
 exit $bad
