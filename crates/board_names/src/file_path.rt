@@ -4,8 +4,8 @@ ghost use Rattle.std.specs.Prelude.{◌≡◌, ℕ, ◌+◌, ◌<◌, ◌≤◌,
 use board_layout::Text;
 use std::marker::Model;
 
-/// A full name of at most 1021 bytes: that of a file, as `path_for` spells it, or the text of a script's event, which
-/// may have bytes that no file name has.
+/// A full name of at most 1021 bytes: that of a file, as `path_for` spells it, or the text by which a script names an
+/// event.
 ///
 /// Clauses see it as the list of its bytes.
 #[derive(Clone, Copy, Debug, PartialEq, Eq, PartialOrd, Ord)]
