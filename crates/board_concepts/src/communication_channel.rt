@@ -7,5 +7,6 @@ pub use board_channel::{
     NameTable, Queue, SharedQueue,
 };
 pub use board_names::{
-    Configuration, FileName, NamedConcept, NamedConceptBuilder, NamedConceptMgmt, RegistryError,
+    Configuration, FileName, FilePath, NamedConcept, NamedConceptBuilder,
+    NamedConceptConfiguration, NamedConceptMgmt, Path, RegistryError,
 };

@@ -6,5 +6,6 @@ pub use board_monitoring::{
     ProcessLocalMonitoring, State, Token,
 };
 pub use board_names::{
-    Configuration, FileName, NamedConcept, NamedConceptBuilder, NamedConceptMgmt, RegistryError,
+    Configuration, FileName, FilePath, NamedConcept, NamedConceptBuilder,
+    NamedConceptConfiguration, NamedConceptMgmt, Path, RegistryError,
 };

@@ -40,8 +40,8 @@ pub use board_event_core::{
     WaitMode, WaitStage, notify_step, table_stands, wait_step,
 };
 pub use board_names::{
-    Configuration, FileName, NamedConcept, NamedConceptBuilder, NamedConceptConfiguration,
-    NamedConceptMgmt, RegistryError,
+    Configuration, FileName, FilePath, NameTable, NamedConcept, NamedConceptBuilder,
+    NamedConceptConfiguration, NamedConceptMgmt, Path, RegistryError,
 };
 pub use event::{Event, Listener, ListenerBuilder, Notifier, NotifierBuilder};
 pub use events_of::{EventsOf, KindOfEvents, QueueOfIds, SetOfIds};
