@@ -19,9 +19,9 @@ pub enum EventProgress {
     More,
     /// It was a waiting look that found nothing.
     Waiting,
-    /// A wait took the ids `base + i` for each set bit i.
+    /// A wait took the ids `base + i` for each set bit i of `bits`, and has ended where this was its `last` access.
     Took { base: u64, bits: u64, last: bool },
-    /// A wait took an id.
+    /// A wait took this `id`, and has ended where this was its `last` access.
     Id { id: u64, last: bool },
     /// A notify ended well.
     Notified,
@@ -51,11 +51,11 @@ pub enum NotifyStage {
 pub enum WaitStage {
     /// A signal, until there is none.
     Drain,
-    /// The read of a word, in a wait for one.
+    /// The read of a word, by its index, in a wait for one.
     Scan { word: u64 },
     /// The taking of the least id of a word that was read.
     Clear { id: u64 },
-    /// The taking of a word, in a wait for all; and whether an id was taken before.
+    /// The taking of a word, by its index, in a wait for all; and whether an id was taken before.
     Swap { word: u64, some: bool },
     /// The waiting look, after all words were found empty.
     Look,
