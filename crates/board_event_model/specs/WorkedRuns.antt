@@ -1,4 +1,4 @@
--- Runs that were worked out by hand, of an event of 64 ids. `e` listens, `n` notifies; the last move comes first.
+-- Runs that were worked out by hand, of events of 64 and of 128 ids. `e` listens, `n` notifies; the last move comes first.
 use Rattle.std.specs.Prelude.{true, false, List, [], ◌∷◌, codes}
 use Rattle.board_event_model.specs.declared.access.EventAccess.TheVariants as access
 use Rattle.board_event_model.specs.declared.access.EventAnswer.TheVariants as answer
@@ -21,6 +21,10 @@ n = codes "n"
 -- a run on a new event
 abbrev pub RunsOnBits : List EventMove → Type 0
 RunsOnBits moves = IsRun (listened kind.Bits (codes "ev") 63 e) moves
+
+-- a run on one of two words
+abbrev pub RunsOnTwoWords : List EventMove → Type 0
+RunsOnTwoWords moves = IsRun (listened kind.Bits (codes "ev") 127 e) moves
 
 -- e waits for one id, finds none and looks
 abbrev pub first_look : WaitMode → List EventMove
@@ -80,3 +84,29 @@ an_expire_that_drops_an_id =
     ∷ step e access.Signal answer.Yes
     ∷ begin e (a_wait (wait_bits 1 true mode.Timed))
     ∷ n_notifies []
+
+-- n has set 32 and hasn't posted; e waits for all, is told an empty word, looks, and expires
+abbrev pub an_expire_that_misses_an_id : List EventMove
+an_expire_that_misses_an_id =
+    expire e
+    ∷ step e access.Signal answer.No
+    ∷ step e (access.Swap 0) (answer.Word 0)
+    ∷ step e access.Signal answer.No
+    ∷ begin e (a_wait (wait_bits 1 true mode.Timed))
+    ∷ step n (access.Set 32) answer.Done
+    ∷ n_looks []
+
+-- n has set 96, which is of the second word, and hasn't posted; e waits for all, and has taken the first word
+abbrev pub a_wait_between_words : List EventMove
+a_wait_between_words =
+    step e (access.Swap 0) (answer.Word 0)
+    ∷ step e access.Signal answer.No
+    ∷ begin e (a_wait (wait_bits 2 true mode.Timed))
+    ∷ step n (access.Set 96) answer.Done
+    ∷ step n access.Listener answer.Yes
+    ∷ begin n (a_notify (notify_bits 96 127))
+    ∷ []
+
+-- there it expires
+abbrev pub an_expire_between_words : List EventMove
+an_expire_between_words = expire e ∷ a_wait_between_words

@@ -1,5 +1,5 @@
 //! Runs that were worked out by hand, and whether they are runs.
-ghost use Rattle.board_event_model.specs.WorkedRuns.{RunsOnBits, a_look_before_the_post, a_made_up_id, a_post_before_the_set, an_expire_after_a_look, an_expire_after_a_signal, an_expire_after_the_drain, an_expire_of_a_blocking_wait, an_expire_that_drops_an_id, an_expire_that_leaves_an_id};
+ghost use Rattle.board_event_model.specs.WorkedRuns.{RunsOnBits, RunsOnTwoWords, a_look_before_the_post, a_made_up_id, a_post_before_the_set, a_wait_between_words, an_expire_after_a_look, an_expire_after_a_signal, an_expire_after_the_drain, an_expire_between_words, an_expire_of_a_blocking_wait, an_expire_that_drops_an_id, an_expire_that_leaves_an_id, an_expire_that_misses_an_id};
 
 /// A waiting look may miss an id that was set and whose signal wasn't posted yet.
 pub fn a_look_may_come_before_the_post()
@@ -29,4 +29,12 @@ pub fn an_early_expire_is_wrong()
     ensures blocking { RunsOnBits an_expire_of_a_blocking_wait → ⊥ }
     ensures all { RunsOnBits an_expire_that_leaves_an_id → ⊥ }
     ensures taken { RunsOnBits an_expire_that_drops_an_id → ⊥ }
+{}
+
+/// A wait for all doesn't expire with an id left that was pending at its first step: it can't be told that the id's word is
+/// empty, and it doesn't expire before it has taken that word.
+pub fn an_expire_with_an_id_left_is_wrong()
+    ensures missed { RunsOnBits an_expire_that_misses_an_id → ⊥ }
+    ensures between { RunsOnTwoWords a_wait_between_words }
+    ensures early { RunsOnTwoWords an_expire_between_words → ⊥ }
 {}
