@@ -115,7 +115,11 @@ impl<K: KindOfEvents> NameTable for EventsOf<K> {
         Ok(self.events.holds(K::kind(), name))
     }
 
-    fn remove(&mut self, name: &FilePath) -> bool {
+    fn remove(&mut self, name: &FilePath) -> bool
+        ensures value { result ≡ is_some (at (names_of K.which self.old) name.now) }
+        ensures after { self.new ≡ without_name K.which self.old name.now }
+        ensures gone { IsFree (names_of K.which self.new) name.now }
+    {
         self.remove_name(name)
     }
 }
