@@ -1,5 +1,5 @@
 //! One end of a channel.
-ghost use Rattle.std.specs.Prelude.{◌≡◌, ℕ, List, Bool, Ok, IsTrue, slice_get};
+ghost use Rattle.std.specs.Prelude.{◌≡◌, ◌≤◌, ℕ, List, Bool, Ok, IsTrue, length, slice_get};
 ghost use Rattle.board_names.specs.Table.{let_go, IsFree};
 ghost use Rattle.board_channel.specs.Queue.{sent, send_answer, received};
 
@@ -55,6 +55,7 @@ impl Duplex {
     ) -> Result<Option<u64>, CommunicationChannelSendError>
         ensures answer { result ≡ send_answer state.old }
         ensures after { state.new ≡ sent state.old value.now }
+        ensures fits { length state.new.items ≤ state.new.capacity }
     {
         state.try_send(*value)
     }
@@ -70,6 +71,7 @@ impl Duplex {
     ) -> Result<Option<u64>, CommunicationChannelSendError>
         ensures answer { result ≡ send_answer state.old }
         ensures after { state.new ≡ sent state.old value.now }
+        ensures fits { length state.new.items ≤ state.new.capacity }
     {
         self.send_in(state, value)
     }
@@ -84,6 +86,7 @@ impl Duplex {
     ) -> Result<Option<u64>, CommunicationChannelReceiveError>
         ensures answer { result ≡ Ok (slice_get state.old.items 0) }
         ensures after { state.new ≡ received state.old }
+        ensures fits { length state.new.items ≤ state.new.capacity }
     {
         Ok(state.receive())
     }

@@ -9,7 +9,8 @@ use std::marker::Model;
 
 /// Numbers in order, at most `capacity` of them. Clauses see the numbers, the capacity and whether it overflows.
 ///
-/// It has all its memory from the start.
+/// It has all its memory from the start. No queue has more numbers than its capacity, and none has a capacity of 0:
+/// `capacity` says it of any queue that it is asked of, also of one from behind a lock.
 #[derive(Drop)]
 pub struct Queue {
     items: VecDeque<u64>,
@@ -63,6 +64,7 @@ impl Queue {
     pub fn try_send(&mut self, value: u64) -> Result<Option<u64>, CommunicationChannelSendError>
         ensures answer { result ≡ send_answer self.old }
         ensures after { self.new ≡ sent self.old value }
+        ensures fits { length self.new.items ≤ self.new.capacity }
     {
         if self.items.len() < self.capacity {
             let _ = self.items.push_back(value);
@@ -80,13 +82,16 @@ impl Queue {
     pub fn receive(&mut self) -> Option<u64>
         ensures value { result ≡ slice_get self.old.items 0 }
         ensures after { self.new ≡ received self.old }
+        ensures fits { length self.new.items ≤ self.new.capacity }
     {
         self.items.pop_front()
     }
 
     /// How many numbers it holds.
     pub fn capacity(&self) -> usize
-        ensures { result ≡ self.now.capacity }
+        ensures value { result ≡ self.now.capacity }
+        ensures some { 0 < self.now.capacity }
+        ensures fits { length self.now.items ≤ self.now.capacity }
     {
         self.capacity
     }
