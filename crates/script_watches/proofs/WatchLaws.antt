@@ -26,7 +26,7 @@ use Rattle.script_exchanges.specs.Exchanges.{Exchanges, Told, fed_by, fed_sessio
 use Rattle.script_snapshots.specs.SnapshotExchanges.{let_go}
 use Rattle.script_snapshots.proofs.FedLemmas.{fed_lawful, same_bytes}
 use Rattle.script_watches.specs.Watchings.{Outcome, Watching, ended, goes_on, last_generation, line_at, new_watching, next_line, reports, reports_through, taken}
-use Rattle.script_watches.specs.LawsOfWatches.{FedSessionsAreLawful, LastReportsAreHighest, ReportedGenerationsRise, ReportsAreFresh, ReportsAreItems, Rise, WatchedPartiesHaveWatchers, got_of}
+use Rattle.script_watches.specs.LawsOfWatches.{FedSessionsAreLawful, NoReportIsAboveTheLast, ReportedGenerationsRise, ReportsAreFresh, ReportsAreItems, Rise, WatchedPartiesHaveWatchers, got_of}
 use Rattle.script_watches.specs.WatchExchanges.{AreToldIds, IsExchange, IsOpened, IsTurnedDown, Leads, OfScript, OfStart, OfTurn, Watchings, fed_with, id_line, if_watched, kept_of, no_watchings, pairs_of_id, pairs_of_ids, said_of}
 use Rattle.script_watches.proofs.OpeningLemmas.{ids_count, ids_lawful, opened_sound}
 use Rattle.script_watches.proofs.ReportedLemmas.{highest_is}
@@ -254,7 +254,7 @@ none_above top (x ∷ xs) h =
     let k = none_above x.generation xs h.1 in
     (omega (arith, h.0, k.0), (k.0, k.1))
 
-pub highest_law : LastReportsAreHighest
+pub highest_law : NoReportIsAboveTheLast
 highest_law xs s k party x e handle = (none_above 0 (reports_through handle x.reported) (rise_law xs s k party x e handle)).1
 
 all_with : {X : Type 0} (P Q R : X → Type 0) → ((x : X) → P x → Q x → R x) → (xs : List X) → AllByRecursion P xs → AllByRecursion Q xs → AllByRecursion R xs

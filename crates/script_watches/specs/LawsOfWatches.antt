@@ -43,8 +43,8 @@ abbrev pub ReportedGenerationsRise : Type 0
 ReportedGenerationsRise = (xs : Exchanges) (s : Watchings) → Leads no_watchings xs s → (party : List ℕ) (x : Watching) → s.of party ≡ Some x → (handle : List ℕ) → Rise 0 (reports_through handle x.reported)
 
 -- the last of them is the highest
-abbrev pub LastReportsAreHighest : Type 0
-LastReportsAreHighest =
+abbrev pub NoReportIsAboveTheLast : Type 0
+NoReportIsAboveTheLast =
     (xs : Exchanges) (s : Watchings) → Leads no_watchings xs s → (party : List ℕ) (x : Watching) → s.of party ≡ Some x
     → (handle : List ℕ) → AllByRecursion (λ (r : Got). r.generation ≤ highest_of x handle) (reports_through handle x.reported)
 

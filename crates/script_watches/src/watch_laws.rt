@@ -1,5 +1,5 @@
 //! Laws of scripts whose parties can be watchers. Each function's contract is a theorem over the definitions alone.
-ghost use Rattle.script_watches.specs.LawsOfWatches.{FedSessionsAreLawful, LastReportsAreHighest, ReportedGenerationsRise, ReportsAreFresh, ReportsAreItems, WatchedPartiesHaveWatchers};
+ghost use Rattle.script_watches.specs.LawsOfWatches.{FedSessionsAreLawful, NoReportIsAboveTheLast, ReportedGenerationsRise, ReportsAreFresh, ReportsAreItems, WatchedPartiesHaveWatchers};
 
 /// The lines that were given have the answers of a lawful session.
 pub fn fed_sessions_are_lawful()
@@ -17,8 +17,8 @@ pub fn reported_generations_rise()
 {}
 
 /// No report of a handle has a generation above its last one's.
-pub fn last_reports_are_highest()
-    ensures { LastReportsAreHighest }
+pub fn no_report_is_above_the_last()
+    ensures { NoReportIsAboveTheLast }
 {}
 
 /// Each report of a handle is an item, at its generation, of the list of the one entry that the handle named when its party began to be watched.
