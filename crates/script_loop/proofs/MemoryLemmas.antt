@@ -1,9 +1,10 @@
 -- Calls that are listed to fail.
-use Rattle.std.proofs.Common.{◌≡◌, ℕ, ◌+◌, ◌-◌, ◌<◌, ◌≤◌, ◌^◌, min, Bool, true, false, eqb, eq-eqb, List, [], length, get_or, arith, refl, sym, ap, subst, ◌∙◌, All, Contains}
+use Rattle.std.proofs.Common.{◌≡◌, ℕ, ◌+◌, ◌-◌, ◌<◌, ◌≤◌, ◌^◌, min, Bool, true, false, eqb, eq-eqb, List, [], length, get_or, arith, refl, sym, ap, subst, ◌∙◌, All, Contains, Some}
 use Rattle.std.specs.List.{IsAnyAnswer}
 use Rattle.std.proofs.lemmas.Bool.{eqb-true}
+use Rattle.std.proofs.lemmas.List.{length-take}
 use Rattle.script_loop.specs.declared.memory.MemorySink.{MemorySink}
-use Rattle.script_loop.specs.Memory.{Calls, IsListed, NoneIsListed, SinkNeverFails, fresh_calls, one_more, sink_calls, sink_room}
+use Rattle.script_loop.specs.Memory.{Calls, IsListed, NoneIsListed, SinkNeverFails, fresh_calls, one_more, sink_calls, sink_holds, sink_most, sink_room}
 
 pub is_listed : (fails : List ℕ) (call : ℕ) → IsAnyAnswer (λ y b. eqb y call ≡ b) fails true → Contains fails call
 is_listed fails call h = (h.0, h.1, eqb-true (get_or fails h.0 call) call (h.2 call))
@@ -26,3 +27,9 @@ none_listed calls piece e = subst NoneIsListed (sym e) (λ k d lt. absurd (omega
 
 pub sink_has_room : (k : MemorySink) (piece room : ℕ) → sink_calls k ≡ fresh_calls piece [] → sink_room k ≡ room → SinkNeverFails k room
 sink_has_room k piece room e f = (none_listed (sink_calls k) piece e, omega (arith, f))
+
+-- what a sink holds fits into the room that one had before
+pub holds_within : (k old : MemorySink) (room : ℕ) → Some (sink_most k) ≡ Some (sink_most old) → sink_most old ≡ room → length (sink_holds k) ≤ room
+holds_within k old room e f =
+    let same : sink_most k ≡ sink_most old = cc in
+    omega (arith, length-take k.len k.bytes.items, same, f)

@@ -23,6 +23,10 @@ sink_held k = Some (sink_holds k)
 abbrev pub sink_room : MemorySink → ℕ
 sink_room k = length k.bytes.items - k.len
 
+-- how many bytes a sink can hold
+abbrev pub sink_most : MemorySink → ℕ
+sink_most k = length k.bytes.items
+
 -- ---- calls
 
 -- how many bytes a call gives or takes at most, how many calls were made, and the numbers of those that fail

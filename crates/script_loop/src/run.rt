@@ -76,11 +76,13 @@ pub fn run_lines<M: RunsLines, S: Source, K: Sink>(
     requires limit { limit ≤ 4294967295 }
     requires machine { M.stands machine.old 0 start }
 
-    // The sink gained the output of the lawful session of the input's lines, or the error says what stands.
+    // The sink gained the output of the lawful session of the input's lines, or the error says what stands. What it can hold at most stays.
     ensures runs { Runs limit
         (stream_of S.left S.faults source.old source.new)
         (stream_of K.held K.faults sink.old sink.new)
         result }
+
+    ensures most { K.most sink.new ≡ K.most sink.old }
 
     // Where no read fails there is no read fault, and where no write fails within the output no write fault.
     ensures reads { S.never_fails source.old → result ≢ Err ScriptError.ReadFault }

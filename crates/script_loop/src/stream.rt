@@ -44,10 +44,12 @@ pub trait Source {
 
 /// Where bytes go.
 ///
-/// Contracts see the bytes that are `held`, where they are known, and a count of `faults` that never falls.
+/// Contracts see the bytes that are `held` and how many can be at `most`, where these are known, and a count of `faults` that never falls.
 /// A sink may be known to be one that `never_fails_within` so many more bytes.
 pub trait Sink {
     ghost held: { Self → Option (List ℕ) };
+
+    ghost most: { Self → Option ℕ };
 
     ghost faults: { Self → ℕ };
 
@@ -60,8 +62,9 @@ pub trait Sink {
     fn write(&mut self, bytes: &[u8]) -> Result<usize, Failed>
         ensures bound { Writes result bytes.now }
 
-        // The sink holds the bytes that it took. A failed write takes none.
+        // The sink holds the bytes that it took. A failed write takes none. What can be held at most stays.
         ensures bytes { WriteAppends (held self.old) (held self.new) result bytes.now }
+        ensures most { most self.new ≡ most self.old }
 
         // It fails only where the count of faults rises, by one, and the count rises only there.
         ensures cause { HasCause (faults self.old) (faults self.new) result }

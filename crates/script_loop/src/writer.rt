@@ -16,6 +16,7 @@ pub fn write_whole<K: Sink>(sink: &mut K, bytes: &[u8]) -> Result<(), Failed>
     // A front of the bytes was written before a fault, and after it no write was tried.
     ensures err { OnErr result ((n : ℕ)
         × Appends (K.held sink.old) (K.held sink.new) (take n bytes.now)) }
+    ensures most { K.most sink.new ≡ K.most sink.old }
     ensures cause { HasCause (K.faults sink.old) (K.faults sink.new) result }
     ensures once { OnErr result (K.faults sink.new ≡ one_fault_more (K.faults sink.old)) }
     ensures told { OnOk result (K.faults sink.new ≡ K.faults sink.old) }

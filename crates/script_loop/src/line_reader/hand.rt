@@ -61,7 +61,7 @@ impl LineReader {
         })
     }
 
-    /// The line that was given last, without its newline.
+    /// The line that the last `next` found, without its newline. Nothing is said of these bytes where it found none.
     pub fn line(&self) -> &[u8]
         ensures { result.now ≡ line_given self.now }
     {

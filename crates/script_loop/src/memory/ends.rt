@@ -1,10 +1,10 @@
 //! What sources and sinks in memory give and take, and which of their calls fail.
-ghost use Rattle.std.specs.Prelude.{◌≡◌, ◌≤◌, ◌<◌, ◌-◌, ◌↔◌, ℕ, IfOk, IsErr, IsOk, IsOkAnd, IsTrue, OnErr, OnOk, length};
+ghost use Rattle.std.specs.Prelude.{◌≡◌, ◌≤◌, ◌<◌, ◌+◌, ◌-◌, ◌↔◌, ℕ, IfOk, IsErr, IsOk, IsOkAnd, IsTrue, OnErr, OnOk, Some, length};
 ghost use Rattle.std.specs.Io.{ReadsAtMost};
 ghost use Rattle.std.specs.Io.KnownBytes.{ReadConsumes, WriteAppends};
 ghost use Rattle.board_model.specs.Lines.{HasCause};
 ghost use Rattle.script_loop.specs.Memory as memory;
-ghost use Rattle.script_loop.specs.Memory.{CannotTake, FindsNoRoom, IsListed, NoneIsListed, SinkNeverFails, one_more, sink_calls, sink_held, source_calls, source_left, piece_given, piece_taken};
+ghost use Rattle.script_loop.specs.Memory.{CannotTake, FindsNoRoom, IsListed, NoneIsListed, SinkNeverFails, one_more, sink_calls, sink_held, sink_most, sink_room, source_calls, source_left, piece_given, piece_taken};
 ghost use Rattle.script_loop.specs.Streams.{Writes, one_fault_more};
 
 use super::{MemorySink, MemorySource};
@@ -69,6 +69,8 @@ impl MemorySink {
 impl Sink for MemorySink {
     ghost held = { sink_held };
 
+    ghost most = { λ k. Some (sink_most k) };
+
     ghost faults = { λ k. k.faults };
 
     ghost never_fails_within = { SinkNeverFails };
@@ -77,15 +79,18 @@ impl Sink for MemorySink {
     fn write(&mut self, bytes: &[u8]) -> Result<usize, Failed>
         ensures bound { Writes result bytes.now }
         ensures bytes { WriteAppends (sink_held self.old) (sink_held self.new) result bytes.now }
+        ensures most { Some (sink_most self.new) ≡ Some (sink_most self.old) }
         ensures cause { HasCause self.old.faults self.new.faults result }
         ensures once { OnErr result (self.new.faults ≡ one_fault_more self.old.faults) }
         ensures told { OnOk result (self.new.faults ≡ self.old.faults) }
         ensures unfailing { (n : ℕ) → SinkNeverFails self.old n → length bytes.now ≤ n
             → IsOkAnd result (λ count. SinkNeverFails self.new (n - count)) }
 
-        // Which call fails, how many bytes one takes, and how many were made.
+        // Which call fails, how many bytes one takes, and how many were made. The room loses what was taken.
         ensures fails { IsErr result ↔ CannotTake self.old bytes.now }
         ensures count { IfOk result (λ n. n ≡ piece_taken self.old (length bytes.now)) }
+        ensures room { IfOk result (λ n. sink_room self.old ≡ sink_room self.new + n) }
+        ensures kept { OnErr result (sink_room self.new ≡ sink_room self.old) }
         ensures calls { sink_calls self.new ≡ one_more (sink_calls self.old) }
     {
         let is_full = self.finds_no_room(bytes);

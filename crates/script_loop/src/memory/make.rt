@@ -1,6 +1,6 @@
 //! How sources and sinks in memory are made.
 ghost use Rattle.std.specs.Prelude.{◌≡◌, IfOk, Some, []};
-ghost use Rattle.script_loop.specs.Memory.{fresh_calls, sink_calls, sink_holds, sink_room, source_calls, source_left};
+ghost use Rattle.script_loop.specs.Memory.{fresh_calls, sink_calls, sink_holds, sink_most, sink_room, source_calls, source_left};
 
 use super::{MemorySink, MemorySource};
 use crate::error::SinkError;
@@ -41,6 +41,7 @@ impl MemorySink {
     ) -> Result<MemorySink, SinkError>
         ensures held { IfOk result (λ sink. sink_holds sink ≡ []) }
         ensures room { IfOk result (λ sink. sink_room sink ≡ room) }
+        ensures most { IfOk result (λ sink. sink_most sink ≡ room) }
         ensures faults { IfOk result (λ sink. sink.faults ≡ 0) }
         ensures calls { IfOk result (λ sink. sink_calls sink ≡ fresh_calls piece fails.items) }
     {

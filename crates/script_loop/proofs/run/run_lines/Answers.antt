@@ -1,4 +1,4 @@
-use Rattle.std.proofs.Common.{◌-◌, length, ap, refl, subst, rules, arith, inl, inr}
+use Rattle.std.proofs.Common.{◌-◌, ◌∙◌, length, ap, refl, subst, rules, arith, inl, inr}
 use Rattle.script_model.specs.ScriptOutput.{output_of}
 use Rattle.script_loop.specs.Reader.{line_given}
 use Rattle.script_loop.specs.Machines.{SpellsNone}
@@ -14,6 +14,7 @@ loop-n-init g c = record {
   one_source = search rules;
   reads = refl;
   writes = refl;
+  most = refl;
   room = search rules;
   unfailing = λ h. h;
 }
@@ -86,6 +87,7 @@ loop-n-preserved g c =
       one_source = c.next.ensures.one_source;
       reads = search rules;
       writes = search rules;
+      most = c.write_whole.ensures.most ∙ c.loop-n.invariant.most;
       room = search rules;
       unfailing = search rules;
     }

@@ -12,6 +12,7 @@ invariant-loop-n g l = record {
   one_source : IsTrue (source_ended l.reader) → IsAtEnd (g.S.Source.left l.source);
   reads : g.S.Source.faults l.source ≡ g.S.Source.faults l.fn.source;
   writes : g.K.Sink.faults l.sink ≡ g.K.Sink.faults l.fn.sink;
+  most : g.K.Sink.most l.sink ≡ g.K.Sink.most l.fn.sink;
   room : short_room ≤ vec_capacity l.answer;
   unfailing : g.S.Source.never_fails l.fn.source → g.S.Source.never_fails l.source;
 }

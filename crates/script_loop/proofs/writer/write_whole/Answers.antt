@@ -1,4 +1,4 @@
-use Rattle.std.proofs.Common.{◌-◌, ◌≡◌, length, arith, rules}
+use Rattle.std.proofs.Common.{◌-◌, ◌≡◌, ◌∙◌, length, arith, refl, rules}
 use Rattle.script_loop.proofs.Pieces.{all_gone, more_gone, more_written, none_gone, rest_fits}
 use Rattle.script_loop.proofs.writer.write_whole.Goals as goal
 
@@ -6,6 +6,7 @@ pub loop-at-init : goal.loop-at-init
 loop-at-init g c = record {
   inside = search rules;
   written = search rules;
+  most = refl;
   same = search rules;
   room = λ n h le. none_gone (g.K.Sink.never_fails_within _) n h;
 }
@@ -14,6 +15,7 @@ pub loop-at-preserved : goal.loop-at-preserved
 loop-at-preserved g c = record {
   inside = search rules;
   written = more_written _ _ _ c.args.bytes.now c.loop-at.at c.in-Ok.taken c.loop-at.invariant.written c.in-Ok.ensures.bytes;
+  most = c.in-Ok.ensures.most ∙ c.loop-at.invariant.most;
   same = search rules;
   room = λ n h le.
       more_gone (g.K.Sink.never_fails_within _) n c.loop-at.at c.in-Ok.taken

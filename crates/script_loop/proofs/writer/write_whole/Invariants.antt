@@ -6,6 +6,7 @@ abbrev pub invariant-loop-at : goal.invariant-loop-at
 invariant-loop-at g l = record {
   inside : l.at ≤ length l.bytes;
   written : Appends (g.K.Sink.held l.fn.sink) (g.K.Sink.held l.sink) (take l.at l.bytes);
+  most : g.K.Sink.most l.sink ≡ g.K.Sink.most l.fn.sink;
   same : g.K.Sink.faults l.sink ≡ g.K.Sink.faults l.fn.sink;
   room : (n : ℕ) → g.K.Sink.never_fails_within l.fn.sink n → length l.bytes ≤ n → g.K.Sink.never_fails_within l.sink (n - l.at);
 }
