@@ -2,7 +2,7 @@
 //!
 //! No contract knows what bytes these have. That an adapter passes on all that its reader gives and all that its writer
 //! takes is proved of any reader and any writer.
-ghost use Rattle.std.specs.Prelude.{◌≡◌, OnErr, OnOk};
+ghost use Rattle.std.specs.Prelude.{◌≡◌, None, OnErr, OnOk};
 ghost use Rattle.std.specs.Io.KnownBytes.{WriteAppends};
 ghost use Rattle.board_model.specs.Lines.{HasCause};
 ghost use Rattle.script_loop.specs.Streams.{Writes, one_fault_more};
@@ -23,7 +23,8 @@ pub type StdinSource = InSource<Stdin>;
 impl<R: Read + Drop> InSource<R> {
     /// The source that reads it.
     pub fn new(input: R) -> InSource<R>
-        ensures { result.input ≡ input }
+        ensures input { result.input ≡ input }
+        ensures faults { result.faults ≡ 0 }
     {
         InSource { input, faults: 0 }
     }
@@ -63,7 +64,8 @@ pub type StderrSink = OutSink<Stderr>;
 impl<W: Write + Drop> OutSink<W> {
     /// The sink that writes to it.
     pub fn new(out: W) -> OutSink<W>
-        ensures { result.out ≡ out }
+        ensures out { result.out ≡ out }
+        ensures faults { result.faults ≡ 0 }
     {
         OutSink { out, faults: 0 }
     }
@@ -91,6 +93,8 @@ fn write_front<W: Write>(out: &mut W, faults: &mut u64, bytes: &[u8]) -> Result<
 
 impl<W: Write + Drop> Sink for OutSink<W> {
     ghost held = { λ s. W.contents s.out };
+
+    ghost most = { λ s. None };
 
     ghost faults = { λ s. s.faults };
 
