@@ -7,6 +7,7 @@ pub mod DifferentLemmas
 pub mod LimitLemmas
 pub mod HeldLemmas
 pub mod RoomLemmas
+pub mod NamedLemmas
 pub mod TableLemmas
 pub mod StorageLemmas
 pub mod BoardLemmas

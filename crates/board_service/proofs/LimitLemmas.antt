@@ -88,7 +88,7 @@ one_counted p ts x =
     let d : cond (p x) 1 0 ≤ 1 = one_at_most (p x) in
     omega (arith, c, d)
 
-fewer_counted : (p q : Thing ℕ ℕ → Bool) (ts : List (Thing ℕ ℕ)) → count_by p (without_first q ts) ≤ count_by p ts
+pub fewer_counted : {X : Type 0} (p q : X → Bool) (ts : List X) → count_by p (without_first q ts) ≤ count_by p ts
 fewer_counted p q [] = omega arith
 fewer_counted p q (t ∷ ts) = at (q t) (fewer_counted p q ts)
   where

@@ -5,12 +5,13 @@ use Rattle.std.specs.List.{list_any, cons_option, AllByRecursion}
 use Rattle.std.proofs.lemmas.List.{append-nil}
 use Rattle.board_model.specs.declared.tables.Board.{Board}
 use Rattle.board_model.specs.declared.tables.Thing.{Thing}
-use Rattle.board_model.specs.Tables.{Tables, board_at, holds_at, is_numbered, is_of_board, is_write_handle, port_of, without_first}
+use Rattle.board_model.specs.Tables.{Tables, board_at, has_name, holds_at, is_numbered, is_of_board, is_write_handle, port_of, without_first}
 use Rattle.board_model.specs.TableCalls.{with_thing}
 use Rattle.board_service.specs.Domain.{is_thing, thing_numbered, thing_or_none}
 use Rattle.board_model.specs.declared.tables.Kind.TheVariants as kind
 use Rattle.board_service.specs.Facts.{AreDrawn, AreTables, HasEntry, HasPort, KeepsLimits, WritesAlone, board_number, drawn_port, entry_count, handle_entry, is_port, written_entry, port_number, ports_of, thing_number}
 use Rattle.board_service.proofs.LimitLemmas.{entries_less_board, entries_more_boards, limits_less, limits_less_board, limits_more, limits_more_board, writers_less, writers_more}
+use Rattle.board_service.proofs.NamedLemmas.{names_less, names_more}
 use Rattle.board_service.proofs.DrawnLemmas.{drawn_more, drawn_without, find-push, find-push-other, find-without, find-without-other, none_above, numbered_other, there}
 
 -- ---- lists
@@ -134,6 +135,7 @@ pub tables_more_thing : (t : Tables ℕ ℕ) (last : ℕ) (x : Thing ℕ ℕ) �
     → drawn_port x.kind ≡ None → port_of x.kind ≤ t.last_port → HasEntry t.boards x → KeepsLimits t.boards (t.things ++ x ∷ []) x.board → WritesAlone t.things x → AreTables (with_thing t x) (last + 1)
 tables_more_thing t last x are named stands none port entry room alone = record {
   boards = are.boards;
+  names = are.names;
   things = drawn_more thing_number is_thing (λ n y. refl) last t.things x are.things named;
   ports = subst (AreDrawn port_number is_port t.last_port) (sym (ports_more t.things x ∙ ap (λ o. ports_of t.things ++ cons_option o []) none ∙ append-nil (ports_of t.things))) are.ports;
   handles = all_more (HasPort t.last_port) t.things x are.handles port;
@@ -149,6 +151,7 @@ pub tables_more_port : (t : Tables ℕ ℕ) (last : ℕ) (x : Thing ℕ ℕ) →
     → AreTables (with_thing (record t { last_port = t.last_port + 1 }) x) (last + 1)
 tables_more_port t last x are named stands drawn port entry room alone = record {
   boards = are.boards;
+  names = are.names;
   things = drawn_more thing_number is_thing (λ n y. refl) last t.things x are.things named;
   ports = subst (AreDrawn port_number is_port (t.last_port + 1)) (sym (ports_more t.things x ∙ ap (λ o. ports_of t.things ++ cons_option o []) drawn))
       (drawn_more port_number is_port (λ n y. refl) t.last_port (ports_of t.things) (t.last_port + 1) are.ports refl);
@@ -162,10 +165,11 @@ tables_more_port t last x are named stands drawn port entry room alone = record 
 -- ---- one board more, with a factory of it
 
 pub tables_more_board : (t : Tables ℕ ℕ) (last : ℕ) (b : Board) (x : Thing ℕ ℕ) → AreTables t last → b.number ≡ t.last_board + 1 → x.name ≡ last + 1 → x.board ≡ t.last_board + 1
-    → x.kind ≡ kind.Factory → 1 ≤ b.max_nodes
+    → x.kind ≡ kind.Factory → 1 ≤ b.max_nodes → list_any (has_name b.name) t.boards ≡ false
     → AreTables (record { boards = t.boards ++ b ∷ []; things = t.things ++ x ∷ []; last_board = t.last_board + 1; last_port = t.last_port }) (last + 1)
-tables_more_board t last b x are numbered named of factory least = record {
+tables_more_board t last b x are numbered named of factory least called = record {
   boards = drawn_more board_number is_numbered (λ n y. refl) t.last_board t.boards b are.boards numbered;
+  names = names_more t.boards b are.names called;
   things = drawn_more thing_number is_thing (λ n y. refl) last t.things x are.things named;
   ports = subst (AreDrawn port_number is_port t.last_port) (sym (ports_more t.things x ∙ ap (λ o. ports_of t.things ++ cons_option o []) none ∙ append-nil (ports_of t.things))) are.ports;
   handles = all_more (HasPort t.last_port) t.things x are.handles (omega (arith, port));
@@ -209,6 +213,7 @@ pub tables_less_thing : (t : Tables ℕ ℕ) (last n : ℕ) → AreTables t last
     → AreTables (record t { things = without_first (is_thing n) t.things }) last
 tables_less_thing t last n are some kept = record {
   boards = are.boards;
+  names = are.names;
   things = drawn_without thing_number is_thing (is_thing n) last t.things are.things;
   ports = ports_without (is_thing n) t.last_port t.things are.ports;
   handles = all_without (HasPort t.last_port) (is_thing n) t.things are.handles;
@@ -233,6 +238,7 @@ pub tables_less_board : (t : Tables ℕ ℕ) (last n : ℕ) → AreTables t last
     → AreTables (record t { boards = without_first (is_numbered (thing_numbered n t.things).board) t.boards; things = without_first (is_thing n) t.things }) last
 tables_less_board t last n are gone = record {
   boards = drawn_without board_number is_numbered (is_numbered (thing_numbered n t.things).board) t.last_board t.boards are.boards;
+  names = names_less t.boards (is_numbered (thing_numbered n t.things).board) are.names;
   things = drawn_without thing_number is_thing (is_thing n) last t.things are.things;
   ports = ports_without (is_thing n) t.last_port t.things are.ports;
   handles = all_without (HasPort t.last_port) (is_thing n) t.things are.handles;

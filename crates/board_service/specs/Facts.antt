@@ -5,7 +5,7 @@ use Rattle.board_model.specs.declared.tables.Board.{Board}
 use Rattle.board_model.specs.declared.tables.Thing.{Thing}
 use Rattle.board_model.specs.declared.tables.Kind.{Kind}
 use Rattle.board_model.specs.declared.tables.Kind.TheVariants as kind
-use Rattle.board_model.specs.Tables.{Tables, board_at, is_numbered, is_of_board, is_write_handle, port_of, reader_slots, writer_slots, nodes_taken}
+use Rattle.board_model.specs.Tables.{Tables, board_at, has_name, is_numbered, is_of_board, is_write_handle, port_of, reader_slots, writer_slots, nodes_taken}
 use Rattle.board_model.specs.declared.tables.ThingKind.{ThingKind}
 use Rattle.board_layout.specs.declared.type_detail.TypeDetail.{TypeDetail}
 use Rattle.board_service.specs.Domain.{Domain, Stands, is_thing, stands_as}
@@ -83,10 +83,11 @@ pub record IsWithinLimits (things : List (Thing ℕ ℕ)) (b : Board) : Type 0 w
 abbrev pub KeepsLimits : List Board → List (Thing ℕ ℕ) → ℕ → Type 0
 KeepsLimits boards things board = IfSome (find (is_numbered board) boards) (λ b. IsWithinLimits things b)
 
--- what is true of the tables of every domain: numbers differ and were drawn, a board stands exactly while a thing of it does,
+-- what is true of the tables of every domain: numbers differ and were drawn, names of boards differ, a board stands exactly while a thing of it does,
 -- its limits are kept, and each of its entries has at most one write handle
 pub record AreTables (t : Tables ℕ ℕ) (last_thing : ℕ) : Type 0 where
   pub boards : AreDrawn board_number is_numbered t.last_board t.boards
+  pub names : (name : List ℕ) → count_by (has_name name) t.boards ≤ 1
   pub things : AreDrawn thing_number is_thing last_thing t.things
   pub ports : AreDrawn port_number is_port t.last_port (ports_of t.things)
   pub handles : AllByRecursion (HasPort t.last_port) t.things

@@ -72,6 +72,7 @@ pub(crate) fn create_refusal<K: BoardKey>(
     ensures small { IfNone result (payload_of entries.now < 2 ^ 32) }
     ensures key { IfNone result (K.SIZE ≤ 64) }
     ensures below { IfNone result ((last_board < 2 ^ 64 - 2) × (last_thing < 2 ^ 64 - 2)) }
+    ensures free { IfNone result (list_any (tables.has_name name.now) boards.now ≡ false) }
 {
     if has_name(name, boards) {
         return Some(BlackboardCreateError::AlreadyExists);

@@ -1,16 +1,21 @@
 //! What a caller knows of a domain that it is lent, whatever that went through.
-ghost use Rattle.std.specs.Prelude.{◌≡◌, ◌+◌, true, is_some, IfOk, IfSome};
+ghost use Rattle.std.specs.Prelude.{◌≡◌, ◌+◌, ◌<◌, ◌≤◌, true, is_some, length, IfOk, IfSome};
 ghost use Rattle.board_layout.specs.Bytes.{details};
 ghost use Rattle.board_model.specs.Tables.{board_at, reader_slots};
 ghost use Rattle.board_service.specs.Domain.{Stands, stands_as};
+ghost use Rattle.board_service.specs.Entries.{HaveShapes};
 ghost use Rattle.board_service.specs.Facts.{IsHeldAs};
 
+use super::calls::ANY;
 use crate::cells::Cells;
 use crate::domain_core::DomainCore;
-use crate::ids::ThingId;
-use crate::made::Found;
+use crate::ids::{NodeId, ThingId};
+use crate::made::{Found, Made};
+use crate::new_entry::NewEntry;
+use board_concepts::AttributeSet;
 use board_layout::{BoardKey, TypeDetail};
 use board_model::ThingKind;
+use board_names::BlackboardCreateError;
 
 /// The cells of a thing's board. They are there where the thing is held.
 pub(super) fn cells_of<K: BoardKey, C: Cells>(
@@ -66,5 +71,31 @@ pub(super) fn both_handles<K: BoardKey, C: Cells>(
     match core.entry_mut::<K>(writer.thing, key, value) {
         Ok(write) => Some((read, write)),
         Err(_) => None,
+    }
+}
+
+/// Lets a thing go, and where it was its board's last, makes a board of the same name. That name is free then, whatever the domain went through.
+pub(super) fn replaced<K: BoardKey, C: Cells + Drop>(
+    core: &mut DomainCore<C>,
+    last: ThingId,
+    node: NodeId,
+    attributes: AttributeSet,
+    entries: Vec<NewEntry>,
+) -> Option<Result<Made, BlackboardCreateError>>
+    requires stands { Stands core.old last }
+    requires size { 0 < length entries.items → K.SIZE ≤ 64 }
+    requires shapes { HaveShapes entries.items }
+{
+    let name = match core.name_of(core.board_of(last)) {
+        Some(name) => *name,
+        None => return None,
+    };
+    if core.release(last).is_none() {
+        return None;
+    }
+    match core.create::<K>(node, &name, ANY, None, attributes, entries) {
+        // The name is free.
+        Err(BlackboardCreateError::AlreadyExists) => unreachable!(),
+        told => Some(told),
     }
 }

@@ -1,16 +1,17 @@
 use Rattle.std.proofs.Common.{◌≡◌, ◌<◌, ◌^◌, ℕ, true, false, arith, List, length, sym, ap, subst, ◌∙◌}
-use Rattle.std.specs.Prelude.{find, is_some}
+use Rattle.std.specs.Prelude.{find, is_some, IfSome}
 use Rattle.std.specs.List.{list_any}
 use Rattle.board_model.specs.declared.tables.Board.{Board}
 use Rattle.board_model.specs.declared.tables.Thing.{Thing}
-use Rattle.board_model.specs.Tables.{is_numbered, is_of_board, without_first}
+use Rattle.board_model.specs.Tables.{board_at, has_name, is_numbered, is_of_board, without_first}
 use Rattle.board_store.specs.Statics.{Storages}
 use Rattle.board_names.specs.Table.{without}
 use Rattle.board_service.specs.Descriptions.{IsCore, storage_name}
-use Rattle.board_service.specs.Domain.{Domain, is_thing, thing_numbered}
+use Rattle.board_service.specs.Domain.{Domain, board_of, is_thing, thing_numbered}
 use Rattle.board_service.specs.Suiting.{AllBeside, suits_board}
 use Rattle.board_service.proofs.BesideLemmas.{beside_less}
 use Rattle.board_service.proofs.BoardLemmas.{core_less, core_released}
+use Rattle.board_service.proofs.NamedLemmas.{name_free_at}
 use Rattle.board_service.proofs.TableLemmas.{board_stands}
 use Rattle.board_service.proofs.domain_core.DomainCore.release.Goals as goal
 
@@ -72,3 +73,13 @@ invariant_of-self-2 g c =
       core = subst Last (sym c.take_thing-gone.ensures.last) (subst Kept (sym c.let_go.ensures.after) (subst Things (sym rest) (subst Boards (sym fewer) there)));
       suited = subst (λ (bs : List Board). Suited bs left) (sym fewer) (subst (λ (cs : List g.row.C.Denot). Suited (without_first (is_numbered c.take_thing-gone.result.board) s.boards.items) cs) (sym c.take_cells.ensures.rest) beside);
     }
+
+pub returns-clause-free : goal.returns-clause-free
+returns-clause-free g c =
+    let s = c.self.inside in
+    let n = (thing_numbered c.args.thing s.things.things).board in
+    let rest : c.take_board-place.new.boards.items ≡ without_first (is_numbered n) s.boards.items =
+    c.take_board-place.ensures.rest ∙ ap (λ (t : Thing ℕ ℕ). without_first (is_numbered t.board) s.boards.items) c.take_thing-gone.ensures.taken in
+    let Free : List Board → Type 0 = λ bs. IfSome (find (is_numbered n) s.boards.items) (λ b. list_any (has_name b.name) bs ≡ false) in
+    let free : Free c.take_board-place.new.boards.items = subst Free (sym rest) (name_free_at n s.boards.items c.self.invariant.core.tables.names) in
+    subst (λ (d : Domain g.row.C.Denot). IfSome (board_at d.tables (board_of d c.args.thing)) (λ b. list_any (has_name b.name) c.take_board-place.new.boards.items ≡ false)) c.self.view_is free
