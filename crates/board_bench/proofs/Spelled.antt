@@ -1,12 +1,12 @@
 -- What the words are that spell a task.
-use Rattle.std.proofs.Common.{◌≡◌, ℕ, ◌<◌, ◌≤◌, ◌+◌, suc, zero, List, [], ◌∷◌, length, map, get_or, refl, sym, ◌∙◌, subst, arith}
+use Rattle.std.proofs.Common.{◌≡◌, ℕ, ◌≤◌, List, [], ◌∷◌, length, map, get_or, refl, arith}
 use Rattle.std.specs.Prelude.{IsTrue, codes}
 use Rattle.std.specs.Fmt.{decimal}
 use Rattle.board_event_model.specs.declared.kind.EventKind.{EventKind}
 use Rattle.board_bench.specs.declared.task.Calls.{Calls}
 use Rattle.board_bench.specs.declared.task.Task.{Task}
 use Rattle.board_bench.specs.declared.task.Task.TheVariants.{Solo, Typed, Event, Shared}
-use Rattle.board_bench.specs.Task.{AreCallsOf, IsBenchTask, IsCount, call_word, cell_words, event_words, is_width, kind_word, spelling}
+use Rattle.board_bench.specs.Task.{AreCallsOf, IsBenchTask, IsCount, cell_words, event_words, is_width, kind_word, spelling}
 
 -- of three words, and of four, each is at its place
 pub three_words : {W : Type 0} (text : W → List ℕ) (words : List W) (d e f : W) → length words ≡ 3 →

@@ -1,5 +1,5 @@
 -- How a value of 32 words lies in them.
-use Rattle.std.proofs.Common.{◌≡◌, ℕ, ◌*◌, ◌^◌, ◌<◌, List, length, arith}
+use Rattle.std.proofs.Common.{◌≡◌, ◌^◌, ◌<◌, length, arith}
 use Rattle.std.specs.Prelude.{All}
 use Rattle.board_layout.specs.Words.{AreWordsOf}
 use Rattle.board_bench.specs.declared.block.Block.{Block}

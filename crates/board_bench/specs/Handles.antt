@@ -1,5 +1,5 @@
 -- Typed handles of entries of 1, 4 and 32 words.
-use Rattle.std.specs.Prelude.{◌≡◌, ℕ, ◌+◌, ◌*◌, ◌^◌, ◌<◌, length}
+use Rattle.std.specs.Prelude.{ℕ, ◌+◌, ◌^◌, ◌<◌, length}
 use Rattle.board_handles.specs.Handles.{ReadSeen, WriteSeen}
 use Rattle.board_bench.specs.declared.widths.ReadHandle.{ReadHandle}
 use Rattle.board_bench.specs.declared.widths.ReadHandle.TheVariants as read

@@ -1,4 +1,4 @@
-use Rattle.std.proofs.Common.{rules, arith, ℕ, ◌≡◌, ◌+◌, length, All, IfSome, List, [], ◌∷◌, ◌++◌, option_to_list, sym, ap, ◌∙◌, subst}
+use Rattle.std.proofs.Common.{rules, ◌≡◌, ◌+◌, length, IfSome, [], ◌∷◌, ◌++◌, option_to_list, sym, ap, ◌∙◌, subst}
 use Rattle.std.proofs.lemmas.List.Elements.{All-pop, All-push, All-same}
 use Rattle.board_cell.specs.Passes.{ReaderSeen}
 use Rattle.board_bench.specs.Watchers.{IsOf, capped, gets_of}
