@@ -1,6 +1,6 @@
 -- Runs of scripts in memory.
-use Rattle.std.proofs.Common.{◌≡◌, ℕ, ◌≤◌, List, [], refl, sym, subst, inl, Some}
-use Rattle.std.specs.Prelude.{IfErr, IsErrAnd, Result, Ok, Err}
+use Rattle.std.proofs.Common.{◌≡◌, ℕ, ◌≤◌, List, [], length, arith, refl, sym, subst, inl, Some}
+use Rattle.std.specs.Prelude.{IfErr, IfSome, IsErrAnd, Result, Ok, Err}
 use Rattle.script_loop.specs.declared.error.ScriptError.{ScriptError}
 use Rattle.script_loop.specs.declared.error.ScriptError.TheVariants.{OutOfMemory}
 use Rattle.script_loop.specs.Runs.{Stream}
@@ -10,12 +10,13 @@ use Rattle.board_script.specs.Whole.{RunsInMemory, RunsScript}
 
 -- the source never fails, and the sink has the room
 pub ran_in_memory : (room : ℕ) (script : List ℕ) (reads : Type 0) (takes : ℕ → Type 0) (source sink : Stream) (result : Result (Unit {0}) ScriptError)
-    → RunsScript 4294967295 reads takes source sink result → reads → ((n : ℕ) → n ≤ room → takes n) → source.before ≡ Some script → sink.before ≡ Some [] → RunsInMemory room script result
-ran_in_memory room script reads takes source sink result run sure within whole empty = record {
+    → RunsScript 4294967295 reads takes source sink result → reads → ((n : ℕ) → n ≤ room → takes n) → source.before ≡ Some script → sink.before ≡ Some [] → IfSome sink.after (λ held. length held ≤ room) → RunsInMemory room script result
+ran_in_memory room script reads takes source sink result run sure within whole empty fits = record {
   source = source;
   sink = sink;
   whole = whole;
   empty = empty;
+  fits = fits;
   run = record {
     runs = run.runs;
     read = λ t. run.read sure;
@@ -36,6 +37,7 @@ never_run room script = record {
   sink = untouched [];
   whole = refl;
   empty = refl;
+  fits = omega arith;
   run = record {
     runs = gave_up 4294967295 (untouched script) (untouched []) refl refl (spent_at_once 4294967295 (untouched script) (untouched []) refl);
     read = λ t same. absurd cc;

@@ -1,5 +1,5 @@
 -- What running a script comes to, and scripts in memory that can be run to their end.
-use Rattle.std.specs.Prelude.{◌≡◌, ◌≢◌, ℕ, ◌≤◌, List, [], length, Some, ⊤, IfErr, IsErrOf, Result, Err}
+use Rattle.std.specs.Prelude.{◌≡◌, ◌≢◌, ℕ, ◌≤◌, List, [], length, Some, ⊤, IfErr, IfSome, IsErrOf, Result, Err}
 use Rattle.script_model.specs.ScriptOutput.{IsOutputOf, IsScript}
 use Rattle.script_loop.specs.declared.error.ScriptError.{ScriptError}
 use Rattle.script_loop.specs.declared.error.ScriptError.TheVariants.{ReadFault, WriteFault, OutOfMemory}
@@ -23,10 +23,11 @@ pub record FitsRoom (room : ℕ) (bytes : List ℕ) : Type 0 where
   pub script : IsScript 4294967295 bytes
   pub output : (output : List ℕ) → IsOutputOf bytes output → length output ≤ room
 
--- a script in memory was run into an empty room of so many bytes, and answered so; no read fails, and no write within the room
+-- a script in memory was run into an empty room of so many bytes, and answered so; no read fails, and no write within the room, and no more is held than fits into it
 pub record RunsInMemory (room : ℕ) (script : List ℕ) (result : Result (Unit {0}) ScriptError) : Type 0 where
   pub source : Stream
   pub sink : Stream
   pub whole : source.before ≡ Some script
   pub empty : sink.before ≡ Some []
+  pub fits : IfSome sink.after (λ held. length held ≤ room)
   pub run : RunsScript 4294967295 ⊤ (λ bytes. bytes ≤ room) source sink result

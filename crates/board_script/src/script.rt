@@ -28,10 +28,11 @@ pub fn run_script_on<C: BoardWords + Drop, S: Source, K: Sink>(
     sink: &mut K,
 ) -> Result<(), ScriptError>
     requires { limit ≤ 4294967295 }
-    ensures { RunsScript limit (S.never_fails source.old) (K.never_fails_within sink.old)
+    ensures runs { RunsScript limit (S.never_fails source.old) (K.never_fails_within sink.old)
         (stream_of S.left S.faults source.old source.new)
         (stream_of K.held K.faults sink.old sink.new)
         result }
+    ensures most { K.most sink.new ≡ K.most sink.old }
 {
     let mut machine = Machine::<C>::new(alloc);
     run_lines(alloc, limit, &mut machine, source, sink)
@@ -48,10 +49,11 @@ pub fn run_script_within<S: Source, K: Sink>(
     sink: &mut K,
 ) -> Result<(), ScriptError>
     requires { limit ≤ 4294967295 }
-    ensures { RunsScript limit (S.never_fails source.old) (K.never_fails_within sink.old)
+    ensures runs { RunsScript limit (S.never_fails source.old) (K.never_fails_within sink.old)
         (stream_of S.left S.faults source.old source.new)
         (stream_of K.held K.faults sink.old sink.new)
         result }
+    ensures most { K.most sink.new ≡ K.most sink.old }
 {
     run_script_on::<SeatWords, S, K>(alloc, limit, source, sink)
 }
@@ -65,10 +67,11 @@ pub fn run_script<S: Source, K: Sink>(
     source: &mut S,
     sink: &mut K,
 ) -> Result<(), ScriptError>
-    ensures { RunsScript 4294967295 (S.never_fails source.old) (K.never_fails_within sink.old)
+    ensures runs { RunsScript 4294967295 (S.never_fails source.old) (K.never_fails_within sink.old)
         (stream_of S.left S.faults source.old source.new)
         (stream_of K.held K.faults sink.old sink.new)
         result }
+    ensures most { K.most sink.new ≡ K.most sink.old }
 {
     run_script_within(alloc, MAX_LINES, source, sink)
 }
@@ -81,7 +84,8 @@ pub fn run_in_memory(alloc: Global, script: Vec<u8>, room: usize) -> Result<Memo
     // The sink holds the output of the lawful session of the script's lines.
     ensures output { IfOk result (λ sink. IsOutputOf script.items (sink_holds sink)) }
 
-    // An error comes where it comes of `run_script` over streams of which no call is listed to fail, and leaves the same.
+    // An error is one of `run_script` over a source of the script, which never fails, and an empty sink that takes what fits into
+    // the room, and holds no more than that afterwards.
     ensures err { IfErr result (λ e. RunsInMemory room script.items (Err e)) }
 
     // A script of the grammar whose output fits is run to its end, or memory is refused.

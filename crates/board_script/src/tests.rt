@@ -1,5 +1,5 @@
 //! A script is run in memory, from its words to its status.
-use crate::run_in_memory;
+use crate::{ScriptError, run_in_memory};
 use std::test::Fail;
 
 #[test]
@@ -10,5 +10,20 @@ fn a_script_is_run_in_memory(rt: HostRuntime) -> Result<(), Fail> {
     )?;
     let sink = run_in_memory(rt.alloc(), script, 4096)?;
     assert_eq!(rt; sink.held(), b"ok\ntable = ok 1\n".as_slice());
+    Ok(())
+}
+
+// An answer that the room doesn't hold is a fault, and nothing behind it is looked at.
+#[test]
+fn a_room_is_never_outgrown(rt: HostRuntime) -> Result<(), Fail> {
+    let rooms = [
+        (3, ScriptError::WriteFault),
+        (15, ScriptError::WriteFault),
+        (16, ScriptError::BadLine(2)),
+    ];
+    for (room, error) in rooms {
+        let script = Vec::from_slice(rt.alloc(), b"words 1\n\n")?;
+        assert_eq!(rt; run_in_memory(rt.alloc(), script, room).err(), Some(error));
+    }
     Ok(())
 }

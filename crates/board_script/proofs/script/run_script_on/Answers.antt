@@ -5,8 +5,8 @@ use Rattle.script_machine.specs.Wants.{SpellsTakingAfter}
 use Rattle.script_machine.proofs.Sessions.{taking_after}
 use Rattle.board_script.proofs.script.run_script_on.Goals as goal
 
-pub returns : goal.returns
-returns g c =
+pub returns-clause-runs : goal.returns-clause-runs
+returns-clause-runs g c =
     let it = c.run_lines.ensures in
     record {
       runs = it.runs;

@@ -16,15 +16,15 @@ returns-clause-generated g c = λ n h.
 
 pub returns-then-is_empty-clause-complete : goal.returns-then-is_empty-clause-complete
 returns-then-is_empty-clause-complete g c = λ none sure room takes fits.
-    run_through c.run_script.result c.end_with.result c.end_with.ensures.is (c.run_script.ensures.complete sure room takes fits)
+    run_through c.run_script.result c.end_with.result c.end_with.ensures.is (c.run_script.ensures.runs.complete sure room takes fits)
 
 pub returns-then-is_empty-clause-reads : goal.returns-then-is_empty-clause-reads
 returns-then-is_empty-clause-reads g c = λ sure.
-    not_three c.run_script.result c.end_with.result c.end_with.ensures.is (c.run_script.ensures.read sure)
+    not_three c.run_script.result c.end_with.result c.end_with.ensures.is (c.run_script.ensures.runs.read sure)
 
 pub returns-then-is_empty-clause-writes : goal.returns-then-is_empty-clause-writes
 returns-then-is_empty-clause-writes g c = λ none room takes fits.
-    not_four c.run_script.result c.end_with.result c.end_with.ensures.is (c.run_script.ensures.written room takes fits)
+    not_four c.run_script.result c.end_with.result c.end_with.ensures.is (c.run_script.ensures.runs.written room takes fits)
 
 pub returns-clause-reads : goal.returns-clause-reads
 returns-clause-reads g c = λ sure.
