@@ -4,22 +4,23 @@ use Rattle.std.specs.Prelude.{find, ◌⊎◌, IfSome}
 use Rattle.std.specs.List.{count_by, list_any}
 use Rattle.std.specs.Str.{bytes_eq}
 use Rattle.std.proofs.lemmas.Bool.{eqb-true}
+use Rattle.std.proofs.lemmas.Slice.Eq.{bytes_eq-Decides}
 use Rattle.board_model.specs.declared.answer.Answer.{Answer}
 use Rattle.board_model.specs.declared.line.Line.{Line}
 use Rattle.board_model.specs.declared.tables.Board.{Board}
 use Rattle.board_model.specs.TypeTable.{key_detail, same_key, value_detail}
-use Rattle.board_model.specs.Tables.{board_at, board_named, entry_found, is_numbered, is_of_board, new_board, without_first}
+use Rattle.board_model.specs.Tables.{board_at, board_named, entry_found, has_name, is_numbered, is_of_board, new_board, without_first}
 use Rattle.board_model.specs.TableCalls.{asked, boards_left, create_refusals, created, entry_mut_refusals, entry_refusals, first_of, id_of, joined, number_of, open_refusals, reader_refusals, with_read_handle, with_reader, with_write_handle, with_writer, writer_refusals}
 use Rattle.board_model.specs.Things.{Held, Standing, is_held_as, thing_of}
 use Rattle.board_model.specs.Requests.{Fetch, Published, Request, TableCall, create, info, entry, entry_mut, fill, fresh, get, discard, id, open_, loan, keys, nodes, publish, put, reader, table, gen, update, writer}
 use Rattle.board_model.specs.Replies.{added_of, ask, ask_tables, keeps_key, latest, released_thing, with_fetched}
-use Rattle.board_model.specs.LawfulSession.{IsLawfulFrom, IsRight, Session, State, after, state_after}
+use Rattle.board_model.specs.LawfulSession.{IsLawfulFrom, IsRight, Session, State, after, start, state_after}
 use Rattle.board_model.specs.Sound.{BoardTables, Sound}
-use Rattle.board_model.specs.LawsOfOthers.{BoardsStay, NumbersAreOfOneBoard}
-use Rattle.board_model.proofs.ListLemmas.{count_without, find_back, find_none, find_push_cases, find_true}
+use Rattle.board_model.specs.LawsOfOthers.{BoardsStay, NamesAreOfOneBoard, NumbersAreNeverUsedAgain, NumbersAreOfOneBoard}
+use Rattle.board_model.proofs.ListLemmas.{count_without, find_back, find_none, find_only, find_push_cases, find_true}
 use Rattle.board_model.proofs.LineCases.{after_cases}
 use Rattle.board_model.proofs.GrowthLemmas.{line_growth}
-use Rattle.board_model.proofs.SoundLemmas.{sound_after}
+use Rattle.board_model.proofs.SoundLemmas.{sound_after, sound_session}
 
 -- a board that stands later under a number that was drawn stood before
 abbrev pub KeepsBoards : BoardTables → BoardTables → Type 0
@@ -164,3 +165,19 @@ boards_stay s l a n b sound r e = kept_same s.standing.tables (after s l a).stan
 
 pub numbers_of_one : NumbersAreOfOneBoard
 numbers_of_one s pairs n b sound h e = kept_same s.standing.tables (state_after s pairs).standing.tables n b (session_boards pairs s h sound) (sound.boards.numbered n b e) e
+
+pub never_again : NumbersAreNeverUsedAgain
+never_again s pairs n sound h le none = at (board_at (state_after s pairs).standing.tables n) refl
+  where
+    at : (o : Option Board) → board_at (state_after s pairs).standing.tables n ≡ o → o ≡ None
+    at None e = refl
+    at (Some b) e = let was = session_boards pairs s h sound n b le e in absurd cc
+
+pub names_of_one : NamesAreOfOneBoard
+names_of_one pairs n m b c h e f same =
+    let boards = (state_after start pairs).standing.tables.boards in
+    let named = (sound_session pairs h).boards.named b.name in
+    let one : find (has_name b.name) boards ≡ Some b = find_only (has_name b.name) (is_numbered n) boards b named e ((bytes_eq-Decides b.name b.name).1 refl) in
+    let other : find (has_name b.name) boards ≡ Some c = find_only (has_name b.name) (is_numbered m) boards c named f ((bytes_eq-Decides c.name b.name).1 (sym same)) in
+    let are : b ≡ c = cc (one, other) in
+    sym (eqb-true b.number n (find_true (is_numbered n) boards b e)) ∙ ap (λ (x : Board). x.number) are ∙ eqb-true c.number m (find_true (is_numbered m) boards c f)

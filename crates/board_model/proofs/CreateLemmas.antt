@@ -1,7 +1,7 @@
 -- A board that is created.
 use Rattle.std.proofs.Common.{◌≡◌, ℕ, ◌+◌, ◌*◌, ◌<◌, ◌≤◌, Bool, true, false, cond, List, [], ◌∷◌, ◌++◌, length, map, arith, refl, sym, ap, subst, ◌∙◌, Option, Some, None, inl, inr}
 use Rattle.std.specs.Prelude.{is_some, slice_get, ◌⊎◌, ◌==◌}
-use Rattle.std.specs.List.{AllByRecursion, count_by}
+use Rattle.std.specs.List.{AllByRecursion, count_by, list_any}
 use Rattle.std.proofs.lemmas.Bool.{cases_eq, eq-eqb, eqb-true, ne_eqb}
 use Rattle.board_layout.specs.Layout.{payload, cell_end, cell_shape}
 use Rattle.board_model.specs.declared.attributes.Attribute.{Attribute}
@@ -12,7 +12,7 @@ use Rattle.board_model.specs.declared.tables.NewLimits.{NewLimits}
 use Rattle.board_model.specs.declared.value.AddedEntry.{AddedEntry}
 use Rattle.board_model.specs.declared.value.KeyType.{KeyType}
 use Rattle.board_model.specs.TypeTable.{key_detail}
-use Rattle.board_model.specs.Tables.{board_at, entry_at, entry_in, is_numbered, is_write_handle, new_board, shapes_of}
+use Rattle.board_model.specs.Tables.{board_at, entry_at, entry_in, has_name, is_numbered, is_write_handle, new_board, shapes_of}
 use Rattle.board_model.specs.TableCalls.{created}
 use Rattle.board_model.specs.Things.{Held, is_held_as, thing_of}
 use Rattle.board_model.specs.Requests.{Published}
@@ -21,7 +21,7 @@ use Rattle.board_model.specs.Memory.{opening_of, with_board}
 use Rattle.board_model.specs.Parties.{free, with_party}
 use Rattle.board_model.specs.LawfulSession.{State}
 use Rattle.board_model.specs.Sound.{AreBoards, BoardTables, HasBoard, HasEntry, IsCell, IsTyped, Sound}
-use Rattle.board_model.proofs.ListLemmas.{any_missing, count_none, count_push, find_kept, find_push_cases, find_true}
+use Rattle.board_model.proofs.ListLemmas.{any_missing, count_none, count_push, find_kept, find_push_cases, find_true, same_bytes}
 use Rattle.board_model.proofs.ThingLemmas.{all_found, all_push, all_weaker, and_none, find_push_here, find_push_other, has_entry_kept, held_by_other}
 use Rattle.board_model.proofs.KeptLemmas.{IsQuiet, quiet_loan, quiet_sound}
 use Rattle.board_model.proofs.TableLemmas.{IsCalm}
@@ -117,6 +117,16 @@ module _ (s : State) (party f name : List ℕ) (k : KeyType) (limits : NewLimits
             let d : ◌≡◌ {A = ℕ} (cond (number == n) 1 0) 0 = ap (λ (z : Bool). cond z 1 0) (ne_eqb number n ne) in
             omega (arith, c, d, sound.boards.single n)
 
+    -- the name was free
+    named : list_any (has_name name) s.standing.tables.boards ≡ false → (n : List ℕ) (z : Bool) → has_name n board ≡ z → count_by (has_name n) (s.standing.tables.boards ++ board ∷ []) ≤ 1
+    named called n true e =
+        let none : list_any (has_name n) s.standing.tables.boards ≡ false = subst (λ (m : List ℕ). list_any (has_name m) s.standing.tables.boards ≡ false) (same_bytes name n e) called in
+        let d : ◌≡◌ {A = ℕ} (cond (has_name n board) 1 0) 1 = ap (λ (z : Bool). cond z 1 0) e in
+        omega (arith, count_push (has_name n) s.standing.tables.boards board, count_none (has_name n) s.standing.tables.boards none, d)
+    named called n false e =
+        let d : ◌≡◌ {A = ℕ} (cond (has_name n board) 1 0) 0 = ap (λ (z : Bool). cond z 1 0) e in
+        omega (arith, count_push (has_name n) s.standing.tables.boards board, sound.boards.named n, d)
+
     old_words : (n : ℕ) → n ≤ s.standing.tables.last_board → with_board s.memory number (opening_of entries) n ≡ s.memory n
     old_words n le = with_old s.memory n number (opening_of entries) (fresh_number n le)
 
@@ -149,10 +159,11 @@ module _ (s : State) (party f name : List ℕ) (k : KeyType) (limits : NewLimits
     short small n i e (inl h) = rw (old_words n h.0) (sound.boards.short n i e h.1)
     short small n i e (inr h) = rw (with_here s.memory n number (opening_of entries) h.0) (omega (arith, opened_length entries, small))
 
-    boards : payload (shapes_of (map added_of entries)) ≤ 4294967295 → AreBoards new_tables (with_board s.memory number (opening_of entries)) (with_first_values s.published number entries)
-    boards small = record {
+    boards : list_any (has_name name) s.standing.tables.boards ≡ false → payload (shapes_of (map added_of entries)) ≤ 4294967295 → AreBoards new_tables (with_board s.memory number (opening_of entries)) (with_first_values s.published number entries)
+    boards called small = record {
       numbered = λ n b e. numbered n b (old_or_new n b e);
       single = singles;
+      named = λ n. named called n (has_name n board) refl;
       keyed = λ n b e. keyed n b (old_or_new n b e);
       unused = λ n i lt. opened_old s.published n number i entries (λ q. absurd (omega arith)) ∙ sound.boards.unused n i (omega arith);
       typed = λ n i e h. typed n i e (entry_old_or_new n i e h);
@@ -203,11 +214,11 @@ module _ (s : State) (party f name : List ℕ) (k : KeyType) (limits : NewLimits
             let e : ◌≡◌ {A = ℕ} (cond (is_write_handle n i factory) 1 0) 0 = ap (λ (b : Bool). cond b 1 0) d in
             omega (arith, c, e, sound.things.handles n i)
 
-    pub create_sound : IsCalm s party → thing_of s.standing.tables.things party f ≡ None → payload (shapes_of (map added_of entries)) ≤ 4294967295 → Sound created_state
-    create_sound calm unheld small = quiet_sound s created_state party free sound (record {
+    pub create_sound : IsCalm s party → thing_of s.standing.tables.things party f ≡ None → list_any (has_name name) s.standing.tables.boards ≡ false → payload (shapes_of (map added_of entries)) ≤ 4294967295 → Sound created_state
+    create_sound calm unheld called small = quiet_sound s created_state party free sound (record {
       quiet = quiet;
       parties = λ q. refl;
-      boards = boards small;
+      boards = boards called small;
       handles = fewer;
       standing = all_push (HasBoard new_tables) s.standing.tables.things factory (all_weaker (HasBoard s.standing.tables) (HasBoard new_tables) (λ x h. ap is_some (kept_board x.board h) ∙ h) s.standing.tables.things sound.things.standing) here;
       entries = all_push (HasEntry new_tables) s.standing.tables.things factory (all_both s.standing.tables.things sound.things.standing sound.things.entries) tt;

@@ -6,7 +6,7 @@ use Rattle.std.specs.Str.{bytes_eq}
 use Rattle.std.proofs.lemmas.Bool.{both_ways, cases_eq, eq-eqb, eqb-true, ne_eqb, or_parts}
 use Rattle.board_model.specs.declared.tables.Board.{Board}
 use Rattle.board_model.specs.declared.tables.Entry.{Entry}
-use Rattle.board_model.specs.Tables.{board_at, entry_at, entry_in, is_numbered, is_of_board, is_write_handle, without_first}
+use Rattle.board_model.specs.Tables.{board_at, entry_at, entry_in, has_name, is_numbered, is_of_board, is_write_handle, without_first}
 use Rattle.board_model.specs.TableCalls.{released}
 use Rattle.board_model.specs.Things.{Held, is_held_as, thing_of, with_at}
 use Rattle.board_model.specs.Requests.{Published}
@@ -25,10 +25,11 @@ entry_back : (o p : Option Board) → ((b : Board) → o ≡ Some b → p ≡ So
 entry_back None p k i e f = absurd cc
 entry_back (Some b) p k i e f = ap (λ (x : Option Board). entry_in x i) (k b refl) ∙ f
 
-pub boards_fewer : (t new : BoardTables) (memory : ℕ → List ℕ) (published : Published) → new.last_board ≡ t.last_board → ((n : ℕ) → count_by (is_numbered n) new.boards ≤ 1) → ((n : ℕ) (b : Board) → board_at new n ≡ Some b → board_at t n ≡ Some b) → AreBoards t memory published → AreBoards new memory published
-boards_fewer t new memory published last single back h = record {
+pub boards_fewer : (t new : BoardTables) (memory : ℕ → List ℕ) (published : Published) → new.last_board ≡ t.last_board → ((n : ℕ) → count_by (is_numbered n) new.boards ≤ 1) → ((name : List ℕ) → count_by (has_name name) new.boards ≤ 1) → ((n : ℕ) (b : Board) → board_at new n ≡ Some b → board_at t n ≡ Some b) → AreBoards t memory published → AreBoards new memory published
+boards_fewer t new memory published last single named back h = record {
   numbered = λ n b f. subst (λ (m : ℕ). n ≤ m) (sym last) (h.numbered n b (back n b f));
   single = single;
+  named = named;
   keyed = λ n b f. h.keyed n b (back n b f);
   unused = λ n i lt. h.unused n i (omega (arith, last, lt));
   typed = λ n i e f. h.typed n i e (entry n i e f);
@@ -109,19 +110,21 @@ module _ (t : BoardTables) (party name : List ℕ) (x : Held) (found : thing_of 
               let d : ◌≡◌ {A = ℕ} (cond (is_numbered x.board y) 1 0) 1 = ap (λ (z : Bool). cond z 1 0) u in
               find_none (is_numbered x.board) (without_first (is_numbered x.board) t.boards) b (omega (arith, c, d, h.single x.board)) f'
 
-  single : (memory : ℕ → List ℕ) (published : Published) → AreBoards t memory published → AllByRecursion (HasBoard t) t.things → (z : Bool) (n : ℕ) → count_by (is_numbered n) (cond z t.boards (without_first (is_numbered x.board) t.boards)) ≤ 1
-  single memory published h st true n = h.single n
-  single memory published h st false n = at (board_at t x.board) refl
+  -- no more than one board passes a test, where no more did before
+  one_left : AllByRecursion (HasBoard t) t.things → (p : Board → Bool) → count_by p t.boards ≤ 1 → (z : Bool) → count_by p (cond z t.boards (without_first (is_numbered x.board) t.boards)) ≤ 1
+  one_left st p one true = one
+  one_left st p one false = at (board_at t x.board) refl
     where
-      at : (o : Option Board) → board_at t x.board ≡ o → count_by (is_numbered n) (without_first (is_numbered x.board) t.boards) ≤ 1
+      at : (o : Option Board) → board_at t x.board ≡ o → count_by p (without_first (is_numbered x.board) t.boards) ≤ 1
       at None e =
           let s = all_found (HasBoard t) (is_held_as party name) t.things x st found in
           absurd (both_ways (is_some (board_at t x.board)) (ap is_some e) s)
-      at (Some y) e = omega (arith, count_fewer (is_numbered n) (is_numbered x.board) t.boards y e, h.single n)
+      at (Some y) e = omega (arith, count_fewer p (is_numbered x.board) t.boards y e, one)
 
   pub boards_after : (memory : ℕ → List ℕ) (published : Published) → AreBoards t memory published → AllByRecursion (HasBoard t) t.things → AreBoards new memory published
   boards_after memory published h st = boards_fewer t new memory published refl
-      (λ n. single memory published h st (list_any (is_of_board x.board) left) n)
+      (λ n. one_left st (is_numbered n) (h.single n) (list_any (is_of_board x.board) left))
+      (λ n. one_left st (has_name n) (h.named n) (list_any (is_of_board x.board) left))
       (λ n b f. back memory published h st (list_any (is_of_board x.board) left) n b f) h
 
   pub others_found : (q n : List ℕ) → (q ≡ party → ⊥) → thing_of left q n ≡ thing_of t.things q n

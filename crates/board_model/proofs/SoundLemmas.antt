@@ -74,6 +74,7 @@ sound_start = record {
   boards = record {
     numbered = λ n b e. absurd cc;
     single = λ n. omega arith;
+    named = λ name. omega arith;
     keyed = λ n b e. absurd cc;
     unused = λ n i lt. refl;
     typed = λ n i e h. absurd cc;

@@ -147,21 +147,26 @@ create_state s party f name k limits attributes entries a = record {
 }
 
 module _ (s : State) (sound : Sound s) (party f name : List ℕ) (k : KeyType) (limits : NewLimits) (attributes : List Attribute) (entries : List AddedEntry) (calm : IsCalm s party) (unheld : IsFree s.standing party f) where
-  create_told : (o : Option BlackboardCreateError) → (o ≡ None → payload (shapes_of (map added_of entries)) ≤ 4294967295)
-      → Sound (create_state s party f name k limits attributes entries (told_by s.standing reply.CreateError (asked o (s.standing.tables.last_board + 1) (created s.standing.tables party f name (key_detail k) limits attributes (map added_of entries)) s.standing.tables)))
-  create_told None small = create_sound s party f name k limits attributes entries sound calm unheld (small refl)
-  create_told (Some e) small = same_sound s party sound calm
+  -- the name is free, and the cells are small
+  abbrev MayBeMade : Type 0
+  MayBeMade = (list_any (has_name name) s.standing.tables.boards ≡ false) × (payload (shapes_of (map added_of entries)) ≤ 4294967295)
 
-  small : (x y z : Bool) → (z ≡ false → payload (shapes_of (map added_of entries)) ≤ 4294967295) → first_of ((x, create_error.AlreadyExists) ∷ (y, create_error.NoEntriesProvided) ∷ (z, create_error.ServiceInCorruptedState) ∷ []) ≡ None → payload (shapes_of (map added_of entries)) ≤ 4294967295
-  small true y z h e = absurd cc
-  small false true z h e = absurd cc
-  small false false true h e = absurd cc
-  small false false false h e = h refl
+  create_told : (o : Option BlackboardCreateError) → (o ≡ None → MayBeMade)
+      → Sound (create_state s party f name k limits attributes entries (told_by s.standing reply.CreateError (asked o (s.standing.tables.last_board + 1) (created s.standing.tables party f name (key_detail k) limits attributes (map added_of entries)) s.standing.tables)))
+  create_told None may = let m = may refl in create_sound s party f name k limits attributes entries sound calm unheld m.0 m.1
+  create_told (Some e) may = same_sound s party sound calm
+
+  allowed : (x y z : Bool) → (z ≡ false → payload (shapes_of (map added_of entries)) ≤ 4294967295) → first_of ((x, create_error.AlreadyExists) ∷ (y, create_error.NoEntriesProvided) ∷ (z, create_error.ServiceInCorruptedState) ∷ []) ≡ None
+      → (x ≡ false) × (payload (shapes_of (map added_of entries)) ≤ 4294967295)
+  allowed true y z h e = absurd cc
+  allowed false true z h e = absurd cc
+  allowed false false true h e = absurd cc
+  allowed false false false h e = (refl, h refl)
 
   create_step : (t : Reply) (so_far : List Access) (passed : ℕ) → t ≡ (ask s.standing s.published party (table (create f name k limits attributes entries))).reply → Sound (stepped s party (calling (table (create f name k limits attributes entries)) so_far passed) access.Table (Some t))
   create_step t so_far passed e = subst (λ (x : Reply). Sound (stepped s party (calling (table (create f name k limits attributes entries)) so_far passed) access.Table (Some x))) (sym e)
       (create_told (first_of (create_refusals (same_key k) s.standing.tables.boards name (map added_of entries)))
-      (small (list_any (has_name name) s.standing.tables.boards) (length (map added_of entries) == 0) (is_corrupted (same_key k) (map added_of entries))
+      (allowed (list_any (has_name name) s.standing.tables.boards) (length (map added_of entries) == 0) (is_corrupted (same_key k) (map added_of entries))
       (λ h. ltb-false 4294967295 (payload (shapes_of (map added_of entries))) (or_parts (has_equal_keys (same_key k) (map added_of entries)) (nat_lt 4294967295 (payload (shapes_of (map added_of entries)))) h).1)))
 
 -- ---- open

@@ -185,6 +185,7 @@ module _ (s : State) (sound : Sound s) (party name : List ℕ) (b e w v : ℕ) (
   boards_stored = record {
     numbered = sound.boards.numbered;
     single = sound.boards.single;
+    named = sound.boards.named;
     keyed = sound.boards.keyed;
     unused = λ n i lt. st.same n i (λ q. absurd (omega (arith, board_drawn, q.0, lt))) ∙ sound.boards.unused n i lt;
     typed = sound.boards.typed;

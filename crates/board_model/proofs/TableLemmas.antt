@@ -47,6 +47,7 @@ pub boards_again : (t : BoardTables) (memory : ℕ → List ℕ) (published : Pu
 boards_again t memory published things last_port h = record {
   numbered = h.numbered;
   single = h.single;
+  named = h.named;
   keyed = h.keyed;
   unused = h.unused;
   typed = h.typed;

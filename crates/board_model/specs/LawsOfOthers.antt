@@ -1,5 +1,6 @@
--- Laws of what a line leaves: a party that it doesn't name holds what it held, and its call runs on; and a board is the same until it goes.
-use Rattle.std.specs.Prelude.{◌≡◌, ℕ, Bool, false, List, IfSome, Some}
+-- Laws of what a line leaves: a party that it doesn't name holds what it held, and its call runs on; and a board is the same until it goes,
+-- alone under its number and its name.
+use Rattle.std.specs.Prelude.{◌≡◌, ℕ, ◌≤◌, Bool, false, List, IfSome, Some, None}
 use Rattle.std.specs.Str.{bytes_eq}
 use Rattle.board_model.specs.declared.answer.Answer.{Answer}
 use Rattle.board_model.specs.declared.line.Line.{Line}
@@ -8,7 +9,7 @@ use Rattle.board_model.specs.declared.tables.Board.{Board}
 use Rattle.board_model.specs.Tables.{board_at}
 use Rattle.board_model.specs.Things.{Standing, thing_of}
 use Rattle.board_model.specs.Parties.{Running, free, gone, running}
-use Rattle.board_model.specs.LawfulSession.{IsLawfulFrom, IsRight, Session, State, after, state_after}
+use Rattle.board_model.specs.LawfulSession.{IsLawful, IsLawfulFrom, IsRight, Session, State, after, start, state_after}
 use Rattle.board_model.specs.Sound.{Sound}
 
 -- the line names the party
@@ -45,3 +46,13 @@ BoardsStay = (s : State) (l : Line) (a : Answer) (n : ℕ) (b : Board) → Sound
 abbrev pub NumbersAreOfOneBoard : Type 0
 NumbersAreOfOneBoard = (s : State) (pairs : Session) (n : ℕ) (b : Board) → Sound s → IsLawfulFrom s pairs → board_at s.standing.tables n ≡ Some b
     → IfSome (board_at (state_after s pairs).standing.tables n) (λ c. c ≡ b)
+
+-- a number that was drawn and that no board has is never a board's again
+abbrev pub NumbersAreNeverUsedAgain : Type 0
+NumbersAreNeverUsedAgain = (s : State) (pairs : Session) (n : ℕ) → Sound s → IsLawfulFrom s pairs → n ≤ s.standing.tables.last_board → board_at s.standing.tables n ≡ None
+    → board_at (state_after s pairs).standing.tables n ≡ None
+
+-- two boards that stand after a lawful session have two names
+abbrev pub NamesAreOfOneBoard : Type 0
+NamesAreOfOneBoard = (pairs : Session) (n m : ℕ) (b c : Board) → IsLawful pairs → board_at (state_after start pairs).standing.tables n ≡ Some b → board_at (state_after start pairs).standing.tables m ≡ Some c
+    → b.name ≡ c.name → n ≡ m

@@ -15,7 +15,7 @@ use Rattle.board_model.specs.declared.value.ValueType.{ValueType}
 use Rattle.board_layout.specs.Layout.{cell_end, cell_shape}
 use Rattle.board_cell_model.specs.OwedAccesses.{Reading, finished, opening, trying, current_at, spare_at}
 use Rattle.board_model.specs.TypeTable.{key_detail, value_detail, value_words, word_count}
-use Rattle.board_model.specs.Tables.{Tables, board_at, entry_at, entry_of, is_numbered, is_write_handle, kind_of}
+use Rattle.board_model.specs.Tables.{Tables, board_at, entry_at, entry_of, has_name, is_numbered, is_write_handle, kind_of}
 use Rattle.board_model.specs.Things.{Held, Standing, thing_of}
 use Rattle.board_model.specs.Requests.{Fetch, Lending, Look, Published, Request, TableCall, create, info, entry, entry_mut, fill, fresh, get, discard, id, open_, loan, keys, nodes, publish, put, reader, table, gen, update, writer}
 use Rattle.board_model.specs.Replies.{latest, word_put}
@@ -53,6 +53,8 @@ pub record AreBoards (t : BoardTables) (memory : ℕ → List ℕ) (published : 
   -- a board that stands has a number of its own that was drawn, and a key type
   pub numbered : (n : ℕ) (b : Board) → board_at t n ≡ Some b → n ≤ t.last_board
   pub single : (n : ℕ) → count_by (is_numbered n) t.boards ≤ 1
+  -- and a name of its own
+  pub named : (name : List ℕ) → count_by (has_name name) t.boards ≤ 1
   pub keyed : (n : ℕ) (b : Board) → board_at t n ≡ Some b → (k : KeyType) × (b.key ≡ key_detail k)
   -- what wasn't drawn has no list
   pub unused : (n i : ℕ) → t.last_board < n → published n i ≡ []
