@@ -7,7 +7,6 @@ use Rattle.std.specs.Cmp.Lexicographic.{slice_cmp}
 use Rattle.std.specs.declared.cmp.Ordering.TheVariants.{Less}
 use Rattle.std.proofs.Common.{sym, subst}
 use Rattle.std.proofs.lemmas.List.{append_assoc}
-use Rattle.std.proofs.lemmas.Map.Keys.{sorted_head, sorted_tail}
 use Rattle.board_names.specs.declared.configuration.Configuration.{Configuration}
 use Rattle.board_names.specs.Configuration.{full_name}
 use Rattle.board_names.specs.Extraction.{Extracts, Lists, FullNamesAscend, cmp_full_names}
