@@ -1,5 +1,5 @@
 //! What a channel does: senders add numbers to a queue under a name, and a receiver takes them in their order.
-ghost use Rattle.std.specs.Prelude.{◌≡◌, ℕ, List, Bool, true, codes, max, IfOk, IsOk, IsOkUnless};
+ghost use Rattle.std.specs.Prelude.{◌≡◌, ℕ, List, Bool, true, false, codes, max, IfOk, IsOk, IsOkUnless};
 ghost use Rattle.board_names.specs.declared.errors.communication_channel.CommunicationChannelSendError.TheVariants.{ReceiverCacheIsFull};
 
 use board_names::{
@@ -131,6 +131,16 @@ pub trait CommunicationChannelCreator: NamedConceptBuilder {
         ensures name { IfOk result (λ r. Self.Receiver.name_of r ≡ (Self.named self).name) }
         ensures capacity { IfOk result (λ r. Self.Receiver.holds r ≡ max 1 (asked_capacity self)) }
         ensures overflow { IfOk result (λ r. Self.Receiver.overflows r ≡ asked_overflow self) };
+
+    /// The size is part of what a creator was told.
+    ghost capacity_as_told: { (x y : Self) → Self.told x ≡ Self.told y → asked_capacity x ≡ asked_capacity y };
+
+    ghost overflow_as_told: { (x y : Self) → Self.told x ≡ Self.told y → asked_overflow x ≡ asked_overflow y };
+
+    /// A creator that was told nothing makes a channel of 8 numbers, which doesn't overflow.
+    ghost capacity_untold: { (x : Self) → Self.told x ≡ Self.untold → asked_capacity x ≡ 8 };
+
+    ghost overflow_untold: { (x : Self) → Self.told x ≡ Self.untold → asked_overflow x ≡ false };
 }
 
 /// A builder of a sender.

@@ -77,6 +77,10 @@ impl NamedConceptBuilder for Connector {
 
     ghost named = { λ c. c };
 
+    ghost told = { λ _. tt };
+
+    ghost untold = { tt };
+
     fn new(name: &FileName, registry: &ChannelRegistry) -> Result<Connector, RegistryError>
         ensures { IfOk result (λ c. c ≡ starting name.now (codes ".com")) }
     {

@@ -1,10 +1,11 @@
 //! How a channel is made.
 ghost use Rattle.std.specs.Prelude.{◌≡◌, ℕ, List, true, false, IfOk, OnOk, OnErr};
+ghost use Rattle.std.proofs.Common.{ap};
 ghost use Rattle.board_layout.specs.Answer.{Answers, Refuses};
 ghost use Rattle.board_names.specs.Concept.{path_of};
 ghost use Rattle.board_names.specs.Table.{putting};
 ghost use Rattle.board_names.specs.declared.errors.communication_channel.CommunicationChannelCreateError.TheVariants.{OutOfMemory};
-ghost use Rattle.board_channel.specs.Channels.{asked_size, asked_receiver, started_creator, create_receiver_answer};
+ghost use Rattle.board_channel.specs.Channels.{Size, asked_size, asked_receiver, started_creator, create_receiver_answer};
 
 use crate::channel::Channel;
 use crate::channels::{ChannelRegistry, Channels, SharedQueue};
@@ -70,6 +71,12 @@ impl NamedConceptBuilder for Creator {
 
     ghost named = { λ c. c.named };
 
+    ghost Told = { Size };
+
+    ghost told = { λ c. record { capacity = c.capacity; overflow = c.overflow } };
+
+    ghost untold = { record { capacity = 8; overflow = false } };
+
     fn new(name: &FileName, registry: &ChannelRegistry) -> Result<Creator, RegistryError>
         ensures { IfOk result (λ c. c ≡ started_creator name.now) }
     {
@@ -94,6 +101,14 @@ impl CommunicationChannelCreator for Creator {
     ghost asked_capacity = { λ c. c.capacity };
 
     ghost asked_overflow = { λ c. c.overflow };
+
+    ghost capacity_as_told = { λ x y h. ap (λ (s : Size). s.capacity) h };
+
+    ghost overflow_as_told = { λ x y h. ap (λ (s : Size). s.overflow) h };
+
+    ghost capacity_untold = { λ x h. ap (λ (s : Size). s.capacity) h };
+
+    ghost overflow_untold = { λ x h. ap (λ (s : Size). s.overflow) h };
 
     fn enable_safe_overflow(mut self) -> Creator
         ensures { result ≡ record self { overflow = true } }

@@ -66,7 +66,8 @@ pub trait NotifierBuilder: NamedConceptBuilder {
 
     /// Ignored: a notifier is opened at once or not at all.
     fn timeout(self, timeout: Duration) -> Self
-        ensures { Self.named result ≡ Self.named self };
+        ensures named { Self.named result ≡ Self.named self }
+        ensures told { Self.told result ≡ Self.told self };
 
     /// A notifier of the event under the name.
     ///
@@ -169,4 +170,10 @@ pub trait ListenerBuilder: NamedConceptBuilder {
     /// `AlreadyExists` where the name is held; `NumbersSpent` where all event numbers were drawn; `OutOfMemory`.
     fn create<R: Wait>(self, rt: &R, alloc: Global) -> Result<Self::Listener, ListenerCreateError>
         ensures { IfOk result (λ end. Self.Listener.name_of end ≡ (Self.named self).name) };
+
+    /// The greatest id is part of what a builder was told.
+    ghost max_as_told: { (x y : Self) → Self.told x ≡ Self.told y → asked_max x ≡ asked_max y };
+
+    /// A builder that was told nothing asks for this one.
+    ghost max_untold: { (x : Self) → Self.told x ≡ Self.untold → asked_max x ≡ 65535 };
 }

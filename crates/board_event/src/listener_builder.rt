@@ -74,6 +74,12 @@ impl<K: KindOfEvents + Drop> NamedConceptBuilder for EventListenerBuilder<K> {
 
     ghost named = { λ b. b.named };
 
+    ghost Told = { ℕ };
+
+    ghost told = { λ b. b.max };
+
+    ghost untold = { 65535 };
+
     fn new(
         name: &FileName,
         registry: &EventRegistry<K>,
@@ -102,6 +108,10 @@ impl<K: KindOfEvents + Drop> ListenerBuilder for EventListenerBuilder<K> {
     type Listener = EventListener<K>;
 
     ghost asked_max = { λ b. b.max };
+
+    ghost max_as_told = { λ x y h. h };
+
+    ghost max_untold = { λ x h. h };
 
     fn trigger_id_max(mut self, id: TriggerId) -> EventListenerBuilder<K>
         ensures { result ≡ record self { max = id } }

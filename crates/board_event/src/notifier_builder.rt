@@ -93,6 +93,10 @@ impl<K: KindOfEvents + Drop> NamedConceptBuilder for EventNotifierBuilder<K> {
 
     ghost named = { λ b. b };
 
+    ghost told = { λ _. tt };
+
+    ghost untold = { tt };
+
     fn new(
         name: &FileName,
         registry: &EventRegistry<K>,

@@ -84,6 +84,10 @@ impl NamedConceptBuilder for Builder {
 
     ghost named = { λ b. b };
 
+    ghost told = { λ _. tt };
+
+    ghost untold = { tt };
+
     fn new(name: &FileName, registry: &MonitoringRegistry) -> Result<Builder, RegistryError>
         ensures { IfOk result (λ b. b ≡ starting name.now (codes ".monitor")) }
     {

@@ -27,22 +27,32 @@ pub trait NamedConcept {
 }
 
 /// A builder of named values, which lie in a registry.
+///
+/// Clauses see what it was told: `named` is the name and the configuration, and `told` all else. It starts with `untold`.
 pub trait NamedConceptBuilder: Sized {
     /// What shares the names.
     type Registry;
 
     ghost named: { Self → Named };
 
+    ghost Told: { Type 0 } = { Unit {0} };
+
+    ghost told: { Self → Self.Told };
+
+    ghost untold: { Self.Told };
+
     /// A builder for this name.
     ///
     /// # Errors
     /// `OutOfMemory` where the registry could not be shared.
     fn new(name: &FileName, registry: &Self::Registry) -> Result<Self, RegistryError>
-        ensures { IfOk result (λ b. (named b).name ≡ name.now) };
+        ensures name { IfOk result (λ b. (named b).name ≡ name.now) }
+        ensures told { IfOk result (λ b. told b ≡ untold) };
 
-    /// The builder with this configuration.
+    /// The builder with this configuration. All else that it was told stays.
     fn config(self, config: &Configuration) -> Self
-        ensures { named result ≡ record (named self) { config = config.now } };
+        ensures named { named result ≡ record (named self) { config = config.now } }
+        ensures told { told result ≡ told self };
 }
 
 /// The calls on all values of one kind in a registry.

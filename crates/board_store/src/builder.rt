@@ -1,5 +1,5 @@
 //! How a static storage is made or opened.
-ghost use Rattle.std.specs.Prelude.{◌≡◌, ℕ, ◌∷◌, ◌++◌, List, Some, None, true, IfOk, OnOk, OnErr};
+ghost use Rattle.std.specs.Prelude.{◌≡◌, ℕ, ◌∷◌, ◌++◌, List, Bool, Some, None, true, IfOk, OnOk, OnErr};
 ghost use Rattle.board_layout.specs.Answer.{Answers, Refuses};
 ghost use Rattle.board_names.specs.declared.errors.static_storage.StaticStorageCreateError.TheVariants.{AlreadyExists, OutOfMemory};
 ghost use Rattle.board_names.specs.declared.errors.static_storage.StaticStorageOpenError.TheVariants.{OutOfMemory as NoMemory};
@@ -152,6 +152,12 @@ impl NamedConceptBuilder for Builder {
 
     ghost named = { λ b. b.named };
 
+    ghost Told = { Bool };
+
+    ghost told = { λ b. b.owns };
+
+    ghost untold = { true };
+
     fn new(name: &FileName, registry: &StaticRegistry) -> Result<Builder, RegistryError>
         ensures { IfOk result (λ b. b ≡ started_builder name.now) }
     {
@@ -176,6 +182,10 @@ impl StaticStorageBuilder for Builder {
     type Locked = Locked;
 
     ghost owns_it = { λ b. b.owns };
+
+    ghost owns_as_told = { λ x y h. h };
+
+    ghost owns_untold = { λ x h. h };
 
     fn has_ownership(mut self, value: bool) -> Builder
         ensures { result ≡ record self { owns = value } }

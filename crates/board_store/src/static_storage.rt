@@ -116,6 +116,12 @@ pub trait StaticStorageBuilder: NamedConceptBuilder {
     fn open<R: Wait>(self, rt: &R, polls: u32) -> Result<Self::Storage, StaticStorageOpenError>
         ensures name { IfOk result (λ s. Self.Storage.name_of s ≡ (Self.named self).name) }
         ensures owner { IfOk result (λ s. Self.Storage.is_owner s ≡ owns_it self) };
+
+    /// Whether it owns the name is part of what a builder was told.
+    ghost owns_as_told: { (x y : Self) → Self.told x ≡ Self.told y → owns_it x ≡ owns_it y };
+
+    /// A builder that was told nothing owns it.
+    ghost owns_untold: { (x : Self) → Self.told x ≡ Self.untold → owns_it x ≡ true };
 }
 
 /// A static storage that is still to be filled.
