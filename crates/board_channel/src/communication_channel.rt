@@ -46,12 +46,18 @@ pub trait CommunicationChannel: NamedConceptMgmt + Sized {
 }
 
 /// One end of a channel.
-pub trait CommunicationChannelParticipant {
+pub trait CommunicationChannelParticipant: Sized {
     ghost overflows: { Self → Bool };
 
     /// Whether a full channel gives its oldest number back in place of a refusal.
     fn does_enable_safe_overflow(&self) -> bool
         ensures { result ≡ overflows self.now };
+
+    /// Gives this end up, and the name where it made the channel.
+    ///
+    /// The name is that of its builder's registry. What a lent form made stands in the table that was lent, and is given
+    /// up by `release_in` of that table.
+    fn release<R: Wait>(self, rt: &R);
 }
 
 /// The end that sends.

@@ -98,15 +98,6 @@ impl Duplex {
     {
         self.place.let_go(state, self.made);
     }
-
-    /// Gives this end up, and the name where it made the channel.
-    ///
-    /// The name is that of its builder's registry. What a lent form made stands in the table that was lent, and is given
-    /// up by `release_in` of that table.
-    pub fn release<R: Wait>(self, rt: &R) {
-        let mut state = self.place.lock(rt);
-        self.place.let_go(&mut state, self.made);
-    }
 }
 
 impl NamedConcept for Duplex {
@@ -122,6 +113,11 @@ impl CommunicationChannelParticipant for Duplex {
 
     fn does_enable_safe_overflow(&self) -> bool {
         self.shared.overflows()
+    }
+
+    fn release<R: Wait>(self, rt: &R) {
+        let mut state = self.place.lock(rt);
+        self.place.let_go(&mut state, self.made);
     }
 }
 

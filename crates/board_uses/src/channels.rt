@@ -1,8 +1,8 @@
 //! Channels: what is sent to one is received from it, and a name that only pretends to be gone is found.
 use board_channel::{
     Channel, ChannelRegistry, CommunicationChannel, CommunicationChannelConnector,
-    CommunicationChannelCreator, CommunicationChannelReceiver, CommunicationChannelSender,
-    Connector, Creator,
+    CommunicationChannelCreator, CommunicationChannelParticipant, CommunicationChannelReceiver,
+    CommunicationChannelSender, Connector, Creator,
 };
 use board_names::{
     CommunicationChannelOpenError, Configuration, FileName, NamedConceptBuilder,
