@@ -1,7 +1,7 @@
 //! Scripts, from their source to their sink.
 ghost use Rattle.std.specs.Prelude.{◌≡◌, ◌≤◌, Err, IfErr, IfOk};
 ghost use Rattle.script_model.specs.ScriptOutput.{IsOutputOf};
-ghost use Rattle.script_loop.specs.Memory.{sink_holds};
+ghost use Rattle.script_loop.specs.Memory.{sink_holds, sink_most};
 ghost use Rattle.board_script.specs.Whole.{FitsRoom, RunsInMemory, RunsScript};
 ghost use Rattle.script_loop.specs.Runs.{stream_of};
 
@@ -81,8 +81,9 @@ pub fn run_script<S: Source, K: Sink>(
 /// # Errors
 /// As `run_script`, and `WriteFault` where the output has more bytes than the room. After an error no output is given.
 pub fn run_in_memory(alloc: Global, script: Vec<u8>, room: usize) -> Result<MemorySink, ScriptError>
-    // The sink holds the output of the lawful session of the script's lines.
+    // The sink holds the output of the lawful session of the script's lines, and never has more room.
     ensures output { IfOk result (λ sink. IsOutputOf script.items (sink_holds sink)) }
+    ensures most { IfOk result (λ sink. sink_most sink ≡ room) }
 
     // An error is one of `run_script` over a source of the script, which never fails, and an empty sink that takes what fits into
     // the room, and holds no more than that afterwards.

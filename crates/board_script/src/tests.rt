@@ -16,14 +16,16 @@ fn a_script_is_run_in_memory(rt: HostRuntime) -> Result<(), Fail> {
 // An answer that the room doesn't hold is a fault, and nothing behind it is looked at.
 #[test]
 fn a_room_is_never_outgrown(rt: HostRuntime) -> Result<(), Fail> {
-    let rooms = [
-        (3, ScriptError::WriteFault),
-        (15, ScriptError::WriteFault),
-        (16, ScriptError::BadLine(2)),
+    let rooms: [(&[u8], usize, Option<ScriptError>); 5] = [
+        (b"words 1\n\n", 3, Some(ScriptError::WriteFault)),
+        (b"words 1\n\n", 15, Some(ScriptError::WriteFault)),
+        (b"words 1\n\n", 16, Some(ScriptError::BadLine(2))),
+        (b"words 1\n", 15, Some(ScriptError::WriteFault)),
+        (b"words 1\n", 16, None),
     ];
-    for (room, error) in rooms {
-        let script = Vec::from_slice(rt.alloc(), b"words 1\n\n")?;
-        assert_eq!(rt; run_in_memory(rt.alloc(), script, room).err(), Some(error));
+    for (script, room, error) in rooms {
+        let script = Vec::from_slice(rt.alloc(), script)?;
+        assert_eq!(rt; run_in_memory(rt.alloc(), script, room).err(), error);
     }
     Ok(())
 }

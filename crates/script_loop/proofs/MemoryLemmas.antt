@@ -28,6 +28,10 @@ none_listed calls piece e = subst NoneIsListed (sym e) (λ k d lt. absurd (omega
 pub sink_has_room : (k : MemorySink) (piece room : ℕ) → sink_calls k ≡ fresh_calls piece [] → sink_room k ≡ room → SinkNeverFails k room
 sink_has_room k piece room e f = (none_listed (sink_calls k) piece e, omega (arith, f))
 
+-- a sink has the room that one had before
+pub room_kept : (k old : MemorySink) (room : ℕ) → Some (sink_most k) ≡ Some (sink_most old) → sink_most old ≡ room → sink_most k ≡ room
+room_kept k old room e f = cc
+
 -- what a sink holds fits into the room that one had before
 pub holds_within : (k old : MemorySink) (room : ℕ) → Some (sink_most k) ≡ Some (sink_most old) → sink_most old ≡ room → length (sink_holds k) ≤ room
 holds_within k old room e f =

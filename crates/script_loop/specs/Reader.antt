@@ -1,6 +1,6 @@
 -- What a line reader has in hand.
 use Rattle.std.specs.Prelude.{◌≡◌, ℕ, ◌-◌, ◌<◌, ◌≤◌, Bool, false, List, length, take, drop, slice_get, IsSomeAnd, Option, Some, None, ⊤}
-use Rattle.std.specs.Io.KnownBytes.{IsAtEnd, prepend_known}
+use Rattle.std.specs.Io.KnownBytes.{IsAtEnd, Keeps, prepend_known}
 use Rattle.script_loop.specs.declared.line_reader.LineReader.{LineReader}
 use Rattle.script_loop.specs.declared.line_reader.Fetched.{Fetched}
 use Rattle.script_loop.specs.declared.line_reader.Fetched.TheVariants.{Line, Long, End}
@@ -64,6 +64,12 @@ abbrev pub IsFetched : Fetched → Bool → List ℕ → Option (List ℕ) → O
 IsFetched Line ended line old new = LosesLine ended old new line
 IsFetched Long ended line old new = HasLongLine old
 IsFetched End ended line old new = IsAtEnd old
+
+-- where no line was found, the bytes to come are those that were to come
+abbrev pub KeepsUnlessLine : Fetched → Option (List ℕ) → Option (List ℕ) → Type 0
+KeepsUnlessLine Line old new = ⊤
+KeepsUnlessLine Long old new = Keeps old new
+KeepsUnlessLine End old new = Keeps old new
 
 -- where a line was found, it is short
 abbrev pub FoundShort : Fetched → List ℕ → Type 0

@@ -4,7 +4,7 @@ ghost use Rattle.std.specs.Io.KnownBytes.{IsAtEnd, Keeps};
 ghost use Rattle.board_model.specs.Lines.{HasCause, IsOneLine};
 ghost use Rattle.script_loop.specs.Streams.{one_fault_more};
 ghost use Rattle.script_loop.specs.Reader.{HasMore, NeedsBytes, source_ended, in_hand, line_given, to_come};
-ghost use Rattle.script_loop.specs.Reader.{FoundFull, FoundShort, IsEnd, IsFetched, IsFull};
+ghost use Rattle.script_loop.specs.Reader.{FoundFull, FoundShort, IsEnd, IsFetched, IsFull, KeepsUnlessLine};
 
 use super::{Fetched, LineReader};
 use crate::stream::{Failed, Source};
@@ -23,6 +23,8 @@ impl LineReader {
         // The bytes in hand and those that are left lose the line, and nothing else.
         ensures fetched { IfOk result (λ f.
             IsFetched f (source_ended self.new) (line_given self.new)
+            (to_come self.old (S.left source.old)) (to_come self.new (S.left source.new))) }
+        ensures stays { IfOk result (λ f. KeepsUnlessLine f
             (to_come self.old (S.left source.old)) (to_come self.new (S.left source.new))) }
 
         // A line has at most 4096 bytes, and none is found where 4097 bytes without a newline are in hand, and only there.

@@ -75,7 +75,7 @@ impl Sink for MemorySink {
 
     ghost never_fails_within = { SinkNeverFails };
 
-    /// As any sink. It fails exactly where the call's number is listed or no room is left.
+    /// As any sink. It fails exactly where the call's number is listed or no room is left for a byte.
     fn write(&mut self, bytes: &[u8]) -> Result<usize, Failed>
         ensures bound { Writes result bytes.now }
         ensures bytes { WriteAppends (sink_held self.old) (sink_held self.new) result bytes.now }
