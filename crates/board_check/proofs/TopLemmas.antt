@@ -6,7 +6,7 @@ use Rattle.script_rules.specs.declared.rule.Rule.TheVariants as rule
 use Rattle.script_rules.specs.RuleNames.{rule_name}
 use Rattle.script_loop.specs.declared.error.ScriptError.{ScriptError}
 use Rattle.script_loop.specs.declared.error.ScriptError.TheVariants as script_error
-use Rattle.script_loop.specs.Runs.{HasFailed, Stream}
+use Rattle.script_loop.specs.Runs.{HasFailedOnce, Stream}
 use Rattle.script_endings.specs.Endings.{IsNoted, note_of, status_of}
 use Rattle.script_endings.proofs.StatusLemmas.{bad_status}
 use Rattle.script_pairs.specs.declared.verdict.Verdict.{Verdict}
@@ -65,7 +65,7 @@ no_words_status (Ok v) status sink notes (inr c) two = omega (arith, c.is, two)
 no_words_status (Err e) status sink notes h two = bad_status (error_in e) 2 (omega arith) (sym h.is ∙ two)
 
 -- with status 4 behind a verdict the sink has failed
-pub write_failed : (v : Verdict) (status : ℕ) (sink notes : Stream) → IsEnding (Ok v) status sink notes → status ≡ 4 → HasFailed sink
+pub write_failed : (v : Verdict) (status : ℕ) (sink notes : Stream) → IsEnding (Ok v) status sink notes → status ≡ 4 → HasFailedOnce sink
 write_failed (Lawful n) status sink notes (inl w) four = absurd (omega (arith, w.is, four))
 write_failed (No n r) status sink notes (inl w) four = absurd (omega (arith, w.is, four))
 write_failed v status sink notes (inr c) four = c.failed

@@ -7,7 +7,7 @@ use Rattle.script_rules.specs.declared.rule.Rule.{Rule}
 use Rattle.script_rules.specs.RuleNames.{rule_name}
 use Rattle.script_loop.specs.declared.error.ScriptError.{ScriptError}
 use Rattle.script_loop.specs.declared.error.ScriptError.TheVariants as script_error
-use Rattle.script_loop.specs.Runs.{CountStays, CountsOn, Gains, HasFailed, Stream}
+use Rattle.script_loop.specs.Runs.{CountStays, CountsOn, Gains, HasFailedOnce, Stream}
 use Rattle.script_endings.specs.Endings.{IsNoted, note_of, status_of}
 use Rattle.script_pairs.specs.declared.verdict.Verdict.{Verdict}
 use Rattle.script_pairs.specs.declared.verdict.Verdict.TheVariants.{Lawful, No}
@@ -82,7 +82,7 @@ pub record IsWritten (v : Verdict) (status : ℕ) (sink : Stream) : Type 0 where
 pub record IsCut (v : Verdict) (status : ℕ) (sink notes : Stream) : Type 0 where
   pub written : ℕ
   pub output : Gains sink (take written (verdict_text v))
-  pub failed : HasFailed sink
+  pub failed : HasFailedOnce sink
   pub is : status ≡ 4
   pub note : IsNoted notes (note_of (Err script_error.WriteFault))
 
@@ -104,8 +104,8 @@ pub record IsAnswered (status : ℕ) (source sink notes : Stream) : Type 0 where
   pub runs : AcceptsRuns source.before answer
   pub ending : IsEnding answer status sink notes
   -- the faults are those of the source and of the sink
-  pub read : IsErrOf answer error.ReadFault → HasFailed source
-  pub write : status ≡ 4 → HasFailed sink
+  pub read : IsErrOf answer error.ReadFault → HasFailedOnce source
+  pub write : status ≡ 4 → HasFailedOnce sink
   -- a fault is told: with any other answer the source's count of faults stays, and with any other status the sink's
   pub read_told : answer ≢ Err error.ReadFault → CountStays source
   pub write_told : status ≢ 4 → CountStays sink

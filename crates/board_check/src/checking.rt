@@ -1,6 +1,7 @@
 //! The check of a source.
 ghost use Rattle.std.specs.Prelude.{◌≡◌, ◌≢◌, ◌≤◌, Err, IsErrOf};
 ghost use Rattle.board_model.specs.Lines.{Rose};
+ghost use Rattle.script_loop.specs.Streams.{one_fault_more};
 ghost use Rattle.script_pairs.specs.Checks.{Checks};
 ghost use Rattle.board_check.specs.Top.{AcceptsRuns};
 
@@ -23,10 +24,12 @@ pub fn check<S: Source>(alloc: Global, source: &mut S) -> Result<Verdict, CheckE
     // The lines and the output of a run, in turn, are told to be lawful.
     ensures runs { AcceptsRuns (S.left source.old) result }
 
-    // It fails to read only where the source's count of faults rises.
+    // It fails to read only where the source's count of faults rises, by one: a failed read isn't tried once more.
     ensures cause { IsErrOf result CheckError.ReadFault
         → Rose (S.faults source.old) (S.faults source.new) }
     ensures told { result ≢ Err CheckError.ReadFault → S.faults source.new ≡ S.faults source.old }
+    ensures once { IsErrOf result CheckError.ReadFault
+        → S.faults source.new ≡ one_fault_more (S.faults source.old) }
     ensures later { S.faults source.old ≤ S.faults source.new }
     ensures reads { S.never_fails source.old → result ≢ Err CheckError.ReadFault }
 {

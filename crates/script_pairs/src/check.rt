@@ -5,6 +5,7 @@ ghost use Rattle.script_model.specs.ScriptGrammar.{IsScriptLine};
 ghost use Rattle.script_model.specs.ScriptSession.{Session, start};
 ghost use Rattle.script_model.specs.ScriptTurns.{ScriptState};
 ghost use Rattle.script_loop.specs.Machines.{StandsFor};
+ghost use Rattle.script_loop.specs.Streams.{one_fault_more};
 ghost use Rattle.script_pairs.specs.Checks.{Checks, IsBroken, IsReadToEnd, TellsEach};
 
 use crate::lines::line_of;
@@ -95,10 +96,12 @@ pub fn check_pairs<T: KnowsAnswers, S: Source>(
     // Where it is `Lawful` the source was read to its end.
     ensures end { IfOk result (λ verdict. IsReadToEnd verdict (S.left source.new)) }
 
-    // It fails to read only where the source's count of faults rises.
+    // It fails to read only where the source's count of faults rises, by one: a failed read isn't tried once more.
     ensures cause { IsErrOf result CheckError.ReadFault
         → Rose (S.faults source.old) (S.faults source.new) }
     ensures told { result ≢ Err CheckError.ReadFault → S.faults source.new ≡ S.faults source.old }
+    ensures once { IsErrOf result CheckError.ReadFault
+        → S.faults source.new ≡ one_fault_more (S.faults source.old) }
     ensures later { S.faults source.old ≤ S.faults source.new }
     ensures reads { S.never_fails source.old → result ≢ Err CheckError.ReadFault }
 {

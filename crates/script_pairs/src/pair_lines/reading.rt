@@ -1,8 +1,9 @@
 //! How lines and answers are read in turn.
-ghost use Rattle.std.specs.Prelude.{◌≡◌, ◌≢◌, ◌≤◌, ◌<◌, ◌↔◌, [], Err, IfErr, IfNone, IfOk, IfSome, IsErrOf, IsOk, IsTrue, OnOk, drop, false, length, slice_index, take, true};
+ghost use Rattle.std.specs.Prelude.{◌≡◌, ◌≢◌, ◌≤◌, ◌<◌, ◌↔◌, [], Err, IfErr, IfNone, IfOk, IfSome, IsErrOf, IsOk, IsTrue, OnErr, OnOk, drop, false, length, slice_index, take, true};
 ghost use Rattle.std.specs.Io.KnownBytes.{IsAtEnd, Keeps};
 ghost use Rattle.board_model.specs.Lines.{HasCause, IsOneLine, Rose};
 ghost use Rattle.script_loop.specs.Reader.{HasMore};
+ghost use Rattle.script_loop.specs.Streams.{one_fault_more};
 ghost use Rattle.script_pairs.specs.PairLines.{IsFound, TakesPart, has_ended, in_hand, to_come};
 
 use super::{CHUNK, Found, PairLines};
@@ -89,6 +90,7 @@ impl PairLines {
         ensures ended { OnOk result (has_ended self.new ≡ true → IsAtEnd (S.left source.new)) }
         ensures cause { HasCause (S.faults source.old) (S.faults source.new) result }
         ensures told { OnOk result (S.faults source.new ≡ S.faults source.old) }
+        ensures once { OnErr result (S.faults source.new ≡ one_fault_more (S.faults source.old)) }
         ensures unfailing { S.never_fails source.old → IsOk result }
         ensures never_later { S.never_fails source.old → S.never_fails source.new }
     {
@@ -111,6 +113,7 @@ impl PairLines {
         ensures one_source { OnOk result (has_ended self.new ≡ true → IsAtEnd (S.left source.new)) }
         ensures cause { HasCause (S.faults source.old) (S.faults source.new) result }
         ensures told { OnOk result (S.faults source.new ≡ S.faults source.old) }
+        ensures once { OnErr result (S.faults source.new ≡ one_fault_more (S.faults source.old)) }
         ensures unfailing { S.never_fails source.old → IsOk result }
         ensures never_later { S.never_fails source.old → S.never_fails source.new }
     {
@@ -161,6 +164,8 @@ impl PairLines {
             → Rose (S.faults source.old) (S.faults source.new) }
         ensures told { result ≢ Err CheckError.ReadFault
             → S.faults source.new ≡ S.faults source.old }
+        ensures once { IsErrOf result CheckError.ReadFault
+            → S.faults source.new ≡ one_fault_more (S.faults source.old) }
         ensures later { S.faults source.old ≤ S.faults source.new }
         ensures unfailing { S.never_fails source.old → result ≢ Err CheckError.ReadFault }
         ensures never_later { S.never_fails source.old → S.never_fails source.new }
@@ -195,6 +200,7 @@ impl PairLines {
         ensures kind { IfErr result (λ e. e ≡ CheckError.ReadFault) }
         ensures cause { HasCause (S.faults source.old) (S.faults source.new) result }
         ensures told { OnOk result (S.faults source.new ≡ S.faults source.old) }
+        ensures once { OnErr result (S.faults source.new ≡ one_fault_more (S.faults source.old)) }
         ensures unfailing { S.never_fails source.old → IsOk result }
     {
         if !self.hand_is_empty() {
