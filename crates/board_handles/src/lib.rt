@@ -22,6 +22,7 @@ mod read_handle;
 mod reader;
 mod release;
 mod state;
+mod width;
 mod write_handle;
 mod writer;
 mod writing;

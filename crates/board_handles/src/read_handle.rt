@@ -6,6 +6,7 @@ ghost use Rattle.board_handles.specs.Handles.{GetsValue, GetsValueWithin, IsOfCe
 
 use crate::blackboard_value::BlackboardValue;
 use crate::domain::Domain;
+use crate::width::know_width;
 use board_cell::{GetAgain, ReaderPass, ThreadedCell};
 use board_cells::ReadEnd;
 use board_layout::ZeroCopySend;
@@ -78,6 +79,7 @@ impl<K, V: ZeroCopySend, P> EntryHandle<K, V, P> {
         ensures rises { NotesRise self.new.pass.notes }
     {
         let cell = &*self.cell;
+        know_width::<V>(cell, &self.words);
         let generation = cell.get(rt, &mut self.pass, &mut self.words);
         BlackboardValue::new(V::from_words(self.words.as_slice()), generation)
     }
@@ -95,6 +97,7 @@ impl<K, V: ZeroCopySend, P> EntryHandle<K, V, P> {
         ensures rises { NotesRise self.new.pass.notes }
     {
         let cell = &*self.cell;
+        know_width::<V>(cell, &self.words);
         match cell.try_get(&mut self.pass, tries, &mut self.words) {
             Ok(generation) => Ok(BlackboardValue::new(
                 V::from_words(self.words.as_slice()),

@@ -7,6 +7,7 @@ ghost use Rattle.board_cells.specs.Ends.{end_seen};
 ghost use Rattle.board_handles.specs.Handles.{HasRoom, PublishesWritten, last_receipt, publishing, with_written};
 
 use crate::domain::Domain;
+use crate::width::know_width;
 use board_cell::{CellError, Receipt, ThreadedCell, WriterPass};
 use board_cells::{SentReceipt, WriteEnd};
 use board_layout::ZeroCopySend;
@@ -120,6 +121,7 @@ impl<V: ZeroCopySend> Writing<V> {
     {
         value.to_words(self.words.as_mut_slice());
         let cell = &*self.cell;
+        know_width::<V>(cell, &self.words);
         cell.update(&mut self.pass, &self.words);
     }
 
@@ -131,6 +133,7 @@ impl<V: ZeroCopySend> Writing<V> {
     {
         fill(self.words.as_mut_slice(), self.places.as_slice());
         let cell = &*self.cell;
+        know_width::<V>(cell, &self.words);
         cell.update(&mut self.pass, &self.words);
     }
 
