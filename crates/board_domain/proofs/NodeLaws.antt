@@ -396,7 +396,7 @@ module _ (board : ℕ) where
           let are_so : (n : ℕ) → among n ns ≡ (nat_eq t.holder n || has board n ts) = λ n. are n ∙ ap (λ (x : Bool). (x && nat_eq t.holder n) || has board n ts) e in
           let one : among t.holder ns ≡ true = are_so t.holder ∙ ap (λ (x : Bool). x || has board t.holder ts) (eq-eqb t.holder t.holder refl) in
           let rest = ih (without t.holder ns) (ascends_without t.holder ns up)
-              (λ n. are_without t.holder ns up n ∙ ap (λ (x : Bool). x && not (nat_eq t.holder n)) (are_so n) ∙ had_not t.holder n ts f) in
+          (λ n. are_without t.holder ns up n ∙ ap (λ (x : Bool). x && not (nat_eq t.holder n)) (are_so n) ∙ had_not t.holder n ts f) in
           omega (arith, one_less t.holder ns one, rest)
 
 pub nodes_are_told : NodesAreTold
