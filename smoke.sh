@@ -141,6 +141,9 @@ gives 'no pairs' 0 'lawful 0\n' '' "$check" < /dev/null
 gives 'a last answer without a newline' 0 'lawful 1\n' '' "$check" < <(printf 'abandon a\ngone')
 gives 'a line outside the grammar' 1 'line 2: line\n' '' "$check" < <(printf 'abandon a\ngone\nabandon  b\ngone\n')
 gives 'a session without its last answer' 1 'line 2: answer\n' '' "$check" < <(printf 'abandon a\ngone\nabandon b\n')
+gives 'a line without an end' 1 'line 1: line\n' '' "$check" < <(yes | tr -d '\n')
+gives 'an answer without an end' 1 'line 1: answer\n' '' "$check" < <(echo 'abandon a'; yes | tr -d '\n')
+gives 'a wrong pair before a line without an end' 1 'line 1: reason\n' '' "$check" < <(printf 'step a\nrefused busy\n'; yes | tr -d '\n')
 gives 'a refusal that is none' 1 'line 2: reason\n' '' "$check" < <(printf 'abandon a\ngone\nabandon b\nrefused abandoned\nabandon c\nrefused busy\n')
 gives 'a word of another access' 1 'line 8: owed\n' '' "$check" < <(sed '16s/1:7/1:6/' "$session")
 gives 'a word that is not there' 1 'line 9: word\n' '' "$check" < <(sed '18s/9$/8/' "$session")
@@ -148,7 +151,7 @@ gives 'a listener that is there' 1 'line 6: event\n' '' "$check" < <(printf 'beg
 gives 'a reply of another number' 1 'line 2: reply\n' '' "$check" < <(sed '4s/1$/2/' "$session")
 "$run" < "$script" > "$folder/answers" && paste -d '\n' "$script" "$folder/answers" > "$folder/session"
 gives 'a run and its output' 0 "lawful $(grep -c '' "$script")\n" '' "$check" < "$folder/session"
-for word in x ''; do
+for word in x '' $'\xff'; do
     gives "the checker's usage: '$word'" 2 '' "$check_usage" "$check" "$word" < "$session"
 done
 gives 'a session from a closed input' 3 '' 'read fault\n' "$check" <&-
