@@ -21,10 +21,17 @@ run:
 	cd crates/board_run && rt try < stdin
 
 # A stated workload, and the seconds that it takes.
-bench: $(RUN) $(BENCH)
+bench: $(RUN) $(CHECK) $(BENCH)
 	@TIMEFORMAT='    %R s'; \
 	on() { echo "$${*##*/}"; time "$$@"; }; \
 	on $(RUN) gen 1000000; \
+	folder=$$(mktemp -d) && trap 'rm -r "$$folder"' EXIT; \
+	./long_script.sh > "$$folder/script"; \
+	echo 'board_run, 200,000 lines'; \
+	time $(RUN) < "$$folder/script" > "$$folder/answers"; \
+	paste -d '\n' "$$folder/script" "$$folder/answers" > "$$folder/session"; \
+	echo 'board_check_run, these and their answers'; \
+	time $(CHECK) < "$$folder/session"; \
 	for width in 1 4 32; do \
 	    on $(BENCH) solo $$width get 10000000; \
 	    on $(BENCH) solo $$width try_get 10000000; \
