@@ -6,6 +6,7 @@ pub mod Endings
 pub mod Firsts
 pub mod Growth
 pub mod Handles
+pub mod Holders
 pub mod KeyedCalls
 pub mod KeyTests
 pub mod NewEntries

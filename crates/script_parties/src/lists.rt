@@ -1,13 +1,13 @@
 //! What is listed of a board.
-ghost use Rattle.std.specs.Prelude.{◌≡◌, ◌||◌, ℕ, List, IfOk, OnOk, map, nat_eq, option_map};
+ghost use Rattle.std.specs.Prelude.{◌≡◌, ◌||◌, ℕ, List, IfOk, OnOk, map, nat_eq};
 ghost use Rattle.std.specs.BTreeSet as set;
 ghost use Rattle.std.specs.Cmp.Lexicographic.{slice_cmp};
 ghost use Rattle.std.specs.HashMap.{get, keys};
 ghost use Rattle.std.specs.List.{list_any};
-ghost use Rattle.std.specs.List.Sorted.{IsStrictlySortedBy};
 ghost use Rattle.std.specs.Ordering.{nat_cmp};
 ghost use Rattle.std.specs.Str.{bytes_eq};
 ghost use Rattle.board_model.specs.Tables.{holds_at, is_held_by};
+ghost use Rattle.script_parties.specs.Numbered.{AreHolders};
 ghost use Rattle.script_parties.specs.Overview.{key_shown};
 
 use crate::lookups::Held;
@@ -30,20 +30,36 @@ pub(crate) fn keys_of(
     Ok(Keys::from_vec(keys))
 }
 
-// Adds the party of a thing of the board to the others.
-fn add_party(board: u64, thing: Option<&Held>, parties: &mut BTreeSet<Name>) -> Result<(), AllocError>
+// The party of the thing under a number, if there is one and it is of the board.
+fn party_at(board: u64, number: u64, things: &HashMap<u64, Held>) -> Option<Name>
+    ensures { (p : List ℕ) → holds_at result (λ party. bytes_eq party p)
+        ≡ holds_at (get nat_eq things.now number) (is_held_by bytes_eq board p) }
+{
+    match things.get(&number) {
+        Some(thing) => {
+            if thing.board == board {
+                Some(thing.holder)
+            } else {
+                None
+            }
+        }
+        None => None,
+    }
+}
+
+// Adds a party to the others, if there is one.
+fn add_party(party: Option<Name>, parties: &mut BTreeSet<Name>) -> Result<(), AllocError>
     ensures { OnOk result ((p : List ℕ) → set.contains (slice_cmp nat_cmp) parties.new p
         ≡ (set.contains (slice_cmp nat_cmp) parties.old p
-        || holds_at (option_map (λ t. t.now) thing) (is_held_by bytes_eq board p))) }
+        || holds_at party (λ q. bytes_eq q p))) }
 {
-    let Some(thing) = thing else {
-        return Ok(());
-    };
-    if thing.board != board {
-        return Ok(());
+    match party {
+        Some(party) => match parties.insert(party) {
+            Ok(_) => Ok(()),
+            Err(_) => Err(AllocError),
+        },
+        None => Ok(()),
     }
-    let _ = parties.insert(thing.holder)?;
-    Ok(())
 }
 
 // The parties with a thing of the board.
@@ -58,7 +74,7 @@ fn parties_of(
 {
     let mut parties = BTreeSet::new(alloc);
     for number in things.keys() {
-        add_party(board, things.get(number), &mut parties)?;
+        add_party(party_at(board, *number, things), &mut parties)?;
     }
     Ok(parties)
 }
@@ -69,10 +85,7 @@ pub(crate) fn nodes_at(
     board: u64,
     things: &HashMap<u64, Held>,
 ) -> Result<Names, AllocError>
-    ensures order { IfOk result (λ names. IsStrictlySortedBy (slice_cmp nat_cmp) names) }
-    ensures parties { IfOk result (λ names. (p : List ℕ) → list_any (λ q. bytes_eq q p) names
-        ≡ list_any (λ n. holds_at (get nat_eq things.now n) (is_held_by bytes_eq board p))
-        (keys things.now)) }
+    ensures { IfOk result (AreHolders board things.now) }
 {
     let parties = parties_of(alloc, board, things)?;
     Ok(Names::from_vec(parties.iter().copied().collect(alloc)?))

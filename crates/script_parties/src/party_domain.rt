@@ -5,6 +5,7 @@ ghost use Rattle.board_model.specs.LineGrammar.{AreAttributes, AreRequirements, 
 ghost use Rattle.board_model.specs.Replies as replies;
 ghost use Rattle.board_model.specs.Tables as tables;
 ghost use Rattle.board_model.specs.Things.{of_kind};
+ghost use Rattle.board_service.specs.Domain as domain;
 ghost use Rattle.script_parties.specs.Overview.{keys_shown};
 ghost use Rattle.script_parties.specs.Parties.{HasWord, IsCreate, IsEntry, IsEntryMut, IsFew, IsLoaded, IsOpen, IsReader, IsReleased, IsStored, IsWriter, IsStandingThing, board_words, no_parties};
 ghost use Rattle.script_parties.specs.Shown.{HasKeyType, id_shown, info_shown, party_thing, renamed};
@@ -24,7 +25,7 @@ use board_model::{
     NewLimits, Reply, Requirements, ThingKind, ValueType, key_detail, key_type_of, same_type,
     type_of_key,
 };
-use board_service::{BoardWords, DomainCore, is_kind};
+use board_service::{BoardWords, DomainCore, ThingId, is_kind};
 use indexmap::IndexSet;
 use script_seats::Seat;
 use std::alloc::{AllocError, Global};
@@ -59,6 +60,14 @@ impl<C: BoardWords> Model for PartyDomain<C> {
 
     ghost invariant = { λ d. IsIndexed d.names
         × IsNamed d.nodes.keys (named_at d.names) d.core };
+}
+
+// Ends a thing of a core. The cells of a board that goes with it are dropped.
+fn end_thing<C: BoardWords + Drop>(core: &mut DomainCore<C>, thing: ThingId)
+    requires { domain.Stands core.old thing }
+    ensures { core.new ≡ domain.after_release core.old thing (domain.board_of core.old thing) }
+{
+    let _ = core.release(thing);
 }
 
 // All words, read one after another.
@@ -347,7 +356,7 @@ impl<C: BoardWords + Drop> PartyDomain<C> {
             name: *name,
         };
         if let Some(number) = self.names.take(&seat) {
-            let _ = self.core.release(number);
+            end_thing(&mut self.core, number);
         }
     }
 
