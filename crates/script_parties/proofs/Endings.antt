@@ -107,7 +107,7 @@ module _ (f : ℕ → List ℕ) (at : ℕ → Option Held) (n : ℕ) where
   -- the first that passes is the one that goes
   names_less : (p : Held → Bool) (low last : ℕ) (ts : List (Thing ℕ ℕ)) (u : Thing ℕ ℕ) → AllByRecursion (IsCalled f at) ts → AreRising low last ts → IsLeast p at n → find (is_thing n) ts ≡ Some u
       → named_things (put n None at) (without_first (is_thing n) ts) ≡ without_first p (named_things at ts)
-  names_less p low last [] u h rising least e = absurd (let g : None ≡ Some u = e in cc)
+  names_less p low last [] u h rising least e = absurd cc
   names_less p low last (t ∷ ts) u h rising least e =
       elim (chosen (t.name == n) (Some t) (find (is_thing n) ts) (Some u) e) [
         | inl c ↦

@@ -76,9 +76,10 @@ none_above n last (t ∷ ts) less h =
     let no : (t.name == n) ≡ false = grind (arith, nat_tests, low, less) in
     rw no (none_above n last ts less h.1)
 
--- the next number is free
-pub next_free : {C : Type 0} (nodes : List (List ℕ)) (at : ℕ → Option Held) (d : Domain C) (n : ℕ) → IsNamed nodes at d → n ≡ d.last_thing + 1 → at n ≡ None
-next_free nodes at d n h e = h.alone n (none_above n d.last_thing d.tables.things (omega (arith, e)) (up_to_last 0 d.last_thing d.tables.things h.rising).0)
+-- the next number is free, where the things were given room
+pub next_free : {C : Type 0} (nodes : List (List ℕ)) (at given : ℕ → Option Held) (d : Domain C) (n : ℕ) → IsNamed nodes at d → given ≡ at → n ≡ d.last_thing + 1 → given n ≡ None
+next_free nodes at given d n h e next =
+    ap (λ (a : ℕ → Option Held). a n) e ∙ h.alone n (none_above n d.last_thing d.tables.things (omega (arith, next)) (up_to_last 0 d.last_thing d.tables.things h.rising).0)
 
 module _ (f : ℕ → List ℕ) (at : ℕ → Option Held) (n : ℕ) (x : Held) where
   called_still : (last : ℕ) (t : Thing ℕ ℕ) → last < n → t.name ≤ last → IsCalled f at t → IsCalled f (put n (Some x) at) t

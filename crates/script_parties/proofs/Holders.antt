@@ -63,7 +63,7 @@ any_at q n (k ∷ ks) h e =
 
 module _ (test : Held → Bool) (f : ℕ → List ℕ) (at : ℕ → Option Held) where
   any_named : (n : ℕ) (ts : List (Thing ℕ ℕ)) (t : Thing ℕ ℕ) → AllByRecursion (IsCalled f at) ts → find (is_thing n) ts ≡ Some t → holds_at (at n) test ≡ true → list_any test (named_things at ts) ≡ true
-  any_named n [] t h e holds = absurd (let g : None ≡ Some t = e in cc)
+  any_named n [] t h e holds = absurd cc
   any_named n (u ∷ us) t h e holds =
       elim (chosen (u.name == n) (Some u) (find (is_thing n) us) (Some t) e) [
         | inl c ↦

@@ -22,10 +22,10 @@ chosen false x y z e = inr (refl, e)
 
 -- what is found has what all have, and the number
 pub found : (P : Thing ℕ ℕ → Type 0) (n : ℕ) (t : Thing ℕ ℕ) (ts : List (Thing ℕ ℕ)) → AllByRecursion P ts → find (is_thing n) ts ≡ Some t → P t × (t.name ≡ n)
-found P n t [] h e = absurd (let f : None ≡ Some t = e in cc)
+found P n t [] h e = absurd cc
 found P n t (u ∷ us) h e =
     elim (chosen (u.name == n) (Some u) (find (is_thing n) us) (Some t) e) [
-      | inl c ↦ (let same : u ≡ t = cc in subst (λ (x : Thing ℕ ℕ). P x × (x.name ≡ n)) same (h.0, (Decides-eqb u.name n).0 c.0))
+      | inl c ↦ (let s : Some u ≡ Some t = c.1 in let same : u ≡ t = cc in subst (λ (x : Thing ℕ ℕ). P x × (x.name ≡ n)) same (h.0, (Decides-eqb u.name n).0 c.0))
       | inr c ↦ found P n t us h.1 c.1
     ]
 
@@ -76,7 +76,7 @@ module _ (p : Held → Bool) (f : ℕ → List ℕ) (at : ℕ → Option Held) w
 
   -- all behind have greater numbers
   pub above : (n low last : ℕ) (ts : List (Thing ℕ ℕ)) (t : Thing ℕ ℕ) → AreRising low last ts → find (is_thing n) ts ≡ Some t → low < n
-  above n low last [] t h e = absurd (let g : None ≡ Some t = e in cc)
+  above n low last [] t h e = absurd cc
   above n low last (u ∷ us) t h e =
       let less : low < u.name = h.0 in
       elim (chosen (u.name == n) (Some u) (find (is_thing n) us) (Some t) e) [
@@ -86,7 +86,7 @@ module _ (p : Held → Bool) (f : ℕ → List ℕ) (at : ℕ → Option Held) w
 
   some_first : (n low last : ℕ) (ts : List (Thing ℕ ℕ)) (t : Thing ℕ ℕ) → AllByRecursion (IsCalled f at) ts → AreRising low last ts → IsLeast p at n → find (is_thing n) ts ≡ Some t
       → find p (named_things at ts) ≡ at n
-  some_first n low last [] t h rising least e = absurd (let g : None ≡ Some t = e in cc)
+  some_first n low last [] t h rising least e = absurd cc
   some_first n low last (u ∷ us) t h rising least e =
       elim (chosen (u.name == n) (Some u) (find (is_thing n) us) (Some t) e) [
         | inl c ↦
@@ -117,7 +117,7 @@ first_thing p nodes at d (Some n) h least =
 
 -- a thing that passes has a number
 somewhere : (p : Held → Bool) (f : ℕ → List ℕ) (at : ℕ → Option Held) (x : Held) (ts : List (Thing ℕ ℕ)) → AllByRecursion (IsCalled f at) ts → find p (named_things at ts) ≡ Some x → (n : ℕ) × (holds_at (at n) p ≡ true)
-somewhere p f at x [] h e = absurd (let g : None ≡ Some x = e in cc)
+somewhere p f at x [] h e = absurd cc
 somewhere p f at x (t ∷ ts) h e =
     elim (chosen (p (held_or_none (at t.name))) (Some (held_or_none (at t.name))) (find p (named_things at ts)) (Some x) e) [
       | inl c ↦ (t.name, named_passes p f at t h.0 ∙ c.0)
@@ -149,7 +149,7 @@ module _ (party old new : List ℕ) (f : ℕ → List ℕ) (at : ℕ → Option 
   abbrev anew : ℕ → Option Held
   anew n = option_map (named_anew party old new) (at n)
 
-  same_but_name : (b : Bool) (x : Held) → let y : Held = cond b (record x { name = new }) x in (x.holder ≡ y.holder) × (x.board ≡ y.board) × (x.kind ≡ y.kind)
+  same_but_name : (b : Bool) (x : Held) → (x.holder ≡ (cond b (record x { name = new }) x).holder) × (x.board ≡ (cond b (record x { name = new }) x).board) × (x.kind ≡ (cond b (record x { name = new }) x).kind)
   same_but_name true x = (refl, refl, refl)
   same_but_name false x = (refl, refl, refl)
 

@@ -31,6 +31,14 @@ shown list d things = record {
   drawn = d.last_thing;
 }
 
+-- nothing is seen of room that was made
+pub view_same : {C : Type 0} (list : C → List ℕ) (at given : ℕ → Option Held) (d after : Domain C) → given ≡ at → after ≡ d → shown list after (things_of given after) ≡ shown list d (things_of at d)
+view_same list at given d after e f = ap (λ a. shown list after (things_of a after)) e ∙ ap (λ x. shown list x (things_of at x)) f
+
+pub named_same : {C : Type 0} (nodes given_nodes : List (List ℕ)) (at given : ℕ → Option Held) (d after : Domain C) → given_nodes ≡ nodes → given ≡ at → after ≡ d → IsNamed nodes at d → IsNamed given_nodes given after
+named_same nodes given_nodes at given d after n e f h =
+    subst (λ ps. IsNamed ps given after) (sym n) (subst (λ a. IsNamed nodes a after) (sym e) (subst (λ x. IsNamed nodes at x) (sym f) h))
+
 -- a thing that a party has from another
 abbrev pub from : Held → List ℕ → Kind → Held
 from of name k = record { holder = of.holder; name = name; board = of.board; kind = k }

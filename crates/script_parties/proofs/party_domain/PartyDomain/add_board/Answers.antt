@@ -33,7 +33,7 @@ push-requires-clause-free g c =
     let ok = c.in-Ok.ensures.ok in
     let both = create_made g.C.Cells.words g.C.Words.list s.nodes.keys at s.core c.create_in.new.core c.args.party c.args.factory c.args.name c.args.key_type c.args.limits c.args.attributes c.args.entries.now
     c.node_for.result c.from_text-name.result c.args.attributes (map as_added c.in_ok-entries.entries.items) c.in-Ok.made ok.0 g.met.C.BoardWords.known h o c.in_ok-entries.ensures.keys c.in-Ok.ensures.answer ok.2 ok.3 in
-    ap (λ a. a c.in-Ok.made.thing) c.reserve-2.ensures.things ∙ next_free s.nodes.keys at s.core c.in-Ok.made.thing h both.1.next
+    next_free s.nodes.keys at (named_at c.reserve-2.new.self) s.core c.in-Ok.made.thing h c.reserve-2.ensures.things both.1.next
 
 pub invariant_of-self-in-Ok : goal.invariant_of-self-in-Ok
 invariant_of-self-in-Ok g c =

@@ -32,7 +32,7 @@ push-requires-clause-free g c =
     let node_is = c.node_for.ensures ∙ ap (λ ns. node_number c.args.party ns) c.reserve.ensures.keys in
     let both = open_made g.C.Words.list s.nodes.keys at s.core c.open_unrefused.new.self c.args.party c.args.factory c.args.name
     c.node_for.result c.from_text-name.result c.in-Ok.made h node_is c.from_text-name.ensures c.in-Ok.ensures.made c.in-Ok.ensures.ok in
-    ap (λ a. a c.in-Ok.made.thing) c.reserve-2.ensures.things ∙ next_free s.nodes.keys at s.core c.in-Ok.made.thing h both.1.next
+    next_free s.nodes.keys at (named_at c.reserve-2.new.self) s.core c.in-Ok.made.thing h c.reserve-2.ensures.things both.1.next
 
 pub invariant_of-self-in-Ok : goal.invariant_of-self-in-Ok
 invariant_of-self-in-Ok g c =

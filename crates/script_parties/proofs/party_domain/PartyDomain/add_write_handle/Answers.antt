@@ -55,7 +55,7 @@ push-requires-clause-free g c =
     let ok = subst (λ v. c.entry_mut_in.new.core ≡ after_entry_mut s.core (held s.core n) (entry_for s.core (held s.core n) (keeps_key c.args.key.now) v)) c.value_detail.ensures c.in-Ok.ensures.ok in
     let new = from x c.args.name (kind.WriteHandle c.in-Ok.found.entry c.port_of.result) in
     let both = entry_mut_made g.C.Words.list s.nodes.keys at s.core c.entry_mut_in.new.core x n c.args.name (keeps_key c.args.key.now) (value_detail c.args.value_type) c.in-Ok.found c.port_of.result h i c.port_of.ensures answer ok in
-    ap (λ a. a c.in-Ok.found.thing) c.reserve.ensures.things ∙ next_free s.nodes.keys at s.core c.in-Ok.found.thing h both.1.next
+    next_free s.nodes.keys at (named_at c.reserve.new.self) s.core c.in-Ok.found.thing h c.reserve.ensures.things both.1.next
 
 pub invariant_of-self-in-Ok : goal.invariant_of-self-in-Ok
 invariant_of-self-in-Ok g c =

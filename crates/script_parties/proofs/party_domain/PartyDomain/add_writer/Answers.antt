@@ -38,7 +38,7 @@ push-requires-clause-free g c =
     let stands = stands_in (shown g.C.Words.list s.core (things_of at s.core)) _ x c.self.view_is c.requires.stands in
     let i = thing_of_call s.nodes.keys at (named_at c.reserve.new.self) s.core x c.number_of-number.result h c.reserve.ensures.things stands c.number_of-number.ensures in
     let both = writer_made g.C.Words.list s.nodes.keys at s.core c.writer.new.self x c.number_of-number.result c.args.name c.in-Ok.made h i c.in-Ok.ensures.answer c.in-Ok.ensures.ok in
-    ap (λ a. a c.in-Ok.made.thing) c.reserve.ensures.things ∙ next_free s.nodes.keys at s.core c.in-Ok.made.thing h both.1.next
+    next_free s.nodes.keys at (named_at c.reserve.new.self) s.core c.in-Ok.made.thing h c.reserve.ensures.things both.1.next
 
 pub invariant_of-self-in-Ok : goal.invariant_of-self-in-Ok
 invariant_of-self-in-Ok g c =
