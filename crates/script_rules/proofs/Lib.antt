@@ -1,4 +1,4 @@
--- Answers as they are printed; the groups of their tokens; one verdict on a pair, and on a session.
+-- Answers as they are printed; the groups of their tokens; the answer grammar; one verdict on a pair, and on a session.
 pub mod PrintedLemmas
 pub mod TypedGetLemmas
 pub mod RightPrintedLemmas
@@ -7,6 +7,7 @@ pub mod StepGroupLemmas
 pub mod EventAnswerLemmas
 pub mod NamedLemmas
 pub mod ReasonLemmas
+pub mod FormLemmas
 pub mod PairLemmas
 pub mod VerdictLemmas
 pub mod WorkedPairLemmas

@@ -5,6 +5,7 @@ pub mod AnswerGroups
 pub mod BrokenRules
 pub mod StepGroups
 pub mod NamedRules
+pub mod LawsOfForms
 pub mod SessionPairs
 pub mod LawsOfPairs
 pub mod WorkedRules

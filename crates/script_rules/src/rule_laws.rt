@@ -1,5 +1,6 @@
 //! Laws of the rules of one answer. Each function's contract is a theorem over the definitions alone.
 ghost use Rattle.script_rules.specs.BrokenRules.{BreaksNoneWhereRight};
+ghost use Rattle.script_rules.specs.LawsOfForms.{RightAnswersAreOfTheGrammar};
 ghost use Rattle.script_rules.specs.NamedRules.{BrokenRulesAreNamed, ReasonsAreJudged, RightAnswersKeepAll};
 ghost use Rattle.script_rules.specs.PrintedAnswers.{RightAnswersArePrinted};
 ghost use Rattle.script_rules.specs.StepGroups.{StepsAreGrouped};
@@ -32,4 +33,9 @@ pub fn broken_rules_are_named()
 /// An answer that isn't refused as its line is breaks the rule of reasons.
 pub fn reasons_are_judged()
     ensures { ReasonsAreJudged }
+{}
+
+/// After a lawful session of fewer than 2^63 pairs, an answer that keeps the other rules is of the answer grammar, whether to a line of boards or of events.
+pub fn right_answers_are_of_the_grammar()
+    ensures { RightAnswersAreOfTheGrammar }
 {}
