@@ -1,5 +1,5 @@
--- The nodes that are told of a board ascend, and are those with a thing of it.
-use Rattle.std.proofs.Common.{◌≡◌, ℕ, zero, suc, ◌+◌, ◌<◌, ◌≤◌, Bool, true, false, List, [], ◌∷◌, Option, Some, None, arith, refl, sym, ap, ◌∙◌}
+-- The nodes that are told of a board ascend, are those with a thing of it, and as many as its limit counts.
+use Rattle.std.proofs.Common.{◌≡◌, ℕ, zero, suc, ◌+◌, ◌<◌, ◌≤◌, Bool, true, false, List, [], ◌∷◌, length, Option, Some, None, arith, refl, sym, ap, ◌∙◌}
 use Rattle.std.specs.Prelude.{◌&&◌, ◌||◌, ◌==◌, not, nat_eq, nat_lt, if◌then◌else◌}
 use Rattle.std.specs.List.{AllByRecursion, cons_option, list_any}
 use Rattle.std.proofs.lemmas.Bool.{eqb-true, eq-eqb, lt-ltb, le-ltb, ltb-true, ltb-false, false≢true, false_from_ne_true}
@@ -50,6 +50,70 @@ beyond p q le other = by (nat_lt p q) refl
     by : (b : Bool) → nat_lt p q ≡ b → p + 1 ≤ q
     by true k = omega (arith, ltb-true p q k)
     by false k = absurd (other (omega (arith, le, ltb-false p q k)))
+
+and_true : (a : Bool) → (a && true) ≡ a
+and_true true = refl
+and_true false = refl
+
+-- ---- ascending numbers, and one of them taken out
+
+abbrev among : ℕ → List ℕ → Bool
+among n ns = list_any (λ m. m == n) ns
+
+abbrev without : ℕ → List ℕ → List ℕ
+without n [] = []
+without n (m ∷ ms) = if m == n then ms else m ∷ without n ms
+
+not_above : (n m : ℕ) (ms : List ℕ) → m ≡ n → AllByRecursion (λ y. m < y) ms → among n ms ≡ false
+not_above n m [] it h = refl
+not_above n m (y ∷ ys) it h = by (y == n) refl (not_above n m ys it h.1)
+  where
+    by : (b : Bool) → (y == n) ≡ b → among n ys ≡ false → (b || among n ys) ≡ false
+    by true e ih = absurd (omega (arith, eqb-true y n e, h.0, it))
+    by false e ih = ih
+
+one_less : (n : ℕ) (ms : List ℕ) → among n ms ≡ true → length ms ≡ length (without n ms) + 1
+one_less n [] h = absurd (false≢true h)
+one_less n (m ∷ ms) h = by (m == n) h (λ k. one_less n ms k)
+  where
+    by : (b : Bool) → (b || among n ms) ≡ true → (among n ms ≡ true → length ms ≡ length (without n ms) + 1)
+        → length (m ∷ ms) ≡ length (if b then ms else m ∷ without n ms) + 1
+    by true k ih = omega arith
+    by false k ih = omega (arith, ih k)
+
+all_without : (P : ℕ → Type 0) (n : ℕ) (ms : List ℕ) → AllByRecursion P ms → AllByRecursion P (without n ms)
+all_without P n [] h = tt
+all_without P n (m ∷ ms) h = by (m == n) (all_without P n ms h.1)
+  where
+    by : (b : Bool) → AllByRecursion P (without n ms) → AllByRecursion P (if b then ms else m ∷ without n ms)
+    by true ih = h.1
+    by false ih = (h.0, ih)
+
+ascends_without : (n : ℕ) (ms : List ℕ) → Ascends ms → Ascends (without n ms)
+ascends_without n [] h = tt
+ascends_without n (m ∷ ms) h = by (m == n) (ascends_without n ms h.1)
+  where
+    by : (b : Bool) → Ascends (without n ms) → Ascends (if b then ms else m ∷ without n ms)
+    by true ih = h.1
+    by false ih = (all_without (λ y. m < y) n ms h.0, ih)
+
+are_without : (h : ℕ) (ms : List ℕ) → Ascends ms → (n : ℕ) → among n (without h ms) ≡ (among n ms && not (nat_eq h n))
+are_without h [] up n = refl
+are_without h (m ∷ ms) up n = by (m == h) (m == n) refl refl (are_without h ms up.1 n)
+  where
+    by : (a b : Bool) → (m == h) ≡ a → (m == n) ≡ b → among n (without h ms) ≡ (among n ms && not (nat_eq h n))
+        → among n (if a then ms else m ∷ without h ms) ≡ ((b || among n ms) && not (nat_eq h n))
+    by true true e f ih =
+        let same : (nat_eq h n) ≡ true = eq-eqb h n (sym (eqb-true m h e) ∙ eqb-true m n f) in
+        not_above n m ms (eqb-true m n f) up.0 ∙ sym (ap not same)
+    by true false e f ih =
+        let other : (nat_eq h n) ≡ false = ap (λ (x : ℕ). nat_eq x n) (sym (eqb-true m h e)) ∙ f in
+        sym (ap (λ (x : Bool). among n ms && not x) other ∙ and_true (among n ms))
+    by false true e f ih =
+        let it : m ≡ n = eqb-true m n f in
+        let other : (nat_eq h n) ≡ false = false_from_ne_true (nat_eq h n) (λ k. false≢true (sym e ∙ eq-eqb m h (it ∙ sym (eqb-true h n k)))) in
+        ap (λ (x : Bool). x || among n (without h ms)) f ∙ sym (ap not other)
+    by false false e f ih = ap (λ (x : Bool). x || among n (without h ms)) f ∙ ih
 
 -- ---- counts, as one thing more is looked at: whether it is of the board, whether it is less, whether it is the last of its holder
 
@@ -226,9 +290,6 @@ module _ (board : ℕ) where
     abbrev listed : ℕ → ℕ → List ℕ
     listed count place = at_places at count place
 
-    abbrev among : ℕ → List ℕ → Bool
-    among n ns = list_any (λ m. m == n) ns
-
     is_listed : (count place i n : ℕ) → place ≤ i → i < place + count → at i ≡ Some n → among n (listed count place) ≡ true
     is_listed zero place i n low high e = absurd (omega (arith, low, high))
     is_listed (suc count) place i n low high e =
@@ -301,5 +362,46 @@ module _ (board : ℕ) where
         by true h = is_listed (taken all) 0 (below n all) n (omega arith) (omega (arith, below_taken n all h)) (finds_it n all h)
         by false h = false_from_ne_true (among n (listed (taken all) 0)) (λ is. false≢true (sym h ∙ was_listed (taken all) 0 n is))
 
+-- ---- how many there are
+
+module _ (board : ℕ) where
+  -- a holder with things behind it is no other one
+  had : (h n : ℕ) (ts : Things) → has board h ts ≡ true → (nat_eq h n || has board n ts) ≡ has board n ts
+  had h n ts k = by (nat_eq h n) refl
+    where
+      by : (b : Bool) → nat_eq h n ≡ b → (b || has board n ts) ≡ has board n ts
+      by true e = sym (ap (λ (x : ℕ). has board x ts) (sym (eqb-true h n e)) ∙ k)
+      by false e = refl
+
+  -- and one with none is none of the others
+  had_not : (h n : ℕ) (ts : Things) → has board h ts ≡ false → ((nat_eq h n || has board n ts) && not (nat_eq h n)) ≡ has board n ts
+  had_not h n ts k = by (nat_eq h n) refl
+    where
+      by : (b : Bool) → nat_eq h n ≡ b → ((b || has board n ts) && not b) ≡ has board n ts
+      by true e = sym (ap (λ (x : ℕ). has board x ts) (sym (eqb-true h n e)) ∙ k)
+      by false e = and_true (has board n ts)
+
+  -- numbers that ascend, and are the holders of things of the board, are as many as these
+  as_many : (ts : Things) (ns : List ℕ) → Ascends ns → ((n : ℕ) → among n ns ≡ has board n ts) → length ns ≡ taken board ts
+  as_many [] [] up are = refl
+  as_many [] (n ∷ ns) up are = absurd (false≢true (sym (are n) ∙ ap (λ (x : Bool). x || among n ns) (eq-eqb n n refl)))
+  as_many (t ∷ ts) ns up are = by (is_of_board board t) (has board t.holder ts) refl refl (λ ms. as_many ts ms)
+    where
+      by : (o k : Bool) → is_of_board board t ≡ o → has board t.holder ts ≡ k
+          → ((ms : List ℕ) → Ascends ms → ((n : ℕ) → among n ms ≡ has board n ts) → length ms ≡ taken board ts)
+          → length ns ≡ more_taken o (not k) (taken board ts)
+      by false k e f ih = ih ns up (λ n. are n ∙ ap (λ (x : Bool). (x && nat_eq t.holder n) || has board n ts) e)
+      by true true e f ih = ih ns up (λ n. are n ∙ ap (λ (x : Bool). (x && nat_eq t.holder n) || has board n ts) e ∙ had t.holder n ts f)
+      by true false e f ih =
+          let are_so : (n : ℕ) → among n ns ≡ (nat_eq t.holder n || has board n ts) = λ n. are n ∙ ap (λ (x : Bool). (x && nat_eq t.holder n) || has board n ts) e in
+          let one : among t.holder ns ≡ true = are_so t.holder ∙ ap (λ (x : Bool). x || has board t.holder ts) (eq-eqb t.holder t.holder refl) in
+          let rest = ih (without t.holder ns) (ascends_without t.holder ns up)
+              (λ n. are_without t.holder ns up n ∙ ap (λ (x : Bool). x && not (nat_eq t.holder n)) (are_so n) ∙ had_not t.holder n ts f) in
+          omega (arith, one_less t.holder ns one, rest)
+
 pub nodes_are_told : NodesAreTold
-nodes_are_told = record { ascend = λ things b. all_ascend b.number things (taken b.number things) 0; are = λ things b n. all_are b.number things n }
+nodes_are_told = record {
+  ascend = λ things b. all_ascend b.number things (taken b.number things) 0;
+  are = λ things b n. all_are b.number things n;
+  counted = λ things b. as_many b.number things (listed b.number things (taken b.number things) 0) (all_ascend b.number things (taken b.number things) 0) (all_are b.number things);
+}
