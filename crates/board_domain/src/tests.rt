@@ -42,9 +42,10 @@ fn creator<P: Policy, R: Abort>(rt: &R, alloc: Global, node: &Node) -> Creator<u
     creator.add_with_default::<bool>(2).expect(rt, "memory")
 }
 
-// What makes a second board, of a number alone.
+// What makes a second board, of a number alone. It has room for more ports than a test makes.
 fn second_creator<P: Policy, R: Abort>(rt: &R, alloc: Global, node: &Node) -> Creator<u64, P> {
     let creator = builder(rt, node, "second").blackboard_creator::<u64, P>(alloc);
+    let creator = creator.max_writers(2);
     creator.add(1, 3u64).expect(rt, "memory")
 }
 

@@ -82,20 +82,30 @@ fn lent_walks<P>(state: &DomainState, factory: &PortFactory<u64, P>) -> (u64, u6
     (nodes, keys)
 }
 
+// What is told of a board with a reader, a writer and two nodes, and after the reader's release.
+fn is_counted<P, R: Abort>(
+    rt: &R,
+    state: &mut DomainState,
+    board: &PortFactory<u64, P>,
+    reader: Reader<u64, P>,
+) {
+    assert_eq!(rt; walks(state, board), (12, 12, 1));
+    assert_eq!(rt; board.dynamic_config_in(state), taken(1, 1, 2));
+    reader.release_in(state);
+    assert_eq!(rt; board.dynamic_config_in(state), taken(0, 1, 2));
+}
+
 fn ports_are_counted<P, R: Abort>(rt: &R, state: &mut DomainState, boards: &Boards<P>) {
     let writer = new_writer(rt, state, &boards.made);
     let reader = new_reader(rt, state, &boards.opened);
     assert_eq!(rt; (writer.id().0, reader.id().0), (1, 2));
-    assert_eq!(rt; boards.made.dynamic_config_in(state), taken(1, 1, 2));
-    reader.release_in(state);
-    assert_eq!(rt; boards.made.dynamic_config_in(state), taken(0, 1, 2));
+    is_counted(rt, state, &boards.made, reader);
     writer.release_in(state);
 }
 
 fn told<P: Policy, R: Abort>(rt: &R, alloc: Global) {
     let mut state = DomainState::new(alloc);
     let boards = make_boards::<P, R>(rt, alloc, &mut state);
-    assert_eq!(rt; walks(&state, &boards.opened), (12, 12, 1));
     assert_eq!(rt; lent_walks(&state, &boards.opened), (12, 12));
     // In another state the factory isn't held.
     assert_eq!(rt; walks(&DomainState::new(alloc), &boards.opened), (0, 0, 0));
@@ -150,12 +160,16 @@ fn places<P, R: Abort>(
     rt: &R,
     state: &mut DomainState,
     reader: &Reader<u64, P>,
+    writer: &Writer<u64, P>,
     write: &EntryHandleMut<u64, u64, P>,
 ) {
     let number = read_handle(rt, state, reader);
     assert_eq!(rt; number.entry_id().as_value(), 0);
     assert_eq!(rt; write.entry_id().as_value(), 0);
     let truth = reader.entry_in::<bool>(state, &2).expect(rt, "an entry");
+    assert_eq!(rt; truth.entry_id().as_value(), 32);
+    let truth = writer.entry_in::<bool>(state, &2);
+    let truth = truth.expect(rt, "a free entry");
     assert_eq!(rt; truth.entry_id().as_value(), 32);
 }
 
@@ -165,11 +179,13 @@ pub(super) fn drop_loan<P>(state: &mut DomainState, write: EntryHandleMut<u64, u
     }
 }
 
-// The end of a handle that was given up is parked, and comes again.
+// The end of a handle that was given up is parked, and comes again. So does that of a loan.
 fn handed_again<P, R: Abort>(rt: &R, state: &mut DomainState, writer: &Writer<u64, P>) {
     let again = write_handle(rt, state, writer);
     assert_eq!(rt; again.generation(), 3, "its end was parked");
     drop_loan(state, again);
+    let again = write_handle(rt, state, writer);
+    assert_eq!(rt; again.generation(), 3, "the loan's end was parked");
 }
 
 fn published<P: Policy, R: Wait + Abort>(rt: &R, alloc: Global) {
@@ -179,9 +195,10 @@ fn published<P: Policy, R: Wait + Abort>(rt: &R, alloc: Global) {
     let reader = new_reader(rt, &mut state, &opened);
     let write = write_handle(rt, &mut state, &writer);
     let mut read = read_handle(rt, &mut state, &reader);
-    places(rt, &mut state, &reader, &write);
+    places(rt, &mut state, &reader, &writer, &write);
     let write = publish(rt, alloc, write, &mut read);
     refusals(rt, &mut state, &reader, &writer);
+    is_counted(rt, &mut state, &opened, reader);
     read.release_in(&mut state);
     write.release_in(&mut state);
     handed_again(rt, &mut state, &writer);

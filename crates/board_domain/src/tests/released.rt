@@ -1,7 +1,7 @@
 //! A board goes with the last value that was made of it, and its name is free again.
 use super::loans::drop_loan;
 use super::typed::{new_board, new_node, new_reader, new_writer, read_handle, write_handle};
-use super::{creator, lent, new_domain};
+use super::{creator, lent, new_domain, second_creator, second_opener};
 use crate::node::Node;
 use board_concepts::{Policy, Shared, Single};
 use board_handles::{DomainState, EntryHandle, EntryHandleMut};
@@ -45,6 +45,33 @@ fn given_back<P: Policy, R: Wait + Abort>(rt: &R, alloc: Global) {
 fn a_name_is_free_once_all_are_released(rt: HostRuntime) {
     given_back::<Shared, HostRuntime>(&rt, rt.alloc());
     given_back::<Single, HostRuntime>(&rt, rt.alloc());
+}
+
+// A board without any port, made and opened, as a reader and a writer of it were given up.
+fn made_and_opened<P: Policy, R: Wait + Abort>(rt: &R, alloc: Global, node: &Node) {
+    let made = second_creator::<P, R>(rt, alloc, node).create(rt);
+    let made = made.expect(rt, "a free name");
+    let opened = second_opener::<P, R>(rt, alloc, node).open(rt);
+    let opened = opened.expect(rt, "a board");
+    new_reader(rt, &opened).release(rt);
+    new_writer(rt, &opened).release(rt);
+    opened.release(rt);
+    made.release(rt);
+}
+
+fn made_again<P: Policy, R: Wait + Abort>(rt: &R, alloc: Global) {
+    let domain = new_domain(rt, alloc);
+    let node = new_node(rt, &domain, "one");
+    made_and_opened::<P, R>(rt, alloc, &node);
+    let again = second_creator::<P, R>(rt, alloc, &node).create(rt);
+    let again = again.expect(rt, "a name that nothing keeps");
+    assert_eq!(rt; again.unique_service_id(), 2);
+}
+
+#[test]
+fn no_call_takes_more_than_it_gives(rt: HostRuntime) {
+    made_again::<Shared, HostRuntime>(&rt, rt.alloc());
+    made_again::<Single, HostRuntime>(&rt, rt.alloc());
 }
 
 fn handles_alone_in<P: Policy, R: Abort>(

@@ -1,4 +1,5 @@
 //! By typed calls.
+use super::loans::drop_loan;
 use super::published::publish;
 use super::{creator, new_domain, node_name, note, opener, taken};
 use crate::messaging_pattern::MessagingPattern;
@@ -117,6 +118,14 @@ fn limits_are_told<P, R: Abort>(rt: &R, board: &PortFactory<u64, P>) {
     assert!(rt; pattern.is_same_pattern(&MessagingPattern::Blackboard(config)));
 }
 
+// What is told of a board with a reader, a writer and two nodes, and after the reader's release.
+fn is_counted<P, R: Wait + Abort>(rt: &R, board: &PortFactory<u64, P>, reader: Reader<u64, P>) {
+    assert_eq!(rt; walks(rt, board), (12, 12, 1));
+    assert_eq!(rt; board.dynamic_config(rt), taken(1, 1, 2));
+    reader.release(rt);
+    assert_eq!(rt; board.dynamic_config(rt), taken(0, 1, 2));
+}
+
 fn ports_are_counted<P, R: Wait + Abort>(
     rt: &R,
     made: &PortFactory<u64, P>,
@@ -125,9 +134,7 @@ fn ports_are_counted<P, R: Wait + Abort>(
     let writer = new_writer(rt, made);
     let reader = new_reader(rt, opened);
     assert_eq!(rt; (writer.id().0, reader.id().0), (1, 2));
-    assert_eq!(rt; made.dynamic_config(rt), taken(1, 1, 2));
-    reader.release(rt);
-    assert_eq!(rt; made.dynamic_config(rt), taken(0, 1, 2));
+    is_counted(rt, made, reader);
     writer.release(rt);
 }
 
@@ -135,7 +142,6 @@ fn told<P: Policy, R: Wait + Abort>(rt: &R, alloc: Global) {
     let Boards { made, opened } = make_boards::<P, R>(rt, alloc);
     are_of_one_board(rt, &made, &opened);
     limits_are_told(rt, &opened);
-    assert_eq!(rt; walks(rt, &opened), (12, 12, 1));
     assert_eq!(rt; lent_walks(rt, &opened), (12, 12));
     ports_are_counted(rt, &made, &opened);
     made.release(rt);
@@ -163,6 +169,7 @@ fn refusals<P, R: Wait + Abort>(rt: &R, reader: &Reader<u64, P>, writer: &Writer
 fn places<P, R: Wait + Abort>(
     rt: &R,
     reader: &Reader<u64, P>,
+    writer: &Writer<u64, P>,
     write: &EntryHandleMut<u64, u64, P>,
 ) {
     let number = read_handle(rt, reader);
@@ -170,6 +177,17 @@ fn places<P, R: Wait + Abort>(
     assert_eq!(rt; write.entry_id().as_value(), 0);
     let truth = reader.entry::<bool, R>(rt, &2).expect(rt, "an entry");
     assert_eq!(rt; truth.entry_id().as_value(), 32);
+    let truth = writer.entry::<bool, R>(rt, &2).expect(rt, "a free entry");
+    assert_eq!(rt; truth.entry_id().as_value(), 32);
+}
+
+// The end of a handle that was given up is parked, and comes again. So does that of a loan.
+fn handed_again<P, R: Wait + Abort>(rt: &R, writer: &Writer<u64, P>) {
+    let again = write_handle(rt, writer);
+    assert_eq!(rt; again.generation(), 3, "its end was parked");
+    drop_loan(rt, again);
+    let again = write_handle(rt, writer);
+    assert_eq!(rt; again.generation(), 3, "the loan's end was parked");
 }
 
 fn published<P: Policy, R: Wait + Abort>(rt: &R, alloc: Global) {
@@ -178,12 +196,12 @@ fn published<P: Policy, R: Wait + Abort>(rt: &R, alloc: Global) {
     let reader = new_reader(rt, &opened);
     let write = write_handle(rt, &writer);
     let mut read = read_handle(rt, &reader);
-    places(rt, &reader, &write);
+    places(rt, &reader, &writer, &write);
     let write = publish(rt, alloc, write, &mut read);
     refusals(rt, &reader, &writer);
+    is_counted(rt, &opened, reader);
     write.release(rt);
-    let again = write_handle(rt, &writer);
-    assert_eq!(rt; again.generation(), 3, "its end was parked");
+    handed_again(rt, &writer);
 }
 
 #[test]
