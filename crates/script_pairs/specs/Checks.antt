@@ -1,5 +1,6 @@
 -- What a check of pairs comes to.
 use Rattle.std.specs.Prelude.{◌≡◌, ◌≢◌, ◌⊎◌, ℕ, ◌+◌, ◌≤◌, List, ◌∷◌, ◌++◌, length, IsSomeAnd, Option, Some, None, ⊤, Result, IfOk, IsErr, IsErrOf, MatchResult}
+use Rattle.std.specs.Io.KnownBytes.{IsAtEnd}
 use Rattle.board_model.specs.Lines.{lines_of}
 use Rattle.script_model.specs.declared.line.ScriptLine.{ScriptLine}
 use Rattle.script_model.specs.ScriptAnswers.{ScriptAnswer, script_answer_line}
@@ -64,6 +65,11 @@ GoesOnIn limit (Some bytes) = GoOnAfter limit (lines_of bytes)
 abbrev pub IsVerdict : ℕ → Option (List ℕ) → Verdict → Type 0
 IsVerdict limit bytes (Lawful n) = (n ≤ limit) × AreLawfulIn bytes n
 IsVerdict limit bytes (No n r) = (n ≤ limit) × BreaksIn bytes n r
+
+-- lawful are all the lines that there were: no byte of those that are known is left
+abbrev pub IsReadToEnd : Verdict → Option (List ℕ) → Type 0
+IsReadToEnd (Lawful n) left = IsAtEnd left
+IsReadToEnd (No n r) left = ⊤
 
 -- the result is this verdict, unless the source failed or memory was refused
 abbrev pub Tells : Verdict → Result Verdict CheckError → Type 0

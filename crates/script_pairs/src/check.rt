@@ -1,11 +1,11 @@
 //! Pairs that are judged one after another.
-ghost use Rattle.std.specs.Prelude.{◌≡◌, ◌≢◌, ◌≤◌, ◌-◌, Err, IfNone, IfSome, IsErrOf, IsTrue, OnOk, false, length, take, ℕ};
+ghost use Rattle.std.specs.Prelude.{◌≡◌, ◌≢◌, ◌≤◌, ◌-◌, Err, IfNone, IfOk, IfSome, IsErrOf, IsTrue, OnOk, false, length, take, ℕ};
 ghost use Rattle.board_model.specs.Lines.{Rose};
 ghost use Rattle.script_model.specs.ScriptGrammar.{IsScriptLine};
 ghost use Rattle.script_model.specs.ScriptSession.{Session, start};
 ghost use Rattle.script_model.specs.ScriptTurns.{ScriptState};
 ghost use Rattle.script_loop.specs.Machines.{StandsFor};
-ghost use Rattle.script_pairs.specs.Checks.{Checks, IsBroken, TellsEach};
+ghost use Rattle.script_pairs.specs.Checks.{Checks, IsBroken, IsReadToEnd, TellsEach};
 
 use crate::lines::line_of;
 use crate::pair_lines::{Found, PairLines};
@@ -91,6 +91,9 @@ pub fn check_pairs<T: KnowsAnswers, S: Source>(
 
     // A verdict is true of the source's lines, and comes where it is true.
     ensures checks { Checks limit (S.left source.old) result }
+
+    // Where it is `Lawful` the source was read to its end.
+    ensures end { IfOk result (λ verdict. IsReadToEnd verdict (S.left source.new)) }
 
     // It fails to read only where the source's count of faults rises.
     ensures cause { IsErrOf result CheckError.ReadFault

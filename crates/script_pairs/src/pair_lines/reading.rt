@@ -154,6 +154,7 @@ impl PairLines {
         ensures found { IfOk result (λ found. IsFound found most line.new.items
             (to_come self.old (S.left source.old)) (to_come self.new (S.left source.new))) }
         ensures one_source { OnOk result (has_ended self.new ≡ true → IsAtEnd (S.left source.new)) }
+        ensures at_end { IfOk result (λ found. found ≡ Found.End → IsAtEnd (S.left source.new)) }
         ensures none { OnOk result (has_ended self.new ≡ true → in_hand self.new ≡ []) }
         ensures kind { result ≢ Err CheckError.TooLong }
         ensures cause { IsErrOf result CheckError.ReadFault
@@ -188,6 +189,7 @@ impl PairLines {
         requires one_source { has_ended self.old ≡ true → IsAtEnd (S.left source.old) }
         ensures end { IfOk result (λ end. IsTrue end
             → IsAtEnd (to_come self.old (S.left source.old))) }
+        ensures left { IfOk result (λ end. IsTrue end → IsAtEnd (S.left source.new)) }
         ensures more { IfOk result (λ end. end ≡ false
             → HasMore (to_come self.old (S.left source.old))) }
         ensures kind { IfErr result (λ e. e ≡ CheckError.ReadFault) }
