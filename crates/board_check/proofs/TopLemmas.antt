@@ -1,6 +1,6 @@
 -- Which statuses the answers of a check have, and what they come to.
 use Rattle.std.proofs.Common.{◌≡◌, ℕ, ◌<◌, ◌≤◌, List, [], ◌∷◌, length, map, arith, refl, ap, subst, sym, ◌∙◌, inl, inr, Option, Some, None}
-use Rattle.std.specs.Prelude.{◌≢◌, Result, Ok, Err}
+use Rattle.std.specs.Prelude.{◌≢◌, IfOk, Result, Ok, Err}
 use Rattle.script_rules.specs.declared.rule.Rule.{Rule}
 use Rattle.script_rules.specs.declared.rule.Rule.TheVariants as rule
 use Rattle.script_rules.specs.RuleNames.{rule_name}
@@ -13,7 +13,7 @@ use Rattle.script_pairs.specs.declared.verdict.Verdict.{Verdict}
 use Rattle.script_pairs.specs.declared.verdict.Verdict.TheVariants.{Lawful, No}
 use Rattle.script_pairs.specs.declared.verdict.CheckError.{CheckError}
 use Rattle.script_pairs.specs.declared.verdict.CheckError.TheVariants as error
-use Rattle.script_pairs.specs.Checks.{Checks}
+use Rattle.script_pairs.specs.Checks.{Checks, IsReadToEnd}
 use Rattle.board_check.specs.Top.{AcceptsRuns, IsBrokenIn, IsEnding, IsLawfulIn, IsRunIn, IsUnjudged, error_in, status_told}
 
 -- the name of a rule is short
@@ -43,11 +43,11 @@ unjudged e noted q status sink notes unwritten is note = record {
 
 -- with status 0 the source is lawful
 pub lawful_in : (answer : Result Verdict CheckError) (status : ℕ) (source sink notes : Stream)
-    → Checks 4294967295 source.before answer → IsEnding answer status sink notes → status ≡ 0 → IsLawfulIn source sink
-lawful_in (Ok (Lawful n)) status source sink notes checks (inl w) zero = record { pairs = n; few = checks.verdict.0; lawful = checks.verdict.1; output = w.output }
-lawful_in (Ok (No n r)) status source sink notes checks (inl w) zero = absurd (omega (arith, w.is, zero))
-lawful_in (Ok v) status source sink notes checks (inr c) zero = absurd (omega (arith, c.is, zero))
-lawful_in (Err e) status source sink notes checks h zero = absurd (bad_status (error_in e) 0 (omega arith) (sym h.is ∙ zero))
+    → Checks 4294967295 source.before answer → IfOk answer (λ v. IsReadToEnd v source.after) → IsEnding answer status sink notes → status ≡ 0 → IsLawfulIn source sink
+lawful_in (Ok (Lawful n)) status source sink notes checks end (inl w) zero = record { pairs = n; few = checks.verdict.0; lawful = checks.verdict.1; end = end; output = w.output }
+lawful_in (Ok (No n r)) status source sink notes checks end (inl w) zero = absurd (omega (arith, w.is, zero))
+lawful_in (Ok v) status source sink notes checks end (inr c) zero = absurd (omega (arith, c.is, zero))
+lawful_in (Err e) status source sink notes checks end h zero = absurd (bad_status (error_in e) 0 (omega arith) (sym h.is ∙ zero))
 
 -- with status 1 a pair breaks a rule
 pub broken_in : (answer : Result Verdict CheckError) (status : ℕ) (source sink notes : Stream)

@@ -1,5 +1,6 @@
 -- The program of the checker: its verdicts as text, its statuses and its notes.
-use Rattle.std.specs.Prelude.{◌≡◌, ◌≢◌, ◌⊎◌, ℕ, ◌≤◌, List, [], ◌++◌, length, codes, decimal, take, IsErrOf, IsSomeAnd, Option, Some, None, ⊤, Result, Ok, Err}
+use Rattle.std.specs.Prelude.{◌≡◌, ◌≢◌, ◌⊎◌, ℕ, ◌≤◌, List, [], ◌++◌, length, codes, decimal, take, IfOk, IsErrOf, IsSomeAnd, Option, Some, None, ⊤, Result, Ok, Err}
+use Rattle.std.specs.Io.KnownBytes.{IsAtEnd}
 use Rattle.board_model.specs.Lines.{lines_of}
 use Rattle.script_model.specs.ScriptOutput.{IsOutputOf}
 use Rattle.script_lengths.specs.CheckedRuns.{in_turn}
@@ -13,7 +14,7 @@ use Rattle.script_pairs.specs.declared.verdict.Verdict.{Verdict}
 use Rattle.script_pairs.specs.declared.verdict.Verdict.TheVariants.{Lawful, No}
 use Rattle.script_pairs.specs.declared.verdict.CheckError.{CheckError}
 use Rattle.script_pairs.specs.declared.verdict.CheckError.TheVariants as error
-use Rattle.script_pairs.specs.Checks.{AreLawfulIn, BreaksIn, Checks, Tells}
+use Rattle.script_pairs.specs.Checks.{AreLawfulIn, BreaksIn, Checks, IsReadToEnd, Tells}
 
 -- ---- runs
 
@@ -46,11 +47,12 @@ abbrev pub status_told : Verdict → ℕ
 status_told (Lawful n) = 0
 status_told (No n r) = 1
 
--- the lines of the source are a lawful session, and so it was written
+-- the lines of the source, which was read to its end, are a lawful session, and so it was written
 pub record IsLawfulIn (source sink : Stream) : Type 0 where
   pub pairs : ℕ
   pub few : pairs ≤ 4294967295
   pub lawful : AreLawfulIn source.before pairs
+  pub end : IsAtEnd source.after
   pub output : Gains sink (verdict_text (Lawful pairs))
 
 -- a pair of the source is the first that isn't right, and the rule that it breaks was written
@@ -101,6 +103,7 @@ IsEnding (Err e) status sink notes = IsUnjudged e status sink notes
 pub record IsAnswered (status : ℕ) (source sink notes : Stream) : Type 0 where
   pub answer : Result Verdict CheckError
   pub checks : Checks 4294967295 source.before answer
+  pub end : IfOk answer (λ verdict. IsReadToEnd verdict source.after)
   pub runs : AcceptsRuns source.before answer
   pub ending : IsEnding answer status sink notes
   -- the faults are those of the source and of the sink

@@ -1,7 +1,7 @@
 //! The check of a source.
-ghost use Rattle.std.specs.Prelude.{◌≡◌, ◌≢◌, ◌≤◌, Err, IsErrOf};
+ghost use Rattle.std.specs.Prelude.{◌≡◌, ◌≢◌, ◌≤◌, Err, IfOk, IsErrOf};
 ghost use Rattle.board_model.specs.Lines.{Rose};
-ghost use Rattle.script_pairs.specs.Checks.{Checks};
+ghost use Rattle.script_pairs.specs.Checks.{Checks, IsReadToEnd};
 ghost use Rattle.board_check.specs.Top.{AcceptsRuns};
 
 use script_judge::Judge;
@@ -19,6 +19,9 @@ const MAX_PAIRS: u64 = 4294967295;
 pub fn check<S: Source>(alloc: Global, source: &mut S) -> Result<Verdict, CheckError>
     // A verdict is true of the source's lines, and comes where it is true; but memory may be refused, or the source fail.
     ensures checks { Checks 4294967295 (S.left source.old) result }
+
+    // Where it is `Lawful` the source was read to its end.
+    ensures end { IfOk result (λ verdict. IsReadToEnd verdict (S.left source.new)) }
 
     // The lines and the output of a run, in turn, are told to be lawful.
     ensures runs { AcceptsRuns (S.left source.old) result }

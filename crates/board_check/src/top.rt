@@ -91,7 +91,8 @@ pub fn check_words<S: Source, K: Sink, N: Sink>(
     sink: &mut K,
     notes: &mut N,
 ) -> u8
-    // With status 0 the source's lines are a lawful session, and with status 1 a pair breaks a rule. That was written.
+    // With status 0 the source's lines are a lawful session, read to its end, and with status 1 a pair breaks a rule.
+    // That was written.
     ensures lawful { result ≡ 0 → IsLawfulIn
         (stream_of S.left S.faults source.old source.new)
         (stream_of K.held K.faults sink.old sink.new) }

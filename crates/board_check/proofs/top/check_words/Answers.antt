@@ -7,7 +7,7 @@ use Rattle.board_check.proofs.TopLemmas.{broken_in, error_is_above, error_of, la
 use Rattle.board_check.proofs.top.check_words.Goals as goal
 
 pub returns-in-Ok-clause-lawful : goal.returns-in-Ok-clause-lawful
-returns-in-Ok-clause-lawful g c = λ zero. lawful_in (Ok c.in-Ok.verdict) _ _ _ _ (rw c.in-Ok.is at c.check.ensures.checks) c.tell.ensures.ending zero
+returns-in-Ok-clause-lawful g c = λ zero. lawful_in (Ok c.in-Ok.verdict) _ _ _ _ (rw c.in-Ok.is at c.check.ensures.checks) (rw c.in-Ok.is at c.check.ensures.end) c.tell.ensures.ending zero
 
 pub returns-in-Ok-clause-broken : goal.returns-in-Ok-clause-broken
 returns-in-Ok-clause-broken g c = λ one. broken_in (Ok c.in-Ok.verdict) _ _ _ _ (rw c.in-Ok.is at c.check.ensures.checks) c.tell.ensures.ending one
@@ -16,6 +16,7 @@ pub returns-in-Ok-clause-ran : goal.returns-in-Ok-clause-ran
 returns-in-Ok-clause-ran g c = λ none. record {
   answer = Ok c.in-Ok.verdict;
   checks = rw c.in-Ok.is at c.check.ensures.checks;
+  end = rw c.in-Ok.is at c.check.ensures.end;
   runs = rw c.in-Ok.is at c.check.ensures.runs;
   ending = c.tell.ensures.ending;
   read = rw c.in-Ok.is at c.check.ensures.cause;
@@ -34,7 +35,7 @@ pub returns-in-Ok-clause-usage_only : goal.returns-in-Ok-clause-usage_only
 returns-in-Ok-clause-usage_only g c = λ two. absurd (no_words_status (Ok c.in-Ok.verdict) _ _ _ c.tell.ensures.ending two)
 
 pub returns-in-Err-clause-lawful : goal.returns-in-Err-clause-lawful
-returns-in-Err-clause-lawful g c = λ zero. lawful_in (Err c.in-Err.error) _ _ _ _ (rw c.in-Err.is at c.check.ensures.checks) (unjudged c.in-Err.error _ c.as_of_run.ensures _ _ _ refl c.end_with.ensures.is c.end_with.ensures.noted) zero
+returns-in-Err-clause-lawful g c = λ zero. lawful_in (Err c.in-Err.error) _ _ _ _ (rw c.in-Err.is at c.check.ensures.checks) tt (unjudged c.in-Err.error _ c.as_of_run.ensures _ _ _ refl c.end_with.ensures.is c.end_with.ensures.noted) zero
 
 pub returns-in-Err-clause-broken : goal.returns-in-Err-clause-broken
 returns-in-Err-clause-broken g c = λ one. broken_in (Err c.in-Err.error) _ _ _ _ (rw c.in-Err.is at c.check.ensures.checks) (unjudged c.in-Err.error _ c.as_of_run.ensures _ _ _ refl c.end_with.ensures.is c.end_with.ensures.noted) one
@@ -43,6 +44,7 @@ pub returns-in-Err-clause-ran : goal.returns-in-Err-clause-ran
 returns-in-Err-clause-ran g c = λ none. record {
   answer = Err c.in-Err.error;
   checks = rw c.in-Err.is at c.check.ensures.checks;
+  end = tt;
   runs = rw c.in-Err.is at c.check.ensures.runs;
   ending = unjudged c.in-Err.error _ c.as_of_run.ensures _ _ _ refl c.end_with.ensures.is c.end_with.ensures.noted;
   read = rw c.in-Err.is at c.check.ensures.cause;
