@@ -8,5 +8,6 @@ pub mod NothingLemmas
 pub mod EndLemmas
 pub mod WholeLemmas
 pub mod AccessLemmas
+pub mod IdLemmas
 pub mod WorkedRun
 pub mod ViewLemmas

@@ -1,7 +1,7 @@
 -- Members of a set of ids after a change.
 use Rattle.std.proofs.Common.{◌≡◌, ℕ, Bool, true, false, refl, sym, ◌∙◌, ap, ◌⊎◌, inl, inr, subst}
-use Rattle.std.specs.Prelude.{◌&&◌, ◌||◌, not}
-use Rattle.std.proofs.lemmas.Bool.{false≢true}
+use Rattle.std.specs.Prelude.{◌&&◌, ◌||◌, ◌==◌, not}
+use Rattle.std.proofs.lemmas.Bool.{eq-eqb, eqb-true, false≢true}
 use Rattle.std.specs.Ordering.{nat_cmp, eq_by_cmp}
 use Rattle.std.specs.Cmp.{Equal-is, nat_cmp_total, tied_itself}
 use Rattle.std.specs.FinMap.{nat_cmp-IsAntisymmetric}
@@ -49,6 +49,14 @@ tied q k h = nat_cmp-IsAntisymmetric q k ((Equal-is (nat_cmp q k)).0 h)
 
 tied_self : (k : ℕ) → eq_by_cmp nat_cmp k k ≡ true
 tied_self k = (Equal-is (nat_cmp k k)).1 (tied_itself nat_cmp_total k)
+
+-- keys are tied exactly where they are one
+pub same_id : (k q : ℕ) → eq_by_cmp nat_cmp q k ≡ (k == q)
+same_id k q = at (eq_by_cmp nat_cmp q k) refl
+  where
+    at : (b : Bool) → eq_by_cmp nat_cmp q k ≡ b → b ≡ (k == q)
+    at true h = sym (eq-eqb k q (sym (tied q k h)))
+    at false h = sym (is_false (k == q) (λ e. false≢true (sym h ∙ subst (λ (x : ℕ). eq_by_cmp nat_cmp q x ≡ true) (sym (eqb-true k q e)) (tied_self q))))
 
 pub has_inserted : (s : Ids) (k q : ℕ) → has (set.insert s k) q ≡ true → (q ≡ k) ⊎ (has s q ≡ true)
 has_inserted s k q h =

@@ -9,5 +9,6 @@ pub mod EventSessions
 pub mod LawsOfQuiet
 pub mod LawsOfCalls
 pub mod LawsOfAccesses
+pub mod LawsOfIds
 pub mod LawsOfSessions
 pub mod WorkedRuns

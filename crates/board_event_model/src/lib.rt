@@ -9,6 +9,7 @@ mod access;
 pub mod access_laws;
 mod call;
 pub mod call_laws;
+pub mod id_laws;
 mod kind;
 pub mod quiet_laws;
 pub mod session_laws;

@@ -1,0 +1,12 @@
+//! Laws of the ids of an event, over whole runs. Each function's contract is a theorem over the definitions alone.
+ghost use Rattle.board_event_model.specs.LawsOfIds.{PendingIdsWereSetLast, QueuesKeepOrder};
+
+/// What was popped from a queue, and then what it still holds, is what was pushed: each id once, in the order of the pushes, and none besides.
+pub fn queues_keep_order()
+    ensures { QueuesKeepOrder }
+{}
+
+/// An id of a set is pending exactly where the last set or take of it was a set.
+pub fn pending_ids_were_set_last()
+    ensures { PendingIdsWereSetLast }
+{}
