@@ -1,14 +1,13 @@
 -- What a queue holds and a set has, move by move.
-use Rattle.std.proofs.Common.{◌≡◌, ℕ, ◌/◌, ◌%◌, Bool, true, false, eqb, refl, sym, ◌∙◌, ap, subst, Some, None, Option, List, [], ◌∷◌, ◌++◌, length}
+use Rattle.std.proofs.Common.{◌≡◌, ℕ, ◌/◌, ◌%◌, Bool, true, false, refl, sym, ◌∙◌, ap, subst, Some, None, Option, List, [], ◌∷◌, ◌++◌, length}
 use Rattle.std.specs.Prelude.{◌&&◌, ◌||◌, ◌==◌, not, if◌then◌else◌, IsSomeAnd, drop, nat_lt}
 use Rattle.std.specs.Int.{bit_at}
-use Rattle.std.specs.Ordering.{nat_cmp, eq_by_cmp}
+use Rattle.std.specs.Ordering.{nat_cmp}
 use Rattle.std.specs.Cmp.{nat_cmp_total}
 use Rattle.std.specs.FinMap.{nat_cmp-IsAntisymmetric}
 use Rattle.std.specs.FinSet as set
 use Rattle.std.proofs.lemmas.Bool.{eq-eqb, eqb-true}
 use Rattle.std.proofs.lemmas.List.{append-nil, append_assoc}
-use Rattle.board_event_model.specs.declared.kind.EventKind.{EventKind}
 use Rattle.board_event_model.specs.declared.access.EventAccess.{EventAccess}
 use Rattle.board_event_model.specs.declared.access.EventAccess.TheVariants as access
 use Rattle.board_event_model.specs.declared.access.EventAnswer.{EventAnswer}
@@ -16,7 +15,7 @@ use Rattle.board_event_model.specs.declared.access.EventAnswer.TheVariants as an
 use Rattle.board_event_model.specs.Ids.{Ids, IsWord, has, in_word}
 use Rattle.board_event_model.specs.EventMemory.{Event, IsRight, after, pop_answer}
 use Rattle.board_event_model.specs.EventCalls.{PartyName, RunningCall, call_of, owed}
-use Rattle.board_event_model.specs.EventRuns.{EventMove, IsAllowed, IsRun, Moment, abandon, begin, elsewhere, expire, listened, moved, notifiers, release_listener, run_to, step, stepped}
+use Rattle.board_event_model.specs.EventRuns.{EventMove, IsAllowed, Moment, abandon, begin, elsewhere, expire, listened, moved, notifiers, release_listener, run_to, step, stepped}
 use Rattle.board_event_model.specs.LawsOfIds.{PendingIdsWereSetLast, QueuesKeepOrder, popped_by, popped_in, pushed_by, pushed_in, sets_id, takes_id, was_set_last}
 use Rattle.board_event_model.proofs.SetLemmas.{same_id}
 use Rattle.board_event_model.proofs.QuietLemmas.{bit_one}
