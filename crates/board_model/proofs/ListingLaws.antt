@@ -1,6 +1,6 @@
--- Nodes ascend, ports are counted once, and keys are told in the order of adding.
+-- Nodes ascend, nodes and ports are counted once, and keys are told in the order of adding.
 use Rattle.std.proofs.Common.{◌≡◌, ℕ, ◌+◌, Bool, true, false, List, [], ◌∷◌, length, map, arith, refl, sym, ap, ◌∙◌, Option, Some, None}
-use Rattle.std.specs.Prelude.{◌&&◌, ◌||◌, ◌==◌, not, if◌then◌else◌}
+use Rattle.std.specs.Prelude.{◌&&◌, ◌||◌, ◌==◌, not, nat_eq, if◌then◌else◌, Decides}
 use Rattle.std.specs.List.{AllByRecursion, list_any}
 use Rattle.std.specs.Str.{bytes_eq}
 use Rattle.std.specs.Cmp.Lexicographic.{slice_cmp}
@@ -8,10 +8,12 @@ use Rattle.std.specs.Ordering.{is_eq, is_lt, nat_cmp, ordering_reverse}
 use Rattle.std.specs.declared.cmp.Ordering.{Ordering}
 use Rattle.std.specs.declared.cmp.Ordering.TheVariants.{Less, Equal, Greater}
 use Rattle.std.proofs.lemmas.Bool.{eqb-true, eq-eqb, false≢true}
+use Rattle.std.proofs.lemmas.Bool.Decides.{Decides-eqb}
 use Rattle.std.proofs.lemmas.Cmp.{nat_list_cmp_total}
 use Rattle.std.proofs.lemmas.Map.Text.{is_eq-slice_cmp}
 use Rattle.std.proofs.lemmas.Slice.Eq.{bytes_eq-Decides}
 use Rattle.board_layout.specs.Layout.{cell_bytes, places_from, start_of}
+use Rattle.board_model.specs.declared.tables.Thing.{Thing}
 use Rattle.board_model.specs.declared.value.AddedEntry.{AddedEntry}
 use Rattle.board_model.specs.declared.value.Key.{Key}
 use Rattle.board_model.specs.declared.value.KeyType.{KeyType}
@@ -19,7 +21,7 @@ use Rattle.board_model.specs.TypeTable.{key_bytes, key_of}
 use Rattle.board_model.specs.Tables.{entries_of, holds_at, is_node, is_of_board, is_of_port, nodes_taken, shape_of, shapes_of, writer_port, writer_slots}
 use Rattle.board_model.specs.Things.{Held}
 use Rattle.board_model.specs.Replies.{added_of, is_before, keys_of, nodes_of, placed_once}
-use Rattle.board_model.specs.LawsOfListings.{AllDiffer, Ascend, IsKeyOf, KeysAreToldInOrder, NodesAscend, PortsAreCountedOnce}
+use Rattle.board_model.specs.LawsOfListings.{AllDiffer, AreNodes, AreWriterPorts, Ascend, IsKeyOf, KeysAreToldInOrder, NodesAreCountedOnce, NodesAscend, PortsAreCountedOnce}
 use Rattle.board_model.proofs.FormLemmas.{detail_again}
 use Rattle.board_model.proofs.KeptKeyLemmas.{told_as_added}
 use Rattle.board_model.proofs.ListLemmas.{other_bytes, same_bytes}
@@ -168,6 +170,79 @@ nodes_counted board (t ∷ ts) = at (is_of_board board t) (nodes_counted board t
 pub nodes_ascend : NodesAscend
 nodes_ascend = record { ascend = nodes_ascend_of; are = nodes_are; counted = nodes_counted }
 
+-- ---- nodes, once each
+
+abbrev is_one_of : {H : Type 0} → (H → H → Bool) → H → List H → Bool
+is_one_of same h nodes = list_any (λ n. same n h) nodes
+
+none_is : {H : Type 0} (same : H → H → Bool) → ((x y : H) → Decides (same x y) (x ≡ y)) → (h : H) (ns : List H) → is_one_of same h ns ≡ false → AllByRecursion (λ n. h ≡ n → ⊥) ns
+none_is same exact h [] e = tt
+none_is same exact h (n ∷ ns) e = at (same n h) (λ k. (exact n h).1 k) e (none_is same exact h ns)
+  where
+    at : (b : Bool) → (n ≡ h → b ≡ true) → (b || is_one_of same h ns) ≡ false → (is_one_of same h ns ≡ false → AllByRecursion (λ m. h ≡ m → ⊥) ns) → (h ≡ n → ⊥) × AllByRecursion (λ m. h ≡ m → ⊥) ns
+    at true f k ih = absurd (false≢true (sym k))
+    at false f k ih = ((λ s. false≢true (f (sym s))), ih k)
+
+module _ {H N : Type 0} (same : H → H → Bool) (exact : (x y : H) → Decides (same x y) (x ≡ y)) (board : ℕ) where
+  -- the nodes of a thing, of this board or not, and of those behind it
+  record NodesWith (ts : List (Thing H N)) (b : Bool) (holder : H) : Type 0 where
+    nodes : List H
+    differ : AllDiffer nodes
+    are : (h : H) → is_one_of same h nodes ≡ ((b && same holder h) || is_node same board h ts)
+    count : length nodes ≡ (if b && not (is_node same board holder ts) then nodes_taken same board ts + 1 else nodes_taken same board ts)
+
+  record Nodes (ts : List (Thing H N)) : Type 0 where
+    nodes : List H
+    differ : AllDiffer nodes
+    are : (h : H) → is_one_of same h nodes ≡ is_node same board h ts
+    count : length nodes ≡ nodes_taken same board ts
+
+  -- a holder of a later thing as well
+  held_later : (ts : List (Thing H N)) (holder : H) → Nodes ts → is_node same board holder ts ≡ true → NodesWith ts true holder
+  held_later ts holder ih later = record {
+    nodes = ih.nodes;
+    differ = ih.differ;
+    are = λ h. ih.are h ∙ at h (same holder h) ((exact holder h).0);
+    count = rw later ih.count;
+  }
+    where
+      at : (h : H) (b : Bool) → (b ≡ true → holder ≡ h) → is_node same board h ts ≡ (b || is_node same board h ts)
+      at h true e = ap (λ (z : H). is_node same board z ts) (sym (e refl)) ∙ later
+      at h false e = refl
+
+  -- and one of none
+  held_last : (ts : List (Thing H N)) (holder : H) → Nodes ts → is_node same board holder ts ≡ false → NodesWith ts true holder
+  held_last ts holder ih last = record {
+    nodes = holder ∷ ih.nodes;
+    differ = (none_is same exact holder ih.nodes (ih.are holder ∙ last), ih.differ);
+    are = λ h. ap (λ (z : Bool). same holder h || z) (ih.are h);
+    count = rw last (let e : length (holder ∷ ih.nodes) ≡ length ih.nodes + 1 = omega arith in e ∙ ap (λ (n : ℕ). n + 1) ih.count);
+  }
+
+  nodes_with : (ts : List (Thing H N)) → Nodes ts → (b : Bool) (holder : H) → NodesWith ts b holder
+  nodes_with ts ih false holder = record { nodes = ih.nodes; differ = ih.differ; are = ih.are; count = ih.count }
+  nodes_with ts ih true holder = at (is_node same board holder ts) refl
+    where
+      at : (z : Bool) → is_node same board holder ts ≡ z → NodesWith ts true holder
+      at true e = held_later ts holder ih e
+      at false e = held_last ts holder ih e
+
+  all_nodes : (ts : List (Thing H N)) → Nodes ts
+  all_nodes [] = record { nodes = []; differ = tt; are = λ h. refl; count = refl }
+  all_nodes (t ∷ ts) =
+      let k = nodes_with ts (all_nodes ts) (is_of_board board t) t.holder in
+      record { nodes = k.nodes; differ = k.differ; are = k.are; count = k.count }
+
+nodes_counted_once : {H N : Type 0} (same : H → H → Bool) → ((x y : H) → Decides (same x y) (x ≡ y)) → (board : ℕ) (things : List (Thing H N))
+    → (nodes : List H) × AreNodes same board things nodes × (length nodes ≡ nodes_taken same board things)
+nodes_counted_once same exact board things = let k = all_nodes same exact board things in (k.nodes, record { differ = k.differ; are = k.are }, k.count)
+
+pub nodes_once : NodesAreCountedOnce
+nodes_once = record {
+  in_scripts = λ board things. nodes_counted_once bytes_eq bytes_eq-Decides board things;
+  in_domains = λ board things. nodes_counted_once nat_eq Decides-eqb board things;
+}
+
 -- ---- ports
 
 abbrev is_port_among : ℕ → List ℕ → Bool
@@ -182,20 +257,20 @@ none_equal p (q ∷ qs) h = at (q == p) (λ e. eq-eqb q p e) h (none_equal p qs)
     at false e k ih = ((λ s. false≢true (e (sym s))), ih k)
 
 -- the ports of a thing and of those behind it
-record ArePorts (board : ℕ) (ts : List Held) (b : Bool) (o : Option ℕ) : Type 0 where
+record ArePorts {H N : Type 0} (board : ℕ) (ts : List (Thing H N)) (b : Bool) (o : Option ℕ) : Type 0 where
   ports : List ℕ
   differ : AllDiffer ports
   are : (q : ℕ) → is_port_among q ports ≡ ((b && holds_at o (λ p. p == q)) || list_any (is_of_port board q) ts)
   count : length ports ≡ (if b && holds_at o (λ p. not (list_any (is_of_port board p) ts)) then writer_slots board ts + 1 else writer_slots board ts)
 
-record Ports (board : ℕ) (ts : List Held) : Type 0 where
+record Ports {H N : Type 0} (board : ℕ) (ts : List (Thing H N)) : Type 0 where
   ports : List ℕ
   differ : AllDiffer ports
   are : (q : ℕ) → is_port_among q ports ≡ list_any (is_of_port board q) ts
   count : length ports ≡ writer_slots board ts
 
 -- a port that a later thing keeps as well
-kept_later : (board : ℕ) (ts : List Held) (p : ℕ) → Ports board ts → list_any (is_of_port board p) ts ≡ true → ArePorts board ts true (Some p)
+kept_later : {H N : Type 0} (board : ℕ) (ts : List (Thing H N)) (p : ℕ) → Ports board ts → list_any (is_of_port board p) ts ≡ true → ArePorts board ts true (Some p)
 kept_later board ts p ih later = record {
   ports = ih.ports;
   differ = ih.differ;
@@ -208,7 +283,7 @@ kept_later board ts p ih later = record {
     at q false e = refl
 
 -- one that none keeps
-kept_last : (board : ℕ) (ts : List Held) (p : ℕ) → Ports board ts → list_any (is_of_port board p) ts ≡ false → ArePorts board ts true (Some p)
+kept_last : {H N : Type 0} (board : ℕ) (ts : List (Thing H N)) (p : ℕ) → Ports board ts → list_any (is_of_port board p) ts ≡ false → ArePorts board ts true (Some p)
 kept_last board ts p ih last = record {
   ports = p ∷ ih.ports;
   differ = (none_equal p ih.ports (ih.are p ∙ last), ih.differ);
@@ -216,7 +291,7 @@ kept_last board ts p ih last = record {
   count = rw last (let e : length (p ∷ ih.ports) ≡ length ih.ports + 1 = omega arith in e ∙ ap (λ (n : ℕ). n + 1) ih.count);
 }
 
-ports_with : (board : ℕ) (ts : List Held) → Ports board ts → (b : Bool) (o : Option ℕ) → ArePorts board ts b o
+ports_with : {H N : Type 0} (board : ℕ) (ts : List (Thing H N)) → Ports board ts → (b : Bool) (o : Option ℕ) → ArePorts board ts b o
 ports_with board ts ih false o = record { ports = ih.ports; differ = ih.differ; are = ih.are; count = ih.count }
 ports_with board ts ih true None = record { ports = ih.ports; differ = ih.differ; are = ih.are; count = ih.count }
 ports_with board ts ih true (Some p) = at (list_any (is_of_port board p) ts) refl
@@ -225,14 +300,17 @@ ports_with board ts ih true (Some p) = at (list_any (is_of_port board p) ts) ref
     at true e = kept_later board ts p ih e
     at false e = kept_last board ts p ih e
 
-ports_of : (board : ℕ) (ts : List Held) → Ports board ts
+ports_of : {H N : Type 0} (board : ℕ) (ts : List (Thing H N)) → Ports board ts
 ports_of board [] = record { ports = []; differ = tt; are = λ q. refl; count = refl }
 ports_of board (t ∷ ts) =
     let k = ports_with board ts (ports_of board ts) (is_of_board board t) (writer_port t.kind) in
     record { ports = k.ports; differ = k.differ; are = k.are; count = k.count }
 
-pub ports_once : PortsAreCountedOnce
+pub ports_once : {H N : Type 0} (board : ℕ) (things : List (Thing H N)) → (ports : List ℕ) × AreWriterPorts board things ports × (length ports ≡ writer_slots board things)
 ports_once board things = let k = ports_of board things in (k.ports, record { differ = k.differ; are = k.are }, k.count)
+
+pub ports_counted : PortsAreCountedOnce
+ports_counted = record { in_scripts = λ board things. ports_once board things; in_domains = λ board things. ports_once board things }
 
 -- ---- keys
 

@@ -1,9 +1,10 @@
--- Laws of what is told of a board: its nodes ascend and differ, ports are counted once, and its keys are told in the order of adding.
-use Rattle.std.specs.Prelude.{◌≡◌, ℕ, true, ◌==◌, List, [], ◌∷◌, length, map, Some}
+-- Laws of what is told of a board: its nodes ascend and differ, nodes and ports are counted once, and its keys are told in the order of adding.
+use Rattle.std.specs.Prelude.{◌≡◌, ℕ, Bool, true, ◌==◌, List, [], ◌∷◌, length, map, nat_eq, Some}
 use Rattle.std.specs.List.{AllByRecursion, list_any}
 use Rattle.std.specs.Str.{bytes_eq}
 use Rattle.board_model.specs.declared.attributes.Attribute.{Attribute}
 use Rattle.board_model.specs.declared.tables.NewLimits.{NewLimits}
+use Rattle.board_model.specs.declared.tables.Thing.{Thing}
 use Rattle.board_model.specs.declared.value.AddedEntry.{AddedEntry}
 use Rattle.board_model.specs.declared.value.Key.{Key}
 use Rattle.board_model.specs.declared.value.KeyType.{KeyType}
@@ -24,19 +25,38 @@ pub record NodesAscend : Type 0 where
   pub are : (board : ℕ) (things : List Held) (party : List ℕ) → list_any (λ x. bytes_eq x party) (nodes_of board things) ≡ is_node bytes_eq board party things
   pub counted : (board : ℕ) (things : List Held) → length (nodes_of board things) ≡ nodes_taken bytes_eq board things
 
--- each number once
-abbrev pub AllDiffer : List ℕ → Type 0
+-- each once
+abbrev pub AllDiffer : {A : Type 0} → List A → Type 0
 AllDiffer [] = Unit {0}
-AllDiffer (p ∷ ps) = AllByRecursion (λ q. p ≡ q → ⊥) ps × AllDiffer ps
+AllDiffer (x ∷ xs) = AllByRecursion (λ y. x ≡ y → ⊥) xs × AllDiffer xs
+
+-- the different holders of things of the board
+pub record AreNodes {H N : Type 0} (same : H → H → Bool) (board : ℕ) (things : List (Thing H N)) (nodes : List H) : Type 0 where
+  pub differ : AllDiffer nodes
+  pub are : (h : H) → list_any (λ n. same n h) nodes ≡ is_node same board h things
+
+-- the nodes that are counted are as many as these
+abbrev pub NodesAreCounted : (H N : Type 0) → (H → H → Bool) → Type 0
+NodesAreCounted H N same = (board : ℕ) (things : List (Thing H N)) → (nodes : List H) × AreNodes same board things nodes × (length nodes ≡ nodes_taken same board things)
+
+-- of the things of scripts, whose holders are names, and of those of a domain, whose holders are numbers
+pub record NodesAreCountedOnce : Type 0 where
+  pub in_scripts : NodesAreCounted (List ℕ) (List ℕ) bytes_eq
+  pub in_domains : NodesAreCounted ℕ ℕ nat_eq
 
 -- the different ports of the board's writers, and of the handles made from them
-pub record AreWriterPorts (board : ℕ) (things : List Held) (ports : List ℕ) : Type 0 where
+pub record AreWriterPorts {H N : Type 0} (board : ℕ) (things : List (Thing H N)) (ports : List ℕ) : Type 0 where
   pub differ : AllDiffer ports
   pub are : (p : ℕ) → list_any (λ q. q == p) ports ≡ list_any (is_of_port board p) things
 
 -- the writer slots that are taken are as many as these
-abbrev pub PortsAreCountedOnce : Type 0
-PortsAreCountedOnce = (board : ℕ) (things : List Held) → (ports : List ℕ) × AreWriterPorts board things ports × (length ports ≡ writer_slots board things)
+abbrev pub PortsAreCounted : (H N : Type 0) → Type 0
+PortsAreCounted H N = (board : ℕ) (things : List (Thing H N)) → (ports : List ℕ) × AreWriterPorts board things ports × (length ports ≡ writer_slots board things)
+
+-- of the things of scripts, and of those of a domain
+pub record PortsAreCountedOnce : Type 0 where
+  pub in_scripts : PortsAreCounted (List ℕ) (List ℕ)
+  pub in_domains : PortsAreCounted ℕ ℕ
 
 -- a key of the grammar, of this type
 pub record IsKeyOf (k : KeyType) (key : Key) : Type 0 where

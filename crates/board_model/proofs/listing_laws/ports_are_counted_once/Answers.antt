@@ -1,5 +1,5 @@
-use Rattle.board_model.proofs.ListingLaws.{ports_once}
+use Rattle.board_model.proofs.ListingLaws.{ports_counted}
 use Rattle.board_model.proofs.listing_laws.ports_are_counted_once.Goals as goal
 
 pub returns : goal.returns
-returns c = ports_once
+returns c = ports_counted
