@@ -85,7 +85,7 @@ RepliesAreTrue = (l : Last) (party : List ℕ) (a : EventAccess) (answer : Event
 
 -- ---- expiries
 
--- the party's timed wait, which has taken nothing, and missed nothing
+-- the party's timed wait, which has taken nothing: one for all on bits met no pending id at its first step, and one on a queue saw it empty at its last
 pub record IsExpiredWait (s : ScriptState) (party : List ℕ) : Type 0 where
   pub of : RunsOnEvent s party
   pub wait : Wait

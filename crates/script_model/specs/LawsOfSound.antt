@@ -24,7 +24,8 @@ pub record IsNotified (x : ScriptEvents) (n : ℕ) (e : Event) : Type 0 where
   pub counts : 0 < e.notifiers
   pub named : is_bits e.kind ≡ true → x.names e.kind e.name ≡ Some n
 
--- who holds a name and the names agree both ways: a name is that of an event which has it and a holder, and such an event is the one of its name;
+-- who holds a name and the names agree both ways: a name is that of an event which has it and which somebody holds by it (of a queue its listener, of bits
+-- also a notifier), and such an event is the one of its name;
 -- its listener is held exactly while the listener's party has it under a name; and it counts exactly the notifiers that parties have under names
 pub record NamesAgree : Type 0 where
   pub by_name : (s : ScriptState) (count : ℕ) → IsSoundScript s count

@@ -27,7 +27,8 @@ pub fn replies_are_true()
     ensures { RepliesAreTrue }
 {}
 
-/// A wait that expires is a timed one that has taken nothing, and missed nothing.
+/// A wait that expires is a timed one that has taken nothing. One for all on bits met no pending id at its first step, and
+/// one on a queue saw it empty at its last.
 pub fn expiries_are_true()
     ensures { ExpiriesAreTrue }
 {}
