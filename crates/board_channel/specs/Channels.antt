@@ -1,5 +1,5 @@
 -- Channels by full names, what clauses see of their ends, and what their calls answer.
-use Rattle.std.specs.Prelude.{ℕ, ◌∷◌, List, Bool, true, false, Option, Some, None, Result, Ok, Err, max, codes}
+use Rattle.std.specs.Prelude.{ℕ, List, Bool, true, false, Option, Some, None, Result, Ok, Err, max, codes}
 use Rattle.board_names.specs.Concept.{Named, Placed, path_of, placed, starting}
 use Rattle.board_names.specs.Table.{at, taking}
 use Rattle.board_layout.specs.Answer.{with_value}
@@ -7,6 +7,7 @@ use Rattle.board_names.specs.declared.errors.communication_channel.Communication
 use Rattle.board_names.specs.declared.errors.communication_channel.CommunicationChannelCreateError.TheVariants.{AlreadyExists}
 use Rattle.board_names.specs.declared.errors.communication_channel.CommunicationChannelOpenError.{CommunicationChannelOpenError}
 use Rattle.board_names.specs.declared.errors.communication_channel.CommunicationChannelOpenError.TheVariants.{DoesNotExist}
+use Rattle.board_channel.specs.Queue.{QueueView}
 
 -- how many numbers a channel holds, and whether it gives its oldest back in place of a refusal
 pub record Size : Type 0 where
@@ -16,6 +17,10 @@ pub record Size : Type 0 where
 -- the size of a channel that was asked for
 abbrev pub size_of : ℕ → Bool → Size
 size_of capacity overflow = record { capacity = max 1 capacity; overflow = overflow }
+
+-- the size of a queue
+abbrev pub size_in : QueueView → Size
+size_in q = record { capacity = q.capacity; overflow = q.overflow }
 
 -- what `create` answers, by what stands under the name
 abbrev pub create_answer : Size → Option Size → Result Size CommunicationChannelCreateError

@@ -1,8 +1,8 @@
 //! Channels by full names.
-ghost use Rattle.std.specs.Prelude.{◌≡◌, ℕ, ◌≤◌, List, [], ◌∷◌, Some, None, Ok, Err, OnOk, OnErr, is_some, IfOk, IsOkUnless, max, Bool};
+ghost use Rattle.std.specs.Prelude.{◌≡◌, ℕ, ◌<◌, ◌≤◌, List, [], ◌∷◌, Some, None, Ok, Err, OnOk, OnErr, is_some, IfOk, IsOkUnless, max, Bool};
 ghost use Rattle.board_layout.specs.Answer.{Answers, Refuses};
 ghost use Rattle.board_names.specs.Table.{at, putting};
-ghost use Rattle.board_channel.specs.Channels.{size_of, create_answer, open_answer};
+ghost use Rattle.board_channel.specs.Channels.{size_in, size_of, create_answer, open_answer};
 
 use crate::queue::Queue;
 use board_names::{
@@ -14,8 +14,8 @@ use std::collections::BTreeMap;
 use std::marker::Model;
 use std::sync::{Arc, Mutex};
 
-/// A queue that many values share. Clauses see how many numbers it holds and whether it overflows; its numbers stand
-/// behind its own lock.
+/// A queue that many values share. Clauses see how many numbers it holds, at least one, and whether it overflows; its numbers
+/// stand behind its own lock.
 #[derive(Drop)]
 pub struct SharedQueue {
     pub(crate) queue: Arc<Mutex<Queue>, Global>,
@@ -24,11 +24,14 @@ pub struct SharedQueue {
 }
 
 impl Model for SharedQueue {
+    ghost use Rattle.std.specs.Prelude.{◌<◌};
     ghost use Rattle.board_channel.specs.Channels.{Size};
 
     ghost Value = { Size };
 
     ghost view = { λ q. record { capacity = q.capacity; overflow = q.overflow } };
+
+    ghost invariant = { λ q. 0 < q.capacity };
 }
 
 impl SharedQueue {
@@ -44,8 +47,16 @@ impl SharedQueue {
         ensures value { IfOk result (λ shared. shared ≡ size_of capacity overflow) }
         ensures memory { IsOkUnless result CommunicationChannelCreateError.OutOfMemory }
     {
-        let queue = Queue::new(alloc, capacity, overflow)?;
+        SharedQueue::of(alloc, Queue::new(alloc, capacity, overflow)?)
+    }
+
+    /// The queue behind a lock of its own. What it tells is what this queue is.
+    fn of(alloc: Global, queue: Queue) -> Result<SharedQueue, CommunicationChannelCreateError>
+        ensures value { IfOk result (λ shared. shared ≡ size_in queue) }
+        ensures memory { IsOkUnless result CommunicationChannelCreateError.OutOfMemory }
+    {
         let capacity = queue.capacity();
+        let overflow = queue.overflows();
         match Arc::new(alloc, Mutex::new(queue)) {
             Ok(queue) => Ok(SharedQueue {
                 queue,
@@ -73,7 +84,8 @@ impl SharedQueue {
 
     /// How many numbers it holds.
     pub fn capacity(&self) -> usize
-        ensures { result ≡ self.now.capacity }
+        ensures value { result ≡ self.now.capacity }
+        ensures some { 0 < self.now.capacity }
     {
         self.capacity
     }

@@ -1,5 +1,5 @@
 //! What a channel does: senders add numbers to a queue under a name, and a receiver takes them in their order.
-ghost use Rattle.std.specs.Prelude.{◌≡◌, ℕ, List, Bool, true, false, codes, max, IfOk, IsOk, IsOkUnless};
+ghost use Rattle.std.specs.Prelude.{◌≡◌, ℕ, ◌<◌, List, Bool, true, false, codes, max, IfOk, IsOk, IsOkUnless};
 ghost use Rattle.board_names.specs.declared.errors.communication_channel.CommunicationChannelSendError.TheVariants.{ReceiverCacheIsFull};
 
 use board_names::{
@@ -92,9 +92,10 @@ pub trait CommunicationChannelSender: CommunicationChannelParticipant + NamedCon
 pub trait CommunicationChannelReceiver: CommunicationChannelParticipant + NamedConcept {
     ghost holds: { Self → ℕ };
 
-    /// How many numbers the channel holds.
+    /// How many numbers the channel holds, at least one.
     fn buffer_size(&self) -> usize
-        ensures { result ≡ holds self.now };
+        ensures value { result ≡ holds self.now }
+        ensures some { 0 < holds self.now };
 
     /// Takes the oldest number.
     ///

@@ -95,4 +95,11 @@ impl Queue {
     {
         self.capacity
     }
+
+    /// Whether it gives its oldest number back in place of a refusal.
+    pub fn overflows(&self) -> bool
+        ensures { result ≡ self.now.overflow }
+    {
+        self.overflow
+    }
 }

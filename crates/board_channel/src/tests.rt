@@ -125,6 +125,7 @@ fn a_lent_queue_overflows(rt: HostRuntime) -> Result<(), Fail> {
     let listed = Channel::list_cfg_in(&mut state, rt.alloc(), &channels())?;
     assert_eq!(rt; listed.as_slice(), [FileName::new(b"c")?].as_slice());
     let mut queue = Queue::new(rt.alloc(), 1, true)?;
+    assert!(rt; queue.overflows());
     assert_eq!(rt; end.send_in(&mut queue, &1), Ok(None));
     assert_eq!(rt; end.try_send_in(&mut queue, &2), Ok(Some(1)));
     assert_eq!(rt; end.receive_in(&mut queue), Ok(Some(2)));
