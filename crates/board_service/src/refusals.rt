@@ -64,7 +64,7 @@ pub(crate) fn create_refusal<K: BoardKey, C>(
     ensures small { IfNone result (payload_of entries.now < 2 ^ 32) }
     ensures key { IfNone result (K.SIZE ≤ 64) }
     ensures below { IfNone result ((boards.now.last < 2 ^ 64 - 2) × (last_thing < 2 ^ 64 - 2)) }
-    ensures free { IfNone result 
+    ensures free { IfNone result
         (list_any (tables.has_name name.now) boards.now.boards ≡ false) }
 {
     if boards.has_name(name) {

@@ -93,8 +93,7 @@ impl<C: Cells> DomainCore<C> {
         ensures kept { KeepsHeld self.old self.new }
     {
         let wanted = entries.as_slice();
-        let refusal =
-            create_refusal::<K, C>(name, wanted, &self.boards, self.things.last());
+        let refusal = create_refusal::<K, C>(name, wanted, &self.boards, self.things.last());
         if let Some(why) = refusal {
             return Err(why);
         }

@@ -9,8 +9,8 @@ use Rattle.board_service.specs.Suiting.{suits_board}
 use Rattle.board_service.proofs.BesideLemmas.{beside_put, put_count}
 use Rattle.board_service.proofs.domain_core.DomainCore.change_cells.Goals as goal
 
-pub invariant_of-self : goal.invariant_of-self
-invariant_of-self g c =
+pub invariant_of-self-2 : goal.invariant_of-self-2
+invariant_of-self-2 g c =
     let s = c.self.inside.boards in
     let place = position_from (is_numbered c.args.board) 0 s.boards in
     let old = c.in-Some.cells.now in

@@ -55,7 +55,7 @@ invariant_of-self-2 g c =
     let n = (thing_numbered c.args.thing s.things.things).board in
     let less = core_less c.args.thing c.self.invariant.core last_one (subst (λ (m : ℕ). m < 2 ^ 64) board c.let_go.ensures.range) (but_count (is_numbered n) s.boards.boards s.boards.cells c.self.invariant.core.cells) in
     let Core : List Board → List (Thing ℕ ℕ) → ℕ → ℕ → List g.row.C.Denot → Storages → Type 0 = λ bs ts lb lt cs ds.
-        IsCore (record { boards = bs; things = ts; last_board = lb; last_port = s.last_port }) lt cs ds in
+    IsCore (record { boards = bs; things = ts; last_board = lb; last_port = s.last_port }) lt cs ds in
     let there = subst (λ (m : ℕ). Core (without_first (is_numbered m) s.boards.boards) (without_first (is_thing c.args.thing) s.things.things) s.boards.last s.things.last (left m) (without s.descriptions (storage_name m))) (sym board) less in
     let boards = subst (λ (bs : List Board). Core bs (without_first (is_thing c.args.thing) s.things.things) s.boards.last s.things.last (left gone.result.board) (without s.descriptions (storage_name gone.result.board))) (sym took.ensures.boards) there in
     let things = subst (λ (ts : List (Thing ℕ ℕ)). Core took.new.self.boards ts s.boards.last s.things.last (left gone.result.board) (without s.descriptions (storage_name gone.result.board))) (sym gone.ensures.rest) boards in
