@@ -1,6 +1,7 @@
 //! What a channel does: senders add numbers to a queue under a name, and a receiver takes them in their order.
 ghost use Rattle.std.specs.Prelude.{◌≡◌, ℕ, ◌<◌, List, Bool, true, false, codes, max, IfOk, IsOk, IsOkUnless};
 ghost use Rattle.board_names.specs.declared.errors.communication_channel.CommunicationChannelSendError.TheVariants.{ReceiverCacheIsFull};
+ghost use Rattle.board_channel.specs.TypedCalls.{MayCreate, MayOpen};
 
 use board_names::{
     CommunicationChannelCreateError, CommunicationChannelOpenError,
@@ -137,7 +138,8 @@ pub trait CommunicationChannelCreator: NamedConceptBuilder {
     ) -> Result<Self::Receiver, CommunicationChannelCreateError>
         ensures name { IfOk result (λ r. Self.Receiver.name_of r ≡ (Self.named self).name) }
         ensures capacity { IfOk result (λ r. Self.Receiver.holds r ≡ max 1 (asked_capacity self)) }
-        ensures overflow { IfOk result (λ r. Self.Receiver.overflows r ≡ asked_overflow self) };
+        ensures overflow { IfOk result (λ r. Self.Receiver.overflows r ≡ asked_overflow self) }
+        ensures refused { MayCreate result };
 
     /// The size is part of what a creator was told.
     ghost capacity_as_told: { (x y : Self) → Self.told x ≡ Self.told y → asked_capacity x ≡ asked_capacity y };
@@ -160,12 +162,14 @@ pub trait CommunicationChannelConnector: NamedConceptBuilder {
     /// # Errors
     /// `DoesNotExist` where the name isn't held; `OutOfMemory`.
     fn open_sender<R: Wait>(self, rt: &R) -> Result<Self::Sender, CommunicationChannelOpenError>
-        ensures { IfOk result (λ s. Self.Sender.name_of s ≡ (Self.named self).name) };
+        ensures name { IfOk result (λ s. Self.Sender.name_of s ≡ (Self.named self).name) }
+        ensures refused { MayOpen result };
 
     /// The same as `open_sender`.
     ///
     /// # Errors
     /// `DoesNotExist` where the name isn't held; `OutOfMemory`.
     fn try_open_sender<R: Wait>(self, rt: &R) -> Result<Self::Sender, CommunicationChannelOpenError>
-        ensures { IfOk result (λ s. Self.Sender.name_of s ≡ (Self.named self).name) };
+        ensures name { IfOk result (λ s. Self.Sender.name_of s ≡ (Self.named self).name) }
+        ensures refused { MayOpen result };
 }

@@ -4,6 +4,7 @@ ghost use Rattle.board_layout.specs.Answer.{Answers, Refuses};
 ghost use Rattle.board_names.specs.Concept.{path_of, starting};
 ghost use Rattle.board_names.specs.declared.errors.communication_channel.CommunicationChannelOpenError.TheVariants.{OutOfMemory};
 ghost use Rattle.board_channel.specs.Channels.{sender_of, open_sender_answer};
+ghost use Rattle.board_channel.specs.TypedCalls.{MayOpen};
 
 use crate::channel::Channel;
 use crate::channels::{ChannelRegistry, Channels, SharedQueue};
@@ -67,7 +68,9 @@ impl Connector {
 fn join<R: Wait>(
     rt: &R,
     place: &NamePlace<Channels>,
-) -> Result<SharedQueue, CommunicationChannelOpenError> {
+) -> Result<SharedQueue, CommunicationChannelOpenError>
+    ensures { MayOpen result }
+{
     let state = place.lock(rt);
     state.open(place.path())
 }
@@ -99,7 +102,8 @@ impl CommunicationChannelConnector for Connector {
     type Sender = Duplex;
 
     fn open_sender<R: Wait>(self, rt: &R) -> Result<Duplex, CommunicationChannelOpenError>
-        ensures { IfOk result (λ end. end ≡ sender_of self end.size) }
+        ensures end { IfOk result (λ end. end ≡ sender_of self end.size) }
+        ensures refused { MayOpen result }
     {
         let place = self.request.place();
         let shared = join(rt, &place)?;
@@ -107,7 +111,8 @@ impl CommunicationChannelConnector for Connector {
     }
 
     fn try_open_sender<R: Wait>(self, rt: &R) -> Result<Duplex, CommunicationChannelOpenError>
-        ensures { IfOk result (λ end. end ≡ sender_of self end.size) }
+        ensures end { IfOk result (λ end. end ≡ sender_of self end.size) }
+        ensures refused { MayOpen result }
     {
         self.open_sender(rt)
     }

@@ -6,6 +6,7 @@ ghost use Rattle.board_names.specs.Concept.{path_of};
 ghost use Rattle.board_names.specs.Table.{putting};
 ghost use Rattle.board_names.specs.declared.errors.communication_channel.CommunicationChannelCreateError.TheVariants.{OutOfMemory};
 ghost use Rattle.board_channel.specs.Channels.{Size, asked_size, asked_receiver, started_creator, create_receiver_answer};
+ghost use Rattle.board_channel.specs.TypedCalls.{MayCreate};
 
 use crate::channel::Channel;
 use crate::channels::{ChannelRegistry, Channels, SharedQueue};
@@ -59,7 +60,8 @@ impl Creator {
     }
 
     fn make<R: Wait>(&self, rt: &R) -> Result<SharedQueue, CommunicationChannelCreateError>
-        ensures { IfOk result (λ shared. shared ≡ asked_size self.now) }
+        ensures size { IfOk result (λ shared. shared ≡ asked_size self.now) }
+        ensures refused { MayCreate result }
     {
         let mut state = self.request.lock(rt);
         state.create(&self.request.path(), self.capacity, self.overflow)
@@ -129,7 +131,8 @@ impl CommunicationChannelCreator for Creator {
         rt: &R,
         alloc: Global,
     ) -> Result<Duplex, CommunicationChannelCreateError>
-        ensures { IfOk result (λ end. end ≡ asked_receiver self) }
+        ensures end { IfOk result (λ end. end ≡ asked_receiver self) }
+        ensures refused { MayCreate result }
     {
         let shared = self.make(rt)?;
         Ok(Duplex::at(self.request.place(), true, shared))

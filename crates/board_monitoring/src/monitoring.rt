@@ -1,5 +1,6 @@
 //! What monitoring does: who takes a name holds its token, others see whether the token lives, and one of them may clean up.
 ghost use Rattle.std.specs.Prelude.{◌≡◌, ℕ, List, codes, IfOk, IsOk};
+ghost use Rattle.board_monitoring.specs.TypedCalls.{MayClaim, MayTake};
 
 use board_names::{
     FileName, MonitoringCreateCleanerError, MonitoringCreateMonitorError,
@@ -67,7 +68,8 @@ pub trait MonitoringBuilder: NamedConceptBuilder {
         rt: &R,
         alloc: Global,
     ) -> Result<Self::Token, MonitoringCreateTokenError>
-        ensures { IfOk result (λ t. Self.Token.name_of t ≡ (Self.named self).name) };
+        ensures name { IfOk result (λ t. Self.Token.name_of t ≡ (Self.named self).name) }
+        ensures refused { MayTake result };
 
     /// Watches the name, whether or not it is held.
     ///
@@ -83,7 +85,8 @@ pub trait MonitoringBuilder: NamedConceptBuilder {
     /// `InstanceStillAlive` where its token is held; `AlreadyOwnedByAnotherInstance` where it has a cleaner;
     /// `DoesNotExist` where it isn't held.
     fn cleaner<R: Wait>(self, rt: &R) -> Result<Self::Cleaner, MonitoringCreateCleanerError>
-        ensures { IfOk result (λ c. Self.Cleaner.name_of c ≡ (Self.named self).name) };
+        ensures name { IfOk result (λ c. Self.Cleaner.name_of c ≡ (Self.named self).name) }
+        ensures refused { MayClaim result };
 }
 
 /// The holder of a name.

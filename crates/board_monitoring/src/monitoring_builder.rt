@@ -5,6 +5,7 @@ ghost use Rattle.board_names.specs.Concept.{path_of, placed, starting};
 ghost use Rattle.board_names.specs.Table.{putting};
 ghost use Rattle.board_names.specs.declared.errors.monitoring.MonitoringCreateTokenError.TheVariants.{OutOfMemory};
 ghost use Rattle.board_monitoring.specs.Monitors.{token_of, cleaner_of, claimed};
+ghost use Rattle.board_monitoring.specs.TypedCalls.{MayClaim, MayTake};
 ghost use Rattle.board_monitoring.specs.declared.monitors.Life.TheVariants.{Alive};
 
 use crate::cleaner::Cleaner;
@@ -69,12 +70,16 @@ impl Builder {
     }
 }
 
-fn take<R: Wait>(rt: &R, place: &NamePlace<Monitors>) -> Result<(), MonitoringCreateTokenError> {
+fn take<R: Wait>(rt: &R, place: &NamePlace<Monitors>) -> Result<(), MonitoringCreateTokenError>
+    ensures { MayTake result }
+{
     let mut state = place.lock(rt);
     state.token(place.path())
 }
 
-fn claim<R: Wait>(rt: &R, place: &NamePlace<Monitors>) -> Result<(), MonitoringCreateCleanerError> {
+fn claim<R: Wait>(rt: &R, place: &NamePlace<Monitors>) -> Result<(), MonitoringCreateCleanerError>
+    ensures { MayClaim result }
+{
     let mut state = place.lock(rt);
     state.cleaner(place.path())
 }
@@ -111,7 +116,8 @@ impl MonitoringBuilder for Builder {
     type Cleaner = Cleaner;
 
     fn token<R: Wait>(self, rt: &R, alloc: Global) -> Result<Token, MonitoringCreateTokenError>
-        ensures { IfOk result (λ token. token ≡ placed self) }
+        ensures token { IfOk result (λ token. token ≡ placed self) }
+        ensures refused { MayTake result }
     {
         let place = self.request.place();
         take(rt, &place)?;
@@ -125,7 +131,8 @@ impl MonitoringBuilder for Builder {
     }
 
     fn cleaner<R: Wait>(self, rt: &R) -> Result<Cleaner, MonitoringCreateCleanerError>
-        ensures { IfOk result (λ cleaner. cleaner ≡ placed self) }
+        ensures cleaner { IfOk result (λ cleaner. cleaner ≡ placed self) }
+        ensures refused { MayClaim result }
     {
         let place = self.request.place();
         claim(rt, &place)?;

@@ -1,3 +1,4 @@
 pub mod Statics
 pub mod Storage
 pub mod Reading
+pub mod TypedCalls

@@ -4,6 +4,7 @@ ghost use Rattle.board_layout.specs.Answer.{Answers, Refuses};
 ghost use Rattle.board_names.specs.declared.errors.static_storage.StaticStorageCreateError.TheVariants.{AlreadyExists, OutOfMemory};
 ghost use Rattle.board_names.specs.declared.errors.static_storage.StaticStorageOpenError.TheVariants.{OutOfMemory as NoMemory};
 ghost use Rattle.board_store.specs.Storage.{storage_of, started_builder, storing, look_answer, create_of, bytes_made, locked_of_builder, lock_of, open_of};
+ghost use Rattle.board_store.specs.TypedCalls.{MayCreate, MayOpen};
 ghost use Rattle.board_store.specs.declared.statics.Stored.TheVariants.{Locked as Stood, Final};
 
 use crate::content::Content;
@@ -91,7 +92,8 @@ impl Builder {
         rt: &R,
         contents: &[u8],
     ) -> Result<Content, StaticStorageCreateError>
-        ensures { IfOk result (λ content. content ≡ contents.now) }
+        ensures value { IfOk result (λ content. content ≡ contents.now) }
+        ensures refused { MayCreate result }
     {
         let mut state = self.request.lock(rt);
         self.create_content(&mut state, contents)
@@ -119,13 +121,17 @@ impl Builder {
         state.try_open(&self.request.path())
     }
 
-    fn look<R: Wait>(&self, rt: &R) -> Result<Content, StaticStorageOpenError> {
+    fn look<R: Wait>(&self, rt: &R) -> Result<Content, StaticStorageOpenError>
+        ensures { MayOpen result }
+    {
         let mut state = self.request.lock(rt);
         self.look_in(&mut state)
     }
 
     /// Looks once more than `polls`, or until the name isn't locked.
-    fn poll<R: Wait>(&self, rt: &R, polls: u32) -> Result<Content, StaticStorageOpenError> {
+    fn poll<R: Wait>(&self, rt: &R, polls: u32) -> Result<Content, StaticStorageOpenError>
+        ensures { MayOpen result }
+    {
         for _ in 0..polls {
             match self.look(rt) {
                 Err(StaticStorageOpenError::InitializationNotYetFinalized) => {}
@@ -142,7 +148,9 @@ impl Builder {
     }
 }
 
-fn take<R: Wait>(rt: &R, place: &NamePlace<Statics>) -> Result<(), StaticStorageCreateError> {
+fn take<R: Wait>(rt: &R, place: &NamePlace<Statics>) -> Result<(), StaticStorageCreateError>
+    ensures { MayCreate result }
+{
     let mut state = place.lock(rt);
     state.create_locked(place.path())
 }
@@ -200,7 +208,8 @@ impl StaticStorageBuilder for Builder {
         alloc: Global,
         contents: &[u8],
     ) -> Result<Storage, StaticStorageCreateError>
-        ensures { IfOk result (λ storage. storage ≡ storage_of self contents.now) }
+        ensures storage { IfOk result (λ storage. storage ≡ storage_of self contents.now) }
+        ensures refused { MayCreate result }
     {
         let content = self.create_locking(rt, contents)?;
         Ok(self.into_storage(content))
@@ -211,7 +220,8 @@ impl StaticStorageBuilder for Builder {
         rt: &R,
         alloc: Global,
     ) -> Result<Locked, StaticStorageCreateError>
-        ensures { IfOk result (λ locked. locked ≡ locked_of_builder self) }
+        ensures locked { IfOk result (λ locked. locked ≡ locked_of_builder self) }
+        ensures refused { MayCreate result }
     {
         let place = self.request.place();
         take(rt, &place)?;
@@ -219,7 +229,8 @@ impl StaticStorageBuilder for Builder {
     }
 
     fn open<R: Wait>(self, rt: &R, polls: u32) -> Result<Storage, StaticStorageOpenError>
-        ensures { IfOk result (λ storage. storage ≡ storage_of self storage.bytes) }
+        ensures storage { IfOk result (λ storage. storage ≡ storage_of self storage.bytes) }
+        ensures refused { MayOpen result }
     {
         let content = self.poll(rt, polls)?;
         Ok(self.into_storage(content))

@@ -4,6 +4,7 @@ ghost use Rattle.board_layout.specs.Answer.{Answers, Refuses};
 ghost use Rattle.board_names.specs.Table.{let_go, putting, IsFree};
 ghost use Rattle.board_names.specs.declared.errors.static_storage.StaticStorageUnlockError.TheVariants.{OutOfMemory};
 ghost use Rattle.board_store.specs.Storage.{filled, unlock_of};
+ghost use Rattle.board_store.specs.TypedCalls.{MayUnlock};
 ghost use Rattle.board_store.specs.declared.statics.Stored.TheVariants.{Final};
 
 use crate::content::Content;
@@ -58,7 +59,8 @@ impl Locked {
     }
 
     fn fill<R: Wait>(&self, rt: &R, contents: &[u8]) -> Result<Content, StaticStorageUnlockError>
-        ensures { IfOk result (λ content. content ≡ contents.now) }
+        ensures value { IfOk result (λ content. content ≡ contents.now) }
+        ensures refused { MayUnlock result }
     {
         let mut state = self.place.lock(rt);
         state.unlock(self.place.path(), contents)
@@ -98,7 +100,8 @@ impl StaticStorageLocked for Locked {
         alloc: Global,
         contents: &[u8],
     ) -> Result<Storage, StaticStorageUnlockError>
-        ensures { IfOk result (λ storage. storage ≡ filled self contents.now) }
+        ensures storage { IfOk result (λ storage. storage ≡ filled self contents.now) }
+        ensures refused { MayUnlock result }
     {
         let content = self.fill(rt, contents)?;
         Ok(self.into_storage(content))

@@ -1,6 +1,7 @@
 //! What a static storage does: bytes are written once under a name, and then read by whoever opens it.
 ghost use Rattle.std.specs.Prelude.{◌≡◌, ℕ, ◌==◌, ◌<◌, ◌++◌, ◌↔◌, List, Bool, true, false, length, drop, codes, IfOk, IsErrOf, OnOk, OnErr};
 ghost use Rattle.board_store.specs.Reading.{ReadsInto};
+ghost use Rattle.board_store.specs.TypedCalls.{MayCreate, MayOpen, MayUnlock};
 
 use board_names::{
     FileName, NamedConcept, NamedConceptBuilder, NamedConceptMgmt, StaticStorageCreateError,
@@ -94,7 +95,8 @@ pub trait StaticStorageBuilder: NamedConceptBuilder {
     ) -> Result<Self::Storage, StaticStorageCreateError>
         ensures name { IfOk result (λ s. Self.Storage.name_of s ≡ (Self.named self).name) }
         ensures content { IfOk result (λ s. Self.Storage.content_of s ≡ contents.now) }
-        ensures owner { IfOk result (λ s. Self.Storage.is_owner s ≡ owns_it self) };
+        ensures owner { IfOk result (λ s. Self.Storage.is_owner s ≡ owns_it self) }
+        ensures refused { MayCreate result };
 
     /// A storage that is still to be filled.
     ///
@@ -106,7 +108,8 @@ pub trait StaticStorageBuilder: NamedConceptBuilder {
         alloc: Global,
     ) -> Result<Self::Locked, StaticStorageCreateError>
         ensures name { IfOk result (λ l. Self.Locked.name_of l ≡ (Self.named self).name) }
-        ensures owner { IfOk result (λ l. Self.Locked.is_to_own l ≡ owns_it self) };
+        ensures owner { IfOk result (λ l. Self.Locked.is_to_own l ≡ owns_it self) }
+        ensures refused { MayCreate result };
 
     /// The storage that stands under the name. Looks `polls + 1` times at most, and gives the lock back in between.
     ///
@@ -115,7 +118,8 @@ pub trait StaticStorageBuilder: NamedConceptBuilder {
     /// `OutOfMemory`.
     fn open<R: Wait>(self, rt: &R, polls: u32) -> Result<Self::Storage, StaticStorageOpenError>
         ensures name { IfOk result (λ s. Self.Storage.name_of s ≡ (Self.named self).name) }
-        ensures owner { IfOk result (λ s. Self.Storage.is_owner s ≡ owns_it self) };
+        ensures owner { IfOk result (λ s. Self.Storage.is_owner s ≡ owns_it self) }
+        ensures refused { MayOpen result };
 
     /// Whether it owns the name is part of what a builder was told.
     ghost owns_as_told: { (x y : Self) → Self.told x ≡ Self.told y → owns_it x ≡ owns_it y };
@@ -143,7 +147,8 @@ pub trait StaticStorageLocked: NamedConcept + Sized {
     ) -> Result<Self::Storage, StaticStorageUnlockError>
         ensures name { IfOk result (λ s. Self.Storage.name_of s ≡ Self.name_of self) }
         ensures content { IfOk result (λ s. Self.Storage.content_of s ≡ contents.now) }
-        ensures owner { IfOk result (λ s. Self.Storage.is_owner s ≡ is_to_own self) };
+        ensures owner { IfOk result (λ s. Self.Storage.is_owner s ≡ is_to_own self) }
+        ensures refused { MayUnlock result };
 
     /// Gives the storage up, and its name where it owns it.
     ///

@@ -1,8 +1,8 @@
 //! What a checker of sessions keeps of a board and of the calls on it, tied to the definitions.
 //!
 //! `specs/CellCalls` says how far a get and a publication are, `specs/NewBoards` what a new board begins with, and
-//! `specs/Found` which entry a key finds. Nothing of a domain and no call core is used. The tables of a checker are to hold
-//! these by the number of a board.
+//! `specs/Found` which entry a key finds. Nothing of a domain and no call core is used. `script_board_tables` holds these
+//! by the number of a board.
 #![tactic(auto)]
 
 mod attributes;

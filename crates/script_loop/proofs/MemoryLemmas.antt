@@ -1,5 +1,5 @@
 -- Calls that are listed to fail.
-use Rattle.std.proofs.Common.{◌≡◌, ℕ, ◌+◌, ◌-◌, ◌<◌, ◌≤◌, ◌^◌, min, Bool, true, false, eqb, eq-eqb, List, [], length, get_or, arith, refl, sym, ap, subst, ◌∙◌, All, Contains, Some}
+use Rattle.std.proofs.Common.{◌≡◌, ℕ, ◌<◌, ◌≤◌, ◌^◌, true, false, eqb, eq-eqb, List, [], length, get_or, arith, sym, subst, Contains, Some}
 use Rattle.std.specs.List.{IsAnyAnswer}
 use Rattle.std.proofs.lemmas.Bool.{eqb-true}
 use Rattle.std.proofs.lemmas.List.{length-take}

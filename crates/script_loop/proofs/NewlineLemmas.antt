@@ -1,8 +1,8 @@
 -- A newline that a search for a byte found, or didn't.
-use Rattle.std.proofs.Common.{◌≡◌, ℕ, ◌<◌, ◌≤◌, Bool, true, false, List, length, take, get_or, arith, refl, subst, eqb, IfNone, IfSome, Option, Some, None}
+use Rattle.std.proofs.Common.{◌≡◌, ℕ, ◌<◌, Bool, true, false, List, length, take, get_or, arith, refl, subst, eqb, IfNone, IfSome, Option, Some, None}
 use Rattle.std.proofs.lemmas.Bool.{eqb-true}
 use Rattle.std.proofs.lemmas.List.{take_all}
-use Rattle.memchr.specs.Find.{IsFirstByte, NoneBefore, Nowhere, Passes, is_byte}
+use Rattle.memchr.specs.Find.{IsFirstByte, is_byte}
 use Rattle.board_model.specs.Lines.{IsOneLine}
 use Rattle.script_parse.proofs.TokenLemmas as tokens
 

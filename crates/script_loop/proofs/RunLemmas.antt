@@ -5,7 +5,7 @@ use Rattle.std.specs.Io.KnownBytes.{Appends, IsAtEnd, Keeps, prepend_known}
 use Rattle.std.proofs.KnownBytes.{Appends-trans, Appends-nil}
 use Rattle.std.proofs.lemmas.List.{append-nil, length-append}
 use Rattle.std.proofs.Math.Seq.{take-append-add}
-use Rattle.board_model.specs.Lines.{IsOneLine, lines_of, TakesLine}
+use Rattle.board_model.specs.Lines.{lines_of, TakesLine}
 use Rattle.script_model.specs.declared.line.ScriptLine.{ScriptLine}
 use Rattle.script_model.specs.ScriptAnswers.{ScriptAnswer, script_answer_line}
 use Rattle.script_model.specs.ScriptGrammar.{SpellsLine}

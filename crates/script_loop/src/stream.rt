@@ -1,5 +1,5 @@
 //! Where a script's bytes come from, and where its output goes.
-ghost use Rattle.std.specs.Prelude.{List, ℕ, Option, ◌≡◌, ◌-◌, ◌≤◌, IsOk, IsOkAnd, OnErr, OnOk, length};
+ghost use Rattle.std.specs.Prelude.{List, ℕ, Option, ◌≡◌, ◌-◌, ◌<◌, ◌≤◌, IsOk, IsOkAnd, OnErr, OnOk, length};
 ghost use Rattle.std.specs.Io.{ReadsAtMost};
 ghost use Rattle.std.specs.Io.KnownBytes.{ReadConsumes, WriteAppends};
 ghost use Rattle.board_model.specs.Lines.{HasCause};
@@ -15,13 +15,15 @@ pub struct Failed;
 /// Where bytes come from.
 ///
 /// Contracts see the bytes that are `left` to read, where they are known, and a count of `faults` that never falls.
-/// A source may be known to be one that `never_fails` from now on.
+/// A source may be known to be one that `never_fails` from now on, or one that `never_fails_before_end`: no read fails till one has told the end.
 pub trait Source {
     ghost left: { Self → Option (List ℕ) };
 
     ghost faults: { Self → ℕ };
 
     ghost never_fails: { Self → Type 0 };
+
+    ghost never_fails_before_end: { Self → Type 0 };
 
     /// Fills a front of `buf` with the next bytes, and gives how many. 0 for a `buf` that isn't empty means the end.
     ///
@@ -39,7 +41,10 @@ pub trait Source {
         ensures told { OnOk result (faults self.new ≡ faults self.old) }
 
         ensures unfailing { never_fails self.old → IsOk result }
-        ensures never_later { never_fails self.old → never_fails self.new };
+        ensures never_later { never_fails self.old → never_fails self.new }
+
+        // Where no read fails before the end is told, this one doesn't, and the same holds on while a byte came.
+        ensures before_end { never_fails_before_end self.old → IsOkAnd result (λ count. 0 < count → never_fails_before_end self.new) };
 }
 
 /// Where bytes go.

@@ -37,6 +37,8 @@ impl<R: Read + Drop> Source for InSource<R> {
 
     ghost never_fails = { λ s. ⊥ };
 
+    ghost never_fails_before_end = { λ s. ⊥ };
+
     fn read(&mut self, buf: &mut [u8]) -> Result<usize, Failed> {
         match self.input.read(buf) {
             Ok(count) => Ok(count),

@@ -1,5 +1,5 @@
 //! The bytes that are in hand between two lines.
-ghost use Rattle.std.specs.Prelude.{◌≡◌, ◌<◌, ◌≤◌, ◌+◌, [], IfErr, IfNone, IfOk, IfSome, IsOk, IsTrue, OnErr, OnOk, drop, false, length, slice_index, take};
+ghost use Rattle.std.specs.Prelude.{◌≡◌, ◌<◌, ◌≤◌, ◌+◌, [], IfErr, IfNone, IfOk, IfSome, IsOk, IsOkAnd, IsTrue, OnErr, OnOk, drop, false, length, slice_index, take};
 ghost use Rattle.std.specs.Io.KnownBytes.{Consumes, Keeps, IsAtEnd};
 ghost use Rattle.board_model.specs.Lines.{HasCause, IsOneLine};
 ghost use Rattle.script_loop.specs.Streams.{one_fault_more};
@@ -25,6 +25,8 @@ fn read_behind<S: Source>(bytes: &mut [u8], from: usize, source: &mut S) -> Resu
     ensures told { OnOk result (S.faults source.new ≡ S.faults source.old) }
     ensures unfailing { S.never_fails source.old → IsOk result }
     ensures never_later { S.never_fails source.old → S.never_fails source.new }
+    ensures before_end { S.never_fails_before_end source.old
+        → IsOkAnd result (λ count. 0 < count → S.never_fails_before_end source.new) }
 {
     source.read(&mut bytes[from..])
 }
@@ -133,6 +135,9 @@ impl LineReader {
         ensures told { OnOk result (S.faults source.new ≡ S.faults source.old) }
         ensures unfailing { S.never_fails source.old → IsOk result }
         ensures never_later { S.never_fails source.old → S.never_fails source.new }
+        ensures before_end { S.never_fails_before_end source.old → IsOk result }
+        ensures still_before { S.never_fails_before_end source.old → source_ended self.new ≡ false
+            → OnOk result (S.never_fails_before_end source.new) }
     {
         self.to_front();
         let count = read_behind(&mut self.bytes, self.end, source)?;

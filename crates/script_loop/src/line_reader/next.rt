@@ -51,6 +51,11 @@ impl LineReader {
         ensures told { OnOk result (S.faults source.new ≡ S.faults source.old) }
         ensures unfailing { S.never_fails source.old → IsOk result }
         ensures never_later { S.never_fails source.old → S.never_fails source.new }
+
+        // It isn't read again in a call in which it came to its end: a source that fails only behind its end doesn't fail here.
+        ensures before_end { S.never_fails_before_end source.old → source_ended self.old ≡ false → IsOk result }
+        ensures still_before { S.never_fails_before_end source.old → source_ended self.new ≡ false
+            → S.never_fails_before_end source.new }
     {
         let mut searched = 0;
         loop {

@@ -28,6 +28,8 @@ impl Source for MemorySource {
 
     ghost never_fails = { λ s. NoneIsListed (source_calls s) };
 
+    ghost never_fails_before_end = { λ s. NoneIsListed (source_calls s) };
+
     /// As any source. It fails exactly where the call's number is listed.
     fn read(&mut self, buf: &mut [u8]) -> Result<usize, Failed>
         ensures bound { ReadsAtMost result buf.new }
@@ -38,6 +40,8 @@ impl Source for MemorySource {
         ensures unfailing { NoneIsListed (source_calls self.old) → IsOk result }
         ensures never_later { NoneIsListed (source_calls self.old)
             → NoneIsListed (source_calls self.new) }
+        ensures before_end { NoneIsListed (source_calls self.old)
+            → IsOkAnd result (λ count. 0 < count → NoneIsListed (source_calls self.new)) }
 
         // Which call fails, how many bytes one gives, and how many were made.
         ensures fails { IsErr result ↔ IsListed (source_calls self.old) }

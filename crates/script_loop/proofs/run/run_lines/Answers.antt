@@ -2,10 +2,10 @@ use Rattle.std.proofs.Common.{◌-◌, ◌∙◌, length, ap, refl, subst, rules
 use Rattle.script_model.specs.ScriptOutput.{output_of}
 use Rattle.script_loop.specs.Reader.{line_given}
 use Rattle.script_loop.specs.Machines.{SpellsNone}
-use Rattle.script_loop.proofs.CompleteLemmas.{gave_up, left_grammar, ran, unread, unwritten, was_long}
-use Rattle.script_loop.proofs.GoingOn.{cut_short, fits_one_more, goes_further, starts_on}
+use Rattle.script_loop.proofs.CompleteLemmas.{gave_up, left_grammar, unwritten, was_long}
+use Rattle.script_loop.proofs.GoingOn.{fits_one_more, goes_further, starts_on}
 use Rattle.script_loop.proofs.LineLemmas.{takes_line}
-use Rattle.script_loop.proofs.RunLemmas.{bad_at, ends, is_past, is_spent, long_at, spent_at_once, stands_for, wanting, write_cut}
+use Rattle.script_loop.proofs.RunLemmas.{bad_at, is_past, is_spent, long_at, spent_at_once, stands_for, wanting, write_cut}
 use Rattle.script_loop.proofs.run.run_lines.Goals as goal
 
 pub loop-n-init : goal.loop-n-init

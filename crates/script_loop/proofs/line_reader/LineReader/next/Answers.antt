@@ -1,6 +1,6 @@
 use Rattle.std.proofs.Common.{◌<◌, arith, rules}
 use Rattle.script_loop.specs.Reader.{in_hand}
-use Rattle.script_loop.proofs.LineLemmas.{gave_line, gave_last, is_long, short_last, short_line}
+use Rattle.script_loop.proofs.LineLemmas.{gave_line, gave_last, is_long}
 use Rattle.script_loop.proofs.line_reader.LineReader.next.Goals as goal
 
 pub returns-in-Some-clause-fetched : goal.returns-in-Some-clause-fetched

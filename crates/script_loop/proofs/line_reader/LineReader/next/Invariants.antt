@@ -15,6 +15,7 @@ invariant-loop-at g l = record {
   unread : (NeedsBytes l.fn.self → ⊥) → l.source ≡ l.fn.source;
   same : g.S.Source.faults l.source ≡ g.S.Source.faults l.fn.source;
   unfailing : g.S.Source.never_fails l.fn.source → g.S.Source.never_fails l.source;
+  before_end : g.S.Source.never_fails_before_end l.fn.source → source_ended l.self ≡ false → g.S.Source.never_fails_before_end l.source;
 }
 
 abbrev pub decreases-loop-at : goal.decreases-loop-at
