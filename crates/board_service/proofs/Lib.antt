@@ -8,6 +8,7 @@ pub mod LimitLemmas
 pub mod HeldLemmas
 pub mod RoomLemmas
 pub mod NamedLemmas
+pub mod LaidLemmas
 pub mod TableLemmas
 pub mod StorageLemmas
 pub mod BoardLemmas

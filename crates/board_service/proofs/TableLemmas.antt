@@ -12,6 +12,7 @@ use Rattle.board_model.specs.declared.tables.Kind.TheVariants as kind
 use Rattle.board_service.specs.Facts.{AreDrawn, AreTables, HasEntry, HasPort, KeepsLimits, WritesAlone, board_number, drawn_port, entry_count, handle_entry, is_port, written_entry, port_number, ports_of, thing_number}
 use Rattle.board_service.proofs.LimitLemmas.{entries_less_board, entries_more_boards, limits_less, limits_less_board, limits_more, limits_more_board, writers_less, writers_more}
 use Rattle.board_service.proofs.NamedLemmas.{names_less, names_more}
+use Rattle.board_service.proofs.LaidLemmas.{EachLaid, IsLaid, apart_in, are_laid, keyed_in, laid_less, laid_more, placed_in}
 use Rattle.board_service.proofs.DrawnLemmas.{drawn_more, drawn_without, find-push, find-push-other, find-without, find-without-other, none_above, numbered_other, there}
 
 -- ---- lists
@@ -143,6 +144,9 @@ tables_more_thing t last x are named stands none port entry room alone = record 
   standing = λ board. standing_more t last x are stands board;
   limits = limits_more t.boards t.things x are.limits room;
   writers = writers_more t.things x are.writers alone;
+  apart = are.apart;
+  placed = are.placed;
+  keyed = are.keyed;
 }
 
 -- one thing with the next port
@@ -160,14 +164,17 @@ tables_more_port t last x are named stands drawn port entry room alone = record 
   standing = λ board. standing_more t last x are stands board;
   limits = limits_more t.boards t.things x are.limits room;
   writers = writers_more t.things x are.writers alone;
+  apart = are.apart;
+  placed = are.placed;
+  keyed = are.keyed;
 }
 
 -- ---- one board more, with a factory of it
 
 pub tables_more_board : (t : Tables ℕ ℕ) (last : ℕ) (b : Board) (x : Thing ℕ ℕ) → AreTables t last → b.number ≡ t.last_board + 1 → x.name ≡ last + 1 → x.board ≡ t.last_board + 1
-    → x.kind ≡ kind.Factory → 1 ≤ b.max_nodes → list_any (has_name b.name) t.boards ≡ false
+    → x.kind ≡ kind.Factory → 1 ≤ b.max_nodes → list_any (has_name b.name) t.boards ≡ false → IsLaid b
     → AreTables (record { boards = t.boards ++ b ∷ []; things = t.things ++ x ∷ []; last_board = t.last_board + 1; last_port = t.last_port }) (last + 1)
-tables_more_board t last b x are numbered named of factory least called = record {
+tables_more_board t last b x are numbered named of factory least called laid = record {
   boards = drawn_more board_number is_numbered (λ n y. refl) t.last_board t.boards b are.boards numbered;
   names = names_more t.boards b are.names called;
   things = drawn_more thing_number is_thing (λ n y. refl) last t.things x are.things named;
@@ -177,8 +184,14 @@ tables_more_board t last b x are numbered named of factory least called = record
   standing = λ board. by_board board ∙ sym (any_more (is_of_board board) t.things x);
   limits = limits_more_board t.boards t.things b x are.limits free (sym (are.standing b.number) ∙ ap (λ (o : Option Board). is_some o) free) (of ∙ sym numbered) factory least;
   writers = writers_more t.things x are.writers alone;
+  apart = λ n. apart_in (find (is_numbered n) (t.boards ++ b ∷ [])) (all n);
+  placed = λ n. placed_in (find (is_numbered n) (t.boards ++ b ∷ [])) (all n);
+  keyed = λ n. keyed_in (find (is_numbered n) (t.boards ++ b ∷ [])) (all n);
 }
   where
+    all : EachLaid (t.boards ++ b ∷ [])
+    all = laid_more t.boards b (are_laid t last are) laid
+
     none : drawn_port x.kind ≡ None
     none = ap drawn_port factory
 
@@ -220,6 +233,9 @@ tables_less_thing t last n are some kept = record {
   entries = all_without (HasEntry t.boards) (is_thing n) t.things are.entries;
   limits = limits_less t.boards t.things (is_thing n) are.limits;
   writers = writers_less t.things (is_thing n) are.writers;
+  apart = are.apart;
+  placed = are.placed;
+  keyed = are.keyed;
   standing = λ board.
       let of = (thing_numbered n t.things).board in
       elim (board == of) as (λ c. (board == of) ≡ c → is_some (board_at t board) ≡ list_any (is_of_board board) (without_first (is_thing n) t.things)) [
@@ -244,8 +260,10 @@ tables_less_board t last n are gone = record {
   handles = all_without (HasPort t.last_port) (is_thing n) t.things are.handles;
   entries = entries_less_board (thing_numbered n t.things).board t.boards (without_first (is_thing n) t.things) gone (all_without (HasEntry t.boards) (is_thing n) t.things are.entries);
   writers = writers_less t.things (is_thing n) are.writers;
-  limits = limits_less_board t.boards (without_first (is_thing n) t.things) (thing_numbered n t.things).board (limits_less t.boards t.things (is_thing n) are.limits)
-      (find-without board_number is_numbered (λ m y. refl) t.last_board (thing_numbered n t.things).board t.boards are.boards);
+  apart = λ m. apart_in (find (is_numbered m) (without_first (is_numbered (thing_numbered n t.things).board) t.boards)) (all m);
+  placed = λ m. placed_in (find (is_numbered m) (without_first (is_numbered (thing_numbered n t.things).board) t.boards)) (all m);
+  keyed = λ m. keyed_in (find (is_numbered m) (without_first (is_numbered (thing_numbered n t.things).board) t.boards)) (all m);
+  limits = limits_less_board t.boards (without_first (is_thing n) t.things) (thing_numbered n t.things).board (limits_less t.boards t.things (is_thing n) are.limits) none;
   standing = λ board.
       let of = (thing_numbered n t.things).board in
       elim (board == of) as (λ c. (board == of) ≡ c → is_some (find (is_numbered board) (without_first (is_numbered of) t.boards)) ≡ list_any (is_of_board board) (without_first (is_thing n) t.things)) [
@@ -259,3 +277,9 @@ tables_less_board t last n are gone = record {
             ∙ are.standing board ∙ sym (any_without (is_of_board board) (is_thing n) t.things (found_of_other n board t.things other))
       ] refl;
 }
+  where
+    none : find (is_numbered (thing_numbered n t.things).board) (without_first (is_numbered (thing_numbered n t.things).board) t.boards) ≡ None
+    none = find-without board_number is_numbered (λ m y. refl) t.last_board (thing_numbered n t.things).board t.boards are.boards
+
+    all : EachLaid (without_first (is_numbered (thing_numbered n t.things).board) t.boards)
+    all = laid_less t.boards (thing_numbered n t.things).board (are_laid t last are) none

@@ -1,11 +1,14 @@
 -- What is true of every domain, whoever has it.
-use Rattle.std.specs.Prelude.{◌≡◌, ℕ, ◌≤◌, ◌<◌, Bool, true, ◌==◌, nat_eq, List, [], ◌∷◌, ◌++◌, length, find, Option, Some, None, is_some, IfSome, false}
+use Rattle.std.specs.Prelude.{◌≡◌, ℕ, ◌*◌, ◌≤◌, ◌<◌, Bool, true, ◌==◌, nat_eq, List, [], ◌∷◌, ◌++◌, length, find, Option, Some, None, is_some, IfSome, false}
 use Rattle.std.specs.List.{list_any, count_by, cons_option, AllByRecursion}
+use Rattle.board_layout.specs.declared.shape.CellPlace.{CellPlace}
+use Rattle.board_layout.specs.Layout.{LiesBefore}
 use Rattle.board_model.specs.declared.tables.Board.{Board}
+use Rattle.board_model.specs.declared.tables.Entry.{Entry}
 use Rattle.board_model.specs.declared.tables.Thing.{Thing}
 use Rattle.board_model.specs.declared.tables.Kind.{Kind}
 use Rattle.board_model.specs.declared.tables.Kind.TheVariants as kind
-use Rattle.board_model.specs.Tables.{Tables, board_at, has_name, is_numbered, is_of_board, is_write_handle, port_of, reader_slots, writer_slots, nodes_taken}
+use Rattle.board_model.specs.Tables.{Tables, board_at, entry_at, has_name, is_numbered, is_of_board, is_write_handle, port_of, reader_slots, writer_slots, nodes_taken}
 use Rattle.board_model.specs.declared.tables.ThingKind.{ThingKind}
 use Rattle.board_layout.specs.declared.type_detail.TypeDetail.{TypeDetail}
 use Rattle.board_service.specs.Domain.{Domain, Stands, is_thing, stands_as}
@@ -83,8 +86,14 @@ pub record IsWithinLimits (things : List (Thing ℕ ℕ)) (b : Board) : Type 0 w
 abbrev pub KeepsLimits : List Board → List (Thing ℕ ℕ) → ℕ → Type 0
 KeepsLimits boards things board = IfSome (find (is_numbered board) boards) (λ b. IsWithinLimits things b)
 
--- what is true of the tables of every domain: numbers differ and were drawn, names of boards differ, a board stands exactly while a thing of it does,
--- its limits are kept, and each of its entries has at most one write handle
+-- the cell has a head, and its place is the byte at which its first word begins
+pub record IsPlaced (c : CellPlace) : Type 0 where
+  pub head : 0 < c.head
+  pub begins : c.place ≡ 8 * c.first
+
+-- what is true of the tables of every domain: numbers differ and were drawn, names of boards differ, a board stands exactly while
+-- a thing of it does, its limits are kept, and each of its entries has at most one write handle; a board's entries lie one behind
+-- another, and its keys are short
 pub record AreTables (t : Tables ℕ ℕ) (last_thing : ℕ) : Type 0 where
   pub boards : AreDrawn board_number is_numbered t.last_board t.boards
   pub names : (name : List ℕ) → count_by (has_name name) t.boards ≤ 1
@@ -95,6 +104,10 @@ pub record AreTables (t : Tables ℕ ℕ) (last_thing : ℕ) : Type 0 where
   pub standing : (board : ℕ) → is_some (board_at t board) ≡ list_any (is_of_board board) t.things
   pub limits : (board : ℕ) → KeepsLimits t.boards t.things board
   pub writers : (board entry : ℕ) → count_by (is_write_handle board entry) t.things ≤ 1
+  pub apart : (board i j : ℕ) (e f : Entry) → entry_at t board i ≡ Some e → entry_at t board j ≡ Some f → i < j
+      → LiesBefore e.cell f.cell
+  pub placed : (board i : ℕ) (e : Entry) → entry_at t board i ≡ Some e → IsPlaced e.cell
+  pub keyed : (board : ℕ) → IfSome (board_at t board) (λ b. b.key.size ≤ 64)
 
 -- what is true of every domain: besides, each board has its cells
 pub record IsDomain {C : Type 0} (d : Domain C) : Type 0 where

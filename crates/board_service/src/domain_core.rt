@@ -68,7 +68,7 @@ impl<C: Cells> DomainCore<C> {
         }
     }
 
-    /// What is true of every domain, for those who are lent one: the numbers of boards, of things, and of the ports of readers and writers differ, and none is above the last that was drawn; the names of boards differ; a board stands exactly while a thing of it does, and no more readers, writer slots and nodes of it are taken than it may have; a handle's entry is one of its board's, and has at most one write handle; and each board has its cells. A call of this does nothing.
+    /// What is true of every domain, for those who are lent one: the numbers of boards, of things, and of the ports of readers and writers differ, and none is above the last that was drawn; the names of boards differ; a board stands exactly while a thing of it does, and no more readers, writer slots and nodes of it are taken than it may have; a handle's entry is one of its board's, and has at most one write handle; the cells of a board's entries lie one behind another, each placed where its first word begins; a board's keys take no more than 64 bytes; and each board has its cells. A call of this does nothing.
     pub fn facts(&self)
         ensures { IsDomain self.now }
     {
