@@ -7,9 +7,9 @@ use Rattle.std.specs.Io.KnownBytes.{Appends, IsAtEnd, Keeps, prepend_known}
 use Rattle.std.proofs.KnownBytes.{Appends-trans, Appends-nil}
 use Rattle.std.proofs.lemmas.List.{append-nil, length-append}
 use Rattle.std.proofs.Math.Seq.{take-append-add}
-use Rattle.board_model.specs.Lines.{IsOneLine, lines_of, TakesLine}
+use Rattle.board_model.specs.Lines.{lines_of, TakesLine}
 use Rattle.script_loop.specs.declared.error.ScriptError.TheVariants.{ReadFault, WriteFault, BadLine, TooLong, OutOfMemory}
-use Rattle.script_loop.specs.Reader.{HasLongLine}
+use Rattle.script_loop.specs.Reader.{HasLongLine, IsShortLine}
 use Rattle.script_loop.specs.Runs.{CountStays, CountsOn, HasFailedOnce, Stream}
 use Rattle.script_loop.proofs.CompleteLemmas.{has_failed}
 use Rattle.script_exchanges.specs.declared.line.Drive.{Drive}
@@ -138,7 +138,7 @@ spent_at_once d Lawful limit source sink ok same = record {
 }
 
 -- the source failed before its end was told
-pub cut_short : {M : Type 0} (d : Drive) (Lawful : Exchanges → Type 0) (stands : M → Exchanges → Type 0) (m : M) (count limit : ℕ) (ended : Bool) (source sink : Stream) (left : Option (List ℕ)) (takes taken : ℕ → Type 0) (part : List ℕ) → (r : HasRunOn d Lawful stands m count ended source.before left sink.before sink.after takes taken) → ended ≡ false → count ≤ limit → Keeps left (prepend_known part source.after) → IsOneLine part → IsReadCut d Lawful limit source sink
+pub cut_short : {M : Type 0} (d : Drive) (Lawful : Exchanges → Type 0) (stands : M → Exchanges → Type 0) (m : M) (count limit : ℕ) (ended : Bool) (source sink : Stream) (left : Option (List ℕ)) (takes taken : ℕ → Type 0) (part : List ℕ) → (r : HasRunOn d Lawful stands m count ended source.before left sink.before sink.after takes taken) → ended ≡ false → count ≤ limit → Keeps left (prepend_known part source.after) → IsShortLine part → IsReadCut d Lawful limit source sink
 cut_short d Lawful stands m count limit ended source sink left takes taken part r unended few k one = record {
   exchanges = r.run.exchanges;
   lawful = r.run.lawful;

@@ -3,6 +3,7 @@ use Rattle.std.specs.Prelude.{◌≡◌, ◌≢◌, ℕ, ◌+◌, ◌≤◌, Lis
 use Rattle.std.specs.List.{AllByRecursion}
 use Rattle.std.specs.Io.KnownBytes.{IsAtEnd, prepend_known}
 use Rattle.board_model.specs.Lines.{IsOneLine}
+use Rattle.script_loop.specs.Reader.{IsShortLine}
 use Rattle.script_loop.specs.declared.error.ScriptError.{ScriptError}
 use Rattle.script_loop.specs.declared.error.ScriptError.TheVariants.{ReadFault, WriteFault, BadLine, TooLong, OutOfMemory}
 use Rattle.script_loop.specs.Runs.{CountStays, CountsOn, Gains, HasFailed, HasFailedOnce, Stream}
@@ -40,7 +41,7 @@ pub record IsReadCut (d : Drive) (Lawful : Exchanges → Type 0) (limit : ℕ) (
   pub exchanges : Exchanges
   pub lawful : Lawful exchanges
   pub part : List ℕ
-  pub cut : IsOneLine part
+  pub cut : IsShortLine part
   pub lines : HasWholeLines d source.before (prepend_known part source.after) exchanges
   pub few : length exchanges ≤ limit
   pub output : Gains sink (output_of exchanges)

@@ -72,8 +72,9 @@ fn run_all<D: Drives, S: Source, K: Sink>(
         (stream_of K.held K.faults sink.old sink.new)
         result }
 
-    // Where no read fails there is no read fault, and where no write fails within what is told no write fault.
+    // Where no read fails before the source's end, behind which none is made, there is no read fault, and where no write fails within what is told no write fault.
     ensures reads { S.never_fails source.old → result ≢ Err ScriptError.ReadFault }
+    ensures before_end { S.never_fails_before_end source.old → result ≢ Err ScriptError.ReadFault }
     ensures writes { (room : ℕ) → K.never_fails_within sink.old room
         → FitsInto D.drive D.lawful room limit (S.left source.old)
         → result ≢ Err ScriptError.WriteFault }
@@ -128,8 +129,9 @@ pub fn run_driven<D: Drives, S: Source, K: Sink>(
         (stream_of K.held K.faults sink.old sink.new)
         result }
 
-    // Where no read fails there is no read fault, and where no write fails within what is told no write fault.
+    // Where no read fails before the source's end, behind which none is made, there is no read fault, and where no write fails within what is told no write fault.
     ensures reads { S.never_fails source.old → result ≢ Err ScriptError.ReadFault }
+    ensures before_end { S.never_fails_before_end source.old → result ≢ Err ScriptError.ReadFault }
     ensures writes { (room : ℕ) → K.never_fails_within sink.old room
         → FitsInto D.drive D.lawful room limit (S.left source.old)
         → result ≢ Err ScriptError.WriteFault }

@@ -3,6 +3,7 @@ use Rattle.std.proofs.Common.{◌≡◌, ℕ, ◌+◌, ◌-◌, ◌<◌, ◌≤�
 use Rattle.std.specs.Io.KnownBytes.{Appends, Keeps, prepend_known}
 use Rattle.std.proofs.lemmas.List.{length-append}
 use Rattle.board_model.specs.Lines.{IsOneLine, TakesLine}
+use Rattle.script_loop.specs.Reader.{IsShortLine}
 use Rattle.script_model.specs.declared.line.ScriptLine.{ScriptLine}
 use Rattle.script_model.specs.ScriptAnswers.{ScriptAnswer, script_answer_line}
 use Rattle.script_model.specs.ScriptSession.{IsLawful, Session, start}
@@ -56,7 +57,7 @@ goes_further stands m new count was ended input left rest before held now takes 
     }
 
 -- the source failed before its end was told
-pub cut_short : {M : Type 0} (stands : M → ℕ → ScriptState → Type 0) (m : M) (count limit : ℕ) (ended : Bool) (source sink : Stream) (left : Option (List ℕ)) (takes taken : ℕ → Type 0) (part : List ℕ) → (r : HasRunOn stands m count ended source.before left sink.before sink.after takes taken) → ended ≡ false → count ≤ limit → Keeps left (prepend_known part source.after) → IsOneLine part → IsReadCut limit source sink
+pub cut_short : {M : Type 0} (stands : M → ℕ → ScriptState → Type 0) (m : M) (count limit : ℕ) (ended : Bool) (source sink : Stream) (left : Option (List ℕ)) (takes taken : ℕ → Type 0) (part : List ℕ) → (r : HasRunOn stands m count ended source.before left sink.before sink.after takes taken) → ended ≡ false → count ≤ limit → Keeps left (prepend_known part source.after) → IsShortLine part → IsReadCut limit source sink
 cut_short stands m count limit ended source sink left takes taken part r unended few k one = record {
   session = r.run.session;
   lawful = r.run.lawful;

@@ -57,6 +57,14 @@ IsListed calls = Contains calls.fails calls.made
 abbrev pub NoneIsListed : Calls → Type 0
 NoneIsListed calls = All (λ number. number < calls.made) calls.fails
 
+-- a call that is to fail was made, or comes behind the end: it can be met only by who reads on after that is told
+abbrev pub IsBehindEnd : MemorySource → ℕ → Type 0
+IsBehindEnd s number = (number < s.calls) ⊎ (s.calls + length (source_rest s) < number)
+
+-- none is to fail before the end
+abbrev pub FailsBehindEnd : MemorySource → Type 0
+FailsBehindEnd s = All (IsBehindEnd s) s.fails.items
+
 -- as much of what is wanted as there is, and as a piece holds; a piece of 0 is no bound
 abbrev pub piece_of : ℕ → ℕ → ℕ → ℕ
 piece_of wanted there piece = if piece == 0 then min wanted there else min piece (min wanted there)

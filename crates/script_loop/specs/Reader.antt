@@ -33,6 +33,10 @@ line_given r = between r.bytes.items r.line_start r.line_end
 abbrev pub source_ended : LineReader → Bool
 source_ended r = r.ended
 
+-- this holds till the end of the source is told
+abbrev pub TillEnd : Bool → Type 0 → Type 0
+TillEnd ended holds = ended ≡ false → holds
+
 -- the next line can't be told without the source: neither a newline nor 4097 bytes are in hand, and its end isn't told
 pub record NeedsBytes (r : LineReader) : Type 0 where
   pub lacks : IsOneLine (in_hand r)

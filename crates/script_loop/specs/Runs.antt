@@ -1,7 +1,8 @@
 -- What a run of a script comes to, from its source to its sink.
 use Rattle.std.specs.Prelude.{◌≡◌, ◌≢◌, ◌⊎◌, ℕ, ◌+◌, ◌<◌, ◌≤◌, List, ◌∷◌, length, take, IsSomeAnd, Option, Some, None, ⊤, Result, Err, IfErr, IsErrOf, OnOk}
 use Rattle.std.specs.Io.KnownBytes.{Appends, IsAtEnd, prepend_known}
-use Rattle.board_model.specs.Lines.{IsOneLine, Rose}
+use Rattle.board_model.specs.Lines.{Rose}
+use Rattle.script_loop.specs.Reader.{IsShortLine}
 use Rattle.script_model.specs.ScriptSession.{Session, IsLawful, start, state_after}
 use Rattle.script_model.specs.ScriptTurns.{ScriptState}
 use Rattle.script_model.specs.ScriptOutput.{AreLinesOf, BeginsWith, FollowedBy, GoesOnAfter, IsScript, LeavesGrammarAfter, output_of}
@@ -58,7 +59,7 @@ pub record IsReadCut (limit : ℕ) (source sink : Stream) : Type 0 where
   pub session : Session
   pub lawful : IsLawful session
   pub part : List ℕ
-  pub cut : IsOneLine part
+  pub cut : IsShortLine part
   pub lines : HasWholeLines source.before (prepend_known part source.after) session
   pub few : length session ≤ limit
   pub output : Gains sink (output_of session)

@@ -86,6 +86,9 @@ pub fn run_lines<M: RunsLines, S: Source, K: Sink>(
 
     // Where no read fails there is no read fault, and where no write fails within the output no write fault.
     ensures reads { S.never_fails source.old → result ≢ Err ScriptError.ReadFault }
+
+    // The source isn't read behind its end: where reads may fail only there, there is no read fault either.
+    ensures before_end { S.never_fails_before_end source.old → result ≢ Err ScriptError.ReadFault }
     ensures writes { (room : ℕ) → K.never_fails_within sink.old room
         → FitsInto room limit (S.left source.old) → result ≢ Err ScriptError.WriteFault }
 

@@ -30,6 +30,10 @@ past_not_lawful : (lines : List (List ℕ)) (limit n : ℕ) → n ≤ limit → 
 past_not_lawful lines limit n le g h =
     omega (arith, le, lawful_lines lines n h, lawful_lines g.before limit g.lawful, ap length g.cut, length-append g.before (g.next ∷ g.more))
 
+past_not_few : (lines : List (List ℕ)) (limit : ℕ) → length lines ≤ 2 * limit → GoOnAfter limit lines → ⊥
+past_not_few lines limit few g =
+    omega (arith, few, lawful_lines g.before limit g.lawful, ap length g.cut, length-append g.before (g.next ∷ g.more))
+
 -- ---- a pair that breaks a rule stands in the pairs before too
 
 -- a front of a list that ends at least two items before another front
@@ -86,6 +90,7 @@ known limit bs (Ok (Lawful m)) h past = record {
   lawful = λ n le k. same_lawful m n (verdict.lawful (lines_of bs) m n h.1 k);
   broken = λ n r le k. absurd (verdict.apart (lines_of bs) m n r h.1 k);
   goes_on = λ k. absurd (past_not_lawful (lines_of bs) limit m h.0 k h.1);
+  few = λ k e. absurd cc;
 }
 known limit bs (Ok (No m q)) h past = record {
   verdict = h;
@@ -93,6 +98,7 @@ known limit bs (Ok (No m q)) h past = record {
   lawful = λ n le k. absurd (verdict.apart (lines_of bs) n m q k h.1);
   broken = λ n r le k. let e = verdict.broken (lines_of bs) m n q r h.1 k in same_no m n q r e.0 e.1;
   goes_on = λ k. absurd (past_not_broken (lines_of bs) limit m q h.0 k h.1);
+  few = λ k e. absurd cc;
 }
 known limit bs (Err ReadFault) h past = record {
   verdict = h;
@@ -100,6 +106,7 @@ known limit bs (Err ReadFault) h past = record {
   lawful = λ n le k e. cc;
   broken = λ n r le k e. cc;
   goes_on = λ k. refl;
+  few = λ k e. absurd cc;
 }
 known limit bs (Err OutOfMemory) h past = record {
   verdict = h;
@@ -107,6 +114,7 @@ known limit bs (Err OutOfMemory) h past = record {
   lawful = λ n le k e. cc;
   broken = λ n r le k e. cc;
   goes_on = λ k. refl;
+  few = λ k e. absurd cc;
 }
 known limit bs (Err TooLong) h past = record {
   verdict = h;
@@ -114,6 +122,7 @@ known limit bs (Err TooLong) h past = record {
   lawful = λ n le k. absurd (past_not_lawful (lines_of bs) limit n le (past refl) k);
   broken = λ n r le k. absurd (past_not_broken (lines_of bs) limit n r le (past refl) k);
   goes_on = λ k. refl;
+  few = λ k e. past_not_few (lines_of bs) limit k (past refl);
 }
 
 pub both_ways : (limit : ℕ) (bytes : Option (List ℕ)) (result : Result Verdict CheckError) → IfOk result (IsVerdict limit bytes) → (IsErrOf result TooLong → GoesOnIn limit bytes) → Checks limit bytes result
@@ -123,6 +132,7 @@ both_ways limit None result h past = record {
   lawful = λ n le k. absurd k;
   broken = λ n r le k. absurd k;
   goes_on = λ k. absurd k;
+  few = λ k. absurd k;
 }
 both_ways limit (Some bs) result h past = known limit bs result h past
 

@@ -1,5 +1,5 @@
 -- What a check of pairs comes to.
-use Rattle.std.specs.Prelude.{◌≡◌, ◌≢◌, ◌⊎◌, ℕ, ◌+◌, ◌≤◌, List, ◌∷◌, ◌++◌, length, IsSomeAnd, Option, Some, None, ⊤, Result, IfOk, IsErr, IsErrOf, MatchResult}
+use Rattle.std.specs.Prelude.{◌≡◌, ◌≢◌, ◌⊎◌, ℕ, ◌+◌, ◌*◌, ◌≤◌, List, ◌∷◌, ◌++◌, length, IsSomeAnd, Option, Some, None, ⊤, Result, Err, IfOk, IsErr, IsErrOf, MatchResult}
 use Rattle.std.specs.Io.KnownBytes.{IsAtEnd}
 use Rattle.board_model.specs.Lines.{lines_of}
 use Rattle.script_model.specs.declared.line.ScriptLine.{ScriptLine}
@@ -75,6 +75,10 @@ IsReadToEnd (No n r) left = ⊤
 abbrev pub Tells : Verdict → Result Verdict CheckError → Type 0
 Tells v result = MatchResult result (λ w. w ≡ v) (λ e. e ≢ TooLong)
 
+-- the bytes are known, and have no more lines than so many pairs
+abbrev pub HasLinesOf : ℕ → Option (List ℕ) → Type 0
+HasLinesOf limit bytes = IsSomeAnd bytes (λ known. length (lines_of known) ≤ 2 * limit)
+
 -- what a check of these bytes for at most so many pairs comes to
 pub record Checks (limit : ℕ) (bytes : Option (List ℕ)) (result : Result Verdict CheckError) : Type 0 where
   -- a verdict is true, and so is that another line follows the last pair that is allowed
@@ -84,3 +88,5 @@ pub record Checks (limit : ℕ) (bytes : Option (List ℕ)) (result : Result Ver
   pub lawful : (n : ℕ) → n ≤ limit → IsSomeAnd bytes (λ known. AreLawful (lines_of known) n) → Tells (Lawful n) result
   pub broken : (n : ℕ) (r : Rule) → n ≤ limit → IsSomeAnd bytes (λ known. BreaksAt (lines_of known) n r) → Tells (No n r) result
   pub goes_on : IsSomeAnd bytes (λ known. GoOnAfter limit (lines_of known)) → IsErr result
+  -- too many are told nowhere where the lines are no more than those of the pairs that are allowed
+  pub few : HasLinesOf limit bytes → result ≢ Err TooLong

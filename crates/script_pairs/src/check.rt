@@ -104,6 +104,9 @@ pub fn check_pairs<T: KnowsAnswers, S: Source>(
         → S.faults source.new ≡ one_fault_more (S.faults source.old) }
     ensures later { S.faults source.old ≤ S.faults source.new }
     ensures reads { S.never_fails source.old → result ≢ Err CheckError.ReadFault }
+
+    // The source isn't read behind its end: one whose reads may fail only there doesn't fail here.
+    ensures before_end { S.never_fails_before_end source.old → result ≢ Err CheckError.ReadFault }
 {
     let mut reader = PairLines::new(alloc)?;
     let mut line = Vec::new(alloc);

@@ -39,4 +39,6 @@ pub record WorkedRules : Type 0 where
   pub reply : broken_rule step_line (codes "table = ok 1") (codes "table = ok 2") ≡ Some rule.Reply
   pub pushed : broken_rule step_line (codes "push queue:q = ok") (codes "push queue:q = keys") ≡ Some rule.Reply
   pub early : broken_rule step_line (codes "read 1:0 1") (codes "read 1:0 1 = u64:7 gen 1") ≡ Some rule.Reply
+  pub owed_before_word : broken_rule step_line (codes "read 1:0 2") (codes "read 1:2 3") ≡ Some rule.Owed
+  pub owed_before_event : broken_rule step_line (codes "scan bits:ev 0 1") (codes "swap bits:ev 0 2") ≡ Some rule.Owed
   pub none : broken_rule step_line (codes "read 1:0 2 = u64:9 gen 2") (codes "read 1:0 2 = u64:9 gen 2") ≡ None

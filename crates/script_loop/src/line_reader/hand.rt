@@ -3,7 +3,7 @@ ghost use Rattle.std.specs.Prelude.{◌≡◌, ◌<◌, ◌≤◌, ◌+◌, [], 
 ghost use Rattle.std.specs.Io.KnownBytes.{Consumes, Keeps, IsAtEnd};
 ghost use Rattle.board_model.specs.Lines.{HasCause, IsOneLine};
 ghost use Rattle.script_loop.specs.Streams.{one_fault_more};
-ghost use Rattle.script_loop.specs.Reader.{NeedsBytes, source_ended, hand_length, in_hand, line_given, to_come};
+ghost use Rattle.script_loop.specs.Reader.{NeedsBytes, TillEnd, source_ended, hand_length, in_hand, line_given, to_come};
 
 use super::LineReader;
 use crate::error::LineError;
@@ -136,8 +136,8 @@ impl LineReader {
         ensures unfailing { S.never_fails source.old → IsOk result }
         ensures never_later { S.never_fails source.old → S.never_fails source.new }
         ensures before_end { S.never_fails_before_end source.old → IsOk result }
-        ensures still_before { S.never_fails_before_end source.old → source_ended self.new ≡ false
-            → OnOk result (S.never_fails_before_end source.new) }
+        ensures still_before { S.never_fails_before_end source.old
+            → OnOk result (TillEnd (source_ended self.new) (S.never_fails_before_end source.new)) }
     {
         self.to_front();
         let count = read_behind(&mut self.bytes, self.end, source)?;

@@ -1,10 +1,10 @@
 //! The next line of a source.
 ghost use Rattle.std.specs.Prelude.{◌≡◌, IfOk, IsOk, IsTrue, OnErr, OnOk, false};
 ghost use Rattle.std.specs.Io.KnownBytes.{IsAtEnd, Keeps};
-ghost use Rattle.board_model.specs.Lines.{HasCause, IsOneLine};
+ghost use Rattle.board_model.specs.Lines.{HasCause};
 ghost use Rattle.script_loop.specs.Streams.{one_fault_more};
-ghost use Rattle.script_loop.specs.Reader.{HasMore, NeedsBytes, source_ended, in_hand, line_given, to_come};
-ghost use Rattle.script_loop.specs.Reader.{FoundFull, FoundShort, IsEnd, IsFetched, IsFull, KeepsUnlessLine};
+ghost use Rattle.script_loop.specs.Reader.{HasMore, NeedsBytes, TillEnd, source_ended, in_hand, line_given, to_come};
+ghost use Rattle.script_loop.specs.Reader.{FoundFull, FoundShort, IsEnd, IsFetched, IsFull, IsShortLine, KeepsUnlessLine};
 
 use super::{Fetched, LineReader};
 use crate::stream::{Failed, Source};
@@ -42,7 +42,7 @@ impl LineReader {
         // It fails only where the source's count of faults rises, by one. Then no byte is lost, and no newline is in hand.
         ensures kept { OnErr result
             (Keeps (to_come self.old (S.left source.old)) (to_come self.new (S.left source.new))) }
-        ensures cut { OnErr result (IsOneLine (in_hand self.new)) }
+        ensures cut { OnErr result (IsShortLine (in_hand self.new)) }
         ensures more { OnErr result (source_ended self.new ≡ false) }
         ensures cause { HasCause (S.faults source.old) (S.faults source.new) result }
         ensures once { OnErr result (S.faults source.new ≡ one_fault_more (S.faults source.old)) }
@@ -52,10 +52,10 @@ impl LineReader {
         ensures unfailing { S.never_fails source.old → IsOk result }
         ensures never_later { S.never_fails source.old → S.never_fails source.new }
 
-        // It isn't read again in a call in which it came to its end: a source that fails only behind its end doesn't fail here.
-        ensures before_end { S.never_fails_before_end source.old → source_ended self.old ≡ false → IsOk result }
-        ensures still_before { S.never_fails_before_end source.old → source_ended self.new ≡ false
-            → S.never_fails_before_end source.new }
+        // It isn't read behind its end: a source whose reads may fail only there doesn't fail here.
+        ensures before_end { TillEnd (source_ended self.old) (S.never_fails_before_end source.old) → IsOk result }
+        ensures still_before { TillEnd (source_ended self.old) (S.never_fails_before_end source.old)
+            → TillEnd (source_ended self.new) (S.never_fails_before_end source.new) }
     {
         let mut searched = 0;
         loop {
@@ -88,12 +88,13 @@ impl LineReader {
             → HasMore (to_come self.old (S.left source.old))) }
         ensures kept { OnErr result
             (Keeps (to_come self.old (S.left source.old)) (to_come self.new (S.left source.new))) }
-        ensures cut { OnErr result (IsOneLine (in_hand self.new)) }
+        ensures cut { OnErr result (IsShortLine (in_hand self.new)) }
         ensures unended { OnErr result (source_ended self.old ≡ false) }
         ensures cause { HasCause (S.faults source.old) (S.faults source.new) result }
         ensures once { OnErr result (S.faults source.new ≡ one_fault_more (S.faults source.old)) }
         ensures told { OnOk result (S.faults source.new ≡ S.faults source.old) }
         ensures unfailing { S.never_fails source.old → IsOk result }
+        ensures before_end { TillEnd (source_ended self.old) (S.never_fails_before_end source.old) → IsOk result }
     {
         if self.hand_len() > 0 {
             return Ok(false);

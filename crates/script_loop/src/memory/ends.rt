@@ -4,7 +4,7 @@ ghost use Rattle.std.specs.Io.{ReadsAtMost};
 ghost use Rattle.std.specs.Io.KnownBytes.{ReadConsumes, WriteAppends};
 ghost use Rattle.board_model.specs.Lines.{HasCause};
 ghost use Rattle.script_loop.specs.Memory as memory;
-ghost use Rattle.script_loop.specs.Memory.{CannotTake, FindsNoRoom, IsListed, NoneIsListed, SinkNeverFails, one_more, sink_calls, sink_held, sink_most, sink_room, source_calls, source_left, piece_given, piece_taken};
+ghost use Rattle.script_loop.specs.Memory.{CannotTake, FailsBehindEnd, FindsNoRoom, IsListed, NoneIsListed, SinkNeverFails, one_more, sink_calls, sink_held, sink_most, sink_room, source_calls, source_left, piece_given, piece_taken};
 ghost use Rattle.script_loop.specs.Streams.{Writes, one_fault_more};
 
 use super::{MemorySink, MemorySource};
@@ -28,7 +28,7 @@ impl Source for MemorySource {
 
     ghost never_fails = { λ s. NoneIsListed (source_calls s) };
 
-    ghost never_fails_before_end = { λ s. NoneIsListed (source_calls s) };
+    ghost never_fails_before_end = { FailsBehindEnd };
 
     /// As any source. It fails exactly where the call's number is listed.
     fn read(&mut self, buf: &mut [u8]) -> Result<usize, Failed>
@@ -40,8 +40,7 @@ impl Source for MemorySource {
         ensures unfailing { NoneIsListed (source_calls self.old) → IsOk result }
         ensures never_later { NoneIsListed (source_calls self.old)
             → NoneIsListed (source_calls self.new) }
-        ensures before_end { NoneIsListed (source_calls self.old)
-            → IsOkAnd result (λ count. 0 < count → NoneIsListed (source_calls self.new)) }
+        ensures before_end { FailsBehindEnd self.old → IsOkAnd result (λ count. 0 < count → FailsBehindEnd self.new) }
 
         // Which call fails, how many bytes one gives, and how many were made.
         ensures fails { IsErr result ↔ IsListed (source_calls self.old) }

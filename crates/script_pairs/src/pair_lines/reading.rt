@@ -2,7 +2,7 @@
 ghost use Rattle.std.specs.Prelude.{◌≡◌, ◌≢◌, ◌≤◌, ◌<◌, ◌↔◌, [], Err, IfErr, IfNone, IfOk, IfSome, IsErrOf, IsOk, IsTrue, OnErr, OnOk, drop, false, length, slice_index, take, true};
 ghost use Rattle.std.specs.Io.KnownBytes.{IsAtEnd, Keeps};
 ghost use Rattle.board_model.specs.Lines.{HasCause, IsOneLine, Rose};
-ghost use Rattle.script_loop.specs.Reader.{HasMore};
+ghost use Rattle.script_loop.specs.Reader.{HasMore, TillEnd};
 ghost use Rattle.script_loop.specs.Streams.{one_fault_more};
 ghost use Rattle.script_pairs.specs.PairLines.{IsFound, TakesPart, has_ended, in_hand, to_come};
 
@@ -93,6 +93,9 @@ impl PairLines {
         ensures once { OnErr result (S.faults source.new ≡ one_fault_more (S.faults source.old)) }
         ensures unfailing { S.never_fails source.old → IsOk result }
         ensures never_later { S.never_fails source.old → S.never_fails source.new }
+        ensures before_end { S.never_fails_before_end source.old → IsOk result }
+        ensures still_before { S.never_fails_before_end source.old
+            → OnOk result (TillEnd (has_ended self.new) (S.never_fails_before_end source.new)) }
     {
         self.start = 0;
         self.end = 0;
@@ -116,6 +119,9 @@ impl PairLines {
         ensures once { OnErr result (S.faults source.new ≡ one_fault_more (S.faults source.old)) }
         ensures unfailing { S.never_fails source.old → IsOk result }
         ensures never_later { S.never_fails source.old → S.never_fails source.new }
+        ensures before_end { TillEnd (has_ended self.old) (S.never_fails_before_end source.old) → IsOk result }
+        ensures still_before { TillEnd (has_ended self.old) (S.never_fails_before_end source.old)
+            → OnOk result (TillEnd (has_ended self.new) (S.never_fails_before_end source.new)) }
     {
         if self.ended || !self.hand_is_empty() {
             return Ok(());
@@ -169,6 +175,12 @@ impl PairLines {
         ensures later { S.faults source.old ≤ S.faults source.new }
         ensures unfailing { S.never_fails source.old → result ≢ Err CheckError.ReadFault }
         ensures never_later { S.never_fails source.old → S.never_fails source.new }
+
+        // The source isn't read behind its end: one whose reads may fail only there doesn't fail here.
+        ensures before_end { TillEnd (has_ended self.old) (S.never_fails_before_end source.old)
+            → result ≢ Err CheckError.ReadFault }
+        ensures still_before { TillEnd (has_ended self.old) (S.never_fails_before_end source.old)
+            → OnOk result (TillEnd (has_ended self.new) (S.never_fails_before_end source.new)) }
     {
         line.clear();
         'look: loop {
@@ -202,6 +214,7 @@ impl PairLines {
         ensures told { OnOk result (S.faults source.new ≡ S.faults source.old) }
         ensures once { OnErr result (S.faults source.new ≡ one_fault_more (S.faults source.old)) }
         ensures unfailing { S.never_fails source.old → IsOk result }
+        ensures before_end { TillEnd (has_ended self.old) (S.never_fails_before_end source.old) → IsOk result }
     {
         if !self.hand_is_empty() {
             return Ok(false);

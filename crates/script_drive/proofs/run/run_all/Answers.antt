@@ -14,6 +14,7 @@ loop-n-init g c = record {
   reads = refl;
   writes = refl;
   unfailing = λ h. h;
+  before_end = λ h e. h;
 }
 
 pub returns-in_default-clause-runs : goal.returns-in_default-clause-runs
@@ -69,6 +70,7 @@ loop-n-preserved g c =
       reads = search rules;
       writes = search rules;
       unfailing = search rules;
+      before_end = search rules;
     }
 
 pub returns-in-Ok-Long-next-clause-runs : goal.returns-in-Ok-Long-next-clause-runs

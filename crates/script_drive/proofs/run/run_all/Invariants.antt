@@ -1,6 +1,6 @@
 use Rattle.std.proofs.Common.{◌≡◌, IsTrue}
 use Rattle.std.specs.Io.KnownBytes.{IsAtEnd, prepend_known}
-use Rattle.script_loop.specs.Reader.{source_ended, in_hand}
+use Rattle.script_loop.specs.Reader.{TillEnd, source_ended, in_hand}
 use Rattle.script_drive.proofs.DriveSteps.{HasRunOn}
 use Rattle.script_drive.proofs.run.run_all.Given as goal
 
@@ -11,4 +11,5 @@ invariant-loop-n g l = record {
   reads : g.S.Source.faults l.source ≡ g.S.Source.faults l.fn.source;
   writes : g.K.Sink.faults l.sink ≡ g.K.Sink.faults l.fn.sink;
   unfailing : g.S.Source.never_fails l.fn.source → g.S.Source.never_fails l.source;
+  before_end : g.S.Source.never_fails_before_end l.fn.source → TillEnd (source_ended l.reader) (g.S.Source.never_fails_before_end l.source);
 }

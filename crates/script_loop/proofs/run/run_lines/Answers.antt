@@ -17,6 +17,7 @@ loop-n-init g c = record {
   most = refl;
   room = search rules;
   unfailing = λ h. h;
+  before_end = λ h e. h;
 }
 
 pub returns-in_default-clause-memory : goal.returns-in_default-clause-memory
@@ -90,6 +91,7 @@ loop-n-preserved g c =
       most = c.write_whole.ensures.most ∙ c.loop-n.invariant.most;
       room = search rules;
       unfailing = search rules;
+      before_end = search rules;
     }
 
 pub returns-clause-runs : goal.returns-clause-runs

@@ -2,7 +2,7 @@ use Rattle.std.proofs.Common.{◌≡◌, ◌≤◌, IsTrue}
 use Rattle.std.specs.Prelude.{vec_capacity}
 use Rattle.std.specs.Io.KnownBytes.{IsAtEnd, prepend_known}
 use Rattle.script_loop.specs.Machines.{short_room}
-use Rattle.script_loop.specs.Reader.{source_ended, in_hand}
+use Rattle.script_loop.specs.Reader.{TillEnd, source_ended, in_hand}
 use Rattle.script_loop.proofs.GoingOn.{HasRunOn}
 use Rattle.script_loop.proofs.run.run_lines.Given as goal
 
@@ -15,4 +15,5 @@ invariant-loop-n g l = record {
   most : g.K.Sink.most l.sink ≡ g.K.Sink.most l.fn.sink;
   room : short_room ≤ vec_capacity l.answer;
   unfailing : g.S.Source.never_fails l.fn.source → g.S.Source.never_fails l.source;
+  before_end : g.S.Source.never_fails_before_end l.fn.source → TillEnd (source_ended l.reader) (g.S.Source.never_fails_before_end l.source);
 }

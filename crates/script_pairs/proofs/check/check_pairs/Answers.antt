@@ -12,6 +12,7 @@ loop-n-init g c = record {
   none = λ e. c.in_ok-reader.ensures.hand;
   same = refl;
   unfailing = λ h. h;
+  before_end = λ h e. h;
 }
 
 pub returns-in-End-clause-checks : goal.returns-in-End-clause-checks
@@ -71,6 +72,7 @@ loop-n-preserved g c =
       none = c.in_ok-found.ensures.none;
       same = c.in_ok-found.ensures.told (λ e. cc) ∙ c.in_ok-next.ensures.told (λ e. cc) ∙ c.loop-n.invariant.same;
       unfailing = λ never. c.in_ok-found.ensures.never_later (c.in_ok-next.ensures.never_later (c.loop-n.invariant.unfailing never));
+      before_end = λ sure. c.in_ok-found.ensures.still_before (c.in_ok-next.ensures.still_before (c.loop-n.invariant.before_end sure));
     }
 
 pub returns-then-ended-clause-checks : goal.returns-then-ended-clause-checks

@@ -22,5 +22,7 @@ returns c = record {
   reply = refl;
   pushed = refl;
   early = refl;
+  owed_before_word = refl;
+  owed_before_event = refl;
   none = refl;
 }

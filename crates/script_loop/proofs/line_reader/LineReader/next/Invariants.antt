@@ -1,7 +1,7 @@
 use Rattle.std.proofs.Common.{◌≡◌, ◌≤◌, ◌-◌, ◌+◌, false, length, take, cond, IsTrue}
 use Rattle.std.specs.Io.KnownBytes.{IsAtEnd, Keeps, prepend_known}
 use Rattle.board_model.specs.Lines.{IsOneLine}
-use Rattle.script_loop.specs.Reader.{NeedsBytes, source_ended, in_hand}
+use Rattle.script_loop.specs.Reader.{NeedsBytes, TillEnd, source_ended, in_hand}
 use Rattle.script_loop.proofs.line_reader.LineReader.next.Given as goal
 
 abbrev pub invariant-loop-at : goal.invariant-loop-at
@@ -15,7 +15,7 @@ invariant-loop-at g l = record {
   unread : (NeedsBytes l.fn.self → ⊥) → l.source ≡ l.fn.source;
   same : g.S.Source.faults l.source ≡ g.S.Source.faults l.fn.source;
   unfailing : g.S.Source.never_fails l.fn.source → g.S.Source.never_fails l.source;
-  before_end : g.S.Source.never_fails_before_end l.fn.source → source_ended l.self ≡ false → g.S.Source.never_fails_before_end l.source;
+  before_end : TillEnd (source_ended l.fn.self) (g.S.Source.never_fails_before_end l.fn.source) → TillEnd (source_ended l.self) (g.S.Source.never_fails_before_end l.source);
 }
 
 abbrev pub decreases-loop-at : goal.decreases-loop-at

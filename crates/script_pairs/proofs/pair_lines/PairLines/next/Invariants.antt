@@ -1,6 +1,7 @@
 use Rattle.std.proofs.Common.{◌≡◌, ◌≤◌, ◌+◌, ◌-◌, [], length, true}
 use Rattle.std.specs.Io.KnownBytes.{IsAtEnd, Keeps, prepend_known}
 use Rattle.board_model.specs.Lines.{IsOneLine}
+use Rattle.script_loop.specs.Reader.{TillEnd}
 use Rattle.script_pairs.specs.PairLines.{has_ended, in_hand, to_come}
 use Rattle.script_pairs.proofs.pair_lines.PairLines.next.Given as goal
 
@@ -13,6 +14,7 @@ invariant-look g l = record {
   none : has_ended l.self ≡ true → in_hand l.self ≡ [];
   same : g.S.Source.faults l.source ≡ g.S.Source.faults l.fn.source;
   unfailing : g.S.Source.never_fails l.fn.source → g.S.Source.never_fails l.source;
+  before_end : TillEnd (has_ended l.fn.self) (g.S.Source.never_fails_before_end l.fn.source) → TillEnd (has_ended l.self) (g.S.Source.never_fails_before_end l.source);
 }
 
 abbrev pub decreases-look : goal.decreases-look
