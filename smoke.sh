@@ -126,7 +126,7 @@ gives 'the stored watcher' 0 "$watch_told\n" '' "$watch" < "$watch_script"
 gives 'a watcher, a byte at a time' 0 "$watch_told\n" '' "$watch" < <(by_bytes "$watch_script")
 gives 'a watcher of nothing' 0 '> begin b id h\nrefused unknown\nunwatched b\nunwatched b\n' '' "$watch" < <(printf 'watch b e h\nturn b')
 gives 'a watcher without handles' 5 'unwatched b\n' 'line 2: not in the grammar\n' "$watch" < <(printf 'turn b\nwatch b e\nturn b\n')
-for word in x ''; do
+for word in x '' $'\xff'; do
     gives "watchers' usage: '$word'" 2 '' "$watch_usage" "$watch" "$word" < "$watch_script"
 done
 gives 'watchers from a closed input' 3 '' 'read fault\n' "$watch" <&-
@@ -170,7 +170,7 @@ updates typed 4 update
 trips event bits
 trips event queue
 END
-for words in '' 'solo' 'solo 4 get' 'solo 2 get 1' 'solo 4 put 1' 'solo 4 get 01' 'typed 2 get 1' 'event set 1' 'shared 1 4 1' 'shared 1 0 1'; do
+for words in '' 'solo' 'solo 4 get' 'solo 2 get 1' 'solo 4 put 1' 'solo 4 get 01' 'typed 2 get 1' 'event set 1' 'shared 1 4 1' 'shared 1 0 1' $'\xff'; do
     gives "the bench's usage: $words" 2 '' "$bench_usage" "$bench" $words
 done
 gives "the bench's usage: an empty word" 2 '' "$bench_usage" "$bench" ''

@@ -13,8 +13,8 @@ use Rattle.script_pairs.specs.declared.verdict.Verdict.{Verdict}
 use Rattle.script_pairs.specs.declared.verdict.Verdict.TheVariants.{Lawful, No}
 use Rattle.script_pairs.specs.declared.verdict.CheckError.{CheckError}
 use Rattle.script_pairs.specs.declared.verdict.CheckError.TheVariants as error
-use Rattle.script_pairs.specs.Checks.{Checks, IsReadToEnd}
-use Rattle.board_check.specs.Top.{AcceptsRuns, IsBrokenIn, IsEnding, IsLawfulIn, IsRunIn, IsUnjudged, error_in, status_told}
+use Rattle.script_pairs.specs.Checks.{Checks, HasLinesOf, IsReadToEnd}
+use Rattle.board_check.specs.Top.{AcceptsRuns, IsBrokenIn, IsEnding, IsJudged, IsLawfulIn, IsRunIn, IsUnjudged, error_in, status_told}
 
 -- the name of a rule is short
 pub name_short : (r : Rule) → length (rule_name r) ≤ 6
@@ -112,6 +112,14 @@ spent error.OutOfMemory long fault = refl
 pub run_spent : (e : CheckError) (bytes : Option (List ℕ)) → AcceptsRuns bytes (Err e) → IsRunIn bytes → e ≢ error.ReadFault → status_of (Err (error_in e)) ≡ 7
 run_spent e None h run fault = absurd run
 run_spent e (Some bytes) h run fault = spent e (h run.0 run.1 run.2) fault
+
+-- what few lines come to: a verdict, or want of memory
+pub judged : (v : Verdict) (status : ℕ) → status ≡ status_told v → IsJudged status
+judged (Lawful n) status is = inl is
+judged (No n r) status is = inr (inl is)
+
+pub few_spent : (e : CheckError) (bytes : Option (List ℕ)) → Checks 4294967295 bytes (Err e) → HasLinesOf 4294967295 bytes → e ≢ error.ReadFault → status_of (Err (error_in e)) ≡ 7
+few_spent e bytes h few fault = spent e (λ q. h.few few (ap Err q)) fault
 
 -- texts are those of words
 pub some_words : {A : Type 0} (f : A → List ℕ) (ws : List A) → (map f ws ≡ [] → ⊥) → 0 < length ws

@@ -47,6 +47,10 @@ abbrev pub status_told : Verdict → ℕ
 status_told (Lawful n) = 0
 status_told (No n r) = 1
 
+-- the status is that of a verdict, or of want of memory
+abbrev pub IsJudged : ℕ → Type 0
+IsJudged status = (status ≡ 0) ⊎ (status ≡ 1) ⊎ (status ≡ 7)
+
 -- the lines of the source, which was read to its end, are a lawful session, and so it was written
 pub record IsLawfulIn (source sink : Stream) : Type 0 where
   pub pairs : ℕ

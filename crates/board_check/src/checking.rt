@@ -35,6 +35,9 @@ pub fn check<S: Source>(alloc: Global, source: &mut S) -> Result<Verdict, CheckE
         → S.faults source.new ≡ one_fault_more (S.faults source.old) }
     ensures later { S.faults source.old ≤ S.faults source.new }
     ensures reads { S.never_fails source.old → result ≢ Err CheckError.ReadFault }
+
+    // The source isn't read behind its end: one whose reads may fail only there doesn't fail here.
+    ensures before_end { S.never_fails_before_end source.old → result ≢ Err CheckError.ReadFault }
 {
     let mut judge = Judge::new(alloc);
     check_pairs(alloc, MAX_PAIRS, &mut judge, source)

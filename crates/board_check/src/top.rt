@@ -4,7 +4,8 @@ ghost use Rattle.std.specs.Process.{exit_status};
 ghost use Rattle.std.specs.String.{string_bytes};
 ghost use Rattle.script_endings.specs.Endings.{IsNoted};
 ghost use Rattle.script_loop.specs.Runs.{stream_of};
-ghost use Rattle.board_check.specs.Top.{HasEnded, IsAnswered, IsBrokenIn, IsEnding, IsLawfulIn, IsRunIn, error_in, status_told, usage_note, verdict_text};
+ghost use Rattle.script_pairs.specs.Checks.{HasLinesOf};
+ghost use Rattle.board_check.specs.Top.{HasEnded, IsAnswered, IsBrokenIn, IsEnding, IsJudged, IsLawfulIn, IsRunIn, error_in, status_told, usage_note, verdict_text};
 
 use crate::checking::check;
 use board_layout::Text;
@@ -111,14 +112,20 @@ pub fn check_words<S: Source, K: Sink, N: Sink>(
     // Nothing is noted of a verdict that was written.
     ensures silent { result < 2 → notes.new ≡ notes.old }
 
-    // The status is 3 only where the source may fail, and 4 only where the sink may within a verdict's bytes.
+    // The status is 3 only where the source may fail, and before its end, and 4 only where the sink may within a verdict's bytes.
     ensures reads { S.never_fails source.old → result ≢ 3 }
+    ensures before_end { S.never_fails_before_end source.old → result ≢ 3 }
     ensures writes { K.never_fails_within sink.old 64 → result ≢ 4 }
 
     // The lines and the output of a run, in turn, end with status 0, or 7 where memory is refused.
     ensures runs { length words.now.items ≡ 0
         → S.never_fails source.old → K.never_fails_within sink.old 64
         → IsRunIn (S.left source.old) → (result ≡ 0) ⊎ (result ≡ 7) }
+
+    // No more lines than those of the pairs that are allowed come to a verdict, or to want of memory.
+    ensures complete { length words.now.items ≡ 0
+        → S.never_fails source.old → K.never_fails_within sink.old 64
+        → HasLinesOf 4294967295 (S.left source.old) → IsJudged result }
 
     // The status is 2 exactly where there are words. Then nothing is read or written.
     ensures usage { 0 < length words.now.items → result ≡ 2 }
@@ -154,14 +161,20 @@ pub fn run_program<S: Source, K: Sink, N: Sink>(
     // Nothing is noted of a verdict that was written.
     ensures silent { exit_status result < 2 → notes.new ≡ notes.old }
 
-    // The status is 3 only where the source may fail, and 4 only where the sink may within a verdict's bytes.
+    // The status is 3 only where the source may fail, and before its end, and 4 only where the sink may within a verdict's bytes.
     ensures reads { S.never_fails source.old → exit_status result ≢ 3 }
+    ensures before_end { S.never_fails_before_end source.old → exit_status result ≢ 3 }
     ensures writes { K.never_fails_within sink.old 64 → exit_status result ≢ 4 }
 
     // The lines and the output of a run, in turn, end with status 0, or 7 where memory is refused.
     ensures runs { length words.now.items ≡ 0
         → S.never_fails source.old → K.never_fails_within sink.old 64
         → IsRunIn (S.left source.old) → (exit_status result ≡ 0) ⊎ (exit_status result ≡ 7) }
+
+    // No more lines than those of the pairs that are allowed come to a verdict, or to want of memory.
+    ensures complete { length words.now.items ≡ 0
+        → S.never_fails source.old → K.never_fails_within sink.old 64
+        → HasLinesOf 4294967295 (S.left source.old) → IsJudged (exit_status result) }
 
     // With words nothing is read or written.
     ensures unread { 0 < length words.now.items → source.new ≡ source.old }

@@ -1,5 +1,5 @@
 //! Scripts, from their source to their sink.
-ghost use Rattle.std.specs.Prelude.{◌≡◌, ◌≤◌, Err, IfErr, IfOk};
+ghost use Rattle.std.specs.Prelude.{◌≡◌, ◌≢◌, ◌≤◌, Err, IfErr, IfOk};
 ghost use Rattle.script_model.specs.ScriptOutput.{IsOutputOf};
 ghost use Rattle.script_loop.specs.Memory.{sink_holds, sink_most};
 ghost use Rattle.board_script.specs.Whole.{FitsRoom, RunsInMemory, RunsScript};
@@ -32,6 +32,7 @@ pub fn run_script_on<C: BoardWords + Drop, S: Source, K: Sink>(
         (stream_of S.left S.faults source.old source.new)
         (stream_of K.held K.faults sink.old sink.new)
         result }
+    ensures before_end { S.never_fails_before_end source.old → result ≢ Err ScriptError.ReadFault }
     ensures most { K.most sink.new ≡ K.most sink.old }
 {
     let mut machine = Machine::<C>::new(alloc);
@@ -53,6 +54,7 @@ pub fn run_script_within<S: Source, K: Sink>(
         (stream_of S.left S.faults source.old source.new)
         (stream_of K.held K.faults sink.old sink.new)
         result }
+    ensures before_end { S.never_fails_before_end source.old → result ≢ Err ScriptError.ReadFault }
     ensures most { K.most sink.new ≡ K.most sink.old }
 {
     run_script_on::<SeatWords, S, K>(alloc, limit, source, sink)
@@ -71,6 +73,7 @@ pub fn run_script<S: Source, K: Sink>(
         (stream_of S.left S.faults source.old source.new)
         (stream_of K.held K.faults sink.old sink.new)
         result }
+    ensures before_end { S.never_fails_before_end source.old → result ≢ Err ScriptError.ReadFault }
     ensures most { K.most sink.new ≡ K.most sink.old }
 {
     run_script_within(alloc, MAX_LINES, source, sink)
@@ -81,9 +84,11 @@ pub fn run_script<S: Source, K: Sink>(
 /// # Errors
 /// As `run_script`, and `WriteFault` where the output has more bytes than the room. After an error no output is given.
 pub fn run_in_memory(alloc: Global, script: Vec<u8>, room: usize) -> Result<MemorySink, ScriptError>
-    // The sink holds the output of the lawful session of the script's lines, and never has more room.
+    // The sink holds the output of the lawful session of the script's lines, can hold as many bytes as there was room for, and has
+    // failed at none of its writes.
     ensures output { IfOk result (λ sink. IsOutputOf script.items (sink_holds sink)) }
     ensures most { IfOk result (λ sink. sink_most sink ≡ room) }
+    ensures told { IfOk result (λ sink. sink.faults ≡ 0) }
 
     // An error is one of `run_script` over a source of the script, which never fails, and an empty sink that takes what fits into
     // the room, and holds no more than that afterwards.

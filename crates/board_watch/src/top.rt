@@ -50,8 +50,9 @@ pub fn watch_words<S: Source, K: Sink, N: Sink>(
         (stream_of K.held K.faults sink.old sink.new)
         (stream_of N.held N.faults notes.old notes.new) }
 
-    // The status is 3 only where the source may fail, and 4 only where the sink may before all is told.
+    // The status is 3 only where the source may fail, and before its end, and 4 only where the sink may before all is told.
     ensures reads { S.never_fails source.old → result ≢ 3 }
+    ensures before_end { S.never_fails_before_end source.old → result ≢ 3 }
     ensures writes { length words.now.items ≡ 0
         → (room : ℕ) → K.never_fails_within sink.old room
         → FitsInto Watchers IsLawful room 4294967295 (S.left source.old) → result ≢ 4 }
@@ -100,8 +101,9 @@ pub fn run_program<S: Source, K: Sink, N: Sink>(
         (stream_of K.held K.faults sink.old sink.new)
         (stream_of N.held N.faults notes.old notes.new) }
 
-    // The status is 3 only where the source may fail, and 4 only where the sink may before all is told.
+    // The status is 3 only where the source may fail, and before its end, and 4 only where the sink may before all is told.
     ensures reads { S.never_fails source.old → exit_status result ≢ 3 }
+    ensures before_end { S.never_fails_before_end source.old → exit_status result ≢ 3 }
     ensures writes { length words.now.items ≡ 0
         → (room : ℕ) → K.never_fails_within sink.old room
         → FitsInto Watchers IsLawful room 4294967295 (S.left source.old) → exit_status result ≢ 4 }

@@ -1,9 +1,7 @@
 -- Steps of calls on boards, and what is taken out of a judge for a step.
-use Rattle.std.proofs.Common.{◌≡◌, ℕ, ◌<◌, ◌^◌, Bool, true, false, List, [], ◌∷◌, ◌++◌, refl, sym, ap, subst, ◌∙◌, Option, Some, None, ◌⊎◌, inl, inr}
-use Rattle.std.specs.Prelude.{if◌then◌else◌, is_some, option_map}
-use Rattle.std.specs.Str.{bytes_eq}
+use Rattle.std.proofs.Common.{◌≡◌, ℕ, List, [], ◌∷◌, ◌++◌, refl, sym, ap, subst, ◌∙◌, Option, Some, None}
+use Rattle.std.specs.Prelude.{option_map}
 use Rattle.board_cell_model.specs.declared.access.Access.{Access}
-use Rattle.board_event_model.specs.EventSessions.{PartyCall}
 use Rattle.board_model.specs.declared.answer.Answer.TheVariants as answer
 use Rattle.board_model.specs.declared.answer.Reply.{Reply}
 use Rattle.board_model.specs.declared.line.Line.TheVariants as board_line
@@ -11,30 +9,29 @@ use Rattle.board_model.specs.AnswerGrammar.{answer_line}
 use Rattle.board_model.specs.LawfulSession.{IsTold, stepped}
 use Rattle.board_model.specs.LineGrammar.{IsLine}
 use Rattle.board_model.specs.Memory.{IsStanding, after_access, memory_after}
-use Rattle.board_model.specs.Parties.{Party, Running, free, is_done, notice, running}
+use Rattle.board_model.specs.Parties.{Running, free, notice, running}
 use Rattle.board_model.specs.Replies.{ask, lists_after}
 use Rattle.board_model.specs.Requests.{Published, Request}
 use Rattle.board_model.specs.Things.{Standing}
 use Rattle.script_model.specs.declared.line.ScriptLine.TheVariants as line
-use Rattle.script_model.specs.ScriptEvents as events
 use Rattle.script_model.specs.ScriptTurns.{ScriptState}
 use Rattle.script_board_tables.specs.declared.calls.BoardCall.{BoardCall}
 use Rattle.script_board_tables.specs.declared.step.Stepped.TheVariants.{GoesOn, Ends}
 use Rattle.script_board_tables.specs.declared.tables.BoardTables.{BoardTables}
-use Rattle.script_board_tables.specs.LawsOfSteps.{IsOf, RunningCallsCanStep}
+use Rattle.script_board_tables.specs.LawsOfSteps.{RunningCallsCanStep}
 use Rattle.script_board_tables.specs.Steps.{CanStep, EndsAs, GoesOnAs, Steps}
-use Rattle.script_board_tables.specs.Tables.{Has, memory_of, published_of, standing_of}
+use Rattle.script_board_tables.specs.Tables.{Has, published_of}
 use Rattle.script_event_tables.specs.declared.event_table.EventTable.{EventTable}
 use Rattle.script_event_tables.specs.EventTables.{AreEvents}
 use Rattle.script_judge.specs.declared.judge.Judge.{Judge}
 use Rattle.script_judge.specs.declared.task.Task.{Task}
 use Rattle.script_judge.specs.declared.task.Task.TheVariants as task
-use Rattle.script_judge.specs.Judges.{IsLed, IsLedBut, IsOut, IsReached, IsTaskPut, IsTelling, OfEach, Represents, RepresentsBut, Tells, TellsStep, task_of, thing_at, thing_in}
+use Rattle.script_judge.specs.Judges.{IsLed, IsLedBut, IsOut, IsReached, IsTaskPut, IsTelling, Represents, RepresentsBut, Tells, TellsStep, task_of, thing_in}
 use Rattle.script_judge.proofs.EventLemmas.{kept_of}
 use Rattle.script_judge.proofs.FreeLines.{steps_board}
 use Rattle.script_judge.proofs.Lines.{IsQuiet}
 use Rattle.script_judge.proofs.Stands.{put_here, task_is, telling}
-use Rattle.script_judge.proofs.Tasks.{AreTasks, IsPut, IsTaskIn, RunsOnBoards, others_notice, out_put, runs_by, task_out, tasks_out, tasks_put}
+use Rattle.script_judge.proofs.Tasks.{IsTaskIn, RunsOnBoards, others_notice, out_put, runs_by, task_out, tasks_out, tasks_put}
 
 -- ---- taken out
 

@@ -1,17 +1,14 @@
 -- The events of a checker's tables, and those of the definitions.
-use Rattle.std.proofs.Common.{◌≡◌, ℕ, ◌+◌, ◌-◌, ◌<◌, ◌≤◌, ◌^◌, Bool, true, false, List, [], ◌∷◌, length, refl, sym, ap, subst, ◌∙◌, Option, Some, None, ◌⊎◌, inl, inr, cond, arith, eqb}
-use Rattle.std.specs.Prelude.{◌==◌, ◌&&◌, if◌then◌else◌, is_some, IsSome, IsSomeAnd, option_map}
-use Rattle.std.specs.Str.{bytes_eq}
+use Rattle.std.proofs.Common.{◌≡◌, ℕ, ◌+◌, ◌-◌, ◌<◌, ◌≤◌, ◌^◌, Bool, true, false, List, [], ◌∷◌, refl, sym, ap, subst, ◌∙◌, Option, Some, None, ◌⊎◌, inl, inr, arith}
+use Rattle.std.specs.Prelude.{◌==◌, IsSome, IsSomeAnd}
 use Rattle.std.proofs.lemmas.Bool.Decides.{Decides-eqb}
 use Rattle.board_event_model.specs.declared.access.EventAccess.{EventAccess}
 use Rattle.board_event_model.specs.declared.access.EventAnswer.{EventAnswer}
-use Rattle.board_event_model.specs.declared.kind.EventKind.{EventKind}
 use Rattle.board_event_model.specs.EventMemory.{Event}
-use Rattle.board_event_model.specs.EventSessions.{EventLine, EventSession, PartyCall, StandingEvent, abandon_of, all_gone, begin_on, change_at, event_of, expire_of, listen, next_session, no_session, notifiers_of, release_of, session_of, step_of, stepped_on, took_step}
-use Rattle.board_model.specs.Things.{with_at}
+use Rattle.board_event_model.specs.EventSessions.{EventLine, EventSession, PartyCall, StandingEvent, abandon_of, all_gone, begin_on, change_at, event_of, expire_of, listen, next_session, notifiers_of, release_of, session_of, step_of, stepped_on, took_step}
 use Rattle.script_model.specs.ScriptEvents as events
 use Rattle.script_model.specs.ScriptEvents.{ScriptEvents, let_go_from, notifier_more, notifier, listener}
-use Rattle.script_model.specs.SoundEvents.{AreSoundEvents, IsEventThing, IsFormedEvent, IsNamed}
+use Rattle.script_model.specs.SoundEvents.{AreSoundEvents, IsFormedEvent, IsNamed}
 use Rattle.script_event_tables.specs.declared.event_table.EventTable.{EventTable}
 use Rattle.script_event_tables.specs.EventTables.{AreEvents, EventsThatStand, FitTogether, IsMade, names_settled, one_notifier_less, one_notifier_more, with_changed, with_released, without_listener}
 

@@ -1,5 +1,5 @@
 -- Calls on events: what is asked for, what goes, and steps.
-use Rattle.std.proofs.Common.{◌≡◌, ℕ, ◌+◌, ◌<◌, ◌^◌, Bool, true, false, List, [], ◌∷◌, ◌++◌, refl, sym, ap, subst, ◌∙◌, Option, Some, None, ◌⊎◌, inl, inr, arith}
+use Rattle.std.proofs.Common.{◌≡◌, ℕ, Bool, true, false, List, [], ◌++◌, refl, sym, ap, subst, ◌∙◌, Option, Some, None, ◌⊎◌, inl, inr, arith}
 use Rattle.std.specs.Prelude.{◌&&◌, ◌||◌, if◌then◌else◌, is_some, IsSomeAnd, option_map}
 use Rattle.std.specs.Str.{bytes_eq}
 use Rattle.board_event_model.specs.declared.access.EventAccess.{EventAccess}
@@ -9,10 +9,10 @@ use Rattle.board_event_model.specs.EventCalls as calls
 use Rattle.board_event_model.specs.EventCalls.{RunningCall, call_of, new_call, owed, turn, went_on}
 use Rattle.board_event_model.specs.EventMemory.{CanPerform, Event, IsRight}
 use Rattle.board_event_model.specs.EventMemory as memory
-use Rattle.board_event_model.specs.EventSessions.{EventSession, PartyCall, StandingEvent, change_at, do_at, doing_on, event_of, next_session, step_of, stepped_on, took_step}
+use Rattle.board_event_model.specs.EventSessions.{EventSession, PartyCall, StandingEvent, change_at, doing_on, event_of, next_session, step_of, stepped_on, took_step}
 use Rattle.board_model.specs.declared.answer.Reason.{Reason}
 use Rattle.board_model.specs.declared.answer.Reason.TheVariants as reason
-use Rattle.board_model.specs.Parties.{Party, free}
+use Rattle.board_model.specs.Parties.{free}
 use Rattle.board_model.specs.Requests.{and_then}
 use Rattle.board_model.specs.Things.{with_at}
 use Rattle.board_model.specs.declared.line.Line.TheVariants as board_line
@@ -24,8 +24,7 @@ use Rattle.script_model.specs.ScriptAnswers.{ScriptAnswer, of_ask, of_event, scr
 use Rattle.script_model.specs.ScriptEvents as events
 use Rattle.script_model.specs.ScriptEvents.{ScriptEvents, ask_told, event_let_go, let_go_from, listener, notifier, opened_told, opened_with, runs_on_events, step_made, step_told, with_ask, with_listener}
 use Rattle.script_model.specs.ScriptGrammar.{IsScriptLine}
-use Rattle.script_model.specs.ScriptTurns.{EventTurn, IsTurnAnswer, ScriptState, board_turn, steps, turn_of}
-use Rattle.script_model.specs.SoundEvents.{AreSoundEvents}
+use Rattle.script_model.specs.ScriptTurns.{IsTurnAnswer, ScriptState, board_turn, steps}
 use Rattle.script_model.proofs.EachLemmas.{after_same}
 use Rattle.script_model.proofs.FormedLemmas.{step_formed_so}
 use Rattle.script_model.proofs.OwedLemmas.{call_stands, can_perform}
@@ -35,7 +34,7 @@ use Rattle.script_board_tables.specs.Tables.{Has}
 use Rattle.script_event_rows.specs.declared.event_call.EventCall.{EventCall}
 use Rattle.script_event_rows.specs.declared.event_call.Took.TheVariants as took
 use Rattle.script_event_rows.specs.declared.event_row.EventRow.{EventRow}
-use Rattle.script_event_rows.specs.EventCalls.{HasTaken, IsKeptOf, told_with}
+use Rattle.script_event_rows.specs.EventCalls.{HasTaken, IsKeptOf}
 use Rattle.script_event_rows.specs.EventRows.{IsOf, StandsFor}
 use Rattle.script_event_tables.specs.declared.event_table.EventTable.{EventTable}
 use Rattle.script_event_tables.specs.EventTables.{AreEvents, EventsThatStand, HasListened, HasNotified, IsMade, IsSoundTable, IsUnlistened, OfEvent, OfSomeEvent, with_changed, with_released, without_listener, one_notifier_less}
@@ -49,9 +48,9 @@ use Rattle.script_judge.specs.declared.task.Task.TheVariants as task
 use Rattle.script_judge.specs.Judges.{HasGoneOn, IsExpiry, IsLed, IsLeftOf, IsOnEvent, IsOut, IsReached, IsTaskFound, IsTaskOf, IsTaskPut, IsTelling, IsThingPut, Represents, RepresentsBut, ask_in, asked_made, task_of, thing_at, thing_in}
 use Rattle.script_judge.proofs.EventLemmas.{changed_event, found_event, holds_some, kept_of, listener_went, made_by, notifier_came, notifier_went, some_holds, thing_stands}
 use Rattle.script_judge.proofs.EventLemmas as lemmas
-use Rattle.script_judge.proofs.Lines.{Told, told_turn}
+use Rattle.script_judge.proofs.Lines.{told_turn}
 use Rattle.script_judge.proofs.Stands.{task_is, telling}
-use Rattle.script_judge.proofs.Tasks.{AreTasks, AreTasksBut, IsPut, IsTaskIn, OthersStay, RunsOnEvent, acts_by, asks_by, others_on_events, out_put, tasks_put, tasks_put_at, text_turned}
+use Rattle.script_judge.proofs.Tasks.{AreTasks, IsPut, IsTaskIn, OthersStay, acts_by, asks_by, others_on_events, out_put, tasks_put, tasks_put_at, text_turned}
 
 either : (b : Bool) → (b ≡ true) ⊎ (b ≡ false)
 either true = inl refl

@@ -1,6 +1,6 @@
 -- What a line of a free party is told, and what lines that any party may have are.
-use Rattle.std.proofs.Common.{◌≡◌, ℕ, ◌++◌, ◌∷◌, [], Bool, true, false, List, refl, sym, ap, subst, ◌∙◌, Option, Some, None}
-use Rattle.std.specs.Prelude.{not, ◌&&◌, ◌||◌, if◌then◌else◌, is_some, IfSome}
+use Rattle.std.proofs.Common.{◌≡◌, ℕ, Bool, true, false, List, refl, sym, ap, subst, ◌∙◌, Option, Some, None}
+use Rattle.std.specs.Prelude.{◌&&◌, is_some}
 use Rattle.board_cell_model.specs.declared.access.Access.{Access}
 use Rattle.board_cell_model.specs.declared.access.Access.TheVariants as access
 use Rattle.board_cell_model.specs.OwedAccesses.{owed_of}
@@ -12,27 +12,24 @@ use Rattle.board_model.specs.declared.answer.Reason.TheVariants as reason
 use Rattle.board_model.specs.declared.answer.Reply.{Reply}
 use Rattle.board_model.specs.declared.answer.Reply.TheVariants as reply
 use Rattle.board_model.specs.declared.line.Call.{Call}
-use Rattle.board_model.specs.declared.line.Line.{Line}
 use Rattle.board_model.specs.declared.line.Line.TheVariants as board_line
 use Rattle.board_model.specs.AnswerGrammar.{IsAnswer, answer_line}
 use Rattle.board_model.specs.LineGrammar.{IsLine}
 use Rattle.board_model.specs.LawsOfForms.{IsRightButForm}
 use Rattle.board_model.specs.Memory.{IsStanding}
-use Rattle.board_model.specs.Parties.{Party, Running, begun, free, gone, is_done, owed, running, with_party}
-use Rattle.board_model.specs.Replies.{ask, dropped}
+use Rattle.board_model.specs.Parties.{Party, Running, begun, free, gone, owed, running, with_party}
+use Rattle.board_model.specs.Replies.{dropped}
 use Rattle.board_model.specs.Requests.{Request, new_name, request_of}
 use Rattle.board_model.specs.Tables.{board_at}
 use Rattle.board_model.specs.Things.{is_held}
 use Rattle.board_model.specs.LawfulSession as boards
 use Rattle.board_model.specs.LawfulSession.{IsReasoned, IsTold, State, abandon_reason, call_reason, free_reason, reason_of, stepped}
 use Rattle.script_model.specs.declared.line.EventRequest.{EventRequest}
-use Rattle.script_model.specs.declared.line.ScriptLine.{ScriptLine}
 use Rattle.script_model.specs.declared.line.ScriptLine.TheVariants as line
-use Rattle.script_model.specs.ScriptAnswers.{IsScriptAnswer, ScriptAnswer, expired, of_boards, script_answer_line}
-use Rattle.script_model.specs.ScriptEvents.{EventAsk, EventTask, ScriptEvents, event_let_go, events_abandoned, holds_event, name_made, runs_on_events, task_of}
+use Rattle.script_model.specs.ScriptAnswers.{expired, of_boards, script_answer_line}
+use Rattle.script_model.specs.ScriptEvents.{EventAsk, EventTask, event_let_go, events_abandoned, holds_event, name_made, task_of}
 use Rattle.script_model.specs.ScriptGrammar.{IsScriptLine}
-use Rattle.script_model.specs.ScriptSession.{IsRight, after, after_boards, after_turn}
-use Rattle.script_model.specs.ScriptTurns.{EventTurn, IsTurnAnswer, ScriptState, begins, begin_turn, board_turn, drop_turn, drops, expires, expire_of_call, free_turn, is_name_taken, may_expire, refused, steps, takes_event_name, task_begun, task_turn, turn_of, turned}
+use Rattle.script_model.specs.ScriptTurns.{EventTurn, ScriptState, begins, board_turn, drops, expires, is_name_taken, may_expire, refused, takes_event_name, task_begun, task_turn, turn_of}
 use Rattle.script_judge.proofs.Lines.{IsQuiet, Told, board_refused, quiet, told_alone, told_refused, told_turn}
 
 -- a free party, that runs nothing

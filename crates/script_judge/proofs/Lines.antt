@@ -1,21 +1,18 @@
 -- What a line is told, by what its party runs.
 use Rattle.std.proofs.Common.{◌≡◌, ℕ, Bool, true, false, List, refl, sym, ap, subst, ◌∙◌, Option, Some, None, ◌⊎◌, inl, inr}
-use Rattle.std.specs.Prelude.{not, ◌&&◌, ◌||◌, if◌then◌else◌, is_some}
-use Rattle.board_cell_model.specs.declared.access.Access.{Access}
-use Rattle.board_cell_model.specs.declared.access.Access.TheVariants as access
+use Rattle.std.specs.Prelude.{◌&&◌, ◌||◌, if◌then◌else◌, is_some}
 use Rattle.board_event_model.specs.EventSessions.{PartyCall}
 use Rattle.board_model.specs.declared.answer.Answer.{Answer}
 use Rattle.board_model.specs.declared.answer.Answer.TheVariants as answer
 use Rattle.board_model.specs.declared.answer.Reason.{Reason}
 use Rattle.board_model.specs.declared.answer.Reason.TheVariants as reason
-use Rattle.board_model.specs.declared.answer.Reply.TheVariants as reply
 use Rattle.board_model.specs.declared.line.Call.{Call}
 use Rattle.board_model.specs.declared.line.Line.{Line}
 use Rattle.board_model.specs.declared.line.Line.TheVariants as board_line
 use Rattle.board_model.specs.AnswerGrammar.{answer_line}
 use Rattle.board_model.specs.LineGrammar.{IsLine}
 use Rattle.board_model.specs.Parties.{Party, free, gone, running}
-use Rattle.board_model.specs.Requests.{Request, new_name, request_of}
+use Rattle.board_model.specs.Requests.{new_name, request_of}
 use Rattle.board_model.specs.Things.{is_held}
 use Rattle.board_model.specs.LawfulSession as boards
 use Rattle.board_model.specs.LawfulSession.{State, call_reason, free_reason}
@@ -26,7 +23,7 @@ use Rattle.script_model.specs.ScriptAnswers.{IsScriptAnswer, ScriptAnswer, of_bo
 use Rattle.script_model.specs.ScriptEvents.{EventAsk, ScriptEvents, holds_event, runs_on_events, task_of}
 use Rattle.script_model.specs.ScriptGrammar.{IsScriptLine}
 use Rattle.script_model.specs.ScriptSession.{IsRight, after, after_boards, after_turn}
-use Rattle.script_model.specs.ScriptTurns.{EventTurn, IsTurnAnswer, ScriptState, begin_turn, board_turn, drop_turn, drops, free_turn, refused, takes_event_name, task_turn, turn_of, turned}
+use Rattle.script_model.specs.ScriptTurns.{EventTurn, IsTurnAnswer, ScriptState, begin_turn, board_turn, drop_turn, free_turn, refused, takes_event_name, task_turn, turn_of, turned}
 use Rattle.script_model.proofs.RuleLemmas.{right_on_boards, right_on_events}
 
 -- ---- what is told

@@ -1,25 +1,20 @@
 -- What was found for a call, drops, abandonments, listings, expiries and calls on events that begin.
-use Rattle.std.proofs.Common.{◌≡◌, ℕ, ◌<◌, ◌^◌, Bool, true, false, List, [], ◌∷◌, ◌++◌, length, refl, sym, ap, subst, ◌∙◌, Option, Some, None, ◌⊎◌, inl, inr, arith}
-use Rattle.std.specs.Prelude.{◌&&◌, ◌||◌, if◌then◌else◌, is_some, IsSomeAnd, not, option_map, Result, Ok, Err}
-use Rattle.std.specs.Str.{bytes_eq}
+use Rattle.std.proofs.Common.{◌≡◌, ℕ, Bool, true, false, List, refl, sym, ap, subst, ◌∙◌, Option, Some, None}
+use Rattle.std.specs.Prelude.{if◌then◌else◌, is_some, IsSomeAnd, not, option_map, Ok}
 use Rattle.board_cell_model.specs.declared.access.Access.TheVariants as access
 use Rattle.board_event_model.specs.declared.call.WaitMode.{WaitMode}
-use Rattle.board_event_model.specs.EventCalls.{RunningCall, call_of, is_timed, new_call}
+use Rattle.board_event_model.specs.EventCalls.{new_call}
 use Rattle.board_event_model.specs.EventMemory.{Event}
 use Rattle.board_event_model.specs.EventSessions.{PartyCall, event_of, expire_of, next_session}
-use Rattle.board_model.specs.declared.answer.Answer.{Answer}
 use Rattle.board_model.specs.declared.answer.Answer.TheVariants as answer
 use Rattle.board_model.specs.declared.answer.Reason.{Reason}
 use Rattle.board_model.specs.declared.answer.Reason.TheVariants as reason
 use Rattle.board_model.specs.declared.answer.Reply.TheVariants as reply
-use Rattle.board_model.specs.declared.line.Line.{Line}
 use Rattle.board_model.specs.declared.line.Line.TheVariants as board_line
-use Rattle.board_model.specs.AnswerGrammar.{IsAnswer, answer_line}
-use Rattle.board_model.specs.LawfulSession as boards
-use Rattle.board_model.specs.LawfulSession.{abandon_reason, is_filled, is_indexed, is_typed}
-use Rattle.board_model.specs.LawsOfForms.{IsRightButForm}
+use Rattle.board_model.specs.AnswerGrammar.{answer_line}
+use Rattle.board_model.specs.LawfulSession.{abandon_reason, is_filled, is_indexed}
 use Rattle.board_model.specs.LineGrammar.{IsLine}
-use Rattle.board_model.specs.Parties.{Party, free, gone, running, with_party}
+use Rattle.board_model.specs.Parties.{free, gone, with_party}
 use Rattle.board_model.specs.Replies.{dropped}
 use Rattle.board_model.specs.Requests.{Request, and_then}
 use Rattle.board_model.specs.Tables.{board_at}
@@ -28,11 +23,11 @@ use Rattle.board_model.specs.Things.{Standing}
 use Rattle.script_model.specs.declared.line.EventRequest.{EventRequest}
 use Rattle.script_model.specs.declared.line.EventRequest.TheVariants as request
 use Rattle.script_model.specs.declared.line.ScriptLine.TheVariants as line
-use Rattle.script_model.specs.ScriptAnswers.{expired, of_boards, script_answer_line}
+use Rattle.script_model.specs.ScriptAnswers.{expired, script_answer_line}
 use Rattle.script_model.specs.ScriptEvents as events
 use Rattle.script_model.specs.ScriptEvents.{ScriptEvents, events_abandoned, holds_event, name_made, runs_on_events, with_ask}
 use Rattle.script_model.specs.ScriptGrammar.{IsScriptLine}
-use Rattle.script_model.specs.ScriptTurns.{ScriptState, is_name_taken, may_expire, task_begun}
+use Rattle.script_model.specs.ScriptTurns.{ScriptState, may_expire, task_begun}
 use Rattle.script_model.proofs.TurnLemmas.{text_itself}
 use Rattle.script_board_tables.specs.declared.requests.Found.{Found}
 use Rattle.script_board_tables.specs.declared.tables.BoardTables.{BoardTables}
@@ -54,7 +49,7 @@ use Rattle.script_judge.proofs.EventLemmas.{kept_of, some_holds}
 use Rattle.script_judge.proofs.FreeLines.{IsFree, abandons, abandons_gone, asks_begins, asks_taken, asks_unknown, drops_event, drops_nothing, drops_thing, expires_asking, expires_early, expires_gone, expires_idle, expires_running, expires_waiting, lists, lists_none, steps_gone, steps_idle}
 use Rattle.script_judge.proofs.Lines.{Told, unfree_asks, unfree_releases}
 use Rattle.script_judge.proofs.Stands.{holds_is, name_is, put_here, stands_with, task_is, telling}
-use Rattle.script_judge.proofs.Tasks.{AreTasks, IsTaskIn, OthersStay, acts_by, asks_by, free_by, free_unless, gone_by, others_on_events, others_with_party, put_again, runs_by, tasks_put, tasks_same, unfree_by}
+use Rattle.script_judge.proofs.Tasks.{IsTaskIn, OthersStay, acts_by, asks_by, free_by, free_unless, gone_by, others_on_events, put_again, runs_by, tasks_put, tasks_same, unfree_by}
 
 -- ---- what was found for a call on boards
 

@@ -1,9 +1,5 @@
 -- A judge that stands for a lawful session, and one line more.
-use Rattle.std.proofs.Common.{◌≡◌, ℕ, ◌+◌, ◌<◌, ◌≤◌, ◌^◌, List, length, arith, sym, subst}
-use Rattle.board_model.specs.declared.answer.Answer.{Answer}
-use Rattle.board_model.specs.declared.line.Line.{Line}
-use Rattle.board_model.specs.AnswerGrammar.{IsAnswer}
-use Rattle.board_model.specs.LawfulSession as boards
+use Rattle.std.proofs.Common.{ℕ, ◌<◌, ◌^◌, List, length, arith, sym, subst}
 use Rattle.board_model.specs.LawfulSession.{State}
 use Rattle.board_model.specs.LawsOfBounds.{IsWithin}
 use Rattle.board_model.specs.LawsOfForms.{AreFormed, IsRightButForm}
@@ -18,7 +14,7 @@ use Rattle.script_model.specs.ScriptSession.{IsLawful, Session, start, state_aft
 use Rattle.script_model.proofs.PartLemmas.{boards_law_holds}
 use Rattle.script_model.proofs.ScriptSoundLemmas.{sessions_sound}
 use Rattle.script_loop.specs.Machines.{StandsFor}
-use Rattle.script_pairs.specs.Checks.{HasTold, TellsEach}
+use Rattle.script_pairs.specs.Checks.{TellsEach}
 use Rattle.script_judge.specs.declared.judge.Judge.{Judge}
 use Rattle.script_judge.specs.Judges.{IsLed, IsReached, Represents, Tells}
 

@@ -1,43 +1,35 @@
 -- A judge that stands for a state, and what a line of a party is to it.
-use Rattle.std.proofs.Common.{◌≡◌, ℕ, ◌+◌, ◌-◌, ◌<◌, ◌≤◌, ◌^◌, Bool, true, false, List, [], ◌∷◌, ◌++◌, refl, sym, ap, subst, ◌∙◌, Option, Some, None, ◌⊎◌, inl, inr, cond}
+use Rattle.std.proofs.Common.{◌≡◌, ℕ, Bool, true, false, List, [], ◌++◌, refl, sym, ap, subst, ◌∙◌, Option, Some, None, ◌⊎◌, inl, inr}
 use Rattle.std.specs.Prelude.{◌&&◌, ◌||◌, if◌then◌else◌, is_some, option_map, Result, Ok, Err, OnOk}
-use Rattle.std.specs.Str.{bytes_eq}
 use Rattle.board_model.specs.declared.answer.Answer.TheVariants as answer
 use Rattle.board_model.specs.declared.answer.Reason.{Reason}
 use Rattle.board_model.specs.declared.answer.Reason.TheVariants as reason
 use Rattle.board_model.specs.declared.line.Call.{Call}
-use Rattle.board_model.specs.declared.line.Line.{Line}
 use Rattle.board_model.specs.declared.line.Line.TheVariants as board_line
 use Rattle.board_model.specs.AnswerGrammar.{answer_line}
-use Rattle.board_model.specs.LawfulSession.{call_reason, is_filled, is_indexed, is_taken, is_typed}
+use Rattle.board_model.specs.LawfulSession.{call_reason, is_taken}
 use Rattle.board_model.specs.LineGrammar.{IsLine}
 use Rattle.board_event_model.specs.EventSessions.{PartyCall}
-use Rattle.board_model.specs.Parties.{Party, begun, running, with_party}
-use Rattle.board_model.specs.Requests as requests
+use Rattle.board_model.specs.Parties.{Party, begun, with_party}
 use Rattle.board_model.specs.Requests.{Published, Request, new_name, request_of}
 use Rattle.board_model.specs.Things as held
 use Rattle.board_model.specs.Things.{Standing}
-use Rattle.script_model.specs.declared.line.EventRequest.{EventRequest}
 use Rattle.script_model.specs.declared.line.ScriptLine.{ScriptLine}
 use Rattle.script_model.specs.declared.line.ScriptLine.TheVariants as line
 use Rattle.script_model.specs.ScriptEvents as events
 use Rattle.script_model.specs.ScriptEvents.{holds_event, runs_on_events}
-use Rattle.script_model.specs.ScriptGrammar.{IsScriptLine}
 use Rattle.script_model.specs.ScriptTurns.{ScriptState, is_name_taken, takes_event_name}
 use Rattle.script_model.proofs.TaskLemmas.{or_false}
 use Rattle.script_model.proofs.TurnLemmas.{text_itself}
 use Rattle.script_board_tables.specs.declared.calls.BoardCall.{BoardCall}
-use Rattle.script_board_tables.specs.declared.tables.BoardTables.{BoardTables}
-use Rattle.script_board_tables.specs.Tables.{Has, memory_of, published_of, standing_of}
+use Rattle.script_board_tables.specs.Tables.{memory_of, published_of, standing_of}
 use Rattle.script_event_tables.specs.declared.event_table.EventTable.{EventTable}
-use Rattle.script_event_tables.specs.EventTables.{AreEvents, IsMade}
+use Rattle.script_event_tables.specs.EventTables.{AreEvents}
 use Rattle.script_judge.specs.declared.judge.Judge.{Judge}
-use Rattle.script_judge.specs.declared.task.EventThing.{EventThing}
-use Rattle.script_judge.specs.declared.task.EventThing.TheVariants as thing
 use Rattle.script_judge.specs.declared.task.Task.{Task}
 use Rattle.script_judge.specs.declared.task.Task.TheVariants as task
-use Rattle.script_judge.specs.Judges.{IsBegun, IsLed, IsReached, IsTaskOf, IsTaskPut, IsTelling, Represents, RepresentsBut, name_taken, refusal_by, refusal_of, task_of, thing_at, thing_in}
-use Rattle.script_judge.proofs.EventLemmas.{kept_of, made_by, thing_stands}
+use Rattle.script_judge.specs.Judges.{IsBegun, IsTaskOf, IsTaskPut, IsTelling, Represents, name_taken, refusal_by, refusal_of, task_of, thing_at, thing_in}
+use Rattle.script_judge.proofs.EventLemmas.{kept_of}
 use Rattle.script_judge.proofs.FreeLines.{IsFree, begins_board, begins_refused, begins_taken}
 use Rattle.script_judge.proofs.Lines.{Told, unfree_begins}
 use Rattle.script_judge.proofs.Tasks.{AreTasks, IsTaskIn, free_unless, others_with_party, tasks_put, unfree_by}

@@ -1,16 +1,15 @@
 -- What a party runs, by what is kept of it.
-use Rattle.std.proofs.Common.{◌≡◌, ℕ, ◌++◌, ◌∷◌, [], Bool, true, false, List, refl, sym, ap, subst, ◌∙◌, Option, Some, None, ◌⊎◌, inl, inr, cond}
-use Rattle.std.specs.Prelude.{◌&&◌, ◌||◌, if◌then◌else◌, is_some}
+use Rattle.std.proofs.Common.{◌≡◌, ℕ, Bool, true, false, List, refl, sym, ap, subst, ◌∙◌, Option, Some, None, ◌⊎◌, inl, inr, cond}
+use Rattle.std.specs.Prelude.{◌||◌, if◌then◌else◌, is_some}
 use Rattle.std.specs.Str.{bytes_eq}
 use Rattle.board_cell_model.specs.declared.access.Access.{Access}
 use Rattle.board_cell_model.specs.declared.access.Access.TheVariants as access
-use Rattle.board_event_model.specs.EventCalls.{RunningCall}
 use Rattle.board_event_model.specs.EventSessions.{PartyCall}
 use Rattle.board_model.specs.declared.answer.Reason.{Reason}
 use Rattle.board_model.specs.declared.answer.Reason.TheVariants as reason
 use Rattle.board_model.specs.LawfulSession.{free_reason}
 use Rattle.board_model.specs.Parties.{Party, Running, free, gone, notice, running}
-use Rattle.script_model.specs.ScriptEvents.{EventAsk, runs_on_events}
+use Rattle.script_model.specs.ScriptEvents.{EventAsk}
 use Rattle.script_model.specs.ScriptTurns.{ScriptState}
 use Rattle.script_model.proofs.TurnLemmas.{other_text, same_text, text_itself}
 use Rattle.script_board_tables.specs.Calls.{HasCome, IsFor}

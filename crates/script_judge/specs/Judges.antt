@@ -1,5 +1,5 @@
 -- For which state of a script a judge stands, and what a line is to it.
-use Rattle.std.specs.Prelude.{◌≡◌, ℕ, ◌<◌, ◌^◌, Bool, true, false, not, ◌&&◌, ◌||◌, if◌then◌else◌, List, [], Option, Some, None, is_some, IsSomeAnd, option_map, Result, Ok, Err, ⊤}
+use Rattle.std.specs.Prelude.{◌≡◌, ℕ, ◌<◌, ◌^◌, Bool, false, not, ◌&&◌, ◌||◌, if◌then◌else◌, List, [], Option, Some, None, is_some, IsSomeAnd, option_map, Result, Ok, Err, ⊤}
 use Rattle.std.specs.Str.{bytes_eq}
 use Rattle.std.specs.HashMap.{get}
 use Rattle.board_event_model.specs.declared.access.EventAccess.{EventAccess}
@@ -10,7 +10,6 @@ use Rattle.board_event_model.specs.EventSessions.{PartyCall}
 use Rattle.board_model.specs.declared.answer.Answer.{Answer}
 use Rattle.board_model.specs.declared.answer.Reason.{Reason}
 use Rattle.board_model.specs.declared.answer.Reason.TheVariants as reason
-use Rattle.board_model.specs.declared.line.Call.{Call}
 use Rattle.board_model.specs.declared.line.Line.{Line}
 use Rattle.board_model.specs.declared.line.Line.TheVariants as board_line
 use Rattle.board_model.specs.AnswerGrammar.{IsAnswer}
@@ -18,7 +17,7 @@ use Rattle.board_model.specs.LawfulSession.{is_filled, is_indexed, is_typed}
 use Rattle.board_model.specs.LawsOfBounds.{IsWithin}
 use Rattle.board_model.specs.LawsOfForms.{AreFormed, IsRightButForm}
 use Rattle.board_model.specs.Parties.{Party, free, gone, running}
-use Rattle.board_model.specs.Requests.{Request, request_of}
+use Rattle.board_model.specs.Requests.{Request}
 use Rattle.board_model.specs.Sound.{Sound}
 use Rattle.board_model.specs.Things as held
 use Rattle.board_model.specs.Things.{Standing}
@@ -32,7 +31,7 @@ use Rattle.script_model.specs.ScriptTurns.{ScriptState}
 use Rattle.script_model.specs.SoundEvents.{IsSoundScript}
 use Rattle.script_board_tables.specs.Calls.{HasCome, IsFor}
 use Rattle.script_board_tables.specs.declared.calls.BoardCall.{BoardCall}
-use Rattle.script_board_tables.specs.Tables.{Has, SeatOf, published_of, same_seat, standing_of}
+use Rattle.script_board_tables.specs.Tables.{Has, same_seat, standing_of}
 use Rattle.script_event_rows.specs.declared.event_call.EventCall.{EventCall}
 use Rattle.script_event_rows.specs.EventCalls.{IsKeptOf, told_with}
 use Rattle.script_event_tables.specs.EventTables.{AreEvents}

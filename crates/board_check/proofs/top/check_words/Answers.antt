@@ -3,7 +3,7 @@ use Rattle.std.specs.Prelude.{Ok, Err}
 use Rattle.script_pairs.specs.declared.verdict.CheckError.{CheckError}
 use Rattle.script_pairs.specs.declared.verdict.CheckError.TheVariants as error
 use Rattle.script_endings.proofs.StatusLemmas.{bad_status}
-use Rattle.board_check.proofs.TopLemmas.{broken_in, error_is_above, error_of, lawful_in, no_words_status, no_write_fault, run_spent, run_told, three_is_read, unjudged, verdict_is_not_four, verdict_is_not_three, write_failed}
+use Rattle.board_check.proofs.TopLemmas.{broken_in, error_is_above, error_of, few_spent, judged, lawful_in, no_words_status, no_write_fault, run_spent, run_told, three_is_read, unjudged, verdict_is_not_four, verdict_is_not_three, write_failed}
 use Rattle.board_check.proofs.top.check_words.Goals as goal
 
 pub returns-in-Ok-clause-lawful : goal.returns-in-Ok-clause-lawful
@@ -81,3 +81,18 @@ returns-in-Err-clause-reads g c = λ sure three.
 
 pub returns-in-Err-clause-writes : goal.returns-in-Err-clause-writes
 returns-in-Err-clause-writes g c = λ takes four. absurd (no_write_fault c.in-Err.error (sym (c.end_with.ensures.is ∙ error_of c.in-Err.error _ c.as_of_run.ensures) ∙ four))
+
+pub returns-in-Ok-clause-before_end : goal.returns-in-Ok-clause-before_end
+returns-in-Ok-clause-before_end g c = λ sure three. verdict_is_not_three c.in-Ok.verdict _ _ _ c.tell.ensures.ending three
+
+pub returns-in-Err-clause-before_end : goal.returns-in-Err-clause-before_end
+returns-in-Err-clause-before_end g c = λ sure three.
+    rw c.in-Err.is at c.check.ensures.before_end sure (ap (λ (e : CheckError). Err e) (three_is_read c.in-Err.error (sym (c.end_with.ensures.is ∙ error_of c.in-Err.error _ c.as_of_run.ensures) ∙ three)))
+
+pub returns-in-Ok-clause-complete : goal.returns-in-Ok-clause-complete
+returns-in-Ok-clause-complete g c = λ none sure takes few. judged c.in-Ok.verdict _ (c.tell.ensures.unfailing takes)
+
+pub returns-in-Err-clause-complete : goal.returns-in-Err-clause-complete
+returns-in-Err-clause-complete g c = λ none sure takes few.
+    inr (inr (c.end_with.ensures.is ∙ error_of c.in-Err.error _ c.as_of_run.ensures ∙ few_spent c.in-Err.error _ (rw c.in-Err.is at c.check.ensures.checks) few
+    (λ (q : c.in-Err.error ≡ error.ReadFault). rw c.in-Err.is at c.check.ensures.reads sure (ap (λ (e : CheckError). Err e) q))))

@@ -23,3 +23,9 @@ returns-clause-writes g c = rw c.from.ensures c.check_words.ensures.writes
 
 pub returns-clause-runs : goal.returns-clause-runs
 returns-clause-runs g c = rw c.from.ensures c.check_words.ensures.runs
+
+pub returns-clause-before_end : goal.returns-clause-before_end
+returns-clause-before_end g c = rw c.from.ensures c.check_words.ensures.before_end
+
+pub returns-clause-complete : goal.returns-clause-complete
+returns-clause-complete g c = rw c.from.ensures c.check_words.ensures.complete

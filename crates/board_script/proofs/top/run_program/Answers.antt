@@ -13,6 +13,9 @@ returns-clause-ended g c = rw c.from.ensures (record {
 pub returns-clause-reads : goal.returns-clause-reads
 returns-clause-reads g c = rw c.from.ensures c.run_words.ensures.reads
 
+pub returns-clause-before_end : goal.returns-clause-before_end
+returns-clause-before_end g c = rw c.from.ensures c.run_words.ensures.before_end
+
 pub returns-clause-writes : goal.returns-clause-writes
 returns-clause-writes g c = rw c.from.ensures c.run_words.ensures.writes
 

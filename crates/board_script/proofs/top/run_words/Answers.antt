@@ -22,12 +22,20 @@ pub returns-then-is_empty-clause-reads : goal.returns-then-is_empty-clause-reads
 returns-then-is_empty-clause-reads g c = λ sure.
     not_three c.run_script.result c.end_with.result c.end_with.ensures.is (c.run_script.ensures.runs.read sure)
 
+pub returns-then-is_empty-clause-before_end : goal.returns-then-is_empty-clause-before_end
+returns-then-is_empty-clause-before_end g c = λ sure.
+    not_three c.run_script.result c.end_with.result c.end_with.ensures.is (c.run_script.ensures.before_end sure)
+
 pub returns-then-is_empty-clause-writes : goal.returns-then-is_empty-clause-writes
 returns-then-is_empty-clause-writes g c = λ none room takes fits.
     not_four c.run_script.result c.end_with.result c.end_with.ensures.is (c.run_script.ensures.runs.written room takes fits)
 
 pub returns-clause-reads : goal.returns-clause-reads
 returns-clause-reads g c = λ sure.
+    not_three c.run_generated.result c.end_with-2.result c.end_with-2.ensures.is (no_read_fault c.run_generated.result c.in-Some.n _ _ c.run_generated.ensures.run)
+
+pub returns-clause-before_end : goal.returns-clause-before_end
+returns-clause-before_end g c = λ sure.
     not_three c.run_generated.result c.end_with-2.result c.end_with-2.ensures.is (no_read_fault c.run_generated.result c.in-Some.n _ _ c.run_generated.ensures.run)
 
 pub returns-clause-written : goal.returns-clause-written

@@ -25,6 +25,10 @@ pub returns-clause-reads : goal.returns-clause-reads
 returns-clause-reads g c = λ sure.
     not_three c.run_driven.result c.end_with.result c.end_with.ensures.is (c.run_driven.ensures.reads sure)
 
+pub returns-clause-before_end : goal.returns-clause-before_end
+returns-clause-before_end g c = λ sure.
+    not_three c.run_driven.result c.end_with.result c.end_with.ensures.is (c.run_driven.ensures.before_end sure)
+
 pub returns-clause-writes : goal.returns-clause-writes
 returns-clause-writes g c = λ none room takes fits.
     not_four c.run_driven.result c.end_with.result c.end_with.ensures.is (c.run_driven.ensures.writes room takes fits)

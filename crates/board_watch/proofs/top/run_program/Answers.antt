@@ -18,5 +18,8 @@ returns-clause-complete g c = rw c.from.ensures (λ none sure room takes fits. c
 pub returns-clause-reads : goal.returns-clause-reads
 returns-clause-reads g c = rw c.from.ensures c.watch_words.ensures.reads
 
+pub returns-clause-before_end : goal.returns-clause-before_end
+returns-clause-before_end g c = rw c.from.ensures c.watch_words.ensures.before_end
+
 pub returns-clause-writes : goal.returns-clause-writes
 returns-clause-writes g c = rw c.from.ensures c.watch_words.ensures.writes

@@ -1,6 +1,5 @@
-use Rattle.std.proofs.Common.{◌≡◌, ℕ, Bool, List, [], refl, sym, ap, subst, ◌∙◌, Option, Some, None, rules}
+use Rattle.std.proofs.Common.{◌≡◌, sym, ◌∙◌, Some, rules}
 use Rattle.board_model.specs.declared.answer.Reason.TheVariants as reason
-use Rattle.script_judge.specs.Judges.{refusal_by, task_of}
 use Rattle.script_judge.proofs.Others.{abandon_again, abandon_first}
 use Rattle.script_judge.proofs.Stands.{from_nothing, on_ok}
 use Rattle.script_judge.proofs.judge.Judge.abandon.Goals as goal

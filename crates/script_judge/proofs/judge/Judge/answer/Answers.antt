@@ -1,4 +1,4 @@
-use Rattle.std.proofs.Common.{◌≡◌, sym, ap, subst, ◌∙◌}
+use Rattle.std.proofs.Common.{sym, ap, subst, ◌∙◌}
 use Rattle.std.specs.Prelude.{OnOk}
 use Rattle.board_model.specs.declared.line.Line.{Line}
 use Rattle.script_model.specs.declared.line.ScriptLine.{ScriptLine}

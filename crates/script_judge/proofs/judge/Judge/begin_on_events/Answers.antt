@@ -1,4 +1,4 @@
-use Rattle.std.proofs.Common.{◌≡◌, ℕ, Bool, List, [], refl, sym, ap, subst, ◌∙◌, Option, Some, None}
+use Rattle.std.proofs.Common.{◌≡◌, sym, ap, ◌∙◌}
 use Rattle.script_model.specs.ScriptEvents as events
 use Rattle.script_judge.specs.Judges.{name_taken}
 use Rattle.script_judge.proofs.Others.{ask_begun, ask_taken, ask_unfree, ask_unknown}

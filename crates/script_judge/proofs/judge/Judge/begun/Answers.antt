@@ -1,4 +1,4 @@
-use Rattle.std.proofs.Common.{◌≡◌, ℕ, Bool, List, [], refl, sym, ap, subst, ◌∙◌, Option, Some, None}
+use Rattle.std.proofs.Common.{◌≡◌, sym, ap, ◌∙◌}
 use Rattle.board_model.specs.Requests as requests
 use Rattle.script_board_tables.specs.Tables.{published_of, standing_of}
 use Rattle.script_judge.specs.Judges.{name_taken}

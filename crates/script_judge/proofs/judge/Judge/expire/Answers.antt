@@ -1,4 +1,3 @@
-use Rattle.std.proofs.Common.{◌≡◌, ℕ, Bool, List, [], refl, sym, ap, subst, ◌∙◌, Option, Some, None}
 use Rattle.script_judge.proofs.Others.{expire_done, expire_refused}
 use Rattle.script_judge.proofs.Stands.{from_nothing, on_ok}
 use Rattle.script_judge.proofs.judge.Judge.expire.Goals as goal

@@ -1,4 +1,4 @@
-use Rattle.std.proofs.Common.{◌≡◌, ℕ, Bool, List, [], refl, sym, ap, subst, ◌∙◌, Option, Some, None}
+use Rattle.std.proofs.Common.{◌≡◌, [], sym, ap, ◌∙◌, Some, None}
 use Rattle.script_judge.specs.declared.task.EventThing.TheVariants as thing
 use Rattle.script_judge.specs.declared.task.EventThing.{EventThing}
 use Rattle.script_judge.specs.Judges.{thing_at}

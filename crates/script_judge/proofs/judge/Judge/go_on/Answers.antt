@@ -1,5 +1,4 @@
-use Rattle.std.proofs.Common.{◌≡◌, ℕ, Bool, List, [], refl, sym, ap, subst, ◌∙◌, Option, Some, None}
-use Rattle.board_event_model.specs.EventCalls.{RunningCall}
+use Rattle.std.proofs.Common.{subst}
 use Rattle.script_event_rows.specs.declared.event_call.Took.{Took}
 use Rattle.script_event_rows.specs.EventCalls.{HasTaken}
 use Rattle.script_judge.proofs.EventSteps.{ended_kept, goes_on_kept}

@@ -1,7 +1,6 @@
-use Rattle.std.proofs.Common.{◌≡◌, ℕ, Bool, List, [], refl, sym, ap, subst, ◌∙◌, Option, Some, None}
+use Rattle.std.proofs.Common.{refl, ap, ◌∙◌, Some}
 use Rattle.script_judge.specs.declared.task.EventThing.TheVariants as thing
 use Rattle.script_judge.specs.declared.task.EventThing.{EventThing}
-use Rattle.script_judge.specs.Judges.{thing_at}
 use Rattle.script_judge.proofs.EventSteps.{listener_goes, notifier_goes, thing_made}
 use Rattle.script_judge.proofs.judge.Judge.let_go.Goals as goal
 

@@ -1,4 +1,4 @@
-use Rattle.std.proofs.Common.{◌≡◌, ℕ, Bool, List, [], refl, sym, ap, subst, ◌∙◌, Option, Some, None}
+use Rattle.std.proofs.Common.{ℕ, refl, subst, Option}
 use Rattle.script_event_tables.specs.EventTables.{HasListened}
 use Rattle.script_judge.proofs.EventSteps.{listener_made, listener_refused}
 use Rattle.script_judge.proofs.judge.Judge.made_listener.Goals as goal

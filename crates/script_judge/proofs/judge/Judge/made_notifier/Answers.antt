@@ -1,4 +1,4 @@
-use Rattle.std.proofs.Common.{◌≡◌, ℕ, Bool, List, [], refl, sym, ap, subst, ◌∙◌, Option, Some, None}
+use Rattle.std.proofs.Common.{ℕ, refl, subst, Option}
 use Rattle.script_judge.specs.declared.task.Task.TheVariants as task
 use Rattle.script_event_tables.specs.EventTables.{HasNotified}
 use Rattle.script_judge.proofs.EventSteps.{notifier_made, notifier_refused, sound_table}

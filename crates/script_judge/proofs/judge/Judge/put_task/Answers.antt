@@ -1,4 +1,4 @@
-use Rattle.std.proofs.Common.{◌≡◌, ℕ, Bool, List, [], refl, sym, ap, subst, ◌∙◌, Option, Some, None}
+use Rattle.std.proofs.Common.{refl}
 use Rattle.script_judge.proofs.judge.Judge.put_task.Goals as goal
 
 pub returns : goal.returns

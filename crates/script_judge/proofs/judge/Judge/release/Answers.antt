@@ -1,4 +1,4 @@
-use Rattle.std.proofs.Common.{◌≡◌, ℕ, Bool, List, [], refl, sym, ap, subst, ◌∙◌, Option, Some, None}
+use Rattle.std.proofs.Common.{sym, ◌∙◌}
 use Rattle.script_judge.proofs.Others.{release_event, release_unfree}
 use Rattle.script_judge.proofs.Stands.{from_nothing, on_ok}
 use Rattle.script_judge.proofs.judge.Judge.release.Goals as goal

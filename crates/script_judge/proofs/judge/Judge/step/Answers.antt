@@ -1,5 +1,4 @@
-use Rattle.std.proofs.Common.{◌≡◌, ℕ, Bool, List, [], refl, sym, ap, subst, ◌∙◌, Option, Some, None}
-use Rattle.script_judge.specs.declared.task.Task.{Task}
+use Rattle.std.proofs.Common.{◌≡◌, Some}
 use Rattle.script_judge.specs.declared.task.Task.TheVariants as task
 use Rattle.script_judge.proofs.BoardSteps.{led_but, tells_by}
 use Rattle.script_judge.proofs.Others.{step_free, step_gone}

@@ -1,4 +1,4 @@
-use Rattle.std.proofs.Common.{◌≡◌, ℕ, Bool, List, [], refl, sym, ap, subst, ◌∙◌, Option, Some, None}
+use Rattle.std.proofs.Common.{subst}
 use Rattle.script_board_tables.specs.declared.step.Stepped.{Stepped}
 use Rattle.script_board_tables.specs.Steps.{Steps}
 use Rattle.script_judge.proofs.BoardSteps.{can_go_on, ends, goes_on}

@@ -1,4 +1,4 @@
-use Rattle.std.proofs.Common.{◌≡◌, ℕ, Bool, List, [], refl, sym, ap, subst, ◌∙◌, Option, Some, None}
+use Rattle.std.proofs.Common.{refl}
 use Rattle.script_judge.proofs.EventSteps.{event_can, event_made, event_step, from_empty, made_then}
 use Rattle.script_judge.proofs.Stands.{on_ok}
 use Rattle.script_judge.proofs.judge.Judge.step_on_event.Goals as goal

@@ -1,4 +1,3 @@
-use Rattle.std.proofs.Common.{◌≡◌, ℕ, Bool, List, [], refl, sym, ap, subst, ◌∙◌, Option, Some, None}
 use Rattle.script_judge.proofs.EventSteps.{access_told}
 use Rattle.script_judge.proofs.Stands.{on_ok}
 use Rattle.script_judge.proofs.judge.Judge.tell_access.Goals as goal

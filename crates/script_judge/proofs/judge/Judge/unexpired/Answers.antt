@@ -1,4 +1,4 @@
-use Rattle.std.proofs.Common.{◌≡◌, ℕ, Bool, true, false, List, [], refl, sym, ap, subst, ◌∙◌, Option, Some, None}
+use Rattle.std.proofs.Common.{true, false, refl, sym, ap, ◌∙◌, Some, None}
 use Rattle.script_judge.specs.declared.task.Task.{Task}
 use Rattle.script_judge.specs.declared.task.Task.TheVariants as task
 use Rattle.std.specs.Option.{option_copied}
