@@ -11,3 +11,4 @@ pub mod AccessLemmas
 pub mod IdLemmas
 pub mod WorkedRun
 pub mod ViewLemmas
+pub mod SessionIdLemmas

@@ -95,6 +95,11 @@ pub record IsReached (now : Moment) : Type 0 where
   pub run : IsRun (listened kind name max listener) moves
   pub is : now ≡ run_to (listened kind name max listener) moves
 
+-- these moves from a listen lead here
+pub record IsReachedBy (moves : List EventMove) (now : Moment) : Type 0 where
+  pub reached : IsReached now
+  pub moves_are : reached.moves ≡ moves
+
 -- a party's running call takes this access, and is answered so
 pub record Takes (now : Moment) (p : PartyName) (r : RunningCall) (a : EventAccess) (answer : EventAnswer) : Type 0 where
   pub runs : now.running p ≡ Some r

@@ -1,12 +1,12 @@
 -- Sessions on many events, and what of them concerns one event.
-use Rattle.std.specs.Prelude.{◌≡◌, ℕ, ◌+◌, true, false, ◌||◌, ◌&&◌, ◌==◌, if◌then◌else◌, List, [], ◌∷◌, Option, Some, None, IsSomeAnd, ⊤}
+use Rattle.std.specs.Prelude.{◌≡◌, ℕ, ◌+◌, Bool, true, false, ◌||◌, ◌&&◌, ◌==◌, if◌then◌else◌, List, [], ◌∷◌, ◌++◌, Option, Some, None, is_some, IsSomeAnd, ⊤}
 use Rattle.std.specs.Str.{bytes_eq}
 use Rattle.board_event_model.specs.declared.kind.EventKind.{EventKind}
 use Rattle.board_event_model.specs.declared.access.EventAccess.{EventAccess}
 use Rattle.board_event_model.specs.declared.access.EventAnswer.{EventAnswer}
 use Rattle.board_event_model.specs.EventMemory.{Event, new_event, IsRight, after}
 use Rattle.board_event_model.specs.EventCalls.{EventCall, owed, turn, is_last, is_timed, PartyName, RunningCall, TakenAccess, new_call, went_on, call_of}
-use Rattle.board_event_model.specs.EventRuns.{Moment, IsCallOf}
+use Rattle.board_event_model.specs.EventRuns.{EventMove, Moment, IsCallOf, abandon, begin, elsewhere, expire, notifiers, release_listener, step}
 
 -- an event, and its listener's party
 pub record StandingEvent : Type 0 where
@@ -133,3 +133,39 @@ history_on n (a ∷ rest) = if a.on == n then a.taken ∷ history_on n rest else
 -- what of a session concerns one event
 abbrev pub view : EventSession → ℕ → StandingEvent → Moment
 view s n st = record { event = st.event; listener = st.listener; running = λ p. running_on n (s.doing p); begun = s.begun; history = history_on n s.history }
+
+-- ---- one event's moves, the last one first
+
+-- the call runs on this event
+abbrev pub is_on : ℕ → Option PartyCall → Bool
+is_on n None = false
+is_on n (Some d) = d.on == n
+
+-- what a line does with an event that stands
+abbrev pub moves_at : ℕ → EventSession → EventLine → List EventMove
+moves_at n s (listen p k name max) = []
+moves_at n s (begin_on p m c) = (if m == n then begin p c else elsewhere) ∷ []
+moves_at n s (step_of p a answer) = if is_on n (s.doing p) then step p a answer ∷ [] else []
+moves_at n s (expire_of p) = if is_on n (s.doing p) then expire p ∷ [] else []
+moves_at n s (abandon_of p) = abandon p ∷ []
+moves_at n s (release_of m) = if m == n then release_listener ∷ [] else []
+moves_at n s (notifiers_of m k) = if m == n then notifiers k ∷ [] else []
+
+-- before the event is made, calls only begin elsewhere
+abbrev pub moves_before : EventLine → List EventMove
+moves_before (listen p k name max) = []
+moves_before (begin_on p m c) = elsewhere ∷ []
+moves_before (step_of p a answer) = []
+moves_before (expire_of p) = []
+moves_before (abandon_of p) = []
+moves_before (release_of m) = []
+moves_before (notifiers_of m k) = []
+
+-- what a line does with an event
+abbrev pub moves_of : ℕ → EventSession → EventLine → List EventMove
+moves_of n s l = if is_some (s.stands n) then moves_at n s l else moves_before l
+
+-- the moves on an event of a session's lines
+abbrev pub moves_on : ℕ → List EventLine → List EventMove
+moves_on n [] = []
+moves_on n (l ∷ ls) = moves_of n (session_of ls) l ++ moves_on n ls

@@ -1,5 +1,5 @@
 -- Laws of ids: a queue gives each id once that was pushed, in the order of the pushes; an id of a set is pending where its last set or take was a set.
-use Rattle.std.specs.Prelude.{◌≡◌, ℕ, ◌%◌, Bool, false, not, ◌&&◌, ◌||◌, ◌==◌, List, [], ◌∷◌, ◌++◌}
+use Rattle.std.specs.Prelude.{◌≡◌, ℕ, ◌%◌, Bool, false, not, ◌&&◌, ◌||◌, ◌==◌, List, [], ◌∷◌, ◌++◌, Some}
 use Rattle.std.specs.Int.{bit_at}
 use Rattle.board_event_model.specs.declared.kind.EventKind.{EventKind}
 use Rattle.board_event_model.specs.declared.access.EventAccess.TheVariants as access
@@ -7,6 +7,7 @@ use Rattle.board_event_model.specs.declared.access.EventAnswer.TheVariants as an
 use Rattle.board_event_model.specs.Ids.{has, in_word}
 use Rattle.board_event_model.specs.EventCalls.{PartyName}
 use Rattle.board_event_model.specs.EventRuns.{EventMove, IsRun, listened, run_to, step}
+use Rattle.board_event_model.specs.EventSessions.{EventLine, IsEventSession, StandingEvent, moves_on, session_of}
 
 -- ---- queues; of moves the last one is first, and of ids the first one
 
@@ -59,3 +60,17 @@ abbrev pub PendingIdsWereSetLast : Type 0
 PendingIdsWereSetLast =
     (k : EventKind) (name : List ℕ) (max : ℕ) (listener : PartyName) (ms : List EventMove) → IsRun (listened k name max listener) ms →
     (id : ℕ) → has (run_to (listened k name max listener) ms).event.pending id ≡ was_set_last id ms
+
+-- ---- sessions
+
+-- in every session, of what its own lines push on a queue and pop from it
+abbrev pub SessionQueuesKeepOrder : Type 0
+SessionQueuesKeepOrder =
+    (lines : List EventLine) → IsEventSession lines → (n : ℕ) (st : StandingEvent) → (session_of lines).stands n ≡ Some st →
+    popped_in (moves_on n lines) ++ st.event.queue ≡ pushed_in (moves_on n lines)
+
+-- and of what they set in a set and take from it
+abbrev pub SessionIdsWereSetLast : Type 0
+SessionIdsWereSetLast =
+    (lines : List EventLine) → IsEventSession lines → (n : ℕ) (st : StandingEvent) → (session_of lines).stands n ≡ Some st →
+    (id : ℕ) → has st.event.pending id ≡ was_set_last id (moves_on n lines)

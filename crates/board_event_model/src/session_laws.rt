@@ -1,7 +1,8 @@
 //! The laws of runs hold in every session. The contract is a theorem over the definitions alone.
 ghost use Rattle.board_event_model.specs.LawsOfSessions.{SessionLaw};
 
-/// What of a session concerns one event is a run on it, so the laws of runs hold in every session.
+/// The moves of a session's own lines on an event are a run, which leads to what the session has of the event: so the laws
+/// of runs hold of every event of every session, those of a run's moves included.
 pub fn sessions_are_runs()
     ensures { SessionLaw }
 {}
