@@ -20,7 +20,7 @@ use Rattle.board_event_model.specs.EventSessions.{EventSession, PartyCall, Sessi
 use Rattle.board_event_model.proofs.AccessLemmas.{perform_law_holds}
 use Rattle.board_event_model.proofs.QuietLemmas.{eqb_self}
 use Rattle.board_event_model.proofs.SoundLemmas.{gone_on, none_some, some_same}
-use Rattle.board_event_model.proofs.ViewLemmas.{session_law_holds}
+use Rattle.board_event_model.proofs.ViewLemmas.{session_reached}
 use Rattle.script_model.specs.ScriptEvents.{ScriptEvents, is_for_all}
 use Rattle.script_model.specs.SoundEvents.{AreSoundEvents}
 use Rattle.script_events.specs.Calls.{GoesOn, StartsWord, reports}
@@ -193,7 +193,7 @@ history_short n (a ∷ rest) = elim (either (a.on == n)) [
 
 module _ (x : ScriptEvents) (count : ℕ) (few : count < 2 ^ 63) (sound : AreSoundEvents x count) (p : List ℕ) (d : PartyCall) (runs : x.session.doing p ≡ Some d) (st : StandingEvent) (here : x.session.stands d.on ≡ Some st) where
   reached : IsReached (view x.session d.on st)
-  reached = subst (λ (s : EventSession). s.stands d.on ≡ Some st → IsReached (view s d.on st)) (sym sound.session.is) (session_law_holds sound.session.lines sound.session.allowed d.on st) here
+  reached = subst (λ (s : EventSession). s.stands d.on ≡ Some st → IsReached (view s d.on st)) (sym sound.session.is) (session_reached sound.session.lines sound.session.allowed d.on st) here
 
   there : running_on d.on (x.session.doing p) ≡ Some d.call
   there = rw runs (rw (eqb_self d.on) refl)

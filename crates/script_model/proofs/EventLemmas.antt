@@ -36,7 +36,7 @@ use Rattle.script_model.specs.LawsOfEvents.{Last, OwedAccesses, QuietLooks, Take
 use Rattle.script_model.proofs.CompositionLemmas.{lawful_split, sound_at}
 use Rattle.script_model.proofs.EachLemmas.{event_in}
 use Rattle.script_model.proofs.OneLemmas.{CallOne, IsWaitProgress, OneStage, one_reached, one_turn, turn_waits}
-use Rattle.script_model.proofs.PartLemmas.{events_law_holds, sound_reached}
+use Rattle.script_model.proofs.PartLemmas.{events_reached, sound_reached}
 use Rattle.script_model.proofs.RuleLemmas.{ruled}
 
 -- ---- the step of a pair, as a step of a run
@@ -72,7 +72,7 @@ taken_is l n st party call a b told stands t =
     let answer_is : access.answer ≡ b = cc in
     let told_is : told ≡ step_told call (turn (call_of call) access.answer).0 = cc in
     record {
-      reached = events_law_holds l.before whole.0 n st stands;
+      reached = events_reached l.before whole.0 n st stands;
       takes = record {
         runs = ap (running_on n) t.runs ∙ rw (eqb_self n) refl;
         owes = owes;

@@ -418,7 +418,7 @@ owner_is None p q h g = absurd h
 owner_is (Some st) p q h g = sym h.owner ∙ g.owner
 
 -- the holder does nothing
-free_holder : (x : ScriptEvents) (p : List ℕ) (o : Option StandingEvent) → x.session.doing p ≡ None → IsSomeAnd o (IsListening p) → IsSomeAnd o (λ st. x.session.doing st.listener ≡ None)
+pub free_holder : (x : ScriptEvents) (p : List ℕ) (o : Option StandingEvent) → x.session.doing p ≡ None → IsSomeAnd o (IsListening p) → IsSomeAnd o (λ st. x.session.doing st.listener ≡ None)
 free_holder x p None idle h = absurd h
 free_holder x p (Some st) idle h = ap x.session.doing h.owner ∙ idle
 

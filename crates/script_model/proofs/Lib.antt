@@ -3,6 +3,7 @@ pub mod CompositionLemmas
 pub mod EachLaws
 pub mod EachLemmas
 pub mod EventLemmas
+pub mod EventPartLemmas
 pub mod FormLaws
 pub mod FormedLemmas
 pub mod HolderLemmas

@@ -14,7 +14,7 @@ use Rattle.board_event_model.specs.EventRuns.{IsReached}
 use Rattle.board_event_model.specs.EventSessions.{EventSession, PartyCall, SessionAccess, StandingEvent, event_of, history_on, running_on, view}
 use Rattle.board_event_model.proofs.SetLemmas.{either}
 use Rattle.board_event_model.proofs.AccessLemmas.{perform_law_holds}
-use Rattle.board_event_model.proofs.ViewLemmas.{session_law_holds}
+use Rattle.board_event_model.proofs.ViewLemmas.{session_reached}
 use Rattle.script_model.specs.ScriptAnswers.{ScriptAnswer, of_ask, of_event}
 use Rattle.script_model.specs.ScriptEvents.{EventAsk, EventThing, IsEventAccess, IsStepOf, ScriptEvents, ask_told, listener, notifier, step_told}
 use Rattle.script_model.specs.SoundEvents.{AreSoundEvents, IsCallOfThing, IsEventThing}
@@ -73,7 +73,7 @@ history_fewer n (a ∷ rest) =
 pub reached : (x : ScriptEvents) (n : ℕ) → AreSoundEvents x n → (on : ℕ) (st : StandingEvent) → x.session.stands on ≡ Some st → IsReached (view x.session on st)
 reached x n sound on st e =
     let o = sound.session in
-    subst (λ (s : EventSession). IsReached (view s on st)) (sym o.is) (session_law_holds o.lines o.allowed on st (ap (λ (s : EventSession). s.stands on) (sym o.is) ∙ e))
+    subst (λ (s : EventSession). IsReached (view s on st)) (sym o.is) (session_reached o.lines o.allowed on st (ap (λ (s : EventSession). s.stands on) (sym o.is) ∙ e))
 
 pub runs_here : (d : PartyCall) → running_on d.on (Some d) ≡ Some d.call
 runs_here d = rw ((Decides-eqb d.on d.on).1 refl) refl

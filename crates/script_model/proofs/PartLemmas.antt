@@ -2,7 +2,7 @@
 use Rattle.std.proofs.Common.{ℕ, arith, ◌≡◌, ◌≤◌, refl, sym, ◌∙◌, ap, subst, Some, None, Option, [], ◌∷◌, ◌++◌, length, length-append}
 use Rattle.board_event_model.specs.EventRuns.{IsReached}
 use Rattle.board_event_model.specs.EventSessions.{EventSession, StandingEvent, view}
-use Rattle.board_event_model.proofs.ViewLemmas.{session_law_holds}
+use Rattle.board_event_model.proofs.ViewLemmas.{session_reached}
 use Rattle.board_model.specs.LawfulSession as boards
 use Rattle.script_model.specs.declared.line.ScriptLine.{ScriptLine}
 use Rattle.script_model.specs.declared.line.ScriptLine.TheVariants as line
@@ -11,9 +11,9 @@ use Rattle.script_model.specs.ScriptEvents.{ScriptEvents}
 use Rattle.script_model.specs.SoundEvents.{AreSoundEvents}
 use Rattle.script_model.specs.ScriptTurns.{EventTurn, ScriptState, turn_of}
 use Rattle.script_model.specs.LawsOfRules.{IsRuled}
-use Rattle.script_model.specs.ScriptSession.{IsLawfulFrom, Session, after, after_turn, start, state_after}
+use Rattle.script_model.specs.ScriptSession.{IsLawful, IsLawfulFrom, Session, after, after_turn, start, state_after}
 use Rattle.script_model.specs.Parts.{board_part, part_of}
-use Rattle.script_model.specs.LawsOfParts.{BoardsLaw, BoardsLawFrom, EventsLaw}
+use Rattle.script_model.specs.LawsOfParts.{BoardsLaw, BoardsLawFrom}
 use Rattle.script_model.proofs.RuleLemmas.{ruled}
 use Rattle.script_model.proofs.ScriptSoundLemmas.{sessions_sound}
 
@@ -71,7 +71,7 @@ boards_law_holds pairs ok =
 pub sound_reached : (x : ScriptEvents) (c n : ℕ) (st : StandingEvent) → AreSoundEvents x c → x.session.stands n ≡ Some st → IsReached (view x.session n st)
 sound_reached x c n st h stands =
     let k = h.session in
-    subst (λ (s : EventSession). IsReached (view s n st)) (sym k.is) (session_law_holds k.lines k.allowed n st (ap (λ (s : EventSession). s.stands n) (sym k.is) ∙ stands))
+    subst (λ (s : EventSession). IsReached (view s n st)) (sym k.is) (session_reached k.lines k.allowed n st (ap (λ (s : EventSession). s.stands n) (sym k.is) ∙ stands))
 
-pub events_law_holds : EventsLaw
-events_law_holds pairs ok n st stands = sound_reached (state_after start pairs).events (length pairs) n st (sessions_sound pairs ok).events stands
+pub events_reached : (pairs : Session) → IsLawful pairs → (n : ℕ) (st : StandingEvent) → (state_after start pairs).events.session.stands n ≡ Some st → IsReached (view (state_after start pairs).events.session n st)
+events_reached pairs ok n st stands = sound_reached (state_after start pairs).events (length pairs) n st (sessions_sound pairs ok).events stands

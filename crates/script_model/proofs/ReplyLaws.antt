@@ -1,9 +1,10 @@
 -- What a step on an event tells, or an expiry, is true of the run of its event.
-use Rattle.std.proofs.Common.{◌≡◌, ℕ, Bool, true, false, List, [], ◌∷◌, ◌++◌, ◌+◌, length, refl, sym, ap, subst, ◌∙◌, ◌⊎◌, inl, inr, ltb, Option, Some, None}
-use Rattle.std.specs.Prelude.{if◌then◌else◌, ◌==◌, IsSomeAnd}
+use Rattle.std.proofs.Common.{◌≡◌, ℕ, Bool, true, false, List, [], ◌∷◌, ◌++◌, ◌+◌, ◌<◌, ◌≤◌, length, refl, sym, ap, subst, ◌∙◌, ◌⊎◌, inl, inr, ltb, Option, Some, None}
+use Rattle.std.specs.Prelude.{if◌then◌else◌, ◌==◌, ◌||◌, not, nat_lt, IsSomeAnd}
 use Rattle.std.specs.List.{list_any}
 use Rattle.std.proofs.lemmas.Bool.{false≢true}
 use Rattle.board_names.specs.declared.errors.event.NotifierNotifyError.{NotifierNotifyError}
+use Rattle.board_names.specs.declared.errors.event.NotifierNotifyError.TheVariants as notify_error
 use Rattle.board_event_model.specs.declared.access.EventAccess.{EventAccess}
 use Rattle.board_event_model.specs.declared.access.EventAnswer.{EventAnswer}
 use Rattle.board_event_model.specs.declared.access.EventAnswer.TheVariants as event_answer
@@ -13,17 +14,19 @@ use Rattle.board_event_model.specs.declared.call.NotifyStage.{NotifyStage}
 use Rattle.board_event_model.specs.declared.call.NotifyStage.TheVariants as notify
 use Rattle.board_event_model.specs.declared.call.WaitMode.{WaitMode}
 use Rattle.board_event_model.specs.declared.call.WaitMode.TheVariants as mode
-use Rattle.board_event_model.specs.EventMemory.{IsRight}
-use Rattle.board_event_model.specs.NotifyCalls.{Notify, is_yes, notify_turn, pushed}
+use Rattle.board_event_model.specs.EventMemory.{Event, IsRight, is_bits, yes_or_no}
+use Rattle.board_event_model.specs.NotifyCalls.{Notify, is_yes, notify_owed, notify_turn, pushed}
 use Rattle.board_event_model.specs.WaitCalls.{Wait}
 use Rattle.board_event_model.specs.EventCalls.{EventCall, RunningCall, a_notify, a_wait, call_of, is_last, is_timed, owed, reported, turn}
 use Rattle.board_event_model.specs.EventRuns.{IsReached, Moment, Takes}
 use Rattle.board_event_model.specs.EventSessions.{PartyCall, StandingEvent, running_on, view}
 use Rattle.board_event_model.specs.LawsOfCalls.{progress_with, taken_by, with_step}
-use Rattle.board_event_model.proofs.EndLemmas.{none_law_holds, notify_law_holds, queue_law_holds}
+use Rattle.board_event_model.proofs.EndLemmas.{QueueCall, none_law_holds, notify_law_holds, queue_law_holds, queue_reached}
 use Rattle.board_event_model.proofs.NothingLemmas.{nothing_law_holds}
+use Rattle.board_event_model.proofs.QuietLemmas.{NotifyFits, ltb_false, ltb_true}
 use Rattle.board_event_model.proofs.ReplyLemmas.{reply_law_holds}
 use Rattle.board_event_model.proofs.SetLemmas.{and_split, either}
+use Rattle.board_event_model.proofs.SoundLemmas.{CallFits, sound_reached}
 use Rattle.board_event_model.proofs.WholeLemmas.{all_law_holds, expire_law_holds}
 use Rattle.board_model.specs.declared.answer.Answer.{Answer}
 use Rattle.board_model.specs.declared.answer.Answer.TheVariants as answer
@@ -41,13 +44,13 @@ use Rattle.script_model.specs.ScriptTurns.{IsTurnAnswer, ScriptState, expire_of_
 use Rattle.script_model.specs.ScriptSession.{IsRight as IsRightAnswer, start}
 use Rattle.script_model.specs.SoundEvents.{IsSoundScript}
 use Rattle.script_model.specs.LawsOfEvents.{Last, TellsIds, at_last}
-use Rattle.script_model.specs.LawsOfReplies.{ExpiriesAreTrue, IsEventStep, IsTrue, MissesNone, PrintedStepsAreTaken, PrintsAccess, RepliesAreTrue, RunsOnEvent, moment_of}
+use Rattle.script_model.specs.LawsOfReplies.{ExpiriesAreTrue, IsEventStep, IsRefusal, IsTrue, MissesNone, PrintedStepsAreTaken, PrintsAccess, RepliesAreTrue, RunsOnEvent, moment_of}
 use Rattle.script_model.specs.LawsOfRules.{IsRuled}
 use Rattle.script_model.proofs.CompositionLemmas.{lawful_split, sound_at}
 use Rattle.script_model.proofs.EachLemmas.{event_in}
 use Rattle.script_model.proofs.EventLemmas.{last_told, wait_replies}
 use Rattle.script_model.proofs.OwedLemmas.{call_stands, runs_here}
-use Rattle.script_model.proofs.PartLemmas.{events_law_holds}
+use Rattle.script_model.proofs.PartLemmas.{events_reached}
 use Rattle.script_model.proofs.RuleLemmas.{ruled}
 
 -- ---- a printed access
@@ -98,7 +101,7 @@ printed_taken l party a b told p =
       of = k.of;
       kind_is = kind_is;
       name_is = name_is;
-      reached = events_law_holds l.before (lawful_split l.before (l.pair ∷ []) start l.lawful).0 k.of.doing.on st k.of.stands;
+      reached = events_reached l.before (lawful_split l.before (l.pair ∷ []) start l.lawful).0 k.of.doing.on st k.of.stands;
       takes = record {
         runs = ap (running_on k.of.doing.on) k.of.runs ∙ runs_here k.of.doing;
         owes = owes;
@@ -136,13 +139,62 @@ notify_ends n notify.Post b last = inl refl
 notify_ends n notify.Push b last = pushed_ends b
 notify_ends n notify.Finished b last = absurd (false≢true last)
 
+-- ---- why a notify is refused
+
+same_refusal : (x y : NotifierNotifyError) → progress.Refused x ≡ progress.Refused y → x ≡ y
+same_refusal x y e = cc
+
+not_refused_more : (why : NotifierNotifyError) → progress.More ≡ progress.Refused why → ⊥
+not_refused_more why e = cc
+
+not_refused_notified : (why : NotifierNotifyError) → progress.Notified ≡ progress.Refused why → ⊥
+not_refused_notified why e = cc
+
+look_refused : (e : Event) (n : Notify) (why : NotifierNotifyError) → is_bits e.kind ≡ true → n.max ≡ e.max → (held : Bool) → e.held ≡ held → (notify_turn n notify.Look (yes_or_no held)).0 ≡ progress.Refused why → IsRefusal e n.id why
+look_refused e n why bits max false is h = subst (IsRefusal e n.id) (same_refusal notify_error.Disconnected why h) (inl is)
+look_refused e n why bits max true is h = of (ltb n.max n.id) (ltb_true n.max n.id) h
+  where
+    of : (b : Bool) → (b ≡ true → n.max < n.id) → (if◌then◌else◌ {A = EventProgress × NotifyStage} b (progress.Refused notify_error.TriggerIdOutOfBounds, notify.Finished) (progress.More, notify.Set)).0 ≡ progress.Refused why → IsRefusal e n.id why
+    of true big g = subst (IsRefusal e n.id) (same_refusal notify_error.TriggerIdOutOfBounds why g) (bits, subst (λ (m : ℕ). m < n.id) max (big refl))
+    of false big g = absurd (not_refused_more why g)
+
+bits_refused : (e : Event) (n : Notify) (stage : NotifyStage) (b : EventAnswer) (why : NotifierNotifyError) → is_bits e.kind ≡ true → NotifyFits e.max n stage → IsRight e (notify_owed n.id stage) b → (notify_turn n stage b).0 ≡ progress.Refused why → IsRefusal e n.id why
+bits_refused e n notify.Look b why bits fits right h = look_refused e n why bits fits e.held refl (subst (λ (x : EventAnswer). (notify_turn n notify.Look x).0 ≡ progress.Refused why) right h)
+bits_refused e n notify.Set b why bits fits right h = absurd (not_refused_more why h)
+bits_refused e n notify.Post b why bits fits right h = absurd (not_refused_notified why h)
+bits_refused e n notify.Push b why bits fits right h = absurd fits
+bits_refused e n notify.Finished b why bits fits right h = absurd fits
+
+gone_or : (e : Event) → is_bits e.kind ≡ false → (held gone : Bool) → e.held ≡ held → e.gone ≡ gone → (not held || gone) ≡ true → (e.held ≡ false) ⊎ ((is_bits e.kind ≡ false) × (e.gone ≡ true))
+gone_or e queue false gone is was h = inl is
+gone_or e queue true gone is was h = inr (queue, was ∙ h)
+
+push_refused : (e : Event) (id : ℕ) (why : NotifierNotifyError) → is_bits e.kind ≡ false → (x : Bool) → (not e.held || e.gone) ≡ x → (room : Bool) → (room ≡ false → 512 ≤ length e.queue)
+    → pushed (if x then event_answer.Gone else if room then event_answer.Done else event_answer.Full) ≡ progress.Refused why → IsRefusal e id why
+push_refused e id why queue true gone room full h = subst (IsRefusal e id) (same_refusal notify_error.Disconnected why h) (gone_or e queue e.held e.gone refl refl gone)
+push_refused e id why queue false there true full h = absurd (not_refused_notified why h)
+push_refused e id why queue false there false full h = subst (IsRefusal e id) (same_refusal notify_error.FailedToDeliverSignal why h) (queue, full refl)
+
+queue_refused : (e : Event) (n : Notify) (stage : NotifyStage) (b : EventAnswer) (why : NotifierNotifyError) → is_bits e.kind ≡ false → stage ≡ notify.Push → IsRight e (notify_owed n.id stage) b → (notify_turn n stage b).0 ≡ progress.Refused why → IsRefusal e n.id why
+queue_refused e n stage b why queue push =
+    subst (λ (s : NotifyStage). IsRight e (notify_owed n.id s) b → (notify_turn n s b).0 ≡ progress.Refused why → IsRefusal e n.id why) (sym push)
+    (λ right h. push_refused e n.id why queue (not e.held || e.gone) refl (nat_lt (length e.queue) 512) (ltb_false (length e.queue) 512) (subst (λ (x : EventAnswer). pushed x ≡ progress.Refused why) right h))
+
+refused_so : (now : Moment) (p : List ℕ) (r : RunningCall) (n : Notify) (a : EventAccess) (b : EventAnswer) (why : NotifierNotifyError) → IsReached now → Takes now p r a b → call_of r ≡ a_notify n → (notify_turn n n.stage b).0 ≡ progress.Refused why → IsRefusal now.event n.id why
+refused_so now p r n a b why reached takes call h =
+    let right : IsRight now.event (notify_owed n.id n.stage) b = subst (λ (x : EventAccess). IsRight now.event x b) (takes.owes ∙ ap owed call) takes.right in
+    elim (either (is_bits now.event.kind)) [
+      | inl bits ↦ bits_refused now.event n n.stage b why bits (subst (CallFits now.event now.listener p) call ((sound_reached now reached bits).each p r takes.runs).fits) right h
+      | inr queue ↦ queue_refused now.event n n.stage b why queue (subst QueueCall call (queue_reached now reached queue p r takes.runs).queue) right h
+    ]
+
 notify_true : (now : Moment) (p : List ℕ) (r : RunningCall) (n : Notify) (a : EventAccess) (b : EventAnswer) (told : EventReply) → IsReached now → Takes now p r a b → call_of r ≡ a_notify n → is_last (progress_with r b) ≡ true
     → told ≡ end_told (is_for_all (call_of r)) r.told (progress_with r b) → IsTrue now r a (a_notify n) told
 notify_true now p r n a b told reached takes call last is =
     let turned : progress_with r b ≡ (notify_turn n n.stage b).0 = ap (λ (c : EventCall). (turn c b).0) call in
     elim (notify_ends n n.stage b (ap is_last (sym turned) ∙ last)) [
       | inl done ↦ subst (IsTrue now r a (a_notify n)) (sym (is ∙ ap (end_told (is_for_all (call_of r)) r.told) (turned ∙ done))) (notify_law_holds now reached p r n a b takes call (turned ∙ done))
-      | inr why ↦ subst (IsTrue now r a (a_notify n)) (sym (is ∙ ap (end_told (is_for_all (call_of r)) r.told) (turned ∙ why.1))) tt
+      | inr why ↦ subst (IsTrue now r a (a_notify n)) (sym (is ∙ ap (end_told (is_for_all (call_of r)) r.told) (turned ∙ why.1))) (refused_so now p r n a b why.0 reached takes call why.1)
     ]
 
 -- ---- what a wait is told
@@ -236,7 +288,7 @@ expiries_true l party line_is answer_is =
     let st = call_stands s.events (0 + length l.before) (last_lawful l).events party k.doing k.runs in
     let both = and_split _ _ k.may in
     let w = timed_wait (call_of k.doing.call) both.0 in
-    let reached = events_law_holds l.before (lawful_split l.before (l.pair ∷ []) start l.lawful).0 k.doing.on st.0 st.1 in
+    let reached = events_reached l.before (lawful_split l.before (l.pair ∷ []) start l.lawful).0 k.doing.on st.0 st.1 in
     let runs : running_on k.doing.on (s.events.session.doing party) ≡ Some k.doing.call = ap (running_on k.doing.on) k.runs ∙ runs_here k.doing in
     record {
       of = record { doing = k.doing; standing = st.0; runs = k.runs; stands = st.1 };

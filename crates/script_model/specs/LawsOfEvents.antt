@@ -1,4 +1,4 @@
--- The quiet law and the reply law on the pairs of a script, and the accesses that can be made.
+-- The quiet law, the reply law and the laws of ids on the pairs of a script, and the accesses that can be made.
 use Rattle.std.specs.Prelude.{◌<◌, ◌-◌, ◌^◌, IsSomeAnd, ◌≡◌, ℕ, Bool, true, false, List, [], ◌∷◌, ◌++◌, Option, Some}
 use Rattle.board_event_model.specs.declared.access.EventAccess.{EventAccess}
 use Rattle.board_event_model.specs.declared.access.EventAccess.TheVariants as access
@@ -10,8 +10,9 @@ use Rattle.board_event_model.specs.Ids.{has}
 use Rattle.board_event_model.specs.EventMemory.{CanPerform, is_bits}
 use Rattle.board_event_model.specs.WaitCalls.{Wait}
 use Rattle.board_event_model.specs.EventCalls.{a_wait, owed, RunningCall, call_of}
-use Rattle.board_event_model.specs.EventSessions.{PartyCall, StandingEvent, event_of, history_on}
+use Rattle.board_event_model.specs.EventSessions.{PartyCall, StandingEvent, event_of, history_on, moves_on}
 use Rattle.board_event_model.specs.LawsOfCalls.{taken_by}
+use Rattle.board_event_model.specs.LawsOfIds.{popped_in, pushed_in, was_set_last}
 use Rattle.board_event_model.specs.LawsOfQuiet.{IsOpen}
 use Rattle.board_model.specs.declared.line.Line.TheVariants as board_line
 use Rattle.script_model.specs.declared.line.ScriptLine.{ScriptLine}
@@ -22,6 +23,7 @@ use Rattle.script_model.specs.ScriptAnswers.{ScriptAnswer, of_event}
 use Rattle.script_model.specs.ScriptTurns.{ScriptState}
 use Rattle.script_model.specs.SoundEvents.{IsSoundScript}
 use Rattle.script_model.specs.ScriptSession.{IsLawful, Session, start, state_after}
+use Rattle.script_model.specs.Parts.{event_part}
 
 -- the pair is a step of the party's call on event n: it takes this access, is answered so, and tells this
 pub record TakesAccess (s : ScriptState) (pair : ScriptLine × ScriptAnswer) (party : List ℕ) (n : ℕ) (call : RunningCall) (a : EventAccess) (answer : EventAnswer) (told : Option EventReply) : Type 0 where
@@ -63,6 +65,18 @@ WaitReplies =
     (party : List ℕ) (call : RunningCall) (w : Wait) (a : EventAccess) (answer : EventAnswer) (told : EventReply) → TakesAccess (at_last l) l.pair party n call a answer (Some told) →
     call_of call ≡ a_wait w →
     TellsIds w.many told (taken_by (record { met = st.event; access = a } ∷ call.steps))
+
+-- what the printed pops of a queue gave, and then what it still holds, is what the printed pushes added: each id once, in the order of the pushes, and nothing else
+abbrev pub QueuesKeepOrder : Type 0
+QueuesKeepOrder =
+    (pairs : Session) → IsLawful pairs → (n : ℕ) (st : StandingEvent) → (state_after start pairs).events.session.stands n ≡ Some st →
+    popped_in (moves_on n (event_part start pairs)) ++ st.event.queue ≡ pushed_in (moves_on n (event_part start pairs))
+
+-- an id of a set is pending exactly where the last of its printed sets, clears and swaps was a set
+abbrev pub PendingIdsWereSetLast : Type 0
+PendingIdsWereSetLast =
+    (pairs : Session) → IsLawful pairs → (n : ℕ) (st : StandingEvent) → (state_after start pairs).events.session.stands n ≡ Some st →
+    (id : ℕ) → has st.event.pending id ≡ was_set_last id (moves_on n (event_part start pairs))
 
 -- after fewer than 2 ^ 64 - 1 lines the access that a running call owes can be made on its event
 abbrev pub OwedAccesses : Type 0

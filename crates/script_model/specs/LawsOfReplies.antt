@@ -1,12 +1,14 @@
 -- The event law on the lines of a script: what a step on an event tells, or an expiry, is true of the run of its event.
-use Rattle.std.specs.Prelude.{◌≡◌, ℕ, true, false, ◌==◌, List, [], ◌∷◌, length, Option, Some, ◌⊎◌}
+use Rattle.std.specs.Prelude.{◌≡◌, ℕ, ◌<◌, ◌≤◌, true, false, ◌==◌, List, [], ◌∷◌, length, Option, Some, ◌⊎◌}
 use Rattle.std.specs.List.{list_any}
 use Rattle.board_event_model.specs.declared.access.EventAccess.{EventAccess}
 use Rattle.board_event_model.specs.declared.access.EventAnswer.{EventAnswer}
 use Rattle.board_event_model.specs.declared.call.WaitMode.TheVariants as mode
 use Rattle.board_event_model.specs.declared.kind.EventKind.{EventKind}
 use Rattle.board_event_model.specs.Ids.{has}
-use Rattle.board_event_model.specs.EventMemory.{is_bits}
+use Rattle.board_event_model.specs.EventMemory.{Event, is_bits}
+use Rattle.board_names.specs.declared.errors.event.NotifierNotifyError.{NotifierNotifyError}
+use Rattle.board_names.specs.declared.errors.event.NotifierNotifyError.TheVariants as notify_error
 use Rattle.board_event_model.specs.WaitCalls.{Wait}
 use Rattle.board_event_model.specs.EventCalls.{EventCall, MetAccess, RunningCall, a_notify, a_wait, call_of}
 use Rattle.board_event_model.specs.EventRuns.{IsReached, Moment, Takes}
@@ -64,10 +66,19 @@ pub record MissesNone (now : Moment) (r : RunningCall) (a : EventAccess) (ids : 
       → (id : ℕ) → has s.met.pending id ≡ true → list_any (λ x. x == id) ids ≡ true
   pub list : is_bits now.event.kind ≡ false → (now.event.queue ≡ []) ⊎ (length ids ≡ 513)
 
--- a wait is told exactly the ids that its own steps took, in order, and none only in mode try; a notify that is told ok made its id pending
+-- why a notify is refused, as its last step meets the event: its listener was released, or on a queue the listener's party was abandoned; on bits its
+-- id is above the greatest; on a queue 512 ids wait
+abbrev pub IsRefusal : Event → ℕ → NotifierNotifyError → Type 0
+IsRefusal e id notify_error.Disconnected = (e.held ≡ false) ⊎ ((is_bits e.kind ≡ false) × (e.gone ≡ true))
+IsRefusal e id notify_error.TriggerIdOutOfBounds = (is_bits e.kind ≡ true) × (e.max < id)
+IsRefusal e id notify_error.FailedToDeliverSignal = (is_bits e.kind ≡ false) × (512 ≤ length e.queue)
+IsRefusal e id notify_error.Interrupt = ⊥
+IsRefusal e id notify_error.InternalFailure = ⊥
+
+-- a wait is told exactly the ids that its own steps took, in order, and none only in mode try; a notify that is told ok made its id pending, and an error is so
 abbrev pub IsTrue : Moment → RunningCall → EventAccess → EventCall → EventReply → Type 0
 IsTrue now r a (a_notify n) reply.Done = IsNotifyOk n.id (with_step now r a)
-IsTrue now r a (a_notify n) (reply.NotNotified why) = Unit {0}
+IsTrue now r a (a_notify n) (reply.NotNotified why) = IsRefusal now.event n.id why
 IsTrue now r a (a_wait w) reply.Nothing = IsNoneOfTry now r w a × (w.many ≡ true → MissesNone now r a [])
 IsTrue now r a (a_wait w) (reply.Id id) = (w.many ≡ false) × (taken_by (with_step now r a) ≡ id ∷ [])
 IsTrue now r a (a_wait w) (reply.Ids ids) = (w.many ≡ true) × (taken_by (with_step now r a) ≡ ids) × (ids ≡ [] → ⊥) × MissesNone now r a ids

@@ -11,7 +11,8 @@ pub fn boards_go_on_alone()
     ensures { BoardsLawFrom }
 {}
 
-/// What of a lawful session concerns an event is a run on it.
+/// The events' part of a lawful session is a session of events, whose moves on each event are a run that leads to what the
+/// whole session has of it.
 pub fn events_are_runs()
     ensures { EventsLaw }
 {}
