@@ -23,7 +23,7 @@ use Rattle.board_model.specs.Replies.{ask, id_number, keeps_key, number_or, plac
 use Rattle.board_model.specs.LawfulSession.{IsRight, State, start, state_after}
 use Rattle.board_model.specs.Sound.{BoardTables, HasBoard, HasEntry, HasEntryAt, Sound}
 use Rattle.board_model.specs.LawsOfSessions.{Pairs, at_one, at_two}
-use Rattle.board_model.specs.LawsOfIds.{AsksForHandle, EntriesHaveOtherPlaces, HandlesTellAlike, HandlesTellTheirIds, IsHandleAt, IsMade, IsToldId, LaterHandlesTellAlike, OneKeyOneId, OtherEntriesOtherIds, OtherEntriesTellOtherIds}
+use Rattle.board_model.specs.LawsOfIds.{AsksForHandle, EntriesHaveOtherPlaces, HandlesTellAlike, HandlesTellNoOtherIds, HandlesTellTheirIds, IsHandleAt, IsMade, IsToldId, LaterHandlesTellAlike, LaterHandlesTellOtherIds, OneKeyOneId, OtherEntriesOtherIds, OtherEntriesTellOtherIds}
 use Rattle.board_model.proofs.SessionLaws.{apart, lawful_split, pair_step}
 use Rattle.board_model.proofs.SoundLemmas.{sound_start}
 use Rattle.board_model.proofs.BoardLemmas.{session_boards}
@@ -297,16 +297,43 @@ told_entry s pair n place number asked m =
     let h : HasEntry s.standing.tables m.handle = subst (HasAsked s.standing.tables) m.request (subst (HasAskedOf s.standing.tables) m.runs (asked m.party)) in
     some_entry (entry_at s.standing.tables n place) (handle_at s.standing.tables m.handle.board n place m.handle.kind m.board m.of_entry h)
 
+-- what is asked for stands, at both moments
+first_asked : (p : Pairs) → AreAsked (at_one p).standing.tables (at_one p).parties
+first_asked p = asked_session p.before start (lawful_split p.before (p.one ∷ (p.between ++ p.two ∷ [])) start p.lawful).0 sound_start (λ q. tt)
+
+second_asked : (p : Pairs) → AreAsked (at_two p).standing.tables (at_two p).parties
+second_asked p =
+    let a = apart p in
+    subst (λ (s : State). AreAsked s.standing.tables s.parties) (sym a.state) (asked_session (p.one ∷ p.between) (at_one p) (a.one, a.between) a.sound (first_asked p))
+
 pub tell_others : OtherEntriesTellOtherIds
 tell_others p n i j number x y =
     let a = apart p in
-    let first : AreAsked (at_one p).standing.tables (at_one p).parties = asked_session p.before start (lawful_split p.before (p.one ∷ (p.between ++ p.two ∷ [])) start p.lawful).0 sound_start (λ q. tt) in
-    let second : AreAsked (at_two p).standing.tables (at_two p).parties =
-    subst (λ (s : State). AreAsked s.standing.tables s.parties) (sym a.state) (asked_session (p.one ∷ p.between) (at_one p) (a.one, a.between) a.sound first) in
     let f = told_place (at_one p) p.one n i number a.sound a.one x in
     let g = told_place (at_two p) p.two n j number a.last a.two y in
     let drawn : n ≤ (at_one p).standing.tables.last_board = a.sound.boards.numbered n f.stands.board f.stands.is in
     let same : board_at (at_one p).standing.tables n ≡ board_at (at_two p).standing.tables n = stood p n g.stands.board drawn g.stands.is ∙ sym g.stands.is in
-    let e = told_entry (at_one p) p.one n i number first x in
-    let d = told_entry (at_two p) p.two n j number second y in
+    let e = told_entry (at_one p) p.one n i number (first_asked p) x in
+    let d = told_entry (at_two p) p.two n j number (second_asked p) y in
     other_places (at_one p) n i j e.0 d.0 a.sound e.1 (ap (λ (o : Option Board). entry_in o j) same ∙ d.1) (sym (f.told ∙ ap place_in e.1) ∙ g.told ∙ ap place_in d.1)
+
+pub tell_no_others : HandlesTellNoOtherIds
+tell_no_others p n i j number k t x y =
+    let a = apart p in
+    let f = made (at_one p) p.one n i number k t a.one x in
+    let g = told_place (at_two p) p.two n j number a.last a.two y in
+    let drawn : n ≤ (at_one p).standing.tables.last_board = a.sound.boards.numbered n f.board f.stands in
+    let same : board_at (at_one p).standing.tables n ≡ board_at (at_two p).standing.tables n = stood p n g.stands.board drawn g.stands.is ∙ sym g.stands.is in
+    let e : entry_at (at_one p).standing.tables n i ≡ Some f.item = placed_at (at_one p).standing.tables n i f.board (keeps_key k) f.item f.stands f.first in
+    let d = told_entry (at_two p) p.two n j number (second_asked p) y in
+    other_places (at_one p) n i j f.item d.0 a.sound e (ap (λ (o : Option Board). entry_in o j) same ∙ d.1) (sym f.told ∙ g.told ∙ ap place_in d.1)
+
+pub later_others : LaterHandlesTellOtherIds
+later_others p n i j number k t x y =
+    let a = apart p in
+    let f = told_place (at_one p) p.one n i number a.sound a.one x in
+    let g = made (at_two p) p.two n j number k t a.two y in
+    let drawn : n ≤ (at_one p).standing.tables.last_board = a.sound.boards.numbered n f.stands.board f.stands.is in
+    let e = told_entry (at_one p) p.one n i number (first_asked p) x in
+    let there : entry_at (at_one p).standing.tables n j ≡ Some g.item = placed_at (at_one p).standing.tables n j g.board (keeps_key k) g.item (stood p n g.board drawn g.stands) g.first in
+    other_places (at_one p) n i j e.0 g.item a.sound e.1 there (sym (f.told ∙ ap place_in e.1) ∙ g.told)

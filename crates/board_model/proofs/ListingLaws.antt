@@ -1,7 +1,8 @@
 -- Nodes ascend, nodes and ports are counted once, and keys are told in the order of adding.
-use Rattle.std.proofs.Common.{◌≡◌, ℕ, ◌+◌, Bool, true, false, List, [], ◌∷◌, length, map, arith, refl, sym, ap, ◌∙◌, Option, Some, None}
-use Rattle.std.specs.Prelude.{◌&&◌, ◌||◌, ◌==◌, not, nat_eq, if◌then◌else◌, Decides}
-use Rattle.std.specs.List.{AllByRecursion, list_any}
+use Rattle.std.proofs.Common.{◌≡◌, ℕ, ◌+◌, Bool, true, false, List, [], ◌∷◌, length, map, arith, refl, sym, ap, ◌∙◌, subst, inl, inr, Option, Some, None}
+use Rattle.std.specs.Prelude.{slice_index_or, ◌&&◌, ◌||◌, ◌==◌, not, nat_eq, if◌then◌else◌, Decides}
+use Rattle.std.specs.List.{AllByRecursion, Any, Contains, list_any}
+use Rattle.std.specs.List.Sorted.{IsStrictlySortedBy}
 use Rattle.std.specs.Str.{bytes_eq}
 use Rattle.std.specs.Cmp.Lexicographic.{slice_cmp}
 use Rattle.std.specs.Ordering.{is_eq, is_lt, nat_cmp, ordering_reverse}
@@ -10,9 +11,12 @@ use Rattle.std.specs.declared.cmp.Ordering.TheVariants.{Less, Equal, Greater}
 use Rattle.std.proofs.lemmas.Bool.{eqb-true, eq-eqb, false≢true}
 use Rattle.std.proofs.lemmas.Bool.Decides.{Decides-eqb}
 use Rattle.std.proofs.lemmas.Cmp.{nat_list_cmp_total}
+use Rattle.std.proofs.lemmas.List.Folds.{Any-from_list_any, list_any-from_Any}
 use Rattle.std.proofs.lemmas.Map.Text.{is_eq-slice_cmp}
 use Rattle.std.proofs.lemmas.Slice.Eq.{bytes_eq-Decides}
 use Rattle.board_layout.specs.Layout.{cell_bytes, places_from, start_of}
+use Rattle.board_model.specs.declared.tables.Kind.{Kind}
+use Rattle.board_model.specs.declared.tables.Kind.TheVariants as kind
 use Rattle.board_model.specs.declared.tables.Thing.{Thing}
 use Rattle.board_model.specs.declared.value.AddedEntry.{AddedEntry}
 use Rattle.board_model.specs.declared.value.Key.{Key}
@@ -21,7 +25,7 @@ use Rattle.board_model.specs.TypeTable.{key_bytes, key_of}
 use Rattle.board_model.specs.Tables.{entries_of, holds_at, is_node, is_of_board, is_of_port, nodes_taken, shape_of, shapes_of, writer_port, writer_slots}
 use Rattle.board_model.specs.Things.{Held}
 use Rattle.board_model.specs.Replies.{added_of, is_before, keys_of, nodes_of, placed_once}
-use Rattle.board_model.specs.LawsOfListings.{AllDiffer, AreNodes, AreWriterPorts, Ascend, IsKeyOf, KeysAreToldInOrder, NodesAreCountedOnce, NodesAscend, PortsAreCountedOnce}
+use Rattle.board_model.specs.LawsOfListings.{AllDiffer, AreNodes, AreWriterPorts, IsKeyOf, IsOfWriter, KeysAreToldInOrder, NodesAreCountedOnce, NodesAscend, PortsAreCountedOnce}
 use Rattle.board_model.proofs.FormLemmas.{detail_again}
 use Rattle.board_model.proofs.KeptKeyLemmas.{told_as_added}
 use Rattle.board_model.proofs.ListLemmas.{other_bytes, same_bytes}
@@ -61,6 +65,20 @@ before_differs x y h =
 
 abbrev AllAfter : List ℕ → List (List ℕ) → Type 0
 AllAfter x ys = AllByRecursion (λ y. is_before x y ≡ true) ys
+
+-- each text comes before all that follow it
+abbrev Ascend : List (List ℕ) → Type 0
+Ascend [] = Unit {0}
+Ascend (x ∷ xs) = AllAfter x xs × Ascend xs
+
+all_less : (x : List ℕ) (ys : List (List ℕ)) → AllAfter x ys → AllByRecursion (λ y. slice_cmp nat_cmp x y ≡ Less) ys
+all_less x [] h = tt
+all_less x (y ∷ ys) h = (is_less (slice_cmp nat_cmp x y) h.0, all_less x ys h.1)
+
+ascend_sorted : (xs : List (List ℕ)) → Ascend xs → IsStrictlySortedBy (slice_cmp nat_cmp) xs
+unfolding IsStrictlySortedBy
+ascend_sorted [] h = tt
+ascend_sorted (x ∷ xs) h = (all_less x xs h.0, ascend_sorted xs h.1)
 
 all_after : (x y : List ℕ) (zs : List (List ℕ)) → is_before x y ≡ true → AllAfter y zs → AllAfter x zs
 all_after x y [] h k = tt
@@ -168,7 +186,7 @@ nodes_counted board (t ∷ ts) = at (is_of_board board t) (nodes_counted board t
     at false ih = ih
 
 pub nodes_ascend : NodesAscend
-nodes_ascend = record { ascend = nodes_ascend_of; are = nodes_are; counted = nodes_counted }
+nodes_ascend = record { ascend = λ board things. ascend_sorted (nodes_of board things) (nodes_ascend_of board things); are = nodes_are; counted = nodes_counted }
 
 -- ---- nodes, once each
 
@@ -245,7 +263,7 @@ nodes_once = record {
 
 -- ---- ports
 
-abbrev is_port_among : ℕ → List ℕ → Bool
+abbrev pub is_port_among : ℕ → List ℕ → Bool
 is_port_among p ports = list_any (λ q. q == p) ports
 
 none_equal : (p : ℕ) (ports : List ℕ) → is_port_among p ports ≡ false → AllByRecursion (λ q. p ≡ q → ⊥) ports
@@ -263,11 +281,11 @@ record ArePorts {H N : Type 0} (board : ℕ) (ts : List (Thing H N)) (b : Bool) 
   are : (q : ℕ) → is_port_among q ports ≡ ((b && holds_at o (λ p. p == q)) || list_any (is_of_port board q) ts)
   count : length ports ≡ (if b && holds_at o (λ p. not (list_any (is_of_port board p) ts)) then writer_slots board ts + 1 else writer_slots board ts)
 
-record Ports {H N : Type 0} (board : ℕ) (ts : List (Thing H N)) : Type 0 where
-  ports : List ℕ
-  differ : AllDiffer ports
-  are : (q : ℕ) → is_port_among q ports ≡ list_any (is_of_port board q) ts
-  count : length ports ≡ writer_slots board ts
+pub record Ports {H N : Type 0} (board : ℕ) (ts : List (Thing H N)) : Type 0 where
+  pub ports : List ℕ
+  pub differ : AllDiffer ports
+  pub are : (q : ℕ) → is_port_among q ports ≡ list_any (is_of_port board q) ts
+  pub count : length ports ≡ writer_slots board ts
 
 -- a port that a later thing keeps as well
 kept_later : {H N : Type 0} (board : ℕ) (ts : List (Thing H N)) (p : ℕ) → Ports board ts → list_any (is_of_port board p) ts ≡ true → ArePorts board ts true (Some p)
@@ -300,14 +318,57 @@ ports_with board ts ih true (Some p) = at (list_any (is_of_port board p) ts) ref
     at true e = kept_later board ts p ih e
     at false e = kept_last board ts p ih e
 
-ports_of : {H N : Type 0} (board : ℕ) (ts : List (Thing H N)) → Ports board ts
+pub ports_of : {H N : Type 0} (board : ℕ) (ts : List (Thing H N)) → Ports board ts
 ports_of board [] = record { ports = []; differ = tt; are = λ q. refl; count = refl }
 ports_of board (t ∷ ts) =
     let k = ports_with board ts (ports_of board ts) (is_of_board board t) (writer_port t.kind) in
     record { ports = k.ports; differ = k.differ; are = k.are; count = k.count }
 
-pub ports_once : {H N : Type 0} (board : ℕ) (things : List (Thing H N)) → (ports : List ℕ) × AreWriterPorts board things ports × (length ports ≡ writer_slots board things)
-ports_once board things = let k = ports_of board things in (k.ports, record { differ = k.differ; are = k.are }, k.count)
+-- what keeps a writer slot, by its kind
+writer_of : {H N : Type 0} (board p : ℕ) (t : Thing H N) → is_of_port board p t ≡ true → IsOfWriter board p t
+writer_of board p t h = at (is_of_board board t) (λ e. eqb-true t.board board e) t.kind refl h
+  where
+    at : (b : Bool) → (b ≡ true → t.board ≡ board) → (k : Kind) → t.kind ≡ k → (b && holds_at (writer_port k) (λ q. q == p)) ≡ true → IsOfWriter board p t
+    at false e k is g = absurd (false≢true g)
+    at true e kind.Factory is g = absurd (false≢true g)
+    at true e (kind.Reader q) is g = absurd (false≢true g)
+    at true e (kind.Writer q) is g = record { board_is = e refl; kind_is = inl (is ∙ ap (λ (z : ℕ). kind.Writer z) (eqb-true q p g)) }
+    at true e (kind.ReadHandle i) is g = absurd (false≢true g)
+    at true e (kind.WriteHandle i q) is g = record { board_is = e refl; kind_is = inr (i, is ∙ ap (λ (z : ℕ). kind.WriteHandle i z) (eqb-true q p g)) }
+
+of_writer : {H N : Type 0} (board p : ℕ) (t : Thing H N) → IsOfWriter board p t → is_of_port board p t ≡ true
+of_writer board p t w =
+    let keeps : holds_at (writer_port t.kind) (λ (q : ℕ). q == p) ≡ true = elim w.kind_is [
+      | inl is ↦ ap (λ (k : Kind). holds_at (writer_port k) (λ (q : ℕ). q == p)) is ∙ eq-eqb p p refl
+      | inr is ↦ ap (λ (k : Kind). holds_at (writer_port k) (λ (q : ℕ). q == p)) is.1 ∙ eq-eqb p p refl
+    ] in
+    ap (λ (b : Bool). b && holds_at (writer_port t.kind) (λ (q : ℕ). q == p)) (eq-eqb t.board board w.board_is) ∙ keeps
+
+contains_port : (p : ℕ) (ports : List ℕ) → is_port_among p ports ≡ true → Contains ports p
+contains_port p ports h =
+    let k = Any-from_list_any (λ (q : ℕ). q == p) ports h in
+    (k.0, k.2, subst (λ (q : ℕ). slice_index_or ports k.0 q ≡ q) (eqb-true k.1 p k.4) k.3)
+
+port_contained : (p : ℕ) (ports : List ℕ) → Contains ports p → is_port_among p ports ≡ true
+port_contained p ports h = list_any-from_Any (λ (q : ℕ). q == p) ports (h.0, p, h.1, h.2, eq-eqb p p refl)
+
+some_writer : {H N : Type 0} (board p : ℕ) (ts : List (Thing H N)) → list_any (is_of_port board p) ts ≡ true → Any (IsOfWriter board p) ts
+some_writer board p ts h =
+    let k = Any-from_list_any (is_of_port board p) ts h in
+    (k.0, k.1, k.2, k.3, writer_of board p k.1 k.4)
+
+writer_there : {H N : Type 0} (board p : ℕ) (ts : List (Thing H N)) → Any (IsOfWriter board p) ts → list_any (is_of_port board p) ts ≡ true
+writer_there board p ts h = list_any-from_Any (is_of_port board p) ts (h.0, h.1, h.2, h.3, of_writer board p h.1 h.4)
+
+ports_once : {H N : Type 0} (board : ℕ) (things : List (Thing H N)) → (ports : List ℕ) × AreWriterPorts board things ports × (length ports ≡ writer_slots board things)
+ports_once board things =
+    let k = ports_of board things in
+    let are : AreWriterPorts board things k.ports = record {
+      differ = k.differ;
+      each = λ p h. some_writer board p things (sym (k.are p) ∙ port_contained p k.ports h);
+      all = λ p h. contains_port p k.ports (k.are p ∙ writer_there board p things h);
+    } in
+    (k.ports, are, k.count)
 
 pub ports_counted : PortsAreCountedOnce
 ports_counted = record { in_scripts = λ board things. ports_once board things; in_domains = λ board things. ports_once board things }

@@ -98,3 +98,13 @@ LaterHandlesTellAlike = (p : Pairs) (n place one two : ℕ) (k : Key) (t : Value
 -- handles of two entries of a board tell two ids
 abbrev pub OtherEntriesTellOtherIds : Type 0
 OtherEntriesTellOtherIds = (p : Pairs) (n i j id : ℕ) → IsToldId (at_one p) p.one n i id → IsToldId (at_two p) p.two n j id → i ≡ j
+
+-- a handle tells another id than was told when a handle of another entry was made
+abbrev pub HandlesTellNoOtherIds : Type 0
+HandlesTellNoOtherIds = (p : Pairs) (n i j id : ℕ) (k : Key) (t : ValueType) → IsMade (at_one p) p.one n i k t id → IsToldId (at_two p) p.two n j id
+    → i ≡ j
+
+-- and a handle that is made later tells another id than an earlier one of another entry told
+abbrev pub LaterHandlesTellOtherIds : Type 0
+LaterHandlesTellOtherIds = (p : Pairs) (n i j id : ℕ) (k : Key) (t : ValueType) → IsToldId (at_one p) p.one n i id → IsMade (at_two p) p.two n j k t id
+    → i ≡ j

@@ -1,8 +1,12 @@
 -- Laws of what is told of a board: its nodes ascend and differ, nodes and ports are counted once, and its keys are told in the order of adding.
-use Rattle.std.specs.Prelude.{◌≡◌, ℕ, Bool, true, ◌==◌, List, [], ◌∷◌, length, map, nat_eq, Some}
-use Rattle.std.specs.List.{AllByRecursion, list_any}
+use Rattle.std.specs.Prelude.{◌≡◌, ℕ, Bool, List, [], ◌∷◌, length, map, nat_eq, Some, ◌⊎◌}
+use Rattle.std.specs.Cmp.Lexicographic.{slice_cmp}
+use Rattle.std.specs.List.{AllByRecursion, Any, Contains, list_any}
+use Rattle.std.specs.List.Sorted.{IsStrictlySortedBy}
+use Rattle.std.specs.Ordering.{nat_cmp}
 use Rattle.std.specs.Str.{bytes_eq}
 use Rattle.board_model.specs.declared.attributes.Attribute.{Attribute}
+use Rattle.board_model.specs.declared.tables.Kind.TheVariants as kind
 use Rattle.board_model.specs.declared.tables.NewLimits.{NewLimits}
 use Rattle.board_model.specs.declared.tables.Thing.{Thing}
 use Rattle.board_model.specs.declared.value.AddedEntry.{AddedEntry}
@@ -10,18 +14,13 @@ use Rattle.board_model.specs.declared.value.Key.{Key}
 use Rattle.board_model.specs.declared.value.KeyType.{KeyType}
 use Rattle.board_model.specs.LineGrammar.{IsKey}
 use Rattle.board_model.specs.TypeTable.{key_detail, type_of_key}
-use Rattle.board_model.specs.Tables.{is_node, is_of_port, new_board, nodes_taken, writer_slots}
+use Rattle.board_model.specs.Tables.{is_node, new_board, nodes_taken, writer_slots}
 use Rattle.board_model.specs.Things.{Held}
-use Rattle.board_model.specs.Replies.{added_of, is_before, keys_in, nodes_of}
+use Rattle.board_model.specs.Replies.{added_of, keys_in, nodes_of}
 
--- each text comes before all that follow it, so they differ
-abbrev pub Ascend : List (List ℕ) → Type 0
-Ascend [] = Unit {0}
-Ascend (x ∷ xs) = AllByRecursion (λ y. is_before x y ≡ true) xs × Ascend xs
-
--- the nodes that are told ascend, are the parties with a thing of the board, and are as many as are counted
+-- the nodes that are told ascend in the order of their bytes, so they differ; they are the parties with a thing of the board, and are as many as are counted
 pub record NodesAscend : Type 0 where
-  pub ascend : (board : ℕ) (things : List Held) → Ascend (nodes_of board things)
+  pub ascend : (board : ℕ) (things : List Held) → IsStrictlySortedBy (slice_cmp nat_cmp) (nodes_of board things)
   pub are : (board : ℕ) (things : List Held) (party : List ℕ) → list_any (λ x. bytes_eq x party) (nodes_of board things) ≡ is_node bytes_eq board party things
   pub counted : (board : ℕ) (things : List Held) → length (nodes_of board things) ≡ nodes_taken bytes_eq board things
 
@@ -44,10 +43,16 @@ pub record NodesAreCountedOnce : Type 0 where
   pub in_scripts : NodesAreCounted (List ℕ) (List ℕ) bytes_eq
   pub in_domains : NodesAreCounted ℕ ℕ nat_eq
 
+-- the thing is the board's writer of this port, or a write handle made from that
+pub record IsOfWriter {H N : Type 0} (board port : ℕ) (t : Thing H N) : Type 0 where
+  pub board_is : t.board ≡ board
+  pub kind_is : (t.kind ≡ kind.Writer port) ⊎ ((entry : ℕ) × (t.kind ≡ kind.WriteHandle entry port))
+
 -- the different ports of the board's writers, and of the handles made from them
 pub record AreWriterPorts {H N : Type 0} (board : ℕ) (things : List (Thing H N)) (ports : List ℕ) : Type 0 where
   pub differ : AllDiffer ports
-  pub are : (p : ℕ) → list_any (λ q. q == p) ports ≡ list_any (is_of_port board p) things
+  pub each : (p : ℕ) → Contains ports p → Any (IsOfWriter board p) things
+  pub all : (p : ℕ) → Any (IsOfWriter board p) things → Contains ports p
 
 -- the writer slots that are taken are as many as these
 abbrev pub PortsAreCounted : (H N : Type 0) → Type 0

@@ -1,5 +1,6 @@
 //! Laws of entry ids. Each function's contract is a theorem over the definitions alone.
-ghost use Rattle.board_model.specs.LawsOfIds.{EntriesHaveOtherPlaces, HandlesTellAlike, HandlesTellTheirIds, LaterHandlesTellAlike, OneKeyOneId, OtherEntriesOtherIds, OtherEntriesTellOtherIds};
+ghost use Rattle.board_model.specs.LawsOfIds.{EntriesHaveOtherPlaces, HandlesTellAlike, HandlesTellNoOtherIds, HandlesTellTheirIds};
+ghost use Rattle.board_model.specs.LawsOfIds.{LaterHandlesTellAlike, LaterHandlesTellOtherIds, OneKeyOneId, OtherEntriesOtherIds, OtherEntriesTellOtherIds};
 
 /// Two entries of a board have two places.
 pub fn entries_have_other_places()
@@ -34,4 +35,14 @@ pub fn later_handles_tell_alike()
 /// Handles of two entries of a board tell two ids, at any two moments of a session.
 pub fn other_entries_tell_other_ids()
     ensures { OtherEntriesTellOtherIds }
+{}
+
+/// A handle that is asked for its id tells another one than was told when a handle of another entry of the board was made.
+pub fn handles_tell_no_other_ids()
+    ensures { HandlesTellNoOtherIds }
+{}
+
+/// A handle that is made later tells another id than an earlier one of another entry of the board told.
+pub fn later_handles_tell_other_ids()
+    ensures { LaterHandlesTellOtherIds }
 {}

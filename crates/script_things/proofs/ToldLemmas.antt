@@ -2,13 +2,10 @@
 use Rattle.std.proofs.Common.{◌≡◌, ℕ, ◌+◌, Bool, true, false, cond, List, [], ◌∷◌, length, None, refl, sym, ap, ◌∙◌, arith}
 use Rattle.std.specs.Prelude.{◌==◌, ◌&&◌, ◌||◌, not, count_by, is_some, nat_eq, nat_le}
 use Rattle.std.specs.List.{AllByRecursion, IsDistinct, list_any}
-use Rattle.std.specs.List.Sorted.{IsStrictlySortedBy}
 use Rattle.std.specs.Str.{bytes_eq}
 use Rattle.std.specs.Cmp.{nat_eq_equiv}
 use Rattle.std.specs.Cmp.Lexicographic.{nat_list_cmp_total, slice_cmp}
-use Rattle.std.specs.Ordering.{is_eq, is_lt, nat_cmp}
-use Rattle.std.specs.declared.cmp.Ordering.{Ordering}
-use Rattle.std.specs.declared.cmp.Ordering.TheVariants.{Less, Equal, Greater}
+use Rattle.std.specs.Ordering.{is_eq, nat_cmp}
 use Rattle.std.specs.BTreeMap as tree
 use Rattle.std.specs.BTreeMap.{BTreeMap}
 use Rattle.std.specs.BTreeSet.{BTreeSet}
@@ -21,27 +18,13 @@ use Rattle.std.proofs.lemmas.Map.Text.{is_eq-slice_cmp}
 use Rattle.std.proofs.lemmas.Slice.Eq.{bytes_eq-Decides}
 use Rattle.board_model.specs.Tables.{is_held_by, is_node, is_of_board, is_of_port, nodes_taken, writer_slots}
 use Rattle.board_model.specs.Things.{Held}
-use Rattle.board_model.specs.Replies.{is_before, nodes_of}
-use Rattle.board_model.specs.LawsOfListings.{AllDiffer, Ascend}
-use Rattle.board_model.proofs.ListingLaws.{nodes_ascend, ports_once}
+use Rattle.board_model.specs.Replies.{nodes_of}
+use Rattle.board_model.specs.LawsOfListings.{AllDiffer}
+use Rattle.board_model.proofs.ListingLaws.{nodes_ascend, ports_of}
 use Rattle.script_things.specs.Taken.{counted}
 use Rattle.script_things.proofs.TakenLemmas.{some_counted}
 
 -- ---- nodes
-
-less : (r : Ordering) → is_lt r ≡ true → r ≡ Less
-less Less h = refl
-less Equal h = absurd cc
-less Greater h = absurd cc
-
-all_less : (x : List ℕ) (ys : List (List ℕ)) → AllByRecursion (λ y. is_before x y ≡ true) ys → AllByRecursion (λ y. slice_cmp nat_cmp x y ≡ Less) ys
-all_less x [] h = tt
-all_less x (y ∷ ys) h = (less (slice_cmp nat_cmp x y) h.0, all_less x ys h.1)
-
-ascend_sorted : (xs : List (List ℕ)) → Ascend xs → IsStrictlySortedBy (slice_cmp nat_cmp) xs
-unfolding IsStrictlySortedBy
-ascend_sorted [] h = tt
-ascend_sorted (x ∷ xs) h = (all_less x xs h.0, ascend_sorted xs h.1)
 
 turned : (x y : List ℕ) → bytes_eq x y ≡ bytes_eq y x
 turned x y = same_from_decides _ (bytes_eq y x) (bytes_eq-Decides x y) (λ e. sym ((bytes_eq-Decides y x).0 e), λ e. (bytes_eq-Decides y x).1 (sym e))
@@ -65,7 +48,7 @@ module _ (board : ℕ) (ts : List Held) (nodes : BTreeMap (List ℕ) ℕ) (order
 
   -- the parties of which something is kept are the nodes that are told
   pub nodes_told : tree.keys nodes ≡ nodes_of board ts
-  nodes_told = btree_set_from_contains nat_list_cmp_total kept_set told_set ordered (ascend_sorted (nodes_of board ts) (nodes_ascend.ascend board ts))
+  nodes_told = btree_set_from_contains nat_list_cmp_total kept_set told_set ordered (nodes_ascend.ascend board ts)
       (λ p. sym (is_some-lookup (λ k. is_eq (slice_cmp nat_cmp p k)) nodes.entries) ∙ node_is_kept board ts nodes kept p ∙ sym (nodes_ascend.are board ts p) ∙ sym (among p (nodes_of board ts))) exact_bytes
 
   pub nodes_counted : tree.btree_map_len nodes ≡ nodes_taken bytes_eq board ts
@@ -116,10 +99,10 @@ ports_among p (x ∷ xs) = (let e : nat_eq p x ≡ (x == p) = grind (arith, nat_
 pub slots_counted : {S : Type 0} (board : ℕ) (ts : List Held) (ports : HashMap ℕ ℕ S) → IsUnique nat_eq ports → ((p : ℕ) → get nat_eq ports p ≡ counted (count_by (is_of_port board p) ts))
     → hash_map_len ports ≡ writer_slots board ts
 slots_counted board ts ports unique kept =
-    let k = ports_once board ts in
-    let there : (p : ℕ) → list_any (nat_eq p) (keys ports) ≡ list_any (nat_eq p) k.0 =
-    λ p. sym (is_some-lookup (nat_eq p) ports.entries) ∙ ap is_some (kept p) ∙ some_counted (is_of_port board p) ts ∙ sym (k.1.are p) ∙ sym (ports_among p k.0) in
-    sym (length_keys ports.entries) ∙ length-from_same_keys nat_eq_equiv (keys ports) k.0 unique (distinct k.0 k.1.differ) there ∙ k.2
+    let k = ports_of board ts in
+    let there : (p : ℕ) → list_any (nat_eq p) (keys ports) ≡ list_any (nat_eq p) k.ports =
+    λ p. sym (is_some-lookup (nat_eq p) ports.entries) ∙ ap is_some (kept p) ∙ some_counted (is_of_port board p) ts ∙ sym (k.are p) ∙ sym (ports_among p k.ports) in
+    sym (length_keys ports.entries) ∙ length-from_same_keys nat_eq_equiv (keys ports) k.ports unique (distinct k.ports k.differ) there ∙ k.count
   where
     length_keys : (es : List (ℕ × ℕ)) → length (keys_of es) ≡ length es
     length_keys [] = refl
@@ -128,9 +111,9 @@ slots_counted board ts ports unique kept =
 -- no slot is taken where nothing is kept
 pub no_slots : (board : ℕ) (ts : List Held) → ((p : ℕ) → None ≡ counted (count_by (is_of_port board p) ts)) → 0 ≡ writer_slots board ts
 no_slots board ts kept =
-    let k = ports_once board ts in
-    let none : (p : ℕ) → list_any (λ q. q == p) k.0 ≡ false = λ p. k.1.are p ∙ sym (some_counted (is_of_port board p) ts) ∙ ap is_some (sym (kept p)) in
-    ap (λ (xs : List ℕ). length xs) (of k.0 none) ∙ k.2
+    let k = ports_of board ts in
+    let none : (p : ℕ) → list_any (λ q. q == p) k.ports ≡ false = λ p. k.are p ∙ sym (some_counted (is_of_port board p) ts) ∙ ap is_some (sym (kept p)) in
+    ap (λ (xs : List ℕ). length xs) (of k.ports none) ∙ k.count
   where
     of : (xs : List ℕ) → ((p : ℕ) → list_any (λ q. q == p) xs ≡ false) → [] ≡ xs
     of [] h = refl
