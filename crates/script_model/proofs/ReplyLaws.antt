@@ -165,13 +165,13 @@ bits_refused e n notify.Post b why bits fits right h = absurd (not_refused_notif
 bits_refused e n notify.Push b why bits fits right h = absurd fits
 bits_refused e n notify.Finished b why bits fits right h = absurd fits
 
-gone_or : (e : Event) → is_bits e.kind ≡ false → (held gone : Bool) → e.held ≡ held → e.gone ≡ gone → (not held || gone) ≡ true → (e.held ≡ false) ⊎ ((is_bits e.kind ≡ false) × (e.gone ≡ true))
-gone_or e queue false gone is was h = inl is
-gone_or e queue true gone is was h = inr (queue, was ∙ h)
+gone_or : (e : Event) → is_bits e.kind ≡ false → (held lost : Bool) → e.held ≡ held → e.gone ≡ lost → (not held || lost) ≡ true → (e.held ≡ false) ⊎ ((is_bits e.kind ≡ false) × (e.gone ≡ true))
+gone_or e queue false lost is was h = inl is
+gone_or e queue true lost is was h = inr (queue, was ∙ h)
 
 push_refused : (e : Event) (id : ℕ) (why : NotifierNotifyError) → is_bits e.kind ≡ false → (x : Bool) → (not e.held || e.gone) ≡ x → (room : Bool) → (room ≡ false → 512 ≤ length e.queue)
     → pushed (if x then event_answer.Gone else if room then event_answer.Done else event_answer.Full) ≡ progress.Refused why → IsRefusal e id why
-push_refused e id why queue true gone room full h = subst (IsRefusal e id) (same_refusal notify_error.Disconnected why h) (gone_or e queue e.held e.gone refl refl gone)
+push_refused e id why queue true lost room full h = subst (IsRefusal e id) (same_refusal notify_error.Disconnected why h) (gone_or e queue e.held e.gone refl refl lost)
 push_refused e id why queue false there true full h = absurd (not_refused_notified why h)
 push_refused e id why queue false there false full h = subst (IsRefusal e id) (same_refusal notify_error.FailedToDeliverSignal why h) (queue, full refl)
 
