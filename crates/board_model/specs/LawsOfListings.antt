@@ -18,7 +18,8 @@ use Rattle.board_model.specs.Tables.{is_node, new_board, nodes_taken, writer_slo
 use Rattle.board_model.specs.Things.{Held}
 use Rattle.board_model.specs.Replies.{added_of, keys_in, nodes_of}
 
--- the nodes that are told ascend in the order of their bytes, so they differ; they are the parties with a thing of the board, and are as many as are counted
+-- the nodes that are told ascend in the order of their bytes, so they differ; they are the parties with a thing of the board,
+-- and are as many as are counted
 pub record NodesAscend : Type 0 where
   pub ascend : (board : ℕ) (things : List Held) → IsStrictlySortedBy (slice_cmp nat_cmp) (nodes_of board things)
   pub are : (board : ℕ) (things : List Held) (party : List ℕ) → list_any (λ x. bytes_eq x party) (nodes_of board things) ≡ is_node bytes_eq board party things

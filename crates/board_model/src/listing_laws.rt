@@ -1,7 +1,8 @@
 //! Laws of what is told of a board. Each function's contract is a theorem over the definitions alone.
 ghost use Rattle.board_model.specs.LawsOfListings.{KeysAreToldInOrder, NodesAreCountedOnce, NodesAscend, PortsAreCountedOnce};
 
-/// The nodes that are told ascend in the order of their bytes, so they differ; they are the parties with a thing of the board, and as many as are counted.
+/// The nodes that are told ascend in the order of their bytes, so they differ; they are the parties with a thing of the board,
+/// and as many as are counted.
 pub fn nodes_ascend()
     ensures { NodesAscend }
 {}

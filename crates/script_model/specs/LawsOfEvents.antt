@@ -66,7 +66,8 @@ WaitReplies =
     call_of call ≡ a_wait w →
     TellsIds w.many told (taken_by (record { met = st.event; access = a } ∷ call.steps))
 
--- what the printed pops of a queue gave, and then what it still holds, is what the printed pushes added: each id once, in the order of the pushes, and nothing else
+-- what the printed pops of a queue gave, and then what it still holds, is what the printed pushes added: each id once, in the
+-- order of the pushes, and nothing else
 abbrev pub QueuesKeepOrder : Type 0
 QueuesKeepOrder =
     (pairs : Session) → IsLawful pairs → (n : ℕ) (st : StandingEvent) → (state_after start pairs).events.session.stands n ≡ Some st →

@@ -1,4 +1,5 @@
--- The boards' part of a lawful session is a lawful session of boards, the events' part is a session of events, and each event's part is a run.
+-- The boards' part of a lawful session is a lawful session of boards, the events' part is a session of events, and each event's
+-- part is a run.
 use Rattle.std.specs.Prelude.{◌≡◌, ℕ, ◌≤◌, length, Some}
 use Rattle.board_event_model.specs.EventRuns.{IsReachedBy}
 use Rattle.board_event_model.specs.EventSessions.{IsEventSession, StandingEvent, moves_on, session_of, view}
@@ -35,6 +36,7 @@ pub record IsEventPart (pairs : Session) : Type 0 where
   pub runs : (n : ℕ) (st : StandingEvent) → (state_after start pairs).events.session.stands n ≡ Some st
       → IsReachedBy (moves_on n (event_part start pairs)) (view (state_after start pairs).events.session n st)
 
--- so each law of sessions of events, each of the moves of a run, and each of what a run has led to, holds of every event of a script
+-- so each law of sessions of events, each of the moves of a run, and each of what a run has led to, holds of every event of a
+-- script
 abbrev pub EventsLaw : Type 0
 EventsLaw = (pairs : Session) → IsLawful pairs → IsEventPart pairs

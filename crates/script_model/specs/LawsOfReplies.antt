@@ -66,7 +66,8 @@ pub record MissesNone (now : Moment) (r : RunningCall) (a : EventAccess) (ids : 
       → (id : ℕ) → has s.met.pending id ≡ true → list_any (λ x. x == id) ids ≡ true
   pub list : is_bits now.event.kind ≡ false → (now.event.queue ≡ []) ⊎ (length ids ≡ 513)
 
--- why a notify is refused, as its last step meets the event: its listener was released, or on a queue the listener's party was abandoned; on bits its
+-- why a notify is refused, as its last step meets the event: its listener was released, or on a queue the listener's party was
+-- abandoned; on bits its
 -- id is above the greatest; on a queue 512 ids wait
 abbrev pub IsRefusal : Event → ℕ → NotifierNotifyError → Type 0
 IsRefusal e id notify_error.Disconnected = (e.held ≡ false) ⊎ ((is_bits e.kind ≡ false) × (e.gone ≡ true))
@@ -75,7 +76,8 @@ IsRefusal e id notify_error.FailedToDeliverSignal = (is_bits e.kind ≡ false) �
 IsRefusal e id notify_error.Interrupt = ⊥
 IsRefusal e id notify_error.InternalFailure = ⊥
 
--- a wait is told exactly the ids that its own steps took, in order, and none only in mode try; a notify that is told ok made its id pending, and an error is so
+-- a wait is told exactly the ids that its own steps took, in order, and none only in mode try; a notify that is told ok made
+-- its id pending, and an error is so
 abbrev pub IsTrue : Moment → RunningCall → EventAccess → EventCall → EventReply → Type 0
 IsTrue now r a (a_notify n) reply.Done = IsNotifyOk n.id (with_step now r a)
 IsTrue now r a (a_notify n) (reply.NotNotified why) = IsRefusal now.event n.id why

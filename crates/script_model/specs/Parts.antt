@@ -1,4 +1,5 @@
--- The boards' part of a session: the lines that are the boards' alone, with their answers. And the events' part: its lines as those of a session of events.
+-- The boards' part of a session: the lines that are the boards' alone, with their answers. And the events' part: its lines as
+-- those of a session of events.
 use Rattle.std.specs.Prelude.{ℕ, ◌+◌, ◌-◌, if◌then◌else◌, List, [], ◌∷◌, ◌++◌, Option, Some, None, is_some}
 use Rattle.board_event_model.specs.EventMemory.{Event}
 use Rattle.board_event_model.specs.EventSessions.{EventLine, abandon_of, begin_on, event_of, expire_of, listen, notifiers_of, release_of, step_of}

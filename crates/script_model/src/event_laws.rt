@@ -32,7 +32,8 @@ pub fn printed_steps_are_taken()
     ensures { PrintedStepsAreTaken }
 {}
 
-/// What is told behind an access is true: of a notify that it made its id pending, or why it didn't; of a wait that it took exactly
+/// What is told behind an access is true: of a notify that it made its id pending, or why it didn't; of a wait that it took
+/// exactly
 /// these ids, and which it may have missed.
 pub fn replies_are_true()
     ensures { RepliesAreTrue }
