@@ -7,7 +7,7 @@ ghost use Rattle.board_cells.specs.Ends.{end_seen};
 ghost use Rattle.board_handles.specs.Handles.{HasRoom, PublishesWritten, last_receipt, publishing, with_written};
 
 use crate::domain::Domain;
-use crate::width::know_width;
+use crate::width::update;
 use board_cell::{CellError, Receipt, ThreadedCell, WriterPass};
 use board_cells::{SentReceipt, WriteEnd};
 use board_layout::ZeroCopySend;
@@ -120,9 +120,7 @@ impl<V: ZeroCopySend> Writing<V> {
         ensures published { self.new.handle ≡ publishing self.old.handle (V.words_of value) }
     {
         value.to_words(self.words.as_mut_slice());
-        let cell = &*self.cell;
-        know_width::<V>(cell, &self.words);
-        cell.update(&mut self.pass, &self.words);
+        update::<V>(&self.cell, &mut self.pass, &mut self.words);
     }
 
     /// Publishes the words that were written, all of them.
@@ -132,9 +130,7 @@ impl<V: ZeroCopySend> Writing<V> {
         ensures published { PublishesWritten self.old self.new.handle }
     {
         fill(self.words.as_mut_slice(), self.places.as_slice());
-        let cell = &*self.cell;
-        know_width::<V>(cell, &self.words);
-        cell.update(&mut self.pass, &self.words);
+        update::<V>(&self.cell, &mut self.pass, &mut self.words);
     }
 
     /// Forgets which words were written.
