@@ -1,11 +1,22 @@
-use Rattle.std.proofs.Common.{ℕ, ◌<◌, ◌^◌, List, length, ap, ◌∙◌, subst, sym, slice_index_or}
+use Rattle.std.proofs.Common.{ℕ, zero, suc, ◌≡◌, ◌<◌, ◌^◌, List, [], ◌∷◌, length, refl, ap, ◌∙◌, subst, sym, slice_index_or}
+use Rattle.std.specs.Prelude.{All, slice_index}
 use Rattle.std.proofs.Math.Facts.{Fits-lt-pow}
 use Rattle.std.proofs.lemmas.List.{get_or_default}
 use Rattle.board_bench.proofs.block.BlockZeroCopySend.from_words.Goals as goal
 
-pub returns-clause-valid : goal.returns-clause-valid
-returns-clause-valid c =
-    let same = c.in-Ok.ensures.1.same in
-    let small : (i : ℕ) → slice_index_or c.in-Ok.words i 0 < 2 ^ 64 =
-    λ i. subst (λ (words : List ℕ). slice_index_or words i 0 < 2 ^ 64) (sym same) (Fits-lt-pow (c.type_inv.words i)) in
-    (ap length same ∙ c.requires, λ k d lt. subst (λ x. x < 2 ^ 64) (get_or_default c.in-Ok.words k 0 d lt) (small k))
+-- so many items from a place on, each by its place
+items_from : ℕ → ℕ → List ℕ → List ℕ
+items_from k zero xs = []
+items_from k (suc n) xs = slice_index xs k ∷ items_from (suc k) n xs
+
+behind_one : (k n x : ℕ) (xs : List ℕ) → items_from (suc k) n (x ∷ xs) ≡ items_from k n xs
+behind_one k zero x xs = refl
+behind_one k (suc n) x xs = ap (λ (ys : List ℕ). slice_index xs k ∷ ys) (behind_one (suc k) n x xs)
+
+all_items : (xs : List ℕ) → items_from 0 (length xs) xs ≡ xs
+all_items [] = refl
+all_items (x ∷ xs) = ap (λ (ys : List ℕ). x ∷ ys) (behind_one 0 (length xs) x xs ∙ all_items xs)
+
+-- the 32 items of a list are all of it
+all_32 : (xs : List ℕ) → length xs ≡ 32 → items_from 0 32 xs ≡ xs
+all_32 xs h = subst (λ n. items_from 0 n xs ≡ xs) h (all_items xs)
