@@ -1,5 +1,6 @@
 //! What a caller knows of a domain that it is lent, whatever that went through.
 ghost use Rattle.std.specs.Prelude.{◌≡◌, ◌+◌, ◌<◌, ◌≤◌, true, is_some, length, IfOk, IfSome};
+ghost use Rattle.std.specs.Bool.{OnTrue};
 ghost use Rattle.board_layout.specs.Bytes.{details};
 ghost use Rattle.board_model.specs.Tables.{board_at, reader_slots};
 ghost use Rattle.board_service.specs.Domain.{Stands, stands_as};
@@ -45,6 +46,34 @@ pub(super) fn free_readers<C: Cells>(core: &mut DomainCore<C>, board: u64) -> u6
         Some(used) => config.max_readers - used.readers,
         None => 0,
     }
+}
+
+/// How many bytes of an entry's 64 the keys of the board leave. They take no more, so the difference is one.
+pub(super) fn spare_key_bytes<C: Cells>(core: &DomainCore<C>, board: u64) -> u64
+    ensures { IfSome (board_at core.now.tables board) (λ b. result + b.key.size ≡ 64) }
+{
+    core.facts();
+    match core.config_of(board) {
+        Some(config) => 64 - config.type_details.size as u64,
+        None => 0,
+    }
+}
+
+/// Whether two entries of the board have one place. Only an entry and itself have.
+pub(super) fn have_one_place<C: Cells>(core: &DomainCore<C>, board: u64, i: u64, j: u64) -> bool
+    ensures { OnTrue result (i ≡ j) }
+{
+    core.facts();
+    let Some(entries) = core.entries_of(board) else {
+        return false;
+    };
+    let Some(one) = entries.get(i as usize) else {
+        return false;
+    };
+    let Some(other) = entries.get(j as usize) else {
+        return false;
+    };
+    one.cell.place == other.cell.place
 }
 
 /// A read handle and a write handle, made by who holds a factory. Nothing is asked in between.
