@@ -46,14 +46,11 @@ impl ZeroCopySend for Block {
     fn from_words(words: &[u64]) -> Block {
         Block {
             words: [
-                words[0], words[1], words[2], words[3],
-                words[4], words[5], words[6], words[7],
-                words[8], words[9], words[10], words[11],
-                words[12], words[13], words[14], words[15],
-                words[16], words[17], words[18], words[19],
-                words[20], words[21], words[22], words[23],
-                words[24], words[25], words[26], words[27],
-                words[28], words[29], words[30], words[31],
+                words[0], words[1], words[2], words[3], words[4], words[5], words[6], words[7],
+                words[8], words[9], words[10], words[11], words[12], words[13], words[14],
+                words[15], words[16], words[17], words[18], words[19], words[20], words[21],
+                words[22], words[23], words[24], words[25], words[26], words[27], words[28],
+                words[29], words[30], words[31],
             ],
         }
     }

@@ -43,7 +43,11 @@ impl Model for GetCall {
 
     ghost view = { λ s. record { shape = s.shape; reading = reading_of s.stage s.counter (take s.at s.buffer.items) } };
 
-    ghost invariant = { λ s. (length s.buffer.items ≡ s.shape.words) × (cell_end s.shape < 2 ^ 64) × (s.stage ≡ Opening → (s.at ≡ 0) × (s.left ≡ 0)) × (s.at + s.left ≤ s.shape.words) × (s.copy + s.shape.words ≤ cell_end s.shape) × (s.stage ≡ Trying → (s.at + s.left ≡ s.shape.words) × (s.copy ≡ current_at s.shape s.counter)) × (s.stage ≡ Finished → (s.at ≡ s.shape.words) × (s.left ≡ 0)) };
+    ghost invariant = { λ s. (length s.buffer.items ≡ s.shape.words) × (cell_end s.shape < 2 ^ 64)
+        × (s.stage ≡ Opening → (s.at ≡ 0) × (s.left ≡ 0)) × (s.at + s.left ≤ s.shape.words)
+        × (s.copy + s.shape.words ≤ cell_end s.shape)
+        × (s.stage ≡ Trying → (s.at + s.left ≡ s.shape.words) × (s.copy ≡ current_at s.shape s.counter))
+        × (s.stage ≡ Finished → (s.at ≡ s.shape.words) × (s.left ≡ 0)) };
 }
 
 impl GetCall {

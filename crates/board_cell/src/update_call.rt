@@ -54,7 +54,8 @@ impl<W: ValueWords> Model for UpdateCall<W> {
 
     ghost view = { λ s. record { shape = s.shape; generation = s.generation; words = W.list s.words; written = s.written } };
 
-    ghost invariant = { λ s. (length (W.list s.words) ≡ s.shape.words) × (cell_end s.shape < 2 ^ 64) × (s.generation + 1 < 2 ^ 64) × (s.written ≤ s.shape.words + 1) };
+    ghost invariant = { λ s. (length (W.list s.words) ≡ s.shape.words) × (cell_end s.shape < 2 ^ 64) × (s.generation + 1 < 2 ^ 64)
+        × (s.written ≤ s.shape.words + 1) };
 }
 
 impl UpdateCall<Vec<u64>> {

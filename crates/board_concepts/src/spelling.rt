@@ -21,7 +21,8 @@ use std::alloc::{AllocError, Global};
 pub(crate) fn number(bytes: &[u8], most: u64) -> Option<(u64, &[u8])>
     ensures found { IfSome result (λ p. Spelled p.0 bytes.now p.1.now) }
     ensures most { IfSome result (λ p. p.0 ≤ most) }
-    ensures every { (n : ℕ) (rest : List ℕ) → n ≤ most → Spelled n bytes.now rest → IsSomeAnd result (λ p. (p.0 ≡ n) × (p.1.now ≡ rest)) }
+    ensures every { (n : ℕ) (rest : List ℕ) → n ≤ most → Spelled n bytes.now rest
+        → IsSomeAnd result (λ p. (p.0 ≡ n) × (p.1.now ≡ rest)) }
 {
     let (first, behind) = bytes.split_first()?;
     let low = u64::from(*first);
@@ -57,7 +58,8 @@ pub(crate) fn put_number(out: &mut Vec<u8>, number: u64) -> Result<(), AllocErro
 // The text at the front of the bytes.
 pub(crate) fn text(bytes: &[u8]) -> Option<(&[u8], &[u8])>
     ensures found { IfSome result (λ p. SpelledText p.0.now bytes.now p.1.now) }
-    ensures every { (t : List ℕ) (rest : List ℕ) → length t < 2 ^ 64 → SpelledText t bytes.now rest → IsSomeAnd result (λ p. (p.0.now ≡ t) × (p.1.now ≡ rest)) }
+    ensures every { (t : List ℕ) (rest : List ℕ) → length t < 2 ^ 64 → SpelledText t bytes.now rest
+        → IsSomeAnd result (λ p. (p.0.now ≡ t) × (p.1.now ≡ rest)) }
 {
     let (count, behind) = number(bytes, u64::MAX)?;
     if (behind.len() as u64) < count {
@@ -103,7 +105,8 @@ fn variant_of(number: u64) -> Option<TypeVariant>
 pub(crate) fn read_type(bytes: &[u8]) -> Option<(TypeDetail, &[u8])>
     ensures found { IfSome result (λ p. SpelledType p.0 bytes.now p.1.now) }
     ensures rule { IfSome result (λ p. IsType p.0) }
-    ensures every { (t : TypeDetail) (rest : List ℕ) → IsType t → SpelledType t bytes.now rest → IsSomeAnd result (λ p. (p.0 ≡ t) × (p.1.now ≡ rest)) }
+    ensures every { (t : TypeDetail) (rest : List ℕ) → IsType t → SpelledType t bytes.now rest
+        → IsSomeAnd result (λ p. (p.0 ≡ t) × (p.1.now ≡ rest)) }
 {
     let (variant, bytes) = number(bytes, u64::MAX)?;
     let variant = variant_of(variant)?;
@@ -124,7 +127,8 @@ pub(crate) fn read_type(bytes: &[u8]) -> Option<(TypeDetail, &[u8])>
 fn read_attribute(bytes: &[u8]) -> Option<(Attribute, &[u8])>
     ensures found { IfSome result (λ p. SpelledAttribute p.0 bytes.now p.1.now) }
     ensures rule { IfSome result (λ p. IsTrue (is_attribute p.0)) }
-    ensures every { (a : Attribute) (rest : List ℕ) → IsTrue (is_attribute a) → SpelledAttribute a bytes.now rest → IsSomeAnd result (λ p. (p.0 ≡ a) × (p.1.now ≡ rest)) }
+    ensures every { (a : Attribute) (rest : List ℕ) → IsTrue (is_attribute a) → SpelledAttribute a bytes.now rest
+        → IsSomeAnd result (λ p. (p.0 ≡ a) × (p.1.now ≡ rest)) }
 {
     let (key, bytes) = text(bytes)?;
     let (value, bytes) = text(bytes)?;
@@ -141,7 +145,8 @@ fn read_attribute(bytes: &[u8]) -> Option<(Attribute, &[u8])>
 // The bytes behind so many attributes. Takes no memory.
 fn skip_each(bytes: &[u8], count: u64) -> Option<&[u8]>
     ensures found { IfSome result (λ left. (each : List Attribute) × AreSpelled each count bytes.now left.now) }
-    ensures every { (each : List Attribute) (rest : List ℕ) → AreSpelled each count bytes.now rest → IsSomeAnd result (λ left. left.now ≡ rest) }
+    ensures every { (each : List Attribute) (rest : List ℕ) → AreSpelled each count bytes.now rest
+        → IsSomeAnd result (λ left. left.now ≡ rest) }
 {
     if count == 0 {
         return Some(bytes);
@@ -170,7 +175,8 @@ pub(crate) fn is_list(bytes: &[u8]) -> bool
 fn fill(set: &mut AttributeSet, bytes: &[u8], count: u64) -> Result<(), AllocError>
     requires room { length set.old + count ≤ 8 }
     requires spelled { (each : List Attribute) × (rest : List ℕ) × AreSpelled each count bytes.now rest }
-    ensures { (each : List Attribute) (rest : List ℕ) → AreSpelled each count bytes.now rest → OnOk result (set.new ≡ set.old ++ each) }
+    ensures { (each : List Attribute) (rest : List ℕ) → AreSpelled each count bytes.now rest
+        → OnOk result (set.new ≡ set.old ++ each) }
 {
     if count == 0 {
         return Ok(());
@@ -187,7 +193,8 @@ fn fill(set: &mut AttributeSet, bytes: &[u8], count: u64) -> Result<(), AllocErr
 // The list of attributes that the bytes are.
 pub(crate) fn list_of(alloc: Global, bytes: &[u8]) -> Result<AttributeSet, AllocError>
     requires { (attributes : List Attribute) × AreAttributes attributes × SpelledList attributes bytes.now [] }
-    ensures { (attributes : List Attribute) → AreAttributes attributes → SpelledList attributes bytes.now [] → IfOk result (λ set. set ≡ attributes) }
+    ensures { (attributes : List Attribute) → AreAttributes attributes → SpelledList attributes bytes.now []
+        → IfOk result (λ set. set ≡ attributes) }
 {
     // The list begins with its length, which is 8 at most, and `number` finds it (its `every`).
     let Some((count, items)) = number(bytes, MAX_ATTRIBUTES as u64) else {

@@ -1,6 +1,6 @@
 //! What an event does: a notifier hands ids to a listener, which takes them one by one or all at once.
 ghost use Rattle.std.specs.Prelude.{◌≡◌, ℕ, Bool, List, ◌<◌, ◌-◌, ◌^◌, codes, IfOk, IsOk};
-ghost use Rattle.board_event.specs.TypedCalls.{IsNotifyAnswer};
+ghost use Rattle.board_event.specs.TypedCalls.{IsNotifyAnswer, MayCreate, MayOpen};
 
 use board_names::{
     FileName, ListenerCreateError, ListenerWaitError, NamedConcept, NamedConceptBuilder,
@@ -75,7 +75,8 @@ pub trait NotifierBuilder: NamedConceptBuilder {
     /// `DoesNotExist` where the name isn't held, or its listener is gone; `NumbersSpent` where the event has 2^64 - 2
     /// notifiers.
     fn open<R: Wait>(self, rt: &R) -> Result<Self::Notifier, NotifierCreateError>
-        ensures { IfOk result (λ end. Self.Notifier.name_of end ≡ (Self.named self).name) };
+        ensures name { IfOk result (λ end. Self.Notifier.name_of end ≡ (Self.named self).name) }
+        ensures refused { MayOpen result };
 }
 
 /// The end that takes ids. It may go to another thread, and isn't shared between threads.
@@ -169,7 +170,8 @@ pub trait ListenerBuilder: NamedConceptBuilder {
     /// # Errors
     /// `AlreadyExists` where the name is held; `NumbersSpent` where all event numbers were drawn; `OutOfMemory`.
     fn create<R: Wait>(self, rt: &R, alloc: Global) -> Result<Self::Listener, ListenerCreateError>
-        ensures { IfOk result (λ end. Self.Listener.name_of end ≡ (Self.named self).name) };
+        ensures name { IfOk result (λ end. Self.Listener.name_of end ≡ (Self.named self).name) }
+        ensures refused { MayCreate result };
 
     /// The greatest id is part of what a builder was told.
     ghost max_as_told: { (x y : Self) → Self.told x ≡ Self.told y → asked_max x ≡ asked_max y };

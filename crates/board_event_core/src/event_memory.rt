@@ -45,7 +45,17 @@ impl Model for EventMemory {
 
     ghost coded = { event_code };
 
-    ghost view = { λ e. record { kind = kind_in e.pending; name = e.name; max = e.max; pending = ids_in e.pending; queue = queue_in e.pending; signals = e.signals; held = e.held; gone = e.gone; notifiers = e.notifiers } };
+    ghost view = { λ e. record {
+      kind = kind_in e.pending;
+      name = e.name;
+      max = e.max;
+      pending = ids_in e.pending;
+      queue = queue_in e.pending;
+      signals = e.signals;
+      held = e.held;
+      gone = e.gone;
+      notifiers = e.notifiers;
+    } };
 
     ghost invariant = { λ e. IsPendingOf e.max e.pending };
 }

@@ -140,7 +140,7 @@ events_law_holds pairs ok =
       allowed = h.allowed;
       state = sym h.is;
       runs = λ n st stands.
-      subst (λ (s : EventSession). IsReachedBy (moves_on n lines) (view s n st)) (sym h.is) (session_law_holds lines h.allowed n st (ap (λ (s : EventSession). s.stands n) (sym h.is) ∙ stands));
+          subst (λ (s : EventSession). IsReachedBy (moves_on n lines) (view s n st)) (sym h.is) (session_law_holds lines h.allowed n st (ap (λ (s : EventSession). s.stands n) (sym h.is) ∙ stands));
     }
 
 -- ---- ids

@@ -65,7 +65,8 @@ fn run<R: Threads + Wait + Sync>(
     two: Vec<u64>,
 ) -> Result<(WriterPass, ReaderPass, ReaderPass, bool), AllocError>
     requires cell { (writer.cell ≡ cell.now.cell) × (first.cell ≡ cell.now.cell) × (second.cell ≡ cell.now.cell) }
-    requires width { (length words.items ≡ cell.now.width) × (length one.items ≡ cell.now.width) × (length two.items ≡ cell.now.width) }
+    requires width { (length words.items ≡ cell.now.width) × (length one.items ≡ cell.now.width)
+        × (length two.items ≡ cell.now.width) }
     requires room { length writer.published < 2 ^ 32 }
     ensures { IfOk result (λ r. (r.0.cell ≡ cell.now.cell) × (r.1.cell ≡ cell.now.cell) × (r.2.cell ≡ cell.now.cell)) }
 {
@@ -73,13 +74,18 @@ fn run<R: Threads + Wait + Sync>(
         thread::scope_env(),
         rt,
         |scope| -> Result<(WriterPass, ReaderPass, ReaderPass, bool), AllocError>
-            requires { (writer.cell ≡ cell.now.cell) × (first.cell ≡ cell.now.cell) × (second.cell ≡ cell.now.cell) × (length words.items ≡ cell.now.width) × (length one.items ≡ cell.now.width) × (length two.items ≡ cell.now.width) × (length writer.published < 2 ^ 32) }
-            ensures { IfOk result (λ r. (r.0.cell ≡ cell.entry.now.cell) × (r.1.cell ≡ cell.entry.now.cell) × (r.2.cell ≡ cell.entry.now.cell)) }
+            requires { (writer.cell ≡ cell.now.cell) × (first.cell ≡ cell.now.cell) × (second.cell ≡ cell.now.cell)
+                × (length words.items ≡ cell.now.width) × (length one.items ≡ cell.now.width)
+                × (length two.items ≡ cell.now.width) × (length writer.published < 2 ^ 32) }
+            ensures { IfOk result (λ r.
+                (r.0.cell ≡ cell.entry.now.cell) × (r.1.cell ≡ cell.entry.now.cell)
+                × (r.2.cell ≡ cell.entry.now.cell)) }
         {
             let a = scope.spawn_with(
                 WriterOf(Snapshot::of(cell)),
                 move ||
-                    requires { (writer.cell ≡ cell.now.cell) × (length words.items ≡ cell.now.width) × (length writer.published < 2 ^ 32) }
+                    requires { (writer.cell ≡ cell.now.cell) × (length words.items ≡ cell.now.width)
+                        × (length writer.published < 2 ^ 32) }
                     ensures { result.cell ≡ writer.cell }
                 { write_all(cell, writer, words) },
             )?;

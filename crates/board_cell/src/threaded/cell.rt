@@ -28,7 +28,8 @@ impl Model for ThreadedCell {
 
     ghost view = { λ s. record { cell = s.table.shared.table_id; width = s.words } };
 
-    ghost invariant = { λ s. (s.table.shared.table_id.words ≡ 2 + 2 * s.words) × (length s.table.shared.key.items ≡ s.words) × (2 + 2 * s.words < 2 ^ 64) };
+    ghost invariant = { λ s. (s.table.shared.table_id.words ≡ 2 + 2 * s.words) × (length s.table.shared.key.items ≡ s.words)
+        × (2 + 2 * s.words < 2 ^ 64) };
 }
 
 // The counter, the reserved word, the value, and zeros for the second copy.

@@ -30,9 +30,15 @@ impl Model for ReaderPass {
 
     ghost Value = { ReaderSeen };
 
-    ghost view = { λ s. record { cell = s.seat.table_id; notes = (reader_of s.seat.me.0).notes; loads = (reader_of s.seat.me.0).loads; reached = (reader_of s.seat.me.0).reached } };
+    ghost view = { λ s. record {
+      cell = s.seat.table_id;
+      notes = (reader_of s.seat.me.0).notes;
+      loads = (reader_of s.seat.me.0).loads;
+      reached = (reader_of s.seat.me.0).reached;
+    } };
 
-    ghost invariant = { λ s. (s.seat.me.0 ≡ Reader (reader_of s.seat.me.0)) × (s.seat.me.1 ≡ []) × NotesRise (reader_of s.seat.me.0).notes };
+    ghost invariant = { λ s. (s.seat.me.0 ≡ Reader (reader_of s.seat.me.0)) × (s.seat.me.1 ≡ [])
+        × NotesRise (reader_of s.seat.me.0).notes };
 }
 
 /// No try was accepted: the two counters of the last one.
@@ -55,12 +61,16 @@ impl ThreadedCell {
         tries: u32,
     ) -> Result<u64, GetAgain>
         requires cell { seat.old.table_id ≡ self.now.cell }
-        requires seat { (seat.old.me.0 ≡ Reader (reader_of seat.old.me.0)) × ((reader_of seat.old.me.0).found ≡ []) × ((reader_of seat.old.me.0).opened ≡ opened) }
+        requires seat { (seat.old.me.0 ≡ Reader (reader_of seat.old.me.0)) × ((reader_of seat.old.me.0).found ≡ [])
+            × ((reader_of seat.old.me.0).opened ≡ opened) }
         requires call { IsTrying self.now.width call.old (reader_of seat.old.me.0) }
         requires some { 0 < tries }
-        ensures cell { (seat.new.table_id ≡ seat.old.table_id) × (seat.new.me.1 ≡ seat.old.me.1) × (call.new.shape ≡ call.old.shape) }
+        ensures cell { (seat.new.table_id ≡ seat.old.table_id) × (seat.new.me.1 ≡ seat.old.me.1)
+            × (call.new.shape ≡ call.old.shape) }
         ensures rises { NotesRise (reader_of seat.new.me.0).notes }
-        ensures ok { IfOk result (λ g. AfterTriesWithin tries (reader_of seat.old.me.0) seat.new.me.0 opened g (words_of call.new.reading) × (call.new.reading ≡ finished g (words_of call.new.reading))) }
+        ensures ok { IfOk result (λ g.
+            AfterTriesWithin tries (reader_of seat.old.me.0) seat.new.me.0 opened g (words_of call.new.reading)
+            × (call.new.reading ≡ finished g (words_of call.new.reading))) }
         ensures again { IfErr result (λ e. AfterFailures tries (reader_of seat.old.me.0) seat.new.me.0 opened e.before e.after) }
     {
         let mut before = opened;
@@ -89,7 +99,8 @@ impl ThreadedCell {
         tries: u32,
     ) -> Result<u64, GetAgain>
         requires cell { seat.old.table_id ≡ self.now.cell }
-        requires seat { (seat.old.me.0 ≡ Reader (reader_of seat.old.me.0)) × ((reader_of seat.old.me.0).found ≡ []) × ((reader_of seat.old.me.0).opened ≡ opened) }
+        requires seat { (seat.old.me.0 ≡ Reader (reader_of seat.old.me.0)) × ((reader_of seat.old.me.0).found ≡ [])
+            × ((reader_of seat.old.me.0).opened ≡ opened) }
         requires width { length out.old.items ≡ self.now.width }
         requires some { 0 < tries }
         ensures cell { (seat.new.table_id ≡ seat.old.table_id) × (seat.new.me.1 ≡ seat.old.me.1) }
@@ -117,7 +128,8 @@ impl ThreadedCell {
         tries: u32,
     ) -> Result<u64, GetAgain>
         requires cell { seat.old.table_id ≡ self.now.cell }
-        requires seat { (seat.old.me.0 ≡ Reader (reader_of seat.old.me.0)) × ((reader_of seat.old.me.0).found ≡ []) × ((reader_of seat.old.me.0).opened ≡ opened) }
+        requires seat { (seat.old.me.0 ≡ Reader (reader_of seat.old.me.0)) × ((reader_of seat.old.me.0).found ≡ [])
+            × ((reader_of seat.old.me.0).opened ≡ opened) }
         requires call { IsTrying self.now.width call (reader_of seat.old.me.0) }
         requires some { 0 < tries }
         ensures cell { (seat.new.table_id ≡ seat.old.table_id) × (seat.new.me.1 ≡ seat.old.me.1) }
@@ -177,11 +189,14 @@ impl ThreadedCell {
         opened: u64,
     ) -> u64
         requires cell { seat.old.table_id ≡ self.now.cell }
-        requires seat { (seat.old.me.0 ≡ Reader (reader_of seat.old.me.0)) × ((reader_of seat.old.me.0).found ≡ []) × ((reader_of seat.old.me.0).opened ≡ opened) }
+        requires seat { (seat.old.me.0 ≡ Reader (reader_of seat.old.me.0)) × ((reader_of seat.old.me.0).found ≡ [])
+            × ((reader_of seat.old.me.0).opened ≡ opened) }
         requires call { IsTrying self.now.width call.old (reader_of seat.old.me.0) }
-        ensures cell { (seat.new.table_id ≡ seat.old.table_id) × (seat.new.me.1 ≡ seat.old.me.1) × (call.new.shape ≡ call.old.shape) }
+        ensures cell { (seat.new.table_id ≡ seat.old.table_id) × (seat.new.me.1 ≡ seat.old.me.1)
+            × (call.new.shape ≡ call.old.shape) }
         ensures rises { NotesRise (reader_of seat.new.me.0).notes }
-        ensures ok { AfterTries (reader_of seat.old.me.0) seat.new.me.0 opened result (words_of call.new.reading) × (call.new.reading ≡ finished result (words_of call.new.reading)) }
+        ensures ok { AfterTries (reader_of seat.old.me.0) seat.new.me.0 opened result (words_of call.new.reading)
+            × (call.new.reading ≡ finished result (words_of call.new.reading)) }
     {
         let mut before = opened;
         'tries: for _ in rt.forever() {
@@ -206,7 +221,8 @@ impl ThreadedCell {
         opened: u64,
     ) -> (u64, Vec<u64>)
         requires cell { seat.old.table_id ≡ self.now.cell }
-        requires seat { (seat.old.me.0 ≡ Reader (reader_of seat.old.me.0)) × ((reader_of seat.old.me.0).found ≡ []) × ((reader_of seat.old.me.0).opened ≡ opened) }
+        requires seat { (seat.old.me.0 ≡ Reader (reader_of seat.old.me.0)) × ((reader_of seat.old.me.0).found ≡ [])
+            × ((reader_of seat.old.me.0).opened ≡ opened) }
         requires width { length buffer.items ≡ self.now.width }
         ensures cell { (seat.new.table_id ≡ seat.old.table_id) × (seat.new.me.1 ≡ seat.old.me.1) }
         ensures width { length result.1.items ≡ self.now.width }

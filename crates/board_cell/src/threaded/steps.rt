@@ -24,7 +24,8 @@ impl ThreadedCell {
         requires call { IsWriting self.now.width call.old (writer_of seat.old.me.0) }
         requires more { call.old.written < self.now.width }
         ensures cell { seat.new.table_id ≡ seat.old.table_id }
-        ensures seat { seat.new.me ≡ (Writer (with_pending (writer_of seat.old.me.0) (slice_index call.old.words call.old.written)), seat.old.me.1) }
+        ensures seat { seat.new.me
+            ≡ (Writer (with_pending (writer_of seat.old.me.0) (slice_index call.old.words call.old.written)), seat.old.me.1) }
         ensures call { call.new ≡ record call.old { written = call.old.written + 1 } }
     {
         let Access::Write { word, value } = call.next() else {
@@ -123,7 +124,8 @@ impl ThreadedCell {
         ensures seat { seat.new.me ≡ (Reader (with_close (reader_of seat.old.me.0) result), seat.old.me.1) }
         ensures reached { ((reader_of seat.old.me.0).reached ≤ result) × ((reader_of seat.old.me.0).opened ≤ result) }
         ensures rises { NotesRise (reader_of seat.new.me.0).notes }
-        ensures accepted { result ≡ (reader_of seat.old.me.0).opened → call.new ≡ record call.old { reading = finished result (reader_of seat.old.me.0).found } }
+        ensures accepted { result ≡ (reader_of seat.old.me.0).opened
+            → call.new ≡ record call.old { reading = finished result (reader_of seat.old.me.0).found } }
         ensures again { result ≢ (reader_of seat.old.me.0).opened → call.new ≡ record call.old { reading = trying result [] } }
     {
         let Access::Read { word } = call.next() else {
@@ -209,8 +211,12 @@ impl ThreadedCell {
         ensures cell { seat.new.table_id ≡ seat.old.table_id }
         ensures reached { ((reader_of seat.old.me.0).reached ≤ result) × ((reader_of seat.old.me.0).opened ≤ result) }
         ensures rises { NotesRise (reader_of seat.new.me.0).notes }
-        ensures accepted { result ≡ (reader_of seat.old.me.0).opened → (seat.new.me ≡ (Reader (with_note (reader_of seat.old.me.0) result (words_of call.new.reading)), seat.old.me.1)) × (call.new ≡ record call.old { reading = finished result (words_of call.new.reading) }) }
-        ensures again { result ≢ (reader_of seat.old.me.0).opened → (seat.new.me ≡ (Reader (with_open (reader_of seat.old.me.0) result), seat.old.me.1)) × (call.new ≡ record call.old { reading = trying result [] }) }
+        ensures accepted { result ≡ (reader_of seat.old.me.0).opened
+            → (seat.new.me ≡ (Reader (with_note (reader_of seat.old.me.0) result (words_of call.new.reading)), seat.old.me.1))
+            × (call.new ≡ record call.old { reading = finished result (words_of call.new.reading) }) }
+        ensures again { result ≢ (reader_of seat.old.me.0).opened
+            → (seat.new.me ≡ (Reader (with_open (reader_of seat.old.me.0) result), seat.old.me.1))
+            × (call.new ≡ record call.old { reading = trying result [] }) }
     {
         self.read_words(seat, call);
         self.close_try(seat, call)

@@ -27,7 +27,8 @@ impl Model for WriterPass {
 
     ghost view = { λ s. record { cell = s.seat.table_id; published = (writer_of s.seat.me.0).published } };
 
-    ghost invariant = { λ s. (s.seat.me.0 ≡ Writer (writer_of s.seat.me.0)) × ((writer_of s.seat.me.0).pending ≡ []) × (s.generation ≡ length (writer_of s.seat.me.0).published) };
+    ghost invariant = { λ s. (s.seat.me.0 ≡ Writer (writer_of s.seat.me.0)) × ((writer_of s.seat.me.0).pending ≡ [])
+        × (s.generation ≡ length (writer_of s.seat.me.0).published) };
 }
 
 impl WriterPass {
