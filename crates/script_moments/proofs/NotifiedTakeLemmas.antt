@@ -19,7 +19,7 @@ use Rattle.script_model.proofs.PartLemmas.{events_reached}
 use Rattle.script_moments.specs.LawsOfTakes.{GetsAfterTakesAreNotified, IsNotified, IsUnnotified, TakenIdsWereNotified, moves_in, popped_on, pushed_on, to_asked, to_end, to_got, to_notified}
 use Rattle.script_moments.proofs.BegunLemmas.{IsBegun, IsEventOf, all_begun, event_kept, first_notify}
 use Rattle.script_moments.proofs.EventKindLemmas.{AreOfKind, bits_kind, owed_kind, queue_kind, session_kinds}
-use Rattle.script_moments.proofs.PendingLemmas.{IsMade, access_is, pop_takes, pushed_at, set_last, set_takes}
+use Rattle.script_moments.proofs.PendingLemmas.{IsMade, IsPushed, IsSetLast, access_is, pop_takes, pushed_at, set_last, set_takes}
 
 -- ---- the begin of the notify that made an id pending
 
@@ -72,51 +72,79 @@ record IsNotifiedBy (pairs before : Session) (pair : Pair) (since : Session) (pa
   untaken : is_bits kind ≡ true → IsUntaken (past before pair) since n id
   in_turn : is_bits kind ≡ false → pushed_on n before ≡ popped_on n pairs
 
+-- and by what came before the begin of its notify
 notified_by : (pairs before : Session) (pair : Pair) (since : Session) (party : List ℕ) (kind : EventKind) (name : List ℕ) (n id number : ℕ) → pairs ≡ before ++ pair ∷ since → IsBegun before party n id number → IsNotifiedBy pairs before pair since party kind name n id number → IsNotified pairs kind name n id
 notified_by pairs before pair since party kind name n id number whole b h =
+    let e : pairs ≡ (b.before ++ b.pair ∷ b.since) ++ pair ∷ since = whole ∙ ap (λ (xs : Session). xs ++ pair ∷ since) b.whole in
     let k = subst (λ (xs : Session). IsNotifiedBy pairs xs pair since party kind name n id number) b.whole h in
     record {
       cut = record { before_begun = b.before; begun = b.pair; before_notified = b.since; notified = pair; since = since };
-      whole = sym (whole ∙ ap (λ (xs : Session). xs ++ pair ∷ since) b.whole);
-      party = party;
-      number = number;
-      begun = b.begun;
-      notified = k.notified;
-      kind_is = k.kind_is;
-      name_is = k.name_is;
-      newest = k.newest;
-      untaken = k.untaken;
-      in_turn = k.in_turn;
+      whole = sym e;
+      is = record {
+        party = party;
+        number = number;
+        begun = b.begun;
+        notified = k.notified;
+        kind_is = k.kind_is;
+        name_is = k.name_is;
+        newest = k.newest;
+        untaken = k.untaken;
+        in_turn = λ q. k.in_turn q ∙ ap (popped_on n) e;
+      };
     }
 
 both_kinds : (b : Bool) → b ≡ true → b ≡ false → ⊥
 both_kinds true e f = cc
 both_kinds false e f = cc
 
+-- an id of a set
+set_notified : (pairs : Session) (k : EventKind) (name : List ℕ) (n id : ℕ) → IsLawful pairs → is_bits k ≡ true → IsEventOf (state_met pairs).events.session n k name → IsSetLast pairs n id → IsNotified pairs k name n id
+set_notified pairs k name n id ok bits event s =
+    let m = made_begun pairs n id k name ok s.made event in
+    let by : IsNotifiedBy pairs s.made.before s.made.pair s.made.since s.made.party k name n id s.made.number = record {
+      notified = m.notified;
+      kind_is = m.kind_is;
+      name_is = m.name_is;
+      newest = λ e. s.newest;
+      untaken = λ e. s.untaken;
+      in_turn = λ e. absurd (both_kinds (is_bits k) bits e);
+    } in
+    notified_by pairs s.made.before s.made.pair s.made.since s.made.party k name n id s.made.number s.made.whole m.begun by
+
+-- an id of a queue, which comes next
+queue_notified : (pairs : Session) (k : EventKind) (name : List ℕ) (n id : ℕ) → IsLawful pairs → is_bits k ≡ false → IsEventOf (state_met pairs).events.session n k name → IsPushed pairs n id (popped_on n pairs) → IsNotified pairs k name n id
+queue_notified pairs k name n id ok queue event s =
+    let m = made_begun pairs n id k name ok s.made event in
+    let by : IsNotifiedBy pairs s.made.before s.made.pair s.made.since s.made.party k name n id s.made.number = record {
+      notified = m.notified;
+      kind_is = m.kind_is;
+      name_is = m.name_is;
+      newest = λ e. absurd (both_kinds (is_bits k) e queue);
+      untaken = λ e. absurd (both_kinds (is_bits k) e queue);
+      in_turn = λ e. s.place;
+    } in
+    notified_by pairs s.made.before s.made.pair s.made.since s.made.party k name n id s.made.number s.made.whole m.begun by
+
 pub taken_notified : TakenIdsWereNotified
 taken_notified l n id t =
-    let before : IsLawful l.before = (lawful_split l.before (l.pair ∷ []) start l.lawful).0 in
+    let pairs : Session = l.before in
+    let ok : IsLawful pairs = (lawful_split pairs (l.pair ∷ []) start l.lawful).0 in
     let st : StandingEvent = t.event in
     let a = access_is l n st t.party t.call t.access t.answer t.told t.stands t.step in
-    let of_kind : st.event.kind ≡ kind_of_access t.access = owed_kind (view (at_last l).events.session n st) t.party t.call (events_reached l.before before n st t.stands) a.takes.runs ∙ ap kind_of_access (sym a.takes.owes) in
+    let of_kind : st.event.kind ≡ kind_of_access t.access = owed_kind (view (at_last l).events.session n st) t.party t.call (events_reached pairs ok n st t.stands) a.takes.runs ∙ ap kind_of_access (sym a.takes.owes) in
     let event : IsEventOf (at_last l).events.session n t.step.kind t.step.name = record { standing = st; stands = t.stands; kind_is = sym a.kind_is; name_is = sym a.name_is } in
     elim (either (is_bits t.step.kind)) [
       | inl bits ↦ (
           let is : st.event.kind ≡ kind.Bits = bits_kind st.event.kind (ap is_bits (sym a.kind_is) ∙ bits) in
           let pending : has st.event.pending id ≡ true = set_takes st.event t.access t.answer id a.takes.right (sym is ∙ of_kind) t.takes in
-          let was : was_set_last id (moves_in n l.before) ≡ true = sym (pending_set_last l.before before n st t.stands id) ∙ pending in
-          let s = set_last l.before before n id (subst (λ (k : EventKind). AreOfKind k (moves_in n l.before)) is (session_kinds l.before before n st t.stands)) was in
-          let m = made_begun l.before n id t.step.kind t.step.name before s.made event in
-          notified_by l.before s.made.before s.made.pair s.made.since s.made.party t.step.kind t.step.name n id s.made.number s.made.whole m.begun
-          (record { notified = m.notified; kind_is = m.kind_is; name_is = m.name_is; newest = λ e. s.newest; untaken = λ e. s.untaken; in_turn = λ e. absurd (both_kinds (is_bits t.step.kind) bits e) }))
+          let was : was_set_last id (moves_in n pairs) ≡ true = sym (pending_set_last pairs ok n st t.stands id) ∙ pending in
+          let kinds : AreOfKind kind.Bits (moves_in n pairs) = subst (λ (k : EventKind). AreOfKind k (moves_in n pairs)) is (session_kinds pairs ok n st t.stands) in
+          set_notified pairs t.step.kind t.step.name n id ok bits event (set_last pairs ok n id kinds was))
       | inr queue ↦ (
           let is : st.event.kind ≡ kind.Queue = queue_kind st.event.kind (ap is_bits (sym a.kind_is) ∙ queue) in
-          let p = pop_takes st.event t.access id (sym is ∙ of_kind) t.takes in
-          let order : pushed_on n l.before ≡ popped_on n l.before ++ id ∷ p.0 = sym (queues_ordered l.before before n st t.stands) ∙ ap (λ (ids : List ℕ). popped_on n l.before ++ ids) p.1 in
-          let s = pushed_at l.before before n (popped_on n l.before) p.0 id order in
-          let m = made_begun l.before n id t.step.kind t.step.name before s.made event in
-          notified_by l.before s.made.before s.made.pair s.made.since s.made.party t.step.kind t.step.name n id s.made.number s.made.whole m.begun
-          (record { notified = m.notified; kind_is = m.kind_is; name_is = m.name_is; newest = λ e. absurd (both_kinds (is_bits t.step.kind) e queue); untaken = λ e. absurd (both_kinds (is_bits t.step.kind) e queue); in_turn = λ e. s.place }))
+          let oldest = pop_takes st.event t.access id (sym is ∙ of_kind) t.takes in
+          let order : pushed_on n pairs ≡ popped_on n pairs ++ id ∷ oldest.0 = sym (queues_ordered pairs ok n st t.stands) ∙ ap (λ (ids : List ℕ). popped_on n pairs ++ ids) oldest.1 in
+          queue_notified pairs t.step.kind t.step.name n id ok queue event (pushed_at pairs ok n (popped_on n pairs) oldest.0 id order))
     ]
 
 -- ---- a get after the take

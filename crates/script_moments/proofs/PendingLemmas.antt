@@ -51,7 +51,7 @@ access_is l n st party call a b told stands t =
     let event : k.of.standing ≡ st = some_same k.of.standing st (sym k.of.stands ∙ ap (λ (d : PartyCall). s.events.session.stands d.on) one ∙ stands) in
     record {
       takes = subst (λ (d : PartyCall). Takes (view s.events.session d.on st) party d.call a b) one
-      (subst (λ (x : StandingEvent). Takes (view s.events.session k.of.doing.on x) party k.of.doing.call a b) event k.takes);
+          (subst (λ (x : StandingEvent). Takes (view s.events.session k.of.doing.on x) party k.of.doing.call a b) event k.takes);
       kind_is = k.kind_is ∙ ap (λ (x : StandingEvent). x.event.kind) event;
       name_is = k.name_is ∙ ap (λ (x : StandingEvent). x.event.name) event;
     }
@@ -261,8 +261,8 @@ set_step n id done pair ok h kinds was =
                 | inr not_set ↦ last_more done pair n id
                     (λ x. false≢true (sym (not_true _ w.0) ∙ take_moves done pair n id t.party t.call t.access t.answer t.told ok kinds.0 t.takes x))
                     (λ party number x.
-                        let one = same_step (state_met done) pair t.party party n n t.call x.call t.access x.access t.answer x.answer t.told x.told t.takes x.step in
-                        false≢true (sym not_set ∙ set_moves t.party t.access t.answer id kinds.0 (subst (λ (y : EventAnswer). MakesPending t.access y id) (sym one.answer) (subst (λ (y : EventAccess). MakesPending y x.answer id) (sym one.access) x.makes))))
+                    let one = same_step (state_met done) pair t.party party n n t.call x.call t.access x.access t.answer x.answer t.told x.told t.takes x.step in
+                    false≢true (sym not_set ∙ set_moves t.party t.access t.answer id kinds.0 (subst (λ (y : EventAnswer). MakesPending t.access y id) (sym one.answer) (subst (λ (y : EventAccess). MakesPending y x.answer id) (sym one.access) x.makes))))
                     (h kinds.1 w.1)
               ])
         ]

@@ -48,21 +48,25 @@ to_notified c = c.before_begun ++ c.begun ∷ c.before_notified
 abbrev pub to_end : NotifyCut → Session
 to_end c = to_notified c ++ c.notified ∷ c.since
 
--- in these pairs a party began to notify event n, of this kind and name, of the id, and that call made the id pending.
--- The set is the last one of the id, and no access has taken the id since; before the push as many ids were pushed as are popped by
--- now, and the same ones, so a pop that comes next gives the id of this push
+-- a party began to notify event n, of this kind and name, of the id, and that call made the id pending.
+-- Of a set, this is the last set of the id, and no wait has taken the id since. Of a queue, the ids that were pushed before this push are
+-- those that have been popped by the end, so a pop that comes next gives the id of this push
+pub record IsNotifyAt (c : NotifyCut) (kind : EventKind) (name : List ℕ) (n id : ℕ) : Type 0 where
+  pub party : List ℕ
+  pub number : ℕ
+  pub begun : BeginsNotify (state_met c.before_begun) c.begun party n id number
+  pub notified : Notifies (state_met (to_notified c)) c.notified party n id number
+  pub kind_is : notified.step.kind ≡ kind
+  pub name_is : notified.step.name ≡ name
+  pub newest : is_bits kind ≡ true → IsUnnotified (past (to_notified c) c.notified) c.since n id
+  pub untaken : is_bits kind ≡ true → IsUntaken (past (to_notified c) c.notified) c.since n id
+  pub in_turn : is_bits kind ≡ false → pushed_on n (to_notified c) ≡ popped_on n (to_end c)
+
+-- there is such a notify in these pairs
 pub record IsNotified (pairs : Session) (kind : EventKind) (name : List ℕ) (n id : ℕ) : Type 0 where
   pub cut : NotifyCut
   pub whole : to_end cut ≡ pairs
-  pub party : List ℕ
-  pub number : ℕ
-  pub begun : BeginsNotify (state_met cut.before_begun) cut.begun party n id number
-  pub notified : Notifies (state_met (to_notified cut)) cut.notified party n id number
-  pub kind_is : notified.step.kind ≡ kind
-  pub name_is : notified.step.name ≡ name
-  pub newest : is_bits kind ≡ true → IsUnnotified (past (to_notified cut) cut.notified) cut.since n id
-  pub untaken : is_bits kind ≡ true → IsUntaken (past (to_notified cut) cut.notified) cut.since n id
-  pub in_turn : is_bits kind ≡ false → pushed_on n (to_notified cut) ≡ popped_on n pairs
+  pub is : IsNotifyAt cut kind name n id
 
 -- where a pair of a lawful session takes an id out of an event, a notify had made it pending
 abbrev pub TakenIdsWereNotified : Type 0

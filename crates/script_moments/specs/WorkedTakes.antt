@@ -1,12 +1,17 @@
--- Takes of sessions that were worked out by hand, and the gets after them: by a queue, by a set, and a take of an older notify.
-use Rattle.std.specs.Prelude.{ℕ, List, [], ◌∷◌, ◌++◌, codes, map}
+-- Takes of sessions that were worked out by hand, and the gets after them: by a queue, by a set, and a take of an older notify. And two takes of one id.
+use Rattle.std.specs.Prelude.{[], ◌∷◌, ◌++◌, codes, false, map}
 use Rattle.board_cell_model.specs.declared.access.Access.TheVariants as access
+use Rattle.board_event_model.specs.declared.access.EventAccess.TheVariants as event_access
+use Rattle.board_event_model.specs.declared.access.EventAnswer.TheVariants as event_answer
+use Rattle.board_event_model.specs.declared.call.WaitMode.TheVariants as mode
 use Rattle.board_model.specs.declared.line.Call.TheVariants as call
 use Rattle.board_model.specs.declared.value.Value.TheVariants as value
 use Rattle.board_model.specs.WorkedSessions as boards
-use Rattle.script_model.specs.LawsOfComposition.{Cuts, of_pair, to_taken}
-use Rattle.script_model.specs.WorkedScripts.{the_old_get, the_old_value, the_older_take, to_older_take}
-use Rattle.script_moments.specs.LawsOfTakes.{GetCut}
+use Rattle.script_model.specs.declared.line.EventRequest.TheVariants as request
+use Rattle.script_model.specs.declared.reply.EventReply.TheVariants as event_reply
+use Rattle.script_model.specs.LawsOfComposition.{Cuts, Pair, of_pair, to_taken}
+use Rattle.script_model.specs.WorkedScripts.{asks, queued, the_newer_notify, the_old_get, the_old_value, the_older_take, to_older_take}
+use Rattle.script_moments.specs.LawsOfTakes.{GetCut, NotifyCut}
 
 -- the take of such a session, and the get that follows it
 abbrev pub from_take : Cuts → GetCut
@@ -27,3 +32,17 @@ an_older_take = record {
       ∷ []);
   got = the_old_value;
 }
+
+-- b has taken that id; a notifies b of it once more, and b waits once more
+abbrev pub a_second_notify : NotifyCut
+a_second_notify = record {
+  before_begun = to_older_take ++ the_older_take ∷ [];
+  begun = asks (codes "a") (request.Notify (codes "n") 0);
+  before_notified = [];
+  notified = the_newer_notify;
+  since = asks (codes "b") (request.Wait (codes "e") false mode.Try) ∷ [];
+}
+
+-- and takes it again
+abbrev pub the_second_take : Pair
+the_second_take = queued (codes "b") event_access.Pop (event_answer.Id 0) (event_reply.Id 0)
