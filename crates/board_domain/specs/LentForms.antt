@@ -1,5 +1,5 @@
 -- What the lent forms of creators, openers and factories answer over a domain's tables, and how they leave them.
-use Rattle.std.specs.Prelude.{◌≡◌, ℕ, ◌&&◌, nat_le, Bool, if◌then◌else◌, List, [], Option, Some, None, option_map, Result, Ok, Err, IfOk}
+use Rattle.std.specs.Prelude.{◌≡◌, ℕ, Bool, if◌then◌else◌, List, [], Option, Some, None, option_map, Result, IfOk}
 use Rattle.board_layout.specs.Answer.{Answers, Refuses, with_value}
 use Rattle.board_layout.specs.declared.type_detail.TypeDetail.{TypeDetail}
 use Rattle.board_model.specs.declared.attributes.Attribute.{Attribute}
@@ -100,7 +100,7 @@ abbrev pub nodes_of : Core → TypeDetail → ℕ → List ℕ
 nodes_of d keys factory =
     if stands_as d keys factory Factory then nodes_in d.tables.things (board_at d.tables (held d factory).board) else []
 
--- the keys of the board of a factory, and none where that isn't held; keys have at most 64 bytes
+-- the keys of the board of a factory, and none where that isn't held
 abbrev pub keys_of : {K : Type 0} → (Entry → K) → Core → TypeDetail → ℕ → List K
 keys_of of d keys factory =
-    if stands_as d keys factory Factory && nat_le keys.size 64 then keys_in of (board_at d.tables (held d factory).board) else []
+    if stands_as d keys factory Factory then keys_in of (board_at d.tables (held d factory).board) else []
