@@ -1,5 +1,5 @@
 -- A wait for all that doesn't wait, on an event that nobody else has.
-use Rattle.std.specs.Prelude.{◌≡◌, ◌≢◌, ◌<◌, ◌≤◌, ℕ, ◌+◌, ◌-◌, ◌*◌, ◌/◌, ◌^◌, Bool, true, false, not, ◌&&◌, ◌||◌, nat_lt, if◌then◌else◌, List, [], ◌∷◌, ◌++◌, length, Option, Some, None, IsSomeAnd, drop, refl}
+use Rattle.std.specs.Prelude.{◌≡◌, ◌≢◌, ◌<◌, ◌≤◌, ℕ, ◌+◌, ◌-◌, ◌*◌, ◌/◌, ◌^◌, Bool, true, false, not, ◌||◌, nat_lt, if◌then◌else◌, List, [], ◌∷◌, ◌++◌, length, drop, refl}
 use Rattle.std.proofs.Common.{ap, sym, ◌∙◌, subst, arith, inl, inr, eqb}
 use Rattle.std.proofs.lemmas.Bool.{false≢true}
 use Rattle.std.proofs.lemmas.List.{append-nil}
@@ -13,24 +13,27 @@ use Rattle.board_event_model.specs.declared.call.WaitStage.{WaitStage}
 use Rattle.board_event_model.specs.declared.call.WaitStage.TheVariants as wait
 use Rattle.board_event_model.specs.declared.kind.EventKind.{EventKind}
 use Rattle.board_event_model.specs.declared.kind.EventKind.TheVariants as kind
-use Rattle.board_event_model.specs.Ids.{Ids, IsWord, has, ids_where, in_word}
+use Rattle.board_event_model.specs.Ids.{Ids, has, ids_where, in_word}
 use Rattle.board_event_model.specs.EventMemory.{CanPerform, Event, IsRight, after, kind_of_access, oldest, pop_answer, taken, yes_or_no}
 use Rattle.board_event_model.specs.EventCalls.{reported}
 use Rattle.board_event_model.specs.NotifyCalls.{is_yes}
-use Rattle.board_event_model.specs.WaitCalls.{Wait, first_word, nothing, popped, swapped, wait_owed, wait_turn, word_in}
-use Rattle.board_event_model.proofs.SetLemmas.{either, has_retain, has_retained, is_false}
-use Rattle.board_event_model.proofs.TrackLemmas.{ids_same, wait_told}
-use Rattle.board_event_core.specs.EventTable.{EventTable, IsEventTable, with_event, event_at, CanPerformAt}
-use Rattle.board_event_core.proofs.BitLemmas.{empty_is}
+use Rattle.board_event_model.specs.WaitCalls.{Wait, first_word, popped, swapped, wait_owed, wait_turn, word_in}
+use Rattle.board_event_model.proofs.SetLemmas.{either, has_retain, has_retained, is_false, not_true}
+use Rattle.board_event_model.proofs.QuietLemmas.{ltb_false, ltb_true}
+use Rattle.board_event_model.proofs.TrackLemmas.{ids_none, ids_same, wait_told}
+use Rattle.board_event_core.specs.EventTable.{EventTable, IsEventTable, with_event, CanPerformAt}
+use Rattle.board_event_core.specs.IdSets.{IsListOf}
+use Rattle.board_event_core.proofs.BitLemmas.{empty_is, same_ids}
 use Rattle.board_event.specs.Accesses.{WaitMade}
 use Rattle.board_event.specs.Ends.{NoneOfKind}
-use Rattle.board_event.specs.LentForms.{AreWaiting, IsEventAt, KeepsRestAt, OnEventAt, all_taken}
+use Rattle.board_event.specs.LentForms.{AreWaiting, KeepsRestAt, OnEventAt, OnKindAt, StandsAs, all_taken, reached_taken, within, words_taken}
 use Rattle.board_event.specs.Taking.{AllSoFar, NoneBelow, SameFrom, TryWait, to_come, wait_begun, with_pending, with_queue, with_signals}
-use Rattle.board_event.proofs.OneLemmas.{IsOfKind, begun_kind, is_of_kind, not_made, wait_begins}
+use Rattle.board_event.proofs.OneLemmas.{begun_kind, not_made, wait_begins}
+use Rattle.board_event.proofs.ReachLemmas.{IsListOf-first, IsOfKind, is_of_kind, stands_as, taken_all, within_all}
 use Rattle.board_event.proofs.TableLemmas.{Became, Became-first, Became-next, at_event, event_here}
 use Rattle.board_event.proofs.RestLemmas.{rest_first, rest_next}
 use Rattle.board_event.proofs.TryLemmas.{TryWait-made}
-use Rattle.board_event.proofs.WordLemmas.{IsListOf-below, differ, eqb_is, ids_where-parts, is_eqb}
+use Rattle.board_event.proofs.WordLemmas.{differ, eqb_is, ids_where-parts}
 
 -- ---- a word that is taken
 
@@ -66,27 +69,24 @@ swap_kept ids k i high = same_bool _ _
         not_here : i < 64 * (k + 1) → ⊥
         not_here low = omega arith
 
--- once the last word was taken none is left
-swap_last : (e : Event) (now : Event) (k words : ℕ) → IsOfKind kind.Bits e words → k + 1 ≡ words → NoneBelow now.pending k → SameFrom e.pending now.pending k → without_word now.pending k ≡ set.empty
-swap_last e now k words is end none same = empty_is (without_word now.pending k) (λ i. is_false _ (found i))
+-- once the last word was taken all others are left
+swap_last : (e : Event) (now : Event) (k words : ℕ) → k + 1 ≡ words → NoneBelow now.pending k → SameFrom e.pending now.pending k → without_word now.pending k ≡ (words_taken kind.Bits words e).pending
+swap_last e now k words end none same = same_ids (without_word now.pending k) (words_taken kind.Bits words e).pending there back
   where
-    found : (i : ℕ) → has (without_word now.pending k) i ≡ true → ⊥
-    found i h = elim (either (nat_lt i (64 * (k + 1)))) [
-      | inl low ↦ false≢true (sym (swap_below now.pending k none i (below i (64 * (k + 1)) low)) ∙ h)
+    there : (i : ℕ) → has (without_word now.pending k) i ≡ true → has (words_taken kind.Bits words e).pending i ≡ true
+    there i h = elim (either (nat_lt i (64 * words))) [
+      | inl low ↦ (let under = ltb_true i (64 * words) low in absurd (false≢true (sym (swap_below now.pending k none i (omega arith)) ∙ h)))
       | inr high ↦ (
+          let over = ltb_false i (64 * words) high in
           let kept = (has_retained now.pending (λ j. not (in_word k j)) i h).0 in
-          let bound = not_below i (64 * (k + 1)) high in
-          let before : has e.pending i ≡ true = sym (same i (omega arith)) ∙ kept in
-          let size = is.size refl in
-          let low = is.ids.low i before in
-          omega arith)
+          has_retain e.pending (λ j. not (nat_lt j (64 * words))) i (sym (same i (omega arith)) ∙ kept) (ap not high))
     ]
-      where
-        below : (a b : ℕ) → nat_lt a b ≡ true → a < b
-        below a b h = grind arith
 
-        not_below : (a b : ℕ) → nat_lt a b ≡ false → b ≤ a
-        not_below a b h = grind arith
+    back : (i : ℕ) → has (words_taken kind.Bits words e).pending i ≡ true → has (without_word now.pending k) i ≡ true
+    back i h =
+        let kept = has_retained e.pending (λ j. not (nat_lt j (64 * words))) i h in
+        let over = ltb_false i (64 * words) (not_true _ kept.1) in
+        swap_kept now.pending k i (omega arith) ∙ same i (omega arith) ∙ kept.0
 
 -- ---- what is to come
 
@@ -131,9 +131,9 @@ pop_step e now w n (x ∷ xs) try many is some low = rw (popped_more w n x many 
   ids = (rw some refl);
 })
 
-swap_step : (e now : Event) (w : Wait) (k v : ℕ) (some : Bool) → w.mode ≡ mode.Try → IsOfKind kind.Bits e w.words → now ≡ with_pending e now.pending → k < w.words → NoneBelow now.pending k → SameFrom e.pending now.pending k →
+swap_step : (e now : Event) (w : Wait) (k v : ℕ) (some : Bool) → w.mode ≡ mode.Try → now ≡ with_pending e now.pending → k < w.words → NoneBelow now.pending k → SameFrom e.pending now.pending k →
     AllStepped kind.Bits e now (with_pending now (without_word now.pending k)) w.words (wait.Swap k some) (swapped w k some v).1 (ids_where (has now.pending) (64 * k) 64)
-swap_step e now w k v some try is whole low none same = elim (either (eqb (k + 1) w.words)) [
+swap_step e now w k v some try whole low none same = elim (either (eqb (k + 1) w.words)) [
   | inl end ↦ rw end (elim (either (some || not (eqb v 0))) [
     | inl y ↦ rw y (ended (eqb_is (k + 1) w.words end))
     | inr f ↦ rw f (rw try (ended (eqb_is (k + 1) w.words end)))
@@ -152,7 +152,7 @@ swap_step e now w k v some try is whole low none same = elim (either (eqb (k + 1
   where
     ended : k + 1 ≡ w.words → AllStepped kind.Bits e now (with_pending now (without_word now.pending k)) w.words (wait.Swap k some) wait.Finished (ids_where (has now.pending) (64 * k) 64)
     ended last = record {
-      far = ap (λ (x : Event). with_pending x (without_word now.pending k)) whole ∙ ap (with_pending e) (swap_last e now k w.words is last none same);
+      far = ap (λ (x : Event). with_pending x (without_word now.pending k)) whole ∙ ap (with_pending e) (swap_last e now k w.words last none same);
       ids = sym (swap_comes_last now.pending k w.words last);
     }
 
@@ -174,29 +174,60 @@ drain_step e now w false many some is h = rw many (record {
     gone s h = grind arith
 
 -- each access of a wait for all
-pub all_step : (k : EventKind) (e now : Event) (w : Wait) (stage : WaitStage) (a : EventAnswer) → w.mode ≡ mode.Try → w.many ≡ true → 0 < w.words → IsOfKind k e w.words →
+pub all_step : (k : EventKind) (e now : Event) (w : Wait) (stage : WaitStage) (a : EventAnswer) → w.mode ≡ mode.Try → w.many ≡ true → 0 < w.words →
     stage ≢ wait.Finished → AllSoFar k e now w.words stage → IsRight now (wait_owed stage) a → AllStepped k e now (after now (wait_owed stage)) w.words stage (wait_turn w stage a).1 (taken now (wait_owed stage))
-all_step k e now w wait.Drain a try many some is on far right = rw (far.0, right) (drain_step e now w (nat_lt 0 now.signals) many some far.1 refl)
-all_step k e now w (wait.Scan n) a try many some is on far right = absurd far
-all_step k e now w (wait.Clear id) a try many some is on far right = absurd far
-all_step k e now w (wait.Swap n b) a try many some is on far right =
-    let kind_is : IsOfKind kind.Bits e w.words = subst (λ (x : EventKind). IsOfKind x e w.words) far.0 is in
+all_step k e now w wait.Drain a try many some on far right = rw (far.0, right) (drain_step e now w (nat_lt 0 now.signals) many some far.1 refl)
+all_step k e now w (wait.Scan n) a try many some on far right = absurd far
+all_step k e now w (wait.Clear id) a try many some on far right = absurd far
+all_step k e now w (wait.Swap n b) a try many some on far right =
     let quiet : with_pending now (without_word now.pending n) ≡ after now (wait_owed (wait.Swap n b)) = ap (λ (s : ℕ). record now { pending = without_word now.pending n; signals = s }) (sym (ap (λ (x : Event). x.signals) far.1)) in
     rw far.0 (subst (λ (x : Event). AllStepped kind.Bits e now x w.words (wait.Swap n b) (swapped w n b (word_in a)).1 (ids_where (has now.pending) (64 * n) 64)) quiet
-    (swap_step e now w n (word_in a) b try kind_is far.1 far.2 far.3 far.4))
-all_step k e now w wait.Look a try many some is on far right = absurd far
-all_step k e now w (wait.Pop n) a try many some is on far right = rw (far.0, right) (pop_step e now w n now.queue try many far.1 refl far.2)
-all_step k e now w wait.Finished a try many some is on far right = absurd (on refl)
+    (swap_step e now w n (word_in a) b try far.1 far.2 far.3 far.4))
+all_step k e now w wait.Look a try many some on far right = absurd far
+all_step k e now w (wait.Pop n) a try many some on far right = rw (far.0, right) (pop_step e now w n now.queue try many far.1 refl far.2)
+all_step k e now w wait.Finished a try many some on far right = absurd (on refl)
 
--- an event of its kind can take each
-pub all_can : (k : EventKind) (e now : Event) (words : ℕ) (stage : WaitStage) → IsOfKind k e words → stage ≢ wait.Finished → AllSoFar k e now words stage → CanPerform now (wait_owed stage)
-all_can k e now words wait.Drain is on far = record { kind = rw far.1 (is.of_kind ∙ far.0); inside = tt }
-all_can k e now words (wait.Scan n) is on far = absurd far
-all_can k e now words (wait.Clear id) is on far = absurd far
-all_can k e now words (wait.Swap n b) is on far = record { kind = rw far.1 (is.of_kind ∙ far.0); inside = (let size = is.size far.0 in let low = far.2 in rw far.1 (omega arith)) }
-all_can k e now words wait.Look is on far = absurd far
-all_can k e now words (wait.Pop n) is on far = record { kind = rw far.1 (is.of_kind ∙ far.0); inside = tt }
-all_can k e now words wait.Finished is on far = absurd (on refl)
+-- where it is kept from an access, it is past the last word of the set: what it reaches is taken, and nothing is to come
+pub record AllCut (k : EventKind) (e now : Event) (words : ℕ) (stage : WaitStage) : Type 0 where
+  pub left : now ≡ words_taken k words e
+  pub none : to_come now words stage ≡ []
+
+pub all_cut : (k : EventKind) (e now : Event) (words : ℕ) (stage : WaitStage) → IsOfKind k e → stage ≢ wait.Finished → AllSoFar k e now words stage → ¬ CanPerform now (wait_owed stage) → AllCut k e now words stage
+all_cut k e now words wait.Drain is on far cannot = absurd (cannot (record { kind = rw far.1 (is.of_kind ∙ far.0); inside = tt }))
+all_cut k e now words (wait.Scan n) is on far cannot = absurd far
+all_cut k e now words (wait.Clear id) is on far cannot = absurd far
+all_cut k e now words (wait.Swap n b) is on far cannot = rw far.0 (record {
+  left = far.1 ∙ ap (with_pending e) (empty_is now.pending (λ i. is_false _ (none i)) ∙ sym (empty_is (words_taken kind.Bits words e).pending (λ i. is_false _ (none_past i))));
+  none = ids_none (has now.pending) (64 * n) (64 * (words - n)) (λ i from to. is_false _ (none i));
+})
+  where
+    past : (i : ℕ) → has e.pending i ≡ true → 64 * n ≤ i → ⊥
+    past i h high = elim (either (nat_lt n (e.max / 64 + 1))) [
+      | inl in_set ↦ (let low = ltb_true n (e.max / 64 + 1) in_set in cannot (record { kind = rw far.1 (is.of_kind ∙ far.0); inside = rw far.1 low }))
+      | inr out ↦ (
+          let over = ltb_false n (e.max / 64 + 1) out in
+          let top = is.ids.low i h in
+          too_high (omega arith))
+    ]
+      where
+        too_high : i < 64 * n → ⊥
+        too_high low = omega arith
+
+    none : (i : ℕ) → has now.pending i ≡ true → ⊥
+    none i h = elim (either (nat_lt i (64 * n))) [
+      | inl low ↦ false≢true (sym (far.3 i (ltb_true i (64 * n) low)) ∙ h)
+      | inr high ↦ (let over = ltb_false i (64 * n) high in past i (sym (far.4 i over) ∙ h) over)
+    ]
+
+    none_past : (i : ℕ) → has (words_taken kind.Bits words e).pending i ≡ true → ⊥
+    none_past i h =
+        let kept = has_retained e.pending (λ j. not (nat_lt j (64 * words))) i h in
+        let over = ltb_false i (64 * words) (not_true _ kept.1) in
+        let few = far.2 in
+        past i kept.0 (omega arith)
+all_cut k e now words wait.Look is on far cannot = absurd far
+all_cut k e now words (wait.Pop n) is on far cannot = absurd (cannot (record { kind = rw far.1 (is.of_kind ∙ far.0); inside = tt }))
+all_cut k e now words wait.Finished is on far cannot = absurd (on refl)
 
 -- ---- the loop
 
@@ -210,19 +241,22 @@ pub record TakingAll {F : Type 0} (R : F → ℕ → F → Type 0) (begun f : F)
   pub table : IsEventTable t
   pub try : TryWait w true
   pub words : k ≡ kind.Bits → w.words ≡ max / 64 + 1
-  pub far : OnEventAt k max n t (λ e. (now : Event) × Became t u n now × AllSoFar k e now w.words w.stage
-      × ((last : F) → FoldsTo R f (to_come now w.words w.stage) last → (ids : List ℕ) × AreWaiting k e ids × FoldsTo R begun ids last))
+  pub far : OnKindAt k n t (λ e. (now : Event) × Became t u n now × AllSoFar k e now w.words w.stage
+      × ((last : F) → FoldsTo R f (to_come now w.words w.stage) last → (ids : List ℕ) × AreWaiting k (within max e) ids × FoldsTo R begun ids last))
   pub gone : NoneOfKind k n t → (u ≡ t) × (kind_of_access (wait_owed w.stage) ≡ k)
   pub uncalled : NoneOfKind k n t → f ≡ begun
   pub rest : KeepsRestAt n t u
 
-all_at_first : (k : EventKind) (e : Event) (max words : ℕ) → IsOfKind k e words → AllSoFar k e e (wait_begun k max true mode.Try).words (wait_begun k max true mode.Try).stage
-all_at_first kind.Bits e max words is = (refl, refl)
-all_at_first kind.Queue e max words is = (refl, refl, (let few = is.ids.few in omega arith))
+all_at_first : (k : EventKind) (e : Event) (max : ℕ) → IsOfKind k e → AllSoFar k e e (wait_begun k max true mode.Try).words (wait_begun k max true mode.Try).stage
+all_at_first kind.Bits e max is = (refl, refl)
+all_at_first kind.Queue e max is = (refl, refl, (let few = is.ids.few in omega arith))
 
-waiting_at_first : (k : EventKind) (e : Event) (max : ℕ) → IsOfKind k e (wait_begun k max true mode.Try).words → AreWaiting k e (to_come e (wait_begun k max true mode.Try).words (wait_begun k max true mode.Try).stage)
-waiting_at_first kind.Bits e max is = IsListOf-below e.pending (64 * (max / 64 + 1 - 0)) (λ i h. (let low = is.ids.low i h in let size = is.size refl in omega arith))
-waiting_at_first kind.Queue e max is = refl
+waiting_at_first : (k : EventKind) (e : Event) (max : ℕ) → AreWaiting k (within max e) (to_come e (wait_begun k max true mode.Try).words (wait_begun k max true mode.Try).stage)
+waiting_at_first kind.Bits e max = subst (λ (n : ℕ). IsListOf (ids_where (has e.pending) 0 n) (within max e).pending) words (IsListOf-first e.pending (64 * (max / 64 + 1)))
+  where
+    words : 64 * (max / 64 + 1) ≡ 64 * (max / 64 + 1 - 0)
+    words = omega arith
+waiting_at_first kind.Queue e max = refl
 
 pub all_begins : {F : Type 0} (R : F → ℕ → F → Type 0) (f : F) (k : EventKind) (max n : ℕ) (t : EventTable) (w : Wait) → max < 2 ^ 64 → IsEventTable t → w ≡ wait_begun k max true mode.Try → TakingAll R f f k max n t t w
 all_begins R f k max n t w fits table is = record {
@@ -230,13 +264,11 @@ all_begins R f k max n t w fits table is = record {
   try = (wait_begins k max true w fits is).0;
   words = (wait_begins k max true w fits is).1;
   far = λ e here. (
-      let kind_is : IsOfKind k e w.words = is_of_kind k max n t e w.words table (wait_begins k max true w fits is).1 here in
-      let begun : IsOfKind k e (wait_begun k max true mode.Try).words = subst (λ (x : Wait). IsOfKind k e x.words) is kind_is in (
-        e,
-        Became-first t n e here.stands,
-        (rw is (all_at_first k e max (wait_begun k max true mode.Try).words begun)),
-        λ last folds. (to_come e w.words w.stage, (rw is (waiting_at_first k e max begun)), folds),
-      ));
+    e,
+    Became-first t n e here.stands,
+    (rw is (all_at_first k e max (is_of_kind k n t e table here))),
+    λ last folds. (to_come e w.words w.stage, (rw is (waiting_at_first k e max)), folds),
+  );
   gone = λ _. (refl, (rw is (begun_kind k max true)));
   uncalled = λ _. refl;
   rest = rest_first n t;
@@ -255,14 +287,13 @@ all_goes_on R begun f g k max n t u v w next p a taking on made calls = record {
   rest = rest_next n t u v w.stage taking.rest made.memory;
 }
   where
-    far : OnEventAt k max n t (λ e. (now : Event) × Became t v n now × AllSoFar k e now next.words next.stage × ((last : _) → FoldsTo R g (to_come now next.words next.stage) last → (ids : List ℕ) × AreWaiting k e ids × FoldsTo R begun ids last))
+    far : OnKindAt k n t (λ e. (now : Event) × Became t v n now × AllSoFar k e now next.words next.stage × ((last : _) → FoldsTo R g (to_come now next.words next.stage) last → (ids : List ℕ) × AreWaiting k (within max e) ids × FoldsTo R begun ids last))
     far e here =
         let before = taking.far e here in
         let now = before.0 in
         let right = at_event u n now (λ x. IsRight x (wait_owed w.stage) a) before.1.stands made.right in
-        let kind_is = is_of_kind k max n t e w.words taking.table taking.words here in
         let step : AllStepped k e now (after now (wait_owed w.stage)) w.words w.stage (wait_turn w w.stage a).1 (taken now (wait_owed w.stage)) =
-        all_step k e now w w.stage a taking.try.mode taking.try.all taking.try.some kind_is on before.2 right in
+        all_step k e now w w.stage a taking.try.mode taking.try.all taking.try.some on before.2 right in
         let told : reported p ≡ taken now (wait_owed w.stage) = (rw made.progress (wait_told now w w.stage a right)) in (
           after now (wait_owed w.stage),
           Became-next t u v n now (λ x. after x (wait_owed w.stage)) before.1 made.memory,
@@ -271,25 +302,48 @@ all_goes_on R begun f g k max n t u v w next p a taking on made calls = record {
               (FoldsTo-append R f g last (reported p) (to_come (after now (wait_owed w.stage)) next.words next.stage) calls folds)),
         )
 
+-- what it has come to, where nothing is to come: it called on what it reaches, and took that
+pub record AllReached {F : Type 0} (R : F → ℕ → F → Type 0) (begun f : F) (k : EventKind) (max n : ℕ) (t u : EventTable) (e : Event) : Type 0 where
+  pub calls : (ids : List ℕ) × AreWaiting k (within max e) ids × FoldsTo R begun ids f
+  pub left : u ≡ with_event t n (reached_taken k max e)
+
+reached : {F : Type 0} (R : F → ℕ → F → Type 0) (begun f : F) (k : EventKind) (max n : ℕ) (t u : EventTable) (w : Wait) (e : Event) → (taking : TakingAll R begun f k max n t u w) → (here : StandsAs k n t e) →
+    AllCut k e (taking.far e here).0 w.words w.stage → AllReached R begun f k max n t u e
+reached R begun f k max n t u w e taking here cut = record {
+  calls = (taking.far e here).3 f (subst (λ (ids : List ℕ). FoldsTo R f ids f) (sym cut.none) refl);
+  left = (taking.far e here).1.table ∙ ap (with_event t n) (cut.left ∙ by_words k w.words taking.words);
+}
+  where
+    by_words : (j : EventKind) (words : ℕ) → (j ≡ kind.Bits → words ≡ max / 64 + 1) → words_taken j words e ≡ reached_taken j max e
+    by_words kind.Bits words size = ap (λ (m : ℕ). words_taken kind.Bits m e) (size refl)
+    by_words kind.Queue words size = refl
+
 -- it ends
-pub all_ends : {F : Type 0} (R : F → ℕ → F → Type 0) (begun f : F) (k : EventKind) (max n : ℕ) (t u : EventTable) (w : Wait) → TakingAll R begun f k max n t u w → w.stage ≡ wait.Finished → OnEventAt k max n t (λ e. u ≡ with_event t n (all_taken k e))
-all_ends R begun f k max n t u w taking ended e here =
-    let far = taking.far e here in
-    let end : AllSoFar k e far.0 w.words wait.Finished = subst (λ (s : WaitStage). AllSoFar k e far.0 w.words s) ended far.2 in
-    far.1.table ∙ ap (with_event t n) end
+pub all_ends : {F : Type 0} (R : F → ℕ → F → Type 0) (begun f : F) (k : EventKind) (max n : ℕ) (t u : EventTable) (w : Wait) → TakingAll R begun f k max n t u w → w.stage ≡ wait.Finished → OnKindAt k n t (AllReached R begun f k max n t u)
+all_ends R begun f k max n t u w taking ended e here = reached R begun f k max n t u w e taking here (record {
+  left = subst (λ (s : WaitStage). AllSoFar k e (taking.far e here).0 w.words s) ended (taking.far e here).2;
+  none = ap (to_come (taking.far e here).0 w.words) ended;
+})
 
-pub all_called : {F : Type 0} (R : F → ℕ → F → Type 0) (begun f : F) (k : EventKind) (max n : ℕ) (t u : EventTable) (w : Wait) → TakingAll R begun f k max n t u w → w.stage ≡ wait.Finished →
+-- it is kept from an access, and all stays
+pub all_stops : {F : Type 0} (R : F → ℕ → F → Type 0) (begun f : F) (k : EventKind) (max n : ℕ) (t u v : EventTable) (w : Wait) → TakingAll R begun f k max n t u w → w.stage ≢ wait.Finished → ¬ CanPerformAt u n (wait_owed w.stage) →
+    v ≡ u → OnKindAt k n t (AllReached R begun f k max n t v)
+all_stops R begun f k max n t u v w taking on cannot stays e here =
+    let far = taking.far e here in
+    subst (λ (x : EventTable). AllReached R begun f k max n t x e) (sym stays) (reached R begun f k max n t u w e taking here
+    (all_cut k e far.0 w.words w.stage (is_of_kind k n t e taking.table here) on far.2 (λ can. cannot (event_here u n far.0 (λ x. CanPerform x (wait_owed w.stage)) far.1.stands can))))
+
+-- on a set of the same greatest id it calls on all that wait
+pub all_called : {F : Type 0} (R : F → ℕ → F → Type 0) (begun f : F) (k : EventKind) (max n : ℕ) (t u : EventTable) → IsEventTable t → OnKindAt k n t (AllReached R begun f k max n t u) →
     OnEventAt k max n t (λ e. (ids : List ℕ) × AreWaiting k e ids × FoldsTo R begun ids f)
-all_called R begun f k max n t u w taking ended e here =
-    let far = taking.far e here in
-    let none : to_come far.0 w.words w.stage ≡ [] = ap (to_come far.0 w.words) ended in
-    let all = far.3 f (subst (λ (ids : List ℕ). FoldsTo R f ids f) (sym none) refl) in
-    (all.0, all.1, all.2)
+all_called R begun f k max n t u table end e here =
+    let stands = stands_as k max n t e here in
+    let calls = (end e stands).calls in
+    (calls.0, subst (λ (x : Event). AreWaiting k x calls.0) (within_all k max e (is_of_kind k n t e table stands) here.greatest) calls.1, calls.2)
 
--- it is never kept from an access
-pub all_kept_from : {F : Type 0} (R : F → ℕ → F → Type 0) (begun f : F) (k : EventKind) (max n : ℕ) (t u : EventTable) (w : Wait) → TakingAll R begun f k max n t u w → w.stage ≢ wait.Finished → ¬ CanPerformAt u n (wait_owed w.stage) →
-    (e : Event) → IsEventAt k max n t e → ⊥
-all_kept_from R begun f k max n t u w taking on cannot e here =
-    let far = taking.far e here in
-    let kind_is = is_of_kind k max n t e w.words taking.table taking.words here in
-    cannot (event_here u n far.0 (λ x. CanPerform x (wait_owed w.stage)) far.1.stands (all_can k e far.0 w.words w.stage kind_is on far.2))
+-- and takes them all
+pub all_is_taken : {F : Type 0} (R : F → ℕ → F → Type 0) (begun f : F) (k : EventKind) (max n : ℕ) (t u : EventTable) → IsEventTable t → OnKindAt k n t (AllReached R begun f k max n t u) →
+    OnEventAt k max n t (λ e. u ≡ with_event t n (all_taken k e))
+all_is_taken R begun f k max n t u table end e here =
+    let stands = stands_as k max n t e here in
+    (end e stands).left ∙ ap (with_event t n) (taken_all k max e (is_of_kind k n t e table stands) here.greatest)

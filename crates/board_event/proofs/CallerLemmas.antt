@@ -1,5 +1,5 @@
 -- What callers of the lent forms can conclude: a new event has no ids, so the first wait on it gives none.
-use Rattle.std.specs.Prelude.{◌≡◌, ℕ, Bool, true, false, ◌||◌, List, Option, Result, Ok, Err, None, refl}
+use Rattle.std.specs.Prelude.{◌≡◌, ℕ, false, List, Option, Result, Ok, Err, None, refl}
 use Rattle.std.proofs.Common.{ap, sym, inl, inr}
 use Rattle.std.specs.FinSet as set
 use Rattle.board_layout.specs.Answer.{with_value}

@@ -2,6 +2,7 @@ mod TableLemmas
 mod WordLemmas
 mod TryLemmas
 mod RestLemmas
+mod ReachLemmas
 mod OneLemmas
 mod AllLemmas
 mod NotifyLemmas

@@ -1,7 +1,6 @@
 -- A notify, on an event that nobody else has.
-use Rattle.std.specs.Prelude.{◌≡◌, ◌≢◌, ◌<◌, ◌≤◌, ℕ, ◌+◌, ◌-◌, ◌^◌, Bool, true, false, not, ◌||◌, nat_lt, if◌then◌else◌, List, [], ◌∷◌, ◌++◌, length, Option, Some, None, Result, Ok, Err, IsSomeAnd, ◌⊎◌, refl}
+use Rattle.std.specs.Prelude.{◌≡◌, ◌≢◌, ◌<◌, ◌≤◌, ℕ, ◌+◌, ◌-◌, ◌^◌, Bool, true, false, nat_lt, Option, Some, None, Result, Ok, Err, IsSomeAnd, ◌⊎◌, refl}
 use Rattle.std.proofs.Common.{ap, sym, ◌∙◌, subst, arith, inl, inr}
-use Rattle.std.proofs.lemmas.Bool.{false≢true}
 use Rattle.std.specs.FinSet as set
 use Rattle.board_names.specs.declared.errors.event.NotifierNotifyError.{NotifierNotifyError}
 use Rattle.board_names.specs.declared.errors.event.NotifierNotifyError.TheVariants as error
@@ -17,10 +16,10 @@ use Rattle.board_event_model.specs.EventMemory.{CanPerform, Event, IsRight, afte
 use Rattle.board_event_model.specs.NotifyCalls.{Notify, is_yes, notify_owed, notify_turn, pushed}
 use Rattle.board_event_model.proofs.SetLemmas.{either}
 use Rattle.board_event_model.proofs.QuietLemmas.{ltb_false, ltb_true}
-use Rattle.board_event_core.specs.EventTable.{CanPerformAt, EventTable, with_event, event_at}
+use Rattle.board_event_core.specs.EventTable.{EventTable, with_event, event_at}
 use Rattle.board_event.specs.Accesses.{IsNotifyAccess, IsNotifyMade, NotifyLeft, NotifyMade, left_out}
 use Rattle.board_event.specs.Ends.{NoneOfKind}
-use Rattle.board_event.specs.LentForms.{OnKindAt, StandsAs, notified, notify_answer, posted, push_told}
+use Rattle.board_event.specs.LentForms.{OnKindAt, StandsAs, notified, notify_answer}
 use Rattle.board_event.specs.Taking.{NotifySoFar, notify_begun, notify_left}
 use Rattle.board_event.proofs.TableLemmas.{Became, Became-first, Became-next, at_event, event_here}
 
@@ -42,7 +41,7 @@ NotifyTold k max e next id p stage = (told p ≡ notify_answer k max id e) × (n
 
 -- ---- each access that is made
 
-not_lt : (a b : ℕ) → b ≤ a → nat_lt a b ≡ false
+pub not_lt : (a b : ℕ) → b ≤ a → nat_lt a b ≡ false
 not_lt a b low = by (nat_lt a b) refl
   where
     by : (x : Bool) → nat_lt a b ≡ x → x ≡ false
@@ -52,7 +51,7 @@ not_lt a b low = by (nat_lt a b) refl
         over : b < b → ⊥
         over h = omega arith
 
-is_lt : (a b : ℕ) → a < b → nat_lt a b ≡ true
+pub is_lt : (a b : ℕ) → a < b → nat_lt a b ≡ true
 is_lt a b low = by (nat_lt a b) refl
   where
     by : (x : Bool) → nat_lt a b ≡ x → x ≡ true

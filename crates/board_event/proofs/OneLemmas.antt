@@ -1,15 +1,10 @@
 -- A wait for one that doesn't wait, on an event that nobody else has.
-use Rattle.std.specs.Prelude.{◌≡◌, ◌≢◌, ◌<◌, ◌≤◌, ℕ, ◌+◌, ◌-◌, ◌*◌, ◌/◌, ◌^◌, Bool, true, false, not, ◌&&◌, ◌||◌, nat_lt, if◌then◌else◌, List, [], ◌∷◌, Option, Some, None, Result, Ok, IfSome, IsSomeAnd, drop, slice_get, refl}
+use Rattle.std.specs.Prelude.{◌≡◌, ◌≢◌, ◌<◌, ℕ, ◌+◌, ◌-◌, ◌*◌, ◌/◌, ◌^◌, Bool, true, false, ◌||◌, nat_lt, if◌then◌else◌, List, [], ◌∷◌, Option, Some, None, Result, Ok, IfSome, IsSomeAnd, drop, refl}
 use Rattle.std.proofs.Common.{ap, sym, ◌∙◌, subst, arith, inl, inr, eqb}
 use Rattle.std.proofs.lemmas.Bool.{false≢true}
-use Rattle.std.specs.FinSet as set
 use Rattle.std.specs.List.{list_any}
-use Rattle.std.specs.Ordering.{nat_cmp}
-use Rattle.std.specs.BTreeMap.{is_at}
-use Rattle.std.proofs.lemmas.Map.Views.{IfSome-lookup_from_All}
 use Rattle.board_names.specs.declared.errors.event.ListenerWaitError.{ListenerWaitError}
 use Rattle.board_event_model.specs.declared.access.EventAnswer.{EventAnswer}
-use Rattle.board_event_model.specs.declared.access.EventAnswer.TheVariants as answer
 use Rattle.board_event_model.specs.declared.call.EventProgress.{EventProgress}
 use Rattle.board_event_model.specs.declared.call.EventProgress.TheVariants as progress
 use Rattle.board_event_model.specs.declared.call.WaitMode.TheVariants as mode
@@ -17,26 +12,26 @@ use Rattle.board_event_model.specs.declared.call.WaitStage.{WaitStage}
 use Rattle.board_event_model.specs.declared.call.WaitStage.TheVariants as wait
 use Rattle.board_event_model.specs.declared.kind.EventKind.{EventKind}
 use Rattle.board_event_model.specs.declared.kind.EventKind.TheVariants as kind
-use Rattle.board_event_model.specs.Ids.{Ids, IsWord, has}
-use Rattle.board_event_model.specs.EventMemory.{CanPerform, Event, IsRight, after, is_pending, kind_of_access, pop_answer, yes_or_no}
+use Rattle.board_event_model.specs.Ids.{IsWord, has}
+use Rattle.board_event_model.specs.EventMemory.{CanPerform, Event, IsRight, after, kind_of_access, pop_answer, yes_or_no}
 use Rattle.board_event_model.specs.NotifyCalls.{is_yes}
-use Rattle.board_event_model.specs.WaitCalls.{Wait, first_word, nothing, popped, scanned, wait_owed, wait_turn, word_in}
-use Rattle.board_event_model.proofs.SetLemmas.{either, has_empty, is_false, or_split}
-use Rattle.board_event_model.proofs.QuietLemmas.{word_empty}
-use Rattle.board_event_core.specs.EventTable.{CanPerformAt, EventTable, IsEvent, IsEventTable, event_at, with_event}
-use Rattle.board_event_core.specs.IdSets.{IsLeast}
+use Rattle.board_event_model.specs.WaitCalls.{Wait, first_word, nothing, popped, scanned, wait_owed, wait_turn}
+use Rattle.board_event_model.proofs.SetLemmas.{either, is_false}
+use Rattle.board_event_model.proofs.QuietLemmas.{ltb_false, ltb_true}
+use Rattle.board_event_core.specs.EventTable.{CanPerformAt, EventTable, IsEventTable, event_at, with_event}
 use Rattle.board_event.specs.Ends.{End, NoneOfKind}
 use Rattle.board_event.specs.Accesses.{WaitMade}
-use Rattle.board_event.specs.LentForms.{GivesNone, IsEventAt, IsNext, KeepsRestAt, NoneWaits, OnEventAt, one_taken}
-use Rattle.board_event.specs.Taking.{NoneBelow, OneSoFar, OneTaken, TryStage, TryWait, wait_begun, with_signals}
+use Rattle.board_event.specs.LentForms.{GivesNone, IsNext, KeepsRestAt, NoneWaits, OnEventAt, OnKindAt, one_taken, within}
+use Rattle.board_event.specs.Taking.{FoundNone, IsOfFirst, NoneBelow, NoneLeft, OneSoFar, OneTaken, TryWait, wait_begun, with_signals}
 use Rattle.board_event.proofs.TableLemmas.{Became, Became-first, Became-next, at_event, event_here}
+use Rattle.board_event.proofs.ReachLemmas.{IsOfKind, is_of_kind, left_none, next_within, stands_as, within_all}
 use Rattle.board_event.proofs.RestLemmas.{rest_first, rest_next}
-use Rattle.board_event.proofs.TryLemmas.{TryWait-made, nothing_ends}
-use Rattle.board_event.proofs.WordLemmas.{IsLeast-word, NoneBelow-more, differ, eqb_is}
+use Rattle.board_event.proofs.TryLemmas.{TryWait-made}
+use Rattle.board_event.proofs.WordLemmas.{IsLeast-word, NoneBelow-more, differ, eqb_is, least_low}
 
 -- what a wait for one has come to: it gave an id and is at its end, or goes on so
 abbrev pub OneTold : EventKind → Event → Event → ℕ → EventProgress → WaitStage → Type 0
-OneTold k e next words (progress.Id id last) stage = IsNext k e id × (next ≡ one_taken k e (Some id))
+OneTold k e next words (progress.Id id last) stage = IsNext k e id × IsOfFirst k words id × (next ≡ one_taken k e (Some id))
 OneTold k e next words progress.More stage = OneSoFar k e next words stage
 OneTold k e next words progress.Waiting stage = OneSoFar k e next words stage
 OneTold k e next words (progress.Took base bits last) stage = OneSoFar k e next words stage
@@ -47,57 +42,23 @@ OneTold k e next words progress.Nothing stage = OneSoFar k e next words stage
 abbrev pub OneStepped : EventKind → Event → Event → ℕ → EventProgress × WaitStage → Type 0
 OneStepped k e next words t = OneTold k e next words t.0 t.1
 
--- an event of a kind, whose set has so many words
-pub record IsOfKind (k : EventKind) (e : Event) (words : ℕ) : Type 0 where
-  pub of_kind : e.kind ≡ k
-  pub size : k ≡ kind.Bits → words ≡ e.max / 64 + 1
-  pub ids : IsEvent e
-
--- ---- no id waits
-
--- where no word of a set has one
-pub set_waits_none : (e : Event) (words : ℕ) → IsOfKind kind.Bits e words → NoneBelow e.pending words → NoneWaits e
-set_waits_none e words is none id = is_false _ found
-  where
-    in_set : has e.pending id ≡ true → ⊥
-    in_set h = let low = is.ids.low id h in let size = is.size refl in false≢true (sym (none id (omega arith)) ∙ h)
-
-    in_queue : list_any (λ x. eqb x id) e.queue ≡ true → ⊥
-    in_queue h = let empty = is.ids.set_alone is.of_kind in false≢true (let g = (rw empty at h) in g)
-
-    found : is_pending e id ≡ true → ⊥
-    found h = elim (or_split (has e.pending id) (list_any (λ x. eqb x id) e.queue) h) [ inl s ↦ in_set s | inr q ↦ in_queue q ]
-
--- where a queue has none
-pub queue_waits_none : (e : Event) (words : ℕ) → IsOfKind kind.Queue e words → e.queue ≡ [] → NoneWaits e
-queue_waits_none e words is none id = is_false _ found
-  where
-    in_set : has e.pending id ≡ true → ⊥
-    in_set h = let empty = is.ids.queue_alone is.of_kind in has_empty id (ap (λ (s : Ids). has s id) (sym empty) ∙ h)
-
-    in_queue : list_any (λ x. eqb x id) e.queue ≡ true → ⊥
-    in_queue h = false≢true (let g = (rw none at h) in g)
-
-    found : is_pending e id ≡ true → ⊥
-    found h = elim (or_split (has e.pending id) (list_any (λ x. eqb x id) e.queue) h) [ inl s ↦ in_set s | inr q ↦ in_queue q ]
-
 -- ---- each access
 
 -- where all words were empty
-nothing_told : (e : Event) (w : Wait) → w.mode ≡ mode.Try → IsOfKind kind.Bits e w.words → NoneBelow e.pending w.words → OneStepped kind.Bits e (with_signals e 0) w.words (nothing w)
-nothing_told e w try is none = rw try (refl, set_waits_none e w.words is none)
+nothing_told : (e : Event) (w : Wait) → w.mode ≡ mode.Try → NoneBelow e.pending w.words → OneStepped kind.Bits e (with_signals e 0) w.words (nothing w)
+nothing_told e w try none = rw try (refl, none)
 
-scan_told : (e : Event) (w : Wait) (k v : ℕ) → w.mode ≡ mode.Try → IsOfKind kind.Bits e w.words → k < w.words → IsWord e.pending k v → NoneBelow e.pending k →
+scan_told : (e : Event) (w : Wait) (k v : ℕ) → w.mode ≡ mode.Try → k < w.words → IsWord e.pending k v → NoneBelow e.pending k →
     OneStepped kind.Bits e (with_signals e 0) w.words (scanned w k v)
-scan_told e w k v try is low word none =
+scan_told e w k v try low word none =
     elim (either (eqb v 0)) [
       | inl z ↦ (
           let more : NoneBelow e.pending (k + 1) = NoneBelow-more e.pending k v word (eqb_is v 0 z) none in
           rw z (elim (either (eqb (k + 1) w.words)) [
-            | inl end ↦ rw end (nothing_told e w try is (subst (λ (n : ℕ). NoneBelow e.pending n) (eqb_is (k + 1) w.words end) more))
+            | inl end ↦ rw end (nothing_told e w try (subst (λ (n : ℕ). NoneBelow e.pending n) (eqb_is (k + 1) w.words end) more))
             | inr on ↦ rw on (refl, refl, (let apart = differ (k + 1) w.words on in omega arith), more)
           ]))
-      | inr some ↦ rw some (refl, refl, IsLeast-word e.pending k v word (differ v 0 some) none)
+      | inr some ↦ rw some (refl, refl, IsLeast-word e.pending k v word (differ v 0 some) none, (let least = least_low v word.small (differ v 0 some) in omega arith))
     ]
 
 drain_told : (e now : Event) (w : Wait) (b : Bool) → w.many ≡ false → 0 < w.words → now ≡ with_signals e now.signals → nat_lt 0 now.signals ≡ b →
@@ -113,36 +74,43 @@ drain_told e now w false one some is h =
 clear_told : (e now : Event) (id : ℕ) → now ≡ with_signals e 0 → after now (wait_owed (wait.Clear id)) ≡ one_taken kind.Bits e (Some id)
 clear_told e now id is = ap (λ (x : Event). after x (wait_owed (wait.Clear id))) is
 
-pop_told : (e : Event) (w : Wait) (queue : List ℕ) → w.mode ≡ mode.Try → w.many ≡ false → IsOfKind kind.Queue e w.words → e.queue ≡ queue →
+pop_told : (e : Event) (w : Wait) (queue : List ℕ) → w.mode ≡ mode.Try → w.many ≡ false → e.queue ≡ queue →
     OneStepped kind.Queue e (record e { queue = drop 1 e.queue }) w.words (popped w 0 (pop_answer queue))
-pop_told e w [] try one is empty = rw try (refl, queue_waits_none e w.words is empty)
-pop_told e w (x ∷ xs) try one is some = rw one (rw some refl, refl)
+pop_told e w [] try one empty = rw try (refl, empty)
+pop_told e w (x ∷ xs) try one some = rw one (rw some refl, λ bits. absurd (cc bits), refl)
 
 -- each access of a wait for one
-pub one_step : (k : EventKind) (e now : Event) (w : Wait) (stage : WaitStage) (a : EventAnswer) → w.mode ≡ mode.Try → w.many ≡ false → 0 < w.words → IsOfKind k e w.words →
+pub one_step : (k : EventKind) (e now : Event) (w : Wait) (stage : WaitStage) (a : EventAnswer) → w.mode ≡ mode.Try → w.many ≡ false → 0 < w.words →
     stage ≢ wait.Finished → OneSoFar k e now w.words stage → IsRight now (wait_owed stage) a → OneStepped k e (after now (wait_owed stage)) w.words (wait_turn w stage a)
-one_step k e now w wait.Drain a try one some is on far right = rw (far.0, right) (drain_told e now w (nat_lt 0 now.signals) one some far.1 refl)
-one_step k e now w (wait.Scan n) a try one some is on far right =
+one_step k e now w wait.Drain a try one some on far right = rw (far.0, right) (drain_told e now w (nat_lt 0 now.signals) one some far.1 refl)
+one_step k e now w (wait.Scan n) a try one some on far right =
     let word : IsWord e.pending n right.0 = subst (λ (x : Event). IsWord x.pending n right.0) far.1 right.2 in
-    let kind_is : IsOfKind kind.Bits e w.words = subst (λ (x : EventKind). IsOfKind x e w.words) far.0 is in
-    rw (far.0, far.1, right.1) (scan_told e w n right.0 try kind_is far.2 word far.3)
-one_step k e now w (wait.Clear id) a try one some is on far right = rw far.0 (far.2, clear_told e now id far.1)
-one_step k e now w (wait.Swap n b) a try one some is on far right = absurd far
-one_step k e now w wait.Look a try one some is on far right = absurd far
-one_step k e now w (wait.Pop n) a try one some is on far right =
-    let kind_is : IsOfKind kind.Queue e w.words = subst (λ (x : EventKind). IsOfKind x e w.words) far.0 is in
-    rw (far.0, far.2, right, far.1) (pop_told e w e.queue try one kind_is refl)
-one_step k e now w wait.Finished a try one some is on far right = absurd (on refl)
+    rw (far.0, far.1, right.1) (scan_told e w n right.0 try far.2 word far.3)
+one_step k e now w (wait.Clear id) a try one some on far right = rw far.0 (far.2, λ bits. far.3, clear_told e now id far.1)
+one_step k e now w (wait.Swap n b) a try one some on far right = absurd far
+one_step k e now w wait.Look a try one some on far right = absurd far
+one_step k e now w (wait.Pop n) a try one some on far right = rw (far.0, far.2, right, far.1) (pop_told e w e.queue try one refl)
+one_step k e now w wait.Finished a try one some on far right = absurd (on refl)
 
--- an event of its kind can take each
-pub one_can : (k : EventKind) (e now : Event) (words : ℕ) (stage : WaitStage) → IsOfKind k e words → stage ≢ wait.Finished → OneSoFar k e now words stage → CanPerform now (wait_owed stage)
-one_can k e now words wait.Drain is on far = record { kind = rw far.1 (is.of_kind ∙ far.0); inside = tt }
-one_can k e now words (wait.Scan n) is on far = record { kind = rw far.1 (is.of_kind ∙ far.0); inside = (let size = is.size far.0 in let low = far.2 in rw far.1 (omega arith)) }
-one_can k e now words (wait.Clear id) is on far = record { kind = rw far.1 (is.of_kind ∙ far.0); inside = rw far.1 far.2.member }
-one_can k e now words (wait.Swap n b) is on far = absurd far
-one_can k e now words wait.Look is on far = absurd far
-one_can k e now words (wait.Pop n) is on far = record { kind = rw far.1 (is.of_kind ∙ far.0); inside = tt }
-one_can k e now words wait.Finished is on far = absurd (on refl)
+-- where it is kept from an access, it is past the last word of the set, and none is left
+pub one_cut : (k : EventKind) (e now : Event) (words : ℕ) (stage : WaitStage) → IsOfKind k e → stage ≢ wait.Finished → OneSoFar k e now words stage → ¬ CanPerform now (wait_owed stage) →
+    (now ≡ one_taken k e None) × NoneLeft k e words
+one_cut k e now words wait.Drain is on far cannot = absurd (cannot (record { kind = rw far.1 (is.of_kind ∙ far.0); inside = tt }))
+one_cut k e now words (wait.Scan n) is on far cannot = rw far.0 (far.1, λ i low. is_false _ (none i))
+  where
+    none : (i : ℕ) → has e.pending i ≡ true → ⊥
+    none i h = elim (either (nat_lt n (e.max / 64 + 1))) [
+      | inl in_set ↦ (let low = ltb_true n (e.max / 64 + 1) in_set in cannot (record { kind = rw far.1 (is.of_kind ∙ far.0); inside = rw far.1 low }))
+      | inr past ↦ (
+          let high = ltb_false n (e.max / 64 + 1) past in
+          let top = is.ids.low i h in
+          false≢true (sym (far.3 i (omega arith)) ∙ h))
+    ]
+one_cut k e now words (wait.Clear id) is on far cannot = absurd (cannot (record { kind = rw far.1 (is.of_kind ∙ far.0); inside = rw far.1 far.2.member }))
+one_cut k e now words (wait.Swap n b) is on far cannot = absurd far
+one_cut k e now words wait.Look is on far cannot = absurd far
+one_cut k e now words (wait.Pop n) is on far cannot = absurd (cannot (record { kind = rw far.1 (is.of_kind ∙ far.0); inside = tt }))
+one_cut k e now words wait.Finished is on far cannot = absurd (on refl)
 
 -- who gives an id had one that waits
 pub next_waits : (k : EventKind) (e : Event) (id : ℕ) → e.kind ≡ k → IsNext k e id → NoneWaits e → ⊥
@@ -177,19 +145,9 @@ pub record TakingOne (k : EventKind) (max n : ℕ) (t u : EventTable) (w : Wait)
   pub table : IsEventTable t
   pub try : TryWait w false
   pub words : k ≡ kind.Bits → w.words ≡ max / 64 + 1
-  pub far : OnEventAt k max n t (λ e. (now : Event) × Became t u n now × OneSoFar k e now w.words w.stage)
+  pub far : OnKindAt k n t (λ e. (now : Event) × Became t u n now × OneSoFar k e now w.words w.stage)
   pub rest : KeepsRestAt n t u
   pub gone : NoneOfKind k n t → (u ≡ t) × (kind_of_access (wait_owed w.stage) ≡ k)
-
--- an event of a table is of its kind
-pub is_of_kind : (k : EventKind) (max n : ℕ) (t : EventTable) (e : Event) (words : ℕ) → IsEventTable t → (k ≡ kind.Bits → words ≡ max / 64 + 1) → IsEventAt k max n t e → IsOfKind k e words
-is_of_kind k max n t e words table count here = record {
-  of_kind = here.of_kind;
-  size = λ bits. count bits ∙ sym (ap (λ (m : ℕ). m / 64 + 1) (here.greatest bits));
-  ids = (
-      let sound : IfSome (event_at t n) IsEvent = IfSome-lookup_from_All IsEvent (is_at (nat_cmp n)) t.events table.kept.sound in
-      (rw here.stands at sound));
-}
 
 -- how it begins
 begun_try : (k : EventKind) (max : ℕ) (many : Bool) → max < 2 ^ 64 → TryWait (wait_begun k max many mode.Try) many
@@ -224,14 +182,13 @@ one_begins k max n t w fits table is = record {
 
 -- what an access has come to on the event
 one_made : (k : EventKind) (max n : ℕ) (t u v : EventTable) (w next : Wait) (p : EventProgress) (a : EventAnswer) → TakingOne k max n t u w → w.stage ≢ wait.Finished → WaitMade u v n w next p a →
-    OnEventAt k max n t (λ e. (x : Event) × Became t v n x × OneTold k e x next.words p next.stage)
+    OnKindAt k n t (λ e. (x : Event) × Became t v n x × OneTold k e x next.words p next.stage)
 one_made k max n t u v w next p a taking on made e here =
     let far = taking.far e here in
     let now = far.0 in
     let right = at_event u n now (λ x. IsRight x (wait_owed w.stage) a) far.1.stands made.right in
-    let kind_is = is_of_kind k max n t e w.words taking.table taking.words here in
     let told : OneStepped k e (after now (wait_owed w.stage)) w.words (wait_turn w w.stage a) =
-    one_step k e now w w.stage a taking.try.mode taking.try.all taking.try.some kind_is on far.2 right in
+    one_step k e now w w.stage a taking.try.mode taking.try.all taking.try.some on far.2 right in
     (after now (wait_owed w.stage), Became-next t u v n now (λ x. after x (wait_owed w.stage)) far.1 made.memory, (rw (made.progress, made.goes_on) told))
 
 -- it goes on
@@ -265,37 +222,64 @@ one_goes_on k max n t u v w next p a taking on made other = record {
 
 -- it gives an id
 pub one_gives : (k : EventKind) (max n : ℕ) (t u v : EventTable) (w next : Wait) (id : ℕ) (last : Bool) (a : EventAnswer) → TakingOne k max n t u w → w.stage ≢ wait.Finished → WaitMade u v n w next (progress.Id id last) a →
-    OnEventAt k max n t (λ e. OneTaken k e t v n (Some id))
+    OnKindAt k n t (λ e. OneTaken k max e t v n (Some id))
 one_gives k max n t u v w next id last a taking on made e here =
     let x = one_made k max n t u v w next (progress.Id id last) a taking on made e here in
-    record { id = x.2.0; none = λ none. absurd (cc none); left = x.1.table ∙ ap (with_event t n) x.2.1 }
+    let words : k ≡ kind.Bits → next.words ≡ max / 64 + 1 = λ bits. (rw made.goes_on (taking.words bits)) in
+    record {
+      id = x.2.0;
+      reached = λ bits. subst (λ (m : ℕ). id < 64 * m) (words bits) (x.2.1 bits);
+      none = λ none. absurd (cc none);
+      left = x.1.table ∙ ap (with_event t n) x.2.2;
+    }
 
 pub none_gives : (k : EventKind) (max n : ℕ) (t u v : EventTable) (w next : Wait) (p : EventProgress) (a : EventAnswer) → TakingOne k max n t u w → WaitMade u v n w next p a → NoneOfKind k n t → ⊥
 none_gives k max n t u v w next p a taking made none = not_made k u v t n w next p a (taking.gone none) none made
 
+-- no id is left, so none was taken
+none_taken : (k : EventKind) (max n : ℕ) (t u : EventTable) (e now : Event) (words : ℕ) → IsOfKind k e → (k ≡ kind.Bits → words ≡ max / 64 + 1) → Became t u n now → (now ≡ one_taken k e None) × NoneLeft k e words →
+    OneTaken k max e t u n None
+none_taken k max n t u e now words is size became end = record {
+  id = tt;
+  reached = tt;
+  none = λ _. left_none k e words max is size end.1;
+  left = became.table ∙ ap (with_event t n) end.0;
+}
+
 -- it ends with none
-pub one_ends : (k : EventKind) (max n : ℕ) (t u : EventTable) (w : Wait) → TakingOne k max n t u w → w.stage ≡ wait.Finished → OnEventAt k max n t (λ e. OneTaken k e t u n None)
+pub one_ends : (k : EventKind) (max n : ℕ) (t u : EventTable) (w : Wait) → TakingOne k max n t u w → w.stage ≡ wait.Finished → OnKindAt k n t (λ e. OneTaken k max e t u n None)
 one_ends k max n t u w taking ended e here =
     let far = taking.far e here in
     let end : OneSoFar k e far.0 w.words wait.Finished = subst (λ (s : WaitStage). OneSoFar k e far.0 w.words s) ended far.2 in
-    record { id = tt; none = λ _. end.1; left = far.1.table ∙ ap (with_event t n) end.0 }
+    none_taken k max n t u e far.0 w.words (is_of_kind k n t e taking.table here) taking.words far.1 end
 
--- it is never kept from an access
-pub one_kept_from : (k : EventKind) (max n : ℕ) (t u : EventTable) (w : Wait) → TakingOne k max n t u w → w.stage ≢ wait.Finished → ¬ CanPerformAt u n (wait_owed w.stage) → (e : Event) → IsEventAt k max n t e → ⊥
-one_kept_from k max n t u w taking on cannot e here =
+-- it is kept from an access, and all stays
+pub one_stops : (k : EventKind) (max n : ℕ) (t u v : EventTable) (w : Wait) → TakingOne k max n t u w → w.stage ≢ wait.Finished → ¬ CanPerformAt u n (wait_owed w.stage) → v ≡ u →
+    OnKindAt k n t (λ e. OneTaken k max e t v n None)
+one_stops k max n t u v w taking on cannot stays e here =
     let far = taking.far e here in
-    let kind_is = is_of_kind k max n t e w.words taking.table taking.words here in
-    cannot (event_here u n far.0 (λ x. CanPerform x (wait_owed w.stage)) far.1.stands (one_can k e far.0 w.words w.stage kind_is on far.2))
+    let kind_is = is_of_kind k n t e taking.table here in
+    let cut = one_cut k e far.0 w.words w.stage kind_is on far.2 (λ can. cannot (event_here u n far.0 (λ x. CanPerform x (wait_owed w.stage)) far.1.stands can)) in
+    subst (λ (x : EventTable). OneTaken k max e t x n None) (sym stays) (none_taken k max n t u e far.0 w.words kind_is taking.words far.1 cut)
 
 -- ---- what the lent form gives
 
+-- on a set of the same greatest id, where it has found none, none waits
+pub found_none : (k : EventKind) (max n : ℕ) (t u : EventTable) (one : Option ℕ) → IsEventTable t → OnKindAt k n t (λ e. OneTaken k max e t u n one) → OnEventAt k max n t (FoundNone one)
+found_none k max n t u one table taken e here =
+    λ none. subst NoneWaits (within_all k max e (is_of_kind k n t e table (stands_as k max n t e here)) here.greatest) ((taken e (stands_as k max n t e here)).none none)
+
 -- none is given exactly where none waits
-pub gives_none : (k : EventKind) (e : Event) (old new : EventTable) (n : ℕ) (one : Option ℕ) → e.kind ≡ k → OneTaken k e old new n one → GivesNone (Ok one) e
-gives_none k e old new n None is taken = (λ _. taken.none refl, λ _. refl)
-gives_none k e old new n (Some id) is taken = (λ h. absurd (some_not_none h), λ none. absurd (next_waits k e id is taken.id none))
+pub gives_none : (k : EventKind) (e : Event) (one : Option ℕ) → e.kind ≡ k → IfSome one (IsNext k e) → FoundNone one e → GivesNone (Ok one) e
+gives_none k e None is next none = (λ _. none refl, λ _. refl)
+gives_none k e (Some id) is next none = (λ h. absurd (some_not_none h), λ waits. absurd (next_waits k e id is next waits))
   where
     some_not_none : ◌≡◌ {A = Result (Option ℕ) ListenerWaitError} (Ok (Some id)) (Ok None) → ⊥
     some_not_none h = cc h
+
+-- and so it is of what an end reaches
+pub gives_none_within : (k : EventKind) (max : ℕ) (e : Event) (old new : EventTable) (n : ℕ) (one : Option ℕ) → e.kind ≡ k → OneTaken k max e old new n one → GivesNone (Ok one) (within max e)
+gives_none_within k max e old new n one is taken = gives_none k (within max e) one is (next_within k max e one taken.id taken.reached) taken.none
 
 -- the same of an end, a kind and a table that are equal to these
 pub moved : (P : EventKind → End → EventTable → Type 0) (j k : EventKind) (seen end : End) (u t : EventTable) → j ≡ k → seen ≡ end → u ≡ t → P j seen u → P k end t

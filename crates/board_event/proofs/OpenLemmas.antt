@@ -1,11 +1,10 @@
 -- How a notifier is opened.
-use Rattle.std.specs.Prelude.{◌≡◌, ℕ, ◌-◌, ◌^◌, Bool, true, false, not, nat_lt, if◌then◌else◌, Option, Some, None, Result, Ok, Err, IsSome, IsSomeAnd, refl}
-use Rattle.std.proofs.Common.{ap, sym, ◌∙◌, inl, inr}
+use Rattle.std.specs.Prelude.{◌≡◌, ℕ, ◌-◌, ◌^◌, Bool, true, false, nat_lt, Option, Some, None, Result, Ok, IsSome, IsSomeAnd, refl}
+use Rattle.std.proofs.Common.{sym, ◌∙◌}
 use Rattle.board_names.specs.declared.errors.event.NotifierCreateError.{NotifierCreateError}
 use Rattle.board_event_model.specs.declared.kind.EventKind.{EventKind}
 use Rattle.board_event_model.specs.declared.kind.EventKind.TheVariants as kind
 use Rattle.board_event_model.specs.EventMemory.{Event}
-use Rattle.board_event_model.proofs.SetLemmas.{either}
 use Rattle.board_event_core.specs.EventTable.{EventTable, IsNotifierAnswer, changed, event_at, notifier_of, with_notifier}
 use Rattle.board_names.specs.Concept.{Named, Placed, placed}
 use Rattle.board_event.specs.Ends.{End, IsNotifierOf, greatest_of}

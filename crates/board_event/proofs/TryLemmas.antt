@@ -1,6 +1,6 @@
 -- A wait that doesn't wait comes nearer to its end with each access.
-use Rattle.std.specs.Prelude.{◌≡◌, ◌≢◌, ◌<◌, ◌≤◌, ℕ, ◌+◌, ◌-◌, ◌*◌, ◌^◌, Bool, true, false, not, ◌&&◌, ◌||◌, nat_lt, if◌then◌else◌, List, [], ◌∷◌, Option, Some, None, IsSomeAnd, refl}
-use Rattle.std.proofs.Common.{ap, sym, ◌∙◌, arith, inl, inr, eqb}
+use Rattle.std.specs.Prelude.{◌≡◌, ◌≢◌, ◌<◌, ◌≤◌, ℕ, ◌+◌, ◌-◌, ◌^◌, Bool, true, false, not, ◌&&◌, ◌||◌, nat_lt, if◌then◌else◌, List, [], ◌∷◌, Option, Some, None, IsSomeAnd, refl}
+use Rattle.std.proofs.Common.{arith, inl, inr, eqb}
 use Rattle.board_event_model.specs.declared.access.EventAnswer.{EventAnswer}
 use Rattle.board_event_model.specs.declared.access.EventAnswer.TheVariants as answer
 use Rattle.board_event_model.specs.declared.call.EventProgress.{EventProgress}
@@ -12,11 +12,11 @@ use Rattle.board_event_model.specs.NotifyCalls.{is_yes}
 use Rattle.board_event_model.specs.WaitCalls.{Wait, first_word, nothing, popped, scanned, swapped, wait_owed, wait_turn, word_in}
 use Rattle.board_event_model.proofs.SetLemmas.{either}
 use Rattle.board_event_model.proofs.QuietLemmas.{ltb_true}
-use Rattle.board_event_core.specs.EventTable.{CanPerformAt, EventTable, changed, event_at}
+use Rattle.board_event_core.specs.EventTable.{CanPerformAt, EventTable, event_at}
 use Rattle.board_event_core.specs.Turns.{wait_went_on}
 use Rattle.board_event.specs.Accesses.{IsInRange, IsWaitAccess, WaitMade}
 use Rattle.board_event.specs.Taking.{TryStage, TryWait, signals_of, steps_left}
-use Rattle.board_event.proofs.TableLemmas.{Became, Became-first, Became-next}
+use Rattle.board_event.proofs.TableLemmas.{Became-first, Became-next}
 use Rattle.board_event.proofs.WordLemmas.{differ}
 
 -- it stands where such a wait may, and owes fewer accesses than before

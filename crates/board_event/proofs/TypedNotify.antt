@@ -1,8 +1,7 @@
 -- A typed notify, one hold of the lock after another, whatever becomes of the events between them.
-use Rattle.std.specs.Prelude.{◌≡◌, ◌≢◌, ◌<◌, ◌≤◌, ℕ, ◌-◌, ◌^◌, nat_lt, if◌then◌else◌, Option, Some, None, Result, Ok, Err, ◌⊎◌, refl}
-use Rattle.std.proofs.Common.{ap, sym, ◌∙◌, subst, arith, inl, inr}
+use Rattle.std.specs.Prelude.{◌≡◌, ◌≢◌, ◌≤◌, ℕ, nat_lt, Ok, Err, ◌⊎◌, refl}
+use Rattle.std.proofs.Common.{sym, ◌∙◌, subst, arith, inl, inr}
 use Rattle.board_names.specs.declared.errors.event.NotifierNotifyError.{NotifierNotifyError}
-use Rattle.board_names.specs.declared.errors.event.NotifierNotifyError.TheVariants as error
 use Rattle.board_event_model.specs.declared.access.EventAnswer.{EventAnswer}
 use Rattle.board_event_model.specs.declared.access.EventAnswer.TheVariants as answer
 use Rattle.board_event_model.specs.declared.call.EventProgress.{EventProgress}
@@ -14,8 +13,7 @@ use Rattle.board_event_model.specs.declared.kind.EventKind.TheVariants as kind
 use Rattle.board_event_model.specs.NotifyCalls.{Notify, is_yes, notify_turn, pushed}
 use Rattle.board_event_model.proofs.SetLemmas.{either}
 use Rattle.board_event_model.proofs.QuietLemmas.{ltb_false, ltb_true}
-use Rattle.board_event_core.specs.EventTable.{EventTable}
-use Rattle.board_event.specs.Accesses.{IsNotifyAccess, IsNotifyHold, IsNotifyMade, NotifyLeft, left_out}
+use Rattle.board_event.specs.Accesses.{IsNotifyHold, IsNotifyMade, NotifyLeft, left_out}
 use Rattle.board_event.specs.Ends.{End}
 use Rattle.board_event.specs.Taking.{notify_begun}
 use Rattle.board_event.specs.TypedCalls.{MayNotify}

@@ -1,5 +1,5 @@
 -- A typed wait for one: the id that it gives is one of the words that hold the ids up to the greatest.
-use Rattle.std.specs.Prelude.{◌≡◌, ◌<◌, ℕ, zero, suc, ◌+◌, ◌-◌, ◌*◌, ◌/◌, ◌^◌, Bool, true, false, if◌then◌else◌, ⊤, refl}
+use Rattle.std.specs.Prelude.{◌≡◌, ◌<◌, ℕ, zero, suc, ◌+◌, ◌*◌, ◌/◌, ◌^◌, Bool, true, false, if◌then◌else◌, ⊤, refl}
 use Rattle.std.proofs.Common.{sym, ◌∙◌, subst, arith, inl, inr, eqb, w64}
 use Rattle.std.proofs.lemmas.Nat.Bits.{bit_at-trailing_zeros}
 use Rattle.board_event_model.specs.declared.access.EventAnswer.{EventAnswer}

@@ -1,14 +1,12 @@
 -- The ids of a word and of many words.
-use Rattle.std.specs.Prelude.{◌≡◌, ◌<◌, ◌≤◌, ℕ, zero, suc, ◌+◌, ◌-◌, ◌*◌, ◌/◌, ◌%◌, ◌^◌, Bool, true, false, not, ◌==◌, if◌then◌else◌, List, [], ◌∷◌, ◌++◌, refl}
-use Rattle.std.proofs.Common.{ap, sym, ◌∙◌, subst, arith, inl, inr, rules, eqb, w64}
+use Rattle.std.specs.Prelude.{◌≡◌, ◌<◌, ◌≤◌, ℕ, zero, suc, ◌+◌, ◌-◌, ◌*◌, ◌/◌, ◌%◌, ◌^◌, Bool, true, false, ◌==◌, if◌then◌else◌, List, ◌∷◌, ◌++◌, refl}
+use Rattle.std.proofs.Common.{ap, sym, ◌∙◌, subst, arith, inl, inr, eqb, w64}
 use Rattle.std.proofs.lemmas.Bool.{false≢true}
 use Rattle.std.proofs.lemmas.Bool.Decides.{Decides-eqb}
-use Rattle.std.proofs.lemmas.List.{append-nil}
 use Rattle.std.proofs.lemmas.Nat.Bits.{bit_at-lt, bit_at-trailing_zeros}
 use Rattle.std.specs.Int.{bit_at, trailing_zeros}
 use Rattle.std.specs.List.{FoldsTo, list_any}
-use Rattle.std.specs.FinSet as set
-use Rattle.board_event_model.specs.Ids.{Ids, IsWord, has, ids_where, in_word}
+use Rattle.board_event_model.specs.Ids.{Ids, IsWord, has, ids_where}
 use Rattle.board_event_model.proofs.SetLemmas.{either, is_false, or_split, or_left, or_right}
 use Rattle.board_event_model.proofs.QuietLemmas.{bit_one, word_empty}
 use Rattle.board_event_core.specs.IdSets.{IsAscending, IsLeast, IsListOf}
@@ -133,6 +131,10 @@ IsLeast-word ids k v word some none = record { member = flag_one _ (bit_at v (tr
         let before : (i / 64 < k → ⊥) = (λ l. false≢true (sym (none i (omega arith)) ∙ h)) in
         let lower : (i / 64 ≡ k → i % 64 < trailing_zeros w64 v → ⊥) = (λ same l. not_one (bit_at v (i % 64)) (t.2 (i % 64) l) (bit_one ids k v i word h same)) in
         above k (trailing_zeros w64 v) i before lower t.0
+
+-- the least bit of a word that isn't empty is one of its 64
+pub least_low : (v : ℕ) → v < 2 ^ 64 → (v ≡ 0 → ⊥) → trailing_zeros w64 v < 64
+least_low v small some = (bit_at-trailing_zeros w64 v (omega arith) small).0
 
 -- an empty word, after empty ones
 pub NoneBelow-more : (ids : Ids) (k v : ℕ) → IsWord ids k v → v ≡ 0 → NoneBelow ids k → NoneBelow ids (k + 1)

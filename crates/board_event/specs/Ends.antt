@@ -1,16 +1,14 @@
 -- What clauses see of the ends of an event and of their builders, and the calls that make and release them.
-use Rattle.std.specs.Prelude.{◌≡◌, ◌≢◌, ℕ, ◌-◌, ◌^◌, ◌<◌, List, Bool, codes, is_some, true, Some, Result, IfOk, IsSomeAnd}
+use Rattle.std.specs.Prelude.{◌≡◌, ◌≢◌, ℕ, ◌-◌, ◌^◌, ◌<◌, List, Bool, codes, is_some, true, Some, Result, IsSomeAnd}
 use Rattle.board_layout.specs.Answer.{with_value}
 use Rattle.board_names.specs.Concept.{Named, Placed, path_of, placed, starting}
-use Rattle.board_names.specs.Configuration.{full_name}
 use Rattle.board_names.specs.Table.{at}
-use Rattle.board_names.specs.declared.configuration.Configuration.{Configuration}
 use Rattle.board_names.specs.declared.errors.event.ListenerCreateError.{ListenerCreateError}
 use Rattle.board_names.specs.declared.errors.event.NotifierCreateError.{NotifierCreateError}
 use Rattle.board_event_model.specs.declared.kind.EventKind.{EventKind}
 use Rattle.board_event_model.specs.declared.kind.EventKind.TheVariants as kind
 use Rattle.board_event_model.specs.EventMemory.{Event, new_event}
-use Rattle.board_event_core.specs.EventTable.{DropsEventOf, EventTable, FreesNameOf, IsNotifierAnswer, answer_to_listen, changed, event_at, names_of, settled, table_listened, without_listener, without_name, without_notifier}
+use Rattle.board_event_core.specs.EventTable.{DropsEventOf, EventTable, FreesNameOf, IsNotifierAnswer, answer_to_listen, changed, event_at, names_of, settled, table_listened, without_listener, without_notifier}
 
 -- an end of an event: its name, the number of its event, and the greatest id
 pub record End : Type 0 where

@@ -1,5 +1,5 @@
 -- What a notify and the waits that don't wait answer over a lent table, and what they leave.
-use Rattle.std.specs.Prelude.{◌≡◌, ◌↔◌, IfSome, ℕ, ◌+◌, ◌-◌, ◌^◌, Bool, true, false, not, ◌||◌, nat_lt, if◌then◌else◌, List, [], drop, slice_get, Option, Some, None, Result, Ok, Err}
+use Rattle.std.specs.Prelude.{◌≡◌, ◌↔◌, IfSome, ℕ, ◌+◌, ◌-◌, ◌*◌, ◌/◌, ◌^◌, false, not, ◌||◌, nat_lt, if◌then◌else◌, List, [], drop, slice_get, Option, Some, None, Result, Ok, Err}
 use Rattle.std.specs.List.{FoldsTo}
 use Rattle.std.specs.FinSet as set
 use Rattle.board_names.specs.declared.errors.event.NotifierNotifyError.{NotifierNotifyError}
@@ -46,7 +46,7 @@ KeepsRestAt n old new = (pending : Ids) × (queue : List ℕ) × (signals : ℕ)
 abbrev pub Changes : EventKind → End → EventTable → EventTable → (Event → Event) → Type 0
 Changes k end old new f = ChangesAt k end.max end.event old new f
 
--- ---- a notify
+-- ---- events of a kind, whatever their greatest id is
 
 -- the event under this number stands, and is of this kind
 pub record StandsAs (k : EventKind) (n : ℕ) (t : EventTable) (e : Event) : Type 0 where
@@ -56,6 +56,29 @@ pub record StandsAs (k : EventKind) (n : ℕ) (t : EventTable) (e : Event) : Typ
 -- what holds of that event, where it stands
 abbrev pub OnKindAt : EventKind → ℕ → EventTable → (Event → Type 0) → Type 0
 OnKindAt k n t P = (e : Event) → StandsAs k n t e → P e
+
+-- that event, where it stands, is left so, and all others as they were
+abbrev pub LeavesAt : EventKind → ℕ → EventTable → EventTable → (Event → Event) → Type 0
+LeavesAt k n old new f = OnKindAt k n old (λ e. new ≡ with_event old n (f e))
+
+-- what holds of an end's event, where it stands and is of the end's kind
+abbrev pub OnKind : EventKind → End → EventTable → (Event → Type 0) → Type 0
+OnKind k end t P = OnKindAt k end.event t P
+
+-- that event is left so, and all others as they were
+abbrev pub Leaves : EventKind → End → EventTable → EventTable → (Event → Event) → Type 0
+Leaves k end old new f = LeavesAt k end.event old new f
+
+-- the event with the ids of so many first words alone, where it is a set
+abbrev pub first_words : ℕ → Event → Event
+first_words words e = record e { pending = set.retain e.pending (λ i. nat_lt i (64 * words)) }
+
+-- an event as far as a wait by an end up to `max` reaches: of a set, the words of the ids up to that one. Where this is the
+-- set's greatest, that is the whole event
+abbrev pub within : ℕ → Event → Event
+within max e = first_words (max / 64 + 1) e
+
+-- ---- a notify
 
 -- what a push answers, as a notify tells it
 abbrev pub push_told : EventAnswer → Result (Unit {0}) NotifierNotifyError
@@ -83,11 +106,11 @@ notified kind.Queue max id e = after e (access.Push id)
 
 -- a notify answers so, where an event of the end's kind stands
 abbrev pub AnswersNotify : EventKind → End → EventTable → ℕ → Result (Unit {0}) NotifierNotifyError → Type 0
-AnswersNotify k end t id result = OnKindAt k end.event t (λ e. result ≡ notify_answer k end.max id e)
+AnswersNotify k end t id result = OnKind k end t (λ e. result ≡ notify_answer k end.max id e)
 
 -- and leaves that event so, and all others as they were
 abbrev pub Notifies : EventKind → End → EventTable → EventTable → ℕ → Type 0
-Notifies k end old new id = OnKindAt k end.event old (λ e. new ≡ with_event old end.event (notified k end.max id e))
+Notifies k end old new id = Leaves k end old new (notified k end.max id)
 
 -- ---- a wait for one
 
@@ -146,7 +169,28 @@ IsCalledOnAll {F} step callback k e = (ids : List ℕ) × AreWaiting k e ids × 
 abbrev pub HandsOver : {F : Type 0} → (F → ℕ → Unit {0} → F → Type 0) → F → EventKind → End → EventTable → Type 0
 HandsOver step callback k end t = OnEvent k end t (IsCalledOnAll step callback k)
 
+-- the same of the ids that the end reaches, whatever the set's greatest id is
+abbrev pub HandsOverReached : {F : Type 0} → (F → ℕ → Unit {0} → F → Type 0) → F → EventKind → End → EventTable → Type 0
+HandsOverReached step callback k end t = OnKind k end t (λ e. IsCalledOnAll step callback k (within end.max e))
+
+-- and so a callback that is lent is called over the event under a number
+abbrev pub CallsOnReachedAt : {F : Type 0} → (F → ℕ → Unit {0} → F → Type 0) → F → F → EventKind → ℕ → ℕ → EventTable → Type 0
+CallsOnReachedAt step callback last k max n t = OnKindAt k n t (λ e. CallsOnAll step callback last k (within max e))
+
+-- and over an end's event
+abbrev pub CallsOnReached : {F : Type 0} → (F → ℕ → Unit {0} → F → Type 0) → F → F → EventKind → End → EventTable → Type 0
+CallsOnReached step callback last k end t = CallsOnReachedAt step callback last k end.max end.event t
+
 -- the event after a wait for all
 abbrev pub all_taken : EventKind → Event → Event
 all_taken kind.Bits e = record e { pending = set.empty; signals = 0 }
 all_taken kind.Queue e = record e { queue = [] }
+
+-- the event after a wait for all on so many first words, where it is a set
+abbrev pub words_taken : EventKind → ℕ → Event → Event
+words_taken kind.Bits words e = record e { pending = set.retain e.pending (λ i. not (nat_lt i (64 * words))); signals = 0 }
+words_taken kind.Queue words e = record e { queue = [] }
+
+-- the event after a wait for all by an end up to `max`: the ids past its words stay
+abbrev pub reached_taken : EventKind → ℕ → Event → Event
+reached_taken k max e = words_taken k (max / 64 + 1) e

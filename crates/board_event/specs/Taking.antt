@@ -1,6 +1,5 @@
 -- Calls that are driven to their end on events that nobody else has. No clause of a public call cites what follows.
-use Rattle.std.specs.Prelude.{◌≡◌, ◌<◌, ◌≤◌, ℕ, zero, ◌+◌, ◌-◌, ◌*◌, ◌/◌, ◌^◌, Bool, true, false, List, [], IfSome, Option, Some, None, length, ⊤}
-use Rattle.std.specs.List.{FoldsTo}
+use Rattle.std.specs.Prelude.{◌≡◌, ◌<◌, ◌≤◌, ℕ, ◌+◌, ◌-◌, ◌*◌, ◌/◌, ◌^◌, Bool, true, false, List, [], IfSome, Option, Some, None, length, ⊤}
 use Rattle.std.specs.FinSet as set
 use Rattle.board_event_model.specs.declared.call.NotifyStage.{NotifyStage}
 use Rattle.board_event_model.specs.declared.call.NotifyStage.TheVariants as notify
@@ -16,7 +15,7 @@ use Rattle.board_event_model.specs.NotifyCalls.{Notify, notify_bits, notify_queu
 use Rattle.board_event_model.specs.WaitCalls.{Wait, wait_bits, wait_queue}
 use Rattle.board_event_core.specs.EventTable.{EventTable, with_event}
 use Rattle.board_event_core.specs.IdSets.{IsLeast}
-use Rattle.board_event.specs.LentForms.{IsNext, NoneWaits, all_taken, one_taken}
+use Rattle.board_event.specs.LentForms.{IsNext, NoneWaits, one_taken, within, words_taken}
 
 -- a wait that begins on an event of this kind with this greatest id
 abbrev pub wait_begun : EventKind → ℕ → Bool → WaitMode → Wait
@@ -28,11 +27,20 @@ abbrev pub notify_begun : EventKind → ℕ → ℕ → Notify
 notify_begun kind.Bits max id = notify_bits id max
 notify_begun kind.Queue max id = notify_queue id
 
--- what a wait for one that was driven to its end has found on an event, and left of it
-pub record OneTaken (k : EventKind) (e : Event) (old new : EventTable) (n : ℕ) (one : Option ℕ) : Type 0 where
+-- an id of a set is one of its first words
+abbrev pub IsOfFirst : EventKind → ℕ → ℕ → Type 0
+IsOfFirst k words id = k ≡ kind.Bits → id < 64 * words
+
+-- what a wait for one up to `max` that was driven to its end has taken of an event, and left of it
+pub record OneTaken (k : EventKind) (max : ℕ) (e : Event) (old new : EventTable) (n : ℕ) (one : Option ℕ) : Type 0 where
   pub id : IfSome one (IsNext k e)
-  pub none : one ≡ None → NoneWaits e
+  pub reached : IfSome one (IsOfFirst k (max / 64 + 1))
+  pub none : one ≡ None → NoneWaits (within max e)
   pub left : new ≡ with_event old n (one_taken k e one)
+
+-- where it has found none, none waits
+abbrev pub FoundNone : Option ℕ → Event → Type 0
+FoundNone one e = one ≡ None → NoneWaits e
 
 -- ---- a wait that doesn't wait
 
@@ -79,6 +87,11 @@ NoneBelow ids word = (i : ℕ) → i < 64 * word → has ids i ≡ false
 abbrev pub SameFrom : Ids → Ids → ℕ → Type 0
 SameFrom old new word = (i : ℕ) → 64 * word ≤ i → has new i ≡ has old i
 
+-- no id is left in the first words of a set, nor in a queue
+abbrev pub NoneLeft : EventKind → Event → ℕ → Type 0
+NoneLeft kind.Bits e words = NoneBelow e.pending words
+NoneLeft kind.Queue e words = e.queue ≡ []
+
 -- the event with so many signals
 abbrev pub with_signals : Event → ℕ → Event
 with_signals e n = record e { signals = n }
@@ -87,11 +100,11 @@ with_signals e n = record e { signals = n }
 abbrev pub OneSoFar : EventKind → Event → Event → ℕ → WaitStage → Type 0
 OneSoFar k e now words wait.Drain = (k ≡ kind.Bits) × (now ≡ with_signals e now.signals)
 OneSoFar k e now words (wait.Scan word) = (k ≡ kind.Bits) × (now ≡ with_signals e 0) × (word < words) × NoneBelow e.pending word
-OneSoFar k e now words (wait.Clear id) = (k ≡ kind.Bits) × (now ≡ with_signals e 0) × IsLeast e.pending id
+OneSoFar k e now words (wait.Clear id) = (k ≡ kind.Bits) × (now ≡ with_signals e 0) × IsLeast e.pending id × (id < 64 * words)
 OneSoFar k e now words (wait.Swap word some) = ⊥
 OneSoFar k e now words wait.Look = ⊥
 OneSoFar k e now words (wait.Pop n) = (k ≡ kind.Queue) × (now ≡ e) × (n ≡ 0)
-OneSoFar k e now words wait.Finished = (now ≡ one_taken k e None) × NoneWaits e
+OneSoFar k e now words wait.Finished = (now ≡ one_taken k e None) × NoneLeft k e words
 
 -- ---- a wait for all
 
@@ -111,7 +124,7 @@ AllSoFar k e now words (wait.Clear id) = ⊥
 AllSoFar k e now words (wait.Swap word some) = (k ≡ kind.Bits) × (now ≡ with_pending e now.pending) × (word < words) × NoneBelow now.pending word × SameFrom e.pending now.pending word
 AllSoFar k e now words wait.Look = ⊥
 AllSoFar k e now words (wait.Pop n) = (k ≡ kind.Queue) × (now ≡ with_queue e now.queue) × (n + length now.queue ≤ 512)
-AllSoFar k e now words wait.Finished = now ≡ all_taken k e
+AllSoFar k e now words wait.Finished = now ≡ words_taken k words e
 
 -- the ids that it has still to take
 abbrev pub to_come : Event → ℕ → WaitStage → List ℕ

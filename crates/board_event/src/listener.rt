@@ -3,7 +3,7 @@ ghost use Rattle.std.specs.Prelude.{◌≡◌, ◌≢◌, ℕ, List, None, Ok, I
 ghost use Rattle.board_event.specs.Ends.{DropsListenersEvent, FreesListenersName, HasListener, IsGone, listener_gone};
 ghost use Rattle.board_event.specs.Accesses.{IsHoldBehind};
 ghost use Rattle.board_event.specs.TypedCalls.{CallsOnHanded, GivesId};
-ghost use Rattle.board_event.specs.LentForms.{CallsOnAll, Changes, GivesNext, GivesNone, HandsOver, KeepsRestAt, OnEvent, after_one, all_taken};
+ghost use Rattle.board_event.specs.LentForms.{CallsOnAll, CallsOnReached, Changes, GivesNext, GivesNone, HandsOver, HandsOverReached, KeepsRestAt, Leaves, OnEvent, OnKind, after_one, all_taken, reached_taken, within};
 
 use crate::accesses::{hand_over, wait_access};
 use crate::event::Listener;
@@ -70,9 +70,10 @@ impl<K: KindOfEvents + Drop> EventListener<K> {
         state: &mut EventsOf<K>,
     ) -> Result<Option<TriggerId>, ListenerWaitError>
         ensures ok { IsOk result }
-        ensures id { OnEvent K.which self.now state.old (GivesNext K.which result) }
+        ensures id { OnKind K.which self.now state.old (GivesNext K.which result) }
         ensures none { OnEvent K.which self.now state.old (GivesNone result) }
-        ensures after { Changes K.which self.now state.old state.new (after_one K.which result) }
+        ensures reached { OnKind K.which self.now state.old (λ e. GivesNone result (within self.now.max e)) }
+        ensures after { Leaves K.which self.now state.old state.new (after_one K.which result) }
         ensures rest { KeepsRestAt self.now.event state.old state.new }
         ensures gone { IsGone K.which self.now state.old → result ≡ Ok None }
         ensures stays { IsGone K.which self.now state.old → state.new ≡ state.old }
@@ -96,6 +97,8 @@ impl<K: KindOfEvents + Drop> EventListener<K> {
         ensures ok { result ≡ Ok tt }
         ensures calls { HandsOver F.step callback K.which self.now state.old }
         ensures after { Changes K.which self.now state.old state.new (all_taken K.which) }
+        ensures reached { HandsOverReached F.step callback K.which self.now state.old }
+        ensures left { Leaves K.which self.now state.old state.new (reached_taken K.which self.now.max) }
         ensures rest { KeepsRestAt self.now.event state.old state.new }
         ensures stays { IsGone K.which self.now state.old → state.new ≡ state.old }
     {
@@ -116,6 +119,8 @@ impl<K: KindOfEvents + Drop> EventListener<K> {
         requires { F.IsAlwaysCallable callback.old }
         ensures calls { OnEvent K.which self.now state.old (CallsOnAll F.step callback.old callback.new K.which) }
         ensures after { Changes K.which self.now state.old state.new (all_taken K.which) }
+        ensures reached { CallsOnReached F.step callback.old callback.new K.which self.now state.old }
+        ensures left { Leaves K.which self.now state.old state.new (reached_taken K.which self.now.max) }
         ensures rest { KeepsRestAt self.now.event state.old state.new }
         ensures stays { IsGone K.which self.now state.old → state.new ≡ state.old }
         ensures uncalled { IsGone K.which self.now state.old → callback.new ≡ callback.old }

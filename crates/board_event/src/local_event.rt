@@ -1,9 +1,10 @@
 //! Events of this process, in one text over both kinds.
 ghost use Rattle.std.specs.Prelude.{◌≡◌, Ok};
+ghost use Rattle.std.specs.Sync.Mutex.{mutex_guard_value};
 ghost use Rattle.board_names.specs.Configuration.{full_name};
 ghost use Rattle.board_names.specs.Table.{IsFree};
 ghost use Rattle.board_event_model.specs.EventMemory.{is_bits};
-ghost use Rattle.board_event_core.specs.EventTable.{names_of, without_name};
+ghost use Rattle.board_event_core.specs.EventTable.{IsEventTable, names_of, without_name};
 ghost use Rattle.board_event.specs.Ends.{is_held};
 
 use crate::event::Event;
@@ -37,7 +38,9 @@ impl<K: KindOfEvents + Drop> NamedConceptMgmt for LocalEvent<K> {
 
     type Registry = EventRegistry<K>;
 
-    fn lock<'a, R: Wait>(rt: &R, registry: &'a EventRegistry<K>) -> MutexGuard<'a, EventsOf<K>> {
+    fn lock<'a, R: Wait>(rt: &R, registry: &'a EventRegistry<K>) -> MutexGuard<'a, EventsOf<K>>
+        ensures table { IsEventTable (mutex_guard_value result) }
+    {
         registry.lock(rt)
     }
 

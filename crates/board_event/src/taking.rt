@@ -1,10 +1,9 @@
 //! Calls on events that nobody else has, driven to their end.
 ghost use Rattle.std.specs.Prelude.{◌≡◌, Err, None};
 ghost use Rattle.board_names.specs.declared.errors.event.NotifierNotifyError.TheVariants.{Disconnected};
-ghost use Rattle.board_event_core.specs.EventTable.{with_event};
 ghost use Rattle.board_event.specs.Ends.{NoneOfKind};
-ghost use Rattle.board_event.specs.LentForms.{CallsOnAll, ChangesAt, KeepsRestAt, OnEventAt, OnKindAt, all_taken, notified, notify_answer};
-ghost use Rattle.board_event.specs.Taking.{OneTaken, notify_begun, wait_begun};
+ghost use Rattle.board_event.specs.LentForms.{CallsOnAll, CallsOnReachedAt, ChangesAt, KeepsRestAt, LeavesAt, OnEventAt, OnKindAt, all_taken, notified, notify_answer, reached_taken};
+ghost use Rattle.board_event.specs.Taking.{FoundNone, OneTaken, notify_begun, wait_begun};
 
 use crate::accesses::{hand_over, notify_access, wait_access};
 use board_event_core::{
@@ -41,7 +40,7 @@ pub(crate) fn notify_once(
     id: u64,
 ) -> Result<(), NotifierNotifyError>
     ensures answer { OnKindAt kind event events.old (λ e. result ≡ notify_answer kind max id e) }
-    ensures after { OnKindAt kind event events.old (λ e. events.new ≡ with_event events.old event (notified kind max id e)) }
+    ensures after { LeavesAt kind event events.old events.new (notified kind max id) }
     ensures gone { NoneOfKind kind event events.old → result ≡ Err Disconnected }
     ensures stays { NoneOfKind kind event events.old → events.new ≡ events.old }
 {
@@ -58,7 +57,8 @@ pub(crate) fn notify_once(
 
 /// Takes the next id of an event, where one waits.
 pub(crate) fn take_one(events: &mut Events, event: u64, kind: EventKind, max: u64) -> Option<u64>
-    ensures one { OnEventAt kind max event events.old (λ e. OneTaken kind e events.old events.new event result) }
+    ensures one { OnKindAt kind event events.old (λ e. OneTaken kind max e events.old events.new event result) }
+    ensures none { OnEventAt kind max event events.old (FoundNone result) }
     ensures rest { KeepsRestAt event events.old events.new }
     ensures gone { NoneOfKind kind event events.old → result ≡ None }
     ensures stays { NoneOfKind kind event events.old → events.new ≡ events.old }
@@ -88,6 +88,8 @@ pub(crate) fn take_all<F: FnMut(TriggerId)>(
     requires { F.IsAlwaysCallable callback.old }
     ensures calls { OnEventAt kind max event events.old (CallsOnAll F.step callback.old callback.new kind) }
     ensures after { ChangesAt kind max event events.old events.new (all_taken kind) }
+    ensures reached { CallsOnReachedAt F.step callback.old callback.new kind max event events.old }
+    ensures left { LeavesAt kind event events.old events.new (reached_taken kind max) }
     ensures rest { KeepsRestAt event events.old events.new }
     ensures stays { NoneOfKind kind event events.old → events.new ≡ events.old }
     ensures uncalled { NoneOfKind kind event events.old → callback.new ≡ callback.old }

@@ -1,7 +1,6 @@
 use Rattle.std.proofs.Common.{◌≤◌, ◌+◌, ◌-◌, ◌^◌}
 use Rattle.std.specs.Prelude.{◌==◌}
 use Rattle.std.specs.Int.{bit_at}
-use denote.Param.Always.{always_mut}
 use Rattle.board_event_model.specs.Ids.{ids_where}
 use Rattle.board_event.specs.LentForms.{CallsOn}
 use Rattle.board_event.specs.Accesses.{ids_of_bits}

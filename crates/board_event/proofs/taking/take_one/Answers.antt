@@ -1,11 +1,11 @@
-use Rattle.std.specs.Prelude.{◌≢◌}
+use Rattle.std.specs.Prelude.{◌≢◌, None}
 use Rattle.std.proofs.Common.{rules, subst, sym}
 use Rattle.board_event_model.specs.declared.call.EventProgress.{EventProgress}
 use Rattle.board_event_model.specs.declared.call.WaitStage.TheVariants as wait
 use Rattle.board_event_core.specs.EventTable.{EventTable}
 use Rattle.board_event.specs.Accesses.{WaitMade}
 use Rattle.board_event.specs.LentForms.{KeepsRestAt}
-use Rattle.board_event.proofs.OneLemmas.{one_begins, one_ends, one_gives, one_goes_on, one_kept_from}
+use Rattle.board_event.proofs.OneLemmas.{found_none, one_begins, one_ends, one_gives, one_goes_on, one_stops}
 use Rattle.board_event.proofs.RestLemmas.{rest_next}
 use Rattle.board_event.proofs.TryLemmas.{not_taken, wait_fewer}
 use Rattle.board_event.proofs.taking.take_one.Goals as goal
@@ -25,10 +25,13 @@ loop-call-preserved c =
     c.loop-call.invariant on c.in-Some.ensures.1 c.in_default-progress.not-Id
 
 pub returns-in_default-clause-one : goal.returns-in_default-clause-one
-returns-in_default-clause-one c = λ e here. (
+returns-in_default-clause-one c =
     let on : c.loop-call.call.stage ≢ wait.Finished = search rules in
     let refused = not_taken c.loop-call.events c.wait_access.new.events c.args.event c.loop-call.call c.wait_access.new.call c.wait_access.result c.wait_access.ensures c.in_default.not-Some in
-    absurd (one_kept_from c.args.kind c.args.max c.args.event c.args.events.now c.loop-call.events c.loop-call.call c.loop-call.invariant on refused.0 e here))
+    one_stops c.args.kind c.args.max c.args.event c.args.events.now c.loop-call.events c.wait_access.new.events c.loop-call.call c.loop-call.invariant on refused.0 refused.1
+
+pub returns-in_default-clause-none : goal.returns-in_default-clause-none
+returns-in_default-clause-none c = found_none c.args.kind c.args.max c.args.event c.args.events.now c.wait_access.new.events None c.table_stands.ensures (returns-in_default-clause-one c)
 
 pub returns-in-Id-clause-one : goal.returns-in-Id-clause-one
 returns-in-Id-clause-one c =
@@ -38,6 +41,9 @@ returns-in-Id-clause-one c =
 
 pub returns-clause-one : goal.returns-clause-one
 returns-clause-one c = one_ends c.args.kind c.args.max c.args.event c.args.events.now c.loop-call.events c.loop-call.call c.loop-call.invariant (search rules)
+
+pub returns-clause-none : goal.returns-clause-none
+returns-clause-none c = found_none c.args.kind c.args.max c.args.event c.args.events.now c.loop-call.events None c.table_stands.ensures (returns-clause-one c)
 
 pub returns-in_default-clause-rest : goal.returns-in_default-clause-rest
 returns-in_default-clause-rest c =
