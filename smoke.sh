@@ -174,6 +174,20 @@ for words in '' 'solo' 'solo 4 get' 'solo 2 get 1' 'solo 4 put 1' 'solo 4 get 01
     gives "the bench's usage: $words" 2 '' "$bench_usage" "$bench" $words
 done
 gives "the bench's usage: an empty word" 2 '' "$bench_usage" "$bench" ''
+# What is counted was done: a billion calls take more than a second on any processor, a thousandth of them far less.
+while read -r words; do
+    timeout 1 "$bench" $words 1000000000 > /dev/null 2>&1 < /dev/null
+    [ $? = 124 ] && good=yes || good=no
+    tells "a billion are not done in a second: $words" "$good"
+done <<'END'
+solo 1 try_get
+solo 32 update
+typed 1 get
+typed 32 update
+event bits
+event queue
+shared 1 1
+END
 gets=$("$bench" shared 1 2 1000) && [[ $gets =~ ^gets\ [1-9][0-9]*$ ]] && good=yes || good=no
 tells 'readers beside a writer' "$good"
 

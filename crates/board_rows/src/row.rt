@@ -90,7 +90,9 @@ impl Script<'_> {
     /// Runs it line by line, over plain words and over words that threads may share, and then as the program does, in one piece and byte by byte.
     pub(crate) fn holds(&self, rt: &impl Abort, alloc: Global) -> Result<(), Fail> {
         answers_each_line(rt, alloc, &mut Machine::<PlainWords>::new(alloc), self)?;
-        answers_each_line(rt, alloc, &mut Machine::<SeatWords>::new(alloc), self)?;
+        let mut machine = Machine::<SeatWords>::new(alloc);
+        answers_each_line(rt, alloc, &mut machine, self)?;
+        assert!(rt; !machine.is_spent(), "memory of {}", self.name);
         self.runs_on::<PlainWords>(rt, alloc)?;
         self.runs_on::<SeatWords>(rt, alloc)?;
         self.runs_in_pieces(rt, alloc, 0)?;
