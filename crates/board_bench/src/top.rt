@@ -44,6 +44,8 @@ pub enum TopError {
 }
 
 impl From<io::Error> for TopError {
+    ghost from_gives = { λ error e. e ≡ top_error.NotWritten error };
+
     fn from(error: io::Error) -> TopError {
         TopError::NotWritten(error)
     }
