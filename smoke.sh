@@ -174,19 +174,21 @@ for words in '' 'solo' 'solo 4 get' 'solo 2 get 1' 'solo 4 put 1' 'solo 4 get 01
     gives "the bench's usage: $words" 2 '' "$bench_usage" "$bench" $words
 done
 gives "the bench's usage: an empty word" 2 '' "$bench_usage" "$bench" ''
-# What is counted was done: a billion calls take more than a second on any processor, a thousandth of them far less.
+# What is counted was done: so many calls take more than a second on any processor, a thousandth of them far less.
 while read -r words; do
-    timeout 1 "$bench" $words 1000000000 > /dev/null 2>&1 < /dev/null
+    timeout 1 "$bench" $words > /dev/null 2>&1 < /dev/null
     [ $? = 124 ] && good=yes || good=no
-    tells "a billion are not done in a second: $words" "$good"
+    tells "not done in a second: $words" "$good"
 done <<'END'
-solo 1 try_get
-solo 32 update
-typed 1 get
-typed 32 update
-event bits
-event queue
-shared 1 1
+solo 1 try_get 1000000000
+solo 32 get 1000000000
+solo 32 update 1000000000
+typed 1 get 1000000000
+typed 1 try_get 1000000000
+typed 32 update 1000000000
+event bits 1000000
+event queue 1000000
+shared 1 1 1000000000
 END
 gets=$("$bench" shared 1 2 1000) && [[ $gets =~ ^gets\ [1-9][0-9]*$ ]] && good=yes || good=no
 tells 'readers beside a writer' "$good"
