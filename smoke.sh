@@ -186,8 +186,8 @@ solo 32 update 1000000000
 typed 1 get 1000000000
 typed 1 try_get 1000000000
 typed 32 update 1000000000
-event bits 1000000
-event queue 1000000
+event bits 10000000
+event queue 10000000
 shared 1 1 1000000000
 END
 gets=$("$bench" shared 1 2 1000) && [[ $gets =~ ^gets\ [1-9][0-9]*$ ]] && good=yes || good=no
