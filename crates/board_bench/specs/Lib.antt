@@ -3,4 +3,3 @@ pub mod Watchers
 pub mod Blocks
 pub mod Handles
 pub mod Done
-pub mod Top
