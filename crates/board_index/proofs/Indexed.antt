@@ -264,11 +264,11 @@ module _ {C : Type 0} {rows : ℕ → Option Board} {cells : ℕ → Option C} {
       kept t g (Some n) e =
           let so = called_so t n e in
           let other : nat_eq number n ≡ false = not_true (nat_eq number n) (λ z. (
-            let there : rows number ≡ Some so.0 = ap rows (is_same number n z) ∙ so.1 in
-            let same : so.0 ≡ b = one_board so.0 b (sym there ∙ stands) in
-            let yes : bytes_eq b.name t ≡ true = (bytes_eq-Decides b.name t).1 (subst (λ (x : Board). x.name ≡ t) same so.2) in
-            let no : true ≡ false = sym yes ∙ g in
-            absurd cc)) in
+          let there : rows number ≡ Some so.0 = ap rows (is_same number n z) ∙ so.1 in
+          let same : so.0 ≡ b = one_board so.0 b (sym there ∙ stands) in
+          let yes : bytes_eq b.name t ≡ true = (bytes_eq-Decides b.name t).1 (subst (λ (x : Board). x.name ≡ t) same so.2) in
+          let no : true ≡ false = sym yes ∙ g in
+          absurd cc)) in
           subst (λ (o : Option Board). IsSomeAnd o (λ x. x.name ≡ t)) (sym (rows_are n ∙ ap (λ (z : Bool). cond z None (rows n)) other ∙ so.1)) so.2
 
       name : (t : List ℕ) (z : Bool) → bytes_eq b.name t ≡ z → IfSome (new_names t) (λ n. IsSomeAnd (new_rows n) (λ x. x.name ≡ t))

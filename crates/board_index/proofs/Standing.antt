@@ -135,25 +135,37 @@ module _ {X C : Type 0} (p : X → Bool) (k : ℕ) (under : ℕ → Option X) (c
   Placed first n = (place : ℕ) × ((i : ℕ) → position_from p i (standing_from under first n) ≡ Some (place + i)) × IsPlace k cells first n place
 
   here : (first n : ℕ) (x : X) (c : C) → under first ≡ Some x → cells first ≡ Some c → first ≡ k → Placed first (suc n)
-  here first n x c e f s = (0, (λ i. rw (e, passes p k under picks first x e s) (ap Some (let q : ◌≡◌ {A = ℕ} i (0 + i) = omega arith in q))), record {
-    there = rw f (sym f ∙ ap cells s);
-    gone = λ new none others. rw (f, subst (λ (m : ℕ). new m ≡ None) (sym s) none) (sym (same_from cells new (suc first) n (λ m low below. others m (λ q. absurd (omega (arith, s, low, q))))));
-    put = λ new d there others. rw (f, subst (λ (m : ℕ). new m ≡ Some d) (sym s) there) (ap (λ (l : List C). d ∷ l) (sym (same_from cells new (suc first) n (λ m low below. others m (λ q. absurd (omega (arith, s, low, q)))))));
-  })
+  here first n x c e f s = (
+    0,
+    (λ i. rw (e, passes p k under picks first x e s) (ap Some (let q : ◌≡◌ {A = ℕ} i (0 + i) = omega arith in q))),
+    record {
+      there = rw f (sym f ∙ ap cells s);
+      gone = λ new none others. rw (f, subst (λ (m : ℕ). new m ≡ None) (sym s) none) (sym (same_from cells new (suc first) n (λ m low below. others m (λ q. absurd (omega (arith, s, low, q))))));
+      put = λ new d there others. rw (f, subst (λ (m : ℕ). new m ≡ Some d) (sym s) there) (ap (λ (l : List C). d ∷ l) (sym (same_from cells new (suc first) n (λ m low below. others m (λ q. absurd (omega (arith, s, low, q)))))));
+    },
+  )
 
   further : (first n : ℕ) (x : X) (c : C) → under first ≡ Some x → cells first ≡ Some c → first ≢ k → Placed (suc first) n → Placed first (suc n)
-  further first n x c e f d rest = (suc rest.0, (λ i. rw (e, passes_not p k under picks first x e d) (rest.1 (i + 1) ∙ ap Some (let q : ◌≡◌ {A = ℕ} (rest.0 + (i + 1)) (suc rest.0 + i) = omega arith in q))), record {
-    there = rw f rest.2.there;
-    gone = λ new none others. rw (f, others first d ∙ f) (ap (λ (l : List C). c ∷ l) (rest.2.gone new none others));
-    put = λ new y there others. rw (f, others first d ∙ f) (ap (λ (l : List C). c ∷ l) (rest.2.put new y there others));
-  })
+  further first n x c e f d rest = (
+    suc rest.0,
+    (λ i. rw (e, passes_not p k under picks first x e d) (rest.1 (i + 1) ∙ ap Some (let q : ◌≡◌ {A = ℕ} (rest.0 + (i + 1)) (suc rest.0 + i) = omega arith in q))),
+    record {
+      there = rw f rest.2.there;
+      gone = λ new none others. rw (f, others first d ∙ f) (ap (λ (l : List C). c ∷ l) (rest.2.gone new none others));
+      put = λ new y there others. rw (f, others first d ∙ f) (ap (λ (l : List C). c ∷ l) (rest.2.put new y there others));
+    },
+  )
 
   past : (first n : ℕ) → under first ≡ None → cells first ≡ None → first ≢ k → Placed (suc first) n → Placed first (suc n)
-  past first n e f d rest = (rest.0, (λ i. rw e (rest.1 i)), record {
-    there = rw f rest.2.there;
-    gone = λ new none others. rw (f, others first d ∙ f) (rest.2.gone new none others);
-    put = λ new y there others. rw (f, others first d ∙ f) (rest.2.put new y there others);
-  })
+  past first n e f d rest = (
+    rest.0,
+    (λ i. rw e (rest.1 i)),
+    record {
+      there = rw f rest.2.there;
+      gone = λ new none others. rw (f, others first d ∙ f) (rest.2.gone new none others);
+      put = λ new y there others. rw (f, others first d ∙ f) (rest.2.put new y there others);
+    },
+  )
 
   placed_from : (first n : ℕ) → first ≤ k → k < first + n → IsSome (under k) → Placed first n
   placed_from first zero low below some = absurd (omega (arith, low, below))

@@ -17,11 +17,10 @@ pub returns : goal.returns
 returns g c =
     let s = c.self.inside in
     let f = c.get_mut.follows in
-    let number = c.args.number in
-    (
+    let number = c.args.number in (
       same_loan (λ n F v. read_of n F v) (ghost_name_of c.get_mut.result)
-        (λ w. seen_written s.rows s.cells (f.lender w) s.names s.last number c.self.invariant w (f.holds w) ∙ ap (λ (d : Rows g.row.C.Denot). with_cells_in d number w) c.self.view_is)
-        (seen_unwritten s.rows s.cells f.lender-at-none s.names s.last number c.self.invariant f.holds-at-none ∙ c.self.view_is),
+          (λ w. seen_written s.rows s.cells (f.lender w) s.names s.last number c.self.invariant w (f.holds w) ∙ ap (λ (d : Rows g.row.C.Denot). with_cells_in d number w) c.self.view_is)
+          (seen_unwritten s.rows s.cells f.lender-at-none s.names s.last number c.self.invariant f.holds-at-none ∙ c.self.view_is),
       record {
         lends = tt;
         value = c.get_mut.ensures.value ∙ sym (found_cells c.self.invariant number) ∙ ap (λ (d : Rows g.row.C.Denot). cells_in d number) c.self.view_is;
