@@ -1,5 +1,5 @@
 -- What the maps of the boards have, as boards come and go.
-use Rattle.std.proofs.Common.{◌≡◌, ◌≢◌, ℕ, ◌+◌, ◌≤◌, ◌<◌, Bool, true, false, cond, ◌==◌, List, [], ◌∷◌, ◌++◌, Option, Some, None, refl, sym, ap, subst, ◌∙◌, arith}
+use Rattle.std.proofs.Common.{◌≡◌, ◌≢◌, ℕ, ◌+◌, ◌≤◌, ◌<◌, Bool, true, false, cond, ◌==◌, List, [], ◌∷◌, Option, Some, None, refl, sym, ap, subst, ◌∙◌, arith}
 use Rattle.std.specs.Prelude.{find, is_some, min, nat_eq, option_map, ◌||◌, IfSome, IsSome, IsSomeAnd}
 use Rattle.std.specs.HashMap.{HashMap, WritesThrough, spare}
 use Rattle.std.specs.List.{list_any, position_from}
@@ -9,7 +9,7 @@ use Rattle.std.proofs.lemmas.Slice.Eq.{bytes_eq-Decides}
 use Rattle.board_model.specs.declared.tables.Board.{Board}
 use Rattle.board_model.specs.Tables.{has_name, is_numbered, without_first}
 use Rattle.board_model.proofs.ListLemmas.{same_bytes}
-use Rattle.board_index.specs.Boards.{AreIndexed, IsRow, Rows, at, but_at, called, seen, set_at, standing, under, with_cells_in}
+use Rattle.board_index.specs.Boards.{AreIndexed, IsRow, at, but_at, called, seen, set_at, standing, under, with_cells_in}
 use Rattle.board_index.proofs.Standing.{Picks, beside_at, beside_gone, beside_put, found_standing, is_other, is_same, none_standing, nowhere, standing_same, without_standing}
 
 abbrev a_board : Board → Option Board
