@@ -5,17 +5,13 @@ use Rattle.std.specs.BTreeSet.{BTreeSet}
 use Rattle.std.specs.Cmp.Lexicographic.{nat_list_cmp_total, slice_cmp}
 use Rattle.std.specs.HashMap.{HashMap, get, keys}
 use Rattle.std.specs.List.{AllByRecursion, list_any}
-use Rattle.std.specs.List.Sorted.{IsStrictlySortedBy}
-use Rattle.std.specs.Ordering.{is_eq, is_lt, nat_cmp}
-use Rattle.std.specs.declared.cmp.Ordering.{Ordering}
-use Rattle.std.specs.declared.cmp.Ordering.TheVariants.{Less, Equal, Greater}
+use Rattle.std.specs.Ordering.{is_eq, nat_cmp}
 use Rattle.std.specs.Str.{bytes_eq}
 use Rattle.std.proofs.lemmas.Map.Lookups.{btree_set_from_contains, exact_bytes}
 use Rattle.std.proofs.lemmas.Map.Text.{is_eq-slice_cmp}
 use Rattle.std.proofs.lemmas.Bool.Decides.{Decides-eqb}
 use Rattle.board_model.specs.declared.tables.Thing.{Thing}
-use Rattle.board_model.specs.LawsOfListings.{Ascend}
-use Rattle.board_model.specs.Replies.{is_before, nodes_of}
+use Rattle.board_model.specs.Replies.{nodes_of}
 use Rattle.board_model.specs.Tables.{holds_at, is_held_by}
 use Rattle.board_model.specs.Things.{Held}
 use Rattle.board_model.proofs.ListingLaws.{nodes_ascend}
@@ -96,20 +92,6 @@ any_thing test nodes m d h =
 
 -- ---- in order
 
-less : (r : Ordering) → is_lt r ≡ true → r ≡ Less
-less Less h = refl
-less Equal h = absurd cc
-less Greater h = absurd cc
-
-all_less : (x : List ℕ) (ys : List (List ℕ)) → AllByRecursion (λ y. is_before x y ≡ true) ys → AllByRecursion (λ y. slice_cmp nat_cmp x y ≡ Less) ys
-all_less x [] h = tt
-all_less x (y ∷ ys) h = (less (slice_cmp nat_cmp x y) h.0, all_less x ys h.1)
-
-ascend_sorted : (xs : List (List ℕ)) → Ascend xs → IsStrictlySortedBy (slice_cmp nat_cmp) xs
-unfolding IsStrictlySortedBy
-ascend_sorted [] h = tt
-ascend_sorted (x ∷ xs) h = (all_less x xs h.0, ascend_sorted xs h.1)
-
 pub among : (p : List ℕ) (xs : List (List ℕ)) → list_any (λ x. is_eq (slice_cmp nat_cmp p x)) xs ≡ list_any (λ x. bytes_eq x p) xs
 among p [] = refl
 among p (x ∷ xs) = λ i. (is_eq-slice_cmp p x ∙ turned p x) i || among p xs i
@@ -121,5 +103,5 @@ holders_told board nodes m d names h a =
     let xs = things_of (λ n. get nat_eq m n) d in
     let found : BTreeSet (List ℕ) = record { keys = names } in
     let told : BTreeSet (List ℕ) = record { keys = nodes_of board xs } in
-    btree_set_from_contains nat_list_cmp_total found told a.order (ascend_sorted (nodes_of board xs) (nodes_ascend.ascend board xs))
+    btree_set_from_contains nat_list_cmp_total found told a.order (nodes_ascend.ascend board xs)
     (λ p. among p names ∙ a.parties p ∙ any_thing (is_held_by bytes_eq board p) nodes m d h ∙ sym (nodes_ascend.are board xs p) ∙ sym (among p (nodes_of board xs))) exact_bytes

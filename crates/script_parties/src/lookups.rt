@@ -53,9 +53,10 @@ pub fn entry_of(kind: &Kind) -> u64
 pub(crate) fn node_for(party: &Name, nodes: &IndexSet<Name>) -> u64
     ensures { result ≡ node_number party.now nodes.now.keys }
 {
+    let count = nodes.len() as u64;
     match nodes.get_index_of(party) {
         Some(place) => place as u64 + 1,
-        None => nodes.len() as u64 + 1,
+        None => count + 1,
     }
 }
 

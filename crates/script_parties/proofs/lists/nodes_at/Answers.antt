@@ -7,8 +7,8 @@ use Rattle.std.specs.Str.{bytes_eq}
 use Rattle.script_parties.proofs.Holders.{among}
 use Rattle.script_parties.proofs.lists.nodes_at.Goals as goal
 
-pub returns-in_ok-collect : goal.returns-in_ok-collect
-returns-in_ok-collect c =
+pub returns : goal.returns
+returns c =
     let parties : List (List ℕ) = c.in_ok-parties.parties.keys in
     let listed : c.from_vec.result ≡ parties = search rules in
     record {

@@ -11,8 +11,8 @@ returns-in-Some c =
     let is : Some c.in-Some.field-0 ≡ node_place c.args.party nodes = sym c.in-Some.is ∙ c.get_index_of.ensures.index ∙ position_from-zero (bytes_eq c.args.party) nodes in
     ap (λ o. nodes_or_more c.args.party nodes o) is
 
-pub returns-in-Ok-in-None : goal.returns-in-Ok-in-None
-returns-in-Ok-in-None c =
+pub returns-in-Ok : goal.returns-in-Ok
+returns-in-Ok c =
     let nodes = c.args.nodes.now.keys in
     let is : None ≡ node_place c.args.party nodes = sym c.in-None.is ∙ c.get_index_of.ensures.index ∙ position_from-zero (bytes_eq c.args.party) nodes in
-    c.in-Ok-in-None.ensures.keys ∙ ap (λ b. cond b nodes (nodes ++ c.args.party ∷ [])) (sym c.get_index_of.ensures.found ∙ ap is_some c.in-None.is) ∙ ap (λ o. nodes_or_more c.args.party nodes o) is
+    c.in-Ok.ensures.keys ∙ ap (λ b. cond b nodes (nodes ++ c.args.party ∷ [])) (sym c.get_index_of.ensures.found ∙ ap is_some c.in-None.is) ∙ ap (λ o. nodes_or_more c.args.party nodes o) is

@@ -14,4 +14,4 @@ pub returns-in-None : goal.returns-in-None
 returns-in-None c =
     let nodes = c.args.nodes.now.keys in
     let is : None ≡ node_place c.args.party.now nodes = sym c.in-None.is ∙ c.get_index_of.ensures.index ∙ position_from-zero (bytes_eq c.args.party.now) nodes in
-    ap (λ n. n + 1) c.len.ensures.len ∙ ap (λ o. node_or_next (length nodes + 1) o) is
+    ap (λ n. n + 1) c.len-count.ensures.len ∙ ap (λ o. node_or_next (length nodes + 1) o) is
