@@ -59,7 +59,15 @@ fn names_of_parties(rt: HostRuntime) -> Result<(), Fail> {
 fn another_name(rt: HostRuntime) -> Result<(), Fail> {
     let mut seats = Seats::new(rt.alloc());
     add(&mut seats, b"a", b"m", 1)?;
-    let (handle, loan) = (seat(b"a", b"m"), Seat { party: seat(b"a", b"m").party, name: name(b"l") });
+    let party = name(b"a");
+    let handle = Seat {
+        party,
+        name: name(b"m"),
+    };
+    let loan = Seat {
+        party,
+        name: name(b"l"),
+    };
     assert!(rt; number(seats.rename(&handle, &loan)) == 1);
     assert!(rt; number(seats.find(&handle)) == 0 && number(seats.find(&loan)) == 1);
     assert!(rt; number(seats.rename(&handle, &loan)) == 0);

@@ -9,4 +9,4 @@ pub returns : goal.returns
 returns c = λ things kept none.
     let index = subst (λ (x : Seats). IsIndex x things) c.in-Single.is kept in
     pushed (λ s. get same_seat c.in-Single.seats s) things index c.args.thing.now c.args.number none (sym c.contains_key.ensures ∙ c.if-contains_key.false)
-        (λ s. get same_seat c.insert.new.self s) c.in-Ok.ensures.updates.0
+    (λ s. get same_seat c.insert.new.self s) c.in-Ok.ensures.updates.0

@@ -1,4 +1,4 @@
-use Rattle.std.proofs.Common.{Option, Some, None, sym, subst, ◌∙◌}
+use Rattle.std.proofs.Common.{None, sym, subst, ◌∙◌}
 use Rattle.std.specs.HashMap.{get}
 use Rattle.script_seats.specs.declared.seats.Seats.{Seats}
 use Rattle.script_seats.specs.Seats.{IsIndex, same_seat}
