@@ -56,12 +56,12 @@ up_to_last low last (t ∷ ts) h =
     ((rest.1, rest.0), omega (arith, less, rest.1))
 
 -- the core has one thing more, and so have the parties, under this number
-pub record IsMore {C : Type 0} (nodes : List (List ℕ)) (d after : Domain C) (number : ℕ) (x : Held) : Type 0 where
+pub record IsMore {C : Type 0} (nodes : List (List ℕ)) (d after : Domain C) (n : ℕ) (x : Held) : Type 0 where
   pub thing : Thing ℕ ℕ
   pub things : after.tables.things ≡ d.tables.things ++ thing ∷ []
   pub last : after.last_thing ≡ d.last_thing + 1
-  pub number : thing.name ≡ number
-  pub next : number ≡ d.last_thing + 1
+  pub number : thing.name ≡ n
+  pub next : n ≡ d.last_thing + 1
   pub holder : party_at nodes thing.holder ≡ x.holder
   pub board : thing.board ≡ x.board
   pub kind : thing.kind ≡ x.kind
