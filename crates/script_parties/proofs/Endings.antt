@@ -119,8 +119,8 @@ module _ (f : ℕ → List ℕ) (at : ℕ → Option Held) (n : ℕ) where
             let other : nat_eq n t.name ≡ false = grind (arith, nat_tests, less) in
             let fails : p (held_or_none (at t.name)) ≡ false = sym (named_passes p f at t h.0) ∙ least.below t.name less in
             rw (c.0, fails) (
-              ap (λ (o : Option Held). held_or_none o ∷ named_things (put n None at) (without_first (is_thing n) ts)) (put_other at n None t.name other)
-              ∙ ap (λ (ys : List Held). held_or_none (at t.name) ∷ ys) (names_less p t.name last ts u h.1 rising.1 least c.1))
+            ap (λ (o : Option Held). held_or_none o ∷ named_things (put n None at) (without_first (is_thing n) ts)) (put_other at n None t.name other)
+            ∙ ap (λ (ys : List Held). held_or_none (at t.name) ∷ ys) (names_less p t.name last ts u h.1 rising.1 least c.1))
       ]
 
 -- what isn't found among the others wasn't found before
@@ -140,10 +140,10 @@ pub named_less : {C : Type 0} (nodes : List (List ℕ)) (at : ℕ → Option Hel
 named_less {C} nodes at d after n h e =
     let board = (held d n).board in
     let alone : (k : ℕ) → find (is_thing k) (without_first (is_thing n) d.tables.things) ≡ None → put n None at k ≡ None = λ k g.
-        elim (either (nat_eq n k)) [
-          | inl c ↦ (let same : n ≡ k = (Decides-eqb n k).0 c in subst (λ m. put n None at m ≡ None) same (put_here at n None))
-          | inr c ↦ put_other at n None k c ∙ h.alone k (none_before n k d.tables.things c g)
-        ] in
+    elim (either (nat_eq n k)) [
+      | inl c ↦ (let same : n ≡ k = (Decides-eqb n k).0 c in subst (λ m. put n None at m ≡ None) same (put_here at n None))
+      | inr c ↦ put_other at n None k c ∙ h.alone k (none_before n k d.tables.things c g)
+    ] in
     subst (λ a. IsNamed nodes (put n None at) a) (sym e) (record {
       called = called_less (party_at nodes) at n 0 d.last_thing d.tables.things h.rising h.called;
       alone = alone;

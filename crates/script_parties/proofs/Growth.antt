@@ -127,10 +127,10 @@ named_more {C} nodes at d after n x h m =
     let Called : List (Thing ℕ ℕ) → Type 0 = λ ts. AllByRecursion (IsCalled (party_at nodes) (put n (Some x) at)) ts in
     let Alone : List (Thing ℕ ℕ) → Type 0 = λ ts. (k : ℕ) → find (is_thing k) ts ≡ None → put n (Some x) at k ≡ None in
     let alone : Alone (d.tables.things ++ t ∷ []) = λ k e.
-        let both = none_before_last k t d.tables.things e in
-        let apart : (t.name == k) ≡ false = both.1 in
-        let other : nat_eq n k ≡ false = grind (arith, nat_tests, apart, number) in
-        put_other at n (Some x) k other ∙ h.alone k both.0 in
+    let both = none_before_last k t d.tables.things e in
+    let apart : (t.name == k) ≡ false = both.1 in
+    let other : nat_eq n k ≡ false = grind (arith, nat_tests, apart, number) in
+    put_other at n (Some x) k other ∙ h.alone k both.0 in
     record {
       called = subst Called (sym m.things) (all_more (IsCalled (party_at nodes) (put n (Some x) at)) t d.tables.things
           (all_called_still (party_at nodes) at n x d.last_thing d.tables.things above low h.called) (last_called (party_at nodes) at n x t number m.holder m.board m.kind));

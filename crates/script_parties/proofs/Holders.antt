@@ -83,12 +83,12 @@ any_thing test nodes m d h =
     let at : ℕ → Option Held = λ n. get nat_eq m n in
     same_tests (list_any (λ n. holds_at (at n) test) (keys m)) (list_any test (things_of at d))
     (λ e.
-      let n = any_passes (λ n. holds_at (at n) test) (keys m) e in
-      let s = stands_at test nodes at d n.0 h n.1 in
-      any_named test (party_at nodes) at n.0 d.tables.things s.0 h.called s.1 n.1)
+    let n = any_passes (λ n. holds_at (at n) test) (keys m) e in
+    let s = stands_at test nodes at d n.0 h n.1 in
+    any_named test (party_at nodes) at n.0 d.tables.things s.0 h.called s.1 n.1)
     (λ e.
-      let n = any_numbered test (party_at nodes) at d.tables.things h.called e in
-      any_at (λ k. holds_at (at k) test) n.0 (keys m) (all_keys test m n.0 n.1) n.1)
+    let n = any_numbered test (party_at nodes) at d.tables.things h.called e in
+    any_at (λ k. holds_at (at k) test) n.0 (keys m) (all_keys test m n.0 n.1) n.1)
 
 -- ---- in order
 

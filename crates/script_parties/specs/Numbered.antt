@@ -27,7 +27,8 @@ thing_at things (Some n) = things n
 -- the parties with a thing of the board, in the order of their bytes
 pub record AreHolders {S : Type 0} (board : ℕ) (things : HashMap ℕ Held S) (names : List (List ℕ)) : Type 0 where
   pub order : IsStrictlySortedBy (slice_cmp nat_cmp) names
-  pub parties : (p : List ℕ) → list_any (λ q. bytes_eq q p) names ≡ list_any (λ n. holds_at (get nat_eq things n) (is_held_by bytes_eq board p)) (keys things)
+  pub parties : (p : List ℕ) → list_any (λ q. bytes_eq q p) names
+      ≡ list_any (λ n. holds_at (get nat_eq things n) (is_held_by bytes_eq board p)) (keys things)
 
 -- ---- the first thing that passes a test
 

@@ -20,9 +20,11 @@ end_thing-requires g c =
 
 pub invariant_of-self : goal.invariant_of-self
 invariant_of-self g c =
-    let s = c.self.inside in
-    (c.take.ensures.index, subst (λ a. IsNamed s.nodes.keys a c.end_thing.new.core) (sym c.in-Some.ensures.things)
-        (named_less s.nodes.keys (named_at s.names) s.core c.end_thing.new.core c.in-Some.number c.self.invariant.1 c.end_thing.ensures))
+    let s = c.self.inside in (
+      c.take.ensures.index,
+      subst (λ a. IsNamed s.nodes.keys a c.end_thing.new.core) (sym c.in-Some.ensures.things)
+          (named_less s.nodes.keys (named_at s.names) s.core c.end_thing.new.core c.in-Some.number c.self.invariant.1 c.end_thing.ensures),
+    )
 
 pub returns-in-Some : goal.returns-in-Some
 returns-in-Some g c =
