@@ -143,6 +143,13 @@ thing_of_call nodes at given d x n h e stands least =
     let least' = subst (λ (a : ℕ → Option Held). IsLeast (is_held_as x.holder x.name) a n) e least in
     thing_at_number nodes at d x n h (sym (first_thing (is_held_as x.holder x.name) nodes at d (Some n) h least') ∙ stands)
 
+-- nothing was changed but the room that things and nodes have
+pub named_still : {C : Type 0} (nodes given_nodes : List (List ℕ)) (at given : ℕ → Option Held) (d after : Domain C) → IsNamed nodes at d → given_nodes ≡ nodes → given ≡ at → after ≡ d
+    → IsNamed given_nodes given after
+named_still nodes given_nodes at given d after h e f k =
+    subst (λ (ns : List (List ℕ)). IsNamed ns given after) (sym e)
+    (subst (λ (a : ℕ → Option Held). IsNamed nodes a after) (sym f) (subst (λ x. IsNamed nodes at x) (sym k) h))
+
 -- ---- other names
 
 module _ (party old new : List ℕ) (f : ℕ → List ℕ) (at : ℕ → Option Held) where

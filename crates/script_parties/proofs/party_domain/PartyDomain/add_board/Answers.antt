@@ -9,6 +9,7 @@ use Rattle.script_parties.proofs.Asked.{carried}
 use Rattle.script_parties.proofs.BoardNames.{service_name}
 use Rattle.script_parties.proofs.Growth.{named_more, named_with, next_free, things_more}
 use Rattle.script_parties.proofs.Openings.{IsCreated, create_made, create_not_made, factory_of}
+use Rattle.script_parties.proofs.Places.{named_still}
 use Rattle.script_parties.proofs.Ports.{shown}
 use Rattle.script_seats.specs.Seats.{put}
 use Rattle.board_service.specs.Entries.{as_added}
@@ -99,3 +100,18 @@ returns-in-Err-clause-asked g c =
     c.self.view_is (ap (λ a. things_of a c.create_in.new.core) c.reserve-2.ensures.things ∙ ap (things_of at) c.in-Err.ensures.err)
     (create_not_made g.C.Words.list s.nodes.keys at s.core c.create_in.new.core c.args.party c.args.factory c.args.name c.args.key_type c.args.limits c.args.attributes c.args.entries.now
     c.node_for.result c.from_text-name.result c.args.attributes (map as_added c.in_ok-entries.entries.items) c.in-Err.why h o few.boards few.things memory c.in-Err.ensures.answer c.in-Err.ensures.err)
+
+pub invariant_of-self-in_err-reserve-2 : goal.invariant_of-self-in_err-reserve-2
+invariant_of-self-in_err-reserve-2 g c =
+    let s = c.self.inside in
+    (c.reserve-2.ensures.index c.self.invariant.0, named_still s.nodes.keys c.reserve.new.self.keys (named_at s.names) (named_at c.reserve-2.new.self) s.core s.core c.self.invariant.1 c.reserve.ensures.keys c.reserve-2.ensures.things refl)
+
+pub invariant_of-self-in-Err-OutOfMemory : goal.invariant_of-self-in-Err-OutOfMemory
+invariant_of-self-in-Err-OutOfMemory g c =
+    let s = c.self.inside in
+    (c.reserve-2.ensures.index c.self.invariant.0, named_still s.nodes.keys c.reserve.new.self.keys (named_at s.names) (named_at c.reserve-2.new.self) s.core c.create_in.new.core c.self.invariant.1 c.reserve.ensures.keys c.reserve-2.ensures.things c.in-Err-OutOfMemory.ensures.err)
+
+pub invariant_of-self-in-Err : goal.invariant_of-self-in-Err
+invariant_of-self-in-Err g c =
+    let s = c.self.inside in
+    (c.reserve-2.ensures.index c.self.invariant.0, named_still s.nodes.keys c.reserve.new.self.keys (named_at s.names) (named_at c.reserve-2.new.self) s.core c.create_in.new.core c.self.invariant.1 c.reserve.ensures.keys c.reserve-2.ensures.things c.in-Err.ensures.err)

@@ -1,4 +1,4 @@
-use Rattle.std.proofs.Common.{◌≡◌, List, Some, [], ◌∷◌, ◌++◌, sym, ap, ◌∙◌, subst}
+use Rattle.std.proofs.Common.{◌≡◌, List, Some, [], ◌∷◌, ◌++◌, sym, ap, ◌∙◌, subst, refl}
 use Rattle.std.specs.Str.{bytes_eq}
 use Rattle.board_model.specs.declared.answer.Reply.TheVariants as reply
 use Rattle.board_service.specs.Domain.{CanJoin}
@@ -9,6 +9,7 @@ use Rattle.script_parties.proofs.Asked.{carried}
 use Rattle.script_parties.proofs.BoardNames.{service_name}
 use Rattle.script_parties.proofs.Growth.{named_more, named_with, next_free, things_more}
 use Rattle.script_parties.proofs.Openings.{factory_of, node_joins, open_made}
+use Rattle.script_parties.proofs.Places.{named_still}
 use Rattle.script_parties.proofs.Ports.{shown}
 use Rattle.script_seats.specs.Seats.{put}
 use Rattle.script_parties.proofs.party_domain.PartyDomain.add_factory.Goals as goal
@@ -64,3 +65,13 @@ returns-in-Ok-clause-joined g c =
     (shown g.C.Words.list s.core (things_of at s.core)) c.args.self.now (things_of at s.core ++ new ∷ []) (things_of (named_at c.push.new.self) c.open_unrefused.new.self)
     c.self.view_is
     (ap (λ a. things_of a c.open_unrefused.new.self) pushed ∙ things_more all at s.core c.open_unrefused.new.self c.in-Ok.made.thing new (named_with c.args.party s.nodes.keys at s.core h) both.1) both.0
+
+pub invariant_of-self-in_err-reserve-2 : goal.invariant_of-self-in_err-reserve-2
+invariant_of-self-in_err-reserve-2 g c =
+    let s = c.self.inside in
+    (c.reserve-2.ensures.index c.self.invariant.0, named_still s.nodes.keys c.reserve.new.self.keys (named_at s.names) (named_at c.reserve-2.new.self) s.core s.core c.self.invariant.1 c.reserve.ensures.keys c.reserve-2.ensures.things refl)
+
+pub invariant_of-self-in-Err : goal.invariant_of-self-in-Err
+invariant_of-self-in-Err g c =
+    let s = c.self.inside in
+    (c.reserve-2.ensures.index c.self.invariant.0, named_still s.nodes.keys c.reserve.new.self.keys (named_at s.names) (named_at c.reserve-2.new.self) s.core c.open_unrefused.new.self c.self.invariant.1 c.reserve.ensures.keys c.reserve-2.ensures.things c.in-Err.ensures.err)

@@ -14,7 +14,7 @@ use Rattle.script_parties.specs.Parties.{IsFew, IsEntry}
 use Rattle.script_parties.proofs.Asked.{carried, err_of, ok_of}
 use Rattle.script_parties.proofs.Growth.{named_more, next_free, things_more}
 use Rattle.script_parties.proofs.Handles.{entry_made, entry_not_made, held_as}
-use Rattle.script_parties.proofs.Places.{has_number, stands_in, thing_of_call}
+use Rattle.script_parties.proofs.Places.{has_number, named_still, stands_in, thing_of_call}
 use Rattle.script_parties.proofs.Ports.{from, shown}
 use Rattle.script_seats.specs.Seats.{put}
 use Rattle.board_service.specs.Domain.{after_entry, entry_answer, entry_for, held}
@@ -107,3 +107,18 @@ returns-in-Err-clause-asked g c =
     (things_of at s.core) (things_of (named_at c.reserve.new.self) c.entry_in.new.core)
     c.self.view_is (ap (λ a. things_of a c.entry_in.new.core) c.reserve.ensures.things ∙ ap (things_of at) c.in-Err.ensures.err)
     (entry_not_made g.C.Words.list s.nodes.keys at s.core c.entry_in.new.core x n c.args.name (keeps_key c.args.key.now) (value_detail c.args.value_type) c.in-Err.why h i few.things memory answer c.in-Err.ensures.err)
+
+pub invariant_of-self : goal.invariant_of-self
+invariant_of-self g c =
+    let s = c.self.inside in
+    (c.reserve.ensures.index c.self.invariant.0, named_still s.nodes.keys s.nodes.keys (named_at s.names) (named_at c.reserve.new.self) s.core s.core c.self.invariant.1 refl c.reserve.ensures.things refl)
+
+pub invariant_of-self-in-Err-OutOfMemory : goal.invariant_of-self-in-Err-OutOfMemory
+invariant_of-self-in-Err-OutOfMemory g c =
+    let s = c.self.inside in
+    (c.reserve.ensures.index c.self.invariant.0, named_still s.nodes.keys s.nodes.keys (named_at s.names) (named_at c.reserve.new.self) s.core c.entry_in.new.core c.self.invariant.1 refl c.reserve.ensures.things c.in-Err-OutOfMemory.ensures.err)
+
+pub invariant_of-self-in-Err : goal.invariant_of-self-in-Err
+invariant_of-self-in-Err g c =
+    let s = c.self.inside in
+    (c.reserve.ensures.index c.self.invariant.0, named_still s.nodes.keys s.nodes.keys (named_at s.names) (named_at c.reserve.new.self) s.core c.entry_in.new.core c.self.invariant.1 refl c.reserve.ensures.things c.in-Err.ensures.err)

@@ -1,4 +1,4 @@
-use Rattle.std.proofs.Common.{rules, ◌≡◌, ◌≢◌, List, Some, [], ◌∷◌, ◌++◌, sym, ap, ◌∙◌, subst}
+use Rattle.std.proofs.Common.{rules, ◌≡◌, ◌≢◌, List, Some, [], ◌∷◌, ◌++◌, sym, ap, ◌∙◌, subst, refl}
 use Rattle.board_model.specs.declared.answer.Reply.TheVariants as reply
 use Rattle.board_names.specs.declared.errors.boards.WriterCreateError.TheVariants as writer_error
 use Rattle.board_model.specs.declared.tables.Kind.TheVariants as kind
@@ -7,7 +7,7 @@ use Rattle.script_parties.specs.Numbered.{named_at}
 use Rattle.script_parties.specs.Parties.{IsFew, IsWriter}
 use Rattle.script_parties.proofs.Asked.{carried}
 use Rattle.script_parties.proofs.Growth.{named_more, next_free, things_more}
-use Rattle.script_parties.proofs.Places.{has_number, stands_in, thing_of_call}
+use Rattle.script_parties.proofs.Places.{has_number, named_still, stands_in, thing_of_call}
 use Rattle.script_parties.proofs.Ports.{from, writer_made, writer_not_made, shown}
 use Rattle.script_seats.specs.Seats.{put}
 use Rattle.script_parties.proofs.party_domain.PartyDomain.add_writer.Goals as goal
@@ -82,3 +82,18 @@ returns-in-Err-clause-asked g c =
     (things_of at s.core) (things_of (named_at c.reserve.new.self) c.writer.new.self)
     c.self.view_is (ap (λ a. things_of a c.writer.new.self) c.reserve.ensures.things ∙ ap (things_of at) c.in-Err.ensures.err)
     (writer_not_made g.C.Words.list s.nodes.keys at s.core c.writer.new.self x c.number_of-number.result c.args.name c.in-Err.why h i few.ports few.things memory c.in-Err.ensures.answer c.in-Err.ensures.err)
+
+pub invariant_of-self : goal.invariant_of-self
+invariant_of-self g c =
+    let s = c.self.inside in
+    (c.reserve.ensures.index c.self.invariant.0, named_still s.nodes.keys s.nodes.keys (named_at s.names) (named_at c.reserve.new.self) s.core s.core c.self.invariant.1 refl c.reserve.ensures.things refl)
+
+pub invariant_of-self-in-Err-OutOfMemory : goal.invariant_of-self-in-Err-OutOfMemory
+invariant_of-self-in-Err-OutOfMemory g c =
+    let s = c.self.inside in
+    (c.reserve.ensures.index c.self.invariant.0, named_still s.nodes.keys s.nodes.keys (named_at s.names) (named_at c.reserve.new.self) s.core c.writer.new.self c.self.invariant.1 refl c.reserve.ensures.things c.in-Err-OutOfMemory.ensures.err)
+
+pub invariant_of-self-in-Err : goal.invariant_of-self-in-Err
+invariant_of-self-in-Err g c =
+    let s = c.self.inside in
+    (c.reserve.ensures.index c.self.invariant.0, named_still s.nodes.keys s.nodes.keys (named_at s.names) (named_at c.reserve.new.self) s.core c.writer.new.self c.self.invariant.1 refl c.reserve.ensures.things c.in-Err.ensures.err)
