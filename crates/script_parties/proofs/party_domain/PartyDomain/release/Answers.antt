@@ -1,4 +1,4 @@
-use Rattle.std.proofs.Common.{◌≡◌, List, None, sym, ap, subst, ◌∙◌}
+use Rattle.std.proofs.Common.{◌≡◌, List, None, refl, sym, ap, subst, ◌∙◌}
 use Rattle.board_model.specs.Things.{is_held_as}
 use Rattle.script_parties.specs.Named.{IsNamed, things_of}
 use Rattle.script_parties.specs.Numbered.{named_at}
@@ -6,7 +6,7 @@ use Rattle.script_parties.specs.Parties.{IsReleased}
 use Rattle.script_parties.proofs.Asked.{carried}
 use Rattle.script_parties.proofs.Endings.{named_less, released_none, released_one}
 use Rattle.script_parties.proofs.Firsts.{there}
-use Rattle.script_parties.proofs.Places.{first_thing, thing_at_number}
+use Rattle.script_parties.proofs.Places.{first_thing, named_still, thing_at_number}
 use Rattle.script_parties.proofs.Ports.{shown}
 use Rattle.script_seats.specs.Seats.{put}
 use Rattle.script_parties.proofs.party_domain.PartyDomain.release.Goals as goal
@@ -46,3 +46,8 @@ returns-in_default g c =
     carried (λ now xs. IsReleased now (shown g.C.Words.list s.core xs) c.args.party.now c.args.name.now) (shown g.C.Words.list s.core (things_of at s.core)) c.args.self.now
     (things_of at s.core) (things_of (named_at c.take.new.self) s.core)
     c.self.view_is (ap (λ a. things_of a s.core) c.in_default.ensures.same) (released_none (shown g.C.Words.list s.core (things_of at s.core)) c.args.party.now c.args.name.now none)
+
+pub invariant_of-self-in_default : goal.invariant_of-self-in_default
+invariant_of-self-in_default g c =
+    let s = c.self.inside in
+    (c.take.ensures.index, named_still s.nodes.keys s.nodes.keys (named_at s.names) (named_at c.take.new.self) s.core s.core c.self.invariant.1 refl c.in_default.ensures.same refl)
