@@ -1,3 +1,4 @@
 pub mod Queue
+pub mod LockedQueue
 pub mod Channels
 pub mod TypedCalls

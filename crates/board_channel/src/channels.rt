@@ -4,6 +4,7 @@ ghost use Rattle.board_layout.specs.Answer.{Answers, Refuses};
 ghost use Rattle.board_names.specs.Table.{at, putting};
 ghost use Rattle.board_channel.specs.Channels.{size_in, size_of, create_answer, open_answer};
 
+use crate::locked_queue::LockedQueue;
 use crate::queue::Queue;
 use board_names::{
     CommunicationChannelCreateError, CommunicationChannelOpenError, FilePath, NameTable,
@@ -12,24 +13,23 @@ use board_names::{
 use std::alloc::{AllocError, Global};
 use std::collections::BTreeMap;
 use std::marker::Model;
-use std::sync::{Arc, Mutex};
 
 /// A queue that many values share. Clauses see how many numbers it holds, at least one, and whether it overflows; its numbers
 /// stand behind its own lock.
 #[derive(Drop)]
 pub struct SharedQueue {
-    pub(crate) queue: Arc<Mutex<Queue>, Global>,
+    pub(crate) queue: LockedQueue,
     capacity: usize,
-    overflow: bool,
 }
 
 impl Model for SharedQueue {
     ghost use Rattle.std.specs.Prelude.{◌<◌};
     ghost use Rattle.board_channel.specs.Channels.{Size};
+    ghost use Rattle.board_channel.specs.LockedQueue.{overflows};
 
     ghost Value = { Size };
 
-    ghost view = { λ q. record { capacity = q.capacity; overflow = q.overflow } };
+    ghost view = { λ q. record { capacity = q.capacity; overflow = overflows q.queue } };
 
     ghost invariant = { λ q. 0 < q.capacity };
 }
@@ -56,13 +56,8 @@ impl SharedQueue {
         ensures memory { IsOkUnless result CommunicationChannelCreateError.OutOfMemory }
     {
         let capacity = queue.capacity();
-        let overflow = queue.overflows();
-        match Arc::new(alloc, Mutex::new(queue)) {
-            Ok(queue) => Ok(SharedQueue {
-                queue,
-                capacity,
-                overflow,
-            }),
+        match LockedQueue::new(alloc, queue) {
+            Ok(queue) => Ok(SharedQueue { queue, capacity }),
             Err(_) => Err(CommunicationChannelCreateError::OutOfMemory),
         }
     }
@@ -74,11 +69,9 @@ impl SharedQueue {
     pub fn share(&self) -> Result<SharedQueue, AllocError>
         ensures { IfOk result (λ shared. shared ≡ self.now) }
     {
-        let queue = Arc::try_clone(&self.queue)?;
         Ok(SharedQueue {
-            queue,
+            queue: self.queue.share()?,
             capacity: self.capacity,
-            overflow: self.overflow,
         })
     }
 
@@ -94,7 +87,7 @@ impl SharedQueue {
     pub fn overflows(&self) -> bool
         ensures { result ≡ self.now.overflow }
     {
-        self.overflow
+        self.queue.overflows()
     }
 }
 

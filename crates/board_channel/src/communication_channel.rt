@@ -1,7 +1,6 @@
 //! What a channel does: senders add numbers to a queue under a name, and a receiver takes them in their order.
-ghost use Rattle.std.specs.Prelude.{◌≡◌, ℕ, ◌<◌, List, Bool, true, false, codes, max, IfOk, IsOk, IsOkUnless};
-ghost use Rattle.board_names.specs.declared.errors.communication_channel.CommunicationChannelSendError.TheVariants.{ReceiverCacheIsFull};
-ghost use Rattle.board_channel.specs.TypedCalls.{MayCreate, MayOpen};
+ghost use Rattle.std.specs.Prelude.{◌≡◌, ℕ, ◌<◌, List, Bool, true, false, codes, max, IfOk, IsOk};
+ghost use Rattle.board_channel.specs.TypedCalls.{MayCreate, MayOpen, MaySend};
 
 use board_names::{
     CommunicationChannelCreateError, CommunicationChannelOpenError,
@@ -72,7 +71,7 @@ pub trait CommunicationChannelSender: CommunicationChannelParticipant + NamedCon
         rt: &R,
         value: &u64,
     ) -> Result<Option<u64>, CommunicationChannelSendError>
-        ensures { IsOkUnless result ReceiverCacheIsFull };
+        ensures { MaySend (Self.overflows self.now) result };
 
     /// The same as `send`.
     ///
@@ -83,7 +82,7 @@ pub trait CommunicationChannelSender: CommunicationChannelParticipant + NamedCon
         rt: &R,
         value: &u64,
     ) -> Result<Option<u64>, CommunicationChannelSendError>
-        ensures { IsOkUnless result ReceiverCacheIsFull }
+        ensures { MaySend (Self.overflows self.now) result }
     {
         self.send(rt, value)
     }

@@ -127,8 +127,7 @@ impl CommunicationChannelSender for Duplex {
         rt: &R,
         value: &u64,
     ) -> Result<Option<u64>, CommunicationChannelSendError> {
-        let mut state = self.shared.queue.lock(rt);
-        self.send_in(&mut state, value)
+        self.shared.queue.send(rt, self, value)
     }
 }
 
@@ -140,7 +139,6 @@ impl CommunicationChannelReceiver for Duplex {
     }
 
     fn receive<R: Wait>(&self, rt: &R) -> Result<Option<u64>, CommunicationChannelReceiveError> {
-        let mut state = self.shared.queue.lock(rt);
-        self.receive_in(&mut state)
+        self.shared.queue.receive(rt, self)
     }
 }

@@ -13,6 +13,8 @@ pub mod communication_channel;
 mod connector;
 mod creator;
 mod duplex;
+mod kept_queues;
+mod locked_queue;
 mod queue;
 #[cfg(test)]
 mod tests;

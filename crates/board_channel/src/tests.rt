@@ -1,4 +1,6 @@
 //! Channels by the typed calls, of which their clauses say little, and once by the lent forms.
+ghost use Rattle.std.specs.Prelude.{IsTrue};
+
 use crate::{
     Channel, ChannelRegistry, Channels, CommunicationChannel, CommunicationChannelConnector,
     CommunicationChannelCreator, CommunicationChannelParticipant, CommunicationChannelReceiver,
@@ -59,15 +61,23 @@ fn overflows<R: Wait + Abort>(
     assert!(rt; sender.does_enable_safe_overflow());
     fills(rt, &sender);
     assert_eq!(rt; sender.send(rt, &3), Ok(Some(1)));
+    assert!(rt; is_taken(rt, &sender, 4));
     // Both ends go on without the name.
     receiver.release(rt);
-    assert_eq!(rt; sender.receive(rt), Ok(Some(2)));
+    assert_eq!(rt; sender.receive(rt), Ok(Some(3)));
     let late = connector(b"d", registry)?.open_sender(rt);
     assert_eq!(rt;
         late.err(),
         Some(CommunicationChannelOpenError::DoesNotExist)
     );
     Ok(())
+}
+
+// A caller's proof over the trait alone: a channel that overflows takes each number.
+fn is_taken<R: Wait, S: CommunicationChannelSender>(rt: &R, sender: &S, value: u64) -> bool
+    ensures { IsTrue (S.overflows sender.now) → IsTrue result }
+{
+    sender.send(rt, &value).is_ok()
 }
 
 fn is_made_once<R: Wait + Abort>(

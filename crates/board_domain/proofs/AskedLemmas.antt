@@ -76,7 +76,7 @@ same_variant_is FixedSize Dynamic e = absurd cc
 same_variant_is Dynamic FixedSize e = absurd cc
 same_variant_is Dynamic Dynamic e = refl
 
-both_hold : (a b : Bool) → (a && b) ≡ true → (a ≡ true) × (b ≡ true)
+pub both_hold : (a b : Bool) → (a && b) ≡ true → (a ≡ true) × (b ≡ true)
 both_hold true b e = (refl, e)
 both_hold false b e = absurd cc
 
@@ -91,7 +91,7 @@ no_less : (asked : Option ℕ) (limit : ℕ) → asks_above asked limit ≡ fals
 no_less None limit e = tt
 no_less (Some n) limit e = not_above n limit e
 
-type_is : (a b : TypeDetail) → same_type a b ≡ true → a ≡ b
+pub type_is : (a b : TypeDetail) → same_type a b ≡ true → a ≡ b
 type_is a b e =
     let aligned = both_hold (same_variant a.variant b.variant && bytes_eq a.type_name b.type_name && (a.size == b.size)) (a.alignment == b.alignment) e in
     let sized = both_hold (same_variant a.variant b.variant && bytes_eq a.type_name b.type_name) (a.size == b.size) aligned.0 in

@@ -1,5 +1,6 @@
 pub mod EntryLemmas
 pub mod AskedLemmas
+pub mod HeldLemmas
 pub mod KeptLemmas
 pub mod SomewhereLemmas
 pub mod WalkLemmas

@@ -15,4 +15,4 @@ pub created_somewhere : (old new : Core) (same_key : List ℕ → List ℕ → B
     → Answers (with_value kept_made (Ok k)) create_error.OutOfMemory (create_answer old same_key b.name b.entries)
     → Refuses (with_value kept_made (Ok k)) (create_answer old same_key b.name b.entries)
     → lent.IsMade b old new → KeepsBoard new k → lent.CreatesSomewhere (Ok (factory_of k name)) same_key b
-created_somewhere old new same_key b k name facts answer refused made kept = (old, new, facts, answer, refused, made, kept)
+created_somewhere old new same_key b k name facts answer refused made kept = (old, facts, answer, refused, (new, made, kept))

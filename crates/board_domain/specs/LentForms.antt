@@ -1,5 +1,5 @@
 -- What the lent forms of creators, openers and factories answer over a domain's tables, and how they leave them.
-use Rattle.std.specs.Prelude.{◌≡◌, ℕ, ◌&&◌, nat_le, Bool, if◌then◌else◌, List, [], Option, Some, None, option_map, Result, Ok, Err, IfOk}
+use Rattle.std.specs.Prelude.{◌≡◌, ℕ, Bool, if◌then◌else◌, List, [], Option, Some, None, option_map, Result, IfOk}
 use Rattle.board_layout.specs.Answer.{Answers, Refuses, with_value}
 use Rattle.board_layout.specs.declared.type_detail.TypeDetail.{TypeDetail}
 use Rattle.board_model.specs.declared.attributes.Attribute.{Attribute}
@@ -49,18 +49,17 @@ IsMade b old new =
     (cells : List PlaceSeen) × AreNew b.entries cells
     × (new ≡ after_create old b.node b.name b.keys b.limits b.attributes b.entries cells)
 
--- the tables after a `create`: where it is refused, or wants memory, they are as they were
-abbrev pub LeavesMade : {A E : Type 0} → Result A E → NewBoard → Core → Core → Type 0
-LeavesMade (Ok x) b old new = IsMade b old new
-LeavesMade (Err e) b old new = new ≡ old
+-- the factory tells what is fixed of the board that such a `create` makes
+abbrev pub TellsMade : NewBoard → Core → FactorySeen → Type 0
+TellsMade b old f = (new : Core) × IsMade b old new × KeepsBoard new f
 
--- a typed `create` was made over the tables of some domain, of which nothing more is known, and left them in some way
+-- a typed `create` gives what one over the tables of some domain gives, of which nothing more is known; what it leaves there isn't said
 abbrev pub CreatesSomewhere : Result FactorySeen BlackboardCreateError → (List ℕ → List ℕ → Bool) → NewBoard → Type 0
 CreatesSomewhere result same_key b =
-    (old : Core) × (new : Core) × IsDomain old
+    (old : Core) × IsDomain old
     × Answers (with_value factory_made result) create_error.OutOfMemory (calls.create_answer old same_key b.name b.entries)
     × Refuses (with_value factory_made result) (calls.create_answer old same_key b.name b.entries)
-    × LeavesMade result b old new × IfOk result (KeepsBoard new)
+    × IfOk result (TellsMade b old)
 
 -- ---- open
 
@@ -68,18 +67,17 @@ CreatesSomewhere result same_key b =
 abbrev pub open_answer : Core → TypeDetail → OpenerSeen → Requirements → Result Made BlackboardOpenError
 open_answer d keys o needs = calls.open_answer d o.node o.name keys o.limits needs
 
--- the tables after an `open`: where it is refused, or wants memory, they are as they were
-abbrev pub LeavesOpened : {A E : Type 0} → Result A E → ℕ → List ℕ → Core → Core → Type 0
-LeavesOpened (Ok x) node name old new = new ≡ after_open old node name
-LeavesOpened (Err e) node name old new = new ≡ old
+-- the factory tells what is fixed of the board that such an `open` finds
+abbrev pub TellsOpened : ℕ → List ℕ → Core → FactorySeen → Type 0
+TellsOpened node name old f = (new : Core) × (new ≡ after_open old node name) × KeepsBoard new f
 
--- a typed `open` was made over the tables of some domain, of which nothing more is known, and left them in some way
+-- a typed `open` gives what one over the tables of some domain gives, of which nothing more is known; what it leaves there isn't said
 abbrev pub OpensSomewhere : Result FactorySeen BlackboardOpenError → OpenerSeen → TypeDetail → Requirements → Type 0
 OpensSomewhere result o keys needs =
-    (old : Core) × (new : Core) × IsDomain old
+    (old : Core) × IsDomain old
     × Answers (with_value factory_made result) open_error.OutOfMemory (open_answer old keys o needs)
     × Refuses (with_value factory_made result) (open_answer old keys o needs)
-    × LeavesOpened result o.node o.name old new × IfOk result (KeepsBoard new)
+    × IfOk result (TellsOpened o.node o.name old)
 
 -- ---- what is told of a board
 
@@ -102,7 +100,7 @@ abbrev pub nodes_of : Core → TypeDetail → ℕ → List ℕ
 nodes_of d keys factory =
     if stands_as d keys factory Factory then nodes_in d.tables.things (board_at d.tables (held d factory).board) else []
 
--- the keys of the board of a factory, and none where that isn't held; keys have at most 64 bytes
+-- the keys of the board of a factory, and none where that isn't held
 abbrev pub keys_of : {K : Type 0} → (Entry → K) → Core → TypeDetail → ℕ → List K
 keys_of of d keys factory =
-    if stands_as d keys factory Factory && nat_le keys.size 64 then keys_in of (board_at d.tables (held d factory).board) else []
+    if stands_as d keys factory Factory then keys_in of (board_at d.tables (held d factory).board) else []

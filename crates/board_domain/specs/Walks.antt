@@ -15,7 +15,7 @@ abbrev pub WalksTo : {F A : Type 0} → (F → A → CallbackProgression → F �
 WalksTo called f [] last = last ≡ f
 WalksTo {F} called f (x ∷ xs) last = called f x Stop last ⊎ ((g : F) × called f x Continue g × WalksTo called g xs last)
 
--- the same, whatever that leaves
+-- there is such a walk, whatever it leaves; of a callback that is gone it isn't said that it was called no more
 abbrev pub Walks : {F A : Type 0} → (F → A → CallbackProgression → F → Type 0) → F → List A → Type 0
 Walks called f [] = Unit {0}
 Walks {F} called f (x ∷ xs) = (g : F) × (called f x Stop g ⊎ (called f x Continue g × Walks called g xs))

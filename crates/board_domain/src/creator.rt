@@ -1,12 +1,13 @@
 //! What makes a board.
 ghost use Rattle.std.specs.Prelude.{◌≡◌, ◌≤◌, ◌<◌, ◌↔◌, [], Some, length, IfOk, IsErrOf, OnOk, OnErr};
+ghost use Rattle.std.specs.List.{AllByRecursion};
 ghost use Rattle.board_layout.specs.Answer.{Answers, Refuses, with_value};
 ghost use Rattle.board_layout.specs.Bytes.{details};
 ghost use Rattle.board_layout.specs.Keys.{same_keys};
 ghost use Rattle.board_service.specs.Domain as calls;
 ghost use Rattle.board_domain.specs.Asked.{config_asked};
 ghost use Rattle.board_domain.specs.LentForms as lent;
-ghost use Rattle.board_service.specs.Entries.{IsEntryOf};
+ghost use Rattle.board_service.specs.Entries.{IsEntryOf, TakesItsWords};
 ghost use Rattle.board_domain.specs.Services.{AddsEntry, new_creator, allowing_readers, allowing_nodes, allowing_writers, factory_made};
 ghost use Rattle.board_domain.specs.Factories.{KeepsBoard};
 
@@ -38,9 +39,10 @@ pub struct Creator<K: BoardKey, P> {
 
 impl<K: BoardKey, P> Model for Creator<K, P> {
     ghost use Rattle.std.specs.Prelude.{◌≤◌, ◌<◌, length, map, All};
+    ghost use Rattle.std.specs.List.{AllByRecursion};
     ghost use Rattle.board_layout.specs.Layout.{IsShape};
     ghost use Rattle.board_model.specs.Tables.{shapes_of};
-    ghost use Rattle.board_service.specs.Entries.{as_added};
+    ghost use Rattle.board_service.specs.Entries.{TakesItsWords, as_added};
     ghost use Rattle.board_domain.specs.Services.{CreatorSeen};
 
     ghost Value = { CreatorSeen };
@@ -53,7 +55,8 @@ impl<K: BoardKey, P> Model for Creator<K, P> {
     } };
 
     ghost invariant = { λ s. All IsShape (shapes_of (map as_added s.entries.items))
-        × (0 < length s.entries.items → K.SIZE ≤ 64) };
+        × (0 < length s.entries.items → K.SIZE ≤ 64)
+        × AllByRecursion TakesItsWords (map as_added s.entries.items) };
 }
 
 impl<K: BoardKey, P> Creator<K, P> {
@@ -118,6 +121,7 @@ impl<K: BoardKey, P> Creator<K, P> {
         ensures ok { let values = details V.type_bytes V.SIZE V.ALIGNMENT in
             let is_it = IsEntryOf K.value_of K.SIZE K.WORDS key (K.words_of key) values in
             IfOk result (λ more. AddsEntry self more (is_it (V.words_of value))) }
+        ensures width { IfOk result (λ more. AllByRecursion TakesItsWords more.entries) }
     {
         let added = match NewEntry::of(self.alloc, &key, &value) {
             Ok(added) => added,
@@ -143,6 +147,7 @@ impl<K: BoardKey, P> Creator<K, P> {
             let is_it = IsEntryOf K.value_of K.SIZE K.WORDS key (K.words_of key) values in
             let words = V.words_of in
             IfOk result (λ more. (v : V) × V.is_default v × AddsEntry self more (is_it (words v))) }
+        ensures width { IfOk result (λ more. AllByRecursion TakesItsWords more.entries) }
     {
         self.add(key, V::default())
     }
@@ -172,6 +177,7 @@ impl<K: BoardKey, P> Creator<K, P> {
             let config = config_asked keys self.limits (length self.entries) in
             IfOk result (λ f. f.config ≡ config) }
         ensures attributes { IfOk result (λ f. f.attributes ≡ attributes) }
+        ensures width { AllByRecursion TakesItsWords self.entries }
         ensures nodes { state.new.nodes ≡ state.old.nodes }
     {
         let Creator {
@@ -213,6 +219,7 @@ impl<K: BoardKey, P> Creator<K, P> {
             let config = config_asked keys self.limits (length self.entries) in
             IfOk result (λ f. f.config ≡ config) }
         ensures attributes { IfOk result (λ f. f.attributes ≡ []) }
+        ensures width { AllByRecursion TakesItsWords self.entries }
         ensures nodes { state.new.nodes ≡ state.old.nodes }
     {
         let none = AttributeSpecifier::new(self.alloc);
@@ -236,6 +243,7 @@ impl<K: BoardKey, P> Creator<K, P> {
             let config = config_asked keys self.limits (length self.entries) in
             IfOk result (λ f. f.config ≡ config) }
         ensures attributes { IfOk result (λ f. f.attributes ≡ attributes) }
+        ensures width { AllByRecursion TakesItsWords self.entries }
     {
         let Creator {
             node,
@@ -270,6 +278,7 @@ impl<K: BoardKey, P> Creator<K, P> {
             let config = config_asked keys self.limits (length self.entries) in
             IfOk result (λ f. f.config ≡ config) }
         ensures attributes { IfOk result (λ f. f.attributes ≡ []) }
+        ensures width { AllByRecursion TakesItsWords self.entries }
     {
         let none = AttributeSpecifier::new(self.alloc);
         self.create_with_attributes(rt, none)

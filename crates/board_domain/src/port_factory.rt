@@ -228,9 +228,11 @@ impl<K: BoardKey, P> PortFactory<K, P> {
             WalksTo (CalledAt F.FnMut) callback.old keys callback.new }
     {
         let factory = self.made.thing;
-        if !state.tables.is_held::<K>(factory, ThingKind::Factory) || K::SIZE > 64 {
+        if !state.tables.is_held::<K>(factory, ThingKind::Factory) {
             return;
         }
+        // The keys of a board take no more than 64 bytes.
+        state.tables.facts();
         let board = state.tables.board_of(factory);
         if let Some(entries) = state.tables.entries_of(board) {
             visit_keys::<K, F>(entries, callback);

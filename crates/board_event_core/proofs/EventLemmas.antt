@@ -1,5 +1,5 @@
 -- What a call on an event leaves of its ids, and of those who hold it.
-use Rattle.std.specs.Prelude.{◌≡◌, ◌≤◌, ◌<◌, ◌+◌, ◌-◌, ◌*◌, ◌/◌, ◌^◌, ℕ, Bool, true, false, not, List, [], ◌∷◌, ◌++◌, if◌then◌else◌, ◌||◌, nat_lt, length, drop, refl}
+use Rattle.std.specs.Prelude.{◌≡◌, ◌≤◌, ◌<◌, ◌+◌, ◌-◌, ◌^◌, ℕ, Bool, true, false, not, List, [], ◌∷◌, ◌++◌, if◌then◌else◌, ◌||◌, nat_lt, length, drop, refl}
 use Rattle.std.proofs.Common.{arith, inl, inr, length-append, length-drop}
 use Rattle.std.specs.FinSet as set
 use Rattle.board_event_model.specs.declared.kind.EventKind.{EventKind}

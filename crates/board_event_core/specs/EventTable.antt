@@ -1,14 +1,13 @@
 -- The table of events: what stands under a number and a name, and what the calls on it answer and leave.
-use Rattle.std.specs.Prelude.{◌≡◌, ◌≢◌, ◌≤◌, ◌<◌, IfSome, IsSome, IsSomeAnd, ℕ, ◌+◌, ◌-◌, ◌*◌, ◌/◌, ◌^◌, Bool, true, false, ◌||◌, ◌==◌, not, nat_lt, if◌then◌else◌, List, [], length, Option, Some, None, Result, Ok, Err, refl}
+use Rattle.std.specs.Prelude.{◌≡◌, ◌≢◌, ◌≤◌, ◌<◌, IfSome, IsSome, IsSomeAnd, ℕ, ◌+◌, ◌-◌, ◌^◌, true, false, ◌==◌, not, nat_lt, if◌then◌else◌, List, [], length, Option, Some, None, Result, Ok, Err, refl}
 use Rattle.std.specs.Coded.{Coded, code_by, coded×, coded_ℕ, coded_list}
 use Rattle.std.specs.Ordering.{nat_cmp}
-use Rattle.std.specs.Cmp.Lexicographic.{slice_cmp}
 use Rattle.std.specs.FinSet as set
 use Rattle.std.specs.List.{All}
 use Rattle.std.specs.List.Sorted.{IsStrictlySortedBy}
 use Rattle.std.specs.Map.{keys_of, lookup, remove_entry, set_value, values_of}
 use Rattle.std.specs.BTreeMap.{insert_entry, is_at}
-use Rattle.board_names.specs.Table.{at, putting, without}
+use Rattle.board_names.specs.Table.{NamesAscend, at, putting, without}
 use Rattle.board_names.specs.declared.errors.event.ListenerCreateError.{ListenerCreateError}
 use Rattle.board_names.specs.declared.errors.event.ListenerCreateError.TheVariants as listener_error
 use Rattle.board_names.specs.declared.errors.event.NotifierCreateError.{NotifierCreateError}
@@ -129,10 +128,6 @@ pub record IsEvent (e : Event) : Type 0 where
 pub record IsAttended (e : Event) : Type 0 where
   pub holder : has_holder e ≡ true
   pub counted : e.notifiers ≤ 2 ^ 64 - 2
-
--- the names ascend, so each stands once
-abbrev pub NamesAscend : List (List ℕ × ℕ) → Type 0
-NamesAscend names = IsStrictlySortedBy (slice_cmp nat_cmp) (keys_of names)
 
 -- what each call keeps: a held name has the number of an event that stands and holds it, no event has a number above the
 -- last one drawn, the ids of each event are as they may be, and somebody holds each event

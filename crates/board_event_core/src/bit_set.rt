@@ -84,7 +84,7 @@ impl BitSet {
         self.words[word as usize]
     }
 
-    /// The first word that has ids, from this one on, and else the last.
+    /// A word from this one on, where no word before it has ids. (It is the first that has some, or the last.)
     pub fn next_word(&self, word: u64) -> u64
         requires { word < self.now.max / 64 + 1 }
         ensures behind { word ≤ result }

@@ -192,7 +192,7 @@ impl EventMemory {
         }
     }
 
-    /// The first word that has ids, from this one on, and else the last.
+    /// A word from this one on, where no word before it has ids.
     pub fn next_word(&self, word: u64) -> u64
         requires { CanPerform self.now (EventAccess.Scan word) }
         ensures behind { word ≤ result }

@@ -1,12 +1,12 @@
 //! The rows of the table of events: the events by their numbers, and the held names.
 ghost use Rattle.std.specs.Prelude.{◌≡◌, ◌≢◌, ℕ, List, ◌<◌, ◌+◌, ◌-◌, ◌^◌, true, false, is_some, option_copied, IfSome, IsSome, IsSomeAnd, Some, None};
-ghost use Rattle.board_names.specs.Table.{at, without};
+ghost use Rattle.board_names.specs.Table.{NamesAscend, at, without};
 ghost use Rattle.std.specs.List.Sorted.{IsStrictlySortedBy};
 ghost use Rattle.std.specs.Map.{keys_of};
 ghost use Rattle.std.specs.Ordering.{nat_cmp};
 ghost use Rattle.board_event_model.specs.declared.kind.EventKind.{EventKind as Kind};
 ghost use Rattle.board_event_model.specs.EventMemory.{Event, IsRight, after};
-ghost use Rattle.board_event_core.specs.EventTable.{AreLeft, CanPerformAt, DropsEvent, LosesName, NamesAreLeft, NamesAscend, SettlesName, changed, event_at, freed, table_listened, names_of, empty_table, settled, with_gone, with_name, with_name_freed, with_new_event, with_notifier, without_event, without_listener, without_name, without_notifier};
+ghost use Rattle.board_event_core.specs.EventTable.{AreLeft, CanPerformAt, DropsEvent, LosesName, NamesAreLeft, SettlesName, changed, event_at, freed, table_listened, names_of, empty_table, settled, with_gone, with_name, with_name_freed, with_new_event, with_notifier, without_event, without_listener, without_name, without_notifier};
 
 use crate::event_memory::EventMemory;
 use board_event_model::{EventAccess, EventAnswer, EventKind};

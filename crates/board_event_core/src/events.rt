@@ -1,7 +1,7 @@
 //! Events by their numbers and names.
 ghost use Rattle.std.specs.Prelude.{◌≡◌, ◌≤◌, ◌<◌, ◌^◌, ◌↔◌, ℕ, true, is_some, IfOk, IfSome, IsSome, IsSomeAnd, IsTrue, None, OnOk, OnErr, Some};
 ghost use Rattle.board_layout.specs.Answer.{Answers, Refuses};
-ghost use Rattle.board_names.specs.Table.{at, name_at};
+ghost use Rattle.board_names.specs.Table.{NamesAscend, at, name_at};
 ghost use Rattle.board_names.specs.declared.errors.event.ListenerCreateError.TheVariants.{OutOfMemory};
 ghost use Rattle.board_event_model.specs.EventMemory.{Event, IsRight, after, new_event};
 ghost use Rattle.board_event_core.specs.Passing.{NoneBetween, ids_at};
@@ -94,15 +94,19 @@ impl Events {
 
     /// The held names of this kind, in their order, each with the number of its event.
     pub fn names(&self, kind: EventKind) -> &Table<u64>
-        ensures { result.now.entries ≡ names_of kind self.now }
+        ensures entries { result.now.entries ≡ names_of kind self.now }
+        ensures ascend { NamesAscend (names_of kind self.now) }
     {
+        table_stands(self);
         self.rows.names(kind)
     }
 
     /// The held name of this kind at an index, counted from 0 in the order of the names.
     pub fn name_at(&self, kind: EventKind, index: usize) -> Option<FilePath>
-        ensures { result ≡ name_at (names_of kind self.now) index }
+        ensures value { result ≡ name_at (names_of kind self.now) index }
+        ensures ascend { NamesAscend (names_of kind self.now) }
     {
+        table_stands(self);
         self.rows.names(kind).keys().nth(index).copied()
     }
 
@@ -202,7 +206,7 @@ impl Events {
         }
     }
 
-    /// The first word of an event that has ids, from this one on, and else the last.
+    /// A word of an event from this one on, where no word before it has ids. So a wait that looks at this one may look there.
     pub fn next_word(&self, event: u64, word: u64) -> u64
         requires { CanPerformAt self.now event (EventAccess.Scan word) }
         ensures behind { word ≤ result }

@@ -54,7 +54,8 @@ pub fn wait_step(events: &mut Events, event: u64, call: &mut WaitCall) -> EventS
     }
 }
 
-/// Leaves out the looks that a wait owes at words without ids, up to a word that has some, or to the last: it goes on as it would with the answers to them.
+/// May leave out looks that a wait owes at words without ids: it goes on as it would with the answers to them. How many is
+/// a matter of speed alone.
 pub fn pass_empty_words(events: &Events, event: u64, call: &mut WaitCall)
     ensures passes { PassesOver (ids_at (event_at events.now event)) call.old call.new }
     ensures on { call.old.stage ≢ WaitStage.Finished → call.new.stage ≢ WaitStage.Finished }

@@ -10,7 +10,7 @@ use std::marker::{Model, PhantomData};
 
 /// A write handle that is out as a loan: its next value is written word by word, and then published or discarded.
 ///
-/// Clauses see the handle, and for each word of the value what was written there in this loan. None of its calls but `release` takes memory or waits.
+/// Clauses see the handle, and for each word of the value what was written there in this loan. None of its calls takes memory, and none but `release` waits.
 #[derive(Drop)]
 pub struct EntryValueUninit<K, V: ZeroCopySend, P> {
     writing: Writing<V>,

@@ -17,7 +17,7 @@ use std::marker::{Model, PhantomData};
 
 /// The write handle of an entry whose values are `V`s.
 ///
-/// Clauses see the thing and the entry that the tables told, and the write end of the entry's cell. None of its calls but `sent_receipt` and `release` takes memory, and none but `release` waits.
+/// Clauses see the thing and the entry that the tables told, and the write end of the entry's cell. None of its calls but `sent_receipt` takes memory, and none but `release` waits.
 #[derive(Drop)]
 pub struct EntryHandleMut<K, V: ZeroCopySend, P> {
     writing: Writing<V>,

@@ -127,6 +127,9 @@ fn a_name_is_taken_when_lent(rt: HostRuntime) -> Result<(), Fail> {
     token.abandon_in(&mut state);
     names(&registry)?
         .cleaner_in(&mut state)?
+        .relinquish_in(&mut state);
+    names(&registry)?
+        .cleaner_in(&mut state)?
         .release_in(&mut state);
     assert_eq!(rt; state.name_at(0), None);
     Ok(())

@@ -8,13 +8,13 @@ use Rattle.board_layout.specs.Words.{IsWordCount}
 use Rattle.board_model.specs.declared.tables.Board.{Board}
 use Rattle.board_model.specs.Tables.{Added, board_at, entries_of, is_numbered, is_write_handle, new_board, shapes_of}
 use Rattle.board_service.specs.Domain.{after_create, cells_of}
+use Rattle.board_service.specs.Entries.{TakesItsWords}
 use Rattle.board_service.specs.Facts.{IsDomain}
 use Rattle.board_service.proofs.DrawnLemmas.{there}
 use Rattle.board_cells.specs.Cells.{PlaceSeen, AreNew, cell_at, parked_at}
 use Rattle.board_handles.specs.BoardEnds.{Core}
 use Rattle.board_domain.specs.LentForms as lent
 use Rattle.board_typed.specs.Order.{AreInOrder, FitsEntry, IsInOrder, IsOwn, is_written}
-use Rattle.board_typed.specs.Laws.{TakesItsWords}
 use Rattle.board_typed.proofs.Beside.{beside-push, is_beside, none_before}
 use Rattle.board_typed.proofs.Changed.{cells_beside, none_order, order_as, order_more}
 

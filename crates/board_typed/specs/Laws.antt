@@ -1,5 +1,5 @@
 -- The laws of a domain that is reached by typed calls alone.
-use Rattle.std.specs.Prelude.{◌≡◌, ◌≢◌, ◌≤◌, ℕ, true, List, length, find, Some, Ok, Err}
+use Rattle.std.specs.Prelude.{◌≡◌, ◌≢◌, ◌≤◌, ℕ, true, List, find, Some, Ok, Err}
 use Rattle.std.specs.List.{AllByRecursion}
 use Rattle.board_layout.specs.declared.type_detail.TypeDetail.{TypeDetail}
 use Rattle.board_layout.specs.Words.{IsWordCount}
@@ -7,11 +7,12 @@ use Rattle.board_cell.specs.Passes.{CellSeen}
 use Rattle.board_model.specs.declared.tables.Thing.{Thing}
 use Rattle.board_model.specs.declared.tables.ThingKind.{ThingKind}
 use Rattle.board_model.specs.declared.tables.ThingKind.TheVariants.{Reader, Writer, WriteHandle}
-use Rattle.board_model.specs.Tables.{Added, board_at}
+use Rattle.board_model.specs.Tables.{board_at}
 use Rattle.board_names.specs.declared.errors.boards.EntryHandleError.TheVariants as entry_error
 use Rattle.board_names.specs.declared.errors.boards.EntryHandleMutError.TheVariants as entry_mut_error
 use Rattle.board_service.specs.declared.made.Found.{Found}
 use Rattle.board_service.specs.Domain.{Stands, after_open, after_reader, after_writer, empty, held, is_thing, stands_as}
+use Rattle.board_service.specs.Entries.{TakesItsWords}
 use Rattle.board_service.specs.Facts.{IsDomain, handle_entry}
 use Rattle.board_cells.specs.Cells.{EndSeen}
 use Rattle.board_handles.specs.BoardEnds.{Core, cell_of}
@@ -19,10 +20,6 @@ use Rattle.board_handles.specs.Handles.{WriteSeen}
 use Rattle.board_handles.specs.LentForms.{Asked, given_up, read_answer, with_read, with_write_taken, without_thing, write_answer, write_given_up}
 use Rattle.board_domain.specs.LentForms.{IsMade, NewBoard}
 use Rattle.board_typed.specs.Order.{IsInOrder}
-
--- an added entry's first value has as many words as its type takes, as each that `add` adds
-abbrev pub TakesItsWords : Added → Type 0
-TakesItsWords a = IsWordCount a.value.size (length a.words)
 
 -- a write handle is of the entry of its thing, and has that entry's cell
 pub record IsWhole (d : Core) (h : WriteSeen) : Type 0 where

@@ -11,13 +11,13 @@ use Rattle.board_names.specs.declared.errors.boards.EntryHandleError.TheVariants
 use Rattle.board_names.specs.declared.errors.boards.EntryHandleMutError.TheVariants as entry_mut_error
 use Rattle.board_service.specs.declared.made.Found.{Found}
 use Rattle.board_service.specs.Domain.{after_open, after_reader, after_writer, empty, held, stands_as}
+use Rattle.board_service.specs.Entries.{TakesItsWords}
 use Rattle.board_service.specs.Facts.{IsDomain, IsHeldAs, IsHeldBeside, handle_entry}
 use Rattle.board_cells.specs.Cells.{EndSeen}
 use Rattle.board_handles.specs.BoardEnds.{Core, cell_of}
 use Rattle.board_handles.specs.Handles.{WriteSeen}
 use Rattle.board_handles.specs.LentForms.{Asked, given_up, read_answer, with_read, with_write_taken, without_thing, write_answer, write_given_up}
 use Rattle.board_domain.specs.LentForms.{IsMade, NewBoard}
-use Rattle.board_typed.specs.Laws.{TakesItsWords}
 
 -- a typed value that was not given back: its thing, what kind that is of, the type of its board's keys, and of a handle its entry and cell
 pub record Value : Type 0 where

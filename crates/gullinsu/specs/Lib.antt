@@ -48,6 +48,9 @@ pub use Rattle.board_domain.specs.LentForms as BoardForms
 pub use Rattle.board_domain.specs.ServiceHash
 pub use Rattle.board_domain.specs.Services
 pub use Rattle.board_domain.specs.Walks
+pub use Rattle.board_typed.specs.Laws as LawsOfCalls
+pub use Rattle.board_typed.specs.Order
+pub use Rattle.board_typed.specs.Runs as RunsOfCalls
 -- events
 pub use Rattle.board_event_model.specs.EventMemory
 pub use Rattle.board_event_model.specs.Ids

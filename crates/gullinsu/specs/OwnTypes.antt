@@ -16,10 +16,12 @@ whole_words words size count sized counted small = record {
       rw (none, zero-div (2 ^ (8 * (i % 8)))) refl;
 }
 
-none_small : All (λ word. word < 2 ^ 64) []
+-- no words are words of 64 bits
+pub none_small : All (λ word. word < 2 ^ 64) []
 none_small i d lt = absurd (omega (arith, lt))
 
-one_more : (x : ℕ) (xs : List ℕ) → x < 2 ^ 64 → All (λ word. word < 2 ^ 64) xs → All (λ word. word < 2 ^ 64) (x ∷ xs)
+-- so are one word and such words
+pub one_more : (x : ℕ) (xs : List ℕ) → x < 2 ^ 64 → All (λ word. word < 2 ^ 64) xs → All (λ word. word < 2 ^ 64) (x ∷ xs)
 one_more x xs small rest zero d lt = small
 one_more x xs small rest (suc i) d lt = rest i d (omega (arith, lt))
 

@@ -123,8 +123,9 @@ pub mod service {
             pub use board_layout::{TypeDetail, TypeVariant};
         }
 
-        /// The type of its keys, its limits, and how many entries it has.
+        /// The type of its keys, its limits, and its entries.
         pub mod blackboard {
+            pub use board_model::Entry;
             pub use board_service::StaticConfig;
         }
     }
@@ -154,6 +155,15 @@ pub mod event {
         Configuration, FileName, NamedConcept, NamedConceptBuilder, NamedConceptConfiguration,
         NamedConceptDoesExistError, NamedConceptListError, NamedConceptMgmt,
         NamedConceptRemoveError, Path, RegistryError, SemanticStringError,
+    };
+}
+
+/// Laws of typed ports: a call of one does nothing, and its contract is a theorem over what the lent forms say.
+pub mod laws {
+    pub use board_domain::nodes_are_told;
+    pub use board_typed::{
+        calls_keep_order, calls_keep_others, handles_share_the_cell, keys_are_short,
+        ports_are_known, typed_calls_alone,
     };
 }
 

@@ -1,5 +1,6 @@
 //! Values of a type of one's own, by the front alone.
 mod motion;
+mod position;
 mod shapes;
 
 use crate::port::reader::EntryHandle;

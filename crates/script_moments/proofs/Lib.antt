@@ -16,3 +16,9 @@ pub mod WaitLemmas
 pub mod TakeLemmas
 pub mod ToldLemmas
 pub mod KeptEntryLemmas
+pub mod EventPairLemmas
+pub mod EventKindLemmas
+pub mod PendingLemmas
+pub mod BegunLemmas
+pub mod NotifiedTakeLemmas
+pub mod WorkedTake

@@ -10,6 +10,8 @@ pub mod LawsOfReports
 pub mod Watchers
 pub mod LawsOfWatchers
 pub mod WatcherLines
+pub mod LawsOfTakes
 pub mod LawsOfTurns
 pub mod LawsOfWaits
+pub mod WorkedTakes
 pub mod WorkedWatchers

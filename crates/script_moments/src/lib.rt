@@ -6,14 +6,16 @@
 //!
 //! Begin with `specs/Moments`: the pairs of a session with the state that each met, and a party's own. `Gets` has gets and
 //! rounds of them, `Snapshots` and `Watchers` what a party does in turns, `SnapshotLines` and `WatcherLines` how that goes on
-//! by one line more, `LawsOfTurns` how the next line is answered, and `LawsOfWaits` what a party knows of its waits by the
-//! answers to its own lines. The laws are public functions without a body, but for the one of waits: its body calls the laws of
-//! `script_model` that it follows from.
+//! by one line more, `LawsOfTurns` how the next line is answered, `LawsOfWaits` what a party knows of its waits by the
+//! answers to its own lines, and `LawsOfTakes` which notify had made an id pending that a wait took. The laws are public
+//! functions without a body, but for the one of waits: its body calls the laws of `script_model` that it follows from.
 #![tactic(auto)]
 
 pub mod snapshot_laws;
+pub mod take_laws;
 pub mod turn_laws;
 pub mod wait_laws;
 pub mod watcher_laws;
 pub mod worked_snapshots;
+pub mod worked_takes;
 pub mod worked_watchers;

@@ -1,37 +1,28 @@
-//! A writer and two readers in one scope.
+//! A writer and two readers in one scope. The writer's thread gives back its pass and the receipt of its last update,
+//! of which a reader then learns.
 ghost use Rattle.std.specs.Prelude.{◌≡◌, ◌+◌, ◌^◌, ◌<◌, ◌∷◌, [], length, IfOk};
 
-use crate::{ReaderPass, ThreadedCell, WriterPass};
+use crate::{OfCell, ReaderPass, Receipt, ThreadedCell, WriterPass};
 use std::alloc::AllocError;
-use std::snapshot::Snapshot;
 use std::sync::{Arc, Wait};
 use std::test::*;
 use std::thread;
-use std::thread::{Promise, Threads};
+use std::thread::Threads;
 
-#[derive(Drop)]
-struct WriterOf(Snapshot<ThreadedCell>);
-
-impl Promise<WriterPass> for WriterOf {
-    ghost kept_by = { λ p r. r.cell ≡ p.0.value.cell };
-}
-
-#[derive(Drop)]
-struct ReaderOf(Snapshot<ThreadedCell>);
-
-impl Promise<(ReaderPass, bool)> for ReaderOf {
-    ghost kept_by = { λ p r. r.0.cell ≡ p.0.value.cell };
-}
-
-fn write_all(cell: &ThreadedCell, mut writer: WriterPass, mut words: Vec<u64>) -> WriterPass
+fn write_all(
+    cell: &ThreadedCell,
+    mut writer: WriterPass,
+    mut words: Vec<u64>,
+) -> (WriterPass, Receipt)
     requires { (writer.cell ≡ cell.now.cell) × (length words.items ≡ cell.now.width) × (length writer.published < 2 ^ 32) }
-    ensures { result.cell ≡ writer.cell }
+    ensures { (result.0.cell ≡ writer.cell) × (result.1.cell ≡ writer.cell) }
 {
     for i in 0..1000u64 {
         words.as_mut_slice().fill(i);
         cell.update(&mut writer, &words);
     }
-    writer
+    let receipt = cell.receipt(&mut writer);
+    (writer, receipt)
 }
 
 fn all_same(words: &Vec<u64>) -> bool {
@@ -82,29 +73,30 @@ fn run<R: Threads + Wait + Sync>(
                 × (r.2.cell ≡ cell.entry.now.cell)) }
         {
             let a = scope.spawn_with(
-                WriterOf(Snapshot::of(cell)),
+                OfCell::new(cell),
                 move ||
                     requires { (writer.cell ≡ cell.now.cell) × (length words.items ≡ cell.now.width)
                         × (length writer.published < 2 ^ 32) }
-                    ensures { result.cell ≡ writer.cell }
+                    ensures { (result.0.cell ≡ writer.cell) × (result.1.cell ≡ writer.cell) }
                 { write_all(cell, writer, words) },
             )?;
             let b = scope.spawn_with(
-                ReaderOf(Snapshot::of(cell)),
+                OfCell::new(cell),
                 move ||
                     requires { (first.cell ≡ cell.now.cell) × (length one.items ≡ cell.now.width) }
                     ensures { result.0.cell ≡ first.cell }
                 { read_all(cell, first, one) },
             )?;
             let c = scope.spawn_with(
-                ReaderOf(Snapshot::of(cell)),
+                OfCell::new(cell),
                 move ||
                     requires { (second.cell ≡ cell.now.cell) × (length two.items ≡ cell.now.width) }
                     ensures { result.0.cell ≡ second.cell }
                 { read_all(cell, second, two) },
             )?;
-            let writer = a.join(rt);
-            let (first, right) = b.join(rt);
+            let (writer, receipt) = a.join(rt);
+            let (mut first, right) = b.join(rt);
+            cell.learn(&mut first, receipt);
             let (second, also) = c.join(rt);
             Ok((writer, first, second, right && also))
         },
@@ -117,10 +109,12 @@ fn each_value_that_a_reader_gets_is_whole(rt: HostRuntime) -> Result<(), Fail> {
     let (cell, writer, mut first) = ThreadedCell::new(rt.alloc(), &words)?;
     let second = cell.split(&mut first);
     let (one, two) = (words.clone()?, words.clone()?);
-    let (mut writer, first, mut second, right) = run(
+    let mut out = words.clone()?;
+    let (mut writer, mut first, mut second, right) = run(
         &rt, &cell, writer, first, second, words, one, two,
     )?;
     assert!(rt; right);
+    assert_eq!(rt; cell.get(&rt, &mut first, &mut out), 1001);
     cell.meet(&mut writer, &mut second);
     let mut readers = Vec::new(rt.alloc());
     readers.push(first)?;
@@ -137,7 +131,7 @@ fn is_send<T: Send>(x: T) -> T
 }
 
 #[test]
-fn a_receipt_may_cross_threads(rt: HostRuntime) -> Result<(), Fail> {
+fn receipts_and_cells_are_sent(rt: HostRuntime) -> Result<(), Fail> {
     let words = vec![in rt.alloc(); 5u64]?;
     let (cell, mut writer, mut reader) = ThreadedCell::new(rt.alloc(), &words)?;
     let receipt = is_send(cell.receipt(&mut writer));

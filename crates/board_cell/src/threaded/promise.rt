@@ -8,7 +8,8 @@ use crate::threaded::writer::WriterPass;
 use std::snapshot::Snapshot;
 use std::thread::Promise;
 
-/// The promise of a thread, for `spawn_with`, that the pass or the receipt that it gives back is of a cell. So whoever joins the thread can use it with that cell.
+/// The promise of a thread, for `spawn_with`, that the pass or the receipt that it gives back is of a cell, whatever a
+/// reader gives back beside its pass. So whoever joins the thread can use it with that cell.
 #[derive(Drop)]
 pub struct OfCell {
     cell: Snapshot<ThreadedCell>,
@@ -31,6 +32,10 @@ impl Promise<WriterPass> for OfCell {
 
 impl Promise<ReaderPass> for OfCell {
     ghost kept_by = { λ p pass. pass.cell ≡ p.cell.value.cell };
+}
+
+impl<T> Promise<(ReaderPass, T)> for OfCell {
+    ghost kept_by = { λ p both. both.0.cell ≡ p.cell.value.cell };
 }
 
 impl Promise<Receipt> for OfCell {

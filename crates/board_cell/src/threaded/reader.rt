@@ -152,7 +152,9 @@ impl ThreadedCell {
         self.try_later(seat, out, after, tries - 1)
     }
 
-    /// Reads the value in at most this many tries, 0 counted as 1. Gives its generation, and its words in `out`, which has as many words as a value.
+    /// Reads the value in at most this many tries, 0 counted as 1. Gives its generation, and its words in `out`, which
+    /// has as many words as a value. The pass is of this cell. What it gives is never older than what the pass read or
+    /// knows of.
     ///
     /// # Errors
     /// `GetAgain` where the counter rose in each of the tries; `out` then holds words of no use.
@@ -234,7 +236,8 @@ impl ThreadedCell {
         (generation, call.into_buffer())
     }
 
-    /// Reads the value, in as many tries as it takes. Gives its generation, and its words in `out`, which has as many words as a value.
+    /// Reads the value, in as many tries as it takes. Gives its generation, and its words in `out`, which has as many
+    /// words as a value. The pass is of this cell. What it gives is never older than what the pass read or knows of.
     #[inline(always)]
     pub fn get<R: Wait>(&self, rt: &R, pass: &mut ReaderPass, out: &mut Vec<u64>) -> u64
         requires cell { pass.old.cell ≡ self.now.cell }
@@ -258,7 +261,7 @@ impl ThreadedCell {
         generation
     }
 
-    /// Whether one load of the counter gave this generation.
+    /// Whether one load of the counter gave this generation. The pass is of this cell.
     #[inline]
     pub fn fresh(&self, pass: &mut ReaderPass, generation: u64) -> bool
         requires { pass.old.cell ≡ self.now.cell }

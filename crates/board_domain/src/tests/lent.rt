@@ -65,20 +65,19 @@ pub(super) fn new_writer<P, R: Abort>(
     builder.create_in(state).expect(rt, "room for a writer")
 }
 
-// The digits of the nodes, those of the keys, and those of the keys up to the first.
-fn walks<P>(state: &DomainState, factory: &PortFactory<u64, P>) -> (u64, u64, u64) {
-    let (mut nodes, mut keys, mut first) = (0, 0, 0);
-    factory.nodes_in(state, |node| note(&mut nodes, node.0, 9));
-    factory.list_keys_in(state, |key| note(&mut keys, *key, 9));
-    factory.list_keys_in(state, |key| note(&mut first, *key, 1));
-    (nodes, keys, first)
+// The digits of the nodes and those of the keys, each up to `last`.
+fn walks<P>(state: &DomainState, factory: &PortFactory<u64, P>, last: u64) -> (u64, u64) {
+    let (mut nodes, mut keys) = (0, 0);
+    factory.nodes_in(state, |node| note(&mut nodes, node.0, last));
+    factory.list_keys_in(state, |key| note(&mut keys, *key, last));
+    (nodes, keys)
 }
 
-// The digits of the nodes and those of the keys, by callbacks that are lent.
-fn lent_walks<P>(state: &DomainState, factory: &PortFactory<u64, P>) -> (u64, u64) {
+// The same, by callbacks that are lent.
+fn lent_walks<P>(state: &DomainState, factory: &PortFactory<u64, P>, last: u64) -> (u64, u64) {
     let (mut nodes, mut keys) = (0, 0);
-    factory.visit_nodes_in(state, &mut |node| note(&mut nodes, node.0, 9));
-    factory.visit_keys_in(state, &mut |key| note(&mut keys, *key, 9));
+    factory.visit_nodes_in(state, &mut |node| note(&mut nodes, node.0, last));
+    factory.visit_keys_in(state, &mut |key| note(&mut keys, *key, last));
     (nodes, keys)
 }
 
@@ -89,7 +88,8 @@ fn is_counted<P, R: Abort>(
     board: &PortFactory<u64, P>,
     reader: Reader<u64, P>,
 ) {
-    assert_eq!(rt; walks(state, board), (12, 12, 1));
+    assert_eq!(rt; walks(state, board, 9), (12, 12));
+    assert_eq!(rt; walks(state, board, 1), (1, 1));
     assert_eq!(rt; board.dynamic_config_in(state), taken(1, 1, 2));
     reader.release_in(state);
     assert_eq!(rt; board.dynamic_config_in(state), taken(0, 1, 2));
@@ -106,9 +106,10 @@ fn ports_are_counted<P, R: Abort>(rt: &R, state: &mut DomainState, boards: &Boar
 fn told<P: Policy, R: Abort>(rt: &R, alloc: Global) {
     let mut state = DomainState::new(alloc);
     let boards = make_boards::<P, R>(rt, alloc, &mut state);
-    assert_eq!(rt; lent_walks(&state, &boards.opened), (12, 12));
+    assert_eq!(rt; lent_walks(&state, &boards.opened, 9), (12, 12));
+    assert_eq!(rt; lent_walks(&state, &boards.opened, 1), (1, 1));
     // In another state the factory isn't held.
-    assert_eq!(rt; walks(&DomainState::new(alloc), &boards.opened), (0, 0, 0));
+    assert_eq!(rt; walks(&DomainState::new(alloc), &boards.opened, 9), (0, 0));
     ports_are_counted(rt, &mut state, &boards);
     let Boards { made, opened } = boards;
     made.release_in(&mut state);

@@ -80,20 +80,19 @@ pub(super) fn write_handle<P, R: Wait + Abort>(
     writer.entry::<u64, R>(rt, &1).expect(rt, "a free entry")
 }
 
-// The digits of the nodes, those of the keys, and those of the keys up to the first.
-fn walks<P, R: Wait>(rt: &R, factory: &PortFactory<u64, P>) -> (u64, u64, u64) {
-    let (mut nodes, mut keys, mut first) = (0, 0, 0);
-    factory.nodes(rt, |node| note(&mut nodes, node.0, 9));
-    factory.list_keys(rt, |key| note(&mut keys, *key, 9));
-    factory.list_keys(rt, |key| note(&mut first, *key, 1));
-    (nodes, keys, first)
+// The digits of the nodes and those of the keys, each up to `last`.
+fn walks<P, R: Wait>(rt: &R, factory: &PortFactory<u64, P>, last: u64) -> (u64, u64) {
+    let (mut nodes, mut keys) = (0, 0);
+    factory.nodes(rt, |node| note(&mut nodes, node.0, last));
+    factory.list_keys(rt, |key| note(&mut keys, *key, last));
+    (nodes, keys)
 }
 
-// The digits of the nodes and those of the keys, by callbacks that are lent.
-fn lent_walks<P, R: Wait>(rt: &R, factory: &PortFactory<u64, P>) -> (u64, u64) {
+// The same, by callbacks that are lent.
+fn lent_walks<P, R: Wait>(rt: &R, factory: &PortFactory<u64, P>, last: u64) -> (u64, u64) {
     let (mut nodes, mut keys) = (0, 0);
-    factory.visit_nodes(rt, &mut |node| note(&mut nodes, node.0, 9));
-    factory.visit_keys(rt, &mut |key| note(&mut keys, *key, 9));
+    factory.visit_nodes(rt, &mut |node| note(&mut nodes, node.0, last));
+    factory.visit_keys(rt, &mut |key| note(&mut keys, *key, last));
     (nodes, keys)
 }
 
@@ -120,7 +119,8 @@ fn limits_are_told<P, R: Abort>(rt: &R, board: &PortFactory<u64, P>) {
 
 // What is told of a board with a reader, a writer and two nodes, and after the reader's release.
 fn is_counted<P, R: Wait + Abort>(rt: &R, board: &PortFactory<u64, P>, reader: Reader<u64, P>) {
-    assert_eq!(rt; walks(rt, board), (12, 12, 1));
+    assert_eq!(rt; walks(rt, board, 9), (12, 12));
+    assert_eq!(rt; walks(rt, board, 1), (1, 1));
     assert_eq!(rt; board.dynamic_config(rt), taken(1, 1, 2));
     reader.release(rt);
     assert_eq!(rt; board.dynamic_config(rt), taken(0, 1, 2));
@@ -142,7 +142,8 @@ fn told<P: Policy, R: Wait + Abort>(rt: &R, alloc: Global) {
     let Boards { made, opened } = make_boards::<P, R>(rt, alloc);
     are_of_one_board(rt, &made, &opened);
     limits_are_told(rt, &opened);
-    assert_eq!(rt; lent_walks(rt, &opened), (12, 12));
+    assert_eq!(rt; lent_walks(rt, &opened, 9), (12, 12));
+    assert_eq!(rt; lent_walks(rt, &opened, 1), (1, 1));
     ports_are_counted(rt, &made, &opened);
     made.release(rt);
     assert_eq!(rt; opened.dynamic_config(rt), taken(0, 0, 1));
