@@ -81,6 +81,10 @@ EndsBy (Solo calls) e = MayEnd calls.call e
 EndsBy (Shared width readers updates) e = e ≡ OutOfMemory
 EndsBy task e = Unit {0}
 
+-- memory is refused, or the task that these words spell ends so
+abbrev pub EndsOneBy : List (List ℕ) → BenchError → Type 0
+EndsOneBy words e = (e ≡ OutOfMemory) ⊎ ((task : Task) × IsTaskOf words task × EndsBy task e)
+
 -- how many calls or round trips were made, and of a race how many gets
 abbrev pub told_of : Done → ℕ
 told_of (Got reader made) = made

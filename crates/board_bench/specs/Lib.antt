@@ -3,3 +3,4 @@ pub mod Watchers
 pub mod Blocks
 pub mod Handles
 pub mod Done
+pub mod Top

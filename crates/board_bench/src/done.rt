@@ -1,6 +1,6 @@
 //! What the words of the command line ask for is done.
 ghost use Rattle.std.specs.Prelude.{◌≡◌, ◌<◌, ◌^◌, map, Ok, IfOk, IfErr, IfSome, IsSome, IsTrue, string_bytes};
-ghost use Rattle.board_bench.specs.Done.{EndsBy, HasCalled, HasCalledTyped, HasDone, HasDoneOne, HasReturned, MayEnd, counted_of, told_of};
+ghost use Rattle.board_bench.specs.Done.{EndsBy, EndsOneBy, HasCalled, HasCalledTyped, HasDone, HasDoneOne, HasReturned, MayEnd, counted_of, told_of};
 ghost use Rattle.board_bench.specs.Task.{IsBenchTask, IsCount, is_width, spelling};
 ghost use Rattle.board_bench.specs.declared.bench_error.BenchError.TheVariants as bench_error;
 ghost use Rattle.board_bench.specs.declared.task.Task.{Task};
@@ -46,8 +46,8 @@ impl Done {
             Done::Updated(_, count) => *count,
             Done::GotTyped(_, count) => *count,
             Done::UpdatedTyped(_, count) => *count,
-            Done::BitsReturned(trips) => trips.made,
-            Done::QueueReturned(trips) => trips.made,
+            Done::BitsReturned(trips) => trips.made.made(),
+            Done::QueueReturned(trips) => trips.made.made(),
             Done::Raced(outcome) => outcome.gets,
         }
     }
@@ -168,6 +168,7 @@ pub fn measure<R: Threads + Wait + Sync>(
     // Where they spell one it is done.
     ensures found { (t : Task) → IsBenchTask t → map string_bytes words.now ≡ spelling t
         → IfOk result IsSome }
+    ensures err { IfErr result (EndsOneBy (map string_bytes words.now)) }
 {
     let Some(task) = task_of(alloc, words)? else {
         return Ok(None);

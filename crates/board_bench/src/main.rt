@@ -5,19 +5,18 @@
 mod bench_error;
 mod block;
 mod done;
+mod rounds;
 mod shared;
 mod solo;
 mod task;
+mod top;
 mod trips;
 mod typed;
 mod widths;
 
-use done::measure;
 use std::process::ExitCode;
 use std::{env, io};
-
-const USAGE: &str = "usage: board_bench solo|typed 1|4|32 get|try_get|update COUNT, \
-     board_bench event bits|queue COUNT, or board_bench shared 1|4|32 1|2|3 UPDATES";
+use top::run_program;
 
 // The words of the command line without the program's name. One that isn't text makes all of them one empty word.
 fn words(rt: &HostRuntime) -> anyhow::Result<Vec<String>> {
@@ -37,12 +36,8 @@ fn words(rt: &HostRuntime) -> anyhow::Result<Vec<String>> {
 
 fn main(rt: HostRuntime) -> anyhow::Result<ExitCode> {
     let words = words(&rt)?;
-    let Some(done) = measure(&rt, rt.alloc(), &words)? else {
-        eprintln!(rt; "{USAGE}")?;
-        return Ok(ExitCode::from(2));
-    };
-    println!(rt; "{} {}", done.counted(), done.told())?;
-    Ok(ExitCode::SUCCESS)
+    let (mut out, mut notes) = (rt.stdout(), rt.stderr());
+    Ok(run_program(&rt, rt.alloc(), &words, &mut out, &mut notes)?.code)
 }
 
 #[cfg(test)]

@@ -1,9 +1,12 @@
-//! Tasks from their words, each task done once, and words that are no task.
+//! Tasks from their words, each task done once, what it writes, words that are no task, and the ids of round trips.
 use crate::done::measure;
 use crate::shared::run_shared;
 use crate::task::{Call, Calls, Task, task_of};
-use board_event::EventKind;
+use crate::top::{USAGE, run_program};
+use crate::trips::{echo, ends_of, send};
+use board_event::{EventKind, Listener, Notifier, QueueOfIds, TriggerId};
 use std::alloc::{AllocError, Global};
+use std::process::ExitCode;
 use std::test::*;
 
 fn words_of(alloc: Global, text: &str) -> Result<Vec<String>, AllocError> {
@@ -114,5 +117,76 @@ fn readers_see_the_last_update(rt: HostRuntime) -> Result<(), Fail> {
         assert!(rt; outcome.gets >= readers);
         assert_eq!(rt; outcome.writer.generation(), 1001);
     }
+    Ok(())
+}
+
+#[test]
+fn the_program_writes_the_line_of_its_task(rt: HostRuntime) -> Result<(), Fail> {
+    let cases = [
+        ("solo 4 get 10", "gets 10\n"),
+        ("solo 1 try_get 10", "gets 10\n"),
+        ("typed 32 update 10", "updates 10\n"),
+        ("event bits 10", "trips 10\n"),
+        ("event queue 10", "trips 10\n"),
+    ];
+    let alloc = rt.alloc();
+    for (text, line) in cases {
+        let words = words_of(alloc, text)?;
+        let (mut out, mut notes) = (Vec::new(alloc), Vec::new(alloc));
+        let ended = run_program(&rt, alloc, &words, &mut out, &mut notes)?;
+        assert_eq!(rt; ended.code, ExitCode::SUCCESS, "{text}");
+        assert_eq!(rt; out.as_slice(), line.as_bytes(), "{text}");
+        assert!(rt; notes.is_empty(), "{text}");
+    }
+    Ok(())
+}
+
+#[test]
+fn the_program_notes_its_usage(rt: HostRuntime) -> Result<(), Fail> {
+    let alloc = rt.alloc();
+    let words = words_of(alloc, "solo 4 get 01")?;
+    let (mut out, mut notes) = (Vec::new(alloc), Vec::new(alloc));
+    let ended = run_program(&rt, alloc, &words, &mut out, &mut notes)?;
+    assert_eq!(rt; ended.code, ExitCode::from(2));
+    assert!(rt; out.is_empty());
+    assert!(rt; notes.starts_with(USAGE.as_bytes()));
+    assert_eq!(rt; notes.len(), USAGE.len() + 1);
+    Ok(())
+}
+
+// The ids of this many round trips, in turn.
+fn id_of(i: u64) -> TriggerId {
+    TriggerId::new((i % 64) as usize)
+}
+
+#[test]
+fn each_round_trip_sends_an_id_and_takes_one(rt: HostRuntime) -> Result<(), Fail> {
+    let (there, to_there) = ends_of::<QueueOfIds, HostRuntime>(&rt, rt.alloc())?;
+    let (back, to_back) = ends_of::<QueueOfIds, HostRuntime>(&rt, rt.alloc())?;
+    for i in 0..200 {
+        to_back.notify(&rt, id_of(i))?;
+    }
+    assert_eq!(rt; send(&rt, &to_there, &back, 200)?.made(), 200);
+    assert_eq!(rt; back.try_wait_one(&rt)?, None);
+    for i in 0..200 {
+        assert_eq!(rt; there.try_wait_one(&rt)?, Some(id_of(i)), "{i}");
+    }
+    assert_eq!(rt; there.try_wait_one(&rt)?, None);
+    Ok(())
+}
+
+#[test]
+fn each_id_is_sent_back(rt: HostRuntime) -> Result<(), Fail> {
+    let (there, to_there) = ends_of::<QueueOfIds, HostRuntime>(&rt, rt.alloc())?;
+    let (back, to_back) = ends_of::<QueueOfIds, HostRuntime>(&rt, rt.alloc())?;
+    for i in 0..200 {
+        to_there.notify(&rt, id_of(i))?;
+    }
+    echo(&rt, &there, &to_back, 200)?;
+    assert_eq!(rt; there.try_wait_one(&rt)?, None);
+    for i in 0..200 {
+        assert_eq!(rt; back.try_wait_one(&rt)?, Some(id_of(i)), "{i}");
+    }
+    assert_eq!(rt; back.try_wait_one(&rt)?, None);
     Ok(())
 }

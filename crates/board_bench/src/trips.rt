@@ -2,6 +2,7 @@
 ghost use Rattle.std.specs.Prelude.{◌≡◌, IfOk};
 ghost use denote.Param.Send.{IsSync};
 
+use crate::rounds::Rounds;
 use anyhow::{Result, bail};
 use board_event::{
     EventListener, EventListenerBuilder, EventNotifier, EventNotifierBuilder, EventRegistry,
@@ -22,11 +23,14 @@ pub struct Trips<K> {
     /// The listener through which ids come back.
     pub back: EventListener<K>,
     /// How many round trips were made.
-    pub made: u64,
+    pub made: Rounds,
 }
 
-// A new event of its own registry: its listener, and a notifier.
-fn ends_of<K: KindOfEvents + Drop, R: Wait>(
+/// A new event of its own registry: its listener, and a notifier.
+///
+/// # Errors
+/// Where a call that makes the event or opens it is refused.
+pub fn ends_of<K: KindOfEvents + Drop, R: Wait>(
     rt: &R,
     alloc: Global,
 ) -> Result<(EventListener<K>, EventNotifier<K>)> {
@@ -46,22 +50,12 @@ pub fn send<K: KindOfEvents + Drop, R: Wait>(
     there: &EventNotifier<K>,
     back: &EventListener<K>,
     count: u64,
-) -> Result<u64>
+) -> Result<Rounds>
     ensures { IfOk result (λ made. made ≡ count) }
 {
-    let mut made = 0;
+    let mut made = Rounds::none();
     for i in 0..count {
-        let id = TriggerId::new((i % IDS) as usize);
-        there.notify(rt, id)?;
-        match back.blocking_wait_one(rt)? {
-            Some(came) => {
-                if came != id {
-                    bail!("another id came back");
-                }
-            }
-            None => bail!("no id came back"),
-        }
-        made += 1;
+        made.make(rt, there, back, TriggerId::new((i % IDS) as usize))?;
     }
     Ok(made)
 }
