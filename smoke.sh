@@ -180,12 +180,12 @@ while read -r words; do
     [ $? = 124 ] && good=yes || good=no
     tells "not done in a second: $words" "$good"
 done <<'END'
-solo 1 try_get 1000000000
-solo 32 get 1000000000
-solo 32 update 1000000000
-typed 1 get 1000000000
-typed 1 try_get 1000000000
-typed 32 update 1000000000
+solo 1 try_get 10000000000
+solo 32 get 10000000000
+solo 32 update 10000000000
+typed 1 get 10000000000
+typed 1 try_get 10000000000
+typed 32 update 10000000000
 event bits 10000000
 event queue 10000000
 shared 1 1 1000000000
