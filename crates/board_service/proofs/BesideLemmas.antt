@@ -1,11 +1,11 @@
 -- What stands beside what, as elements come and go.
-use Rattle.std.proofs.Common.{◌≡◌, ℕ, zero, suc, ◌<◌, Bool, List, [], ◌∷◌, ◌++◌, length, get_or, Option, Some, None, refl, sym, ap, subst, arith}
+use Rattle.std.proofs.Common.{◌≡◌, ℕ, zero, suc, ◌<◌, Bool, List, [], ◌∷◌, ◌++◌, length, get_or, Option, Some, None, refl, sym, ap, subst, ◌∙◌, arith}
 use Rattle.std.specs.Prelude.{find, slice_get, slice_set}
 use Rattle.std.specs.List.{position_from, remove}
 use Rattle.board_model.specs.Tables.{without_first}
-use Rattle.board_service.specs.Domain.{at}
+use Rattle.board_service.specs.Domain.{at, but_at, set_at}
 use Rattle.board_service.specs.Suiting.{AllBeside, BothAre}
-use Rattle.board_service.proofs.First.{first_at}
+use Rattle.board_service.proofs.First.{first_at, none_at}
 
 module _ {A C : Type 0} (R : A → C → Type 0) where
   -- one more of each
@@ -33,15 +33,24 @@ module _ {A C : Type 0} (R : A → C → Type 0) where
   beside_without (b ∷ bs) (c ∷ cs) zero h = h.1
   beside_without (b ∷ bs) (c ∷ cs) (suc i) h = (h.0, beside_without bs cs i h.1)
 
-  pub beside_less : (p : A → Bool) (k : ℕ) (bs : List A) (cs : List C) → position_from p 0 bs ≡ Some k → AllBeside R bs cs → AllBeside R (without_first p bs) (remove cs k)
-  beside_less p k bs cs e h = subst (λ (xs : List A). AllBeside R xs (remove cs k)) (sym (first_at p k bs e).rest) (beside_without bs cs k h)
+  -- without what passes first, and what stands beside it
+  pub beside_but : (p : A → Bool) (bs : List A) (cs : List C) → AllBeside R bs cs → AllBeside R (without_first p bs) (but_at cs (position_from p 0 bs))
+  beside_but p bs cs h = by (position_from p 0 bs) refl
+    where
+      by : (o : Option ℕ) → position_from p 0 bs ≡ o → AllBeside R (without_first p bs) (but_at cs o)
+      by None e = subst (λ (xs : List A). AllBeside R xs cs) (sym (none_at p bs e).1) h
+      by (Some k) e = subst (λ (xs : List A). AllBeside R xs (remove cs k)) (sym (first_at p k bs e).rest) (beside_without bs cs k h)
 
   -- another one comes to a place
-  pub beside_set : (bs : List A) (cs : List C) (i : ℕ) (d new : C) → i < length cs → ((b : A) → R b (get_or cs i d) → R b new) → AllBeside R bs cs → AllBeside R bs (slice_set cs i new)
-  beside_set [] cs i d new lt k h = tt
-  beside_set (b ∷ bs) [] i d new lt k h = h
-  beside_set (b ∷ bs) (c ∷ cs) zero d new lt k h = (k b h.0, h.1)
-  beside_set (b ∷ bs) (c ∷ cs) (suc i) d new lt k h = (h.0, beside_set bs cs i d new (omega (arith, lt)) k h.1)
+  put_beside : (bs : List A) (cs : List C) (i : ℕ) (old new : C) → slice_get cs i ≡ Some old → ((b : A) → R b old → R b new) → AllBeside R bs cs → AllBeside R bs (slice_set cs i new)
+  put_beside [] cs i old new e k h = tt
+  put_beside (b ∷ bs) [] i old new e k h = h
+  put_beside (b ∷ bs) (c ∷ cs) zero old new e k h = (let same : c ≡ old = cc in k b (subst (λ (x : C). R b x) same h.0), h.1)
+  put_beside (b ∷ bs) (c ∷ cs) (suc i) old new e k h = (h.0, put_beside bs cs i old new e k h.1)
+
+  pub beside_put : (bs : List A) (cs : List C) (o : Option ℕ) (old new : C) → at cs o ≡ Some old → ((b : A) → R b old → R b new) → AllBeside R bs cs → AllBeside R bs (set_at cs o new)
+  beside_put bs cs None old new e k h = h
+  beside_put bs cs (Some i) old new e k h = put_beside bs cs i old new e k h
 
   -- anything may come, where all are related so
   pub beside_any : ((b : A) (c : C) → R b c) → (bs : List A) (cs : List C) → AllBeside R bs cs
@@ -79,12 +88,28 @@ module _ {A C : Type 0} (R : A → C → Type 0) where
           there_is (x ∷ xs) zero lt same = sym (same x)
           there_is (x ∷ xs) (suc i) lt same = there_is xs i (omega (arith, lt)) same
 
-pub there_is : {C : Type 0} (cs : List C) (i : ℕ) (d : C) → i < length cs → slice_get cs i ≡ Some (get_or cs i d)
-there_is [] i d lt = absurd (omega (arith, lt))
-there_is (c ∷ cs) zero d lt = refl
-there_is (c ∷ cs) (suc i) d lt = there_is cs i d (omega (arith, lt))
-
-pub set_count : {C : Type 0} (cs : List C) (i : ℕ) (c : C) → length (slice_set cs i c) ≡ length cs
+set_count : {C : Type 0} (cs : List C) (i : ℕ) (c : C) → length (slice_set cs i c) ≡ length cs
 set_count [] i c = refl
 set_count (x ∷ xs) zero c = refl
 set_count (x ∷ xs) (suc i) c = ap suc (set_count xs i c)
+
+-- as many with another one at a place
+pub put_count : {C : Type 0} (cs : List C) (o : Option ℕ) (c : C) → length (set_at cs o c) ≡ length cs
+put_count cs None c = refl
+put_count cs (Some i) c = set_count cs i c
+
+remove_count : {A C : Type 0} (bs : List A) (cs : List C) (i : ℕ) → length cs ≡ length bs → length (remove cs i) ≡ length (remove bs i)
+remove_count [] [] zero e = refl
+remove_count [] [] (suc i) e = refl
+remove_count [] (c ∷ cs) i e = absurd (omega (arith, e))
+remove_count (b ∷ bs) [] i e = absurd (omega (arith, e))
+remove_count (b ∷ bs) (c ∷ cs) zero e = omega (arith, e)
+remove_count (b ∷ bs) (c ∷ cs) (suc i) e = ap suc (remove_count bs cs i (omega (arith, e)))
+
+-- as many, without one of each
+pub but_count : {A C : Type 0} (p : A → Bool) (bs : List A) (cs : List C) → length cs ≡ length bs → length (but_at cs (position_from p 0 bs)) ≡ length (without_first p bs)
+but_count {A = A} p bs cs h = by (position_from p 0 bs) refl
+  where
+    by : (o : Option ℕ) → position_from p 0 bs ≡ o → length (but_at cs o) ≡ length (without_first p bs)
+    by None e = h ∙ sym (ap (λ (xs : List A). length xs) (none_at p bs e).1)
+    by (Some k) e = remove_count bs cs k h ∙ sym (ap (λ (xs : List A). length xs) (first_at p k bs e).rest)

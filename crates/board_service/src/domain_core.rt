@@ -13,11 +13,11 @@ mod refusals;
 mod release;
 mod told;
 
-use crate::board_row::BoardRow;
 use crate::cells::Cells;
 use crate::held::add;
 use crate::ids::{NodeId, ThingId};
 use crate::made::Made;
+use board_index::Boards;
 use board_model::Kind;
 use board_names::NameTable;
 use board_store::Statics;
@@ -30,11 +30,9 @@ use std::marker::Model;
 /// A thing is a factory, a reader, a writer or a handle, of one board and one node. A board stands while a thing of it does. Numbers of boards, ports and things are drawn from 1 on, and none is drawn again.
 #[derive(Drop)]
 pub struct DomainCore<C: Cells> {
-    boards: Vec<BoardRow>,
+    boards: Boards<C>,
     things: Things,
-    cells: Vec<C>,
     descriptions: Statics,
-    last_board: u64,
     last_port: u64,
     alloc: Global,
 }
@@ -46,14 +44,14 @@ impl<C: Cells> Model for DomainCore<C> {
     ghost Value = { Domain C };
 
     ghost view = { λ d. record {
-      tables = record { boards = d.boards.items; things = d.things.things; last_board = d.last_board; last_port = d.last_port };
+      tables = record { boards = d.boards.boards; things = d.things.things; last_board = d.boards.last; last_port = d.last_port };
       last_thing = d.things.last;
-      cells = d.cells.items;
+      cells = d.boards.cells;
     } };
 
     ghost invariant = { λ d. IsSuitedCore C.suit
-        (record { boards = d.boards.items; things = d.things.things; last_board = d.last_board; last_port = d.last_port })
-        d.things.last d.cells.items d.descriptions };
+        (record { boards = d.boards.boards; things = d.things.things; last_board = d.boards.last; last_port = d.last_port })
+        d.things.last d.boards.cells d.descriptions };
 }
 
 impl<C: Cells> DomainCore<C> {
@@ -62,11 +60,9 @@ impl<C: Cells> DomainCore<C> {
         ensures { result ≡ empty }
     {
         DomainCore {
-            boards: Vec::new(alloc),
+            boards: Boards::new(alloc),
             things: Things::new(alloc),
-            cells: Vec::new(alloc),
             descriptions: Statics::new(alloc),
-            last_board: 0,
             last_port: 0,
             alloc,
         }

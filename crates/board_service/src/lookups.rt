@@ -1,98 +1,33 @@
 //! What stands in the tables.
-ghost use Rattle.std.specs.Prelude.{◌≡◌, ◌≤◌, ◌<◌, ◌==◌, length, Option, option_map, find, slice_get, remove, Some, ◌+◌, MatchOption, IfSome, IsSome, is_some, nat_le, true};
-ghost use Rattle.std.specs.List.{list_any, position_from};
+ghost use Rattle.std.specs.Prelude.{◌≡◌, ◌≤◌, ◌<◌, length, option_map, find, Some, IfSome, nat_le, true};
 ghost use Rattle.board_layout.specs.Bytes.{details};
 ghost use Rattle.board_layout.specs.Keys as keys;
 ghost use Rattle.board_model.specs.Tables as tables;
 ghost use Rattle.board_model.specs.TypeTable as types;
 ghost use Rattle.board_service.specs.Facts.{entry_count};
 
-use crate::board_row::BoardRow;
+use board_index::{BoardRow, Boards};
 use board_layout::{BoardKey, TypeDetail, is_key};
 use board_model::{Entry, Kind, ThingKind, same_type};
-use board_names::ServiceName;
 use board_things::Things;
 
-/// The board with the number.
-pub(crate) fn board_at(number: u64, boards: &[BoardRow]) -> Option<&BoardRow>
-    ensures { option_map (λ b. b.now) result ≡ find (tables.is_numbered number) boards.now }
-{
-    boards.iter().find(|b| b.number() == number)
-}
-
-/// The board with the name.
-pub(crate) fn board_named<'a>(name: &ServiceName, boards: &'a [BoardRow]) -> Option<&'a BoardRow>
-    ensures { option_map (λ b. b.now) result ≡ find (tables.has_name name.now) boards.now }
-{
-    boards.iter().find(|b| *b.name() == *name)
-}
-
-/// Where the board with the number stands, if it does.
-pub(crate) fn place_of_board(number: u64, boards: &[BoardRow]) -> Option<usize>
-    ensures value { result ≡ position_from (tables.is_numbered number) 0 boards.now }
-    ensures stands { is_some result ≡ is_some (find (tables.is_numbered number) boards.now) }
-    ensures inside { IfSome result (λ i. i < length boards.now) }
-{
-    position_of_board(number, boards)
-}
-
-fn position_of_board(number: u64, boards: &[BoardRow]) -> Option<usize>
-    ensures { result ≡ position_from (tables.is_numbered number) 0 boards.now }
-{
-    for (i, board) in boards.iter().enumerate() {
-        if board.number() == number {
-            return Some(i);
-        }
-    }
-    None
-}
-
-/// Takes the board with the number out, which stands, and tells where it stood.
-pub(crate) fn take_board(number: u64, boards: &mut Vec<BoardRow>) -> usize
-    requires { IsSome (find (tables.is_numbered number) boards.old.items) }
-    ensures place { position_from (tables.is_numbered number) 0 boards.old.items ≡ Some result }
-    ensures rest { boards.new.items
-        ≡ tables.without_first (tables.is_numbered number) boards.old.items }
-    ensures inside { result < length boards.old.items }
-    ensures shorter { length boards.new.items + 1 ≡ length boards.old.items }
-{
-    match position_of_board(number, boards) {
-        Some(i) => {
-            let _ = boards.remove(i);
-            i
-        }
-        // The board stands.
-        None => unreachable!(),
-    }
-}
-
-/// Takes what stands at a place.
-pub(crate) fn take_cells<C>(place: usize, cells: &mut Vec<C>) -> C
-    requires { place < length cells.old.items }
-    ensures taken { slice_get cells.old.items place ≡ Some result }
-    ensures rest { cells.new.items ≡ remove cells.old.items place }
-    ensures shorter { length cells.new.items + 1 ≡ length cells.old.items }
-{
-    cells.remove(place)
-}
-
 /// Whether the board has as many readers as it may have.
-pub(crate) fn has_all_readers(board: u64, boards: &[BoardRow], things: &Things) -> bool
-    ensures { result ≡ tables.holds_at (find (tables.is_numbered board) boards.now)
+pub(crate) fn has_all_readers<C>(board: u64, boards: &Boards<C>, things: &Things) -> bool
+    ensures { result ≡ tables.holds_at (find (tables.is_numbered board) boards.now.boards)
         (λ b. nat_le b.max_readers (tables.reader_slots b.number things.now.things)) }
 {
-    match board_at(board, boards) {
+    match boards.at(board) {
         Some(b) => b.max_readers() <= things.reader_slots(b.number()),
         None => false,
     }
 }
 
 /// Whether as many writer slots of the board are taken as it has.
-pub(crate) fn has_all_writers(board: u64, boards: &[BoardRow], things: &Things) -> bool
-    ensures { result ≡ tables.holds_at (find (tables.is_numbered board) boards.now)
+pub(crate) fn has_all_writers<C>(board: u64, boards: &Boards<C>, things: &Things) -> bool
+    ensures { result ≡ tables.holds_at (find (tables.is_numbered board) boards.now.boards)
         (λ b. nat_le b.max_writers (tables.writer_slots b.number things.now.things)) }
 {
-    match board_at(board, boards) {
+    match boards.at(board) {
         Some(b) => b.max_writers() <= things.writer_slots(b.number()),
         None => false,
     }
@@ -124,11 +59,11 @@ pub(crate) fn entry_of(kind: &Kind) -> u64
 }
 
 /// Whether the board has keys of this type.
-pub(crate) fn has_details(board: u64, key: &TypeDetail, boards: &[BoardRow]) -> bool
-    ensures { result ≡ tables.holds_at (find (tables.is_numbered board) boards.now)
+pub(crate) fn has_details<C>(board: u64, key: &TypeDetail, boards: &Boards<C>) -> bool
+    ensures { result ≡ tables.holds_at (find (tables.is_numbered board) boards.now.boards)
         (λ b. types.same_type b.key key.now) }
 {
-    match board_at(board, boards) {
+    match boards.at(board) {
         Some(b) => same_type(b.key(), key),
         None => false,
     }
@@ -166,21 +101,21 @@ fn of_type<'a>(value: &TypeDetail, found: Option<(u64, &'a Entry)>) -> Option<(u
 }
 
 /// The entry of a board with the key and the type of values, with its place. The board's keys are of the key's type.
-pub(crate) fn find_entry<'a, K: BoardKey>(
+pub(crate) fn find_entry<'a, K: BoardKey, C>(
     number: u64,
     key: &K,
     value: &TypeDetail,
-    boards: &'a [BoardRow],
+    boards: &'a Boards<C>,
 ) -> Option<(u64, &'a Entry)>
-    requires { tables.holds_at (find (tables.is_numbered number) boards.now)
+    requires { tables.holds_at (find (tables.is_numbered number) boards.now.boards)
         (λ b. types.same_type b.key (details K.type_bytes K.SIZE K.ALIGNMENT)) ≡ true }
     ensures found { option_map (λ f. (f.0, f.1.now)) result
-        ≡ tables.entry_found (find (tables.is_numbered number) boards.now)
+        ≡ tables.entry_found (find (tables.is_numbered number) boards.now.boards)
         (keys.is_key K.eq K.value_of K.SIZE K.WORDS key.now) value.now }
     ensures inside { IfSome result
-        (λ f. f.0 < entry_count (find (tables.is_numbered number) boards.now)) }
+        (λ f. f.0 < entry_count (find (tables.is_numbered number) boards.now.boards)) }
 {
-    match board_at(number, boards) {
+    match boards.at(number) {
         Some(board) => of_type(value, entry_with::<K>(key, board)),
         None => None,
     }

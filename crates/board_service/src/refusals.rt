@@ -8,13 +8,12 @@ ghost use Rattle.board_model.specs.TypeTable as types;
 ghost use Rattle.board_service.specs.Domain.{spent};
 ghost use Rattle.board_service.specs.Entries.{HaveShapes, added, payload_of};
 
-use crate::board_row::BoardRow;
 use crate::held::is_node;
 use crate::ids::NodeId;
-use crate::lookups::board_named;
 use crate::new_entry::NewEntry;
 use crate::planned::is_too_large;
 use board_concepts::AttributeVerifier;
+use board_index::{BoardRow, Boards};
 use board_layout::{BoardKey, KeyMemory, TypeDetail, same_keys};
 use board_model::{Limits, same_type};
 use board_names::{BlackboardCreateError, BlackboardOpenError, ServiceName};
@@ -22,12 +21,6 @@ use board_things::Things;
 
 /// The last number from which no other is drawn: 2^64 - 2.
 pub(crate) const LAST: u64 = 18446744073709551614;
-
-pub(crate) fn has_name(name: &ServiceName, boards: &[BoardRow]) -> bool
-    ensures { result ≡ list_any (tables.has_name name.now) boards.now }
-{
-    boards.iter().any(|b| *b.name() == *name)
-}
 
 fn has_key<K: BoardKey>(key: &KeyMemory<64>, entries: &[NewEntry]) -> bool
     requires { K.SIZE ≤ 64 }
@@ -56,25 +49,25 @@ fn has_equal_keys<K: BoardKey>(entries: &[NewEntry]) -> bool
 }
 
 /// Why a board is not made.
-pub(crate) fn create_refusal<K: BoardKey>(
+pub(crate) fn create_refusal<K: BoardKey, C>(
     name: &ServiceName,
     entries: &[NewEntry],
-    boards: &[BoardRow],
-    last_board: u64,
+    boards: &Boards<C>,
     last_thing: u64,
 ) -> Option<BlackboardCreateError>
     requires size { 0 < length entries.now → K.SIZE ≤ 64 }
     requires shapes { HaveShapes entries.now }
     ensures first { result ≡ calls.first_of
         (calls.create_refusals (keys.same_keys K.eq K.value_of K.SIZE K.WORDS)
-        boards.now name.now (added entries.now)
-        ++ (spent last_board || spent last_thing, BlackboardCreateError.NumbersSpent) ∷ []) }
+        boards.now.boards name.now (added entries.now)
+        ++ (spent boards.now.last || spent last_thing, BlackboardCreateError.NumbersSpent) ∷ []) }
     ensures small { IfNone result (payload_of entries.now < 2 ^ 32) }
     ensures key { IfNone result (K.SIZE ≤ 64) }
-    ensures below { IfNone result ((last_board < 2 ^ 64 - 2) × (last_thing < 2 ^ 64 - 2)) }
-    ensures free { IfNone result (list_any (tables.has_name name.now) boards.now ≡ false) }
+    ensures below { IfNone result ((boards.now.last < 2 ^ 64 - 2) × (last_thing < 2 ^ 64 - 2)) }
+    ensures free { IfNone result
+        (list_any (tables.has_name name.now) boards.now.boards ≡ false) }
 {
-    if has_name(name, boards) {
+    if boards.has_name(name) {
         return Some(BlackboardCreateError::AlreadyExists);
     }
     if entries.is_empty() {
@@ -83,7 +76,7 @@ pub(crate) fn create_refusal<K: BoardKey>(
     if has_equal_keys::<K>(entries) || is_too_large(entries) {
         return Some(BlackboardCreateError::ServiceInCorruptedState);
     }
-    if last_board >= LAST || last_thing >= LAST {
+    if boards.last() >= LAST || last_thing >= LAST {
         return Some(BlackboardCreateError::NumbersSpent);
     }
     None
@@ -107,28 +100,28 @@ fn has_all_nodes(node: NodeId, board: &BoardRow, things: &Things) -> bool
 }
 
 /// Why a board is not opened.
-pub(crate) fn open_refusal(
+pub(crate) fn open_refusal<C>(
     node: NodeId,
     name: &ServiceName,
     key: &TypeDetail,
     limits: &Limits,
     needs: &AttributeVerifier,
-    boards: &[BoardRow],
+    boards: &Boards<C>,
     things: &Things,
     last_thing: u64,
 ) -> Option<BlackboardOpenError>
     ensures first { result ≡ calls.first_of
         (calls.open_refusals nat_eq things.now.things node
-        (find (tables.has_name name.now) boards.now) key.now limits.now needs.now
+        (find (tables.has_name name.now) boards.now.boards) key.now limits.now needs.now
         ++ (spent last_thing, BlackboardOpenError.NumbersSpent) ∷ []) }
-    ensures stands { IfNone result (IsSome (find (tables.has_name name.now) boards.now)) }
-    ensures alike { IfNone result (tables.holds_at (find (tables.has_name name.now) boards.now)
+    ensures stands { IfNone result (IsSome (find (tables.has_name name.now) boards.now.boards)) }
+    ensures alike { IfNone result (tables.holds_at (find (tables.has_name name.now) boards.now.boards)
         (λ b. types.same_type b.key key.now) ≡ true) }
-    ensures room { IfNone result (tables.holds_at (find (tables.has_name name.now) boards.now)
+    ensures room { IfNone result (tables.holds_at (find (tables.has_name name.now) boards.now.boards)
         (calls.has_all_nodes nat_eq node things.now.things) ≡ false) }
     ensures below { IfNone result (last_thing < 2 ^ 64 - 2) }
 {
-    let Some(board) = board_named(name, boards) else {
+    let Some(board) = boards.named(name) else {
         return Some(BlackboardOpenError::DoesNotExist);
     };
     if !same_type(board.key(), key) {
@@ -153,12 +146,12 @@ pub(crate) fn open_refusal(
 }
 
 /// The number of the board with the name, which stands.
-pub(crate) fn number_of_named(name: &ServiceName, boards: &[BoardRow]) -> u64
-    requires { IsSome (find (tables.has_name name.now) boards.now) }
-    ensures value { result ≡ calls.number_of (find (tables.has_name name.now) boards.now) }
-    ensures stands { IsSome (find (tables.is_numbered result) boards.now) }
+pub(crate) fn number_of_named<C>(name: &ServiceName, boards: &Boards<C>) -> u64
+    requires { IsSome (find (tables.has_name name.now) boards.now.boards) }
+    ensures value { result ≡ calls.number_of (find (tables.has_name name.now) boards.now.boards) }
+    ensures stands { IsSome (find (tables.is_numbered result) boards.now.boards) }
 {
-    match board_named(name, boards) {
+    match boards.named(name) {
         Some(b) => b.number(),
         // A board with the name stands.
         None => unreachable!(),

@@ -11,7 +11,6 @@ ghost use Rattle.board_names.specs.Table.{at, putting};
 ghost use Rattle.board_store.specs.declared.statics.Stored.TheVariants.{Final};
 
 use super::DomainCore;
-use crate::board_row::BoardRow;
 use crate::cells::Cells;
 use crate::descriptions::{keep, path_of, spell};
 use crate::held::push;
@@ -22,6 +21,7 @@ use crate::planned::{entries_for, plan_for};
 use crate::refusals::{create_refusal, limit_of};
 use board_cell::CellError;
 use board_concepts::{AttributeSet, Description};
+use board_index::BoardRow;
 use board_layout::{BoardKey, Plan, TypeDetail, TypeVariant};
 use board_model::{Entries, Kind, Limits, ThingKind};
 use board_names::{BlackboardCreateError, FilePath, NameTable, ServiceName};
@@ -93,13 +93,7 @@ impl<C: Cells> DomainCore<C> {
         ensures kept { KeepsHeld self.old self.new }
     {
         let wanted = entries.as_slice();
-        let refusal = create_refusal::<K>(
-            name,
-            wanted,
-            &self.boards,
-            self.last_board,
-            self.things.last(),
-        );
+        let refusal = create_refusal::<K, C>(name, wanted, &self.boards, self.things.last());
         if let Some(why) = refusal {
             return Err(why);
         }
@@ -109,10 +103,7 @@ impl<C: Cells> DomainCore<C> {
         let Ok(kept) = entries_for(self.alloc, &plan.cells, wanted) else {
             return Err(BlackboardCreateError::OutOfMemory);
         };
-        if self.boards.reserve(1).is_err()
-            || self.things.reserve().is_err()
-            || self.cells.reserve(1).is_err()
-        {
+        if self.boards.reserve().is_err() || self.things.reserve().is_err() {
             return Err(BlackboardCreateError::OutOfMemory);
         }
         let description = Description {
@@ -127,7 +118,8 @@ impl<C: Cells> DomainCore<C> {
         let Ok(bytes) = spell(self.alloc, &description) else {
             return Err(BlackboardCreateError::OutOfMemory);
         };
-        let path = path_of(self.last_board + 1);
+        let number = self.boards.last() + 1;
+        let path = path_of(number);
         let made = make_described(
             self.alloc,
             &plan,
@@ -139,10 +131,8 @@ impl<C: Cells> DomainCore<C> {
         let Ok(cells) = made else {
             return Err(BlackboardCreateError::OutOfMemory);
         };
-        self.last_board += 1;
-        self.cells.push_reserved(cells);
-        self.boards.push_reserved(BoardRow {
-            number: self.last_board,
+        let row = BoardRow {
+            number,
             name: description.name,
             key: description.key,
             max_readers: description.max_readers,
@@ -150,11 +140,9 @@ impl<C: Cells> DomainCore<C> {
             max_writers: description.max_writers,
             attributes: description.attributes,
             entries: Entries::from_vec(kept),
-        });
-        let thing = push(node, self.last_board, Kind::Factory, &mut self.things);
-        Ok(Made {
-            thing,
-            number: self.last_board,
-        })
+        };
+        self.boards.push_reserved(row, cells);
+        let thing = push(node, number, Kind::Factory, &mut self.things);
+        Ok(Made { thing, number })
     }
 }

@@ -49,7 +49,7 @@ impl<C: Cells> DomainCore<C> {
         ensures kept { KeepsHeld self.old self.new }
     {
         let of = thing_of(reader, &self.things);
-        let Some((entry, found)) = find_entry::<K>(of.board, key, value, &self.boards) else {
+        let Some((entry, found)) = find_entry::<K, C>(of.board, key, value, &self.boards) else {
             return Err(EntryHandleError::EntryDoesNotExist);
         };
         let cell = found.cell;
@@ -95,7 +95,7 @@ impl<C: Cells> DomainCore<C> {
         ensures kept { KeepsHeld self.old self.new }
     {
         let of = thing_of(writer, &self.things);
-        let Some((entry, found)) = find_entry::<K>(of.board, key, value, &self.boards) else {
+        let Some((entry, found)) = find_entry::<K, C>(of.board, key, value, &self.boards) else {
             return Err(EntryHandleMutError::EntryDoesNotExist);
         };
         let cell = found.cell;

@@ -15,7 +15,7 @@ use crate::ids::{NodeId, ThingId};
 use crate::lookups::{find_entry, has_all_readers, has_all_writers};
 use crate::made::{Found, Made};
 use crate::new_entry::NewEntry;
-use crate::refusals::{LAST, create_refusal, has_name, number_of_named, open_refusal};
+use crate::refusals::{LAST, create_refusal, number_of_named, open_refusal};
 use board_concepts::AttributeVerifier;
 use board_layout::{BoardKey, TypeDetail, TypeVariant};
 use board_model::{Limits, ThingKind};
@@ -29,7 +29,7 @@ impl<C: Cells> DomainCore<C> {
     pub fn has_board(&self, name: &ServiceName) -> bool
         ensures { result ≡ list_any (tables.has_name name.now) self.now.tables.boards }
     {
-        has_name(name, &self.boards)
+        self.boards.has_name(name)
     }
 
     /// Why `create` would be refused, want of memory aside.
@@ -43,13 +43,7 @@ impl<C: Cells> DomainCore<C> {
         ensures { result ≡ first_of (domain.create_list self.now
             (same_keys K.eq K.value_of K.SIZE K.WORDS) name.now (added entries.now)) }
     {
-        create_refusal::<K>(
-            name,
-            entries,
-            &self.boards,
-            self.last_board,
-            self.things.last(),
-        )
+        create_refusal::<K, C>(name, entries, &self.boards, self.things.last())
     }
 
     /// Why `open` would be refused, want of memory aside.
@@ -147,7 +141,7 @@ impl<C: Cells> DomainCore<C> {
             reader (is_key K.eq K.value_of K.SIZE K.WORDS key.now) value.now) }
     {
         let of = thing_of(reader, &self.things);
-        let Some((entry, found)) = find_entry::<K>(of.board, key, value, &self.boards) else {
+        let Some((entry, found)) = find_entry::<K, C>(of.board, key, value, &self.boards) else {
             return Err(EntryHandleError::EntryDoesNotExist);
         };
         if self.things.last() >= LAST {
@@ -171,7 +165,7 @@ impl<C: Cells> DomainCore<C> {
             (is_key K.eq K.value_of K.SIZE K.WORDS key.now) value.now) }
     {
         let of = thing_of(writer, &self.things);
-        let Some((entry, found)) = find_entry::<K>(of.board, key, value, &self.boards) else {
+        let Some((entry, found)) = find_entry::<K, C>(of.board, key, value, &self.boards) else {
             return Err(EntryHandleMutError::EntryDoesNotExist);
         };
         if self.things.has_write_handle(of.board, entry) {
@@ -197,7 +191,7 @@ impl<C: Cells> DomainCore<C> {
             reader (is_key K.eq K.value_of K.SIZE K.WORDS key.now) value.now)) }
     {
         let of = thing_of(reader, &self.things);
-        let Some((_entry, _found)) = find_entry::<K>(of.board, key, value, &self.boards) else {
+        let Some((_entry, _found)) = find_entry::<K, C>(of.board, key, value, &self.boards) else {
             return Some(EntryHandleError::EntryDoesNotExist);
         };
         if self.things.last() >= LAST {
@@ -220,7 +214,7 @@ impl<C: Cells> DomainCore<C> {
             (is_key K.eq K.value_of K.SIZE K.WORDS key.now) value.now)) }
     {
         let of = thing_of(writer, &self.things);
-        let Some((entry, _found)) = find_entry::<K>(of.board, key, value, &self.boards) else {
+        let Some((entry, _found)) = find_entry::<K, C>(of.board, key, value, &self.boards) else {
             return Some(EntryHandleMutError::EntryDoesNotExist);
         };
         if self.things.has_write_handle(of.board, entry) {

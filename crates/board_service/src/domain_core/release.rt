@@ -9,7 +9,6 @@ use crate::cells::Cells;
 use crate::descriptions::let_go;
 use crate::held::take_thing;
 use crate::ids::ThingId;
-use crate::lookups::{take_board, take_cells};
 
 impl<C: Cells> DomainCore<C> {
     /// Ends a thing. Where it was its board's last, and there alone, the board goes, its cells are handed back, and its name is free. Takes no memory.
@@ -28,8 +27,8 @@ impl<C: Cells> DomainCore<C> {
         if self.things.has_thing_of(gone.board) {
             return None;
         }
-        let place = take_board(gone.board, &mut self.boards);
+        let cells = self.boards.take(gone.board);
         let_go(&mut self.descriptions, gone.board);
-        Some(take_cells(place, &mut self.cells))
+        Some(cells)
     }
 }

@@ -13,7 +13,7 @@ use crate::counts::node_at;
 use crate::descriptions::path_of;
 use crate::held::{thing_at, thing_of};
 use crate::ids::{NodeId, ThingId};
-use crate::lookups::{board_at, entry_of, has_details, is_kind};
+use crate::lookups::{entry_of, has_details, is_kind};
 use crate::made::Found;
 use crate::told::{DynamicConfig, StaticConfig};
 use board_concepts::AttributeSet;
@@ -35,7 +35,7 @@ impl<C: Cells> DomainCore<C> {
     pub fn stands(&self, board: u64) -> bool
         ensures { result ≡ is_some (board_at self.now.tables board) }
     {
-        board_at(board, &self.boards).is_some()
+        self.boards.at(board).is_some()
     }
 
     /// Whether the thing stands, is of the kind, and its board's keys are of type `K`.
@@ -58,7 +58,7 @@ impl<C: Cells> DomainCore<C> {
     {
         let t = thing_of(handle, &self.things);
         let entry = entry_of(&t.kind);
-        match board_at(t.board, &self.boards) {
+        match self.boards.at(t.board) {
             Some(b) => match b.entries().get(entry as usize) {
                 Some(e) => Some(Found::at(handle, entry, &e.cell)),
                 None => None,
@@ -72,7 +72,7 @@ impl<C: Cells> DomainCore<C> {
         ensures { option_map (λ n. n.now) result
             ≡ option_map (λ b. b.name) (board_at self.now.tables board) }
     {
-        match board_at(board, &self.boards) {
+        match self.boards.at(board) {
             Some(b) => Some(b.name()),
             None => None,
         }
@@ -82,7 +82,7 @@ impl<C: Cells> DomainCore<C> {
     pub fn config_of(&self, board: u64) -> Option<StaticConfig>
         ensures { result ≡ option_map told.config (board_at self.now.tables board) }
     {
-        match board_at(board, &self.boards) {
+        match self.boards.at(board) {
             Some(b) => Some(StaticConfig {
                 type_details: *b.key(),
                 max_readers: b.max_readers(),
@@ -99,7 +99,7 @@ impl<C: Cells> DomainCore<C> {
         ensures { result
             ≡ option_map (told.use_in self.now.tables.things) (board_at self.now.tables board) }
     {
-        match board_at(board, &self.boards) {
+        match self.boards.at(board) {
             Some(b) => Some(DynamicConfig {
                 readers: self.things.reader_slots(b.number()),
                 writers: self.things.writer_slots(b.number()),
@@ -114,7 +114,7 @@ impl<C: Cells> DomainCore<C> {
         ensures { option_map (λ a. a.now) result
             ≡ option_map (λ b. b.attributes) (board_at self.now.tables board) }
     {
-        match board_at(board, &self.boards) {
+        match self.boards.at(board) {
             Some(b) => Some(b.attributes()),
             None => None,
         }
@@ -133,7 +133,7 @@ impl<C: Cells> DomainCore<C> {
         ensures { result
             ≡ told.node_in index self.now.tables.things (board_at self.now.tables board) }
     {
-        match board_at(board, &self.boards) {
+        match self.boards.at(board) {
             Some(b) => node_at(b.number(), index, self.things.as_slice()),
             None => None,
         }
@@ -144,7 +144,7 @@ impl<C: Cells> DomainCore<C> {
         ensures { option_map (λ es. es.now) result
             ≡ option_map (λ b. b.entries) (board_at self.now.tables board) }
     {
-        match board_at(board, &self.boards) {
+        match self.boards.at(board) {
             Some(b) => Some(b.entries()),
             None => None,
         }
@@ -155,7 +155,7 @@ impl<C: Cells> DomainCore<C> {
         ensures { option_map (λ k. k.bytes) result
             ≡ told.key_in index (board_at self.now.tables board) }
     {
-        match board_at(board, &self.boards) {
+        match self.boards.at(board) {
             Some(b) => match b.entries().get(index as usize) {
                 Some(e) => Some(e.key),
                 None => None,

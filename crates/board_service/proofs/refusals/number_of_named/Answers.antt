@@ -5,5 +5,5 @@ use Rattle.board_service.proofs.BoardLemmas.{number_stands}
 use Rattle.board_service.proofs.refusals.number_of_named.Goals as goal
 
 pub returns-clause-stands : goal.returns-clause-stands
-returns-clause-stands c =
-    subst (λ (n : ℕ). IsSome (find (is_numbered n) c.args.boards.now)) (sym c.number.ensures) (number_stands (has_name c.args.name.now) c.args.boards.now c.in-Some.b.now (sym c.in-Some.ensures))
+returns-clause-stands g c =
+    subst (λ (n : ℕ). IsSome (find (is_numbered n) c.args.boards.now.boards)) (sym c.number.ensures) (number_stands (has_name c.args.name.now) c.args.boards.now.boards c.in-Some.b.now (sym c.in-Some.ensures))

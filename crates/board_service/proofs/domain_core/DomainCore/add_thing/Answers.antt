@@ -18,7 +18,7 @@ invariant_of-self-2 g c =
     let room = subst (λ (d : Domain g.row.C.Denot). HasRoomFor d (next_thing d c.args.holder c.args.board c.args.kind)) (sym c.self.view_is) c.requires.room in
     let alone = subst (λ (d : Domain g.row.C.Denot). WritesAlone d.tables.things (next_thing d c.args.holder c.args.board c.args.kind)) (sym c.self.view_is) c.requires.alone in
     let more = core_thing x c.self.invariant.core refl stands c.requires.none port entry room alone in
-    let added : List (Thing ℕ ℕ) → ℕ → Type 0 = λ ts last. IsCore (record { boards = s.boards.items; things = ts; last_board = s.last_board; last_port = s.last_port }) last s.cells.items s.descriptions in
+    let added : List (Thing ℕ ℕ) → ℕ → Type 0 = λ ts last. IsCore (record { boards = s.boards.boards; things = ts; last_board = s.boards.last; last_port = s.last_port }) last s.boards.cells s.descriptions in
     record {
       core = subst (λ last. added c.add.new.things.things last) (sym c.in_ok-thing.ensures.last) (subst (λ ts. added ts (s.things.last + 1)) (sym c.in_ok-thing.ensures.ok) more);
       suited = c.self.invariant.suited;

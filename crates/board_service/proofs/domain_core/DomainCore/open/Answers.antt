@@ -1,4 +1,4 @@
-use Rattle.std.proofs.Common.{◌≡◌, true, List, refl, sym, ap, subst, ◌∙◌}
+use Rattle.std.proofs.Common.{◌≡◌, true, List, refl, sym, ap, subst}
 use Rattle.std.specs.Prelude.{find}
 use Rattle.board_model.specs.declared.tables.Board.{Board}
 use Rattle.board_model.specs.declared.tables.Kind.TheVariants as kind
@@ -19,17 +19,17 @@ pub open_unrefused-requires-clause-joins : goal.open_unrefused-requires-clause-j
 open_unrefused-requires-clause-joins g c =
     let things = ap (λ (d : Domain g.row.C.Denot). d.tables.things) c.self.view_is in
     let boards = ap (λ (d : Domain g.row.C.Denot). d.tables.boards) c.self.view_is in
-    can_join c.args.self.now c.args.node c.args.name.now c.deref.result.now c.self.inside.things.things
-    (c.deref.ensures.value ∙ boards) things c.in_default.ensures.stands c.in_default.ensures.room
+    can_join c.args.self.now c.args.node c.args.name.now c.self.inside.boards.boards c.self.inside.things.things
+    boards things c.in_default.ensures.stands c.in_default.ensures.room
 
 pub returns-in-Ok-clause-held : goal.returns-in-Ok-clause-held
 returns-in-Ok-clause-held g c =
     let known = subst (λ (d : Domain g.row.C.Denot). IsDomain d) c.self.view_is (core_domain c.self.invariant.core) in
-    let boards = c.deref.ensures.value ∙ ap (λ (d : Domain g.row.C.Denot). d.tables.boards) c.self.view_is in
+    let boards = ap (λ (d : Domain g.row.C.Denot). d.tables.boards) c.self.view_is in
     let number = number_of (board_named c.args.self.now.tables c.args.name.now) in
     let same = ap (λ (bs : List Board). number_of (find (has_name c.args.name.now) bs)) (sym boards) in
-    let alike = subst (λ (k : TypeDetail). holds_at (find (has_name c.args.name.now) c.deref.result.now) (λ b. same_type b.key k) ≡ true) c.new-key.ensures c.in_default.ensures.alike in
-    let keys = keys_found c.args.self.now number c.args.name.now c.deref.result.now _ known boards same alike in
+    let alike = subst (λ (k : TypeDetail). holds_at (find (has_name c.args.name.now) c.self.inside.boards.boards) (λ b. same_type b.key k) ≡ true) c.new-key.ensures c.in_default.ensures.alike in
+    let keys = keys_found c.args.self.now number c.args.name.now c.self.inside.boards.boards _ known boards same alike in
     let there = subst (λ (bs : List Board). holds_at (find (is_numbered number) bs) (λ b. same_type b.key _) ≡ true) (sym (ap (λ (d : Domain g.row.C.Denot). d.tables.boards) c.in-Ok.ensures.ok)) keys in
     next_held c.args.self.now c.open_unrefused.new.self (next_thing c.args.self.now c.args.node number kind.Factory) _ _ thing_kind.Factory known
     (ap (λ (d : Domain g.row.C.Denot). d.tables.things) c.in-Ok.ensures.ok) refl (ap (λ (m : Made). m.thing) c.in-Ok.ensures.made) refl there

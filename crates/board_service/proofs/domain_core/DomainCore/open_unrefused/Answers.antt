@@ -13,7 +13,7 @@ use Rattle.board_service.proofs.domain_core.DomainCore.open_unrefused.Goals as g
 pub add_thing-requires-clause-room : goal.add_thing-requires-clause-room
 add_thing-requires-clause-room g c =
     let known = subst (λ (d : Domain g.row.C.Denot). IsDomain d) c.self.view_is (core_domain c.self.invariant.core) in
-    let boards = c.deref.ensures.value ∙ ap (λ (d : Domain g.row.C.Denot). d.tables.boards) c.self.view_is in
+    let boards = ap (λ (d : Domain g.row.C.Denot). d.tables.boards) c.self.view_is in
     let named : c.number_of_named-number.result ≡ number_of (board_named c.args.self.now.tables c.args.name.now) =
     c.number_of_named-number.ensures.value ∙ ap (λ (bs : List Board). number_of (find (has_name c.args.name.now) bs)) boards in
     subst (λ (n : ℕ). HasRoomFor c.args.self.now (next_thing c.args.self.now c.args.node n kind.Factory)) (sym named) (room_to_open c.args.self.now c.args.node c.args.name.now known c.requires.joins.stands c.requires.joins.nodes)

@@ -24,8 +24,8 @@ add_port-requires-clause-room g c =
     let things = ap (λ (d : Domain g.row.C.Denot). d.tables.things) c.self.view_is in
     let boards = ap (λ (d : Domain g.row.C.Denot). d.tables.boards) c.self.view_is in
     let same : c.thing_of-of.result ≡ held c.args.self.now c.args.factory = c.thing_of-of.ensures ∙ ap (λ (ts : List (Thing ℕ ℕ)). thing_numbered c.args.factory ts) things in
-    write_room c.args.self.now c.args.factory (c.self.inside.last_port + 1) c.thing_of-of.result c.deref.result.now c.self.inside.things.things known c.requires same
-    (c.deref.ensures.value ∙ boards) things (sym c.has_all_writers.ensures ∙ c.if-has_all_writers.false)
+    write_room c.args.self.now c.args.factory (c.self.inside.last_port + 1) c.thing_of-of.result c.self.inside.boards.boards c.self.inside.things.things known c.requires same
+    boards things (sym c.has_all_writers.ensures ∙ c.if-has_all_writers.false)
 
 pub returns-in-Ok-clause-held : goal.returns-in-Ok-clause-held
 returns-in-Ok-clause-held g c =

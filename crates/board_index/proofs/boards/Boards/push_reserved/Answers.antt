@@ -1,0 +1,25 @@
+use Rattle.std.proofs.Common.{◌≡◌, ◌+◌, ◌++◌, ◌∷◌, [], false, sym, ap, ◌∙◌}
+use Rattle.std.specs.List.{list_any}
+use Rattle.board_model.specs.Tables.{has_name}
+use Rattle.board_index.specs.Boards.{Rows, standing, under}
+use Rattle.board_index.proofs.Indexed.{indexed_pushed, unequal}
+use Rattle.board_index.proofs.Standing.{standing_more}
+use Rattle.board_index.proofs.boards.Boards.push_reserved.Goals as goal
+
+pub invariant_of-self : goal.invariant_of-self
+invariant_of-self g c =
+    let next : c.number-number.result ≡ c.self.inside.last + 1 = c.number-number.ensures ∙ c.requires.next ∙ ap (λ (d : Rows g.row.C.Denot). d.last + 1) (sym c.self.view_is) in
+    let free : list_any (has_name c.args.row.name) (standing (under c.self.inside.rows) c.self.inside.last) ≡ false = ap (λ (d : Rows g.row.C.Denot). list_any (has_name c.args.row.name) d.boards) c.self.view_is ∙ c.requires.free in
+    indexed_pushed c.self.invariant c.args.row c.args.cells c.number-number.ensures c.name.ensures next free c.in-Ok-insert.ensures.updates.0 c.in-Ok-None.ensures.updates.0 c.in-Ok.ensures.updates.0
+
+pub returns-clause-boards : goal.returns-clause-boards
+returns-clause-boards g c =
+    let next : c.number-number.result ≡ c.self.inside.last + 1 = c.number-number.ensures ∙ c.requires.next ∙ ap (λ (d : Rows g.row.C.Denot). d.last + 1) (sym c.self.view_is) in
+    standing_more (under c.self.inside.rows) (under c.insert-2.new.self) c.self.inside.last c.number-number.result c.args.row next c.in-Ok-insert.ensures.updates.1
+    (λ n other. c.in-Ok-insert.ensures.updates.2 n (unequal n c.number-number.result other)) ∙ ap (λ (d : Rows g.row.C.Denot). d.boards ++ c.args.row ∷ []) c.self.view_is
+
+pub returns-clause-cells : goal.returns-clause-cells
+returns-clause-cells g c =
+    let next : c.number-number.result ≡ c.self.inside.last + 1 = c.number-number.ensures ∙ c.requires.next ∙ ap (λ (d : Rows g.row.C.Denot). d.last + 1) (sym c.self.view_is) in
+    standing_more (under c.self.inside.cells) (under c.insert-3.new.self) c.self.inside.last c.number-number.result c.args.cells next c.in-Ok-None.ensures.updates.1
+    (λ n other. c.in-Ok-None.ensures.updates.2 n (unequal n c.number-number.result other)) ∙ ap (λ (d : Rows g.row.C.Denot). d.cells ++ c.args.cells ∷ []) c.self.view_is

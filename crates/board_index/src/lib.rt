@@ -1,0 +1,14 @@
+//! The boards of a domain by their numbers and names, each with its cells.
+//!
+//! `Boards<C>` keep the boards and their cells under the boards' numbers, and the numbers under the boards' names, so
+//! that nothing goes over the boards: to look one up, to add one and to take one out cost the same however many stand.
+//! Contracts see the boards as a list in the order of making, and their cells as a list beside it; `specs/Boards` says how
+//! the maps give them. The maps hash by std's default hasher, whose seed is fixed: whoever chooses the names of boards can
+//! choose many that are hashed alike, and then a name is looked up as slowly as in a list of those, and found all the same.
+#![tactic(auto)]
+
+mod board_row;
+mod boards;
+
+pub use board_row::BoardRow;
+pub use boards::Boards;
