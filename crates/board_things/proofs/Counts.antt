@@ -1,11 +1,10 @@
 -- The kept numbers of a board, as things come and go.
 use Rattle.std.proofs.Common.{◌≡◌, ℕ, ◌+◌, ◌<◌, ◌≤◌, ◌^◌, ◌==◌, ◌&&◌, ◌||◌, Bool, true, false, cond, List, [], ◌∷◌, ◌++◌, length, Option, Some, None, refl, sym, ap, ◌∙◌, subst, arith, if◌then◌else◌}
-use Rattle.std.specs.Prelude.{find, count_by, is_some, nat_le, nat_eq, not}
+use Rattle.std.specs.Prelude.{find, count_by, nat_le, nat_eq, not}
 use Rattle.std.specs.List.{list_any}
 use Rattle.std.specs.HashMap.{HashMap, get}
 use Rattle.std.proofs.lemmas.List.Sums.{count_by-le-length}
 use Rattle.std.proofs.lemmas.Bool.Decides.{nat_tests}
-use Rattle.board_model.specs.declared.tables.Kind.{Kind}
 use Rattle.board_model.specs.declared.tables.Thing.{Thing}
 use Rattle.board_model.specs.Tables.{holds_at, is_of_board, is_of_port, is_last_of_port, is_reader, is_reader_of, is_held_by, is_node, is_write_handle, writes_entry, nodes_taken, writer_port, writer_slots, without_first}
 use Rattle.board_model.proofs.ListLemmas.{any_counts, count_none, count_push, count_without}
@@ -24,11 +23,11 @@ one_of b t e = let yes : (t.board == b) ≡ true = grind (arith, nat_tests, e) i
 
 -- ---- nodes
 
-any_push : {X : Type 0} (p : X → Bool) (xs : List X) (t : X) → list_any p (xs ++ t ∷ []) ≡ (list_any p xs || p t)
+pub any_push : {X : Type 0} (p : X → Bool) (xs : List X) (t : X) → list_any p (xs ++ t ∷ []) ≡ (list_any p xs || p t)
 any_push p [] t = elim (p t) as (λ z. (z || false) ≡ z) [ true ↦ refl | false ↦ refl ]
 any_push p (x ∷ xs) t = elim (p x) as (λ z. (z || list_any p (xs ++ t ∷ [])) ≡ ((z || list_any p xs) || p t)) [ true ↦ refl | false ↦ any_push p xs t ]
 
-any_taken : {X : Type 0} (p q : X → Bool) (xs : List X) (t : X) → find q xs ≡ Some t → list_any p xs ≡ (list_any p (without_first q xs) || p t)
+pub any_taken : {X : Type 0} (p q : X → Bool) (xs : List X) (t : X) → find q xs ≡ Some t → list_any p xs ≡ (list_any p (without_first q xs) || p t)
 any_taken p q [] t f = absurd cc
 any_taken {X = X} p q (x ∷ xs) t f =
     elim (q x) as (λ z. (w : cond z (some x) (find q xs) ≡ some t) → (p x || list_any p xs) ≡ (list_any p (cond z xs (x ∷ without_first q xs)) || p t)) [

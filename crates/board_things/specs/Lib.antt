@@ -1,2 +1,3 @@
 pub mod Things
 pub mod Kept
+pub mod Nodes

@@ -4,8 +4,10 @@
 //! the limits of boards ask for is kept beside it, so that nothing goes over the things: how many of a board stand, its
 //! readers, its writer slots and its nodes, and by hashed pairs the things of a board and a node, those that keep a port,
 //! and the write handles of an entry. `specs/Kept` has the invariant: each kept number is the count over the things.
+//! The nodes of all boards stand in one sorted list of pairs (`nodes`), in which those of a board stand together.
 #![tactic(auto)]
 
+mod nodes;
 mod things;
 mod uses;
 

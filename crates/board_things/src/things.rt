@@ -1,10 +1,12 @@
 //! The things of a domain.
-ghost use Rattle.std.specs.Prelude.{◌≡◌, ◌≤◌, ◌<◌, ◌-◌, ◌+◌, ◌^◌, ◌++◌, ◌∷◌, [], find, option_map, IsSome, IfSome, IfNone, OnOk, None, nat_eq};
+ghost use Rattle.std.specs.Prelude.{◌≡◌, ◌≤◌, ◌<◌, ◌-◌, ◌+◌, ◌^◌, ◌++◌, ◌∷◌, [], find, option_map, IsSome, IfSome, IfNone, OnOk, None, nat_eq, nat_lt};
 ghost use Rattle.std.specs.List.{list_any};
 ghost use Rattle.board_model.specs.Tables as tables;
 ghost use Rattle.board_things.specs.Things.{HasThing, is_thing, new_thing, thing_numbered};
 ghost use Rattle.board_things.specs.Kept as kept;
+ghost use Rattle.board_things.specs.Nodes as nodes;
 
+use crate::nodes::{node_in, put_first, take_last};
 use crate::uses::{
     Use, count_at, is_only_of_port, lower, lower_at, lower_handle, lower_port, raise, raise_at,
     raise_handle, raise_port, use_of,
@@ -30,11 +32,14 @@ pub struct Things {
     ports: HashMap<(u64, u64), u64>,
     /// How many write handles an entry has, by board and entry.
     written: HashMap<(u64, u64), u64>,
+    /// The nodes with a thing of a board, by board and node, in order.
+    nodes: Vec<(u64, u64)>,
 }
 
 impl Model for Things {
     ghost use Rattle.board_things.specs.Things.{Numbered};
     ghost use Rattle.board_things.specs.Kept.{AreHeld, ArePorts, AreRising, AreUses, AreWritten};
+    ghost use Rattle.board_things.specs.Nodes.{AreNodes};
     ghost use Rattle.std.specs.Prelude.{◌-◌, min};
     ghost use Rattle.std.specs.Vec.{vec_capacity, vec_len};
     ghost use Rattle.std.specs.HashMap.{spare};
@@ -45,14 +50,16 @@ impl Model for Things {
       things = d.items.items;
       last = d.last;
       room = min (vec_capacity d.items - vec_len d.items)
-          (min (spare d.uses) (min (spare d.held) (min (spare d.ports) (spare d.written))));
+          (min (vec_capacity d.nodes - vec_len d.nodes)
+          (min (spare d.uses) (min (spare d.held) (min (spare d.ports) (spare d.written)))));
     } };
 
     ghost invariant = { λ d. AreRising 0 d.last d.items.items
         × AreUses d.uses d.items.items
         × AreHeld d.held d.items.items
         × ArePorts d.ports d.items.items
-        × AreWritten d.written d.items.items };
+        × AreWritten d.written d.items.items
+        × AreNodes d.nodes.items d.items.items };
 }
 
 // Where the thing with the number stands. The numbers are up to `_last`.
@@ -80,6 +87,7 @@ impl Things {
             held: HashMap::new(alloc),
             ports: HashMap::new(alloc),
             written: HashMap::new(alloc),
+            nodes: Vec::new(alloc),
         }
     }
 
@@ -140,18 +148,19 @@ impl Things {
         count_at(board, node, &self.held) >= 1
     }
 
+    /// The node with so many below it among those of the board.
+    pub fn node_at(&self, board: u64, index: u64) -> Option<u64>
+        ensures { result
+            ≡ nodes.node_from nat_eq nat_lt board index self.now.things self.now.things }
+    {
+        node_in(board, index, &self.nodes)
+    }
+
     /// Whether a write handle of the entry stands.
     pub fn has_write_handle(&self, board: u64, entry: u64) -> bool
         ensures { result ≡ list_any (tables.is_write_handle board entry) self.now.things }
     {
         count_at(board, entry, &self.written) >= 1
-    }
-
-    /// The things, in the order of their numbers.
-    pub fn as_slice(&self) -> &[Held]
-        ensures { result.now ≡ self.now.things }
-    {
-        &self.items
     }
 
     /// The number that was drawn last.
@@ -171,6 +180,7 @@ impl Things {
         ensures room { OnOk result (0 < self.new.room) }
     {
         self.items.reserve(1)?;
+        self.nodes.reserve(1)?;
         self.uses.reserve(1)?;
         self.held.reserve(1)?;
         self.ports.reserve(1)?;
@@ -190,6 +200,7 @@ impl Things {
         raise_at(board, holder, &mut self.held);
         raise_port(board, &kind, &mut self.ports);
         raise_handle(board, &kind, &mut self.written);
+        put_first(node, board, holder, &mut self.nodes);
         raise(board, &kind, node, port, &mut self.uses);
         self.last += 1;
         self.items.push_reserved(Thing {
@@ -216,6 +227,7 @@ impl Things {
                 lower_handle(gone.board, &gone.kind, &mut self.written);
                 let node = count_at(gone.board, gone.holder, &self.held) == 0;
                 let port = is_only_of_port(gone.board, &gone.kind, &self.ports);
+                take_last(node, gone.board, gone.holder, &mut self.nodes);
                 lower(gone.board, &gone.kind, node, port, &mut self.uses);
                 gone
             }

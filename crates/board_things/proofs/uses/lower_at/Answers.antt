@@ -1,4 +1,4 @@
-use Rattle.std.proofs.Common.{ap, Some, None, arith, ◌-◌}
+use Rattle.std.proofs.Common.{Some, None, arith, ◌-◌}
 use Rattle.std.proofs.lemmas.Bool.Decides.{nat_tests}
 use Rattle.board_things.proofs.Counts.{pair_lowered}
 use Rattle.board_things.proofs.uses.lower_at.Goals as goal

@@ -1,5 +1,5 @@
 use Rattle.std.proofs.Common.{rules, ◌∙◌, ap}
-use Rattle.std.specs.Prelude.{nat_le, nat_eq}
+use Rattle.std.specs.Prelude.{nat_le}
 use Rattle.board_model.specs.Tables as tables
 use Rattle.board_things.proofs.Counts.{any_count}
 use Rattle.board_things.proofs.things.Things.has_write_handle.Goals as goal

@@ -1,11 +1,14 @@
-use Rattle.std.proofs.Common.{rules, ◌≡◌, ◌∙◌, ℕ, List, Option, Some, sym, ap, refl, subst}
+use Rattle.std.proofs.Common.{true, ◌≡◌, ◌∙◌, ℕ, List, Option, Some, sym, ap, refl, subst}
 use Rattle.std.specs.Prelude.{find, nat_eq}
+use Rattle.std.proofs.lemmas.Bool.{OnTrue_from}
 use Rattle.board_model.specs.Tables.{is_held_by, is_of_port, is_write_handle, without_first, writer_port}
 use Rattle.board_model.specs.declared.tables.Thing.{Thing}
 use Rattle.board_things.specs.Things.{is_thing}
 use Rattle.board_things.specs.Kept.{AreHeld, ArePorts, AreRising, AreUses, AreWritten, IsFirst, use_at}
+use Rattle.board_things.specs.Nodes.{AreNodes}
 use Rattle.board_things.proofs.Rising.{fewer}
 use Rattle.board_things.proofs.Counts.{all_less, counts_less, held_used, none_counted, port_new, port_used, used, written_used}
+use Rattle.board_things.proofs.NodeLemmas.{nodes_has, nodes_less}
 use Rattle.board_things.proofs.things.Things.take.Goals as goal
 
 -- the thing that goes is the first with the number
@@ -29,6 +32,14 @@ lower_handle-requires c = λ e.
     let p = is_thing c.args.number in
     let f = subst (λ (xs : List (Thing ℕ ℕ)). IsFirst p xs c.in-Some.place) c.deref.ensures.value c.in-Some.ensures.found in
     written_used c.self.inside.written p c.self.inside.items.items c.remove-gone.result e (f.found c.remove-gone.result ∙ ap some (sym c.remove-gone.ensures.value)) c.self.invariant.4
+
+pub take_last-requires-clause-one : goal.take_last-requires-clause-one
+take_last-requires-clause-one c =
+    let p = is_thing c.args.number in
+    let gone = c.remove-gone.result in
+    let f = subst (λ (xs : List (Thing ℕ ℕ)). IsFirst p xs c.in-Some.place) c.deref.ensures.value c.in-Some.ensures.found in
+    let nodes = c.self.inside.nodes.items in
+    OnTrue_from (nat_eq c.count_at-node.result 0) _ (λ _. nodes_has nodes nodes c.self.inside.items.items gone true c.self.invariant.5 c.self.invariant.5.order p (f.found gone ∙ ap some (sym c.remove-gone.ensures.value)))
 
 pub lower-requires-clause-things : goal.lower-requires-clause-things
 lower-requires-clause-things c =
@@ -78,10 +89,11 @@ invariant_of-self c =
     let written = counts_less is_write_handle c.self.inside.written c.lower_handle.new.written ts gone c.self.invariant.4 p found c.lower_handle.ensures in
     let node = none_counted (is_held_by nat_eq gone.board gone.holder) (without_first p ts) c.count_at-node.result (c.count_at-node.ensures ∙ held gone.board gone.holder) in
     let slot = c.is_only_of_port-port.ensures ∙ port_new c.lower_port.new.ports (without_first p ts) gone (writer_port gone.kind) ports in
-    subst (λ (xs : List (Thing ℕ ℕ)). AreRising 0 c.self.inside.last xs × AreUses c.lower.new.uses xs × AreHeld c.lower_at.new.counts xs × ArePorts c.lower_port.new.ports xs × AreWritten c.lower_handle.new.written xs) (sym (c.remove-gone.ensures.items ∙ sym f.rest)) (
+    subst (λ (xs : List (Thing ℕ ℕ)). AreRising 0 c.self.inside.last xs × AreUses c.lower.new.uses xs × AreHeld c.lower_at.new.counts xs × ArePorts c.lower_port.new.ports xs × AreWritten c.lower_handle.new.written xs × AreNodes c.take_last.new.pairs.items xs) (sym (c.remove-gone.ensures.items ∙ sym f.rest)) (
       fewer p 0 c.self.inside.last ts c.self.invariant.0,
       all_less c.self.inside.uses c.lower.new.uses ts gone (nat_eq c.count_at-node.result 0) c.is_only_of_port-port.result c.self.invariant.1 p found node slot c.lower.ensures.this c.lower.ensures.others,
       held,
       ports,
       written,
+      nodes_less c.self.inside.nodes.items c.take_last.new.pairs.items ts gone (nat_eq c.count_at-node.result 0) c.self.invariant.5 c.take_last.ensures.order p found node c.take_last.ensures.are,
     )

@@ -1,0 +1,43 @@
+-- The nodes of a board, ascending, and how the nodes of all boards are kept.
+use Rattle.std.specs.Prelude.{◌≡◌, ℕ, ◌+◌, Bool, true, not, ◌&&◌, ◌||◌, ◌==◌, nat_eq, nat_lt, if◌then◌else◌, List, [], ◌∷◌, Option, Some, None}
+use Rattle.std.specs.List.{AllByRecursion, list_any}
+use Rattle.board_model.specs.declared.tables.Thing.{Thing}
+use Rattle.board_model.specs.Tables.{is_node, is_of_board}
+
+-- how many different holders of things of the board are less
+abbrev pub nodes_below : {H N : Type 0} → (H → H → Bool) → (H → H → Bool) → ℕ → H → List (Thing H N) → ℕ
+nodes_below same less board holder [] = 0
+nodes_below same less board holder (t ∷ ts) =
+    if is_of_board board t && less t.holder holder && not (is_node same board t.holder ts)
+    then nodes_below same less board holder ts + 1 else nodes_below same less board holder ts
+
+-- the first holder of a thing of the board that has so many below it
+abbrev pub node_from : {H N : Type 0} → (H → H → Bool) → (H → H → Bool) → ℕ → ℕ → List (Thing H N) → List (Thing H N) → Option H
+node_from same less board i all [] = None
+node_from same less board i all (t ∷ ts) =
+    if is_of_board board t && (nodes_below same less board t.holder all == i) then Some t.holder else node_from same less board i all ts
+
+-- ---- how they are kept, as pairs of a board and a node; no public clause speaks of what follows
+
+-- a pair comes before that of this board and node
+abbrev pub comes_before : ℕ → ℕ → ℕ × ℕ → Bool
+comes_before board node p = nat_lt p.0 board || (p.0 == board && nat_lt p.1 node)
+
+-- it is the pair of this board and node
+abbrev pub is_pair : ℕ → ℕ → ℕ × ℕ → Bool
+is_pair board node p = p.0 == board && p.1 == node
+
+-- each pair comes before all that follow it
+abbrev pub AreInOrder : List (ℕ × ℕ) → Type 0
+AreInOrder [] = Unit {0}
+AreInOrder (p ∷ ps) = AllByRecursion (λ (q : ℕ × ℕ). comes_before q.0 q.1 p ≡ true) ps × AreInOrder ps
+
+-- the nodes that stand beside a board, in their order
+abbrev pub nodes_in : ℕ → List (ℕ × ℕ) → List ℕ
+nodes_in board [] = []
+nodes_in board (p ∷ ps) = if p.0 == board then p.1 ∷ nodes_in board ps else nodes_in board ps
+
+-- the pairs are in order, and those of the nodes with things of boards
+pub record AreNodes (pairs : List (ℕ × ℕ)) (ts : List (Thing ℕ ℕ)) : Type 0 where
+  pub order : AreInOrder pairs
+  pub are : (board node : ℕ) → list_any (is_pair board node) pairs ≡ is_node nat_eq board node ts
