@@ -1,6 +1,7 @@
 //! The things of a domain, by the numbers that callers see.
-ghost use Rattle.std.specs.Prelude.{◌≡◌, ◌+◌, ◌<◌, ◌-◌, ◌^◌, ◌++◌, ◌∷◌, [], find, option_map, nat_eq, IfOk, OnOk, OnErr};
+ghost use Rattle.std.specs.Prelude.{◌≡◌, ◌+◌, ◌<◌, ◌-◌, ◌^◌, ◌++◌, ◌∷◌, [], find, option_map, nat_eq, nat_lt, IfOk, OnOk, OnErr};
 ghost use Rattle.board_model.specs.Tables as tables;
+ghost use Rattle.board_service.specs.Told as told;
 ghost use Rattle.board_things.specs.Things.{HasThing, is_thing, new_thing, thing_numbered};
 
 use crate::ids::{NodeId, ThingId};
@@ -38,6 +39,17 @@ pub(crate) fn is_node(board: u64, node: NodeId, things: &Things) -> bool
     ensures { result ≡ tables.is_node nat_eq board node things.now.things }
 {
     things.is_node(board, node.0)
+}
+
+/// The node with so many below it among those of the board.
+pub(crate) fn node_at(board: u64, index: u64, things: &Things) -> Option<NodeId>
+    ensures { result
+        ≡ told.node_from nat_eq nat_lt board index things.now.things things.now.things }
+{
+    match things.node_at(board, index) {
+        Some(node) => Some(NodeId(node)),
+        None => None,
+    }
 }
 
 /// Adds a thing under the next number, where there is room. Takes no memory.

@@ -9,9 +9,8 @@ ghost use Rattle.board_service.specs.Told as told;
 
 use super::DomainCore;
 use crate::cells::Cells;
-use crate::counts::node_at;
 use crate::descriptions::path_of;
-use crate::held::{thing_at, thing_of};
+use crate::held::{node_at, thing_at, thing_of};
 use crate::ids::{NodeId, ThingId};
 use crate::lookups::{entry_of, has_details, is_kind};
 use crate::made::Found;
@@ -134,7 +133,7 @@ impl<C: Cells> DomainCore<C> {
             ≡ told.node_in index self.now.tables.things (board_at self.now.tables board) }
     {
         match self.boards.at(board) {
-            Some(b) => node_at(b.number(), index, self.things.as_slice()),
+            Some(b) => node_at(b.number(), index, &self.things),
             None => None,
         }
     }
