@@ -56,10 +56,7 @@ fn a_wait_passes_over_empty_words(rt: HostRuntime) {
     let mut wait = WaitCall::bits(4, true, WaitMode::Try);
     // It looks at no word before its drain.
     pass_empty_words(&events, 1, &mut wait);
-    let drained = [
-        (A::Signal, B::Yes, P::More),
-        (A::Signal, B::No, P::More),
-    ];
+    let drained = [(A::Signal, B::Yes, P::More), (A::Signal, B::No, P::More)];
     wait_is(&rt, &mut events, 1, &mut wait, &drained);
     assert_eq!(rt; wait.word(), Some(0));
     pass_empty_words(&events, 1, &mut wait);

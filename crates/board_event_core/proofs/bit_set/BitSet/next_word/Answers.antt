@@ -15,7 +15,7 @@ returns-else-index-eq0-clause-some c = λ none.
     let same : c.self.inside.max ≡ c.args.self.now.max = ap (λ (s : IdSet). s.max) c.self.view_is in
     let within : c.loop-at.at < c.self.inside.max / 64 + 1 = omega (arith, c.loop-at.invariant.1, c.len-last.ensures, c.self.invariant) in
     let word = scan_view c.self.inside.words.items c.self.inside.max c.loop-at.at c.index.result.now c.args.self.now c.self.view_is c.self.invariant
-        (subst (λ (m : ℕ). c.loop-at.at < m / 64 + 1) same within) c.index.ensures (omega arith) in
+    (subst (λ (m : ℕ). c.loop-at.at < m / 64 + 1) same within) c.index.ensures (omega arith) in
     absurd (no_other_word c.args.self.now.ids c.loop-at.at c.index.result.now word none (omega arith))
 
 pub returns-after-loop-at-clause-none : goal.returns-after-loop-at-clause-none
