@@ -133,7 +133,10 @@ fn monitored_names_are_let_go(rt: HostRuntime) -> Result<(), Fail> {
     names(&registry)?.token(&rt, rt.alloc())?.abandon(&rt);
     names(&registry)?.cleaner(&rt)?.release(&rt);
     is_left(&rt, rt.alloc(), &registry, u)?;
-    assert_eq!(rt; Builder::new(&u, &registry)?.monitor()?.state(&rt), Ok(State::Alive));
+    assert_eq!(rt;
+        Builder::new(&u, &registry)?.monitor()?.state(&rt),
+        Ok(State::Alive)
+    );
     other.release(&rt);
     Ok(())
 }

@@ -29,9 +29,9 @@ popped t u n table can is = by (event_at t n) refl can
 -- so a push finds room
 not_full : (e : Event) → length e.queue ≤ 511 → push_answer e ≢ answer.Full
 not_full e room = elim (not e.held || e.gone) as (λ b. (if b then answer.Gone else if nat_lt (length e.queue) 512 then answer.Done else answer.Full) ≢ answer.Full) [
-    | true ↦ λ full. absurd cc
-    | false ↦ let few : nat_lt (length e.queue) 512 ≡ true = grind (arith, room) in rw few (λ full. absurd cc)
-  ]
+  | true ↦ λ full. absurd cc
+  | false ↦ let few : nat_lt (length e.queue) 512 ≡ true = grind (arith, room) in rw few (λ full. absurd cc)
+]
 
 -- src/tests/lent.rt:37:5
 pub perform-requires-2 : goal.perform-requires-2
