@@ -199,4 +199,9 @@ END
 gets=$("$bench" shared 1 2 1000) && [[ $gets =~ ^gets\ [1-9][0-9]*$ ]] && good=yes || good=no
 tells 'readers beside a writer' "$good"
 
+# the first program of the library's use, whose run the gate compares, is the README's
+sed -n '/^```rust$/,/^```$/p' README.md | sed '1d;$d' > "$folder/typed"
+grep -v '^//!' crates/example_first/src/main.rt | cmp - "$folder/typed" && good=yes || good=no
+tells "the README's program" "$good"
+
 exit $bad
