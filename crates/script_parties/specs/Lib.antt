@@ -1,4 +1,5 @@
 pub mod Named
+pub mod Numbered
 pub mod Overview
 pub mod Parties
 pub mod Refusals

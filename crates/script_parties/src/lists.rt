@@ -1,11 +1,19 @@
 //! What is listed of a board.
-ghost use Rattle.std.specs.Prelude.{◌≡◌, ◌≤◌, ◌++◌, ◌∷◌, IfNone, IfSome, IfOk, OnOk, length, map, take, drop};
-ghost use Rattle.board_model.specs.Replies as replies;
+ghost use Rattle.std.specs.Prelude.{◌≡◌, ◌||◌, ℕ, List, IfOk, OnOk, map, nat_eq};
+ghost use Rattle.std.specs.BTreeSet as set;
+ghost use Rattle.std.specs.Cmp.Lexicographic.{slice_cmp};
+ghost use Rattle.std.specs.HashMap.{get, keys};
+ghost use Rattle.std.specs.List.{list_any};
+ghost use Rattle.std.specs.Ordering.{nat_cmp};
+ghost use Rattle.std.specs.Str.{bytes_eq};
+ghost use Rattle.board_model.specs.Tables.{holds_at, is_held_by};
+ghost use Rattle.script_parties.specs.Numbered.{AreHolders};
 ghost use Rattle.script_parties.specs.Overview.{key_shown};
 
 use crate::lookups::Held;
 use board_model::{Entry, KeyType, Keys, Name, Names, key_of};
 use std::alloc::{AllocError, Global};
+use std::collections::{BTreeSet, HashMap};
 
 /// The keys of entries, in the order of adding.
 pub(crate) fn keys_of(
@@ -22,49 +30,63 @@ pub(crate) fn keys_of(
     Ok(Keys::from_vec(keys))
 }
 
-// Where a name is to stand among others, in the order of their bytes. None where it stands there already.
-fn place_for(name: &Name, names: &[Name]) -> Option<usize>
-    ensures there { IfNone result (replies.placed_once name.now names.now ≡ names.now) }
-    ensures place { IfSome result (λ i. replies.placed_once name.now names.now
-        ≡ take i names.now ++ name.now ∷ drop i names.now) }
-    ensures inside { IfSome result (λ i. i ≤ length names.now) }
+// The party of the thing under a number, if there is one and it is of the board.
+fn party_at(board: u64, number: u64, things: &HashMap<u64, Held>) -> Option<Name>
+    ensures { (p : List ℕ) → holds_at result (λ party. bytes_eq party p)
+        ≡ holds_at (get nat_eq things.now number) (is_held_by bytes_eq board p) }
 {
-    for (i, other) in names.iter().enumerate() {
-        if name == other {
-            return None;
+    match things.get(&number) {
+        Some(thing) => {
+            if thing.board == board {
+                Some(thing.holder)
+            } else {
+                None
+            }
         }
-        if name < other {
-            return Some(i);
-        }
+        None => None,
     }
-    Some(names.len())
 }
 
-// Puts a name among others, in the order of their bytes, where it doesn't stand there.
-fn place_once(name: Name, names: &mut Vec<Name>) -> Result<(), AllocError>
-    ensures { OnOk result (names.new.items ≡ replies.placed_once name names.old.items) }
+// Adds a party to the others, if there is one.
+fn add_party(party: Option<Name>, parties: &mut BTreeSet<Name>) -> Result<(), AllocError>
+    ensures { OnOk result ((p : List ℕ) → set.contains (slice_cmp nat_cmp) parties.new p
+        ≡ (set.contains (slice_cmp nat_cmp) parties.old p
+        || holds_at party (λ q. bytes_eq q p))) }
 {
-    match place_for(&name, names) {
-        Some(at) => match names.insert(at, name) {
-            Ok(()) => Ok(()),
+    match party {
+        Some(party) => match parties.insert(party) {
+            Ok(_) => Ok(()),
             Err(_) => Err(AllocError),
         },
         None => Ok(()),
     }
 }
 
-/// The parties with a thing of the board, in the order of their bytes.
-pub(crate) fn nodes_at(alloc: Global, board: u64, things: &[Held]) -> Result<Names, AllocError>
-    ensures { IfOk result (λ names. names ≡ replies.nodes_of board things.now) }
+// The parties with a thing of the board.
+fn parties_of(
+    alloc: Global,
+    board: u64,
+    things: &HashMap<u64, Held>,
+) -> Result<BTreeSet<Name>, AllocError>
+    ensures { IfOk result (λ parties. (p : List ℕ) → set.contains (slice_cmp nat_cmp) parties p
+        ≡ list_any (λ n. holds_at (get nat_eq things.now n) (is_held_by bytes_eq board p))
+        (keys things.now)) }
 {
-    let mut names = Vec::new(alloc);
-    let mut at = things.len();
-    while at > 0 {
-        at -= 1;
-        let thing = &things[at];
-        if thing.board == board {
-            place_once(thing.holder, &mut names)?;
-        }
+    let mut parties = BTreeSet::new(alloc);
+    for number in things.keys() {
+        add_party(party_at(board, *number, things), &mut parties)?;
     }
-    Ok(Names::from_vec(names))
+    Ok(parties)
+}
+
+/// The parties with a thing of the board, in the order of their bytes.
+pub(crate) fn nodes_at(
+    alloc: Global,
+    board: u64,
+    things: &HashMap<u64, Held>,
+) -> Result<Names, AllocError>
+    ensures { IfOk result (AreHolders board things.now) }
+{
+    let parties = parties_of(alloc, board, things)?;
+    Ok(Names::from_vec(parties.iter().copied().collect(alloc)?))
 }
