@@ -1,4 +1,4 @@
-use Rattle.std.proofs.Common.{rules, ◌≡◌, ◌≢◌, true, Some, List, [], ◌∷◌, ◌++◌, refl, sym, ap, ◌∙◌, subst}
+use Rattle.std.proofs.Common.{rules, ◌≡◌, ◌≢◌, true, Some, [], ◌∷◌, ◌++◌, refl, sym, ap, ◌∙◌, subst}
 use Rattle.board_layout.specs.Answer.{Answers}
 use Rattle.board_model.specs.declared.answer.Reply.TheVariants as reply
 use Rattle.board_names.specs.declared.errors.boards.EntryHandleError.TheVariants as entry_error

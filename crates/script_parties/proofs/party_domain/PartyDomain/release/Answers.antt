@@ -1,4 +1,4 @@
-use Rattle.std.proofs.Common.{◌≡◌, List, None, refl, sym, ap, subst, ◌∙◌}
+use Rattle.std.proofs.Common.{None, refl, sym, ap, subst}
 use Rattle.board_model.specs.Things.{is_held_as}
 use Rattle.script_parties.specs.Named.{IsNamed, things_of}
 use Rattle.script_parties.specs.Numbered.{named_at}
