@@ -10,6 +10,7 @@ pub mod Holders
 pub mod KeyedCalls
 pub mod KeyTests
 pub mod NewEntries
+pub mod NodeCounts
 pub mod Openings
 pub mod Overview
 pub mod Places

@@ -1,3 +1,4 @@
+pub mod BoardNodes
 pub mod Named
 pub mod Numbered
 pub mod Overview

@@ -1,12 +1,7 @@
 -- Things by their numbers, with the index of their parties and names. No public clause speaks of this.
 use Rattle.std.specs.Prelude.{◌≡◌, ℕ, ◌<◌, Bool, true, false, ◌&&◌, if◌then◌else◌, nat_eq, nat_lt, List, [], ◌∷◌, Option, Some, None}
-use Rattle.std.specs.Cmp.Lexicographic.{slice_cmp}
-use Rattle.std.specs.HashMap.{HashMap, get, keys}
-use Rattle.std.specs.List.{list_any}
-use Rattle.std.specs.List.Sorted.{IsStrictlySortedBy}
-use Rattle.std.specs.Ordering.{nat_cmp}
-use Rattle.std.specs.Str.{bytes_eq}
-use Rattle.board_model.specs.Tables.{holds_at, is_held_by}
+use Rattle.std.specs.HashMap.{get}
+use Rattle.board_model.specs.Tables.{holds_at}
 use Rattle.board_model.specs.Things.{Held}
 use Rattle.script_parties.specs.declared.named.NamedThings.{NamedThings}
 use Rattle.script_seats.specs.Seats as seats
@@ -23,12 +18,6 @@ IsIndexed t = seats.IsIndex t.seats (named_at t)
 abbrev pub thing_at : (ℕ → Option Held) → Option ℕ → Option Held
 thing_at things None = None
 thing_at things (Some n) = things n
-
--- the parties with a thing of the board, in the order of their bytes
-pub record AreHolders {S : Type 0} (board : ℕ) (things : HashMap ℕ Held S) (names : List (List ℕ)) : Type 0 where
-  pub order : IsStrictlySortedBy (slice_cmp nat_cmp) names
-  pub parties : (p : List ℕ) → list_any (λ q. bytes_eq q p) names
-      ≡ list_any (λ n. holds_at (get nat_eq things n) (is_held_by bytes_eq board p)) (keys things)
 
 -- ---- the first thing that passes a test
 

@@ -1,19 +1,18 @@
 //! What is listed of a board.
-ghost use Rattle.std.specs.Prelude.{◌≡◌, ◌||◌, ℕ, List, IfOk, OnOk, map, nat_eq};
+ghost use Rattle.std.specs.Prelude.{◌≡◌, ◌||◌, ℕ, List, IfOk, OnOk, map};
 ghost use Rattle.std.specs.BTreeSet as set;
 ghost use Rattle.std.specs.Cmp.Lexicographic.{slice_cmp};
-ghost use Rattle.std.specs.HashMap.{get, keys};
-ghost use Rattle.std.specs.List.{list_any};
 ghost use Rattle.std.specs.Ordering.{nat_cmp};
 ghost use Rattle.std.specs.Str.{bytes_eq};
-ghost use Rattle.board_model.specs.Tables.{holds_at, is_held_by};
-ghost use Rattle.script_parties.specs.Numbered.{AreHolders};
+ghost use Rattle.board_model.specs.Tables.{holds_at};
+ghost use Rattle.script_parties.specs.BoardNodes.{AreHolders, is_told, node_count, node_party};
 ghost use Rattle.script_parties.specs.Overview.{key_shown};
 
-use crate::lookups::Held;
 use board_model::{Entry, KeyType, Keys, Name, Names, key_of};
+use board_service::{BoardWords, DomainCore, NodeId};
+use indexmap::IndexSet;
 use std::alloc::{AllocError, Global};
-use std::collections::{BTreeSet, HashMap};
+use std::collections::BTreeSet;
 
 /// The keys of entries, in the order of adding.
 pub(crate) fn keys_of(
@@ -30,19 +29,24 @@ pub(crate) fn keys_of(
     Ok(Keys::from_vec(keys))
 }
 
-// The party of the thing under a number, if there is one and it is of the board.
-fn party_at(board: u64, number: u64, things: &HashMap<u64, Held>) -> Option<Name>
-    ensures { (p : List ℕ) → holds_at result (λ party. bytes_eq party p)
-        ≡ holds_at (get nat_eq things.now number) (is_held_by bytes_eq board p) }
+// How many nodes a board has.
+fn node_count<C: BoardWords>(board: u64, core: &DomainCore<C>) -> u64
+    ensures { result ≡ node_count core.now board }
 {
-    match things.get(&number) {
-        Some(thing) => {
-            if thing.board == board {
-                Some(thing.holder)
-            } else {
-                None
-            }
-        }
+    match core.use_of(board) {
+        Some(taken) => taken.nodes,
+        None => 0,
+    }
+}
+
+// The party of a node, if there is one.
+fn party_of(node: Option<NodeId>, nodes: &IndexSet<Name>) -> Option<Name>
+    ensures { result ≡ node_party nodes.now.keys node }
+{
+    match node {
+        Some(node) => nodes
+            .get_index((node.0 as usize).saturating_sub(1))
+            .copied(),
         None => None,
     }
 }
@@ -62,31 +66,33 @@ fn add_party(party: Option<Name>, parties: &mut BTreeSet<Name>) -> Result<(), Al
     }
 }
 
-// The parties with a thing of the board.
-fn parties_of(
+// The parties that are nodes of the board.
+fn parties_of<C: BoardWords>(
     alloc: Global,
     board: u64,
-    things: &HashMap<u64, Held>,
+    nodes: &IndexSet<Name>,
+    core: &DomainCore<C>,
 ) -> Result<BTreeSet<Name>, AllocError>
     ensures { IfOk result (λ parties. (p : List ℕ) → set.contains (slice_cmp nat_cmp) parties p
-        ≡ list_any (λ n. holds_at (get nat_eq things.now n) (is_held_by bytes_eq board p))
-        (keys things.now)) }
+        ≡ is_told nodes.now.keys core.now board p (node_count core.now board)) }
 {
+    let count = node_count(board, core);
     let mut parties = BTreeSet::new(alloc);
-    for number in things.keys() {
-        add_party(party_at(board, *number, things), &mut parties)?;
+    for index in 0..count {
+        add_party(party_of(core.node_at(board, index), nodes), &mut parties)?;
     }
     Ok(parties)
 }
 
-/// The parties with a thing of the board, in the order of their bytes.
-pub(crate) fn nodes_at(
+/// The parties that are nodes of the board, in the order of their bytes.
+pub(crate) fn nodes_at<C: BoardWords>(
     alloc: Global,
     board: u64,
-    things: &HashMap<u64, Held>,
+    nodes: &IndexSet<Name>,
+    core: &DomainCore<C>,
 ) -> Result<Names, AllocError>
-    ensures { IfOk result (AreHolders board things.now) }
+    ensures { IfOk result (AreHolders nodes.now.keys core.now board) }
 {
-    let parties = parties_of(alloc, board, things)?;
+    let parties = parties_of(alloc, board, nodes, core)?;
     Ok(Names::from_vec(parties.iter().copied().collect(alloc)?))
 }

@@ -396,7 +396,8 @@ impl<C: BoardWords + Drop> PartyDomain<C> {
     pub fn nodes(&self, board: u64) -> Result<Names, AllocError>
         ensures { IfOk result (λ names. names ≡ replies.nodes_of board self.now.tables.things) }
     {
-        nodes_at(self.alloc, board, &self.names.things)
+        self.core.facts();
+        nodes_at(self.alloc, board, &self.nodes, &self.core)
     }
 
     /// The limits of a board that stands, how many entries and attributes it has, and what is taken of it.

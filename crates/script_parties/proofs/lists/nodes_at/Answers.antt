@@ -8,7 +8,7 @@ use Rattle.script_parties.proofs.Holders.{among}
 use Rattle.script_parties.proofs.lists.nodes_at.Goals as goal
 
 pub returns : goal.returns
-returns c =
+returns g c =
     let parties : List (List ℕ) = c.in_ok-parties.parties.keys in
     let listed : c.from_vec.result ≡ parties = search rules in
     record {
