@@ -1,21 +1,25 @@
 -- One thing less.
-use Rattle.std.proofs.Common.{◌≡◌, ◌≢◌, ◌==◌, ℕ, ◌+◌, ◌<◌, ◌≤◌, zero, suc, Bool, true, false, if◌then◌else◌, List, [], ◌∷◌, length, map, arith, refl, sym, ap, ◌∙◌, subst, eq-eqb, Option, Some, None, inl, inr}
-use Rattle.std.specs.Prelude.{find, remove, slice_get}
+use Rattle.std.proofs.Common.{◌≡◌, ◌==◌, ℕ, ◌+◌, ◌<◌, ◌≤◌, zero, suc, Bool, true, false, if◌then◌else◌, List, [], ◌∷◌, length, map, arith, refl, sym, ap, ◌∙◌, subst, Option, Some, None, inl, inr}
+use Rattle.std.specs.Prelude.{find, nat_eq, remove, slice_get}
 use Rattle.std.specs.List.{AllByRecursion, list_any, position_from}
-use Rattle.std.proofs.lemmas.Bool.{ne_eqb}
-use Rattle.std.proofs.lemmas.List.{length-map}
-use Rattle.std.proofs.lemmas.Option.{slice_get_within}
+use Rattle.std.proofs.lemmas.Bool.Decides.{Decides-eqb, nat_tests}
 use Rattle.board_model.specs.declared.tables.Board.{Board}
 use Rattle.board_model.specs.declared.tables.Thing.{Thing}
 use Rattle.board_model.specs.Replies.{released_thing}
-use Rattle.board_model.specs.Tables.{Tables, is_numbered, is_of_board, rename, without_first}
+use Rattle.board_model.specs.Tables.{Tables, holds_at, is_numbered, is_of_board, without_first}
 use Rattle.board_model.specs.TableCalls.{boards_left}
 use Rattle.board_model.specs.Things.{Held, is_held_as}
-use Rattle.script_parties.specs.Named.{AreApart, HasShortKeys, IsNamed, IsOfNode, nameless, core_number, own, party_at}
+use Rattle.board_things.specs.Kept.{AreRising}
+use Rattle.board_things.proofs.Rising.{fewer}
+use Rattle.script_parties.specs.Named.{HasShortKeys, IsCalled, IsNamed, IsOfNode, held_or_none, named_things, party_at, things_of}
+use Rattle.script_parties.specs.Numbered.{IsLeast}
 use Rattle.script_parties.specs.Parties.{IsReleased, Parties, words_of_boards}
-use Rattle.script_parties.proofs.Counts.{AreSame, boards-same}
-use Rattle.script_parties.proofs.Places.{IsThing, all_at, chosen, thing_at}
+use Rattle.script_parties.proofs.Counts.{boards-same}
+use Rattle.script_parties.proofs.Growth.{same_things}
+use Rattle.script_parties.proofs.Places.{above, chosen, first_thing, named_passes, stands_at, thing_at_number}
 use Rattle.script_parties.proofs.Ports.{shown}
+use Rattle.script_seats.specs.Seats.{put}
+use Rattle.script_seats.proofs.SeatLemmas.{either, put_here, put_other}
 use Rattle.board_service.specs.Domain.{Domain, after_release, but_at, held, is_thing}
 
 -- ---- lists
@@ -59,18 +63,6 @@ map_remove f (suc k) [] = refl
 map_remove f zero (x ∷ xs) = refl
 map_remove {A} {B} f (suc k) (x ∷ xs) = ap (λ (ys : List B). f x ∷ ys) (map_remove f k xs)
 
-all_removed : {X : Type 0} (P : X → Type 0) (k : ℕ) (xs : List X) → AllByRecursion P xs → AllByRecursion P (remove xs k)
-all_removed P zero [] h = tt
-all_removed P (suc k) [] h = tt
-all_removed P zero (x ∷ xs) h = h.1
-all_removed P (suc k) (x ∷ xs) h = (h.0, all_removed P k xs h.1)
-
-apart_removed : (k : ℕ) (ns : List ℕ) → AreApart ns → AreApart (remove ns k)
-apart_removed zero [] h = tt
-apart_removed (suc k) [] h = tt
-apart_removed zero (n ∷ ns) h = h.1
-apart_removed (suc k) (n ∷ ns) h = (all_removed (λ m. n ≢ m) k ns h.0, apart_removed k ns h.1)
-
 -- what all have, those that are left have
 all_without : {X : Type 0} (P : X → Type 0) (p : X → Bool) (xs : List X) → AllByRecursion P xs → AllByRecursion P (without_first p xs)
 all_without P p [] h = tt
@@ -86,55 +78,79 @@ all_left P p false xs h = all_without P p xs h
 
 -- ---- the things that are left
 
-number_gone : (k n : ℕ) (ts : List (Thing ℕ ℕ)) → AreApart (map core_number ts) → slice_get (map core_number ts) k ≡ Some n → without_first (is_thing n) ts ≡ remove ts k
-number_gone k n [] a e = absurd cc
-number_gone zero n (t ∷ ts) a e =
-    let m : t.name ≡ n = cc in
-    let s : (t.name == n) ≡ true = eq-eqb t.name n m in
-    rw s refl
-number_gone (suc k) n (t ∷ ts) a e =
-    let other : t.name ≢ n = all_at (λ m. t.name ≢ m) k n (map core_number ts) a.0 e in
-    let s : (t.name == n) ≡ false = ne_eqb t.name n other in
-    rw s (ap (λ (r : List (Thing ℕ ℕ)). t ∷ r) (number_gone k n ts a.1 e))
+module _ (f : ℕ → List ℕ) (at : ℕ → Option Held) (n : ℕ) where
+  called_apart : (t : Thing ℕ ℕ) → nat_eq n t.name ≡ false → IsCalled f at t → IsCalled f (put n None at) t
+  called_apart t other h = record { named = h.named; there = put_other at n None t.name other ∙ h.there; holder = h.holder; board = h.board; kind = h.kind }
 
-same_removed : (f : ℕ → List ℕ) (k : ℕ) (ts : List (Thing ℕ ℕ)) (xs : List Held) → AreSame f ts xs → AreSame f (remove ts k) (remove xs k)
-same_removed f k ts xs e =
-    map_remove (rename f nameless) k ts ∙ ap (λ (ys : List Held). remove ys k) e ∙ sym (map_remove (rename own nameless) k xs)
+  called_above : (low last : ℕ) (ts : List (Thing ℕ ℕ)) → n ≤ low → AreRising low last ts → AllByRecursion (IsCalled f at) ts → AllByRecursion (IsCalled f (put n None at)) ts
+  called_above low last [] le rising h = tt
+  called_above low last (t ∷ ts) le rising h =
+      let less : low < t.name = rising.0 in
+      (called_apart t (grind (arith, nat_tests, le, less)) h.0, called_above t.name last ts (omega (arith, le, less)) rising.1 h.1)
 
--- as many numbers as things
-pub each_numbered : {C : Type 0} (nodes : List (List ℕ)) (numbers : List ℕ) (things : List Held) (d : Domain C) → IsNamed nodes numbers things d → length numbers ≡ length things
-each_numbered nodes numbers things d h =
-    sym (ap (λ ns. length ns) h.numbered) ∙ length-map d.tables.things core_number
-    ∙ sym (length-map d.tables.things (rename (party_at nodes) nameless)) ∙ ap (λ (ys : List Held). length ys) h.same ∙ length-map things (rename own nameless)
+  called_less : (low last : ℕ) (ts : List (Thing ℕ ℕ)) → AreRising low last ts → AllByRecursion (IsCalled f at) ts → AllByRecursion (IsCalled f (put n None at)) (without_first (is_thing n) ts)
+  called_less low last [] rising h = tt
+  called_less low last (t ∷ ts) rising h =
+      elim (t.name == n) as (λ b. (t.name == n) ≡ b → AllByRecursion (IsCalled f (put n None at)) (if b then ts else t ∷ without_first (is_thing n) ts)) [
+        | true ↦ λ e. (let same : n ≤ t.name = grind (arith, nat_tests, e) in called_above t.name last ts same rising.1 h.1)
+        | false ↦ λ e. (called_apart t (grind (arith, nat_tests, e)) h.0, called_less t.name last ts rising.1 h.1)
+      ] refl
 
--- the thing that goes: its place among the things is that of its number
-pub record IsLast {C : Type 0} (nodes : List (List ℕ)) (numbers : List ℕ) (things : List Held) (d : Domain C) (party name : List ℕ) (k number : ℕ) : Type 0 where
-  pub first : IsFirst (is_held_as party name) things k
-  pub thing : IsThing nodes d first.it number
-  pub gone : without_first (is_thing number) d.tables.things ≡ remove d.tables.things k
+  names_above : (low last : ℕ) (ts : List (Thing ℕ ℕ)) → n ≤ low → AreRising low last ts → named_things (put n None at) ts ≡ named_things at ts
+  names_above low last [] le rising = refl
+  names_above low last (t ∷ ts) le rising =
+      let less : low < t.name = rising.0 in
+      let other : nat_eq n t.name ≡ false = grind (arith, nat_tests, le, less) in
+      ap (λ (o : Option Held). held_or_none o ∷ named_things (put n None at) ts) (put_other at n None t.name other)
+      ∙ ap (λ (ys : List Held). held_or_none (at t.name) ∷ ys) (names_above t.name last ts (omega (arith, le, less)) rising.1)
 
-pub last_of : {C : Type 0} (nodes : List (List ℕ)) (numbers : List ℕ) (things : List Held) (d : Domain C) (party name : List ℕ) (k number : ℕ) → IsNamed nodes numbers things d
-    → position_from (is_held_as party name) 0 things ≡ Some k → slice_get numbers k ≡ Some number → IsLast nodes numbers things d party name k number
-last_of {C} nodes numbers things d party name k number h e n =
-    let f = first_at (is_held_as party name) k things e in
-    record {
-      first = f;
-      thing = thing_at nodes numbers things d f.it number k h f.there n;
-      gone = number_gone k number d.tables.things (subst AreApart (sym h.numbered) h.apart) (subst (λ ns. slice_get ns k ≡ Some number) (sym h.numbered) n);
-    }
+  -- the first that passes is the one that goes
+  names_less : (p : Held → Bool) (low last : ℕ) (ts : List (Thing ℕ ℕ)) (u : Thing ℕ ℕ) → AllByRecursion (IsCalled f at) ts → AreRising low last ts → IsLeast p at n → find (is_thing n) ts ≡ Some u
+      → named_things (put n None at) (without_first (is_thing n) ts) ≡ without_first p (named_things at ts)
+  names_less p low last [] u h rising least e = absurd cc
+  names_less p low last (t ∷ ts) u h rising least e =
+      elim (chosen (t.name == n) (Some t) (find (is_thing n) ts) (Some u) e) [
+        | inl c ↦
+            let same : t.name ≡ n = (Decides-eqb t.name n).0 c.0 in
+            let holds : p (held_or_none (at t.name)) ≡ true = sym (named_passes p f at t h.0) ∙ ap (λ m. holds_at (at m) p) same ∙ least.passes in
+            rw (c.0, holds) (names_above t.name last ts (omega (arith, same)) rising.1)
+        | inr c ↦
+            let less : t.name < n = above p f at n t.name last ts u rising.1 c.1 in
+            let other : nat_eq n t.name ≡ false = grind (arith, nat_tests, less) in
+            let fails : p (held_or_none (at t.name)) ≡ false = sym (named_passes p f at t h.0) ∙ least.below t.name less in
+            rw (c.0, fails) (
+            ap (λ (o : Option Held). held_or_none o ∷ named_things (put n None at) (without_first (is_thing n) ts)) (put_other at n None t.name other)
+            ∙ ap (λ (ys : List Held). held_or_none (at t.name) ∷ ys) (names_less p t.name last ts u h.1 rising.1 least c.1))
+      ]
 
-pub named_less : {C : Type 0} (nodes : List (List ℕ)) (numbers : List ℕ) (things : List Held) (d after : Domain C) (party name : List ℕ) (k number : ℕ) → IsNamed nodes numbers things d
-    → IsLast nodes numbers things d party name k number → after ≡ after_release d number (held d number).board → IsNamed nodes (remove numbers k) (remove things k) after
-named_less {C} nodes numbers things d after party name k number h l e =
-    let board = (held d number).board in
-    subst (λ a. IsNamed nodes (remove numbers k) (remove things k) a) (sym e) (record {
-      same = subst (λ ts. AreSame (party_at nodes) ts (remove things k)) (sym l.gone) (same_removed (party_at nodes) k d.tables.things things h.same);
-      numbered = ap (λ ts. map core_number ts) l.gone ∙ map_remove core_number k d.tables.things ∙ ap (λ ns. remove ns k) h.numbered;
-      apart = apart_removed k numbers h.apart;
-      drawn = all_removed (λ n. n ≤ d.last_thing) k numbers h.drawn;
-      holders = subst (λ ts. AllByRecursion (IsOfNode (length nodes)) ts) (sym l.gone) (all_removed (IsOfNode (length nodes)) k d.tables.things h.holders);
+-- what isn't found among the others wasn't found before
+none_before : (n k : ℕ) (ts : List (Thing ℕ ℕ)) → nat_eq n k ≡ false → find (is_thing k) (without_first (is_thing n) ts) ≡ None → find (is_thing k) ts ≡ None
+none_before n k [] other e = refl
+none_before n k (t ∷ ts) other e =
+    elim (t.name == n) as (λ b. (t.name == n) ≡ b → find (is_thing k) (if b then ts else t ∷ without_first (is_thing n) ts) ≡ None → find (is_thing k) (t ∷ ts) ≡ None) [
+      | true ↦ λ same g. (let no : (t.name == k) ≡ false = grind (arith, nat_tests, same, other) in rw no g)
+      | false ↦ λ apart g.
+          elim (chosen (t.name == k) (Some t) (find (is_thing k) (without_first (is_thing n) ts)) None g) [
+            | inl c ↦ absurd (let s : Some t ≡ None = c.1 in cc)
+            | inr c ↦ rw c.0 (none_before n k ts other c.1)
+          ]
+    ] refl e
+
+pub named_less : {C : Type 0} (nodes : List (List ℕ)) (at : ℕ → Option Held) (d after : Domain C) (n : ℕ) → IsNamed nodes at d → after ≡ after_release d n (held d n).board → IsNamed nodes (put n None at) after
+named_less {C} nodes at d after n h e =
+    let board = (held d n).board in
+    let alone : (k : ℕ) → find (is_thing k) (without_first (is_thing n) d.tables.things) ≡ None → put n None at k ≡ None = λ k g.
+    elim (either (nat_eq n k)) [
+      | inl c ↦ (let same : n ≡ k = (Decides-eqb n k).0 c in subst (λ m. put n None at m ≡ None) same (put_here at n None))
+      | inr c ↦ put_other at n None k c ∙ h.alone k (none_before n k d.tables.things c g)
+    ] in
+    subst (λ a. IsNamed nodes (put n None at) a) (sym e) (record {
+      called = called_less (party_at nodes) at n 0 d.last_thing d.tables.things h.rising h.called;
+      alone = alone;
+      rising = fewer (is_thing n) 0 d.last_thing d.tables.things h.rising;
+      holders = all_without (IsOfNode (length nodes)) (is_thing n) d.tables.things h.holders;
       parties = h.parties;
-      keys = all_left HasShortKeys (is_numbered board) (list_any (is_of_board board) (without_first (is_thing number) d.tables.things)) d.tables.boards h.keys;
+      keys = all_left HasShortKeys (is_numbered board) (list_any (is_of_board board) (without_first (is_thing n) d.tables.things)) d.tables.boards h.keys;
     })
 
 -- ---- the words that are left
@@ -158,33 +174,35 @@ words_left list f board false cells boards e = words_removed list f board (posit
 abbrev less : Tables (List ℕ) (List ℕ) → List Board → List Held → Tables (List ℕ) (List ℕ)
 less t bs xs = record t { boards = bs; things = xs }
 
-pub released_one : {C : Type 0} (list : C → List ℕ) (nodes : List (List ℕ)) (numbers : List ℕ) (things : List Held) (d after : Domain C) (party name : List ℕ) (k number : ℕ) → IsNamed nodes numbers things d
-    → IsLast nodes numbers things d party name k number → after ≡ after_release d number (held d number).board → IsReleased (shown list d things) (shown list after (remove things k)) party name
-released_one {C} list nodes numbers things d after party name k number h l e =
-    let of = held d number in
-    let x = l.first.it in
-    let t = (shown list d things).tables in
-    let kept = list_any (is_of_board of.board) (without_first (is_thing number) d.tables.things) in
-    let same : kept ≡ list_any (is_of_board of.board) (remove things k) =
-    ap (λ ts. list_any (is_of_board of.board) ts) l.gone ∙ sym (boards-same (party_at nodes) of.board (remove d.tables.things k) (remove things k) (same_removed (party_at nodes) k d.tables.things things h.same)) in
-    subst (λ a. IsReleased (shown list d things) (shown list a (remove things k)) party name) (sym e) (record {
+pub released_one : {C : Type 0} (list : C → List ℕ) (nodes : List (List ℕ)) (at : ℕ → Option Held) (d after : Domain C) (party name : List ℕ) (n : ℕ) (x : Held) → IsNamed nodes at d
+    → IsLeast (is_held_as party name) at n → at n ≡ Some x → after ≡ after_release d n (held d n).board → IsReleased (shown list d (things_of at d)) (shown list after (things_of (put n None at) after)) party name
+released_one {C} list nodes at d after party name n x h least is e =
+    let p = is_held_as party name in
+    let of = held d n in
+    let i = thing_at_number nodes at d x n h is in
+    let s = stands_at p nodes at d n h least.passes in
+    let end = after_release d n of.board in
+    let ts = without_first (is_thing n) d.tables.things in
+    let left = things_of (put n None at) end in
+    let t = (shown list d (things_of at d)).tables in
+    let kept = list_any (is_of_board of.board) ts in
+    let less_is : left ≡ without_first p (things_of at d) = names_less (party_at nodes) at n p 0 d.last_thing d.tables.things s.0 h.called h.rising least s.1 in
+    let found : find p (things_of at d) ≡ Some x = first_thing p nodes at d (Some n) h least ∙ is in
+    let same : kept ≡ list_any (is_of_board of.board) left = sym (boards-same (party_at nodes) of.board ts left (same_things nodes (put n None at) end (named_less nodes at d end n h refl))) in
+    subst (λ a. IsReleased (shown list d (things_of at d)) (shown list a (things_of (put n None at) a)) party name) (sym e) (record {
       tables =
-          ap (λ b. less t (if b then d.tables.boards else without_first (is_numbered of.board) d.tables.boards) (remove things k)) same
-          ∙ ap (λ b. less t (boards_left d.tables.boards b (remove things k)) (remove things k)) l.thing.board
-          ∙ ap (λ (xs : List Held). less t (boards_left d.tables.boards x.board xs) xs) (sym l.first.rest)
-          ∙ ap (λ (o : Option Held). released_thing t party name o) (sym l.first.found);
+          ap (λ b. less t (if b then d.tables.boards else without_first (is_numbered of.board) d.tables.boards) left) same
+          ∙ ap (λ b. less t (boards_left d.tables.boards b left) left) i.board
+          ∙ ap (λ (xs : List Held). less t (boards_left d.tables.boards x.board xs) xs) less_is
+          ∙ ap (λ (o : Option Held). released_thing t party name o) (sym found);
       words = λ f w. words_left list f of.board kept d.cells d.tables.boards w;
       drawn = refl;
     })
 
 -- where nothing is held so
-pub released_none : (p : Parties) (party name : List ℕ) → position_from (is_held_as party name) 0 p.tables.things ≡ None → IsReleased p p party name
+pub released_none : (p : Parties) (party name : List ℕ) → find (is_held_as party name) p.tables.things ≡ None → IsReleased p p party name
 released_none p party name e = record {
-  tables = ap (λ (o : Option Held). released_thing p.tables party name o) (sym (none_from (is_held_as party name) 0 p.tables.things e).0);
+  tables = ap (λ (o : Option Held). released_thing p.tables party name o) (sym e);
   words = λ f w. w;
   drawn = refl;
 }
-
--- the place is inside both lists
-pub place_within : {X : Type 0} (p : X → Bool) (k : ℕ) (xs : List X) → position_from p 0 xs ≡ Some k → k < length xs
-place_within p k xs e = let f = first_at p k xs e in slice_get_within xs k f.it f.there

@@ -3,12 +3,14 @@ pub mod Attributes
 pub mod BoardNames
 pub mod Counts
 pub mod Endings
+pub mod Firsts
 pub mod Growth
 pub mod Handles
+pub mod Holders
 pub mod KeyedCalls
 pub mod KeyTests
 pub mod NewEntries
-pub mod NodeLookups
+pub mod NodeCounts
 pub mod Openings
 pub mod Overview
 pub mod Places

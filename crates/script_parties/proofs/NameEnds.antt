@@ -1,12 +1,7 @@
 -- Names whose last bytes differ.
-use Rattle.std.proofs.Common.{◌≡◌, ℕ, ◌-◌, Bool, true, false, ◌&&◌, List, length, refl, ap, ◌∙◌, get_or}
+use Rattle.std.proofs.Common.{◌≡◌, ℕ, ◌-◌, Bool, true, false, List, length, refl, ap, get_or}
 use Rattle.std.specs.Str.{bytes_eq}
 use Rattle.std.proofs.lemmas.Slice.Eq.{bytes_eq-Decides}
-use Rattle.board_model.specs.Things.{Held, is_held_as}
-
-and_false : (b : Bool) → (b && false) ≡ false
-and_false true = refl
-and_false false = refl
 
 is_false : (b : Bool) → (b ≡ true → ⊥) → b ≡ false
 is_false true h = absurd (h refl)
@@ -15,7 +10,3 @@ is_false false h = refl
 -- they aren't the same
 pub ends_differ : (a b : List ℕ) → (get_or a (length a - 1) 0 ≡ get_or b (length b - 1) 0 → ⊥) → bytes_eq a b ≡ false
 ends_differ a b h = is_false (bytes_eq a b) (λ same. h (ap (λ (x : List ℕ). get_or x (length x - 1) 0) ((bytes_eq-Decides a b).0 same)))
-
--- nothing goes by a name whose last byte differs
-pub not_held : (party name : List ℕ) (t : Held) → (get_or t.name (length t.name - 1) 0 ≡ get_or name (length name - 1) 0 → ⊥) → is_held_as party name t ≡ false
-not_held party name t h = ap (λ (b : Bool). bytes_eq t.holder party && b) (ends_differ t.name name h) ∙ and_false (bytes_eq t.holder party)

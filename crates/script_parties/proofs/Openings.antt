@@ -30,12 +30,12 @@ use Rattle.board_model.specs.Tables.{Added, Tables, board_named, entries_of, hol
 use Rattle.board_model.specs.TableCalls.{asked, asks_above, create_refusals, created, first_of, has_all_nodes, joined, number_of, open_refusals}
 use Rattle.board_model.specs.Things.{Held}
 use Rattle.board_model.specs.TypeTable.{key_detail, same_key, same_type, value_words}
-use Rattle.script_parties.specs.Named.{AreParties, HasShortKey, HasShortKeys, IsNamed, IsOfNode, node_number, nodes_with, party_at}
+use Rattle.script_parties.specs.Named.{AreParties, HasShortKey, HasShortKeys, IsNamed, IsOfNode, node_number, nodes_with, party_at, things_of}
 use Rattle.board_model.specs.ShortKeys.{IsShortKey}
 use Rattle.script_parties.specs.Parties.{IsCreate, IsJoined, IsOpen, Parties, words_with}
 use Rattle.script_parties.proofs.Asked.{answered_made, answered_refused, err_of, ok_of, told_made}
 use Rattle.script_parties.proofs.Counts.{AreSame, node-same, nodes-same}
-use Rattle.script_parties.proofs.Growth.{IsMore, IsNode, all_more, named_more, named_with, node_of}
+use Rattle.script_parties.proofs.Growth.{IsMore, IsNode, all_more, named_with, node_of, same_things}
 use Rattle.script_parties.proofs.Ports.{few_left, shown}
 use Rattle.board_service.specs.declared.made.Made.{Made}
 use Rattle.board_service.specs.Domain.{CanJoin, Domain, after_create, after_open, create_answer, made, spent}
@@ -93,36 +93,45 @@ party_joins p party name key limits needs h =
     record { stands = both.0; nodes = both.1 }
 
 -- a party can join where its number can
-pub node_joins : {C : Type 0} (list : C → List ℕ) (nodes : List (List ℕ)) (numbers : List ℕ) (things : List Held) (d : Domain C) (party name : List ℕ) (node : ℕ) (title : List ℕ) → IsNamed nodes numbers things d
-    → node ≡ node_number party nodes → title ≡ name → CanJoin bytes_eq (shown list d things).tables party name → CanJoin nat_eq d.tables node title
-node_joins list nodes numbers things d party name node title h node_is title_is may =
-    let h' = named_with party nodes numbers things d h in
-    let same : (o : Option Board) → holds_at o (has_all_nodes nat_eq (node_number party nodes) d.tables.things) ≡ holds_at o (has_all_nodes bytes_eq party things) =
-    λ o. elim o as (λ o. holds_at o (has_all_nodes nat_eq (node_number party nodes) d.tables.things) ≡ holds_at o (has_all_nodes bytes_eq party things)) [
+pub node_joins : {C : Type 0} (list : C → List ℕ) (nodes : List (List ℕ)) (at : ℕ → Option Held) (d : Domain C) (party name : List ℕ) (node : ℕ) (title : List ℕ) → IsNamed nodes at d
+    → node ≡ node_number party nodes → title ≡ name → CanJoin bytes_eq (shown list d (things_of at d)).tables party name → CanJoin nat_eq d.tables node title
+node_joins list nodes at d party name node title h node_is title_is may =
+    let h' = named_with party nodes at d h in
+    let same : (o : Option Board) → holds_at o (has_all_nodes nat_eq (node_number party nodes) d.tables.things) ≡ holds_at o (has_all_nodes bytes_eq party (things_of at d)) =
+    λ o. elim o as (λ o. holds_at o (has_all_nodes nat_eq (node_number party nodes) d.tables.things) ≡ holds_at o (has_all_nodes bytes_eq party (things_of at d))) [
       | None ↦ refl
-      | Some b ↦ sym (all_nodes_same (nodes_with party nodes) party (node_number party nodes) d.tables.things things b h'.parties (node_of party nodes) h'.holders h'.same)
+      | Some b ↦ sym (all_nodes_same (nodes_with party nodes) party (node_number party nodes) d.tables.things (things_of at d) b h'.parties (node_of party nodes) h'.holders (same_things (nodes_with party nodes) at d h'))
     ] in
     subst (λ n. CanJoin nat_eq d.tables n title) (sym node_is) (subst (λ t. CanJoin nat_eq d.tables (node_number party nodes) t) (sym title_is)
     (record { stands = may.stands; nodes = same (board_named d.tables name) ∙ may.nodes }))
 
-pub open_made : {C : Type 0} (list : C → List ℕ) (nodes : List (List ℕ)) (numbers : List ℕ) (things : List Held) (d after : Domain C) (party factory name : List ℕ) (node : ℕ) (title : List ℕ) (m : Made)
-    → IsNamed nodes numbers things d → node ≡ node_number party nodes → title ≡ name → m ≡ made d (number_of (board_named d.tables title)) → after ≡ after_open d node title
-    → IsJoined (shown list d things) (shown list after (things ++ factory_of party factory m.number ∷ [])) party factory name (reply.Number m.number)
-    × IsNamed (nodes_with party nodes) (numbers ++ m.thing ∷ []) (things ++ factory_of party factory m.number ∷ []) after
-open_made {C} list nodes numbers things d after party factory name node title m h node_is title_is made_is ok =
+pub open_made : {C : Type 0} (list : C → List ℕ) (nodes : List (List ℕ)) (at : ℕ → Option Held) (d after : Domain C) (party factory name : List ℕ) (node : ℕ) (title : List ℕ) (m : Made)
+    → IsNamed nodes at d → node ≡ node_number party nodes → title ≡ name → m ≡ made d (number_of (board_named d.tables title)) → after ≡ after_open d node title
+    → IsJoined (shown list d (things_of at d)) (shown list after (things_of at d ++ factory_of party factory m.number ∷ [])) party factory name (reply.Number m.number)
+    × IsMore (nodes_with party nodes) d after m.thing (factory_of party factory m.number)
+open_made {C} list nodes at d after party factory name node title m h node_is title_is made_is ok =
     let n = node_number party nodes in
     let all = nodes_with party nodes in
-    let h' = named_with party nodes numbers things d h in
+    let h' = named_with party nodes at d h in
     let is = node_of party nodes in
     let board = board_named d.tables name in
     let made_is' : m ≡ made d (number_of board) = made_is ∙ ap (λ t. made d (number_of (board_named d.tables t))) title_is in
     let ok' : after ≡ after_open d n name = ok ∙ ap (λ k. after_open d k title) node_is ∙ ap (λ t. after_open d n t) title_is in
-    let Told : Domain C → Made → Type 0 = λ e k. IsJoined (shown list d things) (shown list e (things ++ factory_of party factory k.number ∷ [])) party factory name (reply.Number k.number) in
-    let Kept : Domain C → Made → Type 0 = λ e k. IsNamed all (numbers ++ k.thing ∷ []) (things ++ factory_of party factory k.number ∷ []) e in
+    let Told : Domain C → Made → Type 0 = λ e k. IsJoined (shown list d (things_of at d)) (shown list e (things_of at d ++ factory_of party factory k.number ∷ [])) party factory name (reply.Number k.number) in
+    let Kept : Domain C → Made → Type 0 = λ e k. IsMore all d e k.thing (factory_of party factory k.number) in
     let told : Told (after_open d n name) (made d (number_of board)) = record { told_is = refl; tables = refl; words = refl; drawn = omega arith } in
-    let more : IsMore all d (after_open d n name) (record { holder = n; name = d.last_thing + 1; board = number_of board; kind = kind.Factory }) (factory_of party factory (number_of board)) =
-    record { things = refl; last = refl; number = refl; holder = is.is; board = refl; kind = refl; node = record { some = is.some; most = is.most }; keys = h.keys } in
-    let kept : Kept (after_open d n name) (made d (number_of board)) = named_more all numbers things d (after_open d n name) _ _ (d.last_thing + 1) h' more refl in
+    let kept : Kept (after_open d n name) (made d (number_of board)) = record {
+      thing = record { holder = n; name = d.last_thing + 1; board = number_of board; kind = kind.Factory };
+      things = refl;
+      last = refl;
+      number = refl;
+      next = refl;
+      holder = is.is;
+      board = refl;
+      kind = refl;
+      node = record { some = is.some; most = is.most };
+      keys = h.keys;
+    } in
     (subst (λ e. Told e m) (sym ok') (subst (λ k. Told (after_open d n name) k) (sym made_is') told), subst (λ e. Kept e m) (sym ok') (subst (λ k. Kept (after_open d n name) k) (sym made_is') kept))
 
 -- a factory is made where nothing refuses it
@@ -180,17 +189,17 @@ opening_is words list entries law h =
     let opens : IsOpening (Some list) (map added_of entries) = subst (λ w. IsOpening w (map added_of entries)) law h in
     opens ∙ ap (λ vs. opening_words 0 (places_from 0 (shapes_of (map added_of entries))) vs) (words_same entries)
 
-pub create_made : {C : Type 0} (words : C → Option (List ℕ)) (list : C → List ℕ) (nodes : List (List ℕ)) (numbers : List ℕ) (things : List Held) (d after : Domain C) (party factory name : List ℕ) (k : KeyType) (limits : NewLimits)
+pub create_made : {C : Type 0} (words : C → Option (List ℕ)) (list : C → List ℕ) (nodes : List (List ℕ)) (at : ℕ → Option Held) (d after : Domain C) (party factory name : List ℕ) (k : KeyType) (limits : NewLimits)
     (attributes : List Attribute) (entries : List AddedEntry) (node : ℕ) (title : List ℕ) (given : List Attribute) (added : List Added) (m : Made) (cells : C)
-    → ((x : C) → words x ≡ Some (list x)) → IsNamed nodes numbers things d → IsCreated party name attributes (map added_of entries) nodes node title given added → AllByRecursion HasShortKey added
+    → ((x : C) → words x ≡ Some (list x)) → IsNamed nodes at d → IsCreated party name attributes (map added_of entries) nodes node title given added → AllByRecursion HasShortKey added
     → Answers (ok_of m) create_error.OutOfMemory (create_answer d (same_key k) title added) → IsOpening (words cells) added → after ≡ after_create d node title (key_detail k) limits given added cells
-    → IsCreate (shown list d things) (shown list after (things ++ factory_of party factory m.number ∷ [])) party factory name k limits attributes entries (reply.Number m.number)
-    × IsNamed (nodes_with party nodes) (numbers ++ m.thing ∷ []) (things ++ factory_of party factory m.number ∷ []) after
-create_made {C} words list nodes numbers things d after party factory name k limits attributes entries node title given added m cells law h o short a opens ok =
+    → IsCreate (shown list d (things_of at d)) (shown list after (things_of at d ++ factory_of party factory m.number ∷ [])) party factory name k limits attributes entries (reply.Number m.number)
+    × IsMore (nodes_with party nodes) d after m.thing (factory_of party factory m.number)
+create_made {C} words list nodes at d after party factory name k limits attributes entries node title given added m cells law h o short a opens ok =
     let n = node_number party nodes in
     let es = map added_of entries in
     let all = nodes_with party nodes in
-    let h' = named_with party nodes numbers things d h in
+    let h' = named_with party nodes at d h in
     let is = node_of party nodes in
     let end = after_create d n name (key_detail k) limits attributes es cells in
     let a' : Answers (ok_of m) create_error.OutOfMemory (create_answer d (same_key k) name es) = created_so (λ i t g e. Answers (ok_of m) create_error.OutOfMemory (create_answer d (same_key k) t e)) node title given added o a in
@@ -199,45 +208,45 @@ create_made {C} words list nodes numbers things d after party factory name k lim
     let opens' : IsOpening (words cells) es = subst (λ e. IsOpening (words cells) e) o.added_is opens in
     let rs = create_refusals (same_key k) d.tables.boards name es in
     let by = answered_made rs (spent d.tables.last_board || spent d.last_thing, create_error.NumbersSpent) create_error.OutOfMemory m (made d (d.tables.last_board + 1)) a' in
-    let t = (shown list d things).tables in
-    let Told : Domain C → Made → Type 0 = λ e j. IsCreate (shown list d things) (shown list e (things ++ factory_of party factory j.number ∷ [])) party factory name k limits attributes entries (reply.Number j.number) in
-    let Kept : Domain C → Made → Type 0 = λ e j. IsNamed all (numbers ++ j.thing ∷ []) (things ++ factory_of party factory j.number ∷ []) e in
+    let t = (shown list d (things_of at d)).tables in
+    let Told : Domain C → Made → Type 0 = λ e j. IsCreate (shown list d (things_of at d)) (shown list e (things_of at d ++ factory_of party factory j.number ∷ [])) party factory name k limits attributes entries (reply.Number j.number) in
+    let Kept : Domain C → Made → Type 0 = λ e j. IsMore all d e j.thing (factory_of party factory j.number) in
     let told : Told end (made d (d.tables.last_board + 1)) = record {
       told_is = number_told (λ e. reply.CreateError e) (first_of rs) (d.tables.last_board + 1) (created t party factory name (key_detail k) limits attributes es) t by.none;
       tables = tables_after (first_of rs) (d.tables.last_board + 1) (created t party factory name (key_detail k) limits attributes es) t by.none;
       words = map-append list d.cells (cells ∷ []) ∙ ap (λ ws. map list d.cells ++ ws ∷ []) (opening_is (words cells) (list cells) entries (law cells) opens');
       drawn = omega arith;
     } in
-    let more : IsMore all d end (record { holder = n; name = d.last_thing + 1; board = d.tables.last_board + 1; kind = kind.Factory }) (factory_of party factory (d.tables.last_board + 1)) =
-    record {
+    let kept : Kept end (made d (d.tables.last_board + 1)) = record {
+      thing = record { holder = n; name = d.last_thing + 1; board = d.tables.last_board + 1; kind = kind.Factory };
       things = refl;
       last = refl;
       number = refl;
+      next = refl;
       holder = is.is;
       board = refl;
       kind = refl;
       node = record { some = is.some; most = is.most };
       keys = all_more HasShortKeys (new_board (d.tables.last_board + 1) name (key_detail k) limits attributes es) d.tables.boards h.keys (short_entries (places_from 0 (shapes_of es)) es short');
     } in
-    let kept : Kept end (made d (d.tables.last_board + 1)) = named_more all numbers things d end _ _ (d.last_thing + 1) h' more refl in
     (subst (λ e. Told e m) (sym ok') (subst (λ j. Told end j) (sym by.same) told), subst (λ e. Kept e m) (sym ok') (subst (λ j. Kept end j) (sym by.same) kept))
 
 -- a refusal adds no words
 no_words : (words : List (List ℕ)) (entries : List AddedEntry) (why : BlackboardCreateError) → words ≡ words_with words entries (reply.CreateError why)
 no_words words entries why = refl
 
-pub create_not_made : {C : Type 0} (list : C → List ℕ) (nodes : List (List ℕ)) (numbers : List ℕ) (things : List Held) (d after : Domain C) (party factory name : List ℕ) (k : KeyType) (limits : NewLimits)
+pub create_not_made : {C : Type 0} (list : C → List ℕ) (nodes : List (List ℕ)) (at : ℕ → Option Held) (d after : Domain C) (party factory name : List ℕ) (k : KeyType) (limits : NewLimits)
     (attributes : List Attribute) (entries : List AddedEntry) (node : ℕ) (title : List ℕ) (given : List Attribute) (added : List Added) (why : BlackboardCreateError)
-    → IsNamed nodes numbers things d → IsCreated party name attributes (map added_of entries) nodes node title given added → d.tables.last_board < 2 ^ 63 → d.last_thing < 2 ^ 63 → why ≢ create_error.OutOfMemory
+    → IsNamed nodes at d → IsCreated party name attributes (map added_of entries) nodes node title given added → d.tables.last_board < 2 ^ 63 → d.last_thing < 2 ^ 63 → why ≢ create_error.OutOfMemory
     → Answers (err_of why) create_error.OutOfMemory (create_answer d (same_key k) title added) → after ≡ d
-    → IsCreate (shown list d things) (shown list after things) party factory name k limits attributes entries (reply.CreateError why)
-create_not_made {C} list nodes numbers things d after party factory name k limits attributes entries node title given added why h o p q memory a err =
+    → IsCreate (shown list d (things_of at d)) (shown list after (things_of at d)) party factory name k limits attributes entries (reply.CreateError why)
+create_not_made {C} list nodes at d after party factory name k limits attributes entries node title given added why h o p q memory a err =
     let es = map added_of entries in
     let a' : Answers (err_of why) create_error.OutOfMemory (create_answer d (same_key k) name es) = created_so (λ i t g e. Answers (err_of why) create_error.OutOfMemory (create_answer d (same_key k) t e)) node title given added o a in
     let rs = create_refusals (same_key k) d.tables.boards name es in
     let by = answered_refused rs (spent d.tables.last_board || spent d.last_thing, create_error.NumbersSpent) create_error.OutOfMemory why (made d (d.tables.last_board + 1)) (few_left d.tables.last_board d.last_thing p q) memory a' in
-    let t = (shown list d things).tables in
-    subst (λ e. IsCreate (shown list d things) (shown list e things) party factory name k limits attributes entries (reply.CreateError why)) (sym err) (record {
+    let t = (shown list d (things_of at d)).tables in
+    subst (λ e. IsCreate (shown list d (things_of at d)) (shown list e (things_of at d)) party factory name k limits attributes entries (reply.CreateError why)) (sym err) (record {
       told_is = refusal_told (λ e. reply.CreateError e) (first_of rs) (d.tables.last_board + 1) (created t party factory name (key_detail k) limits attributes es) t why by;
       tables = tables_before (first_of rs) (d.tables.last_board + 1) (created t party factory name (key_detail k) limits attributes es) t why by;
       words = no_words (map list d.cells) entries why;

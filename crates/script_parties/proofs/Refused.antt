@@ -32,11 +32,11 @@ use Rattle.board_model.specs.Things.{Held}
 use Rattle.board_model.specs.TypeTable.{key_detail, value_detail}
 use Rattle.board_service.specs.Domain.{Domain, entry_list, entry_mut_list, held, open_list, reader_list, spent, writer_list}
 use Rattle.script_parties.specs.Keyed.{entry_sought}
-use Rattle.script_parties.specs.Named.{IsNamed, node_number, nodes_with}
+use Rattle.script_parties.specs.Named.{IsNamed, node_number, nodes_with, things_of}
 use Rattle.script_parties.specs.Parties.{IsCreate, IsEntry, IsEntryMut, IsFew, IsOpen, IsReader, IsWriter, Parties}
 use Rattle.script_parties.specs.Refusals.{added, create_refusal, entry_mut_refusal, entry_refusal, entry_wanted, open_refusal, reader_refusal, writer_refusal}
 use Rattle.script_parties.proofs.Asked.{told_refused, unspent}
-use Rattle.script_parties.proofs.Growth.{named_with, node_of}
+use Rattle.script_parties.proofs.Growth.{named_with, node_of, same_things}
 use Rattle.script_parties.proofs.Handles.{found_for, found_same, handle_tests}
 use Rattle.script_parties.proofs.Openings.{factories_refused, refusal_told, tables_before}
 use Rattle.script_parties.proofs.Places.{IsThing}
@@ -85,54 +85,54 @@ anyway (Err e) X x = x
 
 -- ---- a core's refusal is that of the definitions
 
-pub reader_told : {C : Type 0} (list : C → List ℕ) (nodes : List (List ℕ)) (numbers : List ℕ) (things : List Held) (d : Domain C) (now : Parties) (x : Held) (number : ℕ) (o : Option ReaderCreateError)
-    → IsNamed nodes numbers things d → IsThing nodes d x number → shown list d things ≡ now → IsFew now → o ≡ first_of (reader_list d (held d number)) → o ≡ reader_refusal now x
-reader_told list nodes numbers things d now x number o h i is few told =
+pub reader_told : {C : Type 0} (list : C → List ℕ) (nodes : List (List ℕ)) (at : ℕ → Option Held) (d : Domain C) (now : Parties) (x : Held) (number : ℕ) (o : Option ReaderCreateError)
+    → IsNamed nodes at d → IsThing nodes d x number → shown list d (things_of at d) ≡ now → IsFew now → o ≡ first_of (reader_list d (held d number)) → o ≡ reader_refusal now x
+reader_told list nodes at d now x number o h i is few told =
     let few' = subst (λ p. IsFew p) (sym is) few in
     let rs = reader_refusals d.tables.things (board_at d.tables (held d number).board) in
     subst (λ p. o ≡ reader_refusal p x) is
-    (told ∙ unspent rs (spent d.tables.last_port || spent d.last_thing, reader_error.NumbersSpent) (few_left d.tables.last_port d.last_thing few'.ports few'.things) ∙ sym (reader_tests nodes numbers things d x number h i))
+    (told ∙ unspent rs (spent d.tables.last_port || spent d.last_thing, reader_error.NumbersSpent) (few_left d.tables.last_port d.last_thing few'.ports few'.things) ∙ sym (reader_tests nodes at d x number h i))
 
-pub writer_told : {C : Type 0} (list : C → List ℕ) (nodes : List (List ℕ)) (numbers : List ℕ) (things : List Held) (d : Domain C) (now : Parties) (x : Held) (number : ℕ) (o : Option WriterCreateError)
-    → IsNamed nodes numbers things d → IsThing nodes d x number → shown list d things ≡ now → IsFew now → o ≡ first_of (writer_list d (held d number)) → o ≡ writer_refusal now x
-writer_told list nodes numbers things d now x number o h i is few told =
+pub writer_told : {C : Type 0} (list : C → List ℕ) (nodes : List (List ℕ)) (at : ℕ → Option Held) (d : Domain C) (now : Parties) (x : Held) (number : ℕ) (o : Option WriterCreateError)
+    → IsNamed nodes at d → IsThing nodes d x number → shown list d (things_of at d) ≡ now → IsFew now → o ≡ first_of (writer_list d (held d number)) → o ≡ writer_refusal now x
+writer_told list nodes at d now x number o h i is few told =
     let few' = subst (λ p. IsFew p) (sym is) few in
     let rs = writer_refusals d.tables.things (board_at d.tables (held d number).board) in
     subst (λ p. o ≡ writer_refusal p x) is
-    (told ∙ unspent rs (spent d.tables.last_port || spent d.last_thing, writer_error.NumbersSpent) (few_left d.tables.last_port d.last_thing few'.ports few'.things) ∙ sym (writer_tests nodes numbers things d x number h i))
+    (told ∙ unspent rs (spent d.tables.last_port || spent d.last_thing, writer_error.NumbersSpent) (few_left d.tables.last_port d.last_thing few'.ports few'.things) ∙ sym (writer_tests nodes at d x number h i))
 
-pub entry_told : {C : Type 0} (list : C → List ℕ) (nodes : List (List ℕ)) (numbers : List ℕ) (things : List Held) (d : Domain C) (now : Parties) (x : Held) (number : ℕ) (k : Key) (type : ValueType) (value : TypeDetail) (o : Option EntryHandleError)
-    → IsNamed nodes numbers things d → IsThing nodes d x number → shown list d things ≡ now → IsFew now → value ≡ value_detail type → o ≡ first_of (entry_list d (entry_sought d number k value)) → o ≡ entry_refusal now x k type
-entry_told list nodes numbers things d now x number k type value o h i is few typed told =
+pub entry_told : {C : Type 0} (list : C → List ℕ) (nodes : List (List ℕ)) (at : ℕ → Option Held) (d : Domain C) (now : Parties) (x : Held) (number : ℕ) (k : Key) (type : ValueType) (value : TypeDetail) (o : Option EntryHandleError)
+    → IsNamed nodes at d → IsThing nodes d x number → shown list d (things_of at d) ≡ now → IsFew now → value ≡ value_detail type → o ≡ first_of (entry_list d (entry_sought d number k value)) → o ≡ entry_refusal now x k type
+entry_told list nodes at d now x number k type value o h i is few typed told =
     let few' = subst (λ p. IsFew p) (sym is) few in
     let sought : entry_sought d number k value ≡ found_for d x (keeps_key k) (value_detail type) =
     found_same nodes d x number (keeps_key k) value i ∙ ap (λ v. found_for d x (keeps_key k) v) typed in
     subst (λ p. o ≡ entry_refusal p x k type) is
     (told ∙ unspent (entry_refusals (entry_sought d number k value)) (spent d.last_thing, entry_error.NumbersSpent) (one_left d.last_thing few'.things) ∙ ap (λ f. first_of (entry_refusals f)) sought)
 
-pub entry_mut_told : {C : Type 0} (list : C → List ℕ) (nodes : List (List ℕ)) (numbers : List ℕ) (things : List Held) (d : Domain C) (now : Parties) (x : Held) (number : ℕ) (k : Key) (type : ValueType) (value : TypeDetail) (o : Option EntryHandleMutError)
-    → IsNamed nodes numbers things d → IsThing nodes d x number → shown list d things ≡ now → IsFew now → value ≡ value_detail type → o ≡ first_of (entry_mut_list d (held d number) (entry_sought d number k value))
+pub entry_mut_told : {C : Type 0} (list : C → List ℕ) (nodes : List (List ℕ)) (at : ℕ → Option Held) (d : Domain C) (now : Parties) (x : Held) (number : ℕ) (k : Key) (type : ValueType) (value : TypeDetail) (o : Option EntryHandleMutError)
+    → IsNamed nodes at d → IsThing nodes d x number → shown list d (things_of at d) ≡ now → IsFew now → value ≡ value_detail type → o ≡ first_of (entry_mut_list d (held d number) (entry_sought d number k value))
     → o ≡ entry_mut_refusal now x k type
-entry_mut_told list nodes numbers things d now x number k type value o h i is few typed told =
+entry_mut_told list nodes at d now x number k type value o h i is few typed told =
     let few' = subst (λ p. IsFew p) (sym is) few in
     let f = found_for d x (keeps_key k) (value_detail type) in
     let sought : entry_sought d number k value ≡ f = found_same nodes d x number (keeps_key k) value i ∙ ap (λ v. found_for d x (keeps_key k) v) typed in
     subst (λ p. o ≡ entry_mut_refusal p x k type) is
     (told ∙ unspent (entry_mut_refusals d.tables.things (held d number).board (entry_sought d number k value)) (spent d.last_thing, entry_mut_error.NumbersSpent) (one_left d.last_thing few'.things)
-    ∙ ap (λ g. first_of (entry_mut_refusals d.tables.things (held d number).board g)) sought ∙ sym (handle_tests nodes numbers things d x number f h i))
+    ∙ ap (λ g. first_of (entry_mut_refusals d.tables.things (held d number).board g)) sought ∙ sym (handle_tests nodes at d x number f h i))
 
-pub factory_told : {C : Type 0} (list : C → List ℕ) (nodes : List (List ℕ)) (numbers : List ℕ) (things : List Held) (d : Domain C) (now : Parties) (party name : List ℕ) (k : KeyType) (limits : Limits) (needs : Requirements) (node : ℕ) (title : List ℕ) (o : Option BlackboardOpenError)
-    → IsNamed nodes numbers things d → node ≡ node_number party nodes → title ≡ name → shown list d things ≡ now → IsFew now → o ≡ first_of (open_list d node title (key_detail k) limits needs) → o ≡ open_refusal now party name k limits needs
-factory_told list nodes numbers things d now party name k limits needs node title o h by_node by_name is few told =
+pub factory_told : {C : Type 0} (list : C → List ℕ) (nodes : List (List ℕ)) (at : ℕ → Option Held) (d : Domain C) (now : Parties) (party name : List ℕ) (k : KeyType) (limits : Limits) (needs : Requirements) (node : ℕ) (title : List ℕ) (o : Option BlackboardOpenError)
+    → IsNamed nodes at d → node ≡ node_number party nodes → title ≡ name → shown list d (things_of at d) ≡ now → IsFew now → o ≡ first_of (open_list d node title (key_detail k) limits needs) → o ≡ open_refusal now party name k limits needs
+factory_told list nodes at d now party name k limits needs node title o h by_node by_name is few told =
     let few' = subst (λ p. IsFew p) (sym is) few in
     let n = node_number party nodes in
     let board = board_named d.tables name in
-    let h' = named_with party nodes numbers things d h in
+    let h' = named_with party nodes at d h in
     let asked : o ≡ first_of (open_list d n name (key_detail k) limits needs) =
     subst (λ t. o ≡ first_of (open_list d n t (key_detail k) limits needs)) by_name (subst (λ m. o ≡ first_of (open_list d m title (key_detail k) limits needs)) by_node told) in
     subst (λ p. o ≡ open_refusal p party name k limits needs) is
     (asked ∙ unspent (open_refusals nat_eq d.tables.things n board (key_detail k) limits needs) (spent d.last_thing, open_error.NumbersSpent) (one_left d.last_thing few'.things)
-    ∙ sym (factories_refused (nodes_with party nodes) party n d.tables.things things board (key_detail k) limits needs h'.parties (node_of party nodes) h'.holders h'.same))
+    ∙ sym (factories_refused (nodes_with party nodes) party n d.tables.things (things_of at d) board (key_detail k) limits needs h'.parties (node_of party nodes) h'.holders (same_things (nodes_with party nodes) at d h')))
 
 -- the tests of a new board, one after another
 pub tests_of_board : (s : List ℕ → List ℕ → Bool) (boards : List Board) (name : List ℕ) (entries : List AddedEntry) (named empty corrupted : Bool)

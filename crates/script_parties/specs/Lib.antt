@@ -1,4 +1,6 @@
+pub mod BoardNodes
 pub mod Named
+pub mod Numbered
 pub mod Overview
 pub mod Parties
 pub mod Refusals

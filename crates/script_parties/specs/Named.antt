@@ -1,14 +1,16 @@
 -- How the things that parties named stand for those of a domain's core. Of what follows public clauses speak of short keys alone.
-use Rattle.std.specs.Prelude.{◌≡◌, ◌≢◌, false, ℕ, ◌+◌, ◌-◌, ◌<◌, ◌≤◌, List, [], ◌∷◌, ◌++◌, length, map, Option, Some, None, slice_get, slice_index_or, Result, Ok, Err}
+use Rattle.std.specs.Prelude.{◌≡◌, false, ℕ, ◌+◌, ◌-◌, ◌<◌, ◌≤◌, List, [], ◌∷◌, ◌++◌, find, length, map, Option, Some, None, slice_index_or}
 use Rattle.std.specs.List.{AllByRecursion, position_from}
 use Rattle.std.specs.Str.{bytes_eq}
 use Rattle.board_model.specs.declared.tables.Board.{Board}
 use Rattle.board_model.specs.declared.tables.Entry.{Entry}
+use Rattle.board_model.specs.declared.tables.Kind.TheVariants as kind
 use Rattle.board_model.specs.declared.tables.Thing.{Thing}
 use Rattle.board_model.specs.ShortKeys.{IsShortKey}
-use Rattle.board_model.specs.Tables.{Added, rename}
-use Rattle.board_model.specs.Things.{Held, is_held_as}
-use Rattle.board_service.specs.Domain.{Domain}
+use Rattle.board_model.specs.Tables.{Added}
+use Rattle.board_model.specs.Things.{Held}
+use Rattle.board_service.specs.Domain.{Domain, is_thing}
+use Rattle.board_things.specs.Kept.{AreRising}
 
 -- ---- keys
 
@@ -68,32 +70,31 @@ nameless name = []
 abbrev pub own : List ℕ → List ℕ
 own party = party
 
--- the core's number of a thing
-abbrev pub core_number : Thing ℕ ℕ → ℕ
-core_number t = t.name
+-- a thing that is there, or one that nobody has
+abbrev pub held_or_none : Option Held → Held
+held_or_none None = record { holder = []; name = []; board = 0; kind = kind.Factory }
+held_or_none (Some t) = t
 
--- the numbers differ
-abbrev pub AreApart : List ℕ → Type 0
-AreApart [] = Unit {0}
-AreApart (n ∷ ns) = AllByRecursion (λ m. n ≢ m) ns × AreApart ns
+-- the core's things by their names, in its order
+abbrev pub named_things : (ℕ → Option Held) → List (Thing ℕ ℕ) → List Held
+named_things things ts = map (λ (t : Thing ℕ ℕ). held_or_none (things t.name)) ts
 
--- the thing stands first at the place of its number
-abbrev pub IsNumberIn : List Held → List ℕ → Held → ℕ → Type 0
-IsNumberIn things numbers x number = (place : ℕ) × (position_from (is_held_as x.holder x.name) 0 things ≡ Some place) × (slice_get numbers place ≡ Some number)
+abbrev pub things_of : {C : Type 0} → (ℕ → Option Held) → Domain C → List Held
+things_of things d = named_things things d.tables.things
 
--- but for their names the things are the core's, with parties in place of nodes; each has its number
-pub record IsNamed {C : Type 0} (nodes : List (List ℕ)) (numbers : List ℕ) (things : List Held) (d : Domain C) : Type 0 where
-  pub same : map (rename (party_at nodes) nameless) d.tables.things ≡ map (rename own nameless) things
-  pub numbered : map core_number d.tables.things ≡ numbers
-  pub apart : AreApart numbers
-  pub drawn : AllByRecursion (λ n. n ≤ d.last_thing) numbers
+-- a thing of the core has a name under its number, and is the named one otherwise, with a party in place of its node
+pub record IsCalled (party : ℕ → List ℕ) (things : ℕ → Option Held) (t : Thing ℕ ℕ) : Type 0 where
+  pub named : Held
+  pub there : things t.name ≡ Some named
+  pub holder : party t.holder ≡ named.holder
+  pub board : t.board ≡ named.board
+  pub kind : t.kind ≡ named.kind
+
+-- each thing of the core is named, and nothing else is
+pub record IsNamed {C : Type 0} (nodes : List (List ℕ)) (things : ℕ → Option Held) (d : Domain C) : Type 0 where
+  pub called : AllByRecursion (IsCalled (party_at nodes) things) d.tables.things
+  pub alone : (n : ℕ) → find (is_thing n) d.tables.things ≡ None → things n ≡ None
+  pub rising : AreRising 0 d.last_thing d.tables.things
   pub holders : AllByRecursion (IsOfNode (length nodes)) d.tables.things
   pub parties : AreParties nodes
   pub keys : AllByRecursion HasShortKeys d.tables.boards
-
--- ---- answers
-
--- the number in an answer
-abbrev pub number_in : {M E : Type 0} → (M → ℕ) → Result M E → Result ℕ E
-number_in f (Ok m) = Ok (f m)
-number_in f (Err e) = Err e

@@ -1,16 +1,17 @@
 //! A domain as the parties of a script see it: nodes are parties, and things have the names that parties gave them.
 //!
-//! `PartyDomain<C>` is a `DomainCore<C>`, the parties that are its nodes, and the things by the names that parties gave
-//! them, each with the core's number for it. Contracts see it as `specs/Parties` has it: the definitions' tables with
-//! parties for nodes and names for numbers, and the words of each board. `specs/Named` is what holds between the two
-//! lists of things: but for their names they are the same. What is counted over the things doesn't see names, so a
-//! refusal of the core is the refusal of the definitions.
+//! `PartyDomain<C>` is a `DomainCore<C>`, the parties that are its nodes, and under the core's number of each thing the
+//! name that a party gave it, with indexes by party and by name. Contracts see it as `specs/Parties` has it: the
+//! definitions' tables with parties for nodes and names for numbers, and the words of each board. The things are the
+//! core's in its order, each under its party and its name; `specs/Named` is what holds between the two. What is counted
+//! over the things doesn't see names, so a refusal of the core is the refusal of the definitions.
 #![tactic(auto)]
 
 mod adding;
 mod entry_tests;
 mod lists;
 mod lookups;
+mod named;
 mod party_domain;
 mod typed_calls;
 

@@ -1,11 +1,18 @@
 //! What is listed of a board.
-ghost use Rattle.std.specs.Prelude.{◌≡◌, ◌≤◌, ◌++◌, ◌∷◌, IfNone, IfSome, IfOk, OnOk, length, map, take, drop};
-ghost use Rattle.board_model.specs.Replies as replies;
+ghost use Rattle.std.specs.Prelude.{◌≡◌, ◌||◌, ℕ, List, IfOk, OnOk, map};
+ghost use Rattle.std.specs.BTreeSet as set;
+ghost use Rattle.std.specs.Cmp.Lexicographic.{slice_cmp};
+ghost use Rattle.std.specs.Ordering.{nat_cmp};
+ghost use Rattle.std.specs.Str.{bytes_eq};
+ghost use Rattle.board_model.specs.Tables.{holds_at};
+ghost use Rattle.script_parties.specs.BoardNodes.{AreHolders, is_told, node_count, node_party};
 ghost use Rattle.script_parties.specs.Overview.{key_shown};
 
-use crate::lookups::Held;
 use board_model::{Entry, KeyType, Keys, Name, Names, key_of};
+use board_service::{BoardWords, DomainCore, NodeId};
+use indexmap::IndexSet;
 use std::alloc::{AllocError, Global};
+use std::collections::BTreeSet;
 
 /// The keys of entries, in the order of adding.
 pub(crate) fn keys_of(
@@ -22,49 +29,70 @@ pub(crate) fn keys_of(
     Ok(Keys::from_vec(keys))
 }
 
-// Where a name is to stand among others, in the order of their bytes. None where it stands there already.
-fn place_for(name: &Name, names: &[Name]) -> Option<usize>
-    ensures there { IfNone result (replies.placed_once name.now names.now ≡ names.now) }
-    ensures place { IfSome result (λ i. replies.placed_once name.now names.now
-        ≡ take i names.now ++ name.now ∷ drop i names.now) }
-    ensures inside { IfSome result (λ i. i ≤ length names.now) }
+// How many nodes a board has.
+fn node_count<C: BoardWords>(board: u64, core: &DomainCore<C>) -> u64
+    ensures { result ≡ node_count core.now board }
 {
-    for (i, other) in names.iter().enumerate() {
-        if name == other {
-            return None;
-        }
-        if name < other {
-            return Some(i);
-        }
+    match core.use_of(board) {
+        Some(taken) => taken.nodes,
+        None => 0,
     }
-    Some(names.len())
 }
 
-// Puts a name among others, in the order of their bytes, where it doesn't stand there.
-fn place_once(name: Name, names: &mut Vec<Name>) -> Result<(), AllocError>
-    ensures { OnOk result (names.new.items ≡ replies.placed_once name names.old.items) }
+// The party of a node, if there is one.
+fn party_of(node: Option<NodeId>, nodes: &IndexSet<Name>) -> Option<Name>
+    ensures { result ≡ node_party nodes.now.keys node }
 {
-    match place_for(&name, names) {
-        Some(at) => match names.insert(at, name) {
-            Ok(()) => Ok(()),
+    match node {
+        Some(node) => nodes
+            .get_index((node.0 as usize).saturating_sub(1))
+            .copied(),
+        None => None,
+    }
+}
+
+// Adds a party to the others, if there is one.
+fn add_party(party: Option<Name>, parties: &mut BTreeSet<Name>) -> Result<(), AllocError>
+    ensures { OnOk result ((p : List ℕ) → set.contains (slice_cmp nat_cmp) parties.new p
+        ≡ (set.contains (slice_cmp nat_cmp) parties.old p
+        || holds_at party (λ q. bytes_eq q p))) }
+{
+    match party {
+        Some(party) => match parties.insert(party) {
+            Ok(_) => Ok(()),
             Err(_) => Err(AllocError),
         },
         None => Ok(()),
     }
 }
 
-/// The parties with a thing of the board, in the order of their bytes.
-pub(crate) fn nodes_at(alloc: Global, board: u64, things: &[Held]) -> Result<Names, AllocError>
-    ensures { IfOk result (λ names. names ≡ replies.nodes_of board things.now) }
+// The parties that are nodes of the board.
+fn parties_of<C: BoardWords>(
+    alloc: Global,
+    board: u64,
+    nodes: &IndexSet<Name>,
+    core: &DomainCore<C>,
+) -> Result<BTreeSet<Name>, AllocError>
+    ensures { IfOk result (λ parties. (p : List ℕ) → set.contains (slice_cmp nat_cmp) parties p
+        ≡ is_told nodes.now.keys core.now board p (node_count core.now board)) }
 {
-    let mut names = Vec::new(alloc);
-    let mut at = things.len();
-    while at > 0 {
-        at -= 1;
-        let thing = &things[at];
-        if thing.board == board {
-            place_once(thing.holder, &mut names)?;
-        }
+    let count = node_count(board, core);
+    let mut parties = BTreeSet::new(alloc);
+    for index in 0..count {
+        add_party(party_of(core.node_at(board, index), nodes), &mut parties)?;
     }
-    Ok(Names::from_vec(names))
+    Ok(parties)
+}
+
+/// The parties that are nodes of the board, in the order of their bytes.
+pub(crate) fn nodes_at<C: BoardWords>(
+    alloc: Global,
+    board: u64,
+    nodes: &IndexSet<Name>,
+    core: &DomainCore<C>,
+) -> Result<Names, AllocError>
+    ensures { IfOk result (AreHolders nodes.now.keys core.now board) }
+{
+    let parties = parties_of(alloc, board, nodes, core)?;
+    Ok(Names::from_vec(parties.iter().copied().collect(alloc)?))
 }

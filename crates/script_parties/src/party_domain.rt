@@ -5,6 +5,7 @@ ghost use Rattle.board_model.specs.LineGrammar.{AreAttributes, AreRequirements, 
 ghost use Rattle.board_model.specs.Replies as replies;
 ghost use Rattle.board_model.specs.Tables as tables;
 ghost use Rattle.board_model.specs.Things.{of_kind};
+ghost use Rattle.board_service.specs.Domain as domain;
 ghost use Rattle.script_parties.specs.Overview.{keys_shown};
 ghost use Rattle.script_parties.specs.Parties.{HasWord, IsCreate, IsEntry, IsEntryMut, IsFew, IsLoaded, IsOpen, IsReader, IsReleased, IsStored, IsWriter, IsStandingThing, board_words, no_parties};
 ghost use Rattle.script_parties.specs.Shown.{HasKeyType, id_shown, info_shown, party_thing, renamed};
@@ -15,7 +16,8 @@ mod refusals;
 
 use crate::adding::{attributes_for, needs_for};
 use crate::lists::{keys_of, nodes_at};
-use crate::lookups::{Held, entry_of, held_of_kind, name_text, place_of_thing, rename, thing_of};
+use crate::lookups::{Held, entry_of, name_text};
+use crate::named::NamedThings;
 use board_cell::Words;
 use board_layout::Text;
 use board_model::{
@@ -23,7 +25,9 @@ use board_model::{
     NewLimits, Reply, Requirements, ThingKind, ValueType, key_detail, key_type_of, same_type,
     type_of_key,
 };
-use board_service::{BoardWords, DomainCore, ThingId};
+use board_service::{BoardWords, DomainCore, ThingId, is_kind};
+use indexmap::IndexSet;
+use script_seats::Seat;
 use std::alloc::{AllocError, Global};
 use std::marker::Model;
 
@@ -32,28 +36,38 @@ use std::marker::Model;
 pub struct PartyDomain<C: BoardWords> {
     core: DomainCore<C>,
     /// Node number n is the party at place n - 1.
-    nodes: Vec<Name>,
-    things: Vec<Held>,
-    /// The number of each thing, in the order of the things.
-    numbers: Vec<ThingId>,
+    nodes: IndexSet<Name>,
+    /// The core's things by their names.
+    names: NamedThings,
     alloc: Global,
 }
 
 impl<C: BoardWords> Model for PartyDomain<C> {
     ghost use Rattle.std.specs.Prelude.{map};
-    ghost use Rattle.script_parties.specs.Named.{IsNamed};
+    ghost use Rattle.script_parties.specs.Named.{IsNamed, named_things};
+    ghost use Rattle.script_parties.specs.Numbered.{IsIndexed, named_at};
     ghost use Rattle.script_parties.specs.Parties.{Parties};
     ghost use Rattle.script_parties.specs.Shown.{named_tables};
 
     ghost Value = { Parties };
 
     ghost view = { λ d. record {
-      tables = named_tables d.core.tables d.things.items;
+      tables = named_tables d.core.tables
+          (named_things (named_at d.names) d.core.tables.things);
       words = map C.list d.core.cells;
       drawn = d.core.last_thing;
     } };
 
-    ghost invariant = { λ d. IsNamed d.nodes.items d.numbers.items d.things.items d.core };
+    ghost invariant = { λ d. IsIndexed d.names
+        × IsNamed d.nodes.keys (named_at d.names) d.core };
+}
+
+// Ends a thing of a core. The cells of a board that goes with it are dropped.
+fn end_thing<C: BoardWords + Drop>(core: &mut DomainCore<C>, thing: ThingId)
+    requires { domain.Stands core.old thing }
+    ensures { core.new ≡ domain.after_release core.old thing (domain.board_of core.old thing) }
+{
+    let _ = core.release(thing);
 }
 
 // All words, read one after another.
@@ -76,9 +90,8 @@ impl<C: BoardWords + Drop> PartyDomain<C> {
     {
         PartyDomain {
             core: DomainCore::new(alloc),
-            nodes: Vec::new(alloc),
-            things: Vec::new(alloc),
-            numbers: Vec::new(alloc),
+            nodes: IndexSet::new(alloc),
+            names: NamedThings::new(alloc),
             alloc,
         }
     }
@@ -87,21 +100,33 @@ impl<C: BoardWords + Drop> PartyDomain<C> {
     pub fn thing_of(&self, party: &Name, name: &Name) -> Option<&Held>
         ensures { option_map (λ t. t.now) result ≡ party_thing self.now party.now name.now }
     {
-        thing_of(party, name, &self.things)
+        self.names.thing_of(&Seat {
+            party: *party,
+            name: *name,
+        })
     }
 
     /// The same, where it is of this kind.
     pub fn held_of_kind(&self, kind: ThingKind, party: &Name, name: &Name) -> Option<Held>
         ensures { result ≡ of_kind kind (party_thing self.now party.now name.now) }
     {
-        held_of_kind(kind, party, name, &self.things)
+        match self.thing_of(party, name) {
+            Some(thing) => {
+                if is_kind(kind, &thing.kind) {
+                    Some(*thing)
+                } else {
+                    None
+                }
+            }
+            None => None,
+        }
     }
 
     /// Gives the party's thing another name.
     pub fn rename(&mut self, party: &Name, old: &Name, new: &Name)
         ensures { self.new ≡ renamed self.old party.now old.now new.now }
     {
-        rename(party, old, new, &mut self.things);
+        self.names.rename(party, old, new);
     }
 
     /// Whether the key has the key type of the board.
@@ -326,10 +351,12 @@ impl<C: BoardWords + Drop> PartyDomain<C> {
     pub fn release(&mut self, party: &Name, name: &Name)
         ensures { IsReleased self.old self.new party.now name.now }
     {
-        if let Some(place) = place_of_thing(party, name, &self.things) {
-            let number = self.numbers.remove(place);
-            let _ = self.things.remove(place);
-            let _ = self.core.release(number);
+        let seat = Seat {
+            party: *party,
+            name: *name,
+        };
+        if let Some(number) = self.names.take(&seat) {
+            end_thing(&mut self.core, number);
         }
     }
 
@@ -369,7 +396,8 @@ impl<C: BoardWords + Drop> PartyDomain<C> {
     pub fn nodes(&self, board: u64) -> Result<Names, AllocError>
         ensures { IfOk result (λ names. names ≡ replies.nodes_of board self.now.tables.things) }
     {
-        nodes_at(self.alloc, board, &self.things)
+        self.core.facts();
+        nodes_at(self.alloc, board, &self.nodes, &self.core)
     }
 
     /// The limits of a board that stands, how many entries and attributes it has, and what is taken of it.

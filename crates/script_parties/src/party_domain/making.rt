@@ -9,7 +9,8 @@ ghost use Rattle.board_service.specs.Domain.{CanJoin};
 
 use super::PartyDomain;
 use crate::adding::entries_for;
-use crate::lookups::{Held, join, keep, node_for, number_of};
+use crate::lookups::{Held, join, node_for};
+use crate::named::number_of;
 use crate::typed_calls::{create_in, entry_in, entry_mut_in};
 use board_concepts::AttributeSet;
 use board_layout::Text;
@@ -44,8 +45,7 @@ impl<C: BoardWords + Drop> PartyDomain<C> {
     {
         let entries = entries_for(self.alloc, entries.as_slice())?;
         self.nodes.reserve(1)?;
-        self.things.reserve(1)?;
-        self.numbers.reserve(1)?;
+        self.names.reserve()?;
         let node = NodeId(node_for(&party, &self.nodes));
         let name = ServiceName::from_text(name);
         match create_in(
@@ -65,7 +65,7 @@ impl<C: BoardWords + Drop> PartyDomain<C> {
                     board: made.number,
                     kind: Kind::Factory,
                 };
-                keep(thing, made.thing, &mut self.things, &mut self.numbers);
+                self.names.push(made.thing, thing);
                 Ok(Reply::Number(made.number))
             }
             Err(BlackboardCreateError::OutOfMemory) => Err(AllocError),
@@ -87,8 +87,7 @@ impl<C: BoardWords + Drop> PartyDomain<C> {
         ensures err { OnErr result (self.new ≡ self.old) }
     {
         self.nodes.reserve(1)?;
-        self.things.reserve(1)?;
-        self.numbers.reserve(1)?;
+        self.names.reserve()?;
         let node = NodeId(node_for(&party, &self.nodes));
         let name = ServiceName::from_text(name);
         match self.core.open_unrefused(node, &name) {
@@ -100,7 +99,7 @@ impl<C: BoardWords + Drop> PartyDomain<C> {
                     board: made.number,
                     kind: Kind::Factory,
                 };
-                keep(thing, made.thing, &mut self.things, &mut self.numbers);
+                self.names.push(made.thing, thing);
                 Ok(Reply::Number(made.number))
             }
             Err(error) => Err(error),
@@ -114,9 +113,8 @@ impl<C: BoardWords + Drop> PartyDomain<C> {
         ensures asked { IfOk result (IsReader self.old self.new name factory.now) }
         ensures err { OnErr result (self.new ≡ self.old) }
     {
-        self.things.reserve(1)?;
-        self.numbers.reserve(1)?;
-        let number = number_of(factory, &self.things, &self.numbers);
+        self.names.reserve()?;
+        let number = number_of(factory, &self.names);
         match self.core.reader(number) {
             Ok(made) => {
                 let thing = Thing {
@@ -125,7 +123,7 @@ impl<C: BoardWords + Drop> PartyDomain<C> {
                     board: factory.board,
                     kind: Kind::Reader { port: made.number },
                 };
-                keep(thing, made.thing, &mut self.things, &mut self.numbers);
+                self.names.push(made.thing, thing);
                 Ok(Reply::Number(made.number))
             }
             Err(ReaderCreateError::OutOfMemory) => Err(AllocError),
@@ -140,9 +138,8 @@ impl<C: BoardWords + Drop> PartyDomain<C> {
         ensures asked { IfOk result (IsWriter self.old self.new name factory.now) }
         ensures err { OnErr result (self.new ≡ self.old) }
     {
-        self.things.reserve(1)?;
-        self.numbers.reserve(1)?;
-        let number = number_of(factory, &self.things, &self.numbers);
+        self.names.reserve()?;
+        let number = number_of(factory, &self.names);
         match self.core.writer(number) {
             Ok(made) => {
                 let thing = Thing {
@@ -151,7 +148,7 @@ impl<C: BoardWords + Drop> PartyDomain<C> {
                     board: factory.board,
                     kind: Kind::Writer { port: made.number },
                 };
-                keep(thing, made.thing, &mut self.things, &mut self.numbers);
+                self.names.push(made.thing, thing);
                 Ok(Reply::Number(made.number))
             }
             Err(WriterCreateError::OutOfMemory) => Err(AllocError),
@@ -175,9 +172,8 @@ impl<C: BoardWords + Drop> PartyDomain<C> {
             value_type) }
         ensures err { OnErr result (self.new ≡ self.old) }
     {
-        self.things.reserve(1)?;
-        self.numbers.reserve(1)?;
-        let number = number_of(reader, &self.things, &self.numbers);
+        self.names.reserve()?;
+        let number = number_of(reader, &self.names);
         match entry_in(&mut self.core, number, key, &value_detail(value_type)) {
             Ok(found) => {
                 let thing = Thing {
@@ -186,7 +182,7 @@ impl<C: BoardWords + Drop> PartyDomain<C> {
                     board: reader.board,
                     kind: Kind::ReadHandle { entry: found.entry },
                 };
-                keep(thing, found.thing, &mut self.things, &mut self.numbers);
+                self.names.push(found.thing, thing);
                 Ok(Reply::Number(found.place))
             }
             Err(EntryHandleError::OutOfMemory) => Err(AllocError),
@@ -210,9 +206,8 @@ impl<C: BoardWords + Drop> PartyDomain<C> {
             value_type) }
         ensures err { OnErr result (self.new ≡ self.old) }
     {
-        self.things.reserve(1)?;
-        self.numbers.reserve(1)?;
-        let number = number_of(writer, &self.things, &self.numbers);
+        self.names.reserve()?;
+        let number = number_of(writer, &self.names);
         match entry_mut_in(&mut self.core, number, key, &value_detail(value_type)) {
             Ok(found) => {
                 let thing = Thing {
@@ -224,7 +219,7 @@ impl<C: BoardWords + Drop> PartyDomain<C> {
                         port: port_of(&writer.kind),
                     },
                 };
-                keep(thing, found.thing, &mut self.things, &mut self.numbers);
+                self.names.push(found.thing, thing);
                 Ok(Reply::Number(found.place))
             }
             Err(EntryHandleMutError::OutOfMemory) => Err(AllocError),

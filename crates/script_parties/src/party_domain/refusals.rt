@@ -8,7 +8,8 @@ ghost use Rattle.script_parties.specs.Refusals.{create_refusal, entry_mut_refusa
 
 use super::PartyDomain;
 use crate::entry_tests::{has_equal_keys, is_too_large};
-use crate::lookups::{Held, node_for, number_of};
+use crate::lookups::{Held, node_for};
+use crate::named::number_of;
 use crate::typed_calls::{entry_mut_refusal_in, entry_refusal_in, open_refusal_in};
 use board_concepts::AttributeVerifier;
 use board_layout::Text;
@@ -66,7 +67,7 @@ impl<C: BoardWords + Drop> PartyDomain<C> {
         requires stands { IsStandingThing self.now factory.now }
         ensures { result ≡ reader_refusal self.now factory.now }
     {
-        let number = number_of(factory, &self.things, &self.numbers);
+        let number = number_of(factory, &self.names);
         self.core.reader_refusal(number)
     }
 
@@ -76,7 +77,7 @@ impl<C: BoardWords + Drop> PartyDomain<C> {
         requires stands { IsStandingThing self.now factory.now }
         ensures { result ≡ writer_refusal self.now factory.now }
     {
-        let number = number_of(factory, &self.things, &self.numbers);
+        let number = number_of(factory, &self.names);
         self.core.writer_refusal(number)
     }
 
@@ -93,7 +94,7 @@ impl<C: BoardWords + Drop> PartyDomain<C> {
         requires key { HasKeyType self.now reader.now key.now }
         ensures { result ≡ entry_refusal self.now reader.now key.now value_type }
     {
-        let number = number_of(reader, &self.things, &self.numbers);
+        let number = number_of(reader, &self.names);
         entry_refusal_in(&self.core, number, key, &value_detail(value_type))
     }
 
@@ -110,7 +111,7 @@ impl<C: BoardWords + Drop> PartyDomain<C> {
         requires key { HasKeyType self.now writer.now key.now }
         ensures { result ≡ entry_mut_refusal self.now writer.now key.now value_type }
     {
-        let number = number_of(writer, &self.things, &self.numbers);
+        let number = number_of(writer, &self.names);
         entry_mut_refusal_in(&self.core, number, key, &value_detail(value_type))
     }
 }

@@ -1,6 +1,5 @@
-use Rattle.std.proofs.Common.{List, ℕ, sym, ap, subst, ◌≡◌, ◌∙◌}
+use Rattle.std.proofs.Common.{List, ℕ, sym, ap, ◌≡◌, ◌∙◌}
 use Rattle.board_model.specs.TypeTable as types
-use Rattle.board_model.specs.ShortKeys.{IsShortKey}
 use Rattle.board_model.specs.declared.value.KeyType.{KeyType}
 use Rattle.board_model.specs.declared.value.KeyType.TheVariants as key_type
 use Rattle.script_parties.proofs.KeyTests.{same_numbers, same_texts}

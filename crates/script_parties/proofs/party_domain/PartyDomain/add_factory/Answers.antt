@@ -1,14 +1,17 @@
-use Rattle.std.proofs.Common.{List, [], ◌∷◌, ◌++◌, sym, ap, ◌∙◌, subst}
+use Rattle.std.proofs.Common.{◌≡◌, Some, [], ◌∷◌, ◌++◌, sym, ap, ◌∙◌, subst, refl}
 use Rattle.std.specs.Str.{bytes_eq}
 use Rattle.board_model.specs.declared.answer.Reply.TheVariants as reply
-use Rattle.board_model.specs.Things.{Held}
 use Rattle.board_service.specs.Domain.{CanJoin}
-use Rattle.script_parties.specs.Named.{IsNamed, node_number, nodes_with}
+use Rattle.script_parties.specs.Named.{IsNamed, node_number, nodes_with, things_of}
+use Rattle.script_parties.specs.Numbered.{named_at}
 use Rattle.script_parties.specs.Parties.{IsJoined, Parties}
 use Rattle.script_parties.proofs.Asked.{carried}
 use Rattle.script_parties.proofs.BoardNames.{service_name}
+use Rattle.script_parties.proofs.Growth.{named_more, named_with, next_free, things_more}
 use Rattle.script_parties.proofs.Openings.{factory_of, node_joins, open_made}
+use Rattle.script_parties.proofs.Places.{named_still}
 use Rattle.script_parties.proofs.Ports.{shown}
+use Rattle.script_seats.specs.Seats.{put}
 use Rattle.script_parties.proofs.party_domain.PartyDomain.add_factory.Goals as goal
 
 pub from_text-name-requires : goal.from_text-name-requires
@@ -17,29 +20,58 @@ from_text-name-requires g c = service_name c.args.name c.requires.name
 pub open_unrefused-requires-clause-joins : goal.open_unrefused-requires-clause-joins
 open_unrefused-requires-clause-joins g c =
     let s = c.self.inside in
-    let node_is = c.node_for.ensures ∙ ap (λ ns. node_number c.args.party ns) (c.deref.ensures.value ∙ c.reserve.ensures.items) in
+    let at = named_at s.names in
+    let node_is = c.node_for.ensures ∙ ap (λ ns. node_number c.args.party ns) c.reserve.ensures.keys in
     let joins = subst (λ (p : Parties). CanJoin bytes_eq p.tables c.args.party c.args.name) (sym c.self.view_is) c.requires.joins in
-    node_joins g.C.Words.list s.nodes.items s.numbers.items s.things.items s.core c.args.party c.args.name c.node_for.result c.from_text-name.result c.self.invariant node_is c.from_text-name.ensures joins
+    node_joins g.C.Words.list s.nodes.keys at s.core c.args.party c.args.name c.node_for.result c.from_text-name.result c.self.invariant.1 node_is c.from_text-name.ensures joins
+
+pub push-requires-clause-free : goal.push-requires-clause-free
+push-requires-clause-free g c =
+    let s = c.self.inside in
+    let at = named_at s.names in
+    let h = c.self.invariant.1 in
+    let node_is = c.node_for.ensures ∙ ap (λ ns. node_number c.args.party ns) c.reserve.ensures.keys in
+    let both = open_made g.C.Words.list s.nodes.keys at s.core c.open_unrefused.new.self c.args.party c.args.factory c.args.name
+    c.node_for.result c.from_text-name.result c.in-Ok.made h node_is c.from_text-name.ensures c.in-Ok.ensures.made c.in-Ok.ensures.ok in
+    next_free s.nodes.keys at (named_at c.reserve-2.new.self) s.core c.in-Ok.made.thing h c.reserve-2.ensures.things both.1.next
 
 pub invariant_of-self-in-Ok : goal.invariant_of-self-in-Ok
 invariant_of-self-in-Ok g c =
     let s = c.self.inside in
-    let node_is = c.node_for.ensures ∙ ap (λ ns. node_number c.args.party ns) (c.deref.ensures.value ∙ c.reserve.ensures.items) in
+    let at = named_at s.names in
+    let h = c.self.invariant.1 in
+    let all = nodes_with c.args.party s.nodes.keys in
+    let node_is = c.node_for.ensures ∙ ap (λ ns. node_number c.args.party ns) c.reserve.ensures.keys in
     let new = factory_of c.args.party c.args.factory c.in-Ok.made.number in
-    let both = open_made g.C.Words.list s.nodes.items s.numbers.items s.things.items s.core c.open_unrefused.new.self c.args.party c.args.factory c.args.name
-    c.node_for.result c.from_text-name.result c.in-Ok.made c.self.invariant node_is c.from_text-name.ensures c.in-Ok.ensures.made c.in-Ok.ensures.ok in
-    let named = carried (λ ns xs. IsNamed (nodes_with c.args.party s.nodes.items) ns xs c.open_unrefused.new.self) (s.numbers.items ++ c.in-Ok.made.thing ∷ []) c.keep.new.numbers.items (s.things.items ++ new ∷ []) c.keep.new.things.items
-    (sym (c.keep.ensures.numbers ∙ ap (λ ns. ns ++ c.in-Ok.made.thing ∷ []) c.reserve-3.ensures.items))
-    (c.keep.ensures.things ∙ ap (λ (xs : List Held). xs ++ new ∷ []) c.reserve-2.ensures.items) both.1 in
-    subst (λ ps. IsNamed ps c.keep.new.numbers.items c.keep.new.things.items c.open_unrefused.new.self) (sym (c.join.ensures ∙ ap (λ ps. nodes_with c.args.party ps) c.reserve.ensures.items)) named
+    let both = open_made g.C.Words.list s.nodes.keys at s.core c.open_unrefused.new.self c.args.party c.args.factory c.args.name
+    c.node_for.result c.from_text-name.result c.in-Ok.made h node_is c.from_text-name.ensures c.in-Ok.ensures.made c.in-Ok.ensures.ok in
+    let pushed : named_at c.push.new.self ≡ put c.in-Ok.made.thing (Some new) at = c.push.ensures.things ∙ ap (put c.in-Ok.made.thing (Some new)) c.reserve-2.ensures.things in
+    let named = named_more all at s.core c.open_unrefused.new.self c.in-Ok.made.thing new (named_with c.args.party s.nodes.keys at s.core h) both.1 in
+    let joined = sym (c.join.ensures ∙ ap (λ ps. nodes_with c.args.party ps) c.reserve.ensures.keys) in
+    (c.push.ensures.index, carried (λ ps a. IsNamed ps a c.open_unrefused.new.self) all c.join.new.nodes.keys (put c.in-Ok.made.thing (Some new) at) (named_at c.push.new.self) joined pushed named)
 
 pub returns-in-Ok-clause-joined : goal.returns-in-Ok-clause-joined
 returns-in-Ok-clause-joined g c =
     let s = c.self.inside in
-    let node_is = c.node_for.ensures ∙ ap (λ ns. node_number c.args.party ns) (c.deref.ensures.value ∙ c.reserve.ensures.items) in
+    let at = named_at s.names in
+    let h = c.self.invariant.1 in
+    let all = nodes_with c.args.party s.nodes.keys in
+    let node_is = c.node_for.ensures ∙ ap (λ ns. node_number c.args.party ns) c.reserve.ensures.keys in
     let new = factory_of c.args.party c.args.factory c.in-Ok.made.number in
-    let both = open_made g.C.Words.list s.nodes.items s.numbers.items s.things.items s.core c.open_unrefused.new.self c.args.party c.args.factory c.args.name
-    c.node_for.result c.from_text-name.result c.in-Ok.made c.self.invariant node_is c.from_text-name.ensures c.in-Ok.ensures.made c.in-Ok.ensures.ok in
+    let both = open_made g.C.Words.list s.nodes.keys at s.core c.open_unrefused.new.self c.args.party c.args.factory c.args.name
+    c.node_for.result c.from_text-name.result c.in-Ok.made h node_is c.from_text-name.ensures c.in-Ok.ensures.made c.in-Ok.ensures.ok in
+    let pushed : named_at c.push.new.self ≡ put c.in-Ok.made.thing (Some new) at = c.push.ensures.things ∙ ap (put c.in-Ok.made.thing (Some new)) c.reserve-2.ensures.things in
     carried (λ now xs. IsJoined now (shown g.C.Words.list c.open_unrefused.new.self xs) c.args.party c.args.factory c.args.name (reply.Number c.in-Ok.made.number))
-    (shown g.C.Words.list s.core s.things.items) c.args.self.now (s.things.items ++ new ∷ []) c.keep.new.things.items
-    c.self.view_is (c.keep.ensures.things ∙ ap (λ (xs : List Held). xs ++ new ∷ []) c.reserve-2.ensures.items) both.0
+    (shown g.C.Words.list s.core (things_of at s.core)) c.args.self.now (things_of at s.core ++ new ∷ []) (things_of (named_at c.push.new.self) c.open_unrefused.new.self)
+    c.self.view_is
+    (ap (λ a. things_of a c.open_unrefused.new.self) pushed ∙ things_more all at s.core c.open_unrefused.new.self c.in-Ok.made.thing new (named_with c.args.party s.nodes.keys at s.core h) both.1) both.0
+
+pub invariant_of-self-in_err-reserve-2 : goal.invariant_of-self-in_err-reserve-2
+invariant_of-self-in_err-reserve-2 g c =
+    let s = c.self.inside in
+    (c.reserve-2.ensures.index c.self.invariant.0, named_still s.nodes.keys c.reserve.new.self.keys (named_at s.names) (named_at c.reserve-2.new.self) s.core s.core c.self.invariant.1 c.reserve.ensures.keys c.reserve-2.ensures.things refl)
+
+pub invariant_of-self-in-Err : goal.invariant_of-self-in-Err
+invariant_of-self-in-Err g c =
+    let s = c.self.inside in
+    (c.reserve-2.ensures.index c.self.invariant.0, named_still s.nodes.keys c.reserve.new.self.keys (named_at s.names) (named_at c.reserve-2.new.self) s.core c.open_unrefused.new.self c.self.invariant.1 c.reserve.ensures.keys c.reserve-2.ensures.things c.in-Err.ensures.err)

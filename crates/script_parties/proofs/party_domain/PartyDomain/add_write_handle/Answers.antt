@@ -1,4 +1,4 @@
-use Rattle.std.proofs.Common.{rules, ◌≡◌, ◌≢◌, true, List, [], ◌∷◌, ◌++◌, refl, sym, ap, ◌∙◌, subst}
+use Rattle.std.proofs.Common.{rules, ◌≡◌, ◌≢◌, true, Some, [], ◌∷◌, ◌++◌, refl, sym, ap, ◌∙◌, subst}
 use Rattle.board_layout.specs.Answer.{Answers}
 use Rattle.board_model.specs.declared.answer.Reply.TheVariants as reply
 use Rattle.board_names.specs.declared.errors.boards.EntryHandleMutError.TheVariants as entry_mut_error
@@ -7,67 +7,118 @@ use Rattle.board_model.specs.declared.tables.ThingKind.TheVariants as thing_kind
 use Rattle.board_model.specs.LawfulSession.{is_typed_key}
 use Rattle.board_model.specs.Replies.{keeps_key}
 use Rattle.board_model.specs.Tables.{board_at}
-use Rattle.board_model.specs.Things.{Held}
 use Rattle.board_model.specs.TypeTable.{value_detail}
-use Rattle.script_parties.specs.Named.{IsNamed}
+use Rattle.script_parties.specs.Named.{IsNamed, things_of}
+use Rattle.script_parties.specs.Numbered.{named_at}
 use Rattle.script_parties.specs.Parties.{IsFew, IsEntryMut}
 use Rattle.script_parties.proofs.Asked.{carried, err_of, ok_of}
+use Rattle.script_parties.proofs.Growth.{named_more, next_free, things_more}
 use Rattle.script_parties.proofs.Handles.{entry_mut_made, entry_mut_not_made, held_as}
-use Rattle.script_parties.proofs.Places.{stands_in, thing_of_call}
+use Rattle.script_parties.proofs.Places.{has_number, named_still, stands_in, thing_of_call}
 use Rattle.script_parties.proofs.Ports.{from, shown}
+use Rattle.script_seats.specs.Seats.{put}
 use Rattle.board_service.specs.Domain.{after_entry_mut, entry_mut_answer, entry_for, held}
 use Rattle.script_parties.proofs.party_domain.PartyDomain.add_write_handle.Goals as goal
+
+pub number_of-number-requires-clause-stands : goal.number_of-number-requires-clause-stands
+number_of-number-requires-clause-stands g c =
+    let s = c.self.inside in
+    let x = c.args.writer.now in
+    let at = named_at s.names in
+    has_number s.nodes.keys at (named_at c.reserve.new.self) s.core x c.self.invariant.1 c.reserve.ensures.things (stands_in (shown g.C.Words.list s.core (things_of at s.core)) _ x c.self.view_is c.requires.stands)
 
 pub entry_mut_in-requires-clause-held : goal.entry_mut_in-requires-clause-held
 entry_mut_in-requires-clause-held g c =
     let s = c.self.inside in
     let x = c.args.writer.now in
-    let i = thing_of_call s.nodes.items s.numbers.items c.deref-2.result.now s.things.items c.deref.result.now s.core x c.number_of-number.result c.self.invariant (stands_in (shown g.C.Words.list s.core s.things.items) _ x c.self.view_is c.requires.stands)
-    (c.deref.ensures.value ∙ c.reserve.ensures.items) (c.deref-2.ensures.value ∙ c.reserve-2.ensures.items) c.number_of-number.ensures in
+    let at = named_at s.names in
+    let h = c.self.invariant.1 in
+    let n = c.number_of-number.result in
+    let stands = stands_in (shown g.C.Words.list s.core (things_of at s.core)) _ x c.self.view_is c.requires.stands in
+    let i = thing_of_call s.nodes.keys at (named_at c.reserve.new.self) s.core x n h c.reserve.ensures.things stands c.number_of-number.ensures in
     let typed = subst (λ p. is_typed_key (board_at p.tables x.board) c.args.key.now ≡ true) (sym c.self.view_is) c.requires.key in
-    held_as s.nodes.items s.core x c.number_of-number.result thing_kind.Writer c.args.key.now refl i c.requires.kind typed
+    held_as s.nodes.keys s.core x n thing_kind.Writer c.args.key.now refl i c.requires.kind typed
 
 pub entry_mut_in-requires-clause-keys : goal.entry_mut_in-requires-clause-keys
-entry_mut_in-requires-clause-keys g c = c.self.invariant.keys
+entry_mut_in-requires-clause-keys g c = c.self.invariant.1.keys
+
+pub push-requires-clause-free : goal.push-requires-clause-free
+push-requires-clause-free g c =
+    let s = c.self.inside in
+    let x = c.args.writer.now in
+    let at = named_at s.names in
+    let h = c.self.invariant.1 in
+    let n = c.number_of-number.result in
+    let stands = stands_in (shown g.C.Words.list s.core (things_of at s.core)) _ x c.self.view_is c.requires.stands in
+    let i = thing_of_call s.nodes.keys at (named_at c.reserve.new.self) s.core x n h c.reserve.ensures.things stands c.number_of-number.ensures in
+    let answer = subst (λ v. Answers (ok_of c.in-Ok.found) entry_mut_error.OutOfMemory (entry_mut_answer s.core (held s.core n) (entry_for s.core (held s.core n) (keeps_key c.args.key.now) v))) c.value_detail.ensures c.in-Ok.ensures.answer in
+    let ok = subst (λ v. c.entry_mut_in.new.core ≡ after_entry_mut s.core (held s.core n) (entry_for s.core (held s.core n) (keeps_key c.args.key.now) v)) c.value_detail.ensures c.in-Ok.ensures.ok in
+    let new = from x c.args.name (kind.WriteHandle c.in-Ok.found.entry c.port_of.result) in
+    let both = entry_mut_made g.C.Words.list s.nodes.keys at s.core c.entry_mut_in.new.core x n c.args.name (keeps_key c.args.key.now) (value_detail c.args.value_type) c.in-Ok.found c.port_of.result h i c.port_of.ensures answer ok in
+    next_free s.nodes.keys at (named_at c.reserve.new.self) s.core c.in-Ok.found.thing h c.reserve.ensures.things both.1.next
 
 pub invariant_of-self-in-Ok : goal.invariant_of-self-in-Ok
 invariant_of-self-in-Ok g c =
     let s = c.self.inside in
     let x = c.args.writer.now in
-    let i = thing_of_call s.nodes.items s.numbers.items c.deref-2.result.now s.things.items c.deref.result.now s.core x c.number_of-number.result c.self.invariant (stands_in (shown g.C.Words.list s.core s.things.items) _ x c.self.view_is c.requires.stands)
-    (c.deref.ensures.value ∙ c.reserve.ensures.items) (c.deref-2.ensures.value ∙ c.reserve-2.ensures.items) c.number_of-number.ensures in
-    let answer = subst (λ v. Answers (ok_of c.in-Ok.found) entry_mut_error.OutOfMemory (entry_mut_answer s.core (held s.core c.number_of-number.result) (entry_for s.core (held s.core c.number_of-number.result) (keeps_key c.args.key.now) v))) c.value_detail.ensures c.in-Ok.ensures.answer in
-    let ok = subst (λ v. c.entry_mut_in.new.core ≡ after_entry_mut s.core (held s.core c.number_of-number.result) (entry_for s.core (held s.core c.number_of-number.result) (keeps_key c.args.key.now) v)) c.value_detail.ensures c.in-Ok.ensures.ok in
+    let at = named_at s.names in
+    let h = c.self.invariant.1 in
+    let n = c.number_of-number.result in
+    let stands = stands_in (shown g.C.Words.list s.core (things_of at s.core)) _ x c.self.view_is c.requires.stands in
+    let i = thing_of_call s.nodes.keys at (named_at c.reserve.new.self) s.core x n h c.reserve.ensures.things stands c.number_of-number.ensures in
+    let answer = subst (λ v. Answers (ok_of c.in-Ok.found) entry_mut_error.OutOfMemory (entry_mut_answer s.core (held s.core n) (entry_for s.core (held s.core n) (keeps_key c.args.key.now) v))) c.value_detail.ensures c.in-Ok.ensures.answer in
+    let ok = subst (λ v. c.entry_mut_in.new.core ≡ after_entry_mut s.core (held s.core n) (entry_for s.core (held s.core n) (keeps_key c.args.key.now) v)) c.value_detail.ensures c.in-Ok.ensures.ok in
     let new = from x c.args.name (kind.WriteHandle c.in-Ok.found.entry c.port_of.result) in
-    let both = entry_mut_made g.C.Words.list s.nodes.items s.numbers.items s.things.items s.core c.entry_mut_in.new.core x c.number_of-number.result c.args.name (keeps_key c.args.key.now) (value_detail c.args.value_type) c.in-Ok.found c.port_of.result
-    c.self.invariant i c.port_of.ensures answer ok in
-    carried (λ ns xs. IsNamed s.nodes.items ns xs c.entry_mut_in.new.core) (s.numbers.items ++ c.in-Ok.found.thing ∷ []) c.keep.new.numbers.items (s.things.items ++ new ∷ []) c.keep.new.things.items
-    (sym (c.keep.ensures.numbers ∙ ap (λ ns. ns ++ c.in-Ok.found.thing ∷ []) c.reserve-2.ensures.items))
-    (c.keep.ensures.things ∙ ap (λ (xs : List Held). xs ++ new ∷ []) c.reserve.ensures.items) both.1
+    let both = entry_mut_made g.C.Words.list s.nodes.keys at s.core c.entry_mut_in.new.core x n c.args.name (keeps_key c.args.key.now) (value_detail c.args.value_type) c.in-Ok.found c.port_of.result h i c.port_of.ensures answer ok in
+    let pushed : named_at c.push.new.self ≡ put c.in-Ok.found.thing (Some new) at = c.push.ensures.things ∙ ap (put c.in-Ok.found.thing (Some new)) c.reserve.ensures.things in
+    (c.push.ensures.index, subst (λ a. IsNamed s.nodes.keys a c.entry_mut_in.new.core) (sym pushed) (named_more s.nodes.keys at s.core c.entry_mut_in.new.core c.in-Ok.found.thing new h both.1))
 
 pub returns-in-Ok-clause-asked : goal.returns-in-Ok-clause-asked
 returns-in-Ok-clause-asked g c =
     let s = c.self.inside in
     let x = c.args.writer.now in
-    let i = thing_of_call s.nodes.items s.numbers.items c.deref-2.result.now s.things.items c.deref.result.now s.core x c.number_of-number.result c.self.invariant (stands_in (shown g.C.Words.list s.core s.things.items) _ x c.self.view_is c.requires.stands)
-    (c.deref.ensures.value ∙ c.reserve.ensures.items) (c.deref-2.ensures.value ∙ c.reserve-2.ensures.items) c.number_of-number.ensures in
-    let answer = subst (λ v. Answers (ok_of c.in-Ok.found) entry_mut_error.OutOfMemory (entry_mut_answer s.core (held s.core c.number_of-number.result) (entry_for s.core (held s.core c.number_of-number.result) (keeps_key c.args.key.now) v))) c.value_detail.ensures c.in-Ok.ensures.answer in
-    let ok = subst (λ v. c.entry_mut_in.new.core ≡ after_entry_mut s.core (held s.core c.number_of-number.result) (entry_for s.core (held s.core c.number_of-number.result) (keeps_key c.args.key.now) v)) c.value_detail.ensures c.in-Ok.ensures.ok in
+    let at = named_at s.names in
+    let h = c.self.invariant.1 in
+    let n = c.number_of-number.result in
+    let stands = stands_in (shown g.C.Words.list s.core (things_of at s.core)) _ x c.self.view_is c.requires.stands in
+    let i = thing_of_call s.nodes.keys at (named_at c.reserve.new.self) s.core x n h c.reserve.ensures.things stands c.number_of-number.ensures in
+    let answer = subst (λ v. Answers (ok_of c.in-Ok.found) entry_mut_error.OutOfMemory (entry_mut_answer s.core (held s.core n) (entry_for s.core (held s.core n) (keeps_key c.args.key.now) v))) c.value_detail.ensures c.in-Ok.ensures.answer in
+    let ok = subst (λ v. c.entry_mut_in.new.core ≡ after_entry_mut s.core (held s.core n) (entry_for s.core (held s.core n) (keeps_key c.args.key.now) v)) c.value_detail.ensures c.in-Ok.ensures.ok in
     let new = from x c.args.name (kind.WriteHandle c.in-Ok.found.entry c.port_of.result) in
-    let both = entry_mut_made g.C.Words.list s.nodes.items s.numbers.items s.things.items s.core c.entry_mut_in.new.core x c.number_of-number.result c.args.name (keeps_key c.args.key.now) (value_detail c.args.value_type) c.in-Ok.found c.port_of.result
-    c.self.invariant i c.port_of.ensures answer ok in
-    carried (λ now xs. IsEntryMut now (shown g.C.Words.list c.entry_mut_in.new.core xs) c.args.name x c.args.key.now c.args.value_type (reply.Number c.in-Ok.found.place)) (shown g.C.Words.list s.core s.things.items) c.args.self.now (s.things.items ++ new ∷ []) c.keep.new.things.items
-    c.self.view_is (c.keep.ensures.things ∙ ap (λ (xs : List Held). xs ++ new ∷ []) c.reserve.ensures.items) both.0
+    let both = entry_mut_made g.C.Words.list s.nodes.keys at s.core c.entry_mut_in.new.core x n c.args.name (keeps_key c.args.key.now) (value_detail c.args.value_type) c.in-Ok.found c.port_of.result h i c.port_of.ensures answer ok in
+    let pushed : named_at c.push.new.self ≡ put c.in-Ok.found.thing (Some new) at = c.push.ensures.things ∙ ap (put c.in-Ok.found.thing (Some new)) c.reserve.ensures.things in
+    carried (λ now xs. IsEntryMut now (shown g.C.Words.list c.entry_mut_in.new.core xs) c.args.name x c.args.key.now c.args.value_type (reply.Number c.in-Ok.found.place)) (shown g.C.Words.list s.core (things_of at s.core)) c.args.self.now
+    (things_of at s.core ++ new ∷ []) (things_of (named_at c.push.new.self) c.entry_mut_in.new.core)
+    c.self.view_is (ap (λ a. things_of a c.entry_mut_in.new.core) pushed ∙ things_more s.nodes.keys at s.core c.entry_mut_in.new.core c.in-Ok.found.thing new h both.1) both.0
 
 pub returns-in-Err-clause-asked : goal.returns-in-Err-clause-asked
 returns-in-Err-clause-asked g c =
     let s = c.self.inside in
     let x = c.args.writer.now in
-    let i = thing_of_call s.nodes.items s.numbers.items c.deref-2.result.now s.things.items c.deref.result.now s.core x c.number_of-number.result c.self.invariant (stands_in (shown g.C.Words.list s.core s.things.items) _ x c.self.view_is c.requires.stands)
-    (c.deref.ensures.value ∙ c.reserve.ensures.items) (c.deref-2.ensures.value ∙ c.reserve-2.ensures.items) c.number_of-number.ensures in
+    let at = named_at s.names in
+    let h = c.self.invariant.1 in
+    let n = c.number_of-number.result in
+    let stands = stands_in (shown g.C.Words.list s.core (things_of at s.core)) _ x c.self.view_is c.requires.stands in
+    let i = thing_of_call s.nodes.keys at (named_at c.reserve.new.self) s.core x n h c.reserve.ensures.things stands c.number_of-number.ensures in
     let few = subst (λ p. IsFew p) (sym c.self.view_is) c.requires.few in
-    let answer = subst (λ v. Answers (err_of c.in-Err.why) entry_mut_error.OutOfMemory (entry_mut_answer s.core (held s.core c.number_of-number.result) (entry_for s.core (held s.core c.number_of-number.result) (keeps_key c.args.key.now) v))) c.value_detail.ensures c.in-Err.ensures.answer in
+    let answer = subst (λ v. Answers (err_of c.in-Err.why) entry_mut_error.OutOfMemory (entry_mut_answer s.core (held s.core n) (entry_for s.core (held s.core n) (keeps_key c.args.key.now) v))) c.value_detail.ensures c.in-Err.ensures.answer in
     let memory : c.in-Err.why ≢ entry_mut_error.OutOfMemory = search rules in
-    carried (λ now xs. IsEntryMut now (shown g.C.Words.list c.entry_mut_in.new.core xs) c.args.name x c.args.key.now c.args.value_type (reply.EntryMutError c.in-Err.why)) (shown g.C.Words.list s.core s.things.items) c.args.self.now s.things.items c.reserve.new.self.items
-    c.self.view_is c.reserve.ensures.items
-    (entry_mut_not_made g.C.Words.list s.nodes.items s.numbers.items s.things.items s.core c.entry_mut_in.new.core x c.number_of-number.result c.args.name (keeps_key c.args.key.now) (value_detail c.args.value_type) c.in-Err.why c.self.invariant i few.things memory answer c.in-Err.ensures.err)
+    carried (λ now xs. IsEntryMut now (shown g.C.Words.list c.entry_mut_in.new.core xs) c.args.name x c.args.key.now c.args.value_type (reply.EntryMutError c.in-Err.why)) (shown g.C.Words.list s.core (things_of at s.core)) c.args.self.now
+    (things_of at s.core) (things_of (named_at c.reserve.new.self) c.entry_mut_in.new.core)
+    c.self.view_is (ap (λ a. things_of a c.entry_mut_in.new.core) c.reserve.ensures.things ∙ ap (things_of at) c.in-Err.ensures.err)
+    (entry_mut_not_made g.C.Words.list s.nodes.keys at s.core c.entry_mut_in.new.core x n c.args.name (keeps_key c.args.key.now) (value_detail c.args.value_type) c.in-Err.why h i few.things memory answer c.in-Err.ensures.err)
+
+pub invariant_of-self : goal.invariant_of-self
+invariant_of-self g c =
+    let s = c.self.inside in
+    (c.reserve.ensures.index c.self.invariant.0, named_still s.nodes.keys s.nodes.keys (named_at s.names) (named_at c.reserve.new.self) s.core s.core c.self.invariant.1 refl c.reserve.ensures.things refl)
+
+pub invariant_of-self-in-Err-OutOfMemory : goal.invariant_of-self-in-Err-OutOfMemory
+invariant_of-self-in-Err-OutOfMemory g c =
+    let s = c.self.inside in
+    (c.reserve.ensures.index c.self.invariant.0, named_still s.nodes.keys s.nodes.keys (named_at s.names) (named_at c.reserve.new.self) s.core c.entry_mut_in.new.core c.self.invariant.1 refl c.reserve.ensures.things c.in-Err-OutOfMemory.ensures.err)
+
+pub invariant_of-self-in-Err : goal.invariant_of-self-in-Err
+invariant_of-self-in-Err g c =
+    let s = c.self.inside in
+    (c.reserve.ensures.index c.self.invariant.0, named_still s.nodes.keys s.nodes.keys (named_at s.names) (named_at c.reserve.new.self) s.core c.entry_mut_in.new.core c.self.invariant.1 refl c.reserve.ensures.things c.in-Err.ensures.err)
