@@ -9,9 +9,8 @@ use Rattle.board_model.specs.Replies.{released_thing}
 use Rattle.board_model.specs.Tables.{Tables, holds_at, is_numbered, is_of_board, without_first}
 use Rattle.board_model.specs.TableCalls.{boards_left}
 use Rattle.board_model.specs.Things.{Held, is_held_as}
-use Rattle.board_things.specs.Kept.{AreRising}
-use Rattle.board_things.proofs.Rising.{fewer}
-use Rattle.script_parties.specs.Named.{HasShortKeys, IsCalled, IsNamed, IsOfNode, held_or_none, named_things, party_at, things_of}
+use Rattle.script_parties.proofs.Rising.{fewer}
+use Rattle.script_parties.specs.Named.{AreRising, HasShortKeys, IsCalled, IsNamed, IsOfNode, held_or_none, named_things, party_at, things_of}
 use Rattle.script_parties.specs.Numbered.{IsLeast}
 use Rattle.script_parties.specs.Parties.{IsReleased, Parties, words_of_boards}
 use Rattle.script_parties.proofs.Counts.{boards-same}

@@ -9,9 +9,8 @@ use Rattle.std.proofs.lemmas.Slice.Eq.{bytes_eq-Decides}
 use Rattle.board_model.specs.declared.tables.Thing.{Thing}
 use Rattle.board_model.specs.Tables.{rename}
 use Rattle.board_model.specs.Things.{Held}
-use Rattle.board_things.specs.Kept.{AreRising}
-use Rattle.board_things.proofs.Rising.{pushed}
-use Rattle.script_parties.specs.Named.{AreParties, HasShortKeys, IsCalled, IsNamed, IsOfNode, held_or_none, nameless, named_things, node_number, node_place, nodes_or_more, node_or_next, nodes_with, own, party_at, things_of}
+use Rattle.script_parties.proofs.Rising.{pushed}
+use Rattle.script_parties.specs.Named.{AreParties, AreRising, HasShortKeys, IsCalled, IsNamed, IsOfNode, held_or_none, named_things, nameless, node_number, node_or_next, node_place, nodes_or_more, nodes_with, own, party_at, things_of}
 use Rattle.script_parties.proofs.Counts.{AreSame, turned}
 use Rattle.script_parties.proofs.Places.{chosen}
 use Rattle.script_seats.specs.Seats.{put}

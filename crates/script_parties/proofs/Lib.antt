@@ -17,5 +17,6 @@ pub mod Places
 pub mod Ports
 pub mod Refused
 pub mod Renaming
+pub mod Rising
 pub mod WordLookups
 pub mod NameEnds

@@ -6,8 +6,7 @@ use Rattle.std.proofs.lemmas.Bool.Decides.{Decides-eqb}
 use Rattle.board_model.specs.declared.tables.Thing.{Thing}
 use Rattle.board_model.specs.Tables.{holds_at}
 use Rattle.board_model.specs.Things.{Held, is_held_as, named_anew, thing_of}
-use Rattle.board_things.specs.Kept.{AreRising}
-use Rattle.script_parties.specs.Named.{IsCalled, IsNamed, IsOfNode, held_or_none, named_things, party_at, things_of}
+use Rattle.script_parties.specs.Named.{AreRising, IsCalled, IsNamed, IsOfNode, held_or_none, named_things, party_at, things_of}
 use Rattle.script_parties.specs.Numbered.{IsFirst, IsLeast, thing_at}
 use Rattle.script_parties.specs.Parties.{Parties, IsStandingThing}
 use Rattle.script_seats.specs.Seats.{IsNowhere}

@@ -10,7 +10,6 @@ use Rattle.board_model.specs.ShortKeys.{IsShortKey}
 use Rattle.board_model.specs.Tables.{Added}
 use Rattle.board_model.specs.Things.{Held}
 use Rattle.board_service.specs.Domain.{Domain, is_thing}
-use Rattle.board_things.specs.Kept.{AreRising}
 
 -- ---- keys
 
@@ -89,6 +88,11 @@ pub record IsCalled (party : ℕ → List ℕ) (things : ℕ → Option Held) (t
   pub holder : party t.holder ≡ named.holder
   pub board : t.board ≡ named.board
   pub kind : t.kind ≡ named.kind
+
+-- the numbers rise from above `low`, up to `last`
+abbrev pub AreRising : ℕ → ℕ → List (Thing ℕ ℕ) → Type 0
+AreRising low last [] = low ≤ last
+AreRising low last (t ∷ ts) = (low < t.name) × AreRising t.name last ts
 
 -- each thing of the core is named, and nothing else is
 pub record IsNamed {C : Type 0} (nodes : List (List ℕ)) (things : ℕ → Option Held) (d : Domain C) : Type 0 where
