@@ -19,5 +19,4 @@ pub mod StepRefusals
 pub mod StepWants
 pub mod TableSteps
 pub mod WriteSteps
-pub mod Heard
 pub mod HeldHandles

@@ -207,7 +207,7 @@ module _ {C : Type 0} (m : BoardMachine C) (s : State) (rep : Represents m s) (p
   pub loan_entry : Sound s → (x : Held) (lent : List ℕ) (words : List (Option ℕ)) → loan_held m party lent ≡ Some (x, words) → (e : Entry) × (entry_at (tables_of m) x.board (entry_of x.kind) ≡ Some e)
   loan_entry sound x lent words held = some_entry (entry_at (tables_of m) x.board (entry_of x.kind)) (entry_stands m s rep sound x (loan_handle m party lent x words held))
 
--- a loan of a party without a row has as many words as its entry's cell
+-- a loan of a party without a task has as many words as its entry's cell
 pub lent_width : {C : Type 0} (m : BoardMachine C) (party : List ℕ) → (led : IsLed m) → HasNoTask m party → (x : Held) (e : Entry) → entry_at (tables_of m) x.board (entry_of x.kind) ≡ Some e
     → (lent : List ℕ) (words : List (Option ℕ)) → loan_held m party lent ≡ Some (x, words) → (shape : CellShape) → shape ≡ cell_shape e.cell → length words ≡ shape.words
 lent_width m party led idle x e found lent words held shape is =

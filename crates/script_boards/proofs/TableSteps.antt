@@ -141,7 +141,7 @@ module _ {C : Type 0} (m : BoardMachine C) (s : State) (rep : Represents m s) (r
 
   -- ---- one call after another
 
-  module _ (mid new : BoardMachine C) (same : tables_of mid ≡ tables_of m) (same_list : mid.domain.words ≡ m.domain.words) (rows : IsPut (task_of m) (task_of mid) party None) (same_values : kept mid ≡ kept m) (same_loans : lent_words mid ≡ lent_words m) where
+  module _ (mid new : BoardMachine C) (same : tables_of mid ≡ tables_of m) (same_list : mid.domain.words ≡ m.domain.words) (taken : IsPut (task_of m) (task_of mid) party None) (same_values : kept mid ≡ kept m) (same_loans : lent_words mid ≡ lent_words m) where
     tables_are : s.standing.tables ≡ tables_of mid
     tables_are = rep.tables ∙ sym same
 
@@ -164,7 +164,7 @@ module _ {C : Type 0} (m : BoardMachine C) (s : State) (rep : Represents m s) (r
 
     -- what comes after the task was taken out changes no task
     no_more : task_of new ≡ task_of mid → IsPut (task_of m) (task_of new) party None
-    no_more same = put_before (task_of m) (task_of mid) (task_of new) party None rows same
+    no_more same = put_before (task_of m) (task_of mid) (task_of new) party None taken same
 
     -- a call that changes only the tables
     asked_served : {E : Type 0} (c : TableCall) (error : E → Reply) (f : BoardTables → Result ℕ E × BoardTables) (told : Reply)

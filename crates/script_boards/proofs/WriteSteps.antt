@@ -265,7 +265,7 @@ module _ {C : Type 0} (m : BoardMachine C) (s : State) (rep : Represents m s) (s
       pub write_ends : (mid new : BoardMachine C) → tables_of mid ≡ tables_of stored → mid.domain.words ≡ stored.domain.words → kept mid ≡ kept stored → lent_words mid ≡ lent_words stored
           → IsPut (task_of stored) (task_of mid) party None → w.is_last ≡ true → IsSettled mid new party own
           → IsRight s (line.Step party) (answer.Step made (Some reply.Done)) × Represents new (after s (line.Step party) (answer.Step made (Some reply.Done)))
-      write_ends mid new tables words values loans rows e settled =
+      write_ends mid new tables words values loans taken e settled =
           let left = left_is mid new (rep.tables ∙ sym is_stored.stored.tables ∙ sym tables)
           (λ p n. stored_loans p n ∙ sym (of_name loans p n))
           (λ p n. stored_values p n ∙ sym (of_name values p n))
@@ -282,7 +282,7 @@ module _ {C : Type 0} (m : BoardMachine C) (s : State) (rep : Represents m s) (s
               tables = left.tables;
               words = left.words ∙ words ∙ all_words new.domain.tables.boards (left.boards ∙ ap (λ t. t.boards) tables)
                   ∙ ap (λ (f : ℕ → List ℕ). words_of_boards f new.domain.tables.boards) (sym (left.memory (store s.memory w.board w.word w.value)));
-              parties = changed (task_of m) (task_of new) s.parties rep.parties party None (put_before (task_of m) (task_of mid) (task_of new) party None (put_over mid None rows) left.parties) made free refl;
+              parties = changed (task_of m) (task_of new) s.parties rep.parties party None (put_before (task_of m) (task_of mid) (task_of new) party None (put_over mid None taken) left.parties) made free refl;
               loans = left.loans;
               values = left.values;
             }),
@@ -292,7 +292,7 @@ module _ {C : Type 0} (m : BoardMachine C) (s : State) (rep : Represents m s) (s
       pub write_goes_on : (new : BoardMachine C) → tables_of new ≡ tables_of stored → new.domain.words ≡ stored.domain.words → kept new ≡ kept stored → lent_words new ≡ lent_words stored
           → w.is_last ≡ false → IsPut (task_of stored) (task_of new) party (Some (ticked own 0))
           → IsRight s (line.Step party) (answer.Step made None) × Represents new (after s (line.Step party) (answer.Step made None))
-      write_goes_on new tables words values loans e rows =
+      write_goes_on new tables words values loans e taken =
           let next : Running = record at.r { so_far = more } in
           let of : IsTaskOf (ticked own 0) next.request next.so_far = step.rest e in (
             record {
@@ -306,7 +306,7 @@ module _ {C : Type 0} (m : BoardMachine C) (s : State) (rep : Represents m s) (s
             rw (at.runs) (record {
               tables = rep.tables ∙ sym is_stored.stored.tables ∙ sym tables;
               words = words ∙ all_words new.domain.tables.boards (ap (λ t. t.boards) tables);
-              parties = changed (task_of m) (task_of new) s.parties rep.parties party (Some (ticked own 0)) (put_over new (Some (ticked own 0)) rows) made (running next) (record { task = ticked own 0; found = refl; is = of });
+              parties = changed (task_of m) (task_of new) s.parties rep.parties party (Some (ticked own 0)) (put_over new (Some (ticked own 0)) taken) made (running next) (record { task = ticked own 0; found = refl; is = of });
               loans = λ p n. stored_loans p n ∙ sym (of_name loans p n);
               values = λ p n. stored_values p n ∙ sym (of_name values p n);
             }),

@@ -14,6 +14,7 @@ use board_service::BoardWords;
 use script_seats::Seat;
 use std::alloc::AllocError;
 use std::collections::HashMap;
+use std::collections::hash_map::Entry;
 
 /// The party has the task from now on.
 #[inline(always)]
@@ -39,13 +40,13 @@ pub(crate) fn hear(party: &Name, word: u64, tasks: &mut HashMap<Name, Task>) -> 
     requires { IsSomeAnd (get bytes_eq tasks.old party.now) CanGoOn }
     ensures { HasHeard (get bytes_eq tasks.old) (get bytes_eq tasks.new) party.now word result }
 {
-    let Some(task) = tasks.get_mut(party) else {
+    match tasks.entry(*party) {
+        Ok(Entry::Occupied(mut entry)) => match entry.get_mut().took(word) {
+            Progress::More => None,
+            Progress::Done => Some(entry.remove()),
+        },
         // The party's call runs.
-        unreachable!()
-    };
-    match task.took(word) {
-        Progress::More => None,
-        Progress::Done => tasks.remove(party),
+        _ => unreachable!(),
     }
 }
 
