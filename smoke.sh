@@ -100,6 +100,7 @@ gives 'a closed output' 4 '' 'write fault\n' bash -c '"$0" >&-' "$run" < "$scrip
 gives 'no room for the note' 5 'gone\n' '' bash -c '"$0" 2> /dev/full' "$run" < <(printf 'abandon a\n\n')
 yes 'abandon a' | head -n 200000 > "$folder/many"
 breaks 'a closed pipe' 'gone\n' "$run"
+gives 'many lines' 0 "gone\n$(yes 'refused abandoned' | head -n 199999)\n" '' "$run" < "$folder/many"
 
 # pipes
 by_bytes() { local text; text=$(cat "$1"; echo .); text=${text%.}; local i; for ((i = 0; i < ${#text}; i++)); do printf '%s' "${text:i:1}"; done; }
@@ -119,6 +120,8 @@ gives "snapshots' usage: an empty word" 2 '' "$snapshot_usage" "$snapshot" '' < 
 gives 'snapshots from a closed input' 3 '' 'read fault\n' "$snapshot" <&-
 gives 'snapshots on a full device' 4 '' 'write fault\n' bash -c '"$0" > /dev/full' "$snapshot" < "$snapshot_script"
 breaks "snapshots' closed pipe" '> abandon %s\ngone\n' "$snapshot"
+more="> abandon a\ngone\n$(yes $'> abandon a\nrefused abandoned' | head -n 399998)\n"
+gives "snapshots' many lines" 0 "$more" '' "$snapshot" < "$folder/many"
 speaks "snapshots' answers before the next line" '> abandon %s\ngone\n' "$snapshot"
 
 # watchers
@@ -132,6 +135,7 @@ done
 gives 'watchers from a closed input' 3 '' 'read fault\n' "$watch" <&-
 gives 'watchers on a full device' 4 '' 'write fault\n' bash -c '"$0" > /dev/full' "$watch" < "$watch_script"
 breaks "watchers' closed pipe" '> abandon %s\ngone\n' "$watch"
+gives "watchers' many lines" 0 "$more" '' "$watch" < "$folder/many"
 speaks "watchers' answers before the next line" '> abandon %s\ngone\n' "$watch"
 
 # the checker
@@ -151,6 +155,7 @@ gives 'a listener that is there' 1 'line 6: event\n' '' "$check" < <(printf 'beg
 gives 'a reply of another number' 1 'line 2: reply\n' '' "$check" < <(sed '4s/1$/2/' "$session")
 "$run" < "$script" > "$folder/answers" && paste -d '\n' "$script" "$folder/answers" > "$folder/session"
 gives 'a run and its output' 0 "lawful $(grep -c '' "$script")\n" '' "$check" < "$folder/session"
+gives 'many pairs' 0 'lawful 200000\n' '' "$check" < <(printf 'abandon a\ngone\n'; yes $'abandon a\nrefused abandoned' | head -n 399998)
 for word in x '' $'\xff'; do
     gives "the checker's usage: '$word'" 2 '' "$check_usage" "$check" "$word" < "$session"
 done
@@ -174,6 +179,7 @@ for words in '' 'solo' 'solo 4 get' 'solo 2 get 1' 'solo 4 put 1' 'solo 4 get 01
     gives "the bench's usage: $words" 2 '' "$bench_usage" "$bench" $words
 done
 gives "the bench's usage: an empty word" 2 '' "$bench_usage" "$bench" ''
+gives 'the bench on a full device' 1 '' 'NOTE' bash -c '"$0" solo 1 get 1000 > /dev/full' "$bench"
 # What is counted was done: so many calls take more than a second on any processor, a thousandth of them far less.
 while read -r words; do
     timeout 1 "$bench" $words > /dev/null 2>&1 < /dev/null

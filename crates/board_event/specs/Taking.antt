@@ -44,7 +44,7 @@ FoundNone one e = one ≡ None → NoneWaits e
 
 -- ---- a wait that doesn't wait
 
--- a stage that it comes to, with a word that is one of the set's
+-- a stage that it comes to, with a word that is one of the listener's
 abbrev pub TryStage : ℕ → WaitStage → Type 0
 TryStage words wait.Drain = ⊤
 TryStage words (wait.Scan word) = word < words

@@ -109,7 +109,8 @@ impl<K: KindOfEvents + Drop> EventListener<K> {
     /// `try_wait_all` with a callback that is lent, so that clauses can say what it was called on.
     pub fn take_all<R: Wait, F: FnMut(TriggerId)>(&self, rt: &R, callback: &mut F)
         requires { F.IsAlwaysCallable callback.old }
-        ensures { CallsOnHanded F.step callback.old callback.new K.which self.now }
+        ensures callable { F.IsAlwaysCallable callback.new }
+        ensures calls { CallsOnHanded F.step callback.old callback.new K.which self.now }
     {
         self.all(rt, WaitMode::Try, &Forever, callback);
     }
@@ -117,6 +118,7 @@ impl<K: KindOfEvents + Drop> EventListener<K> {
     /// `take_all` over the events themselves.
     pub fn take_all_in<F: FnMut(TriggerId)>(&self, state: &mut EventsOf<K>, callback: &mut F)
         requires { F.IsAlwaysCallable callback.old }
+        ensures callable { F.IsAlwaysCallable callback.new }
         ensures calls { OnEvent K.which self.now state.old (CallsOnAll F.step callback.old callback.new K.which) }
         ensures after { Changes K.which self.now state.old state.new (all_taken K.which) }
         ensures reached { CallsOnReached F.step callback.old callback.new K.which self.now state.old }
@@ -203,7 +205,8 @@ impl<K: KindOfEvents + Drop> EventListener<K> {
         callback: &mut F,
     )
         requires { F.IsAlwaysCallable callback.old }
-        ensures { CallsOnHanded F.step callback.old callback.new K.which self.now }
+        ensures callable { F.IsAlwaysCallable callback.new }
+        ensures calls { CallsOnHanded F.step callback.old callback.new K.which self.now }
     {
         let mut call = wait_call(K::kind(), self.max, true, mode);
         for _ in rt.forever() {

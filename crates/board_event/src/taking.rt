@@ -86,6 +86,7 @@ pub(crate) fn take_all<F: FnMut(TriggerId)>(
     callback: &mut F,
 )
     requires { F.IsAlwaysCallable callback.old }
+    ensures callable { F.IsAlwaysCallable callback.new }
     ensures calls { OnEventAt kind max event events.old (CallsOnAll F.step callback.old callback.new kind) }
     ensures after { ChangesAt kind max event events.old events.new (all_taken kind) }
     ensures reached { CallsOnReachedAt F.step callback.old callback.new kind max event events.old }

@@ -247,6 +247,13 @@ scan_view ws max k w value is len low read small =
     let same = read_at ws k w (omega arith) read in
     subst (λ (v : IdSet). IsWord v.ids k w) is (subst (λ (x : ℕ). IsWord (ids_of ws) k x) (sym same) (word_is ws k (subst (λ (x : ℕ). x < 2 ^ 64) same small)))
 
+-- a word that has bits isn't the word without
+pub no_other_word : (ids : Ids) (k w : ℕ) → IsWord ids k w → IsWord ids k 0 → (w ≡ 0 → ⊥) → ⊥
+no_other_word ids k w word none some =
+    let t = bit_at-trailing_zeros w64 w (omega (arith, some)) word.small in
+    let bit = sym t.1 ∙ word.bits (trailing_zeros w64 w) t.0 ∙ sym (none.bits (trailing_zeros w64 w) t.0) ∙ bit_at-zero (trailing_zeros w64 w) in
+    omega (arith, bit)
+
 pub has_view : (ws : List ℕ) (max id w : ℕ) (value : IdSet) → id_set max (ids_of ws) ≡ value → id / 64 < length ws → w ≡ get_or ws (id / 64) w
     → eqb (bit_and (w / 2 ^ (id % 64)) 1) 1 ≡ has value.ids id
 has_view ws max id w value is l read =

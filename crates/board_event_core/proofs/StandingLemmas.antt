@@ -259,7 +259,7 @@ kept_listened t k name max sized table = record {
 -- ---- an event whose holder was let go
 
 -- what was put in the place of an event stands there
-here-with_event : (t : EventTable) (n : ℕ) (e next : Event) → event_at t n ≡ Some e → event_at (with_event t n next) n ≡ Some next
+pub here-with_event : (t : EventTable) (n : ℕ) (e next : Event) → event_at t n ≡ Some e → event_at (with_event t n next) n ≡ Some next
 here-with_event t n e next is = let found : IsSome (event_at t n) = rw is refl in
     rw (event_at-with_event t n next n found) (rw ((eq_by_cmp_equiv nat_cmp_total).refl n) refl)
 

@@ -84,12 +84,13 @@ impl BitSet {
         self.words[word as usize]
     }
 
-    /// A word from this one on, where no word before it has ids. (It is the first that has some, or the last.)
+    /// The first word from this one on that has ids, or the last word.
     pub fn next_word(&self, word: u64) -> u64
         requires { word < self.now.max / 64 + 1 }
         ensures behind { word ≤ result }
         ensures within { result < self.now.max / 64 + 1 }
         ensures none { NoneBetween self.now.ids word result }
+        ensures some { IsWord self.now.ids result 0 → result ≡ self.now.max / 64 }
     {
         let last = self.words.len() - 1;
         let mut at = word as usize;

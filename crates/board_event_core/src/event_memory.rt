@@ -197,6 +197,7 @@ impl EventMemory {
         requires { CanPerform self.now (EventAccess.Scan word) }
         ensures behind { word ≤ result }
         ensures none { NoneBetween self.now.pending word result }
+        ensures reachable { CanPerform self.now (EventAccess.Scan result) }
     {
         match &self.pending {
             Pending::Bits(bits) => bits.next_word(word),

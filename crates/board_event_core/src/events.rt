@@ -211,6 +211,7 @@ impl Events {
         requires { CanPerformAt self.now event (EventAccess.Scan word) }
         ensures behind { word ≤ result }
         ensures none { NoneBetween (ids_at (event_at self.now event)) word result }
+        ensures reachable { CanPerformAt self.now event (EventAccess.Scan result) }
     {
         self.rows.standing(event).next_word(word)
     }

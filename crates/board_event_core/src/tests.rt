@@ -9,6 +9,7 @@ use std::process::Abort;
 mod abandoned;
 mod corners;
 mod lent;
+mod passing;
 mod sets;
 
 /// An access, its answer, and what the call has come to.

@@ -9,8 +9,10 @@ use Rattle.std.proofs.lemmas.Slice.Eq.{bytes_eq-Decides}
 use Rattle.board_model.specs.declared.tables.Board.{Board}
 use Rattle.board_model.specs.Tables.{has_name, is_numbered, without_first}
 use Rattle.board_model.proofs.ListLemmas.{same_bytes}
-use Rattle.board_index.specs.Boards.{AreIndexed, IsRow, at, but_at, called, seen, set_at, standing, under, with_cells_in}
-use Rattle.board_index.proofs.Standing.{Picks, beside_at, beside_gone, beside_put, found_standing, is_other, is_same, none_standing, nowhere, standing_same, without_standing}
+use Rattle.board_index.specs.Boards.{AreIndexed, IsRow, at, but_at, called, seen, set_at, with_cells_in}
+use Rattle.board_numbered.specs.Standing.{standing, under}
+use Rattle.board_numbered.proofs.Standing.{Picks, found_standing, is_other, is_same, none_standing, standing_same, without_standing}
+use Rattle.board_index.proofs.Beside.{beside_at, beside_gone, beside_put, nowhere}
 
 abbrev a_board : Board → Option Board
 a_board b = Some b

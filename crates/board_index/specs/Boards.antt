@@ -1,10 +1,11 @@
 -- The boards of a domain with their cells, as contracts see them, and how maps give them.
-use Rattle.std.specs.Prelude.{◌≡◌, ℕ, zero, suc, ◌<◌, ◌≤◌, min, nat_eq, List, [], Option, Some, None, is_some, IfSome, IsSomeAnd, remove, slice_get, slice_set}
+use Rattle.std.specs.Prelude.{◌≡◌, ℕ, ◌<◌, ◌≤◌, min, List, Option, Some, None, is_some, IfSome, IsSomeAnd, remove, slice_get, slice_set}
 use Rattle.std.specs.HashMap.{HashMap, get, spare}
-use Rattle.std.specs.List.{cons_option, position_from}
+use Rattle.std.specs.List.{position_from}
 use Rattle.std.specs.Str.{bytes_eq}
 use Rattle.board_model.specs.declared.tables.Board.{Board}
 use Rattle.board_model.specs.Tables.{is_numbered}
+use Rattle.board_numbered.specs.Standing.{standing, under}
 
 -- the boards that stand and their cells, the number that was drawn last, and for how many more boards there is memory
 pub record Rows (C : Type 0) : Type 0 where
@@ -39,19 +40,6 @@ abbrev pub with_cells_in : {C : Type 0} → Rows C → ℕ → C → Rows C
 with_cells_in d number c = record d { cells = set_at d.cells (position_from (is_numbered number) 0 d.boards) c }
 
 -- ---- how they are kept; no public clause speaks of what follows
-
--- what stands under so many numbers from the first one on, in their order
-abbrev pub standing_from : {X : Type 0} → (ℕ → Option X) → ℕ → ℕ → List X
-standing_from under first zero = []
-standing_from under first (suc n) = cons_option (under first) (standing_from under (suc first) n)
-
--- what stands under the numbers from 1 to the last one
-abbrev pub standing : {X : Type 0} → (ℕ → Option X) → ℕ → List X
-standing under last = standing_from under 1 last
-
--- what a map has under numbers
-abbrev pub under : {X S : Type 0} → HashMap ℕ X S → ℕ → Option X
-under m = λ number. get nat_eq m number
 
 -- the numbers that a map has under names
 abbrev pub called : {S : Type 0} → HashMap (List ℕ) ℕ S → List ℕ → Option ℕ

@@ -25,7 +25,8 @@ pub struct Boards<C> {
 }
 
 impl<C> Model for Boards<C> {
-    ghost use Rattle.board_index.specs.Boards.{AreIndexed, Rows, called, seen, under};
+    ghost use Rattle.board_index.specs.Boards.{AreIndexed, Rows, called, seen};
+    ghost use Rattle.board_numbered.specs.Standing.{under};
 
     ghost Value = { Rows C };
 

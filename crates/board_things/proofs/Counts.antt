@@ -1,5 +1,5 @@
 -- The kept numbers of a board, as things come and go.
-use Rattle.std.proofs.Common.{◌≡◌, ℕ, ◌+◌, ◌<◌, ◌≤◌, ◌^◌, ◌==◌, ◌&&◌, ◌||◌, Bool, true, false, cond, List, [], ◌∷◌, ◌++◌, length, Option, Some, None, refl, sym, ap, ◌∙◌, subst, arith, if◌then◌else◌}
+use Rattle.std.proofs.Common.{◌≡◌, ℕ, ◌+◌, ◌-◌, ◌<◌, ◌≤◌, ◌^◌, ◌==◌, ◌&&◌, ◌||◌, Bool, true, false, cond, List, [], ◌∷◌, ◌++◌, length, Option, Some, None, refl, sym, ap, ◌∙◌, subst, arith, if◌then◌else◌}
 use Rattle.std.specs.Prelude.{find, count_by, nat_le, nat_eq, not}
 use Rattle.std.specs.List.{list_any}
 use Rattle.std.specs.HashMap.{HashMap, get}
@@ -9,7 +9,7 @@ use Rattle.board_model.specs.declared.tables.Thing.{Thing}
 use Rattle.board_model.specs.Tables.{holds_at, is_of_board, is_of_port, is_last_of_port, is_reader, is_reader_of, is_held_by, is_node, is_write_handle, writes_entry, nodes_taken, writer_port, writer_slots, without_first}
 use Rattle.board_model.proofs.ListLemmas.{any_counts, count_none, count_push, count_without}
 use Rattle.board_things.specs.declared.uses.Use.{Use}
-use Rattle.board_things.specs.Kept.{AreCounts, AreUses, IsUse, is_new_node, is_new_slot, kept_at, more, number_if, number_or_none, pair_eq, use_at}
+use Rattle.board_things.specs.Kept.{AreCounts, AreUses, IsUse, is_new_node, is_new_slot, kept_at, more, number_if, number_or_none, pair_eq, use_at, use_or_none}
 
 -- a test that asks for the board first counts what the rest of the test counts
 here : (b : ℕ) (t : Thing ℕ ℕ) (z : Bool) → t.board ≡ b → number_if (is_of_board b t && z) ≡ number_if z
@@ -241,7 +241,15 @@ module _ {S : Type 0} (old new : HashMap ℕ Use S) (ts : List (Thing ℕ ℕ)) 
         | false ↦ λ other. subst (IsUse b (without_first q ts)) (sym (others b other)) (use_kept b q ts t (use_at old b) f other (kept b))
       ] refl
 
+-- the same rows
+pub uses_same : {S : Type 0} (old new : HashMap ℕ Use S) (ts : List (Thing ℕ ℕ)) → AreUses old ts → ((b : ℕ) → get nat_eq new b ≡ get nat_eq old b) → AreUses new ts
+uses_same old new ts kept same b = subst (λ (u : Use). IsUse b ts u) (sym (ap (λ o. use_or_none o) (same b))) (kept b)
+
 -- ---- counts under two numbers
+
+-- the same counts
+pub counts_same : {S : Type 0} (test : ℕ → ℕ → Thing ℕ ℕ → Bool) (old new : HashMap (ℕ × ℕ) ℕ S) (ts : List (Thing ℕ ℕ)) → AreCounts test old ts → ((q : ℕ × ℕ) → get pair_eq new q ≡ get pair_eq old q) → AreCounts test new ts
+counts_same test old new ts kept same b n = ap (λ o. number_or_none o) (same (b, n)) ∙ kept b n
 
 module _ {S : Type 0} (test : ℕ → ℕ → Thing ℕ ℕ → Bool) (old new : HashMap (ℕ × ℕ) ℕ S) (ts : List (Thing ℕ ℕ)) (t : Thing ℕ ℕ) (kept : AreCounts test old ts) where
   pub counts_more : ((b n : ℕ) → kept_at new b n ≡ kept_at old b n + number_if (test b n t)) → AreCounts test new (ts ++ t ∷ [])
@@ -285,7 +293,7 @@ port_used ports q ts t p f h = omega (arith, here t.board t (holds_at (writer_po
 pub written_used : {S : Type 0} (written : HashMap (ℕ × ℕ) ℕ S) (q : Thing ℕ ℕ → Bool) (ts : List (Thing ℕ ℕ)) (t : Thing ℕ ℕ) (e : ℕ) → find q ts ≡ Some t → AreCounts is_write_handle written ts → number_if (writes_entry e t.kind) ≤ kept_at written t.board e
 written_used written q ts t e f h = omega (arith, here t.board t (writes_entry e t.kind) refl, counts_used is_write_handle written q ts t t.board e f h)
 
-pub counts_small : {S : Type 0} (test : ℕ → ℕ → Thing ℕ ℕ → Bool) (m : HashMap (ℕ × ℕ) ℕ S) (ts : List (Thing ℕ ℕ)) (b n : ℕ) → AreCounts test m ts → length ts < 2 ^ 63 → kept_at m b n < 2 ^ 63
+pub counts_small : {S : Type 0} (test : ℕ → ℕ → Thing ℕ ℕ → Bool) (m : HashMap (ℕ × ℕ) ℕ S) (ts : List (Thing ℕ ℕ)) (b n : ℕ) → AreCounts test m ts → length ts < 2 ^ 64 - 2 → kept_at m b n < 2 ^ 64 - 2
 counts_small test m ts b n h l = omega (arith, h b n, l, count_by-le-length (test b n) ts)
 
 pub held_used : {S : Type 0} (held : HashMap (ℕ × ℕ) ℕ S) (q : Thing ℕ ℕ → Bool) (ts : List (Thing ℕ ℕ)) (t : Thing ℕ ℕ) → find q ts ≡ Some t → AreCounts (is_held_by nat_eq) held ts → 1 ≤ kept_at held t.board t.holder
@@ -309,12 +317,12 @@ slots_small b (t ∷ ts) =
 
 -- no kept number of a board is near its end
 pub record IsSmallUse (u : Use) : Type 0 where
-  pub things : u.things < 2 ^ 63
-  pub readers : u.readers < 2 ^ 63
-  pub writers : u.writers < 2 ^ 63
-  pub nodes : u.nodes < 2 ^ 63
+  pub things : u.things < 2 ^ 64 - 2
+  pub readers : u.readers < 2 ^ 64 - 2
+  pub writers : u.writers < 2 ^ 64 - 2
+  pub nodes : u.nodes < 2 ^ 64 - 2
 
-pub small : (b : ℕ) (ts : List (Thing ℕ ℕ)) (u : Use) → length ts < 2 ^ 63 → IsUse b ts u → IsSmallUse u
+pub small : (b : ℕ) (ts : List (Thing ℕ ℕ)) (u : Use) → length ts < 2 ^ 64 - 2 → IsUse b ts u → IsSmallUse u
 small b ts u l h = record {
   things = omega (arith, l, h.things, count_by-le-length (is_of_board b) ts);
   readers = omega (arith, l, h.readers, count_by-le-length (is_reader_of b) ts);

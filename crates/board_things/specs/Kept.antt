@@ -1,28 +1,23 @@
--- What is kept of the things: their numbers rise, and the kept numbers are the counts over them. No public clause speaks of this.
-use Rattle.std.specs.Prelude.{◌≡◌, ℕ, ◌+◌, ◌<◌, ◌≤◌, ◌==◌, ◌&&◌, Bool, not, if◌then◌else◌, nat_eq, find, remove, length, count_by, List, [], ◌∷◌, Option, Some, None, slice_index_or}
+-- What is kept of the things: each stands under its number, and the kept numbers are the counts over them. No public clause speaks of this.
+use Rattle.std.specs.Prelude.{◌≡◌, ℕ, ◌+◌, ◌<◌, ◌≤◌, ◌==◌, ◌&&◌, Bool, not, if◌then◌else◌, nat_eq, count_by, List, Option, Some, None, IfSome}
 use Rattle.std.specs.HashMap.{HashMap, get}
 use Rattle.board_model.specs.declared.tables.Kind.{Kind}
 use Rattle.board_model.specs.declared.tables.Thing.{Thing}
-use Rattle.board_model.specs.Tables.{holds_at, is_held_by, is_node, is_of_board, is_of_port, is_reader, is_write_handle, nodes_taken, reader_slots, without_first, writer_port, writer_slots}
+use Rattle.board_model.specs.Tables.{holds_at, is_held_by, is_node, is_of_board, is_of_port, is_reader, is_write_handle, nodes_taken, reader_slots, writer_port, writer_slots}
 use Rattle.std.specs.List.{list_any}
-use Rattle.board_things.specs.Things.{thing_or_none}
 use Rattle.board_things.specs.declared.uses.Use.{Use}
 
 -- ---- numbers
 
--- the numbers rise from above `low`, up to `last`
-abbrev pub AreRising : ℕ → ℕ → List (Thing ℕ ℕ) → Type 0
-AreRising low last [] = low ≤ last
-AreRising low last (t ∷ ts) = (low < t.name) × AreRising t.name last ts
+-- the thing under a number has that number, which was drawn
+pub record IsNumbered (last number : ℕ) (t : Thing ℕ ℕ) : Type 0 where
+  pub numbered : t.name ≡ number
+  pub above : 0 < number
+  pub drawn : number ≤ last
 
-abbrev pub number_at : List (Thing ℕ ℕ) → ℕ → ℕ
-number_at ts i = let t = slice_index_or ts i (thing_or_none None) in t.name
-
--- the first that passes the test stands at this place
-pub record IsFirst {X : Type 0} (p : X → Bool) (xs : List X) (place : ℕ) : Type 0 where
-  pub inside : place < length xs
-  pub found : (d : X) → find p xs ≡ Some (slice_index_or xs place d)
-  pub rest : without_first p xs ≡ remove xs place
+-- each thing stands under its own number
+pub record AreNumbered (things : ℕ → Option (Thing ℕ ℕ)) (last : ℕ) : Type 0 where
+  pub each : (number : ℕ) → IfSome (things number) (IsNumbered last number)
 
 -- ---- by board
 

@@ -1,9 +1,8 @@
 //! The things of a domain.
-ghost use Rattle.std.specs.Prelude.{◌≡◌, ◌≤◌, ◌<◌, ◌-◌, ◌+◌, ◌^◌, ◌++◌, ◌∷◌, [], find, option_map, IsSome, IfSome, IfNone, OnOk, None, nat_eq, nat_lt};
+ghost use Rattle.std.specs.Prelude.{◌≡◌, ◌≤◌, ◌<◌, ◌-◌, ◌+◌, ◌^◌, ◌++◌, ◌∷◌, [], find, option_map, IsSome, OnOk, nat_eq, nat_lt};
 ghost use Rattle.std.specs.List.{list_any};
 ghost use Rattle.board_model.specs.Tables as tables;
 ghost use Rattle.board_things.specs.Things.{HasThing, is_thing, new_thing, thing_numbered};
-ghost use Rattle.board_things.specs.Kept as kept;
 ghost use Rattle.board_things.specs.Nodes as nodes;
 
 use crate::nodes::{node_in, put_first, take_last};
@@ -19,10 +18,11 @@ use std::marker::Model;
 /// A thing under its number, held by the node with a number.
 pub type Held = Thing<u64, u64>;
 
-/// The things of a domain, in the order of their numbers, with the numbers that the limits of boards are compared with.
+/// The things of a domain, seen in the order of their numbers, with the numbers that the limits of boards are compared with.
 #[derive(Drop)]
 pub struct Things {
-    items: Vec<Held>,
+    /// By number.
+    items: HashMap<u64, Held>,
     last: u64,
     /// By board.
     uses: HashMap<u64, Use>,
@@ -38,7 +38,8 @@ pub struct Things {
 
 impl Model for Things {
     ghost use Rattle.board_things.specs.Things.{Numbered};
-    ghost use Rattle.board_things.specs.Kept.{AreHeld, ArePorts, AreRising, AreUses, AreWritten};
+    ghost use Rattle.board_numbered.specs.Standing.{standing, under};
+    ghost use Rattle.board_things.specs.Kept.{AreHeld, AreNumbered, ArePorts, AreUses, AreWritten};
     ghost use Rattle.board_things.specs.Nodes.{AreNodes};
     ghost use Rattle.std.specs.Prelude.{◌-◌, min};
     ghost use Rattle.std.specs.Vec.{vec_capacity, vec_len};
@@ -47,31 +48,19 @@ impl Model for Things {
     ghost Value = { Numbered };
 
     ghost view = { λ d. record {
-      things = d.items.items;
+      things = standing (under d.items) d.last;
       last = d.last;
-      room = min (vec_capacity d.items - vec_len d.items)
+      room = min (spare d.items)
           (min (vec_capacity d.nodes - vec_len d.nodes)
           (min (spare d.uses) (min (spare d.held) (min (spare d.ports) (spare d.written)))));
     } };
 
-    ghost invariant = { λ d. AreRising 0 d.last d.items.items
-        × AreUses d.uses d.items.items
-        × AreHeld d.held d.items.items
-        × ArePorts d.ports d.items.items
-        × AreWritten d.written d.items.items
-        × AreNodes d.nodes.items d.items.items };
-}
-
-// Where the thing with the number stands. The numbers are up to `_last`.
-fn place_of(number: u64, things: &[Held], _last: u64) -> Option<usize>
-    requires { kept.AreRising 0 _last things.now }
-    ensures found { IfSome result (kept.IsFirst (is_thing number) things.now) }
-    ensures absent { IfNone result (find (is_thing number) things.now ≡ None) }
-{
-    match things.binary_search_by_key(&number, |t| t.name) {
-        Ok(place) => Some(place),
-        Err(_) => None,
-    }
+    ghost invariant = { λ d. AreNumbered (under d.items) d.last
+        × AreUses d.uses (standing (under d.items) d.last)
+        × AreHeld d.held (standing (under d.items) d.last)
+        × ArePorts d.ports (standing (under d.items) d.last)
+        × AreWritten d.written (standing (under d.items) d.last)
+        × AreNodes d.nodes.items (standing (under d.items) d.last) };
 }
 
 impl Things {
@@ -81,7 +70,7 @@ impl Things {
         ensures last { result.last ≡ 0 }
     {
         Things {
-            items: Vec::new(alloc),
+            items: HashMap::new(alloc),
             last: 0,
             uses: HashMap::new(alloc),
             held: HashMap::new(alloc),
@@ -95,10 +84,7 @@ impl Things {
     pub fn at(&self, number: u64) -> Option<&Held>
         ensures { option_map (λ t. t.now) result ≡ find (is_thing number) self.now.things }
     {
-        match place_of(number, &self.items, self.last) {
-            Some(place) => Some(&self.items[place]),
-            None => None,
-        }
+        self.items.get(&number)
     }
 
     /// The thing with the number, which stands.
@@ -179,12 +165,12 @@ impl Things {
         ensures last { self.new.last ≡ self.old.last }
         ensures room { OnOk result (0 < self.new.room) }
     {
-        self.items.reserve(1)?;
         self.nodes.reserve(1)?;
         self.uses.reserve(1)?;
         self.held.reserve(1)?;
         self.ports.reserve(1)?;
-        self.written.reserve(1)
+        self.written.reserve(1)?;
+        self.items.reserve(1)
     }
 
     /// Adds a thing under the next number. Takes no memory: there is room.
@@ -203,12 +189,16 @@ impl Things {
         put_first(node, board, holder, &mut self.nodes);
         raise(board, &kind, node, port, &mut self.uses);
         self.last += 1;
-        self.items.push_reserved(Thing {
+        let thing = Thing {
             holder,
             name: self.last,
             board,
             kind,
-        });
+        };
+        let Ok(_) = self.items.insert(self.last, thing) else {
+            // There is room.
+            unreachable!()
+        };
     }
 
     /// Takes the thing with the number out, which stands. Takes no memory.
@@ -219,20 +209,17 @@ impl Things {
             ≡ tables.without_first (is_thing number) self.old.things }
         ensures last { self.new.last ≡ self.old.last }
     {
-        match place_of(number, &self.items, self.last) {
-            Some(place) => {
-                let gone = self.items.remove(place);
-                lower_at(gone.board, gone.holder, &mut self.held);
-                lower_port(gone.board, &gone.kind, &mut self.ports);
-                lower_handle(gone.board, &gone.kind, &mut self.written);
-                let node = count_at(gone.board, gone.holder, &self.held) == 0;
-                let port = is_only_of_port(gone.board, &gone.kind, &self.ports);
-                take_last(node, gone.board, gone.holder, &mut self.nodes);
-                lower(gone.board, &gone.kind, node, port, &mut self.uses);
-                gone
-            }
+        let Some(gone) = self.items.remove(&number) else {
             // The thing stands.
-            None => unreachable!(),
-        }
+            unreachable!()
+        };
+        lower_at(gone.board, gone.holder, &mut self.held);
+        lower_port(gone.board, &gone.kind, &mut self.ports);
+        lower_handle(gone.board, &gone.kind, &mut self.written);
+        let node = count_at(gone.board, gone.holder, &self.held) == 0;
+        let port = is_only_of_port(gone.board, &gone.kind, &self.ports);
+        take_last(node, gone.board, gone.holder, &mut self.nodes);
+        lower(gone.board, &gone.kind, node, port, &mut self.uses);
+        gone
     }
 }

@@ -1,5 +1,5 @@
 //! What is kept of the things, by board, and by board and node, port or entry.
-ghost use Rattle.std.specs.Prelude.{ℕ, false, ◌≡◌, ◌+◌, ◌<◌, ◌≤◌, ◌^◌, ◌==◌, nat_eq, if◌then◌else◌, ◌&&◌};
+ghost use Rattle.std.specs.Prelude.{ℕ, false, ◌≡◌, ◌+◌, ◌-◌, ◌<◌, ◌≤◌, ◌^◌, ◌==◌, nat_eq, if◌then◌else◌, ◌&&◌};
 ghost use Rattle.std.specs.Bool.{OnTrue};
 ghost use Rattle.std.specs.HashMap.{spare};
 ghost use Rattle.board_model.specs.Tables as tables;
@@ -60,10 +60,10 @@ pub(crate) fn use_of(board: u64, uses: &HashMap<u64, Use>) -> Use
 
 /// One thing more of the board; `node` where it is its node's only one, `port` where it is the only one of its port.
 pub(crate) fn raise(board: u64, kind: &Kind, node: bool, port: bool, uses: &mut HashMap<u64, Use>)
-    requires things { (kept.use_at uses.old board).things < 2 ^ 63 }
-    requires readers { (kept.use_at uses.old board).readers < 2 ^ 63 }
-    requires writers { (kept.use_at uses.old board).writers < 2 ^ 63 }
-    requires nodes { (kept.use_at uses.old board).nodes < 2 ^ 63 }
+    requires things { (kept.use_at uses.old board).things < 2 ^ 64 - 2 }
+    requires readers { (kept.use_at uses.old board).readers < 2 ^ 64 - 2 }
+    requires writers { (kept.use_at uses.old board).writers < 2 ^ 64 - 2 }
+    requires nodes { (kept.use_at uses.old board).nodes < 2 ^ 64 - 2 }
     requires room { 0 < spare uses.old }
     ensures { (b : ℕ) → kept.use_at uses.new b
         ≡ (if board == b then kept.more kind.now node port (kept.use_at uses.old board)
@@ -126,7 +126,7 @@ pub(crate) fn count_at(board: u64, number: u64, counts: &HashMap<(u64, u64), u64
 
 /// One thing more under the board and the number.
 pub(crate) fn raise_at(board: u64, number: u64, counts: &mut HashMap<(u64, u64), u64>)
-    requires small { kept.kept_at counts.old board number < 2 ^ 63 }
+    requires small { kept.kept_at counts.old board number < 2 ^ 64 - 2 }
     requires room { 0 < spare counts.old }
     ensures { (b n : ℕ) → kept.kept_at counts.new b n
         ≡ kept.kept_at counts.old b n + kept.number_if ((board == b) && (number == n)) }
@@ -166,7 +166,7 @@ pub(crate) fn is_only_of_port(board: u64, kind: &Kind, ports: &HashMap<(u64, u64
 
 /// One thing more of its port, where the kind keeps one.
 pub(crate) fn raise_port(board: u64, kind: &Kind, ports: &mut HashMap<(u64, u64), u64>)
-    requires small { (p : ℕ) → kept.kept_at ports.old board p < 2 ^ 63 }
+    requires small { (p : ℕ) → kept.kept_at ports.old board p < 2 ^ 64 - 2 }
     requires room { 0 < spare ports.old }
     ensures { (b p : ℕ) → kept.kept_at ports.new b p ≡ kept.kept_at ports.old b p
         + kept.number_if ((board == b) && tables.holds_at (tables.writer_port kind.now) (λ q. q == p)) }
@@ -191,7 +191,7 @@ pub(crate) fn lower_port(board: u64, kind: &Kind, ports: &mut HashMap<(u64, u64)
 
 /// One write handle more of its entry, where the kind is one.
 pub(crate) fn raise_handle(board: u64, kind: &Kind, written: &mut HashMap<(u64, u64), u64>)
-    requires small { (e : ℕ) → kept.kept_at written.old board e < 2 ^ 63 }
+    requires small { (e : ℕ) → kept.kept_at written.old board e < 2 ^ 64 - 2 }
     requires room { 0 < spare written.old }
     ensures { (b e : ℕ) → kept.kept_at written.new b e ≡ kept.kept_at written.old b e
         + kept.number_if ((board == b) && tables.writes_entry e kind.now) }

@@ -124,6 +124,95 @@ fn each_value_that_a_reader_gets_is_whole(rt: HostRuntime) -> Result<(), Fail> {
     Ok(())
 }
 
+fn update_once(cell: &ThreadedCell, mut writer: WriterPass, words: Vec<u64>) -> WriterPass
+    requires { (writer.cell ≡ cell.now.cell) × (length words.items ≡ cell.now.width) × (length writer.published < 2 ^ 32) }
+    ensures { result.cell ≡ writer.cell }
+{
+    cell.update(&mut writer, &words);
+    writer
+}
+
+fn read_once(cell: &ThreadedCell, mut reader: ReaderPass, mut out: Vec<u64>) -> ReaderPass
+    requires { (reader.cell ≡ cell.now.cell) × (length out.items ≡ cell.now.width) }
+    ensures { result.cell ≡ reader.cell }
+{
+    let _ = cell.try_get(&mut reader, 8, &mut out);
+    reader
+}
+
+fn last_receipt(cell: &ThreadedCell, mut writer: WriterPass) -> Receipt
+    requires { writer.cell ≡ cell.now.cell }
+    ensures { result.cell ≡ writer.cell }
+{
+    cell.receipt(&mut writer)
+}
+
+/// Three threads: one updates and gives back its pass, one reads and gives back its own, and one is handed the writer's
+/// pass and gives back a receipt, of which the reader then learns.
+fn give_back<R: Threads + Wait + Sync>(
+    rt: &R,
+    cell: &ThreadedCell,
+    writer: WriterPass,
+    reader: ReaderPass,
+    words: Vec<u64>,
+    out: Vec<u64>,
+) -> Result<ReaderPass, AllocError>
+    requires cell { (writer.cell ≡ cell.now.cell) × (reader.cell ≡ cell.now.cell) }
+    requires width { (length words.items ≡ cell.now.width) × (length out.items ≡ cell.now.width) }
+    requires room { length writer.published < 2 ^ 32 }
+    ensures { IfOk result (λ pass. pass.cell ≡ cell.now.cell) }
+{
+    thread::scope(
+        thread::scope_env(),
+        rt,
+        |scope| -> Result<ReaderPass, AllocError>
+            requires { (writer.cell ≡ cell.now.cell) × (reader.cell ≡ cell.now.cell)
+                × (length words.items ≡ cell.now.width) × (length out.items ≡ cell.now.width)
+                × (length writer.published < 2 ^ 32) }
+            ensures { IfOk result (λ pass. pass.cell ≡ cell.entry.now.cell) }
+        {
+            let a = scope.spawn_with(
+                OfCell::new(cell),
+                move ||
+                    requires { (writer.cell ≡ cell.now.cell) × (length words.items ≡ cell.now.width)
+                        × (length writer.published < 2 ^ 32) }
+                    ensures { result.cell ≡ writer.cell }
+                { update_once(cell, writer, words) },
+            )?;
+            let b = scope.spawn_with(
+                OfCell::new(cell),
+                move ||
+                    requires { (reader.cell ≡ cell.now.cell) × (length out.items ≡ cell.now.width) }
+                    ensures { result.cell ≡ reader.cell }
+                { read_once(cell, reader, out) },
+            )?;
+            let writer = a.join(rt);
+            let c = scope.spawn_with(
+                OfCell::new(cell),
+                move ||
+                    requires { writer.cell ≡ cell.now.cell }
+                    ensures { result.cell ≡ writer.cell }
+                { last_receipt(cell, writer) },
+            )?;
+            let mut reader = b.join(rt);
+            let receipt = c.join(rt);
+            cell.learn(&mut reader, receipt);
+            Ok(reader)
+        },
+    )
+}
+
+#[test]
+fn passes_and_receipts_come_back_alone(rt: HostRuntime) -> Result<(), Fail> {
+    let words = vec![in rt.alloc(); 7u64; 4]?;
+    let (cell, writer, reader) = ThreadedCell::new(rt.alloc(), &words)?;
+    let (mut out, updated) = (words.clone()?, vec![in rt.alloc(); 9u64; 4]?);
+    let mut reader = give_back(&rt, &cell, writer, reader, updated, words)?;
+    assert_eq!(rt; cell.get(&rt, &mut reader, &mut out), 2);
+    assert!(rt; out.iter().all(|word| *word == 9));
+    Ok(())
+}
+
 fn is_send<T: Send>(x: T) -> T
     ensures { result ≡ x }
 {

@@ -163,3 +163,53 @@ fn a_lent_notify_wakes_who_sleeps(rt: HostRuntime) {
     assert_eq!(rt; id, Some(TriggerId::new(5)));
     assert_eq!(rt; answer, Ok(()));
 }
+
+/// A listener that is made over the events behind the registry's lock.
+fn listener_lent<R: Wait + Abort, K: KindOfEvents + Drop>(
+    rt: &R,
+    alloc: Global,
+    registry: &EventRegistry<K>,
+) -> EventListener<K> {
+    let builder = listens(rt, b"lent", registry).trigger_id_max(TriggerId::new(127));
+    let mut state = registry.lock(rt);
+    builder
+        .create_in(&mut state, alloc)
+        .expect(rt, "a free name")
+}
+
+/// Notifies, once the other thread had time to fall asleep.
+fn tells_one<R: Wait + Clock, N: Notifier>(
+    rt: &R,
+    notifier: &N,
+) -> Result<(), NotifierNotifyError> {
+    thread::sleep(rt, Duration::from_millis(20));
+    notifier.notify(rt, TriggerId::new(5))
+}
+
+/// A listener that was made over lent events waits while another thread notifies. Tells what came, and what the notify
+/// was answered.
+fn comes_to_lent<
+    R: Threads + Wait + Clock + Abort + Sync,
+    K: KindOfEvents + Drop + Send + Sync + 'static,
+>(rt: &R, alloc: Global) -> (Option<TriggerId>, Result<(), NotifierNotifyError>) {
+    let registry = EventRegistry::<K>::new(alloc).expect(rt, "memory");
+    let listener = listener_lent(rt, alloc, &registry);
+    let notifier = opens(rt, b"lent", &registry)
+        .open(rt)
+        .expect(rt, "a held name");
+    thread::join(
+        rt,
+        move || leaves(rt, listener),
+        move || tells_one(rt, &notifier),
+    )
+}
+
+#[test]
+fn a_listener_of_lent_events_is_woken(rt: HostRuntime) {
+    let (id, answer) = comes_to_lent::<HostRuntime, SetOfIds>(&rt, rt.alloc());
+    assert_eq!(rt; id, Some(TriggerId::new(5)));
+    assert_eq!(rt; answer, Ok(()));
+    let (id, answer) = comes_to_lent::<HostRuntime, QueueOfIds>(&rt, rt.alloc());
+    assert_eq!(rt; id, Some(TriggerId::new(5)));
+    assert_eq!(rt; answer, Ok(()));
+}

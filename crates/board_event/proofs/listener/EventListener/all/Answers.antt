@@ -24,5 +24,5 @@ loop-preserved g c =
           c.in-Some-access.progress c.loop.invariant.3 c.in-Some-access.ensures (c.hand_over.ensures.calls (hold_in_range c.args.self.now.event before c.access.new.call c.in-Some-access.progress hold)),
     )
 
-pub returns : goal.returns
-returns g c = calls_end (λ p x q. goal.F-step g p x tt q) c.args.callback.now c.loop.callback g.K.KindOfEvents.which c.args.self.now.max c.loop.call c.loop.invariant.3
+pub returns-clause-calls : goal.returns-clause-calls
+returns-clause-calls g c = calls_end (λ p x q. goal.F-step g p x tt q) c.args.callback.now c.loop.callback g.K.KindOfEvents.which c.args.self.now.max c.loop.call c.loop.invariant.3

@@ -3,7 +3,8 @@ use borrow.Follows.Closed.{read_of}
 use Rattle.std.specs.Option.{ghost_name_of}
 use Rattle.std.specs.Prelude.{find, is_some}
 use Rattle.board_model.specs.Tables.{is_numbered}
-use Rattle.board_index.specs.Boards.{Rows, cells_in, under, with_cells_in}
+use Rattle.board_index.specs.Boards.{Rows, cells_in, with_cells_in}
+use Rattle.board_numbered.specs.Standing.{under}
 use Rattle.board_index.proofs.Indexed.{found_cells, found_numbered, indexed_same, map_some, same_loan, seen_unwritten, seen_written, written_stands}
 use Rattle.board_index.proofs.boards.Boards.cells_mut.Goals as goal
 

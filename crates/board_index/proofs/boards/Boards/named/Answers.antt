@@ -1,7 +1,8 @@
 use Rattle.std.proofs.Common.{◌≡◌, ℕ, Option, None, Some, sym, ap, ◌∙◌}
 use Rattle.std.specs.Prelude.{find, option_copied}
 use Rattle.board_model.specs.Tables.{has_name}
-use Rattle.board_index.specs.Boards.{Rows, called, under}
+use Rattle.board_index.specs.Boards.{Rows, called}
+use Rattle.board_numbered.specs.Standing.{under}
 use Rattle.board_index.proofs.Indexed.{found_named, row_of}
 use Rattle.board_index.proofs.boards.Boards.named.Goals as goal
 

@@ -1,9 +1,10 @@
 use Rattle.std.proofs.Common.{◌≡◌, ◌+◌, ◌++◌, ◌∷◌, [], false, sym, ap, ◌∙◌}
 use Rattle.std.specs.List.{list_any}
 use Rattle.board_model.specs.Tables.{has_name}
-use Rattle.board_index.specs.Boards.{Rows, standing, under}
+use Rattle.board_index.specs.Boards.{Rows}
+use Rattle.board_numbered.specs.Standing.{standing, under}
 use Rattle.board_index.proofs.Indexed.{indexed_pushed, unequal}
-use Rattle.board_index.proofs.Standing.{standing_more}
+use Rattle.board_numbered.proofs.Standing.{standing_more}
 use Rattle.board_index.proofs.boards.Boards.push_reserved.Goals as goal
 
 pub invariant_of-self : goal.invariant_of-self

@@ -4,7 +4,8 @@ use Rattle.std.specs.HashMap.{get}
 use Rattle.std.specs.List.{position_from}
 use Rattle.std.specs.Str.{bytes_eq}
 use Rattle.board_model.specs.Tables.{is_numbered, without_first}
-use Rattle.board_index.specs.Boards.{Rows, but_at, cells_in, under}
+use Rattle.board_index.specs.Boards.{Rows, but_at, cells_in}
+use Rattle.board_numbered.specs.Standing.{under}
 use Rattle.board_index.proofs.Indexed.{cells_gone, found_cells, found_numbered, indexed_less, rows_gone, unequal}
 use Rattle.board_index.proofs.boards.Boards.take.Goals as goal
 
