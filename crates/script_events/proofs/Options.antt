@@ -1,5 +1,5 @@
 -- Cases of truth values and options, and texts either way round.
-use Rattle.std.proofs.Common.{◌≡◌, ℕ, Bool, true, false, List, refl, sym, ◌∙◌, Option, Some, None, ◌⊎◌, inl, inr}
+use Rattle.std.proofs.Common.{◌≡◌, ℕ, Bool, true, false, cond, List, refl, sym, ◌∙◌, Option, Some, None, ◌⊎◌, inl, inr}
 use Rattle.std.specs.Prelude.{is_some, option_map, Result, Ok, Err, IfOk, OnErr}
 use Rattle.std.specs.Str.{bytes_eq}
 use Rattle.board_model.proofs.ListLemmas.{same_bytes}
@@ -22,6 +22,11 @@ turned a b = elim (either (bytes_eq a b)) [
 pub is_some-map : {X Y : Type 0} (f : X → Y) (o : Option X) → is_some (option_map f o) ≡ is_some o
 is_some-map f None = refl
 is_some-map f (Some x) = refl
+
+-- what was put twice at one place stands there as it was put last
+pub replaced : {X : Type 0} (b : Bool) (first second old mid : X) → mid ≡ cond b first old → cond b second mid ≡ cond b second old
+replaced true first second old mid e = refl
+replaced false first second old mid e = e
 
 -- what is right of a value is right of a better one
 pub if_ok : {T E : Type 0} (r : Result T E) (P Q : T → Type 0) → ((a : T) → P a → Q a) → IfOk r P → IfOk r Q

@@ -9,7 +9,7 @@ use Rattle.script_model.specs.ScriptEvents.{EventAsk, with_ask}
 use Rattle.script_events.specs.declared.rows.CallTask.{CallTask}
 use Rattle.script_events.specs.Left.{HasTask}
 use Rattle.script_events.specs.PartyEvents.{AreCalls, IsCall}
-use Rattle.script_events.proofs.Options.{either, turned}
+use Rattle.script_events.proofs.Options.{either, replaced, turned}
 
 -- ---- one party's task
 
@@ -39,11 +39,7 @@ alike t u q r d c e f g h = rw (e, f, g) h
 
 -- a task that changed and ended has ended
 pub changed_ended : (tasks mid new : List ℕ → Option CallTask) (party : List ℕ) (t : Option CallTask) → HasTask tasks mid party t → HasTask mid new party None → HasTask tasks new party None
-changed_ended tasks mid new party t first second p = second p ∙ by (bytes_eq party p) (first p)
-  where
-    by : (b : Bool) → mid p ≡ (if b then t else tasks p) → (if b then None else mid p) ≡ (if b then None else tasks p)
-    by true e = refl
-    by false e = e
+changed_ended tasks mid new party t first second p = second p ∙ replaced (bytes_eq party p) t None (tasks p) (mid p) (first p)
 
 -- ---- changes of one party's task
 

@@ -1,4 +1,4 @@
-//! Listeners and notifiers are asked for. A party is given one only where the table has made it, so that a refusal wants no memory.
+//! Listeners and notifiers are asked for. A party is given one only where the table has made it, so a refusal wants no memory.
 ghost use Rattle.std.specs.Prelude.{◌≡◌, ◌<◌, ◌^◌, ℕ, List, IfOk, OnErr};
 ghost use Rattle.script_model.specs.ScriptEvents.{to_listen, to_notify};
 ghost use Rattle.script_events.specs.Calls.{AnswersAsk, HasFewNotifiers, Makes};

@@ -14,3 +14,26 @@ mark_listeners-requires c =
     let own : Own = c.in-Some.own.now in
     let found : own_in m.things party ≡ Some own = search rules in
     own_held m.things party own found (IsMarkable m.events) (markable m.events (held_in m.things) led.state led.count led.sound led.represents.held party)
+
+pub returns-in-Some : goal.returns-in-Some
+returns-in-Some c =
+    let m = c.args.self.now in
+    let party = c.args.party.now in
+    let own : Own = c.in-Some.own.now in
+    let found : own_in m.things party ≡ Some own = search rules in
+    let listed = own_listed m.things party own found c.mark_listeners.ensures.unique in
+    λ x count few sound rep. record {
+      held = abandoned m.events (held_in m.things) x count sound rep.held party (values own) listed.0 listed.1 c.mark_listeners.new.events c.mark_listeners.ensures.marked;
+      calls = task_ended (task_in m) _ party c.remove.ensures.updates.0 x.asked x.session.doing rep.calls;
+    }
+
+pub returns-in_default : goal.returns-in_default
+returns-in_default c =
+    let m = c.args.self.now in
+    let party = c.args.party.now in
+    let none : own_in m.things party ≡ None = search rules in
+    let listed = none_listed m.things party none in
+    λ x count few sound rep. record {
+      held = abandoned m.events (held_in m.things) x count sound rep.held party [] listed.0 listed.1 m.events refl;
+      calls = task_ended (task_in m) _ party c.remove.ensures.updates.0 x.asked x.session.doing rep.calls;
+    }
