@@ -67,12 +67,14 @@ fn goes_on(stepped: &Result<Stepped, AllocError>) -> bool
     ensures { result ≡ goes_on stepped.now }
 {
     match stepped {
-        Ok(Stepped::Acted {
-            event: _,
-            access: _,
-            answer: _,
-            told,
-        }) => told.is_none(),
+        Ok(
+            Stepped::Acted {
+                event: _,
+                access: _,
+                answer: _,
+                told,
+            },
+        ) => told.is_none(),
         Ok(Stepped::Asked(_)) => false,
         Err(_) => false,
     }
