@@ -69,6 +69,17 @@ pub fn gets<V: ZeroCopySend, R: Wait>(rt: &R, handle: &mut Read<V>, first: V, co
     latest
 }
 
+// A get of one try, which loads the counter twice.
+#[inline(always)]
+fn try_once<V: ZeroCopySend>(handle: &mut Read<V>) -> Result<V, GetAgain>
+    ensures cell { OnOk result (handle.new.cell ≡ handle.old.cell) }
+    ensures count { OnOk result (length handle.new.pass.notes ≡ length handle.old.pass.notes + 1) }
+    ensures loads { OnOk result (length handle.new.pass.loads ≡ length handle.old.pass.loads + 2) }
+{
+    let value = handle.try_get(1)?;
+    Ok(*value.get_ref())
+}
+
 /// This many gets of one try each, which loads the counter twice. Gives the last one's value, so that each has to be given, and `first` where there is none.
 ///
 /// # Errors
@@ -80,7 +91,7 @@ pub fn tries<V: ZeroCopySend>(handle: &mut Read<V>, first: V, count: u64) -> Res
 {
     let mut latest = first;
     for _ in 0..count {
-        latest = *handle.try_get(1)?.get_ref();
+        latest = try_once(handle)?;
     }
     Ok(latest)
 }
