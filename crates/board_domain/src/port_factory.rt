@@ -187,7 +187,7 @@ impl<K: BoardKey, P> PortFactory<K, P> {
         self.visit_nodes_in(state, &mut callback);
     }
 
-    /// `nodes` with a callback that is lent, so that what it gathered is known. Where this factory isn't held, the callback stays as it was.
+    /// `nodes` with a callback that is lent. It is left as a walk over the nodes of some domain leaves it, which may lack this factory: then it stays as it was. What it gathered of a state that is lent `visit_nodes_in` tells.
     pub fn visit_nodes<R: Wait, F: FnMut(NodeId) -> CallbackProgression>(
         &self,
         rt: &R,
@@ -255,7 +255,7 @@ impl<K: BoardKey, P> PortFactory<K, P> {
         self.visit_keys_in(state, &mut callback);
     }
 
-    /// `list_keys` with a callback that is lent, so that what it gathered is known. Where this factory isn't held, the callback stays as it was.
+    /// `list_keys` with a callback that is lent. It is left as a walk over the keys of some domain leaves it, which may lack this factory: then it stays as it was. What it gathered of a state that is lent `visit_keys_in` tells.
     pub fn visit_keys<R: Wait, F: FnMut(&K) -> CallbackProgression>(&self, rt: &R, callback: &mut F)
         requires { F.IsAlwaysCallable callback.old }
         ensures { let types = details K.type_bytes K.SIZE K.ALIGNMENT in

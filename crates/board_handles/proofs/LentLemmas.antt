@@ -1,5 +1,5 @@
 -- Handles that were found and made, and things that stand.
-use Rattle.std.proofs.Common.{◌≡◌, ℕ, ◌+◌, Bool, true, false, cond, List, [], ◌∷◌, ◌++◌, Option, Some, None, refl, sym, ap, ◌∙◌}
+use Rattle.std.proofs.Common.{◌≡◌, ℕ, ◌+◌, Bool, true, false, cond, List, [], ◌∷◌, ◌++◌, Option, Some, None, refl, sym, ap, ◌∙◌, subst}
 use Rattle.std.specs.Prelude.{find, is_some, IsSome, if◌then◌else◌, nat_eq, Result, Ok, Err}
 use Rattle.std.proofs.lemmas.Bool.Decides.{Decides-eqb}
 use Rattle.board_names.specs.declared.errors.boards.EntryHandleError.TheVariants as entry_error
@@ -8,12 +8,14 @@ use Rattle.board_names.specs.declared.errors.boards.EntryHandleError.{EntryHandl
 use Rattle.board_names.specs.declared.errors.boards.EntryHandleMutError.{EntryHandleMutError}
 use Rattle.board_layout.specs.declared.type_detail.TypeDetail.{TypeDetail}
 use Rattle.board_model.specs.declared.tables.Entry.{Entry}
+use Rattle.board_model.specs.declared.tables.ThingKind.{ThingKind}
 use Rattle.board_model.specs.declared.tables.ThingKind.TheVariants.{Reader, Writer}
 use Rattle.board_model.specs.TableCalls.{answer_of, place_of}
 use Rattle.board_service.specs.declared.made.Found.{Found}
-use Rattle.board_service.specs.Domain.{Domain, stands_as, held, entry_answer, entry_mut_answer, found}
-use Rattle.board_cells.specs.Cells.{cell_width, end_width, fits}
-use Rattle.board_handles.specs.BoardEnds.{Core, cell_of, parked_of, taken}
+use Rattle.board_service.specs.Domain.{Domain, cells_of, stands_as, held, entry_answer, entry_mut_answer, found}
+use Rattle.board_service.specs.Facts.{IsHeldBeside}
+use Rattle.board_cells.specs.Cells.{PlaceSeen, cell_width, end_width, fits}
+use Rattle.board_handles.specs.BoardEnds.{Core, cell_of, parked_of, taken, taken_from}
 use Rattle.board_handles.specs.LentForms as lent
 
 -- ---- things
@@ -129,3 +131,30 @@ write_done d keys v values is_key width writer thing board x t now tv te tb ans 
     let f = lent.entry_for d (lent.asked keys is_key v width) writer in
     let place : x.entry ≡ place_of f = ap (λ (y : Found). y.entry) (answered _ x (found d f) ans) ∙ found_entry d f in
     is_taken ∙ (λ k. taken (is k) (tb k) (place k)) ∙ (λ k. lent.with_write_taken d (lent.asked keys is_key (tv k) width) (te k))
+
+-- ---- what was made is held
+
+same_ok : {A E : Type 0} (r : Result A E) (x y : A) → Ok x ≡ r → Ok y ≡ r → y ≡ x
+same_ok (Ok z) x y first again = cc
+same_ok (Err e) x y first again = absurd cc
+
+-- the tables' call tells what was found before it, so that is what is held
+pub held_as : {E : Type 0} (d e : Core) (r : Result Found E) (x y h : Found) (of thing : ℕ) (kind : ThingKind) → Ok x ≡ r → Ok y ≡ r → h ≡ x → of ≡ thing → IsHeldBeside d e of y.thing kind → IsHeldBeside d e thing h.thing kind
+held_as d e r x y h of thing kind first again is same beside =
+    let alike : y ≡ h = same_ok r x y first again ∙ sym is in
+    subst (λ (n : ℕ). IsHeldBeside d e n h.thing kind) same (subst (λ (f : Found). IsHeldBeside d e of f.thing kind) alike beside)
+
+-- tables with other cells hold the same
+pub held_ends : (d m e : Core) (of thing : ℕ) (kind : ThingKind) → e.tables ≡ m.tables → IsHeldBeside d m of thing kind → IsHeldBeside d e of thing kind
+held_ends d m e of thing kind same beside = record {
+  as_kind = λ key was h. rw same (beside.as_kind key was h);
+  stands = rw same beside.stands;
+}
+
+-- an end that is taken leaves the tables as they are
+pub taken_tables : (d : Core) (board entry : ℕ) → (taken d board entry).tables ≡ d.tables
+taken_tables d board entry = by (cells_of d board)
+  where
+    by : (c : Option (List PlaceSeen)) → (taken_from d board c entry).tables ≡ d.tables
+    by None = refl
+    by (Some places) = refl

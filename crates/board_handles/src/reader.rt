@@ -4,6 +4,7 @@ ghost use Rattle.board_layout.specs.Answer.{Answers, Refuses, with_value};
 ghost use Rattle.board_layout.specs.Bytes.{details};
 ghost use Rattle.board_layout.specs.Keys.{is_key};
 ghost use Rattle.board_service.specs.Domain as calls;
+ghost use Rattle.board_service.specs.Facts.{IsHeldBeside};
 ghost use Rattle.board_cells.specs.Cells.{cell_width};
 ghost use Rattle.board_cells.specs.Ends.{IsUnread};
 ghost use Rattle.board_handles.specs.BoardEnds as ends;
@@ -71,6 +72,8 @@ fn new_reader<K: BoardKey>(
         Refuses result (lent.reader_made state.old.tables keys factory) }
     ensures ok { let before = state.old.tables in
         OnOk result (state.new.tables ≡ calls.after_reader before (calls.held before factory)) }
+    ensures held { let IsBeside = IsHeldBeside state.old.tables state.new.tables in
+        IfOk result (λ m. IsBeside factory m.thing ThingKind.Reader) }
     ensures err { OnErr result (state.new.tables ≡ state.old.tables) }
     ensures nodes { state.new.nodes ≡ state.old.nodes }
 {
@@ -116,6 +119,8 @@ impl<K: BoardKey, P> PortFactoryReader<K, P> {
             Refuses result (lent.reader_made state.old.tables keys self) }
         ensures ok { let before = state.old.tables in
             OnOk result (state.new.tables ≡ calls.after_reader before (calls.held before self)) }
+        ensures held { let IsBeside = IsHeldBeside state.old.tables state.new.tables in
+            IfOk result (λ r. IsBeside self r.thing ThingKind.Reader) }
         ensures err { OnErr result (state.new.tables ≡ state.old.tables) }
         ensures nodes { state.new.nodes ≡ state.old.nodes }
     {
@@ -159,6 +164,7 @@ fn read_handle_of<K, V: ZeroCopySend, P>(
         let cell = ends.cell_of tables.old board found.entry in
         let answer = lent.fitting unknown V.WORDS cell_width found cell in
         Refuses (with_value lent.read_given result) answer }
+    ensures found { IfOk result (λ h. h.found ≡ found) }
     ensures fresh { IfOk result (λ h. IsUnread h.pass) }
     ensures tied { IfOk result (λ h. IsOfCell h V.WORDS) }
 {
@@ -212,6 +218,8 @@ impl<K: BoardKey, P> Reader<K, P> {
             let asked = lent.asked keys is_it values V.WORDS in
             let after = lent.with_read state.old.tables asked self.now.thing in
             OnOk result (state.new.tables ≡ after) }
+        ensures held { let IsBeside = IsHeldBeside state.old.tables state.new.tables in
+            IfOk result (λ h. IsBeside self.now.thing h.found.thing ThingKind.ReadHandle) }
         ensures err { OnErr result (state.new.tables ≡ state.old.tables) }
         ensures fresh { IfOk result (λ h. IsUnread h.pass) }
         ensures tied { IfOk result (λ h. IsOfCell h V.WORDS) }

@@ -4,6 +4,7 @@ ghost use Rattle.board_layout.specs.Answer.{Answers, Refuses, with_value};
 ghost use Rattle.board_layout.specs.Bytes.{details};
 ghost use Rattle.board_layout.specs.Keys.{is_key};
 ghost use Rattle.board_service.specs.Domain as calls;
+ghost use Rattle.board_service.specs.Facts.{IsHeldBeside};
 ghost use Rattle.board_cells.specs.Cells.{end_width, fits};
 ghost use Rattle.board_handles.specs.BoardEnds as ends;
 ghost use Rattle.board_handles.specs.LentForms as lent;
@@ -69,6 +70,8 @@ fn new_writer<K: BoardKey>(
         Refuses result (lent.writer_made state.old.tables keys factory) }
     ensures ok { let before = state.old.tables in
         OnOk result (state.new.tables ≡ calls.after_writer before (calls.held before factory)) }
+    ensures held { let IsBeside = IsHeldBeside state.old.tables state.new.tables in
+        IfOk result (λ m. IsBeside factory m.thing ThingKind.Writer) }
     ensures err { OnErr result (state.new.tables ≡ state.old.tables) }
     ensures nodes { state.new.nodes ≡ state.old.nodes }
 {
@@ -114,6 +117,8 @@ impl<K: BoardKey, P> PortFactoryWriter<K, P> {
             Refuses result (lent.writer_made state.old.tables keys self) }
         ensures ok { let before = state.old.tables in
             OnOk result (state.new.tables ≡ calls.after_writer before (calls.held before self)) }
+        ensures held { let IsBeside = IsHeldBeside state.old.tables state.new.tables in
+            IfOk result (λ w. IsBeside self w.thing ThingKind.Writer) }
         ensures err { OnErr result (state.new.tables ≡ state.old.tables) }
         ensures nodes { state.new.nodes ≡ state.old.nodes }
     {
@@ -223,6 +228,8 @@ impl<K: BoardKey, P> Writer<K, P> {
             let asked = lent.asked keys is_it values V.WORDS in
             let after = lent.with_write_taken state.old.tables asked self.now.thing in
             OnOk result (state.new.tables ≡ after) }
+        ensures held { let IsBeside = IsHeldBeside state.old.tables state.new.tables in
+            IfOk result (λ h. IsBeside self.now.thing h.found.thing ThingKind.WriteHandle) }
         ensures err { OnErr result (state.new.tables ≡ state.old.tables) }
         ensures width { IfOk result (λ h. h.held.cell.width ≡ V.WORDS) }
         ensures nodes { state.new.nodes ≡ state.old.nodes }

@@ -1,4 +1,4 @@
--- The cells of a domain that is reached by typed calls alone: each entry has its own, and its write end where no write handle has it.
+-- The cells of a domain that is reached by typed calls alone: each entry has one, and the write end of it where no write handle has that. That two entries have two cells isn't said.
 use Rattle.std.specs.Prelude.{◌≡◌, ◌≤◌, ℕ, Bool, false, List, Option, Some, None, IfSome, is_some}
 use Rattle.std.specs.List.{list_any}
 use Rattle.board_layout.specs.Words.{IsWordCount}

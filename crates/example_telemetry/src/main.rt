@@ -1,10 +1,10 @@
 //! A telemetry board: a car publishes how fast each of its wheels turns, and two displays read it, each in a thread of
 //! its own.
 //!
-//! A display never sees a wheel of one value beside a wheel of another; the generations rise, and in the end it shows
-//! the last value. `is_up_to_date` tells whether a value that was read is still the newest. In iceoryx2 the car
-//! and the displays would be processes that open one service by its name, and a display would see the same, but for the
-//! generations, which iceoryx2 keeps to itself.
+//! The run shows that neither display sees a wheel of one value beside a wheel of another, that the generations rise, and
+//! that each shows the last value in the end. `is_up_to_date` tells whether a value that was read is still the newest. In
+//! iceoryx2 the car and the displays would be processes that open one service by its name, and a display would see the
+//! same, but for the generations, which iceoryx2 keeps to itself.
 #![tactic(auto)]
 
 use gullinsu::port::reader::EntryHandle;

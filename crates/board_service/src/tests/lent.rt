@@ -1,9 +1,9 @@
 //! What a caller knows of a domain that it is lent, whatever that went through.
-ghost use Rattle.std.specs.Prelude.{◌≡◌, ◌+◌, ◌<◌, ◌≤◌, true, is_some, length, IfOk, IfSome};
+ghost use Rattle.std.specs.Prelude.{◌≡◌, ◌+◌, ◌<◌, ◌≤◌, true, find, is_some, length, IfOk, IfSome, None};
 ghost use Rattle.std.specs.Bool.{OnTrue};
 ghost use Rattle.board_layout.specs.Bytes.{details};
 ghost use Rattle.board_model.specs.Tables.{board_at, reader_slots};
-ghost use Rattle.board_service.specs.Domain.{Stands, stands_as};
+ghost use Rattle.board_service.specs.Domain.{Stands, is_thing, stands_as};
 ghost use Rattle.board_service.specs.Entries.{HaveShapes};
 ghost use Rattle.board_service.specs.Facts.{IsHeldAs};
 
@@ -99,6 +99,18 @@ pub(super) fn both_handles<K: BoardKey, C: Cells>(
     };
     match core.entry_mut::<K>(writer.thing, key, value) {
         Ok(write) => Some((read, write)),
+        Err(_) => None,
+    }
+}
+
+/// A new reader of who holds a factory. Its number was nobody's before, whatever the domain went through.
+pub(super) fn new_reader<C: Cells>(core: &mut DomainCore<C>, factory: ThingId) -> Option<ThingId>
+    requires { Stands core.old factory }
+    ensures { IfSome result (λ thing. find (is_thing thing) core.old.tables.things ≡ None) }
+{
+    core.facts();
+    match core.reader(factory) {
+        Ok(made) => Some(made.thing),
         Err(_) => None,
     }
 }
