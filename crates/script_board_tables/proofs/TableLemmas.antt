@@ -13,7 +13,7 @@ use Rattle.board_model.specs.TableCalls.{boards_left}
 use Rattle.board_model.specs.Tables.{without_first}
 use Rattle.script_board_tables.specs.declared.tables.BoardTables.{BoardTables}
 use Rattle.script_board_tables.specs.declared.tables.KeptValue.{KeptValue}
-use Rattle.script_things.specs.Named.{SeatOf, same_seat}
+use Rattle.script_seats.specs.Seats.{SeatOf, same_seat}
 use Rattle.script_board_tables.specs.Tables.{Has, kept_at, kept_in, lists_in, loan_at, memory_of, published_of, standing_of, tables_of, words_in}
 
 -- ---- functions that agree everywhere are one

@@ -8,7 +8,7 @@ use Rattle.board_model.specs.Requests.{Published}
 use Rattle.script_board_tables.specs.declared.tables.BoardTables.{BoardTables}
 use Rattle.script_board_tables.specs.declared.tables.BoardRow.{BoardRow}
 use Rattle.script_board_tables.specs.declared.tables.KeptValue.{KeptValue}
-pub use Rattle.script_things.specs.Named.{SeatOf, same_seat}
+pub use Rattle.script_seats.specs.Seats.{SeatOf, same_seat}
 
 -- the boards and things
 abbrev pub tables_of : BoardTables → Tables (List ℕ) (List ℕ)

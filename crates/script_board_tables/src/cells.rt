@@ -5,11 +5,11 @@ ghost use Rattle.board_model.specs.Memory.{store};
 ghost use Rattle.board_model.specs.Replies.{published_at};
 ghost use Rattle.board_model.specs.Things.{with_at, with_name};
 ghost use Rattle.script_board_tables.specs.Tables.{Has, kept_at, kept_in, lists_in, loan_at, memory_of, published_of, standing_of, tables_of, words_in};
-ghost use Rattle.script_things.specs.Named.{SeatOf, same_seat};
+ghost use Rattle.script_seats.specs.Seats.{SeatOf, same_seat};
 
 use crate::tables::{BoardRow, BoardTables, KeptValue, LoanWords};
 use board_model::{Name, Words};
-use script_things::Seat;
+use script_seats::Seat;
 use std::alloc::AllocError;
 use std::collections::HashMap;
 

@@ -22,6 +22,6 @@ mod tests;
 pub use calls::{BoardCall, Fetch, Lent, Look, Publishing, TableCall};
 pub use laws::running_calls_can_step;
 pub use requests::Found;
-pub use script_things::Seat;
+pub use script_seats::Seat;
 pub use step::Stepped;
 pub use tables::{BoardTables, KeptValue, LoanWords};

@@ -8,7 +8,8 @@ ghost use Rattle.script_board_tables.specs.Tables.{Has, kept_at, kept_in, loan_a
 
 use crate::boards::Boards;
 use board_model::{Board, Entry, Items, Kind, Name, ThingKind, ValueType, Words};
-use script_things::{Held, NamedThings, Seat, entry_of};
+use script_seats::Seat;
+use script_things::{Held, NamedThings, entry_of};
 use std::alloc::{AllocError, Global};
 use std::collections::HashMap;
 

@@ -1,4 +1,4 @@
 pub mod PlaceLemmas
 mod TakenLemmas
 mod ToldLemmas
-mod SeatLemmas
+mod UnderLemmas

@@ -17,7 +17,7 @@ use Rattle.board_model.specs.Tables.{holds_at, is_held_by, is_of_board, is_of_po
 use Rattle.board_model.specs.Things.{Held, is_held_as, named_anew}
 use Rattle.board_model.proofs.ListLemmas.{any_counts, count_agree, count_map, count_none, count_push, count_without}
 use Rattle.script_things.specs.declared.taken.Taken.{Taken}
-use Rattle.script_things.specs.Named.{called}
+use Rattle.script_seats.specs.Seats.{called}
 use Rattle.script_things.specs.Taken.{AreLowered, AreRaised, AreSame, AreTaken, HasOne, IsLowered, IsRaised, IsSame, IsSmall, IsTaken, counted, handles_in, nodes_in, number_if, number_in, one_less, one_more, ports_in, readers_in}
 
 -- ---- counts as they are kept

@@ -1,4 +1,3 @@
 pub mod Listings
-pub mod Named
 pub mod Places
 pub mod Taken

@@ -7,6 +7,12 @@ use Rattle.board_model.specs.Tables.{holds_at}
 abbrev pub standing : {X : Type 0} → List (Option X) → List X
 standing {X} places = filter_map (λ (o : Option X). o) places
 
+-- what stands at a place, by its number
+abbrev pub under : {X : Type 0} → List (Option X) → ℕ → Option X
+under [] n = None
+under (o ∷ os) zero = o
+under (o ∷ os) (suc n) = under os n
+
 -- nothing that stands passes the test
 abbrev pub IsNowhere : {X : Type 0} → (X → Bool) → List (Option X) → Type 0
 IsNowhere p places = AllByRecursion (λ o. holds_at o p ≡ false) places

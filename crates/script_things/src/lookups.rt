@@ -1,11 +1,11 @@
-//! Things where no index says where they stand.
-ghost use Rattle.std.specs.Prelude.{◌≡◌, ◌<◌, Some, length, map, option_map, slice_get, slice_set};
+//! Where things stand, by their names.
+ghost use Rattle.std.specs.Prelude.{◌≡◌, ◌<◌, IfNone, IfSome, None, Some, length, map, option_map, slice_get, slice_set};
 ghost use Rattle.board_model.specs.Things as held;
-ghost use Rattle.script_things.specs.Named.{called, is_at};
-ghost use Rattle.script_things.specs.Places.{IsFirstPlace};
+ghost use Rattle.script_seats.specs.Seats.{IsIndex, called, is_at};
+ghost use Rattle.script_things.specs.Places.{IsFirstPlace, under};
 
-use crate::seats::Seat;
 use board_model::{Name, Thing};
+use script_seats::{Seat, Seats, Sought};
 
 /// A thing of a board, under its party and its name.
 pub type Held = Thing<Name, Name>;
@@ -22,6 +22,32 @@ pub(crate) fn first_place(seat: &Seat, places: &[Option<Held>]) -> Option<usize>
         }
     }
     None
+}
+
+// The same, where an index may tell it.
+pub(crate) fn place_of(seats: &Seats, seat: &Seat, places: &[Option<Held>]) -> Option<usize>
+    requires { IsIndex seats.now (under places.now) }
+    ensures { IsFirstPlace (is_at seat.now) places.now result }
+{
+    match seats.find(seat) {
+        Sought::Nothing => None,
+        Sought::Only(place) => Some(place as usize),
+        Sought::Unknown => first_place(seat, places),
+    }
+}
+
+// The same, where that thing goes: it is in the index no more.
+pub(crate) fn take_place(seats: &mut Seats, seat: &Seat, places: &[Option<Held>]) -> Option<usize>
+    requires { IsIndex seats.old (under places.now) }
+    ensures place { IsFirstPlace (is_at seat.now) places.now result }
+    ensures some { IfSome result (λ k. IsIndex seats.new (under (slice_set places.now k None))) }
+    ensures none { IfNone result (IsIndex seats.new (under places.now)) }
+{
+    match seats.take(seat) {
+        Sought::Nothing => None,
+        Sought::Only(place) => Some(place as usize),
+        Sought::Unknown => first_place(seat, places),
+    }
 }
 
 // Gives the thing at a place another name.

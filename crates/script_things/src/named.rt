@@ -7,10 +7,10 @@ ghost use Rattle.board_model.specs.Tables as tables;
 ghost use Rattle.board_model.specs.Things as held;
 
 use crate::kinds::is_kind;
-use crate::lookups::{Held, rename_all, rename_at};
-use crate::seats::{Renaming, Seat, Seats};
+use crate::lookups::{Held, place_of, rename_all, rename_at, take_place};
 use crate::taken::{Taken, lower, raise};
 use board_model::{Name, Names, ThingKind};
+use script_seats::{Seat, Seats, Sought};
 use std::alloc::{AllocError, Global};
 use std::collections::HashMap;
 use std::marker::Model;
@@ -28,15 +28,15 @@ pub struct NamedThings {
 impl Model for NamedThings {
     ghost use Rattle.std.specs.Prelude.{List};
     ghost use Rattle.board_model.specs.Things as held;
-    ghost use Rattle.script_things.specs.Named.{IsIndex};
-    ghost use Rattle.script_things.specs.Places.{standing};
+    ghost use Rattle.script_seats.specs.Seats.{IsIndex};
+    ghost use Rattle.script_things.specs.Places.{standing, under};
     ghost use Rattle.script_things.specs.Taken.{AreTaken};
 
     ghost Value = { List held.Held };
 
     ghost view = { λ d. standing d.places.items };
 
-    ghost invariant = { λ d. IsIndex d.seats d.places.items
+    ghost invariant = { λ d. IsIndex d.seats (under d.places.items)
         × AreTaken d.taken (standing d.places.items) };
 }
 
@@ -61,7 +61,7 @@ impl NamedThings {
             party: *party,
             name: *name,
         };
-        match self.seats.place_of(&seat, &self.places) {
+        match place_of(&self.seats, &seat, &self.places) {
             Some(place) => self.places[place],
             None => None,
         }
@@ -161,7 +161,7 @@ impl NamedThings {
         self.places.reserve(1)?;
         self.seats.reserve()?;
         raise(self.alloc, &thing, &mut self.taken)?;
-        self.seats.push(&thing, &self.places);
+        self.seats.push(&thing, self.places.len() as u64);
         self.places.push_reserved(Some(thing));
         Ok(())
     }
@@ -177,7 +177,7 @@ impl NamedThings {
             party: *party,
             name: *name,
         };
-        let place = self.seats.take(&seat, &self.places)?;
+        let place = take_place(&mut self.seats, &seat, &self.places)?;
         let Some(gone) = self.places[place].take() else {
             // A thing stands there.
             unreachable!()
@@ -205,9 +205,9 @@ impl NamedThings {
             name: *new,
         };
         match self.seats.rename(&from, &to) {
-            Renaming::Nothing => {}
-            Renaming::At(place) => rename_at(place, new, &mut self.places),
-            Renaming::All => rename_all(party, old, new, &mut self.places),
+            Sought::Nothing => {}
+            Sought::Only(place) => rename_at(place as usize, new, &mut self.places),
+            Sought::Unknown => rename_all(party, old, new, &mut self.places),
         }
         Ok(())
     }

@@ -1,7 +1,7 @@
 use Rattle.std.proofs.Common.{◌≡◌, true, get_or, rules, ap, ◌∙◌, Option, Some}
 use Rattle.board_model.specs.Tables.{holds_at}
 use Rattle.board_model.specs.Things.{Held}
-use Rattle.script_things.specs.Named.{is_at}
+use Rattle.script_seats.specs.Seats.{is_at}
 use Rattle.script_things.proofs.PlaceLemmas.{first_after}
 use Rattle.script_things.proofs.lookups.first_place.Goals as goal
 

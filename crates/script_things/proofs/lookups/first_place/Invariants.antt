@@ -1,5 +1,5 @@
 use Rattle.std.proofs.Common.{take}
-use Rattle.script_things.specs.Named.{is_at}
+use Rattle.script_seats.specs.Seats.{is_at}
 use Rattle.script_things.specs.Places.{IsNowhere}
 use Rattle.script_things.proofs.lookups.first_place.Given as goal
 

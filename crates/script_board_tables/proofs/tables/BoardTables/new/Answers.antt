@@ -1,6 +1,6 @@
 use Rattle.std.specs.Prelude.{ℕ, List, nat_eq, option_map}
 use Rattle.std.specs.Map.{lookup}
-use Rattle.script_things.specs.Named.{SeatOf, same_seat}
+use Rattle.script_seats.specs.Seats.{SeatOf, same_seat}
 use Rattle.script_board_tables.specs.Tables.{kept_in, lists_in, words_in}
 use Rattle.script_board_tables.proofs.tables.BoardTables.new.Goals as goal
 

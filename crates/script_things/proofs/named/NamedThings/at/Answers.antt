@@ -1,6 +1,6 @@
 use Rattle.std.proofs.Common.{List, Option, rules, sym, ap, subst, ◌∙◌}
 use Rattle.board_model.specs.Things.{Held, thing_of}
-use Rattle.script_things.specs.Named.{SeatOf, is_at}
+use Rattle.script_seats.specs.Seats.{SeatOf, is_at}
 use Rattle.script_things.specs.Places.{IsFirstPlace}
 use Rattle.script_things.proofs.PlaceLemmas.{found_at, inside, none_found}
 use Rattle.script_things.proofs.named.NamedThings.at.Goals as goal

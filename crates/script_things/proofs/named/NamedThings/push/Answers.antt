@@ -1,10 +1,11 @@
-use Rattle.std.proofs.Common.{◌≡◌, ◌<◌, ◌^◌, List, [], ◌∷◌, ◌++◌, length, Option, Some, rules, arith, sym, ap, subst, ◌∙◌}
+use Rattle.std.proofs.Common.{◌≡◌, ◌<◌, ◌^◌, List, [], ◌∷◌, ◌++◌, length, Option, Some, None, rules, arith, sym, ap, subst, ◌∙◌}
 use Rattle.board_model.specs.Things.{Held}
-use Rattle.script_things.specs.Named.{IsIndex}
-use Rattle.script_things.specs.Places.{standing}
+use Rattle.script_seats.specs.Seats.{IsIndex, put}
+use Rattle.script_things.specs.Places.{standing, under}
 use Rattle.script_things.specs.Taken.{AreTaken}
 use Rattle.script_things.proofs.PlaceLemmas.{standing_pushed, standing_short}
 use Rattle.script_things.proofs.TakenLemmas.{all_more, all_small}
+use Rattle.script_things.proofs.UnderLemmas.{behind, under_pushed}
 use Rattle.script_things.proofs.named.NamedThings.push.Goals as goal
 
 pub raise-requires : goal.raise-requires
@@ -18,8 +19,12 @@ invariant_of-self-2 c =
     let places = c.self.inside.places.items in
     let old = ap (λ (xs : List (Option Held)). xs ++ Some c.args.thing ∷ []) c.reserve.ensures.items in
     let items : c.push_reserved.new.self.items ≡ places ++ Some c.args.thing ∷ [] = c.push_reserved.ensures.items ∙ old in
-    subst (λ (xs : List (Option Held)). IsIndex c.push.new.self xs × AreTaken c.raise.new.rows (standing xs)) (sym items) (
-      subst (IsIndex c.push.new.self) (ap (λ (xs : List (Option Held)). xs ++ Some c.args.thing ∷ []) c.deref.ensures.value ∙ old) c.push.ensures,
+    let number : c.len.result ≡ length places = search rules in
+    let index = c.reserve-2.ensures.index (under places) c.self.invariant.0 in
+    let free = subst (λ n. under places n ≡ None) (sym number) (behind places) in
+    let pushed = subst (λ n. IsIndex c.push.new.self (put n (Some c.args.thing) (under places))) number (c.push.ensures (under places) index free) in
+    subst (λ (xs : List (Option Held)). IsIndex c.push.new.self (under xs) × AreTaken c.raise.new.rows (standing xs)) (sym items) (
+      subst (IsIndex c.push.new.self) (under_pushed places (Some c.args.thing)) pushed,
       subst (AreTaken c.raise.new.rows) (sym (standing_pushed places c.args.thing)) (all_more c.self.inside.taken c.raise.new.rows (standing places) c.self.invariant.1 c.args.thing c.in_ok-raise.ensures.ok),
     )
 
