@@ -6,9 +6,8 @@ ghost use Rattle.script_events.specs.Calls.{IsCheckedBy, IsNewAct};
 ghost use Rattle.script_events.specs.PartyEvents.{BeginMayWant, Begins, IsLed, OfEach, event_call};
 ghost use Rattle.script_events.specs.Left.{IsUnchanged};
 
-use crate::lookups::{listened, notified};
 use crate::party_events::PartyEvents;
-use crate::rows::{Act, ActiveCall, CallRow, CallTask};
+use crate::rows::{Act, ActiveCall, CallTask};
 use board_event_core::{NotifyCall, WaitCall};
 use board_event_model::{EventKind, WaitMode};
 use board_model::{Name, Reason};
@@ -34,7 +33,7 @@ impl PartyEvents {
     {
         match self.check(&party, request, taken) {
             Ok(task) => {
-                self.calls.push(CallRow { party, task })?;
+                let _ = self.calls.insert(party, task)?;
                 Ok(None)
             }
             Err(why) => Ok(Some(why)),
@@ -88,7 +87,7 @@ impl PartyEvents {
                 })
             }
             EventRequest::Notify { notifier, id } => {
-                match notified(party, &notifier, &self.things) {
+                match self.things.notified(party, &notifier) {
                     Some(event) => {
                         let call = self.notify_call(event, id);
                         Ok(self.act(event, call))
@@ -100,7 +99,7 @@ impl PartyEvents {
                 listener,
                 many,
                 mode,
-            } => match listened(party, &listener, &self.things) {
+            } => match self.things.listened(party, &listener) {
                 Some(event) => {
                     let call = self.wait_call(event, many, mode);
                     Ok(self.act(event, call))
