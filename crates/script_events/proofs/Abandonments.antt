@@ -238,7 +238,7 @@ module _ (t : EventTable) (held : Held) (x : ScriptEvents) (count : ℕ) (sound 
         by false e true f = (
             let both = and_parts st.event.held (bytes_eq party st.listener) f in
             let named = sound.listeners q st stands both.0 in
-            let mine : x.things party named.0 ≡ Some (listener q) = rw (same_bytes party st.listener both.1) named.1 in
+            let mine : x.things party named.0 ≡ Some (listener q) = subst (λ (p : List ℕ). x.things p named.0 ≡ Some (listener q)) (sym (same_bytes party st.listener both.1)) named.1 in
             let is : held party named.0 ≡ Some (holding.Listener q) = is_listener q (held party named.0) (holds.things party named.0 ∙ mine) in
             let yes : list_any (listens_on q) hs ≡ true = any_of (listens_on q) (holding.Listener q) hs (all named.0 (holding.Listener q) is) (eqb_self q) in
             sym e ∙ yes)

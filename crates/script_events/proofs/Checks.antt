@@ -1,6 +1,6 @@
 -- Calls that are to begin.
-use Rattle.std.proofs.Common.{◌≡◌, ℕ, Bool, List, refl, sym, ap, ◌∙◌, Option, Some, None}
-use Rattle.std.specs.Prelude.{◌||◌, if◌then◌else◌, option_map, IsSomeAnd, Ok}
+use Rattle.std.proofs.Common.{◌≡◌, ℕ, Bool, List, refl, sym, ap, subst, ◌∙◌, Option, Some, None}
+use Rattle.std.specs.Prelude.{◌||◌, if◌then◌else◌, option_map, IfSome, IsSomeAnd, Ok}
 use Rattle.board_model.specs.declared.answer.Reason.TheVariants as reason
 use Rattle.board_model.specs.LawfulSession.{State}
 use Rattle.board_event_model.specs.EventMemory.{Event}
@@ -9,6 +9,7 @@ use Rattle.board_event_model.specs.EventSessions.{PartyCall}
 use Rattle.board_event_core.specs.EventTable.{EventTable, event_at}
 use Rattle.board_event_model.specs.declared.call.WaitMode.{WaitMode}
 use Rattle.board_model.specs.Requests.{and_then}
+use Rattle.board_model.specs.Things.{is_held as holds_thing}
 use Rattle.script_model.specs.declared.line.EventRequest.{EventRequest}
 use Rattle.script_model.specs.declared.line.EventRequest.TheVariants as request
 use Rattle.script_model.specs.ScriptEvents.{EventAsk, EventTask, EventThing, ScriptEvents, act, ask, holds_event, listened_event, listener, name_made, notified, notifier, on_event, task_of}
@@ -21,7 +22,7 @@ use Rattle.script_events.specs.declared.rows.Holding.{Holding}
 use Rattle.script_events.specs.declared.rows.Holding.TheVariants as holding
 use Rattle.script_events.specs.Calls.{IsChecked, IsNewAct, IsTask, listened_in, notified_in}
 use Rattle.script_events.specs.Left.{HasTask}
-use Rattle.script_events.specs.PartyEvents.{Held, Holds, IsTaskOf, IsTurned, Represents, held_in, takes_board_name, task_in, thing_in}
+use Rattle.script_events.specs.PartyEvents.{Held, Holds, IsTaskOf, IsTurned, Represents, TellsTaken, held_in, task_in, thing_in}
 use Rattle.script_events.proofs.Tasks.{ask_changed, call_changed}
 use Rattle.script_events.proofs.Holding.{IsThere, event_of-some, listener_there, notifier_there}
 
@@ -29,10 +30,10 @@ use Rattle.script_events.proofs.Holding.{IsThere, event_of-some, listener_there,
 
 -- a call that makes something is refused where its name is held
 pub named_turn : (boards : State) (x : ScriptEvents) (party : List ℕ) (q : EventRequest) (u : EventTask) (name : List ℕ) (taken result : Bool) → task_of x party q ≡ Some u → name_made q ≡ Some name
-    → taken ≡ takes_board_name boards party (name_made q) → result ≡ (taken || holds_event x party name)
+    → TellsTaken taken boards party q → result ≡ (taken || holds_event x party name)
     → task_turn (record { boards = boards; events = x }) party q (task_of x party q) ≡ (if result then refused reason.Taken else begins party u)
 named_turn boards x party q u name taken result e f same r =
-    let mine : taken ≡ takes_board_name boards party (Some name) = same ∙ ap (takes_board_name boards party) f in
+    let mine : taken ≡ holds_thing boards.standing party name = subst (λ (o : Option (List ℕ)). IfSome o (λ n. taken ≡ holds_thing boards.standing party n)) f same in
     rw (e, f) (ap (λ (b : Bool). if b then refused reason.Taken else begins party u) (sym (r ∙ ap (λ (b : Bool). b || holds_event x party name) mine)))
 
 -- ---- things

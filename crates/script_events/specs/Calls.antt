@@ -26,7 +26,7 @@ use Rattle.script_events.specs.declared.rows.Holding.{Holding}
 use Rattle.script_events.specs.declared.rows.Holding.TheVariants as holding
 use Rattle.script_events.specs.declared.step.Stepped.{Stepped}
 use Rattle.script_events.specs.declared.step.Stepped.TheVariants as stepped
-use Rattle.script_events.specs.PartyEvents.{Held, Holds, IsAskedBy, event_call, may_give, takes_board_name}
+use Rattle.script_events.specs.PartyEvents.{Held, Holds, IsAskedBy, TellsTaken, event_call, may_give}
 
 -- ---- lookups
 
@@ -69,7 +69,7 @@ IsChecked turn party (Ok t) = (u : EventTask) × (turn ≡ begins party u) × Is
 -- so the call of a party does, where boards hold its name or don't
 abbrev pub IsCheckedBy : ScriptEvents → List ℕ → EventRequest → Bool → Result CallTask Reason → Type 0
 IsCheckedBy x party q taken result =
-    (boards : State) → taken ≡ takes_board_name boards party (name_made q) → IsChecked (task_turn (record { boards = boards; events = x }) party q (task_of x party q)) party result
+    (boards : State) → TellsTaken taken boards party q → IsChecked (task_turn (record { boards = boards; events = x }) party q (task_of x party q)) party result
 
 -- ---- steps
 

@@ -1,5 +1,5 @@
 -- The events of a script that what parties hold and run stands for.
-use Rattle.std.specs.Prelude.{◌≡◌, ℕ, ◌<◌, ◌^◌, Bool, true, false, if◌then◌else◌, List, [], ◌∷◌, Option, Some, None, IsSomeAnd, option_map, ⊤}
+use Rattle.std.specs.Prelude.{◌≡◌, ℕ, ◌<◌, ◌^◌, Bool, true, false, if◌then◌else◌, List, [], ◌∷◌, Option, Some, None, IfSome, IsSomeAnd, option_map, ⊤}
 use Rattle.std.specs.declared.cmp.Ordering.{Ordering}
 use Rattle.std.specs.BTreeMap.{is_at}
 use Rattle.std.specs.Cmp.Lexicographic.{slice_cmp}
@@ -153,10 +153,9 @@ OfEach m P = (x : ScriptEvents) (count : ℕ) → count < 2 ^ 63 → AreSoundEve
 
 -- ---- what the calls are told
 
--- the party holds something of boards under the name, if there is one
-abbrev pub takes_board_name : State → List ℕ → Option (List ℕ) → Bool
-takes_board_name boards party None = false
-takes_board_name boards party (Some name) = holds_thing boards.standing party name
+-- `taken` tells whether the party holds something of boards under the name of what a call makes; of a call that makes nothing it may tell anything
+abbrev pub TellsTaken : Bool → State → List ℕ → EventRequest → Type 0
+TellsTaken taken boards party q = IfSome (name_made q) (λ name. taken ≡ holds_thing boards.standing party name)
 
 -- a line is refused for this reason, or for none
 abbrev pub refusal_of : EventTurn → Option Reason
@@ -171,10 +170,10 @@ pub record IsTurned (new : PartyEvents) (x : ScriptEvents) (turn : EventTurn) (t
   pub told_is : told ≡ refusal_of turn
   pub represents : (a : ScriptAnswer) → Represents new (turned x turn a)
 
--- a call of a party on events was begun or refused by the rules, where `taken` tells whether boards hold the name of what it makes
+-- a call of a party on events was begun or refused by the rules, where `taken` tells right
 abbrev pub IsBegun : PartyEvents → ScriptEvents → List ℕ → EventRequest → Bool → Option Reason → Type 0
 IsBegun new x party q taken told =
-    (boards : State) → taken ≡ takes_board_name boards party (name_made q) → IsTurned new x (task_turn (record { boards = boards; events = x }) party q (task_of x party q)) told
+    (boards : State) → TellsTaken taken boards party q → IsTurned new x (task_turn (record { boards = boards; events = x }) party q (task_of x party q)) told
 
 -- the listener or the notifier that a party holds under a name is let go
 abbrev pub thing_let_go : ScriptEvents → List ℕ → List ℕ → ScriptEvents
@@ -209,7 +208,7 @@ Steps old new party told = OfEach old (λ x. IsStepped new x party told)
 -- no rule refuses a call of a party on events
 abbrev pub IsUnrefused : ScriptEvents → List ℕ → EventRequest → Bool → Type 0
 IsUnrefused x party q taken =
-    (boards : State) → taken ≡ takes_board_name boards party (name_made q) → refusal_of (task_turn (record { boards = boards; events = x }) party q (task_of x party q)) ≡ None
+    (boards : State) → TellsTaken taken boards party q → refusal_of (task_turn (record { boards = boards; events = x }) party q (task_of x party q)) ≡ None
 
 -- a call that begins wants memory only where no rule refuses it
 abbrev pub BeginMayWant : PartyEvents → List ℕ → EventRequest → Bool → Type 0

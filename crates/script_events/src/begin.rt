@@ -15,7 +15,8 @@ use script_model::EventRequest;
 use std::alloc::AllocError;
 
 impl PartyEvents {
-    /// A call of a party that runs none begins, or is refused. `taken`: boards hold the name of what it makes for the party.
+    /// A call of a party that runs none begins, or is refused. `taken`: boards hold the name of what it makes for the party; of
+    /// a notify or a wait, which make nothing, it says nothing.
     ///
     /// # Errors
     /// `AllocError` where memory is refused, and no rule refuses the call. Then nothing has changed.

@@ -69,9 +69,9 @@ impl PartyEvents {
         requires { IsLed self.old }
         ensures { OfEach self.old (λ x. Represents self.new (events_abandoned x party.now)) }
     {
+        let _ = self.calls.remove(party);
         if let Some(own) = self.things.of(party) {
             mark_listeners(own, &mut self.events);
         }
-        let _ = self.calls.remove(party);
     }
 }

@@ -72,7 +72,12 @@ impl Things {
     ///
     /// # Errors
     /// `AllocError` where memory is refused. Each party holds what it held.
-    pub(crate) fn put(&mut self, party: Name, name: Name, holding: Holding) -> Result<(), AllocError>
+    pub(crate) fn put(
+        &mut self,
+        party: Name,
+        name: Name,
+        holding: Holding,
+    ) -> Result<(), AllocError>
         ensures ok { OnOk result
             (HasAt (held_in self.old) (held_in self.new) party name (Some holding)) }
         ensures err { OnErr result ((p n : List ℕ)

@@ -25,5 +25,5 @@ returns-then-is_empty-clause-left c =
     let empty : length left.entries ≡ 0 = search rules in
     let lent = c.get_mut.follows.lender left in
     let put = ((c.get_mut.follows.holds left).3 (ap is_some found)).0 in
-    held_at old (own_in _) party nothing (λ p. c.remove.ensures.updates.0 p ∙ replaced (bytes_eq party p) (Some left) nothing (old p) (get bytes_eq lent p) (put p)) name no_holding
+    held_at old (λ p. get bytes_eq c.remove.new.self p) party nothing (λ p. c.remove.ensures.updates.0 p ∙ replaced (bytes_eq party p) (Some left) nothing (old p) (get bytes_eq lent p) (put p)) name no_holding
     (λ n. sym (none_in left empty n) ∙ c.remove-holding.ensures.updates.0 n ∙ ap (λ (o : Option Own). cond (bytes_eq name n) no_holding (named_in o n)) (sym found))
