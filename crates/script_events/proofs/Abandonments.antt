@@ -1,92 +1,120 @@
 -- What parties hold after one was abandoned: the same, and its listeners count as gone.
-use Rattle.std.proofs.Common.{◌≡◌, ℕ, ◌<◌, Bool, true, false, List, [], ◌∷◌, length, map, refl, sym, ap, subst, ◌∙◌, Option, Some, None, inl, inr, ◌⊎◌, arith}
-use Rattle.std.specs.Prelude.{if◌then◌else◌, ◌==◌, ◌&&◌, ◌||◌, IsSome}
+use Rattle.std.proofs.Common.{◌≡◌, ℕ, Bool, true, false, List, [], ◌∷◌, refl, sym, ap, subst, ◌∙◌, Option, Some, None, inl, inr, ◌⊎◌}
+use Rattle.std.specs.Prelude.{if◌then◌else◌, ◌==◌, ◌&&◌, ◌||◌, cond, option_map, IfSome, IsSome}
 use Rattle.std.specs.Str.{bytes_eq}
-use Rattle.std.specs.List.{AllByRecursion, filter, list_any}
+use Rattle.std.specs.HashMap.{IsUnique, get, values}
+use Rattle.std.specs.List.{AllByRecursion, IsDistinct, list_any}
+use Rattle.std.specs.Map.{keys_of, lookup, values_of}
 use Rattle.std.proofs.lemmas.Bool.{and_parts}
+use Rattle.std.proofs.lemmas.Map.Keys.{IsDistinct-head, IsDistinct-tail}
 use Rattle.board_model.proofs.ListLemmas.{same_bytes}
 use Rattle.board_model.proofs.ThingLemmas.{same_to_itself}
+use Rattle.board_model.specs.Requests.{and_then}
 use Rattle.board_names.specs.Table.{at}
 use Rattle.board_event_model.specs.declared.kind.EventKind.{EventKind}
 use Rattle.board_event_model.specs.EventMemory.{Event, has_holder}
 use Rattle.board_event_model.specs.EventSessions.{StandingEvent, event_of, gone_with}
-use Rattle.board_event_model.proofs.QuietLemmas.{eqb_true}
+use Rattle.board_event_model.proofs.QuietLemmas.{eqb_self, eqb_true}
 use Rattle.board_event_model.proofs.SoundLemmas.{some_same}
 use Rattle.board_event_core.specs.EventTable.{EventTable, changed, event_at, names_of, with_gone}
 use Rattle.script_model.specs.ScriptEvents.{EventThing, ScriptEvents, events_abandoned, listener}
 use Rattle.script_model.specs.SoundEvents.{AreSoundEvents}
-use Rattle.script_events.specs.declared.rows.EventRow.{EventRow}
-use Rattle.script_events.specs.declared.rows.Role.{Role}
-use Rattle.script_events.specs.declared.rows.Role.TheVariants as role
-use Rattle.script_events.specs.Calls.{IsMarkable, is_listening, is_own_listener, mark_row, marked_gone}
-use Rattle.script_events.specs.PartyEvents.{Holds, IsOnce, as_list, is_thing_of, listener_rows, listeners_in, listens_on, notifiers_in, thing_as, thing_in, where_held}
-use Rattle.script_events.proofs.Lists.{either}
+use Rattle.script_events.specs.declared.things.Things.{Things}
+use Rattle.script_events.specs.declared.rows.Holding.{Holding}
+use Rattle.script_events.specs.declared.rows.Holding.TheVariants as holding
+use Rattle.script_events.specs.Calls.{IsMarkable, marked, marked_gone}
+use Rattle.script_events.specs.PartyEvents.{Held, Holds, IsOnce, Own, held_in, own_in, thing_in, where_held}
+use Rattle.script_events.proofs.Options.{either, turned}
 use Rattle.script_events.proofs.TableCalls.{change, changed_events}
 use Rattle.script_events.proofs.Holding.{event_of-none, event_of-some, listener_there}
 
--- ---- rows that stand in a list
+-- ---- what stands in a list
 
--- the row is one of them
-abbrev IsIn : EventRow → List EventRow → Type 0
-IsIn row [] = ⊥
-IsIn row (y ∷ ys) = (row ≡ y) ⊎ IsIn row ys
+-- it is one of them
+abbrev pub IsIn : Holding → List Holding → Type 0
+IsIn h [] = ⊥
+IsIn h (y ∷ ys) = (h ≡ y) ⊎ IsIn h ys
 
-in_filter : (p : EventRow → Bool) (row : EventRow) (rows : List EventRow) → IsIn row rows → p row ≡ true → IsIn row (filter p rows)
-in_filter p row [] h e = h
-in_filter p row (y ∷ ys) (inl same) e = (let f : p y ≡ true = rw (sym same) e in rw f (inl same))
-in_filter p row (y ∷ ys) (inr more) e = elim (either (p y)) [
-  | inl f ↦ rw f (inr (in_filter p row ys more e))
-  | inr f ↦ rw f (in_filter p row ys more e)
-]
-
--- a list of one thing or none that has the row
-one_thing : (row : EventRow) (rows : List EventRow) (o : Option EventThing) → map thing_in rows ≡ as_list o → IsIn row rows → o ≡ Some (thing_in row)
-one_thing row [] o e h = absurd h
-one_thing row (y ∷ ys) None e h = absurd cc
-one_thing row (y ∷ []) (Some t) e (inl same) = (let f : thing_in y ≡ t = cc in rw same (ap (λ (u : EventThing). Some u) (sym f)))
-one_thing row (y ∷ []) (Some t) e (inr more) = absurd more
-one_thing row (y ∷ z ∷ ys) (Some t) e h = absurd cc
-
--- a row that passes
-some_row : (test : EventRow → Bool) (rows : List EventRow) → 0 < length (filter test rows) → (row : EventRow) × IsIn row rows × (test row ≡ true)
-some_row test [] h = absurd (omega arith)
-some_row test (y ∷ ys) h = elim (either (test y)) [
-  | inl f ↦ (y, inl refl, f)
-  | inr f ↦ (let more = some_row test ys (rw f at h) in (more.0, inr more.1, more.2))
-]
-
-any_row : (test : EventRow → Bool) (rows : List EventRow) → list_any test rows ≡ true → (row : EventRow) × IsIn row rows × (test row ≡ true)
-any_row test [] h = absurd cc
-any_row test (y ∷ ys) h = elim (either (test y)) [
-  | inl f ↦ (y, inl refl, f)
-  | inr f ↦ (let more = any_row test ys (rw f at h) in (more.0, inr more.1, more.2))
-]
-
-any_of : (test : EventRow → Bool) (row : EventRow) (rows : List EventRow) → IsIn row rows → test row ≡ true → list_any test rows ≡ true
-any_of test row [] h e = absurd h
-any_of test row (y ∷ ys) (inl same) e = (let f : test y ≡ true = rw (sym same) e in rw f refl)
-any_of test row (y ∷ ys) (inr more) e = elim (either (test y)) [
+any_of : (test : Holding → Bool) (h : Holding) (hs : List Holding) → IsIn h hs → test h ≡ true → list_any test hs ≡ true
+any_of test h [] i e = absurd i
+any_of test h (y ∷ ys) (inl same) e = (let f : test y ≡ true = rw (sym same) e in rw f refl)
+any_of test h (y ∷ ys) (inr more) e = elim (either (test y)) [
   | inl f ↦ rw f refl
-  | inr f ↦ rw f (any_of test row ys more e)
+  | inr f ↦ rw f (any_of test h ys more e)
 ]
 
-all_of : (P : EventRow → Type 0) (rows : List EventRow) → ((row : EventRow) → IsIn row rows → P row) → AllByRecursion P rows
-all_of P [] h = tt
-all_of P (y ∷ ys) h = (h y (inl refl), all_of P ys (λ row more. h row (inr more)))
+some_of : (test : Holding → Bool) (hs : List Holding) → list_any test hs ≡ true → (h : Holding) × IsIn h hs × (test h ≡ true)
+some_of test [] e = absurd cc
+some_of test (y ∷ ys) e = elim (either (test y)) [
+  | inl f ↦ (y, inl refl, f)
+  | inr f ↦ (let more = some_of test ys (rw f at e) in (more.0, inr more.1, more.2))
+]
+
+-- ---- what a party holds, as a list
+
+-- each of a map's values stands under a name
+abbrev pub AreFound : (List ℕ → Option Holding) → List Holding → Type 0
+AreFound found hs = (h : Holding) → IsIn h hs → (name : List ℕ) × (found name ≡ Some h)
+
+-- and what stands under a name is one of them
+abbrev pub AreAll : (List ℕ → Option Holding) → List Holding → Type 0
+AreAll found hs = (name : List ℕ) (h : Holding) → found name ≡ Some h → IsIn h hs
+
+own_all : (es : List (List ℕ × Holding)) → AreAll (λ name. lookup (bytes_eq name) es) (values_of es)
+own_all [] name h e = absurd cc
+own_all (x ∷ es) name h e = elim (either (bytes_eq name x.0)) [
+  | inl f ↦ (let here : Some x.1 ≡ Some h = (rw f at e) in inl (some_same h x.1 (sym here)))
+  | inr f ↦ inr (own_all es name h (rw f at e))
+]
+
+apart_names : (k name : List ℕ) (es : List (List ℕ × Holding)) (h : Holding) → AllByRecursion (λ y. bytes_eq k y ≡ false) (keys_of es) → lookup (bytes_eq name) es ≡ Some h → bytes_eq name k ≡ false
+apart_names k name [] h all e = absurd cc
+apart_names k name (x ∷ es) h all e = elim (either (bytes_eq name x.0)) [
+  | inl f ↦ rw (same_bytes name x.0 f) (turned x.0 k ∙ all.0)
+  | inr f ↦ apart_names k name es h all.1 (rw f at e)
+]
+
+own_found : (es : List (List ℕ × Holding)) → IsDistinct bytes_eq (keys_of es) → AreFound (λ name. lookup (bytes_eq name) es) (values_of es)
+own_found [] apart h i = absurd i
+own_found (x ∷ es) apart h (inl same) = (x.0, rw (same_to_itself x.0) (ap (λ (y : Holding). Some y) (sym same)))
+own_found (x ∷ es) apart h (inr more) = (
+    let found = own_found es (IsDistinct-tail bytes_eq x.0 (keys_of es) apart) h more in
+    (found.0, rw (apart_names x.0 found.0 es h (IsDistinct-head bytes_eq x.0 (keys_of es) apart) found.1) found.1))
+
+module _ (things : Things) (party : List ℕ) where
+  -- what a party holds that holds something
+  pub own_listed : (own : Own) → own_in things party ≡ Some own → IsUnique bytes_eq own → AreFound (held_in things party) (values own) × AreAll (held_in things party) (values own)
+  own_listed own e unique = subst (λ (o : Option Own). AreFound (λ name. and_then o (λ w. get bytes_eq w name)) (values own) × AreAll (λ name. and_then o (λ w. get bytes_eq w name)) (values own)) (sym e) (own_found own.entries unique, own_all own.entries)
+
+  -- and one that holds nothing
+  pub none_listed : own_in things party ≡ None → AreFound (held_in things party) [] × AreAll (held_in things party) []
+  none_listed e = ((λ h i. absurd i), (λ name h f. absurd (let none : held_in things party name ≡ None = ap (λ (o : Option Own). and_then o (λ w. get bytes_eq w name)) e in let no : None ≡ Some h = sym none ∙ f in cc)))
+
+  pub own_held : (own : Own) → own_in things party ≡ Some own → (P : Holding → Type 0) → ((name : List ℕ) → IfSome (held_in things party name) P) → (name : List ℕ) → IfSome (get bytes_eq own name) P
+  own_held own e P each name = subst (λ (o : Option Own). IfSome (and_then o (λ w. get bytes_eq w name)) P) e (each name)
+
+all_by : (P : Holding → Type 0) (hs : List Holding) → ((h : Holding) → IsIn h hs → P h) → AllByRecursion P hs
+all_by P [] each = tt
+all_by P (h ∷ hs) each = (each h (inl refl), all_by P hs (λ y more. each y (inr more)))
+
+-- what holds of each that stands under a name holds of all values
+pub all_values : (own : Own) (P : Holding → Type 0) → IsUnique bytes_eq own → ((name : List ℕ) → IfSome (get bytes_eq own name) P) → AllByRecursion P (values own)
+all_values own P unique each = all_by P (values own) (λ h i. (let found = own_found own.entries unique h i in subst (λ (o : Option Holding). IfSome o P) found.1 (each found.0)))
 
 -- ---- the table after the marks
 
--- the row is of the party's listener of the event
-abbrev is_own_of : List ℕ → ℕ → EventRow → Bool
-is_own_of party q row = is_own_listener party row && (q == row.event)
+-- it is a listener of the event
+abbrev listens_on : ℕ → Holding → Bool
+listens_on q (holding.Listener n) = q == n
+listens_on q (holding.Notifier n) = false
 
 -- an event that may count as gone
 abbrev gone_if : Bool → Option Event → Option Event
 gone_if b None = None
 gone_if b (Some e) = Some (if b then with_gone e else e)
 
-record IsMarked (party : List ℕ) (rows : List EventRow) (t u : EventTable) : Type 0 where
-  events : (q : ℕ) → event_at u q ≡ gone_if (list_any (is_own_of party q) rows) (event_at t q)
+record IsMarked (hs : List Holding) (t u : EventTable) : Type 0 where
+  events : (q : ℕ) → event_at u q ≡ gone_if (list_any (listens_on q) hs) (event_at t q)
   names : (k : EventKind) → names_of k u ≡ names_of k t
   drawn : u.drawn ≡ t.drawn
   once : IsOnce u
@@ -140,145 +168,121 @@ kept_some b None h = h
 kept_some b (Some e) h = refl
 
 -- what can be marked still can after a mark
-pub still_markable : (party : List ℕ) (row : EventRow) (t : EventTable) (rows : List EventRow) → AllByRecursion (IsMarkable party t) rows → AllByRecursion (IsMarkable party (mark_row party row t)) rows
-still_markable party row t [] h = tt
-still_markable party row t (r ∷ rows) h = ((λ e. by (is_own_listener party row) (h.0 e)), still_markable party row t rows h.1)
-  where
-    by : (b : Bool) → IsSome (event_at t r.event) → IsSome (event_at (if b then changed t row.event with_gone else t) r.event)
-    by false some = some
-    by true some = (let e : event_at (changed t row.event with_gone) r.event ≡ gone_if (r.event == row.event) (event_at t r.event) = mark_one t row.event r.event in rw e (kept_some (r.event == row.event) (event_at t r.event) some))
+still_one : (t : EventTable) (h other : Holding) → IsMarkable t other → IsMarkable (marked h t) other
+still_one t (holding.Notifier n) other can = can
+still_one t (holding.Listener n) (holding.Notifier m) can = can
+still_one t (holding.Listener n) (holding.Listener m) can = (let e : event_at (changed t n with_gone) m ≡ gone_if (m == n) (event_at t m) = mark_one t n m in rw e (kept_some (m == n) (event_at t m) can))
 
-marks : (party : List ℕ) (rows : List EventRow) (t : EventTable) → IsOnce t → IsMarked party rows t (marked_gone party rows t)
-marks party [] t once = record { events = λ q. not_marked (event_at t q); names = λ k. refl; drawn = refl; once = once }
-marks party (row ∷ rows) t once = elim (either (is_own_listener party row)) [
-  | inl f ↦ (let more = marks party rows (changed t row.event with_gone) (once_one t row.event once) in
-      rw (f, marked_gone) (record {
-        events = λ q. more.events q ∙ ap (gone_if (list_any (is_own_of party q) rows)) (mark_one t row.event q) ∙ own q f;
-        names = λ k. more.names k ∙ names_one t row.event k once;
-        drawn = more.drawn ∙ drawn_one t row.event once;
-        once = more.once;
-      }))
-  | inr f ↦ (let more = marks party rows t once in
-      rw (f, marked_gone) (record {
-        events = λ q. more.events q ∙ rw f refl;
-        names = more.names;
-        drawn = more.drawn;
-        once = more.once;
-      }))
-]
+pub still_markable : (t : EventTable) (h : Holding) (hs : List Holding) → AllByRecursion (IsMarkable t) hs → AllByRecursion (IsMarkable (marked h t)) hs
+still_markable t h [] all = tt
+still_markable t h (y ∷ ys) all = (still_one t h y all.0, still_markable t h ys all.1)
+
+marks : (hs : List Holding) (t : EventTable) → IsOnce t → IsMarked hs t (marked_gone hs t)
+marks [] t once = record { events = λ q. not_marked (event_at t q); names = λ k. refl; drawn = refl; once = once }
+marks (holding.Notifier n ∷ hs) t once = (let more = marks hs t once in record { events = more.events; names = more.names; drawn = more.drawn; once = more.once })
+marks (holding.Listener n ∷ hs) t once = (let more = marks hs (changed t n with_gone) (once_one t n once) in record {
+  events = λ q. more.events q ∙ ap (gone_if (list_any (listens_on q) hs)) (mark_one t n q) ∙ own q;
+  names = λ k. more.names k ∙ names_one t n k once;
+  drawn = more.drawn ∙ drawn_one t n once;
+  once = more.once;
+})
   where
-    own : (q : ℕ) → is_own_listener party row ≡ true → gone_if (list_any (is_own_of party q) rows) (gone_if (q == row.event) (event_at t q)) ≡ gone_if (list_any (is_own_of party q) (row ∷ rows)) (event_at t q)
-    own q f = elim (either (q == row.event)) [
-      | inl g ↦ rw (f, g) (twice_marked (list_any (is_own_of party q) rows) (event_at t q))
-      | inr g ↦ rw (f, g) (ap (gone_if (list_any (is_own_of party q) rows)) (sym (not_marked (event_at t q))))
+    own : (q : ℕ) → gone_if (list_any (listens_on q) hs) (gone_if (q == n) (event_at t q)) ≡ gone_if (list_any (listens_on q) (holding.Listener n ∷ hs)) (event_at t q)
+    own q = elim (either (q == n)) [
+      | inl g ↦ rw g (twice_marked (list_any (listens_on q) hs) (event_at t q))
+      | inr g ↦ rw g (ap (gone_if (list_any (listens_on q) hs)) (sym (not_marked (event_at t q))))
     ]
 
 -- ---- whose events are marked
 
-listens_as : (r : Role) (n q : ℕ) → listens_on q (thing_as r n) ≡ true → thing_as r n ≡ listener q
-listens_as role.Listener n q e = ap listener (sym (eqb_true q n e))
-listens_as role.Notifier n q e = absurd cc
+a_listener : (q : ℕ) (h : Holding) → listens_on q h ≡ true → h ≡ holding.Listener q
+a_listener q (holding.Listener n) e = ap holding.Listener (sym (eqb_true q n e))
+a_listener q (holding.Notifier n) e = absurd cc
 
-own_thing : (r : Role) (n : ℕ) → is_listening r ≡ true → thing_as r n ≡ listener n
-own_thing role.Listener n e = refl
-own_thing role.Notifier n e = absurd cc
+is_listener : (q : ℕ) (o : Option Holding) → option_map thing_in o ≡ Some (listener q) → o ≡ Some (holding.Listener q)
+is_listener q None e = absurd cc
+is_listener q (Some (holding.Listener n)) e = (let same : n ≡ q = cc in ap (λ (m : ℕ). Some (holding.Listener m)) same)
+is_listener q (Some (holding.Notifier n)) e = absurd cc
 
-listens_role : (r : Role) (n q : ℕ) → listens_on q (thing_as r n) ≡ true → (is_listening r ≡ true) × ((q == n) ≡ true)
-listens_role role.Listener n q e = (refl, e)
-listens_role role.Notifier n q e = absurd cc
-
-module _ (t : EventTable) (rows : List EventRow) (x : ScriptEvents) (count : ℕ) (sound : AreSoundEvents x count) (holds : Holds t rows x) (party : List ℕ) where
-  -- a row says what its party holds
-  says : (row : EventRow) → IsIn row rows → x.things row.party row.name ≡ Some (thing_in row)
-  says row h = one_thing row (filter (is_thing_of row.party row.name) rows) (x.things row.party row.name) (holds.things row.party row.name)
-      (in_filter (is_thing_of row.party row.name) row rows h (rw (same_to_itself row.party, same_to_itself row.name) refl))
-
-  own_listener : (row : EventRow) → IsIn row rows → is_own_listener party row ≡ true → x.things party row.name ≡ Some (listener row.event)
-  own_listener row h e =
-      let both = and_parts (bytes_eq party row.party) (is_listening row.role) e in
-      rw (same_bytes party row.party both.0) (says row h ∙ ap (λ (u : EventThing). Some u) (own_thing row.role row.event both.1))
+module _ (t : EventTable) (held : Held) (x : ScriptEvents) (count : ℕ) (sound : AreSoundEvents x count) (holds : Holds t held x) (party : List ℕ) where
+  says : (name : List ℕ) (n : ℕ) → held party name ≡ Some (holding.Listener n) → x.things party name ≡ Some (listener n)
+  says name n e = sym (holds.things party name) ∙ ap (option_map thing_in) e
 
   -- the events of the party's listeners stand
-  pub markable : AllByRecursion (IsMarkable party t) rows
-  markable = all_of (IsMarkable party t) rows (λ row h e. rw (listener_there t rows x count sound holds party row.name row.event (own_listener row h e)).0.found refl)
-
-  -- they are those of the events that the party listens on
-  whose : (q : ℕ) (st : StandingEvent) → x.session.stands q ≡ Some st → list_any (is_own_of party q) rows ≡ (st.event.held && bytes_eq party st.listener)
-  whose q st stands = by (list_any (is_own_of party q) rows) refl (st.event.held && bytes_eq party st.listener) refl
+  pub markable : (name : List ℕ) → IfSome (held party name) (IsMarkable t)
+  markable name = by (held party name) refl
     where
-      by : (a : Bool) → list_any (is_own_of party q) rows ≡ a → (b : Bool) → (st.event.held && bytes_eq party st.listener) ≡ b → a ≡ b
-      by true e true f = refl
-      by false e false f = refl
-      by true e false f = (
-          let found = any_row (is_own_of party q) rows e in
-          let both = and_parts (is_own_listener party found.0) (q == found.0.event) found.2 in
-          let mine = listener_there t rows x count sound holds party found.0.name found.0.event (own_listener found.0 found.1 both.0) in
-          let same : mine.0.st ≡ st = some_same mine.0.st st (sym mine.0.stands ∙ ap x.session.stands (sym (eqb_true q found.0.event both.1)) ∙ stands) in
-          let held : st.event.held ≡ true = subst (λ (v : StandingEvent). v.event.held ≡ true) same mine.1.held in
-          let owner : st.listener ≡ party = subst (λ (v : StandingEvent). v.listener ≡ party) same mine.1.owner in
-          let all : (st.event.held && bytes_eq party st.listener) ≡ true = rw (held, owner, same_to_itself party) refl in
-          sym all ∙ f)
-      by false e true f = (
-          let both = and_parts st.event.held (bytes_eq party st.listener) f in
-          let one : listener_rows q rows ≡ 1 = holds.listeners q ∙ ap listeners_in (event_of-some x.session.stands q st stands) ∙ rw both.0 refl in
-          let found = some_row (λ row. listens_on q (thing_in row)) rows (omega (arith, one)) in
-          let is = listens_role found.0.role found.0.event q found.2 in
-          let mine = listener_there t rows x count sound holds found.0.party found.0.name q (says found.0 found.1 ∙ ap (λ (u : EventThing). Some u) (listens_as found.0.role found.0.event q found.2)) in
-          let same : mine.0.st ≡ st = some_same mine.0.st st (sym mine.0.stands ∙ stands) in
-          let owner : st.listener ≡ found.0.party = subst (λ (v : StandingEvent). v.listener ≡ found.0.party) same mine.1.owner in
-          let own : bytes_eq party found.0.party ≡ true = rw (sym owner) both.1 in
-          let all : list_any (is_own_of party q) rows ≡ true = any_of (is_own_of party q) found.0 rows found.1 (rw (own, is.0, is.1) refl) in
-          sym e ∙ all)
+      by : (o : Option Holding) → held party name ≡ o → IfSome o (IsMarkable t)
+      by None e = tt
+      by (Some (holding.Notifier n)) e = tt
+      by (Some (holding.Listener n)) e = rw (listener_there t held x count sound holds party name n (says name n e)).0.found refl
 
-  abbrev after : ScriptEvents
-  after = events_abandoned x party
+  module _ (hs : List Holding) (each : AreFound (held party) hs) (all : AreAll (held party) hs) where
+    -- they are those of the events that the party listens on
+    whose : (q : ℕ) (st : StandingEvent) → x.session.stands q ≡ Some st → list_any (listens_on q) hs ≡ (st.event.held && bytes_eq party st.listener)
+    whose q st stands = by (list_any (listens_on q) hs) refl (st.event.held && bytes_eq party st.listener) refl
+      where
+        by : (a : Bool) → list_any (listens_on q) hs ≡ a → (b : Bool) → (st.event.held && bytes_eq party st.listener) ≡ b → a ≡ b
+        by true e true f = refl
+        by false e false f = refl
+        by true e false f = (
+            let found = some_of (listens_on q) hs e in
+            let named = each found.0 found.1 in
+            let is : held party named.0 ≡ Some (holding.Listener q) = named.1 ∙ ap (λ (h : Holding). Some h) (a_listener q found.0 found.2) in
+            let mine = listener_there t held x count sound holds party named.0 q (says named.0 q is) in
+            let same : mine.0.st ≡ st = some_same mine.0.st st (sym mine.0.stands ∙ stands) in
+            let listens : st.event.held ≡ true = subst (λ (v : StandingEvent). v.event.held ≡ true) same mine.1.held in
+            let owner : st.listener ≡ party = subst (λ (v : StandingEvent). v.listener ≡ party) same mine.1.owner in
+            let yes : (st.event.held && bytes_eq party st.listener) ≡ true = rw (listens, owner, same_to_itself party) refl in
+            sym yes ∙ f)
+        by false e true f = (
+            let both = and_parts st.event.held (bytes_eq party st.listener) f in
+            let named = sound.listeners q st stands both.0 in
+            let mine : x.things party named.0 ≡ Some (listener q) = subst (λ (p : List ℕ). x.things p named.0 ≡ Some (listener q)) (sym (same_bytes party st.listener both.1)) named.1 in
+            let is : held party named.0 ≡ Some (holding.Listener q) = is_listener q (held party named.0) (holds.things party named.0 ∙ mine) in
+            let yes : list_any (listens_on q) hs ≡ true = any_of (listens_on q) (holding.Listener q) hs (all named.0 (holding.Listener q) is) (eqb_self q) in
+            sym e ∙ yes)
 
-  gone_same : (e : Event) (b : Bool) → where_held (Some (record e { gone = e.gone || b })) ≡ gone_if b (where_held (Some e))
-  gone_same e b = elim (either (has_holder e)) [
-    | inl f ↦ rw f (mark b)
-    | inr f ↦ rw f refl
-  ]
-    where
-      or_true : (a : Bool) → (a || true) ≡ true
-      or_true true = refl
-      or_true false = refl
+    abbrev after : ScriptEvents
+    after = events_abandoned x party
 
-      or_false : (a : Bool) → (a || false) ≡ a
-      or_false true = refl
-      or_false false = refl
+    gone_same : (e : Event) (b : Bool) → where_held (Some (record e { gone = e.gone || b })) ≡ gone_if b (where_held (Some e))
+    gone_same e b = elim (either (has_holder e)) [
+      | inl f ↦ rw f (mark b)
+      | inr f ↦ rw f refl
+    ]
+      where
+        or_true : (a : Bool) → (a || true) ≡ true
+        or_true true = refl
+        or_true false = refl
 
-      mark : (b : Bool) → Some (record e { gone = e.gone || b }) ≡ Some (if b then with_gone e else e)
-      mark true = ap (λ (g : Bool). Some (record e { gone = g })) (or_true e.gone)
-      mark false = ap (λ (g : Bool). Some (record e { gone = g })) (or_false e.gone)
+        or_false : (a : Bool) → (a || false) ≡ a
+        or_false true = refl
+        or_false false = refl
 
-  stood : (q : ℕ) (o : Option StandingEvent) → x.session.stands q ≡ o → event_of after.session.stands q ≡ elim o as (λ _. Option Event) [ None ↦ None | Some st ↦ Some (gone_with party st).event ]
-  stood q None e = rw (event_of, e) refl
-  stood q (Some st) e = rw (event_of, e) refl
+        mark : (b : Bool) → Some (record e { gone = e.gone || b }) ≡ Some (if b then with_gone e else e)
+        mark true = ap (λ (g : Bool). Some (record e { gone = g })) (or_true e.gone)
+        mark false = ap (λ (g : Bool). Some (record e { gone = g })) (or_false e.gone)
 
-  events_after : (u : EventTable) → IsMarked party rows t u → (q : ℕ) → event_at u q ≡ where_held (event_of after.session.stands q)
-  events_after u m q = by (x.session.stands q) refl
-    where
-      by : (o : Option StandingEvent) → x.session.stands q ≡ o → event_at u q ≡ where_held (event_of after.session.stands q)
-      by None e = m.events q ∙ ap (gone_if (list_any (is_own_of party q) rows)) (holds.events q ∙ ap where_held (event_of-none x.session.stands q e)) ∙ ap where_held (sym (stood q None e))
-      by (Some st) e = m.events q ∙ ap (gone_if (list_any (is_own_of party q) rows)) (holds.events q ∙ ap where_held (event_of-some x.session.stands q st e))
-          ∙ ap (λ (b : Bool). gone_if b (where_held (Some st.event))) (whose q st e) ∙ sym (gone_same st.event (st.event.held && bytes_eq party st.listener)) ∙ ap where_held (sym (stood q (Some st) e))
+    stood : (q : ℕ) (o : Option StandingEvent) → x.session.stands q ≡ o → event_of after.session.stands q ≡ elim o as (λ _. Option Event) [ None ↦ None | Some st ↦ Some (gone_with party st).event ]
+    stood q None e = rw (event_of, e) refl
+    stood q (Some st) e = rw (event_of, e) refl
 
-  same_counts : (f : Option Event → ℕ) → ((e : Event) (b : Bool) → f (Some (record e { gone = b })) ≡ f (Some e)) → (q : ℕ) → f (event_of x.session.stands q) ≡ f (event_of after.session.stands q)
-  same_counts f keeps q = by (x.session.stands q) refl
-    where
-      by : (o : Option StandingEvent) → x.session.stands q ≡ o → f (event_of x.session.stands q) ≡ f (event_of after.session.stands q)
-      by None e = ap f (event_of-none x.session.stands q e ∙ sym (stood q None e))
-      by (Some st) e = ap f (event_of-some x.session.stands q st e) ∙ sym (keeps st.event (st.event.gone || (st.event.held && bytes_eq party st.listener))) ∙ ap f (sym (stood q (Some st) e))
+    events_after : (u : EventTable) → IsMarked hs t u → (q : ℕ) → event_at u q ≡ where_held (event_of after.session.stands q)
+    events_after u m q = by (x.session.stands q) refl
+      where
+        by : (o : Option StandingEvent) → x.session.stands q ≡ o → event_at u q ≡ where_held (event_of after.session.stands q)
+        by None e = m.events q ∙ ap (gone_if (list_any (listens_on q) hs)) (holds.events q ∙ ap where_held (event_of-none x.session.stands q e)) ∙ ap where_held (sym (stood q None e))
+        by (Some st) e = m.events q ∙ ap (gone_if (list_any (listens_on q) hs)) (holds.events q ∙ ap where_held (event_of-some x.session.stands q st e))
+            ∙ ap (λ (b : Bool). gone_if b (where_held (Some st.event))) (whose q st e) ∙ sym (gone_same st.event (st.event.held && bytes_eq party st.listener)) ∙ ap where_held (sym (stood q (Some st) e))
 
-  pub abandoned : (u : EventTable) → u ≡ marked_gone party rows t → Holds u rows after
-  abandoned u is =
-      let m : IsMarked party rows t u = subst (λ (v : EventTable). IsMarked party rows t v) (sym is) (marks party rows t holds.once) in
-      record {
-        once = m.once;
-        events = events_after u m;
-        drawn = m.drawn ∙ holds.drawn;
-        names = λ k text. ap (λ (names : List (List ℕ × ℕ)). at names text) (m.names k) ∙ holds.names k text;
-        things = holds.things;
-        listeners = λ q. holds.listeners q ∙ same_counts listeners_in (λ e b. refl) q;
-        notifiers = λ q. holds.notifiers q ∙ same_counts notifiers_in (λ e b. refl) q;
-      }
+    pub abandoned : (u : EventTable) → u ≡ marked_gone hs t → Holds u held after
+    abandoned u is =
+        let m : IsMarked hs t u = subst (λ (v : EventTable). IsMarked hs t v) (sym is) (marks hs t holds.once) in
+        record {
+          once = m.once;
+          events = events_after u m;
+          drawn = m.drawn ∙ holds.drawn;
+          names = λ k text. ap (λ (names : List (List ℕ × ℕ)). at names text) (m.names k) ∙ holds.names k text;
+          things = holds.things;
+        }

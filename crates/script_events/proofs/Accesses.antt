@@ -1,17 +1,16 @@
 -- What parties hold after an access to an event: the same, with the event's memory changed.
-use Rattle.std.proofs.Common.{◌≡◌, ℕ, Bool, true, false, List, [], ◌∷◌, ◌++◌, length, refl, sym, ap, ◌∙◌, Some, inl, inr}
+use Rattle.std.proofs.Common.{◌≡◌, ℕ, Bool, true, false, List, [], ◌∷◌, ◌++◌, length, refl, sym, ap, ◌∙◌, Option, Some, inl, inr}
 use Rattle.std.specs.Prelude.{if◌then◌else◌, ◌==◌, ◌||◌, not, nat_lt}
 use Rattle.board_names.specs.Table.{at}
 use Rattle.board_event_model.specs.declared.access.EventAccess.{EventAccess}
 use Rattle.board_event_model.specs.declared.access.EventAccess.TheVariants as access
 use Rattle.board_event_model.specs.EventMemory.{Event, after, has_holder}
 use Rattle.board_event_model.specs.EventSessions.{change_at, event_of}
-use Rattle.board_event_model.proofs.QuietLemmas.{eqb_self, eqb_true}
+use Rattle.board_event_model.proofs.QuietLemmas.{eqb_self}
 use Rattle.board_event_core.specs.EventTable.{EventTable, changed, event_at}
 use Rattle.script_model.specs.ScriptEvents.{ScriptEvents}
-use Rattle.script_events.specs.declared.rows.EventRow.{EventRow}
-use Rattle.script_events.specs.PartyEvents.{Holds, as_list, listeners_in, notifiers_in, where_held}
-use Rattle.script_events.proofs.Lists.{either}
+use Rattle.script_events.specs.PartyEvents.{Held, Holds, where_held}
+use Rattle.script_events.proofs.Options.{either}
 use Rattle.script_events.proofs.TableCalls.{IsChange, change}
 use Rattle.script_events.proofs.Holding.{IsThere, event_of-some, other_change, own_change}
 
@@ -44,7 +43,7 @@ kept_after e access.Pop = record { name = refl; held = refl; notifiers = refl }
 same_held : (e f : Event) → IsSameHeld e f → has_holder f ≡ has_holder e
 same_held e f same = rw (same.held, same.notifiers) refl
 
-module _ (t u : EventTable) (rows : List EventRow) (x y : ScriptEvents) (holds : Holds t rows x) (n : ℕ) (a : EventAccess) (there : IsThere t x n) (is : u ≡ changed t n (λ e. after e a))
+module _ (t u : EventTable) (held : Held) (x y : ScriptEvents) (holds : Holds t held x) (n : ℕ) (a : EventAccess) (there : IsThere t x n) (is : u ≡ changed t n (λ e. after e a))
     (stands : (q : ℕ) → y.session.stands q ≡ change_at x.session.stands n (λ e. after e a) q) (count : y.session.count ≡ x.session.count) (names : y.names ≡ x.names) (things : y.things ≡ x.things) where
   abbrev e : Event
   e = there.st.event
@@ -67,10 +66,7 @@ module _ (t u : EventTable) (rows : List EventRow) (x y : ScriptEvents) (holds :
   other : (q : ℕ) → (q == n) ≡ false → event_of y.session.stands q ≡ event_of x.session.stands q
   other q f = moved q ∙ other_change x.session.stands n next q f
 
-  own_was : (q : ℕ) → (q == n) ≡ true → event_of x.session.stands q ≡ Some e
-  own_was q f = ap (event_of x.session.stands) (eqb_true q n f) ∙ was
-
-  pub accessed : Holds u rows y
+  pub accessed : Holds u held y
   accessed = record {
     once = table.once;
     events = λ q. table.events q ∙ elim (either (q == n)) as (λ _. (if q == n then Some (next e) else event_at t q) ≡ where_held (event_of y.session.stands q)) [
@@ -79,15 +75,7 @@ module _ (t u : EventTable) (rows : List EventRow) (x y : ScriptEvents) (holds :
     ];
     drawn = table.drawn ∙ holds.drawn ∙ sym count;
     names = λ k text. ap (λ (names : List (List ℕ × ℕ)). at names text) (table.names k) ∙ holds.names k text ∙ ap (λ f. f k text) (sym names);
-    things = λ p m. holds.things p m ∙ ap (λ f. as_list (f p m)) (sym things);
-    listeners = λ q. holds.listeners q ∙ elim (either (q == n)) as (λ _. listeners_in (event_of x.session.stands q) ≡ listeners_in (event_of y.session.stands q)) [
-      | inl f ↦ rw (own q f, own_was q f, (kept_after e a).held) refl
-      | inr f ↦ rw (other q f) refl
-    ];
-    notifiers = λ q. holds.notifiers q ∙ elim (either (q == n)) as (λ _. notifiers_in (event_of x.session.stands q) ≡ notifiers_in (event_of y.session.stands q)) [
-      | inl f ↦ rw (own q f, own_was q f, (kept_after e a).notifiers) refl
-      | inr f ↦ rw (other q f) refl
-    ];
+    things = λ p m. holds.things p m ∙ ap (λ f. f p m) (sym things);
   }
 
   -- the event stands in the table as it is now

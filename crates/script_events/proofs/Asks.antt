@@ -2,6 +2,7 @@
 use Rattle.std.proofs.Common.{◌≡◌, ℕ, ◌+◌, ◌<◌, ◌≤◌, true, false, List, [], ◌∷◌, ◌++◌, refl, sym, ap, subst, ◌∙◌, Option, Some, None, inl, inr, arith}
 use Rattle.std.specs.Prelude.{if◌then◌else◌, ◌==◌, ◌^◌, ◌-◌, nat_lt, Result, Ok, Err, IsSomeAnd}
 use Rattle.board_layout.specs.Answer.{Refuses}
+use Rattle.board_model.specs.Things.{with_at}
 use Rattle.board_names.specs.Table.{at}
 use Rattle.board_event_model.specs.declared.kind.EventKind.{EventKind}
 use Rattle.board_event_model.specs.EventMemory.{Event, has_holder, new_event}
@@ -17,13 +18,12 @@ use Rattle.script_model.specs.ScriptEvents.{EventThing, ScriptEvents, listener, 
 use Rattle.script_model.specs.ScriptEvents as script
 use Rattle.script_model.specs.SoundEvents.{AreSoundEvents}
 use Rattle.script_model.specs.declared.reply.EventReply.TheVariants as reply
-use Rattle.script_events.specs.declared.rows.EventRow.{EventRow}
-use Rattle.script_events.specs.declared.rows.Role.TheVariants as role
-use Rattle.script_events.specs.Calls.{AnswersAsk, HasFewNotifiers, IsAsked, Makes}
-use Rattle.script_events.specs.PartyEvents.{Holds, listener_rows, listeners_in, listens_on, notifier_rows, notifiers_in, notifies_on, thing_in, where_held}
-use Rattle.script_events.proofs.Lists.{either}
+use Rattle.script_events.specs.declared.rows.Holding.TheVariants as holding
+use Rattle.script_events.specs.Calls.{AnswersAsk, HasAt, HasFewNotifiers, IsAsked, Makes}
+use Rattle.script_events.specs.PartyEvents.{Held, Holds, where_held}
+use Rattle.script_events.proofs.Options.{either}
 use Rattle.script_events.proofs.TableCalls.{HasNames, IsChange, IsListened, change, listening}
-use Rattle.script_events.proofs.Holding.{count_more, event_of-none, event_of-some, one_if, other_change, own_change, things_more}
+use Rattle.script_events.proofs.Holding.{event_of-none, event_of-some, other_change, own_change, things_at}
 
 -- ---- a new event
 
@@ -33,8 +33,8 @@ event_of-listen s p k name max q = elim (either (q == s.count + 1)) [
   | inr f ↦ rw (f, event_of) refl
 ]
 
-module _ (t u : EventTable) (rows : List EventRow) (x : ScriptEvents) (count : ℕ) (sound : AreSoundEvents x count) (holds : Holds t rows x) (party name : List ℕ) (k : EventKind) (event : List ℕ) (max : ℕ)
-    (unheld : x.names k event ≡ None) (fresh : x.things party name ≡ None) (is : u ≡ table_listened t k event max) where
+module _ (t u : EventTable) (held held' : Held) (x : ScriptEvents) (count : ℕ) (sound : AreSoundEvents x count) (holds : Holds t held x) (party name : List ℕ) (k : EventKind) (event : List ℕ) (max : ℕ)
+    (unheld : x.names k event ≡ None) (is : u ≡ table_listened t k event max) where
   free : (o : Option StandingEvent) → x.session.stands (x.session.count + 1) ≡ o → x.session.stands (x.session.count + 1) ≡ None
   free None e = e
   free (Some st) e = absurd (let low = sound.numbered (x.session.count + 1) st e in omega arith)
@@ -45,9 +45,6 @@ module _ (t u : EventTable) (rows : List EventRow) (x : ScriptEvents) (count : �
   new_table : IsListened t u k event max
   new_table = subst (λ (v : EventTable). IsListened t v k event max) (sym is)
       (listening t k event max holds.once (holds.events (t.drawn + 1) ∙ ap (λ (m : ℕ). where_held (event_of x.session.stands (m + 1))) holds.drawn ∙ ap where_held no_event) (holds.names k event ∙ unheld))
-
-  abbrev row : ℕ → EventRow
-  row n = record { party = party; name = name; role = role.Listener; event = n }
 
   abbrev after : ScriptEvents
   after = with_listener x party name k event max
@@ -60,39 +57,23 @@ module _ (t u : EventTable) (rows : List EventRow) (x : ScriptEvents) (count : �
         | inr f ↦ rw (event_of-listen x.session party k event max q) (rw f (holds.events q))
       ]
 
-  listeners : (q : ℕ) → listener_rows q (rows ++ row (x.session.count + 1) ∷ []) ≡ listeners_in (event_of after.session.stands q)
-  listeners q = count_more (λ (r : EventRow). listens_on q (thing_in r)) rows (row (x.session.count + 1)) ∙ ap (λ (m : ℕ). m + one_if (q == x.session.count + 1)) (holds.listeners q) ∙ elim (either (q == x.session.count + 1)) as (λ _. listeners_in (event_of x.session.stands q) + one_if (q == x.session.count + 1) ≡ listeners_in (event_of after.session.stands q)) [
-    | inl f ↦ rw (event_of-listen x.session party k event max q) (rw (f, eqb_true q (x.session.count + 1) f, no_event) refl)
-    | inr f ↦ rw (event_of-listen x.session party k event max q) (rw f (omega arith))
-  ]
-
-  notifiers : (q : ℕ) → notifier_rows q (rows ++ row (x.session.count + 1) ∷ []) ≡ notifiers_in (event_of after.session.stands q)
-  notifiers q = count_more (λ (r : EventRow). notifies_on q (thing_in r)) rows (row (x.session.count + 1)) ∙ ap (λ (m : ℕ). m + 0) (holds.notifiers q) ∙ elim (either (q == x.session.count + 1)) as (λ _. notifiers_in (event_of x.session.stands q) + 0 ≡ notifiers_in (event_of after.session.stands q)) [
-    | inl f ↦ rw (event_of-listen x.session party k event max q) (rw (f, eqb_true q (x.session.count + 1) f, no_event) refl)
-    | inr f ↦ rw (event_of-listen x.session party k event max q) (rw f (omega arith))
-  ]
-
   -- a listener more
-  pub listener_more : (n : ℕ) → n ≡ t.drawn + 1 → Holds u (rows ++ row n ∷ []) after
-  listener_more n number = subst (λ (m : ℕ). Holds u (rows ++ row m ∷ []) after) (sym (number ∙ ap (λ (m : ℕ). m + 1) holds.drawn)) (record {
+  pub listener_more : (n : ℕ) → n ≡ t.drawn + 1 → HasAt held held' party name (Some (holding.Listener n)) → Holds u held' after
+  listener_more n number has = record {
     once = new_table.once;
     events = events;
     drawn = new_table.drawn ∙ ap (λ (m : ℕ). m + 1) holds.drawn;
     names = subst (λ (m : ℕ). HasNames u (name_held x.names k event (Some (m + 1)))) holds.drawn (new_table.names x.names holds.names);
-    things = things_more party name rows x.things holds.things fresh (row (x.session.count + 1)) refl refl;
-    listeners = listeners;
-    notifiers = notifiers;
-  })
+    things = things_at held held' x.things holds.things party name (Some (holding.Listener (x.session.count + 1)))
+        (subst (λ (m : ℕ). HasAt held held' party name (Some (holding.Listener m))) (number ∙ ap (λ (m : ℕ). m + 1) holds.drawn) has);
+  }
 
 -- ---- a notifier more
 
-module _ (t u : EventTable) (rows : List EventRow) (x : ScriptEvents) (holds : Holds t rows x) (party name : List ℕ) (n : ℕ) (e : Event)
-    (stands : event_of x.session.stands n ≡ Some e) (held : e.held ≡ true) (fresh : x.things party name ≡ None) (is : u ≡ changed t n with_notifier) where
+module _ (t u : EventTable) (held held' : Held) (x : ScriptEvents) (holds : Holds t held x) (party name : List ℕ) (n : ℕ) (e : Event)
+    (stands : event_of x.session.stands n ≡ Some e) (listens : e.held ≡ true) (is : u ≡ changed t n with_notifier) where
   more_table : IsChange t u n (with_notifier e)
-  more_table = change t u n e with_notifier holds.once (holds.events n ∙ ap where_held stands ∙ rw held refl) is
-
-  abbrev more_row : EventRow
-  more_row = record { party = party; name = name; role = role.Notifier; event = n }
+  more_table = change t u n e with_notifier holds.once (holds.events n ∙ ap where_held stands ∙ rw listens refl) is
 
   abbrev with_more : ScriptEvents
   with_more = script.notifier_more x party name n e
@@ -106,35 +87,16 @@ module _ (t u : EventTable) (rows : List EventRow) (x : ScriptEvents) (holds : H
   other : (q : ℕ) → (q == n) ≡ false → event_of with_more.session.stands q ≡ event_of x.session.stands q
   other q f = other_change x.session.stands n more q f
 
-  own_was : (q : ℕ) → (q == n) ≡ true → event_of x.session.stands q ≡ Some e
-  own_was q f = ap (event_of x.session.stands) (eqb_true q n f) ∙ stands
-
-  more_listeners : (q : ℕ) → listeners_in (event_of x.session.stands q) + 0 ≡ listeners_in (event_of with_more.session.stands q)
-  more_listeners q = elim (either (q == n)) [
-    | inl f ↦ (let a : listeners_in (event_of x.session.stands q) ≡ 1 = ap listeners_in (own_was q f) ∙ rw held refl in
-        let b : listeners_in (event_of with_more.session.stands q) ≡ 1 = ap listeners_in (own q f) ∙ rw held refl in omega (arith, a, b))
-    | inr f ↦ (let a : listeners_in (event_of with_more.session.stands q) ≡ listeners_in (event_of x.session.stands q) = ap listeners_in (other q f) in omega (arith, a))
-  ]
-
-  more_notifiers : (q : ℕ) → notifiers_in (event_of x.session.stands q) + one_if (q == n) ≡ notifiers_in (event_of with_more.session.stands q)
-  more_notifiers q = elim (either (q == n)) [
-    | inl f ↦ (let a : notifiers_in (event_of x.session.stands q) ≡ e.notifiers = ap notifiers_in (own_was q f) in
-        let b : notifiers_in (event_of with_more.session.stands q) ≡ e.notifiers + 1 = ap notifiers_in (own q f) in rw f (omega (arith, a, b)))
-    | inr f ↦ (let a : notifiers_in (event_of with_more.session.stands q) ≡ notifiers_in (event_of x.session.stands q) = ap notifiers_in (other q f) in rw f (omega (arith, a)))
-  ]
-
-  pub notifier_more : Holds u (rows ++ more_row ∷ []) with_more
-  notifier_more = record {
+  pub notifier_more : HasAt held held' party name (Some (holding.Notifier n)) → Holds u held' with_more
+  notifier_more has = record {
     once = more_table.once;
     events = λ q. more_table.events q ∙ elim (either (q == n)) as (λ _. (if q == n then Some (with_notifier e) else event_at t q) ≡ where_held (event_of with_more.session.stands q)) [
-      | inl f ↦ rw (f, own q f, held) refl
+      | inl f ↦ rw (f, own q f, listens) refl
       | inr f ↦ rw (f, other q f) (holds.events q)
     ];
     drawn = more_table.drawn ∙ holds.drawn;
     names = λ k text. ap (λ (names : List (List ℕ × ℕ)). at names text) (more_table.names k) ∙ holds.names k text;
-    things = things_more party name rows x.things holds.things fresh more_row refl refl;
-    listeners = λ q. count_more (λ (r : EventRow). listens_on q (thing_in r)) rows more_row ∙ ap (λ (m : ℕ). m + 0) (holds.listeners q) ∙ more_listeners q;
-    notifiers = λ q. count_more (λ (r : EventRow). notifies_on q (thing_in r)) rows more_row ∙ ap (λ (m : ℕ). m + one_if (q == n)) (holds.notifiers q) ∙ more_notifiers q;
+    things = things_at held held' x.things holds.things party name (Some (holding.Notifier n)) has;
   }
 
 -- ---- what the table answers
@@ -163,21 +125,20 @@ notifier_numbered n m e h = elim (either e.held) [
   ]
 ]
 
-pub listen_done : (t u : EventTable) (rows rows' : List EventRow) (party name : List ℕ) (k : EventKind) (event : List ℕ) (max n : ℕ) → Ok n ≡ listen_answer t (at (names_of k t) event) → u ≡ table_listened t k event max
-    → rows' ≡ rows ++ record { party = party; name = name; role = role.Listener; event = n } ∷ [] → AnswersAsk t rows u rows' party (to_listen name k event max) reply.Done
-listen_done t u rows rows' party name k event max n answer is more x count sound asked holds =
+pub listen_done : (t u : EventTable) (held held' : Held) (party name : List ℕ) (k : EventKind) (event : List ℕ) (max n : ℕ) → Ok n ≡ listen_answer t (at (names_of k t) event) → u ≡ table_listened t k event max
+    → HasAt held held' party name (Some (holding.Listener n)) → AnswersAsk t held u held' party (to_listen name k event max) reply.Done
+listen_done t u held held' party name k event max n answer is more x count sound asked holds =
     let drawn = listen_drawn t n (at (names_of k t) event) answer in
     let unheld : x.names k event ≡ None = sym (holds.names k event) ∙ drawn.0 in
-    let fresh = sound.unheld party (to_listen name k event max) asked in
-    let after : Holds u rows' (with_listener x party name k event max) = rw more (listener_more t u rows x count sound holds party name k event max unheld fresh is n drawn.1) in
+    let after = listener_more t u held held' x count sound holds party name k event max unheld is n drawn.1 more in
     record {
       told_is = rw unheld refl;
       held = rw unheld after;
     }
 
 -- a free name makes a listener
-pub listen_makes : (t : EventTable) (rows : List EventRow) (party name : List ℕ) (k : EventKind) (event : List ℕ) (max : ℕ) → at (names_of k t) event ≡ None → Makes t rows party (to_listen name k event max)
-listen_makes t rows party name k event max none x count sound asked holds =
+pub listen_makes : (t : EventTable) (held : Held) (party name : List ℕ) (k : EventKind) (event : List ℕ) (max : ℕ) → at (names_of k t) event ≡ None → Makes t held party (to_listen name k event max)
+listen_makes t held party name k event max none x count sound asked holds =
     let unheld : x.names k event ≡ None = sym (holds.names k event) ∙ none in
     rw unheld refl
 
@@ -186,23 +147,23 @@ pub listen_wanted : (t : EventTable) (o : Option ℕ) → Refuses (no_listener l
 listen_wanted t None h = refl
 listen_wanted t (Some m) h = absurd (let e : no_listener listener_error.OutOfMemory ≡ no_listener listener_error.AlreadyExists = h listener_error.AlreadyExists refl in cc)
 
-pub listen_refused : (t u : EventTable) (rows rows' : List EventRow) (party name : List ℕ) (k : EventKind) (event : List ℕ) (max : ℕ) → no_listener listener_error.AlreadyExists ≡ listen_answer t (at (names_of k t) event) → u ≡ t → rows' ≡ rows
-    → AnswersAsk t rows u rows' party (to_listen name k event max) reply.AlreadyExists
-listen_refused t u rows rows' party name k event max answer is same x count sound asked holds = by (at (names_of k t) event) refl answer
+pub listen_refused : (t u : EventTable) (held held' : Held) (party name : List ℕ) (k : EventKind) (event : List ℕ) (max : ℕ) → no_listener listener_error.AlreadyExists ≡ listen_answer t (at (names_of k t) event) → u ≡ t → held' ≡ held
+    → AnswersAsk t held u held' party (to_listen name k event max) reply.AlreadyExists
+listen_refused t u held held' party name k event max answer is same x count sound asked holds = by (at (names_of k t) event) refl answer
   where
-    by : (o : Option ℕ) → at (names_of k t) event ≡ o → no_listener listener_error.AlreadyExists ≡ listen_answer t o → IsAsked u rows' x party (to_listen name k event max) reply.AlreadyExists
+    by : (o : Option ℕ) → at (names_of k t) event ≡ o → no_listener listener_error.AlreadyExists ≡ listen_answer t o → IsAsked u held' x party (to_listen name k event max) reply.AlreadyExists
     by None e h = absurd (elim (either (nat_lt t.drawn (2 ^ 64 - 2))) [
       | inl f ↦ (let g : no_listener listener_error.AlreadyExists ≡ Ok (t.drawn + 1) = (rw f at h) in cc)
       | inr f ↦ (let g : no_listener listener_error.AlreadyExists ≡ Err listener_error.NumbersSpent = (rw f at h) in cc)
     ])
     by (Some m) e h =
-        let held : x.names k event ≡ Some m = sym (holds.names k event) ∙ e in
-        let after : Holds u rows' x = rw (is, same) holds in
-        record { told_is = rw held refl; held = rw held after }
+        let named : x.names k event ≡ Some m = sym (holds.names k event) ∙ e in
+        let after : Holds u held' x = rw (is, same) holds in
+        record { told_is = rw named refl; held = rw named after }
 
 -- what stands under the name of a script's events
-named_event : (t : EventTable) (rows : List EventRow) (x : ScriptEvents) → Holds t rows x → (n : ℕ) (e : Event) → event_at t n ≡ Some e → event_of x.session.stands n ≡ Some e
-named_event t rows x holds n e found = by (event_of x.session.stands n) refl (sym (holds.events n) ∙ found)
+named_event : (t : EventTable) (held : Held) (x : ScriptEvents) → Holds t held x → (n : ℕ) (e : Event) → event_at t n ≡ Some e → event_of x.session.stands n ≡ Some e
+named_event t held x holds n e found = by (event_of x.session.stands n) refl (sym (holds.events n) ∙ found)
   where
     by : (o : Option Event) → event_of x.session.stands n ≡ o → where_held o ≡ Some e → event_of x.session.stands n ≡ Some e
     by None f h = absurd cc
@@ -212,8 +173,8 @@ named_event t rows x holds n e found = by (event_of x.session.stands n) refl (sy
     ]
 
 -- and no event has more notifiers than lines
-pub few_notifiers : (t : EventTable) (rows : List EventRow) (x : ScriptEvents) (count : ℕ) → count < 2 ^ 63 → AreSoundEvents x count → Holds t rows x → HasFewNotifiers t
-few_notifiers t rows x count few sound holds n e found = by (x.session.stands n) refl (named_event t rows x holds n e found)
+pub few_notifiers : (t : EventTable) (held : Held) (x : ScriptEvents) (count : ℕ) → count < 2 ^ 63 → AreSoundEvents x count → Holds t held x → HasFewNotifiers t
+few_notifiers t held x count few sound holds n e found = by (x.session.stands n) refl (named_event t held x holds n e found)
   where
     by : (o : Option StandingEvent) → x.session.stands n ≡ o → event_of x.session.stands n ≡ Some e → e.notifiers < 2 ^ 63
     by None f h = absurd (let none : None ≡ Some e = sym (event_of-none x.session.stands n f) ∙ h in cc)
@@ -222,30 +183,28 @@ few_notifiers t rows x count few sound holds n e found = by (x.session.stands n)
         let is : st.event.notifiers ≡ e.notifiers = ap (λ (d : Event). d.notifiers) same in
         omega (arith, low, few, is))
 
-pub notifier_done : (t u : EventTable) (rows rows' : List EventRow) (party name : List ℕ) (k : EventKind) (event : List ℕ) (n : ℕ) → IsNotifierAnswer t (Ok n) (at (names_of k t) event) → u ≡ changed t n with_notifier
-    → rows' ≡ rows ++ record { party = party; name = name; role = role.Notifier; event = n } ∷ [] → AnswersAsk t rows u rows' party (to_notify name k event) reply.Done
-notifier_done t u rows rows' party name k event n answer is more x count sound asked holds = by (at (names_of k t) event) refl answer
+pub notifier_done : (t u : EventTable) (held held' : Held) (party name : List ℕ) (k : EventKind) (event : List ℕ) (n : ℕ) → IsNotifierAnswer t (Ok n) (at (names_of k t) event) → u ≡ changed t n with_notifier
+    → HasAt held held' party name (Some (holding.Notifier n)) → AnswersAsk t held u held' party (to_notify name k event) reply.Done
+notifier_done t u held held' party name k event n answer is more x count sound asked holds = by (at (names_of k t) event) refl answer
   where
-    fresh : x.things party name ≡ None
-    fresh = sound.unheld party (to_notify name k event) asked
-
-    there : (m : ℕ) → at (names_of k t) event ≡ Some m → (o : Option Event) → event_at t m ≡ o → IsSomeAnd o (λ e. Ok n ≡ notifier_of m e) → IsAsked u rows' x party (to_notify name k event) reply.Done
+    there : (m : ℕ) → at (names_of k t) event ≡ Some m → (o : Option Event) → event_at t m ≡ o → IsSomeAnd o (λ e. Ok n ≡ notifier_of m e) → IsAsked u held' x party (to_notify name k event) reply.Done
     there m f None g h = absurd h
     there m f (Some e) g h =
         let found = notifier_numbered n m e h in
-        let stands : event_of x.session.stands n ≡ Some e = rw found.1 (named_event t rows x holds m e g) in
+        let stands : event_of x.session.stands n ≡ Some e = rw found.1 (named_event t held x holds m e g) in
         let named : x.names k event ≡ Some n = sym (holds.names k event) ∙ f ∙ ap (λ (i : ℕ). Some i) (sym found.1) in
-        let after : Holds u rows' (script.notifier_more x party name n e) = rw more (notifier_more t u rows x holds party name n e stands found.0 fresh is) in
+        let after = notifier_more t u held held' x holds party name n e stands found.0 is more in
         record { told_is = rw (named, stands, found.0) refl; held = rw (named, stands, found.0) after }
 
-    by : (o : Option ℕ) → at (names_of k t) event ≡ o → IsNotifierAnswer t (Ok n) o → IsAsked u rows' x party (to_notify name k event) reply.Done
+    by : (o : Option ℕ) → at (names_of k t) event ≡ o → IsNotifierAnswer t (Ok n) o → IsAsked u held' x party (to_notify name k event) reply.Done
     by None f h = absurd cc
     by (Some m) f h = there m f (event_at t m) refl h
 
 -- where the table makes a notifier, so does the ask
-pub notifier_makes : (t : EventTable) (rows : List EventRow) (party name : List ℕ) (k : EventKind) (event : List ℕ) (n : ℕ) → IsNotifierAnswer t (Ok n) (at (names_of k t) event) → Makes t rows party (to_notify name k event)
-notifier_makes t rows party name k event n answer x count sound asked holds =
-    sym (notifier_done t (changed t n with_notifier) rows _ party name k event n answer refl refl x count sound asked holds).told_is
+pub notifier_makes : (t : EventTable) (held : Held) (party name : List ℕ) (k : EventKind) (event : List ℕ) (n : ℕ) → IsNotifierAnswer t (Ok n) (at (names_of k t) event) → Makes t held party (to_notify name k event)
+notifier_makes t held party name k event n answer x count sound asked holds =
+    let here : HasAt held (with_at held party name (Some (holding.Notifier n))) party name (Some (holding.Notifier n)) = λ p m. refl in
+    sym (notifier_done t (changed t n with_notifier) held (with_at held party name (Some (holding.Notifier n))) party name k event n answer refl here x count sound asked holds).told_is
 
 -- a refusal that is told
 refused_by : (m : ℕ) (e : Event) → no_notifier notifier_error.DoesNotExist ≡ notifier_of m e → e.held ≡ false
@@ -257,22 +216,22 @@ refused_by m e h = elim (either e.held) [
   ])
 ]
 
-pub notifier_refused : (t u : EventTable) (rows rows' : List EventRow) (party name : List ℕ) (k : EventKind) (event : List ℕ) → IsNotifierAnswer t (Err notifier_error.DoesNotExist) (at (names_of k t) event) → u ≡ t → rows' ≡ rows
-    → AnswersAsk t rows u rows' party (to_notify name k event) reply.DoesNotExist
-notifier_refused t u rows rows' party name k event answer is same x count sound asked holds = by (at (names_of k t) event) refl answer
+pub notifier_refused : (t u : EventTable) (held held' : Held) (party name : List ℕ) (k : EventKind) (event : List ℕ) → IsNotifierAnswer t (Err notifier_error.DoesNotExist) (at (names_of k t) event) → u ≡ t → held' ≡ held
+    → AnswersAsk t held u held' party (to_notify name k event) reply.DoesNotExist
+notifier_refused t u held held' party name k event answer is same x count sound asked holds = by (at (names_of k t) event) refl answer
   where
-    after : Holds u rows' x
+    after : Holds u held' x
     after = rw (is, same) holds
 
-    there : (m : ℕ) → at (names_of k t) event ≡ Some m → (o : Option Event) → event_at t m ≡ o → IsSomeAnd o (λ e. no_notifier notifier_error.DoesNotExist ≡ notifier_of m e) → IsAsked u rows' x party (to_notify name k event) reply.DoesNotExist
+    there : (m : ℕ) → at (names_of k t) event ≡ Some m → (o : Option Event) → event_at t m ≡ o → IsSomeAnd o (λ e. no_notifier notifier_error.DoesNotExist ≡ notifier_of m e) → IsAsked u held' x party (to_notify name k event) reply.DoesNotExist
     there m f None g h = absurd h
     there m f (Some e) g h =
-        let held = refused_by m e h in
-        let stands : event_of x.session.stands m ≡ Some e = named_event t rows x holds m e g in
+        let deaf = refused_by m e h in
+        let stands : event_of x.session.stands m ≡ Some e = named_event t held x holds m e g in
         let named : x.names k event ≡ Some m = sym (holds.names k event) ∙ f in
-        record { told_is = rw (named, stands, held) refl; held = rw (named, stands, held) after }
+        record { told_is = rw (named, stands, deaf) refl; held = rw (named, stands, deaf) after }
 
-    by : (o : Option ℕ) → at (names_of k t) event ≡ o → IsNotifierAnswer t (Err notifier_error.DoesNotExist) o → IsAsked u rows' x party (to_notify name k event) reply.DoesNotExist
+    by : (o : Option ℕ) → at (names_of k t) event ≡ o → IsNotifierAnswer t (Err notifier_error.DoesNotExist) o → IsAsked u held' x party (to_notify name k event) reply.DoesNotExist
     by None f h =
         let named : x.names k event ≡ None = sym (holds.names k event) ∙ f in
         record { told_is = rw named refl; held = rw named after }

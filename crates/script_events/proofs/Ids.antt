@@ -3,7 +3,7 @@ use Rattle.std.proofs.Common.{◌≡◌, ℕ, zero, suc, ◌+◌, Bool, List, []
 use Rattle.std.specs.Prelude.{if◌then◌else◌, ◌==◌, ◌-◌}
 use Rattle.std.specs.Int.{bit_at}
 use Rattle.board_event_model.specs.Ids.{ids_where}
-use Rattle.script_events.proofs.Lists.{either}
+use Rattle.script_events.proofs.Options.{either}
 
 pub ids_where-more : (p : ℕ → Bool) (at n : ℕ) → ids_where p at (suc n) ≡ ids_where p at n ++ (if p (at + n) then (at + n) ∷ [] else [])
 ids_where-more p at zero = (let e : at + 0 ≡ at = omega arith in rw e refl)

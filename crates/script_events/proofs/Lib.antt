@@ -1,9 +1,10 @@
-mod Lists
+mod Options
 mod Ids
 mod Tables
 mod TableCalls
-mod CallRows
+mod Tasks
 mod Running
+mod Maps
 mod Holding
 mod Asks
 mod Accesses

@@ -25,7 +25,7 @@ use Rattle.script_model.specs.ScriptEvents.{ScriptEvents, is_for_all}
 use Rattle.script_model.specs.SoundEvents.{AreSoundEvents}
 use Rattle.script_events.specs.Calls.{GoesOn, StartsWord, reports}
 use Rattle.script_events.specs.PartyEvents.{may_give}
-use Rattle.script_events.proofs.Lists.{either}
+use Rattle.script_events.proofs.Options.{either}
 
 -- ---- stages
 

@@ -17,7 +17,7 @@ use Rattle.board_event_core.specs.EventTable.{EventTable, changed, event_at, tab
 use Rattle.script_model.specs.ScriptEvents.{names_left, name_held, without_name}
 use Rattle.board_event_model.proofs.QuietLemmas.{eqb_true}
 use Rattle.script_events.specs.PartyEvents.{AreOnce, IsOnce}
-use Rattle.script_events.proofs.Lists.{either}
+use Rattle.script_events.proofs.Options.{either}
 use Rattle.script_events.proofs.Tables.{at_name, at_number, lookup-put, lookup-removed, once-put, once-remove, once-set}
 
 -- no name stands twice

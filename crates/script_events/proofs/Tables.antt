@@ -14,7 +14,7 @@ use Rattle.std.proofs.lemmas.Map.Lookups.{CmpEqualImpliesEq, exact_unsigned}
 use Rattle.std.proofs.lemmas.Map.Text.{is_eq-slice_cmp}
 use Rattle.board_event_model.proofs.QuietLemmas.{eqb_self, eqb_true}
 use Rattle.script_events.specs.PartyEvents.{AreOnce}
-use Rattle.script_events.proofs.Lists.{either}
+use Rattle.script_events.proofs.Options.{either}
 
 -- ---- keys
 

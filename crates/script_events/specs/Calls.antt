@@ -1,8 +1,6 @@
 -- What the parts of a call do. No clause of a public call cites what follows.
-use Rattle.std.specs.Prelude.{◌≡◌, ◌≢◌, ℕ, ◌+◌, ◌-◌, ◌*◌, ◌<◌, ◌^◌, Bool, true, false, not, ◌&&◌, ◌==◌, if◌then◌else◌, List, [], ◌∷◌, ◌++◌, Option, Some, None, IsSomeAnd, IsSome, Result, Ok, Err, ⊤}
+use Rattle.std.specs.Prelude.{◌≡◌, ◌≢◌, ℕ, ◌+◌, ◌-◌, ◌*◌, ◌<◌, ◌^◌, Bool, true, false, not, ◌&&◌, ◌==◌, if◌then◌else◌, List, [], ◌∷◌, ◌++◌, Option, Some, None, is_some, IsSomeAnd, IsSome, Result, Ok, Err, ⊤}
 use Rattle.std.specs.Int.{bit_at}
-use Rattle.std.specs.List.{filter}
-use Rattle.std.specs.Str.{bytes_eq}
 use Rattle.board_event_model.specs.declared.call.EventProgress.{EventProgress}
 use Rattle.board_event_model.specs.declared.call.EventProgress.TheVariants as progress
 use Rattle.board_event_model.specs.declared.call.NotifyStage.TheVariants as notify
@@ -10,52 +8,45 @@ use Rattle.board_event_model.specs.declared.call.WaitStage.TheVariants as wait
 use Rattle.board_event_model.specs.EventMemory.{Event, IsRight, after}
 use Rattle.board_event_model.specs.Ids.{ids_where}
 use Rattle.board_event_model.specs.EventCalls.{EventCall, a_notify, a_wait, is_last, is_timed, is_waiting, owed, reported, turn}
-use Rattle.board_event_core.specs.EventTable.{EventTable, changed, event_at, with_gone}
+use Rattle.board_event_core.specs.EventTable.{CanPerformAt, EventTable, changed, event_at, with_gone}
 use Rattle.board_event_core.specs.declared.steps.EventStep.{EventStep}
 use Rattle.board_model.specs.declared.answer.Reason.{Reason}
 use Rattle.board_model.specs.LawfulSession.{State}
+use Rattle.board_model.specs.Things.{with_at}
 use Rattle.script_model.specs.declared.line.EventRequest.{EventRequest}
 use Rattle.script_model.specs.declared.reply.EventReply.{EventReply}
 use Rattle.script_model.specs.declared.reply.EventReply.TheVariants as reply
-use Rattle.script_model.specs.ScriptEvents.{EventAsk, EventTask, ScriptEvents, act, ask, ask_made, ask_told, end_told, is_for_all, name_made, task_of}
+use Rattle.script_model.specs.ScriptEvents.{EventAsk, EventTask, ScriptEvents, act, ask, ask_made, ask_told, end_told, is_for_all, name_made, task_of, to_listen, to_notify}
 use Rattle.script_model.specs.ScriptTurns.{EventTurn, begins, refused, task_turn}
 use Rattle.script_model.specs.SoundEvents.{AreSoundEvents}
 use Rattle.script_events.specs.declared.rows.Act.{Act}
-use Rattle.script_events.specs.declared.party_events.PartyEvents.{PartyEvents}
-use Rattle.script_events.specs.declared.rows.CallRow.{CallRow}
 use Rattle.script_events.specs.declared.rows.CallTask.{CallTask}
 use Rattle.script_events.specs.declared.rows.CallTask.TheVariants as task
-use Rattle.script_events.specs.declared.rows.EventRow.{EventRow}
-use Rattle.script_events.specs.declared.rows.Role.{Role}
-use Rattle.script_events.specs.declared.rows.Role.TheVariants as role
+use Rattle.script_events.specs.declared.rows.Holding.{Holding}
+use Rattle.script_events.specs.declared.rows.Holding.TheVariants as holding
 use Rattle.script_events.specs.declared.step.Stepped.{Stepped}
 use Rattle.script_events.specs.declared.step.Stepped.TheVariants as stepped
-use Rattle.script_events.specs.PartyEvents.{Holds, IsAskedBy, event_call, is_row_of, is_thing_of, takes_board_name}
+use Rattle.script_events.specs.PartyEvents.{Held, Holds, IsAskedBy, TellsTaken, event_call, may_give}
 
 -- ---- lookups
 
--- whether a role is that of a listener
-abbrev pub is_listening : Role → Bool
-is_listening role.Listener = true
-is_listening role.Notifier = false
-
--- the event of a row that is there, where it is a listener's
-abbrev pub listened_in : Option EventRow → Option ℕ
+-- the event that something held is a listener of
+abbrev pub listened_in : Option Holding → Option ℕ
 listened_in None = None
-listened_in (Some row) = if is_listening row.role then Some row.event else None
+listened_in (Some (holding.Listener n)) = Some n
+listened_in (Some (holding.Notifier n)) = None
 
--- the event of a row that is there, where it is a notifier's
-abbrev pub notified_in : Option EventRow → Option ℕ
+-- the event that something held is a notifier of
+abbrev pub notified_in : Option Holding → Option ℕ
 notified_in None = None
-notified_in (Some row) = if is_listening row.role then None else Some row.event
+notified_in (Some (holding.Listener n)) = None
+notified_in (Some (holding.Notifier n)) = Some n
 
--- the rows but those of calls of the party
-abbrev pub calls_without : List ℕ → List CallRow → List CallRow
-calls_without party rows = filter (λ row. not (is_row_of party row)) rows
+-- ---- changes
 
--- the rows but those of what the party holds under the name
-abbrev pub things_without : List ℕ → List ℕ → List EventRow → List EventRow
-things_without party name rows = filter (λ row. not (is_thing_of party name row)) rows
+-- the party holds this under the name, and all else is held as it was
+abbrev pub HasAt : Held → Held → List ℕ → List ℕ → Option Holding → Type 0
+HasAt held held' party name x = (p n : List ℕ) → held' p n ≡ with_at held party name x p n
 
 -- ---- beginnings
 
@@ -78,7 +69,7 @@ IsChecked turn party (Ok t) = (u : EventTask) × (turn ≡ begins party u) × Is
 -- so the call of a party does, where boards hold its name or don't
 abbrev pub IsCheckedBy : ScriptEvents → List ℕ → EventRequest → Bool → Result CallTask Reason → Type 0
 IsCheckedBy x party q taken result =
-    (boards : State) → taken ≡ takes_board_name boards party (name_made q) → IsChecked (task_turn (record { boards = boards; events = x }) party q (task_of x party q)) party result
+    (boards : State) → TellsTaken taken boards party q → IsChecked (task_turn (record { boards = boards; events = x }) party q (task_of x party q)) party result
 
 -- ---- steps
 
@@ -134,51 +125,72 @@ pub record IsLeft (a : Act) (event : ℕ) (next : EventCall) (told : List ℕ) (
   pub told_is : a.told.items ≡ told
   pub waited_is : a.waited ≡ waited
 
--- the task is such a call
-abbrev pub IsLeftTask : CallTask → ℕ → EventCall → List ℕ → Bool → Type 0
-IsLeftTask (task.Listen name kind event max) n next told waited = ⊥
-IsLeftTask (task.Notifier name kind event) n next told waited = ⊥
-IsLeftTask (task.Act a) n next told waited = IsLeft a n next told waited
-
--- a row of it stands behind the others
-pub record IsRowMore (old new : List CallRow) (party : List ℕ) (event : ℕ) (next : EventCall) (told : List ℕ) (waited : Bool) : Type 0 where
-  pub row : CallRow
-  pub rows : new ≡ old ++ row ∷ []
-  pub party_is : row.party ≡ party
-  pub task : IsLeftTask row.task event next told waited
-
--- the rows after a step: that of a call that goes on is there again
-abbrev pub AreRowsAfter : Bool → List CallRow → List CallRow → List ℕ → ℕ → EventCall → List ℕ → Bool → Type 0
-AreRowsAfter true old new party event next told waited = new ≡ old
-AreRowsAfter false old new party event next told waited = IsRowMore old new party event next told waited
-
--- a call whose row was taken out makes its step
-pub record IsWentOn (old new : PartyEvents) (party : List ℕ) (a : Act) (told : Stepped) : Type 0 where
+-- a call makes its step, and is left so where that was not its last
+pub record IsWentOn (t t' : EventTable) (a b : Act) (told : Stepped) : Type 0 where
   pub step : EventStep
   pub next : EventCall
-  pub made : IsActStep old.events new.events a.event (event_call a.call) next step
-  pub things : new.things.items ≡ old.things.items
+  pub made : IsActStep t t' a.event (event_call a.call) next step
   pub told_is : told ≡ stepped.Acted a.event step.access step.answer (if is_last step.progress then Some (end_told (is_for_all (event_call a.call)) a.told.items step.progress) else None)
-  pub rows : AreRowsAfter (is_last step.progress) old.calls.items new.calls.items party a.event next (a.told.items ++ reported step.progress) (is_waiting step.progress)
+  pub left : is_last step.progress ≡ false → IsLeft b a.event next (a.told.items ++ reported step.progress) (is_waiting step.progress)
 
 -- what is asked for is told as it should be, and what parties hold stands for what follows
-pub record IsAsked (t : EventTable) (rows : List EventRow) (x : ScriptEvents) (party : List ℕ) (q : EventAsk) (told : EventReply) : Type 0 where
+pub record IsAsked (t : EventTable) (has : Held) (x : ScriptEvents) (party : List ℕ) (q : EventAsk) (told : EventReply) : Type 0 where
   pub told_is : told ≡ ask_told x q
-  pub held : Holds t rows (ask_made x party q)
+  pub held : Holds t has (ask_made x party q)
 
--- so it is for each script that the table and the rows stand for, whose ask is for a free name
-abbrev pub AnswersAsk : EventTable → List EventRow → EventTable → List EventRow → List ℕ → EventAsk → EventReply → Type 0
-AnswersAsk t rows t' rows' party q told =
-    (x : ScriptEvents) (count : ℕ) → AreSoundEvents x count → x.asked party ≡ Some q → Holds t rows x → IsAsked t' rows' x party q told
+-- so it is for each script that the table and what is held stand for, whose ask is for a free name
+abbrev pub AnswersAsk : EventTable → Held → EventTable → Held → List ℕ → EventAsk → EventReply → Type 0
+AnswersAsk t held t' held' party q told =
+    (x : ScriptEvents) (count : ℕ) → AreSoundEvents x count → x.asked party ≡ Some q → Holds t held x → IsAsked t' held' x party q told
 
--- what is asked for is made, for each script that the table and the rows stand for
-abbrev pub Makes : EventTable → List EventRow → List ℕ → EventAsk → Type 0
-Makes t rows party q =
-    (x : ScriptEvents) (count : ℕ) → AreSoundEvents x count → x.asked party ≡ Some q → Holds t rows x → ask_told x q ≡ reply.Done
+-- what is asked for is made, for each script that the table and what is held stand for
+abbrev pub Makes : EventTable → Held → List ℕ → EventAsk → Type 0
+Makes t held party q =
+    (x : ScriptEvents) (count : ℕ) → AreSoundEvents x count → x.asked party ≡ Some q → Holds t held x → ask_told x q ≡ reply.Done
 
 -- no event has so many notifiers that there can be no more
 abbrev pub HasFewNotifiers : EventTable → Type 0
 HasFewNotifiers t = (n : ℕ) (e : Event) → event_at t n ≡ Some e → e.notifiers < 2 ^ 63
+
+-- the task's step can be made
+abbrev pub CanStep : EventTable → CallTask → Type 0
+CanStep t (task.Listen name kind event max) = t.drawn < 2 ^ 63
+CanStep t (task.Notifier name kind event) = HasFewNotifiers t
+CanStep t (task.Act a) = GoesOn (event_call a.call) × CanPerformAt t a.event (owed (event_call a.call))
+
+-- what is asked for is answered
+pub record IsAnswered (t : EventTable) (held : Held) (t' : EventTable) (held' : Held) (party : List ℕ) (q : EventAsk) (told : Stepped) : Type 0 where
+  pub reply : EventReply
+  pub told_is : told ≡ stepped.Asked reply
+  pub answers : AnswersAsk t held t' held' party q reply
+
+-- a call that is left as a task
+abbrev pub IsWentOnTo : EventTable → EventTable → Act → CallTask → Stepped → Type 0
+IsWentOnTo t t' a (task.Listen name kind event max) told = ⊥
+IsWentOnTo t t' a (task.Notifier name kind event) told = ⊥
+IsWentOnTo t t' a (task.Act b) told = IsWentOn t t' a b told
+
+-- the step of a party's task, and what it leaves
+abbrev pub StepsTo : EventTable → Held → EventTable → Held → List ℕ → CallTask → CallTask → Stepped → Type 0
+StepsTo t held t' held' party (task.Listen name kind event max) left told = IsAnswered t held t' held' party (to_listen name kind event max) told
+StepsTo t held t' held' party (task.Notifier name kind event) left told = IsAnswered t held t' held' party (to_notify name kind event) told
+StepsTo t held t' held' party (task.Act a) left told = ((p n : List ℕ) → held' p n ≡ held p n) × IsWentOnTo t t' a left told
+
+-- the step takes memory
+abbrev pub TakesAt : EventTable → Held → List ℕ → CallTask → Type 0
+TakesAt t held party (task.Listen name kind event max) = Makes t held party (to_listen name kind event max)
+TakesAt t held party (task.Notifier name kind event) = Makes t held party (to_notify name kind event)
+TakesAt t held party (task.Act a) = may_give (owed (event_call a.call)) ≡ true
+
+-- the call goes on that was told so
+abbrev pub stays : Stepped → Bool
+stays (stepped.Asked reply) = false
+stays (stepped.Acted event access answer told) = not (is_some told)
+
+-- and that had memory
+abbrev pub goes_on : {E : Type 0} → Result Stepped E → Bool
+goes_on (Ok told) = stays told
+goes_on (Err e) = false
 
 -- ---- ends
 
@@ -188,19 +200,17 @@ may_end (task.Listen name kind event max) = false
 may_end (task.Notifier name kind event) = false
 may_end (task.Act a) = is_timed (event_call a.call) && a.waited
 
--- the row is of a listener of the party
-abbrev pub is_own_listener : List ℕ → EventRow → Bool
-is_own_listener party row = bytes_eq party row.party && is_listening row.role
+-- the table after a listener was counted as gone
+abbrev pub marked : Holding → EventTable → EventTable
+marked (holding.Listener n) t = changed t n with_gone
+marked (holding.Notifier n) t = t
 
--- the table after a row was seen, where it is of a listener of the party
-abbrev pub mark_row : List ℕ → EventRow → EventTable → EventTable
-mark_row party row t = if is_own_listener party row then changed t row.event with_gone else t
+-- the table after all listeners were, one after another
+abbrev pub marked_gone : List Holding → EventTable → EventTable
+marked_gone [] t = t
+marked_gone (h ∷ hs) t = marked_gone hs (marked h t)
 
--- the table after the listeners of a party were counted as gone, one after another
-abbrev pub marked_gone : List ℕ → List EventRow → EventTable → EventTable
-marked_gone party [] t = t
-marked_gone party (row ∷ rows) t = marked_gone party rows (mark_row party row t)
-
--- the events of a party's listeners stand
-abbrev pub IsMarkable : List ℕ → EventTable → EventRow → Type 0
-IsMarkable party t row = is_own_listener party row ≡ true → IsSome (event_at t row.event)
+-- a listener's event stands
+abbrev pub IsMarkable : EventTable → Holding → Type 0
+IsMarkable t (holding.Listener n) = IsSome (event_at t n)
+IsMarkable t (holding.Notifier n) = ⊤

@@ -1,23 +1,21 @@
 -- What is left where memory was wanted.
-use Rattle.std.specs.Prelude.{◌≡◌, ◌⊎◌, ℕ, not, List, [], ◌∷◌}
-use Rattle.std.specs.List.{filter}
+use Rattle.std.specs.Prelude.{◌≡◌, ◌⊎◌, ℕ, if◌then◌else◌, List, Option, None, Some}
+use Rattle.std.specs.Str.{bytes_eq}
 use Rattle.board_event_model.specs.declared.access.EventAccess.{EventAccess}
 use Rattle.board_event_model.specs.declared.kind.EventKind.{EventKind}
 use Rattle.board_event_model.specs.EventCalls.{owed}
 use Rattle.board_event_model.specs.EventMemory.{after}
 use Rattle.board_event_core.specs.EventTable.{EventTable, changed, table_listened, with_notifier}
 use Rattle.script_events.specs.declared.party_events.PartyEvents.{PartyEvents}
-use Rattle.script_events.specs.declared.rows.Act.{Act}
-use Rattle.script_events.specs.declared.rows.CallRow.{CallRow}
 use Rattle.script_events.specs.declared.rows.CallTask.{CallTask}
 use Rattle.script_events.specs.declared.rows.CallTask.TheVariants as task
-use Rattle.script_events.specs.PartyEvents.{event_call, is_row_of}
+use Rattle.script_events.specs.PartyEvents.{event_call, held_in, task_in}
 
 -- nothing has changed
 pub record IsUnchanged (old new : PartyEvents) : Type 0 where
   pub events : new.events ≡ old.events
-  pub things : new.things.items ≡ old.things.items
-  pub calls : new.calls.items ≡ old.calls.items
+  pub things : new.things ≡ old.things
+  pub calls : new.calls.entries ≡ old.calls.entries
 
 -- the events after a listener was asked for: it was made, and nobody holds it, or nothing has changed
 abbrev pub MayHaveListener : EventTable → EventTable → EventKind → List ℕ → ℕ → Type 0
@@ -37,16 +35,14 @@ IsCutAt t t' (task.Listen name kind event max) = MayHaveListener t t' kind event
 IsCutAt t t' (task.Notifier name kind event) = HasNotifierMore t t'
 IsCutAt t t' (task.Act a) = IsPerformed t t' a.event (owed (event_call a.call))
 
+-- the party has this to do, and others what they had
+abbrev pub HasTask : (List ℕ → Option CallTask) → (List ℕ → Option CallTask) → List ℕ → Option CallTask → Type 0
+HasTask tasks tasks' party t = (p : List ℕ) → tasks' p ≡ (if bytes_eq party p then t else tasks p)
+
 -- the party's call runs no more, and parties hold what they held; what the step has done to the events isn't undone
 pub record IsCutShort (old new : PartyEvents) (party : List ℕ) : Type 0 where
-  pub row : CallRow
-  pub only : filter (is_row_of party) old.calls.items ≡ row ∷ []
-  pub calls : new.calls.items ≡ filter (λ r. not (is_row_of party r)) old.calls.items
-  pub things : new.things.items ≡ old.things.items
-  pub events : IsCutAt old.events new.events row.task
-
--- a call that was to go on wanted memory behind its access
-pub record IsGivenUp (old new : PartyEvents) (a : Act) : Type 0 where
-  pub calls : new.calls.items ≡ old.calls.items
-  pub things : new.things.items ≡ old.things.items
-  pub events : IsPerformed old.events new.events a.event (owed (event_call a.call))
+  pub task : CallTask
+  pub found : task_in old party ≡ Some task
+  pub calls : HasTask (task_in old) (task_in new) party None
+  pub things : (p n : List ℕ) → held_in new.things p n ≡ held_in old.things p n
+  pub events : IsCutAt old.events new.events task

@@ -1,9 +1,11 @@
--- The events of a script that rows of parties stand for.
-use Rattle.std.specs.Prelude.{◌≡◌, ℕ, ◌<◌, ◌^◌, Bool, true, false, ◌&&◌, ◌==◌, if◌then◌else◌, List, [], ◌∷◌, length, map, Option, Some, None, IsSomeAnd, ⊤}
+-- The events of a script that what parties hold and run stands for.
+use Rattle.std.specs.Prelude.{◌≡◌, ℕ, ◌<◌, ◌^◌, Bool, true, false, if◌then◌else◌, List, [], ◌∷◌, Option, Some, None, IfSome, IsSomeAnd, option_map, ⊤}
 use Rattle.std.specs.declared.cmp.Ordering.{Ordering}
 use Rattle.std.specs.BTreeMap.{is_at}
 use Rattle.std.specs.Cmp.Lexicographic.{slice_cmp}
-use Rattle.std.specs.List.{filter}
+use Rattle.std.specs.HashMap.{HashMap, get}
+use Rattle.std.specs.declared.hash.BuildHasherDefault.{BuildHasherDefault}
+use Rattle.std.specs.declared.hash.FoldHasher.{FoldHasher}
 use Rattle.std.specs.Map.{lookup}
 use Rattle.std.specs.Ordering.{nat_cmp}
 use Rattle.std.specs.Str.{bytes_eq}
@@ -17,6 +19,7 @@ use Rattle.board_event_model.specs.EventSessions.{PartyCall, event_of}
 use Rattle.board_event_core.specs.EventTable.{EventTable, event_at, names_of}
 use Rattle.board_model.specs.declared.answer.Reason.{Reason}
 use Rattle.board_model.specs.LawfulSession.{State}
+use Rattle.board_model.specs.Requests.{and_then}
 use Rattle.board_model.specs.Things.{is_held as holds_thing}
 use Rattle.script_model.specs.declared.line.EventRequest.{EventRequest}
 use Rattle.script_model.specs.declared.reply.EventReply.TheVariants as reply
@@ -28,12 +31,11 @@ use Rattle.script_events.specs.declared.party_events.PartyEvents.{PartyEvents}
 use Rattle.script_events.specs.declared.rows.Act.{Act}
 use Rattle.script_events.specs.declared.rows.ActiveCall.{ActiveCall}
 use Rattle.script_events.specs.declared.rows.ActiveCall.TheVariants as active
-use Rattle.script_events.specs.declared.rows.CallRow.{CallRow}
 use Rattle.script_events.specs.declared.rows.CallTask.{CallTask}
 use Rattle.script_events.specs.declared.rows.CallTask.TheVariants as task
-use Rattle.script_events.specs.declared.rows.EventRow.{EventRow}
-use Rattle.script_events.specs.declared.rows.Role.{Role}
-use Rattle.script_events.specs.declared.rows.Role.TheVariants as role
+use Rattle.script_events.specs.declared.rows.Holding.{Holding}
+use Rattle.script_events.specs.declared.rows.Holding.TheVariants as holding
+use Rattle.script_events.specs.declared.things.Things.{Things}
 use Rattle.script_events.specs.declared.step.Stepped.{Stepped}
 use Rattle.script_events.specs.declared.step.Stepped.TheVariants as stepped
 
@@ -44,59 +46,30 @@ abbrev pub where_held : Option Event → Option Event
 where_held None = None
 where_held (Some e) = if has_holder e then Some e else None
 
--- how many notifiers an event has
-abbrev pub notifiers_in : Option Event → ℕ
-notifiers_in None = 0
-notifiers_in (Some e) = e.notifiers
+-- ---- what parties hold
 
--- how many listeners it has
-abbrev pub listeners_in : Option Event → ℕ
-listeners_in None = 0
-listeners_in (Some e) = if e.held then 1 else 0
+-- what something held is
+abbrev pub thing_in : Holding → EventThing
+thing_in (holding.Listener n) = listener n
+thing_in (holding.Notifier n) = notifier n
 
--- ---- rows of things
+-- what each party holds under each name
+abbrev pub Held : Type 0
+Held = List ℕ → List ℕ → Option Holding
 
--- the row is of what the party holds under the name
-abbrev pub is_thing_of : List ℕ → List ℕ → EventRow → Bool
-is_thing_of party name row = bytes_eq party row.party && bytes_eq name row.name
+-- what one party holds, by the names that it gave
+abbrev pub Own : Type 0
+Own = HashMap (List ℕ) Holding (BuildHasherDefault FoldHasher)
 
--- a thing of this role
-abbrev pub thing_as : Role → ℕ → EventThing
-thing_as role.Listener n = listener n
-thing_as role.Notifier n = notifier n
+-- what a party holds, where it holds something
+abbrev pub own_in : Things → List ℕ → Option Own
+own_in things party = get bytes_eq things.parties party
 
--- what a row says that its party holds
-abbrev pub thing_in : EventRow → EventThing
-thing_in row = thing_as row.role row.event
+-- what a party holds under a name
+abbrev pub held_in : Things → Held
+held_in things party name = and_then (own_in things party) (λ own. get bytes_eq own name)
 
--- one thing or none, as a list
-abbrev pub as_list : {A : Type 0} → Option A → List A
-as_list None = []
-as_list (Some a) = a ∷ []
-
--- whether a thing is a listener of the event
-abbrev pub listens_on : ℕ → EventThing → Bool
-listens_on n (listener m) = n == m
-listens_on n (notifier m) = false
-
--- whether a thing is a notifier of the event
-abbrev pub notifies_on : ℕ → EventThing → Bool
-notifies_on n (listener m) = false
-notifies_on n (notifier m) = n == m
-
--- how many rows are listeners of the event
-abbrev pub listener_rows : ℕ → List EventRow → ℕ
-listener_rows n rows = length (filter (λ (row : EventRow). listens_on n (thing_in row)) rows)
-
--- how many rows are notifiers of the event
-abbrev pub notifier_rows : ℕ → List EventRow → ℕ
-notifier_rows n rows = length (filter (λ (row : EventRow). notifies_on n (thing_in row)) rows)
-
--- ---- rows of calls
-
--- the row is of a call of the party
-abbrev pub is_row_of : List ℕ → CallRow → Bool
-is_row_of party row = bytes_eq party row.party
+-- ---- what parties run
 
 -- a call as the definitions see it
 abbrev pub event_call : ActiveCall → EventCall
@@ -122,21 +95,20 @@ IsAskedBy (task.Listen name kind event max) q = q ≡ to_listen name kind event 
 IsAskedBy (task.Notifier name kind event) q = q ≡ to_notify name kind event
 IsAskedBy (task.Act a) q = ⊥
 
--- the one row of a party whose call runs
-pub record IsOneCall (rows : List CallRow) (Is : CallTask → Type 0) : Type 0 where
-  pub row : CallRow
-  pub only : rows ≡ row ∷ []
-  pub task : Is row.task
+-- what a party's task is, by what it asks for and does
+abbrev pub IsRunning : CallTask → Option EventAsk → Option PartyCall → Type 0
+IsRunning t (Some q) d = IsAskedBy t q
+IsRunning t None (Some d) = IsTaskOf t d
+IsRunning t None None = ⊥
 
--- the rows of a party that asks for nothing: one where it runs a call on an event
-abbrev pub AreActRows : List CallRow → Option PartyCall → Type 0
-AreActRows rows None = rows ≡ []
-AreActRows rows (Some d) = IsOneCall rows (λ t. IsTaskOf t d)
+-- what a party has still to do, which is nothing where it neither asks nor does anything
+abbrev pub IsCall : Option CallTask → Option EventAsk → Option PartyCall → Type 0
+IsCall None q d = (q ≡ None) × (d ≡ None)
+IsCall (Some t) q d = IsRunning t q d
 
--- the rows of a party
-abbrev pub AreCallRows : List CallRow → Option EventAsk → Option PartyCall → Type 0
-AreCallRows rows None doing = AreActRows rows doing
-AreCallRows rows (Some q) doing = IsOneCall rows (λ t. IsAskedBy t q)
+-- what a party has still to do, where it runs a call
+abbrev pub task_in : PartyEvents → List ℕ → Option CallTask
+task_in m party = get bytes_eq m.calls party
 
 -- ---- the whole
 
@@ -150,26 +122,24 @@ pub record IsOnce (t : EventTable) : Type 0 where
   pub events : AreOnce nat_cmp t.events
   pub names : (k : EventKind) → AreOnce (slice_cmp nat_cmp) (names_of k t)
 
--- the table has the events that somebody holds, and the names; the rows say who holds what
-pub record Holds (t : EventTable) (rows : List EventRow) (x : ScriptEvents) : Type 0 where
+-- the table has the events that somebody holds, and the names; the parties hold what is held
+pub record Holds (t : EventTable) (held : Held) (x : ScriptEvents) : Type 0 where
   pub once : IsOnce t
   pub events : (n : ℕ) → event_at t n ≡ where_held (event_of x.session.stands n)
   pub drawn : t.drawn ≡ x.session.count
   pub names : (k : EventKind) (text : List ℕ) → at (names_of k t) text ≡ x.names k text
-  pub things : (p n : List ℕ) → map thing_in (filter (is_thing_of p n) rows) ≡ as_list (x.things p n)
-  pub listeners : (n : ℕ) → listener_rows n rows ≡ listeners_in (event_of x.session.stands n)
-  pub notifiers : (n : ℕ) → notifier_rows n rows ≡ notifiers_in (event_of x.session.stands n)
+  pub things : (p n : List ℕ) → option_map thing_in (held p n) ≡ x.things p n
 
--- the rows of calls are those of the parties
-abbrev pub AreCalls : List CallRow → (List ℕ → Option EventAsk) → (List ℕ → Option PartyCall) → Type 0
-AreCalls rows asked doing = (p : List ℕ) → AreCallRows (filter (is_row_of p) rows) (asked p) (doing p)
+-- the parties run what is asked for and done
+abbrev pub AreCalls : (List ℕ → Option CallTask) → (List ℕ → Option EventAsk) → (List ℕ → Option PartyCall) → Type 0
+AreCalls tasks asked doing = (p : List ℕ) → IsCall (tasks p) (asked p) (doing p)
 
 -- what parties hold and run here stands for the events of a script
 pub record Represents (m : PartyEvents) (x : ScriptEvents) : Type 0 where
-  pub held : Holds m.events m.things.items x
-  pub calls : AreCalls m.calls.items x.asked x.session.doing
+  pub held : Holds m.events (held_in m.things) x
+  pub calls : AreCalls (task_in m) x.asked x.session.doing
 
--- the rows stand for events that a lawful script of fewer than 2^63 lines led to
+-- they are events that a lawful script of fewer than 2^63 lines led to
 pub record IsLed (m : PartyEvents) : Type 0 where
   pub state : ScriptEvents
   pub count : ℕ
@@ -177,16 +147,15 @@ pub record IsLed (m : PartyEvents) : Type 0 where
   pub sound : AreSoundEvents state count
   pub represents : Represents m state
 
--- it holds of all such events that the rows stand for
+-- it holds of all such events that stand here
 abbrev pub OfEach : PartyEvents → (ScriptEvents → Type 0) → Type 0
 OfEach m P = (x : ScriptEvents) (count : ℕ) → count < 2 ^ 63 → AreSoundEvents x count → Represents m x → P x
 
 -- ---- what the calls are told
 
--- the party holds something of boards under the name, if there is one
-abbrev pub takes_board_name : State → List ℕ → Option (List ℕ) → Bool
-takes_board_name boards party None = false
-takes_board_name boards party (Some name) = holds_thing boards.standing party name
+-- `taken` tells whether the party holds something of boards under the name of what a call makes; of a call that makes nothing it may tell anything
+abbrev pub TellsTaken : Bool → State → List ℕ → EventRequest → Type 0
+TellsTaken taken boards party q = IfSome (name_made q) (λ name. taken ≡ holds_thing boards.standing party name)
 
 -- a line is refused for this reason, or for none
 abbrev pub refusal_of : EventTurn → Option Reason
@@ -196,15 +165,15 @@ refusal_of (steps party) = None
 refusal_of (drops party name) = None
 refusal_of (expires party) = None
 
--- a line is refused or answered as it should be, and the rows stand for what follows
+-- a line is refused or answered as it should be, and what stands here is what follows
 pub record IsTurned (new : PartyEvents) (x : ScriptEvents) (turn : EventTurn) (told : Option Reason) : Type 0 where
   pub told_is : told ≡ refusal_of turn
   pub represents : (a : ScriptAnswer) → Represents new (turned x turn a)
 
--- a call of a party on events was begun or refused by the rules, where `taken` tells whether boards hold the name of what it makes
+-- a call of a party on events was begun or refused by the rules, where `taken` tells right
 abbrev pub IsBegun : PartyEvents → ScriptEvents → List ℕ → EventRequest → Bool → Option Reason → Type 0
 IsBegun new x party q taken told =
-    (boards : State) → taken ≡ takes_board_name boards party (name_made q) → IsTurned new x (task_turn (record { boards = boards; events = x }) party q (task_of x party q)) told
+    (boards : State) → TellsTaken taken boards party q → IsTurned new x (task_turn (record { boards = boards; events = x }) party q (task_of x party q)) told
 
 -- the listener or the notifier that a party holds under a name is let go
 abbrev pub thing_let_go : ScriptEvents → List ℕ → List ℕ → ScriptEvents
@@ -219,7 +188,7 @@ abbrev pub IsAnswerOf : EventTable → Stepped → ScriptAnswer → Type 0
 IsAnswerOf t (stepped.Asked r) a = a ≡ of_ask r
 IsAnswerOf t (stepped.Acted event access answer told) a = IsSomeAnd (event_at t event) (λ e. a ≡ of_event e.kind e.name access answer told)
 
--- a step of a party was told so, which is right, and the rows stand for what follows
+-- a step of a party was told so, which is right, and what stands here is what follows
 pub record IsStepped (new : PartyEvents) (x : ScriptEvents) (party : List ℕ) (told : Stepped) : Type 0 where
   pub answer : ScriptAnswer
   pub told_is : IsAnswerOf new.events told answer
@@ -239,7 +208,7 @@ Steps old new party told = OfEach old (λ x. IsStepped new x party told)
 -- no rule refuses a call of a party on events
 abbrev pub IsUnrefused : ScriptEvents → List ℕ → EventRequest → Bool → Type 0
 IsUnrefused x party q taken =
-    (boards : State) → taken ≡ takes_board_name boards party (name_made q) → refusal_of (task_turn (record { boards = boards; events = x }) party q (task_of x party q)) ≡ None
+    (boards : State) → TellsTaken taken boards party q → refusal_of (task_turn (record { boards = boards; events = x }) party q (task_of x party q)) ≡ None
 
 -- a call that begins wants memory only where no rule refuses it
 abbrev pub BeginMayWant : PartyEvents → List ℕ → EventRequest → Bool → Type 0

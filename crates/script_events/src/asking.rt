@@ -1,10 +1,12 @@
-//! Listeners and notifiers are asked for. A row for one is made only where the table has made it, so that a refusal wants no memory.
-ghost use Rattle.std.specs.Prelude.{◌≡◌, ◌<◌, ◌^◌, IfOk, OnErr};
+//! Listeners and notifiers are asked for. A party is given one only where the table has made it, so a refusal wants no memory.
+ghost use Rattle.std.specs.Prelude.{◌≡◌, ◌<◌, ◌^◌, ℕ, List, IfOk, OnErr};
 ghost use Rattle.script_model.specs.ScriptEvents.{to_listen, to_notify};
 ghost use Rattle.script_events.specs.Calls.{AnswersAsk, HasFewNotifiers, Makes};
+ghost use Rattle.script_events.specs.PartyEvents.{held_in};
 ghost use Rattle.script_events.specs.Left.{HasNotifierMore, MayHaveListener};
 
-use crate::rows::{EventRow, Role};
+use crate::rows::Holding;
+use crate::things::Things;
 use board_event_core::{Events, ListenerCreateError, NotifierCreateError};
 use board_event_model::EventKind;
 use board_layout::Text;
@@ -23,7 +25,7 @@ fn full_name(event: &EventName) -> FilePath
 /// Makes an event with its listener, where its name is free.
 pub(crate) fn listen(
     events: &mut Events,
-    things: &mut Vec<EventRow>,
+    things: &mut Things,
     party: Name,
     name: Name,
     kind: EventKind,
@@ -31,21 +33,17 @@ pub(crate) fn listen(
     max: u64,
 ) -> Result<EventReply, AllocError>
     requires few { events.old.drawn < 2 ^ 63 }
-    ensures told { IfOk result (AnswersAsk events.old things.old.items events.new things.new.items
-        party (to_listen name kind event.now max)) }
-    ensures memory { OnErr result (Makes events.old things.old.items party
+    ensures told { IfOk result (AnswersAsk events.old (held_in things.old) events.new
+        (held_in things.new) party (to_listen name kind event.now max)) }
+    ensures memory { OnErr result (Makes events.old (held_in things.old) party
         (to_listen name kind event.now max)) }
-    ensures things { OnErr result (things.new.items ≡ things.old.items) }
+    ensures things { OnErr result ((p n : List ℕ)
+        → held_in things.new p n ≡ held_in things.old p n) }
     ensures events { OnErr result (MayHaveListener events.old events.new kind event.now max) }
 {
     match events.listen(kind, &full_name(event), max) {
         Ok(number) => {
-            things.push(EventRow {
-                party,
-                name,
-                role: Role::Listener,
-                event: number,
-            })?;
+            things.put(party, name, Holding::Listener(number))?;
             Ok(EventReply::Done)
         }
         Err(ListenerCreateError::AlreadyExists) => Ok(EventReply::AlreadyExists),
@@ -58,28 +56,24 @@ pub(crate) fn listen(
 /// Makes a notifier of an event that has its listener.
 pub(crate) fn add_notifier(
     events: &mut Events,
-    things: &mut Vec<EventRow>,
+    things: &mut Things,
     party: Name,
     name: Name,
     kind: EventKind,
     event: &EventName,
 ) -> Result<EventReply, AllocError>
     requires few { HasFewNotifiers events.old }
-    ensures told { IfOk result (AnswersAsk events.old things.old.items events.new things.new.items
-        party (to_notify name kind event.now)) }
-    ensures memory { OnErr result (Makes events.old things.old.items party
+    ensures told { IfOk result (AnswersAsk events.old (held_in things.old) events.new
+        (held_in things.new) party (to_notify name kind event.now)) }
+    ensures memory { OnErr result (Makes events.old (held_in things.old) party
         (to_notify name kind event.now)) }
-    ensures things { OnErr result (things.new.items ≡ things.old.items) }
+    ensures things { OnErr result ((p n : List ℕ)
+        → held_in things.new p n ≡ held_in things.old p n) }
     ensures events { OnErr result (HasNotifierMore events.old events.new) }
 {
     match events.notifier(kind, &full_name(event)) {
         Ok(number) => {
-            things.push(EventRow {
-                party,
-                name,
-                role: Role::Notifier,
-                event: number,
-            })?;
+            things.put(party, name, Holding::Notifier(number))?;
             Ok(EventReply::Done)
         }
         Err(NotifierCreateError::DoesNotExist) => Ok(EventReply::DoesNotExist),

@@ -6,9 +6,8 @@ ghost use Rattle.script_events.specs.Calls.{IsCheckedBy, IsNewAct};
 ghost use Rattle.script_events.specs.PartyEvents.{BeginMayWant, Begins, IsLed, OfEach, event_call};
 ghost use Rattle.script_events.specs.Left.{IsUnchanged};
 
-use crate::lookups::{listened, notified};
 use crate::party_events::PartyEvents;
-use crate::rows::{Act, ActiveCall, CallRow, CallTask};
+use crate::rows::{Act, ActiveCall, CallTask};
 use board_event_core::{NotifyCall, WaitCall};
 use board_event_model::{EventKind, WaitMode};
 use board_model::{Name, Reason};
@@ -16,7 +15,8 @@ use script_model::EventRequest;
 use std::alloc::AllocError;
 
 impl PartyEvents {
-    /// A call of a party that runs none begins, or is refused. `taken`: boards hold the name of what it makes for the party.
+    /// A call of a party that runs none begins, or is refused. `taken`: boards hold the name of what it makes for the party; of
+    /// a notify or a wait, which make nothing, it says nothing.
     ///
     /// # Errors
     /// `AllocError` where memory is refused, and no rule refuses the call. Then nothing has changed.
@@ -34,7 +34,7 @@ impl PartyEvents {
     {
         match self.check(&party, request, taken) {
             Ok(task) => {
-                self.calls.push(CallRow { party, task })?;
+                let _ = self.calls.insert(party, task)?;
                 Ok(None)
             }
             Err(why) => Ok(Some(why)),
@@ -88,7 +88,7 @@ impl PartyEvents {
                 })
             }
             EventRequest::Notify { notifier, id } => {
-                match notified(party, &notifier, &self.things) {
+                match self.things.notified(party, &notifier) {
                     Some(event) => {
                         let call = self.notify_call(event, id);
                         Ok(self.act(event, call))
@@ -100,7 +100,7 @@ impl PartyEvents {
                 listener,
                 many,
                 mode,
-            } => match listened(party, &listener, &self.things) {
+            } => match self.things.listened(party, &listener) {
                 Some(event) => {
                     let call = self.wait_call(event, many, mode);
                     Ok(self.act(event, call))

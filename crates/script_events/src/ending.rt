@@ -1,33 +1,36 @@
 //! What ends: a listener or a notifier, a wait that expires, a party.
-ghost use Rattle.std.specs.Prelude.{◌≡◌, true};
-ghost use Rattle.std.specs.List.{AllByRecursion};
+ghost use Rattle.std.specs.Prelude.{◌≡◌, ℕ, List, true, IfSome};
+ghost use Rattle.std.specs.HashMap.{IsUnique, get, values};
+ghost use Rattle.std.specs.Str.{bytes_eq};
 ghost use Rattle.script_model.specs.ScriptEvents.{events_abandoned, holds_event};
-ghost use Rattle.script_events.specs.Calls.{IsMarkable, mark_row, marked_gone};
+ghost use Rattle.script_events.specs.Calls.{IsMarkable, marked, marked_gone};
 ghost use Rattle.script_events.specs.PartyEvents.{IsLed, IsTurned, OfEach, Represents, expiry, thing_let_go};
 
-use crate::lookups::{end_calls, place_of_call, take_thing};
 use crate::party_events::PartyEvents;
-use crate::rows::{EventRow, Role};
+use crate::rows::Holding;
+use crate::things::Holdings;
 use board_event_core::Events;
 use board_model::{Name, Reason};
 
-/// Counts a listener as gone, where its row is of the party.
-fn mark(party: &Name, row: &EventRow, events: &mut Events)
-    requires { IsMarkable party.now events.old row.now }
-    ensures { events.new ≡ mark_row party.now row.now events.old }
+/// Counts a listener as gone.
+fn mark(holding: &Holding, events: &mut Events)
+    requires { IsMarkable events.old holding.now }
+    ensures { events.new ≡ marked holding.now events.old }
 {
-    if *party == row.party && row.role == Role::Listener {
-        events.mark_gone(row.event);
+    match holding {
+        Holding::Listener(event) => events.mark_gone(*event),
+        Holding::Notifier(_) => {}
     }
 }
 
-/// Counts the listeners of a party as gone.
-fn mark_listeners(party: &Name, things: &[EventRow], events: &mut Events)
-    requires { AllByRecursion (IsMarkable party.now events.old) things.now }
-    ensures { events.new ≡ marked_gone party.now things.now events.old }
+/// Counts the listeners of a party as gone, which holds this.
+fn mark_listeners(own: &Holdings, events: &mut Events)
+    requires { (name : List ℕ) → IfSome (get bytes_eq own.now name) (IsMarkable events.old) }
+    ensures marked { events.new ≡ marked_gone (values own.now) events.old }
+    ensures unique { IsUnique bytes_eq own.now }
 {
-    for row in things {
-        mark(party, row, events);
+    for holding in own.values() {
+        mark(holding, events);
     }
 }
 
@@ -38,10 +41,11 @@ impl PartyEvents {
         requires held { OfEach self.old (λ x. holds_event x party.now name.now ≡ true) }
         ensures { OfEach self.old (λ x. Represents self.new (thing_let_go x party.now name.now)) }
     {
-        let row = take_thing(party, name, &mut self.things);
-        match row.role {
-            Role::Listener => self.events.release_listener(row.event),
-            Role::Notifier => self.events.release_notifier(row.event),
+        match self.things.take(party, name) {
+            Some(Holding::Listener(event)) => self.events.release_listener(event),
+            Some(Holding::Notifier(event)) => self.events.release_notifier(event),
+            // The party holds something.
+            None => unreachable!(),
         }
     }
 
@@ -50,13 +54,13 @@ impl PartyEvents {
         requires { IsLed self.old }
         ensures { OfEach self.old (λ x. IsTurned self.new x (expiry x party.now) result) }
     {
-        let Some(place) = place_of_call(party, &self.calls) else {
+        let Some(task) = self.calls.get(party) else {
             return Some(Reason::Idle);
         };
-        if !self.calls[place].task.may_end() {
+        if !task.may_end() {
             return Some(Reason::NotWaiting);
         }
-        end_calls(party, &mut self.calls);
+        let _ = self.calls.remove(party);
         None
     }
 
@@ -65,7 +69,9 @@ impl PartyEvents {
         requires { IsLed self.old }
         ensures { OfEach self.old (λ x. Represents self.new (events_abandoned x party.now)) }
     {
-        mark_listeners(party, &self.things, &mut self.events);
-        end_calls(party, &mut self.calls);
+        let _ = self.calls.remove(party);
+        if let Some(own) = self.things.of(party) {
+            mark_listeners(own, &mut self.events);
+        }
     }
 }

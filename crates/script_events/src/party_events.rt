@@ -4,23 +4,24 @@ ghost use Rattle.board_event_core.specs.EventTable.{event_at};
 ghost use Rattle.script_model.specs.ScriptEvents.{holds_event, no_events, runs_on_events};
 ghost use Rattle.script_events.specs.PartyEvents.{OfEach, Represents};
 
-use crate::lookups::{place_of_call, place_of_thing};
-use crate::rows::{CallRow, EventRow};
+use crate::rows::CallTask;
+use crate::things::Things;
 use board_event_core::Events;
 use board_event_model::EventKind;
 use board_model::Name;
 use board_names::FilePath;
 use std::alloc::Global;
+use std::collections::HashMap;
 
 /// Events, the listeners and notifiers that parties hold of them, and the calls that run.
 #[derive(Drop)]
 pub struct PartyEvents {
     pub(crate) alloc: Global,
     pub(crate) events: Events,
-    /// What parties hold, each under a name of its own.
-    pub(crate) things: Vec<EventRow>,
-    /// The parties that run a call on events, each once.
-    pub(crate) calls: Vec<CallRow>,
+    /// What each party holds, by the names that it gave.
+    pub(crate) things: Things,
+    /// What the parties have still to do that run a call on events.
+    pub(crate) calls: HashMap<Name, CallTask>,
 }
 
 impl PartyEvents {
@@ -31,8 +32,8 @@ impl PartyEvents {
         PartyEvents {
             alloc,
             events: Events::new(alloc),
-            things: Vec::new(alloc),
-            calls: Vec::new(alloc),
+            things: Things::new(alloc),
+            calls: HashMap::new(alloc),
         }
     }
 
@@ -40,14 +41,14 @@ impl PartyEvents {
     pub fn runs(&self, party: &Name) -> bool
         ensures { OfEach self.now (λ x. result ≡ runs_on_events x party.now) }
     {
-        place_of_call(party, &self.calls).is_some()
+        self.calls.contains_key(party)
     }
 
     /// Whether the party holds a listener or a notifier under the name.
     pub fn holds(&self, party: &Name, name: &Name) -> bool
         ensures { OfEach self.now (λ x. result ≡ holds_event x party.now name.now) }
     {
-        place_of_thing(party, name, &self.things).is_some()
+        self.things.get(party, name).is_some()
     }
 
     /// The kind of an event.

@@ -4,20 +4,11 @@ use board_event_model::EventKind;
 use board_model::Name;
 use script_model::EventName;
 
-/// What a party is to an event.
-#[derive(Clone, Copy, Debug, PartialEq, Eq)]
-pub(crate) enum Role {
-    Listener,
-    Notifier,
-}
-
-/// A listener or a notifier of an event, under its party and its name.
-#[derive(Drop, Debug)]
-pub(crate) struct EventRow {
-    pub(crate) party: Name,
-    pub(crate) name: Name,
-    pub(crate) role: Role,
-    pub(crate) event: u64,
+/// What a party holds under a name: a listener or a notifier of the event with a number.
+#[derive(Clone, Copy, Debug)]
+pub(crate) enum Holding {
+    Listener(u64),
+    Notifier(u64),
 }
 
 /// A notify or a wait, one access after another.
@@ -54,11 +45,4 @@ pub(crate) enum CallTask {
     },
     /// A notify or a wait goes on.
     Act(Act),
-}
-
-/// A party's call.
-#[derive(Drop, Debug)]
-pub(crate) struct CallRow {
-    pub(crate) party: Name,
-    pub(crate) task: CallTask,
 }

@@ -1,21 +1,23 @@
 //! Steps of calls on events.
-ghost use Rattle.std.specs.Prelude.{◌≡◌, ◌<◌, true, IfOk, OnErr, vec_capacity, vec_len};
+ghost use Rattle.std.specs.Prelude.{◌≡◌, ℕ, List, true, IfOk, OnErr};
 ghost use Rattle.board_event_model.specs.EventCalls.{owed};
 ghost use Rattle.board_event_core.specs.EventTable.{CanPerformAt};
 ghost use Rattle.script_model.specs.ScriptEvents.{runs_on_events};
-ghost use Rattle.script_events.specs.Calls.{GoesOn, IsWentOn};
-ghost use Rattle.script_events.specs.Left.{IsCutShort, IsGivenUp};
-ghost use Rattle.script_events.specs.PartyEvents.{IsLed, OfEach, StepMayWant, Steps, event_call, may_give};
+ghost use Rattle.script_events.specs.Calls.{CanStep, GoesOn, IsWentOn, StepsTo, TakesAt, goes_on};
+ghost use Rattle.script_events.specs.Left.{IsCutAt, IsCutShort, IsPerformed};
+ghost use Rattle.script_events.specs.PartyEvents.{IsLed, OfEach, StepMayWant, Steps, event_call, held_in, may_give};
 
 use crate::asking::{add_notifier, listen};
 use crate::calls::{end_told, is_last, is_waiting, tell};
-use crate::lookups::take_call;
 use crate::party_events::PartyEvents;
-use crate::rows::{Act, CallRow, CallTask};
+use crate::rows::{Act, CallTask};
+use crate::things::Things;
+use board_event_core::Events;
 use board_event_model::{EventAccess, EventAnswer};
 use board_model::Name;
 use script_model::EventReply;
-use std::alloc::AllocError;
+use std::alloc::{AllocError, Global};
+use std::mem;
 
 /// What a step was told.
 #[derive(Drop, Debug)]
@@ -48,23 +50,62 @@ impl PartyEvents {
         ensures memory { OnErr result (StepMayWant self.old party.now) }
         ensures left { OnErr result (IsCutShort self.old self.new party.now) }
     {
-        let CallRow { party, task } = take_call(party, &mut self.calls);
-        match task {
+        let Some(task) = self.calls.get_mut(party) else {
+            // The party runs a call.
+            unreachable!()
+        };
+        let stepped = task.step(self.alloc, party, &mut self.events, &mut self.things);
+        if !goes_on(&stepped) {
+            let _ = self.calls.remove(party);
+        }
+        stepped
+    }
+}
+
+/// Whether the call goes on that was told so.
+fn goes_on(stepped: &Result<Stepped, AllocError>) -> bool
+    ensures { result ≡ goes_on stepped.now }
+{
+    match stepped {
+        Ok(
+            Stepped::Acted {
+                event: _,
+                access: _,
+                answer: _,
+                told,
+            },
+        ) => told.is_none(),
+        Ok(Stepped::Asked(_)) => false,
+        Err(_) => false,
+    }
+}
+
+impl CallTask {
+    /// The next step of a party's call. What is left of one that has ended is of no use.
+    fn step(
+        &mut self,
+        alloc: Global,
+        party: &Name,
+        events: &mut Events,
+        things: &mut Things,
+    ) -> Result<Stepped, AllocError>
+        requires { CanStep events.old self.old }
+        ensures told { IfOk result (StepsTo events.old (held_in things.old) events.new
+            (held_in things.new) party.now self.old self.new) }
+        ensures memory { OnErr result
+            (TakesAt events.old (held_in things.old) party.now self.old) }
+        ensures things { OnErr result ((p n : List ℕ)
+            → held_in things.new p n ≡ held_in things.old p n) }
+        ensures events { OnErr result (IsCutAt events.old events.new self.old) }
+    {
+        match self {
             CallTask::Listen {
                 listener,
                 kind,
                 event,
                 max,
             } => {
-                let reply = listen(
-                    &mut self.events,
-                    &mut self.things,
-                    party,
-                    listener,
-                    kind,
-                    &event,
-                    max,
-                )?;
+                let reply = listen(events, things, *party, *listener, *kind, event, *max)?;
                 Ok(Stepped::Asked(reply))
             }
             CallTask::Notifier {
@@ -72,34 +113,30 @@ impl PartyEvents {
                 kind,
                 event,
             } => {
-                let reply = add_notifier(
-                    &mut self.events,
-                    &mut self.things,
-                    party,
-                    notifier,
-                    kind,
-                    &event,
-                )?;
+                let reply = add_notifier(events, things, *party, *notifier, *kind, event)?;
                 Ok(Stepped::Asked(reply))
             }
-            CallTask::Act(act) => self.go_on(party, act),
+            CallTask::Act(act) => act.step(alloc, events),
         }
     }
+}
 
-    /// A call makes the access that it owes, and stands among the calls again unless that was its last.
-    fn go_on(&mut self, party: Name, mut act: Act) -> Result<Stepped, AllocError>
-        requires goes_on { GoesOn (event_call act.call) }
-        requires can { CanPerformAt self.old.events act.event (owed (event_call act.call)) }
-        requires room { vec_len self.old.calls < vec_capacity self.old.calls }
-        ensures told { IfOk result (IsWentOn self.old self.new party act) }
-        ensures memory { OnErr result (may_give (owed (event_call act.call)) ≡ true) }
-        ensures left { OnErr result (IsGivenUp self.old self.new act) }
+impl Act {
+    /// A call makes the access that it owes. One that ends is told its ids, and keeps none.
+    fn step(&mut self, alloc: Global, events: &mut Events) -> Result<Stepped, AllocError>
+        requires goes_on { GoesOn (event_call self.old.call) }
+        requires can { CanPerformAt events.old self.old.event (owed (event_call self.old.call)) }
+        ensures told { IfOk result (IsWentOn events.old events.new self.old self.new) }
+        ensures memory { OnErr result (may_give (owed (event_call self.old.call)) ≡ true) }
+        ensures events { OnErr result
+            (IsPerformed events.old events.new self.old.event (owed (event_call self.old.call))) }
     {
-        let event = act.event;
-        let step = act.call.step(&mut self.events, event);
-        tell(step.progress, &mut act.told)?;
+        let event = self.event;
+        let step = self.call.step(events, event);
+        tell(step.progress, &mut self.told)?;
         if is_last(step.progress) {
-            let told = end_told(act.call.is_for_all(), step.progress, act.told);
+            let ids = mem::replace(&mut self.told, Vec::new(alloc));
+            let told = end_told(self.call.is_for_all(), step.progress, ids);
             return Ok(Stepped::Acted {
                 event,
                 access: step.access,
@@ -107,11 +144,7 @@ impl PartyEvents {
                 told: Some(told),
             });
         }
-        act.waited = is_waiting(step.progress);
-        self.calls.push_reserved(CallRow {
-            party,
-            task: CallTask::Act(act),
-        });
+        self.waited = is_waiting(step.progress);
         Ok(Stepped::Acted {
             event,
             access: step.access,

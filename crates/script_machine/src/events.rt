@@ -4,7 +4,7 @@ ghost use Rattle.script_model.specs.declared.line.ScriptLine.TheVariants as line
 ghost use Rattle.script_model.specs.ScriptEvents.{name_made};
 ghost use Rattle.script_model.specs.ScriptGrammar.{IsScriptLine};
 ghost use Rattle.script_boards.specs.Machine.{drawn_by};
-ghost use Rattle.script_events.specs.PartyEvents.{takes_board_name};
+ghost use Rattle.script_events.specs.PartyEvents.{TellsTaken};
 ghost use Rattle.script_machine.specs.ScriptMachine.{IsLed, OfEachState, Tells, no_wait};
 ghost use Rattle.script_machine.specs.Wants.{MayWant};
 
@@ -40,8 +40,8 @@ fn no_wait(why: Reason) -> Reason
 impl<C: BoardWords + Drop> Machine<C> {
     // Whether boards hold the name of what a call on events makes.
     fn takes_board_name(&self, party: &Name, request: &EventRequest) -> bool
-        ensures { OfEachState self.now (λ s. result ≡ takes_board_name s.boards party.now
-            (name_made request.now)) }
+        ensures { OfEachState self.now (λ s.
+            TellsTaken result s.boards party.now request.now) }
     {
         match name_made(request) {
             Some(name) => self.boards.is_held(party, &name),

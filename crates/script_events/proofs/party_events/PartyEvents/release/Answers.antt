@@ -1,54 +1,54 @@
-use Rattle.std.proofs.Common.{◌≡◌, List, rules, subst, sym}
-use Rattle.script_events.specs.declared.rows.EventRow.{EventRow}
-use Rattle.script_events.specs.declared.rows.Role.TheVariants as role
-use Rattle.script_events.specs.PartyEvents.{Holds, is_thing_of, thing_in}
-use Rattle.script_events.proofs.Lists.{one_of}
+use Rattle.std.proofs.Common.{◌≡◌, ◌∙◌, Option, Some, None, false, true, ap, rules, sym}
+use Rattle.std.specs.Prelude.{is_some, option_map}
+use Rattle.script_events.specs.declared.rows.Holding.{Holding}
+use Rattle.script_events.specs.declared.rows.Holding.TheVariants as holding
+use Rattle.script_events.specs.PartyEvents.{held_in, thing_in}
+use Rattle.script_events.proofs.Options.{is_some-map}
 use Rattle.script_events.proofs.Releases.{has_listener, has_notifier, listener_let_go, notifier_let_go, same_calls}
-use Rattle.script_model.specs.ScriptEvents.{event_let_go}
-use Rattle.std.specs.List.{filter}
 use Rattle.script_events.proofs.party_events.PartyEvents.release.Goals as goal
 
-pub take_thing-row-requires : goal.take_thing-row-requires
-take_thing-row-requires c =
+pub unreachable-requires : goal.unreachable-requires
+unreachable-requires c =
     let m = c.args.self.now in
     let led = c.requires.led in
-    let p = is_thing_of c.args.party.now c.args.name.now in
-    one_of thing_in (led.state.things c.args.party.now c.args.name.now) (filter p m.things.items) (led.represents.held.things c.args.party.now c.args.name.now) (c.requires.held led.state led.count led.few led.sound led.represents)
+    let held = held_in m.things c.args.party.now c.args.name.now in
+    let none : held ≡ None = search rules in
+    let some : is_some held ≡ true = sym (is_some-map thing_in held) ∙ ap is_some (led.represents.held.things c.args.party.now c.args.name.now) ∙ c.requires.held led.state led.count led.few led.sound led.represents in
+    let no : false ≡ true = sym (ap is_some none) ∙ some in
+    cc
 
 pub release_listener-requires : goal.release_listener-requires
 release_listener-requires c =
     let m = c.args.self.now in
     let led = c.requires.led in
-    let is : c.take_thing-row.result.role ≡ role.Listener = search rules in
-    has_listener m.events m.things.items led.state led.count led.sound led.represents.held c.args.party.now c.args.name.now c.take_thing-row.result c.take_thing-row.ensures.one is
+    let is : held_in m.things c.args.party.now c.args.name.now ≡ Some (holding.Listener c.in-Some-Listener.event) = search rules in
+    has_listener m.events (held_in m.things) led.state led.count led.sound led.represents.held c.args.party.now c.args.name.now c.in-Some-Listener.event is
 
 pub release_notifier-requires : goal.release_notifier-requires
 release_notifier-requires c =
     let m = c.args.self.now in
     let led = c.requires.led in
-    let is : c.take_thing-row.result.role ≡ role.Notifier = search rules in
-    has_notifier m.events m.things.items led.state led.count led.sound led.represents.held c.args.party.now c.args.name.now c.take_thing-row.result c.take_thing-row.ensures.one is
+    let is : held_in m.things c.args.party.now c.args.name.now ≡ Some (holding.Notifier c.in-Some-Notifier.event) = search rules in
+    has_notifier m.events (held_in m.things) led.state led.count led.sound led.represents.held c.args.party.now c.args.name.now c.in-Some-Notifier.event is
 
-pub returns-in-Listener : goal.returns-in-Listener
-returns-in-Listener c =
+pub returns-in-Some-Listener : goal.returns-in-Some-Listener
+returns-in-Some-Listener c =
     let m = c.args.self.now in
     let party = c.args.party.now in
     let name = c.args.name.now in
-    let is : c.take_thing-row.result.role ≡ role.Listener = search rules in
+    let is : held_in m.things party name ≡ Some (holding.Listener c.in-Some-Listener.event) = search rules in
     λ x count few sound rep. record {
-      held = subst (λ (rows : List EventRow). Holds c.release_listener.new.self rows (event_let_go x party name (x.things party name))) (sym c.take_thing-row.ensures.left)
-          (listener_let_go m.events m.things.items x count sound rep.held party name c.take_thing-row.result c.take_thing-row.ensures.one c.release_listener.new.self is c.release_listener.ensures.after);
-      calls = same_calls x party name m.calls.items rep.calls;
+      held = listener_let_go m.events (held_in m.things) x count sound rep.held party name c.in-Some-Listener.event (held_in c.take.new.self) c.take.ensures.left is c.release_listener.new.self c.release_listener.ensures.after;
+      calls = same_calls x party name _ rep.calls;
     }
 
-pub returns-in-Notifier : goal.returns-in-Notifier
-returns-in-Notifier c =
+pub returns-in-Some-Notifier : goal.returns-in-Some-Notifier
+returns-in-Some-Notifier c =
     let m = c.args.self.now in
     let party = c.args.party.now in
     let name = c.args.name.now in
-    let is : c.take_thing-row.result.role ≡ role.Notifier = search rules in
+    let is : held_in m.things party name ≡ Some (holding.Notifier c.in-Some-Notifier.event) = search rules in
     λ x count few sound rep. record {
-      held = subst (λ (rows : List EventRow). Holds c.release_notifier.new.self rows (event_let_go x party name (x.things party name))) (sym c.take_thing-row.ensures.left)
-          (notifier_let_go m.events m.things.items x count sound rep.held party name c.take_thing-row.result c.take_thing-row.ensures.one c.release_notifier.new.self is c.release_notifier.ensures.after);
-      calls = same_calls x party name m.calls.items rep.calls;
+      held = notifier_let_go m.events (held_in m.things) x count sound rep.held party name c.in-Some-Notifier.event (held_in c.take.new.self) c.take.ensures.left is c.release_notifier.new.self c.release_notifier.ensures.after;
+      calls = same_calls x party name _ rep.calls;
     }

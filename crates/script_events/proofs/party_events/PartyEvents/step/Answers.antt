@@ -1,148 +1,85 @@
-use Rattle.std.proofs.Common.{◌≡◌, ◌∙◌, refl, rules, sym, subst, true}
-use Rattle.board_event_model.specs.EventCalls.{owed}
-use Rattle.std.specs.List.{filter}
-use Rattle.script_model.specs.ScriptEvents.{to_listen, to_notify}
-use Rattle.script_events.specs.declared.party_events.PartyEvents.{PartyEvents}
+use Rattle.std.proofs.Common.{◌≡◌, ◌∙◌, Bool, List, ℕ, Option, Some, None, ap, false, rules, subst, sym, true}
+use Rattle.std.specs.Prelude.{if◌then◌else◌, is_some}
+use Rattle.std.specs.HashMap.{get}
+use Rattle.std.specs.Str.{bytes_eq}
 use Rattle.script_events.specs.declared.rows.CallTask.{CallTask}
-use Rattle.script_events.specs.declared.rows.CallTask.TheVariants as task
-use Rattle.script_events.specs.Calls.{IsWentOn}
-use Rattle.script_events.specs.Left.{IsCutAt, IsCutShort, IsGivenUp}
-use Rattle.script_events.specs.PartyEvents.{IsAskedBy, IsStepped, OfEach, StepMayWant, event_call, is_row_of, may_give}
-use Rattle.script_events.proofs.Asks.{few_notifiers}
-use Rattle.script_events.proofs.Steps.{act_can, act_goes_on, act_stepped, act_takes, anyway, ask_stepped, ask_takes, if_ok, on_err, one_row, own_row}
+use Rattle.script_events.specs.Calls.{TakesAt, goes_on}
+use Rattle.script_events.specs.Left.{HasTask, IsCutAt, IsCutShort}
+use Rattle.script_events.specs.PartyEvents.{StepMayWant, held_in, task_in}
+use Rattle.script_events.proofs.Options.{on_err, on_errs}
+use Rattle.script_events.proofs.Steps.{can_step, had_memory, may_want, told_done}
+use Rattle.script_events.proofs.Tasks.{changed_ended, is_running}
 use Rattle.script_events.proofs.party_events.PartyEvents.step.Goals as goal
 
-pub take_call-party-requires : goal.take_call-party-requires
-take_call-party-requires c =
-    let m = c.args.self.now in
-    let party = c.args.party.now in
-    let led = c.requires.led in
-    one_row (filter (is_row_of party) m.calls.items) (led.state.asked party) (led.state.session.doing party) (led.represents.calls party) (c.requires.runs led.state led.count led.few led.sound led.represents)
+abbrev no_task : Option CallTask
+no_task = None
 
-pub add_notifier-requires : goal.add_notifier-requires
-add_notifier-requires c =
+pub unreachable-requires : goal.unreachable-requires
+unreachable-requires c =
     let m = c.args.self.now in
     let led = c.requires.led in
-    record { few = few_notifiers m.events m.things.items led.state led.count led.few led.sound led.represents.held }
-
-pub go_on-requires-clause-goes_on : goal.go_on-requires-clause-goes_on
-go_on-requires-clause-goes_on c =
-    let m = c.args.self.now in
     let party = c.args.party.now in
+    let none : task_in m party ≡ no_task = search rules in
+    let some : is_some (task_in m party) ≡ true = is_running (task_in m party) (led.state.asked party) (led.state.session.doing party) (led.represents.calls party) ∙ c.requires.runs led.state led.count led.few led.sound led.represents in
+    let no : false ≡ true = sym (ap is_some none) ∙ some in
+    cc
+
+pub step-stepped-requires : goal.step-stepped-requires
+step-stepped-requires c =
     let led = c.requires.led in
-    let row = c.take_call-party.result in
-    let is : row.task ≡ task.Act c.in-Act.act = search rules in
-    act_goes_on m led.state led.count led.few led.sound led.represents party row c.take_call-party.ensures.one c.in-Act.act is
+    can_step c.args.self.now c.args.self.now led.state led.count led.few led.sound led.represents c.args.party.now c.in-Some.task.now (sym c.in-Some.ensures.value)
 
-pub go_on-requires-clause-can : goal.go_on-requires-clause-can
-go_on-requires-clause-can c =
+pub returns-then-not-goes_on-clause-told : goal.returns-then-not-goes_on-clause-told
+returns-then-not-goes_on-clause-told c =
     let m = c.args.self.now in
     let party = c.args.party.now in
-    let led = c.requires.led in
-    let row = c.take_call-party.result in
-    let is : row.task ≡ task.Act c.in-Act.act = search rules in
-    act_can m led.state led.count led.few led.sound led.represents party row c.take_call-party.ensures.one c.in-Act.act is
+    let t = c.in-Some.task.now in
+    let found : task_in m party ≡ Some t = sym c.in-Some.ensures.value in
+    let left = c.step-stepped.new.self in
+    let put = ((c.get_mut.follows.holds left).3 (ap is_some found)).0 in
+    let over : goes_on c.step-stepped.result ≡ false = search rules in
+    let gone = changed_ended (task_in m) (λ p. get bytes_eq (c.get_mut.follows.lender left) p) (λ p. get bytes_eq c.remove.new.self p) party (Some left) put c.remove.ensures.updates.0 in
+    told_done m _ party t found left c.step-stepped.result c.step-stepped.ensures.told
+    (subst (λ (b : Bool). HasTask (task_in m) (λ p. get bytes_eq c.remove.new.self p) party (if b then Some left else None)) (sym over) gone)
 
-pub returns-in_ok-reply-in-Listen-clause-told : goal.returns-in_ok-reply-in-Listen-clause-told
-returns-in_ok-reply-in-Listen-clause-told c =
+pub returns-then-not-goes_on-clause-memory : goal.returns-then-not-goes_on-clause-memory
+returns-then-not-goes_on-clause-memory c =
     let m = c.args.self.now in
     let party = c.args.party.now in
-    let row = c.take_call-party.result in
-    let q = to_listen c.in-Listen.listener c.in-Listen.kind c.in-Listen.event c.in-Listen.max in
-    let is : row.task ≡ task.Listen c.in-Listen.listener c.in-Listen.kind c.in-Listen.event c.in-Listen.max = search rules in
-    λ x count few sound rep.
-    ask_stepped m _ x count sound rep party row c.take_call-party.ensures.one q (subst (λ (t : CallTask). IsAskedBy t q) (sym is) refl) c.in_ok-reply-in-Listen.reply c.in_ok-reply-in-Listen.ensures.told c.take_call-party.ensures.left
+    let t = c.in-Some.task.now in
+    on_err c.step-stepped.result (TakesAt m.events (held_in m.things) party t) (StepMayWant m party) (may_want m party t (sym c.in-Some.ensures.value)) c.step-stepped.ensures.memory
 
-pub returns-in_ok-reply-in-Notifier-clause-told : goal.returns-in_ok-reply-in-Notifier-clause-told
-returns-in_ok-reply-in-Notifier-clause-told c =
+pub returns-then-not-goes_on-clause-left : goal.returns-then-not-goes_on-clause-left
+returns-then-not-goes_on-clause-left c =
     let m = c.args.self.now in
     let party = c.args.party.now in
-    let row = c.take_call-party.result in
-    let q = to_notify c.in-Notifier.notifier c.in-Notifier.kind c.in-Notifier.event in
-    let is : row.task ≡ task.Notifier c.in-Notifier.notifier c.in-Notifier.kind c.in-Notifier.event = search rules in
-    λ x count few sound rep.
-    ask_stepped m _ x count sound rep party row c.take_call-party.ensures.one q (subst (λ (t : CallTask). IsAskedBy t q) (sym is) refl) c.in_ok-reply-in-Notifier.reply c.in_ok-reply-in-Notifier.ensures.told c.take_call-party.ensures.left
+    let t = c.in-Some.task.now in
+    let found : task_in m party ≡ Some t = sym c.in-Some.ensures.value in
+    let left = c.step-stepped.new.self in
+    let put = ((c.get_mut.follows.holds left).3 (ap is_some found)).0 in
+    let gone = changed_ended (task_in m) (λ p. get bytes_eq (c.get_mut.follows.lender left) p) (λ p. get bytes_eq c.remove.new.self p) party (Some left) put c.remove.ensures.updates.0 in
+    on_errs c.step-stepped.result ((p n : List ℕ) → held_in c.step-stepped.new.things p n ≡ held_in m.things p n) (IsCutAt m.events c.step-stepped.new.events t) (IsCutShort m _ party)
+    (λ things events. record { task = t; found = found; calls = gone; things = things; events = events })
+    c.step-stepped.ensures.things c.step-stepped.ensures.events
 
-pub returns-in-Act-clause-told : goal.returns-in-Act-clause-told
-returns-in-Act-clause-told c =
+pub returns-else-not-goes_on-clause-told : goal.returns-else-not-goes_on-clause-told
+returns-else-not-goes_on-clause-told c =
     let m = c.args.self.now in
     let party = c.args.party.now in
-    let row = c.take_call-party.result in
-    let is : row.task ≡ task.Act c.in-Act.act = search rules in
-    let mid : PartyEvents = record m { calls = c.take_call-party.new.calls } in
-    let own : row.party ≡ party = own_row party m.calls.items row c.take_call-party.ensures.one in
-    if_ok c.go_on.result (IsWentOn mid c.go_on.new.self row.party c.in-Act.act) (λ told. OfEach m (λ x. IsStepped c.go_on.new.self x party told))
-    (λ told went x count few sound rep. act_stepped m mid c.go_on.new.self x count few sound rep party row c.take_call-party.ensures.one c.in-Act.act is refl refl c.take_call-party.ensures.left told (subst (λ p. IsWentOn mid c.go_on.new.self p c.in-Act.act told) own went))
-    c.go_on.ensures.told
+    let t = c.in-Some.task.now in
+    let found : task_in m party ≡ Some t = sym c.in-Some.ensures.value in
+    let left = c.step-stepped.new.self in
+    let put = ((c.get_mut.follows.holds left).3 (ap is_some found)).0 in
+    let on : goes_on c.step-stepped.result ≡ true = search rules in
+    told_done m _ party t found left c.step-stepped.result c.step-stepped.ensures.told
+    (subst (λ (b : Bool). HasTask (task_in m) (λ p. get bytes_eq (c.get_mut.follows.lender left) p) party (if b then Some left else None)) (sym on) put)
 
-pub returns-in_err-reply-in-Listen-clause-memory : goal.returns-in_err-reply-in-Listen-clause-memory
-returns-in_err-reply-in-Listen-clause-memory c =
-    let m = c.args.self.now in
-    let party = c.args.party.now in
-    let row = c.take_call-party.result in
-    let q = to_listen c.in-Listen.listener c.in-Listen.kind c.in-Listen.event c.in-Listen.max in
-    let is : row.task ≡ task.Listen c.in-Listen.listener c.in-Listen.kind c.in-Listen.event c.in-Listen.max = search rules in
-    anyway _ (StepMayWant m party) (λ x count few sound rep.
-    ask_takes m x count sound rep party row c.take_call-party.ensures.one q (subst (λ (t : CallTask). IsAskedBy t q) (sym is) refl) c.in_err-reply-in-Listen.ensures.memory)
+pub returns-else-not-goes_on-clause-memory : goal.returns-else-not-goes_on-clause-memory
+returns-else-not-goes_on-clause-memory c =
+    let on : goes_on c.step-stepped.result ≡ true = search rules in
+    had_memory c.step-stepped.result _ on
 
-pub returns-in_err-reply-in-Notifier-clause-memory : goal.returns-in_err-reply-in-Notifier-clause-memory
-returns-in_err-reply-in-Notifier-clause-memory c =
-    let m = c.args.self.now in
-    let party = c.args.party.now in
-    let row = c.take_call-party.result in
-    let q = to_notify c.in-Notifier.notifier c.in-Notifier.kind c.in-Notifier.event in
-    let is : row.task ≡ task.Notifier c.in-Notifier.notifier c.in-Notifier.kind c.in-Notifier.event = search rules in
-    anyway _ (StepMayWant m party) (λ x count few sound rep.
-    ask_takes m x count sound rep party row c.take_call-party.ensures.one q (subst (λ (t : CallTask). IsAskedBy t q) (sym is) refl) c.in_err-reply-in-Notifier.ensures.memory)
-
-pub returns-in-Act-clause-memory : goal.returns-in-Act-clause-memory
-returns-in-Act-clause-memory c =
-    let m = c.args.self.now in
-    let party = c.args.party.now in
-    let row = c.take_call-party.result in
-    let is : row.task ≡ task.Act c.in-Act.act = search rules in
-    on_err c.go_on.result (may_give (owed (event_call c.in-Act.act.call)) ≡ true) (StepMayWant m party)
-    (λ h x count few sound rep. act_takes m x count few sound rep party row c.take_call-party.ensures.one c.in-Act.act is h)
-    c.go_on.ensures.memory
-
-pub returns-in_err-reply-in-Listen-clause-left : goal.returns-in_err-reply-in-Listen-clause-left
-returns-in_err-reply-in-Listen-clause-left c =
-    let row = c.take_call-party.result in
-    let t = c.args.self.now.events in
-    let is : row.task ≡ task.Listen c.in-Listen.listener c.in-Listen.kind c.in-Listen.event c.in-Listen.max = search rules in
-    anyway _ (IsCutShort c.args.self.now _ c.args.party.now) (record {
-      row = row;
-      only = c.take_call-party.ensures.one;
-      calls = c.take_call-party.ensures.left;
-      things = c.in_err-reply-in-Listen.ensures.things;
-      events = subst (λ (k : CallTask). IsCutAt t c.listen.new.events k) (sym is) c.in_err-reply-in-Listen.ensures.events;
-    })
-
-pub returns-in_err-reply-in-Notifier-clause-left : goal.returns-in_err-reply-in-Notifier-clause-left
-returns-in_err-reply-in-Notifier-clause-left c =
-    let row = c.take_call-party.result in
-    let t = c.args.self.now.events in
-    let is : row.task ≡ task.Notifier c.in-Notifier.notifier c.in-Notifier.kind c.in-Notifier.event = search rules in
-    anyway _ (IsCutShort c.args.self.now _ c.args.party.now) (record {
-      row = row;
-      only = c.take_call-party.ensures.one;
-      calls = c.take_call-party.ensures.left;
-      things = c.in_err-reply-in-Notifier.ensures.things;
-      events = subst (λ (k : CallTask). IsCutAt t c.add_notifier.new.events k) (sym is) c.in_err-reply-in-Notifier.ensures.events;
-    })
-
-pub returns-in-Act-clause-left : goal.returns-in-Act-clause-left
-returns-in-Act-clause-left c =
-    let m = c.args.self.now in
-    let row = c.take_call-party.result in
-    let is : row.task ≡ task.Act c.in-Act.act = search rules in
-    let mid : PartyEvents = record m { calls = c.take_call-party.new.calls } in
-    on_err c.go_on.result (IsGivenUp mid c.go_on.new.self c.in-Act.act) (IsCutShort m c.go_on.new.self c.args.party.now)
-    (λ given. record {
-      row = row;
-      only = c.take_call-party.ensures.one;
-      calls = given.calls ∙ c.take_call-party.ensures.left;
-      things = given.things;
-      events = subst (λ (k : CallTask). IsCutAt m.events c.go_on.new.self.events k) (sym is) given.events;
-    })
-    c.go_on.ensures.left
+pub returns-else-not-goes_on-clause-left : goal.returns-else-not-goes_on-clause-left
+returns-else-not-goes_on-clause-left c =
+    let on : goes_on c.step-stepped.result ≡ true = search rules in
+    had_memory c.step-stepped.result _ on
