@@ -46,7 +46,8 @@ module _ (b : lent.NewBoard) (d t : Core) (is : lent.IsMade b d t) (facts : IsDo
   abbrev the_board : Board
   the_board = new_board (d.tables.last_board + 1) b.name b.keys b.limits b.attributes b.entries
 
-  board_found : (n : ℕ) → n ≡ d.tables.last_board + 1 → board_at t.tables n ≡ Some the_board
+  -- a board that was made is found under its number
+  pub board_found : (n : ℕ) → n ≡ d.tables.last_board + 1 → board_at t.tables n ≡ Some the_board
   board_found n e =
       let none = none_above board_number is_numbered (λ m y. refl) d.tables.last_board (d.tables.last_board + 1) d.tables.boards facts.tables.boards (omega arith) in
       ap (λ (s : Core). board_at s.tables n) is.2

@@ -1,18 +1,23 @@
 -- Boards and factories that were made stand.
 use Rattle.std.proofs.Common.{◌≡◌, ℕ, ◌+◌, Bool, true, false, cond, List, [], ◌∷◌, ◌++◌, Option, Some, None, refl, sym, ap, ◌∙◌, subst}
-use Rattle.std.specs.Prelude.{find, IsSome, is_some, is_none, nat_eq, Ok, Err}
+use Rattle.std.specs.Prelude.{find, IsSome, is_some, is_none, nat_eq, option_map, Ok, Err}
 use Rattle.board_layout.specs.declared.type_detail.TypeDetail.{TypeDetail}
 use Rattle.board_model.specs.declared.attributes.Attribute.{Attribute}
 use Rattle.board_model.specs.declared.attributes.Requirements.{Requirements}
 use Rattle.board_model.specs.declared.tables.Board.{Board}
 use Rattle.board_model.specs.declared.tables.Limits.{Limits}
-use Rattle.board_model.specs.Tables.{Added, board_at, board_named, has_name, is_numbered}
+use Rattle.board_model.specs.declared.tables.ThingKind.TheVariants.{Factory}
+use Rattle.board_model.specs.Tables.{Added, board_at, board_named, has_name, holds_at, is_numbered}
 use Rattle.board_model.specs.TableCalls.{answer_of, first_of, number_of, open_refusals}
+use Rattle.board_model.specs.TypeTable.{same_type}
 use Rattle.board_names.specs.declared.errors.boards.BlackboardOpenError.TheVariants as open_error
 use Rattle.board_service.specs.declared.made.Made.{Made}
 use Rattle.board_service.specs.declared.told.StaticConfig.{StaticConfig}
 use Rattle.board_cells.specs.Cells.{PlaceSeen, AreNew}
 use Rattle.board_service.specs.Domain.{IsCreated, spent, made, create_answer, create_list, open_answer, open_list, after_open}
+use Rattle.board_service.specs.Facts.{IsDomain, IsHeldAs}
+use Rattle.board_service.specs.Told.{config}
+use Rattle.board_service.proofs.HeldLemmas.{next_held, same_type-refl}
 use Rattle.board_handles.specs.BoardEnds.{Core}
 use Rattle.board_handles.proofs.LentLemmas.{is_same, kept_some, found_last, answered}
 use Rattle.board_domain.specs.Kept.{ShowsBoard}
@@ -73,6 +78,24 @@ module _ (d : Core) (node : ℕ) (name : List ℕ) (keys : TypeDetail) (limits :
       let number : x.number ≡ number_of (board_named d.tables name) = ap (λ (m : Made). m.number) (same_opened ok) in
       let stands = named_stands d.tables.boards name (board_named d.tables name) refl (opened_number_from (board_named d.tables name) refl ok) in
       subst (λ n. IsSome (board_at d.tables n)) (sym number) stands
+
+-- the board that is shown has keys of the type that is told
+keys_shown : (w : Option Board) (c : StaticConfig) (keys : TypeDetail) → Some c ≡ option_map config w → c.type_details ≡ keys → holds_at w (λ b. same_type b.key keys) ≡ true
+keys_shown None c keys shows told = absurd cc
+keys_shown (Some b) c keys shows told =
+    let same : c ≡ config b = cc in
+    subst (λ (k : TypeDetail). same_type b.key k ≡ true) (ap (λ (s : StaticConfig). s.type_details) (sym same) ∙ told) (same_type-refl b.key)
+
+-- the factory that was made is held
+pub held_opened : (d t : Core) (node : ℕ) (name : List ℕ) (keys : TypeDetail) (limits : Limits) (needs : Requirements) (x : Made) (c : StaticConfig) (attributes : List Attribute) → IsDomain d
+    → Ok x ≡ open_answer d node name keys limits needs → t ≡ after_open d node name → ShowsBoard (board_at d.tables x.number) c attributes → c.type_details ≡ keys → IsHeldAs t keys x.thing Factory
+held_opened d t node name keys limits needs x c attributes facts ok is shows told =
+    let same = same_opened d node name keys limits needs x ok in
+    let number : x.number ≡ number_of (board_named d.tables name) = ap (λ (m : Made). m.number) same in
+    let there : holds_at (board_at d.tables (number_of (board_named d.tables name))) (λ b. same_type b.key keys) ≡ true =
+    keys_shown _ c keys (subst (λ n. Some c ≡ option_map config (board_at d.tables n)) number shows.0) told in
+    subst (λ (s : Core). IsHeldAs s keys x.thing Factory) (sym is)
+    (next_held d (after_open d node name) _ x.thing keys Factory facts refl refl (ap (λ (m : Made). m.thing) same) refl there)
 
 -- what is fixed of a board stays so when it is opened
 pub shown_still : (d t : Core) (node : ℕ) (name : List ℕ) (n : ℕ) (c : StaticConfig) (attributes : List Attribute) → t ≡ after_open d node name → ShowsBoard (board_at d.tables n) c attributes → ShowsBoard (board_at t.tables n) c attributes

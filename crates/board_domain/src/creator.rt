@@ -8,6 +8,7 @@ ghost use Rattle.board_service.specs.Domain as calls;
 ghost use Rattle.board_domain.specs.Asked.{config_asked};
 ghost use Rattle.board_domain.specs.LentForms as lent;
 ghost use Rattle.board_service.specs.Entries.{IsEntryOf, TakesItsWords};
+ghost use Rattle.board_service.specs.Facts.{IsHeldAs};
 ghost use Rattle.board_domain.specs.Services.{AddsEntry, new_creator, allowing_readers, allowing_nodes, allowing_writers, factory_made};
 ghost use Rattle.board_domain.specs.Factories.{KeepsBoard};
 
@@ -18,7 +19,7 @@ use board_handles::{Domain, DomainState};
 use board_layout::{BoardKey, KeyMemoryError, ZeroCopySend};
 use board_model::{Limits, NewLimits};
 use board_names::{BlackboardCreateError, ServiceName};
-use board_service::{AddError, NewEntry, NodeId};
+use board_service::{AddError, NewEntry, NodeId, ThingKind};
 use std::alloc::Global;
 use std::marker::{Model, PhantomData};
 use std::sync::Wait;
@@ -170,6 +171,8 @@ impl<K: BoardKey, P> Creator<K, P> {
         ensures ok { let keys = details K.type_bytes K.SIZE K.ALIGNMENT in
             let asked = lent.asked_board self keys attributes in
             OnOk result (lent.IsMade asked state.old.tables state.new.tables) }
+        ensures held { let keys = details K.type_bytes K.SIZE K.ALIGNMENT in
+            IfOk result (λ f. IsHeldAs state.new.tables keys f.made.thing ThingKind.Factory) }
         ensures err { OnErr result (state.new.tables ≡ state.old.tables) }
         ensures kept { IfOk result (λ f. KeepsBoard state.new.tables f) }
         ensures named { IfOk result (λ f. f.name ≡ self.name) }
@@ -212,6 +215,8 @@ impl<K: BoardKey, P> Creator<K, P> {
         ensures ok { let keys = details K.type_bytes K.SIZE K.ALIGNMENT in
             let asked = lent.asked_board self keys [] in
             OnOk result (lent.IsMade asked state.old.tables state.new.tables) }
+        ensures held { let keys = details K.type_bytes K.SIZE K.ALIGNMENT in
+            IfOk result (λ f. IsHeldAs state.new.tables keys f.made.thing ThingKind.Factory) }
         ensures err { OnErr result (state.new.tables ≡ state.old.tables) }
         ensures kept { IfOk result (λ f. KeepsBoard state.new.tables f) }
         ensures named { IfOk result (λ f. f.name ≡ self.name) }

@@ -7,6 +7,7 @@ ghost use Rattle.board_layout.specs.Layout.{IsShape};
 ghost use Rattle.board_model.specs.Tables.{board_at, shapes_of};
 ghost use Rattle.board_service.specs.Domain as calls;
 ghost use Rattle.board_service.specs.Entries.{as_added};
+ghost use Rattle.board_service.specs.Facts.{IsHeldAs};
 ghost use Rattle.board_domain.specs.Asked.{IsAsAsked, config_asked};
 ghost use Rattle.board_domain.specs.Kept.{attributes_of, kept_made, KeepsBoard};
 ghost use Rattle.board_domain.specs.LentForms as lent;
@@ -16,7 +17,7 @@ use board_handles::{BoardCells, DomainState};
 use board_layout::BoardKey;
 use board_model::{Limits, NewLimits};
 use board_names::{AttributeError, BlackboardCreateError, BlackboardOpenError, ServiceName};
-use board_service::{DomainCore, Made, NewEntry, NodeId, StaticConfig};
+use board_service::{DomainCore, Made, NewEntry, NodeId, StaticConfig, ThingKind};
 use std::alloc::AllocError;
 
 /// A factory's thing and its board's number, and what is fixed of the board.
@@ -97,6 +98,8 @@ pub(crate) fn new_board<K: BoardKey>(
         let added = map as_added entries.items in
         let asked = lent.new_board node name.now keys limits attributes added in
         OnOk result (lent.IsMade asked state.old.tables state.new.tables) }
+    ensures held { let keys = details K.type_bytes K.SIZE K.ALIGNMENT in
+        IfOk result (λ k. IsHeldAs state.new.tables keys k.made.thing ThingKind.Factory) }
     ensures err { OnErr result (state.new.tables ≡ state.old.tables) }
     ensures kept { IfOk result (λ k. KeepsBoard state.new.tables k) }
     ensures config { let keys = details K.type_bytes K.SIZE K.ALIGNMENT in
@@ -144,6 +147,8 @@ pub(crate) fn open_board<K: BoardKey>(
         let answer = calls.open_answer state.old.tables node name.now keys limits verifier.now in
         Refuses (with_value kept_made result) answer }
     ensures ok { OnOk result (state.new.tables ≡ calls.after_open state.old.tables node name.now) }
+    ensures held { let keys = details K.type_bytes K.SIZE K.ALIGNMENT in
+        IfOk result (λ k. IsHeldAs state.new.tables keys k.made.thing ThingKind.Factory) }
     ensures err { OnErr result (state.new.tables ≡ state.old.tables) }
     ensures kept { IfOk result (λ k. KeepsBoard state.new.tables k) }
     ensures asked { let keys = details K.type_bytes K.SIZE K.ALIGNMENT in

@@ -3,6 +3,7 @@ ghost use Rattle.std.specs.Prelude.{◌≡◌, [], Some, IfOk, OnOk, OnErr};
 ghost use Rattle.board_layout.specs.Answer.{Answers, Refuses, with_value};
 ghost use Rattle.board_layout.specs.Bytes.{details};
 ghost use Rattle.board_service.specs.Domain as calls;
+ghost use Rattle.board_service.specs.Facts.{IsHeldAs};
 ghost use Rattle.board_domain.specs.Asked.{IsAsAsked};
 ghost use Rattle.board_domain.specs.LentForms as lent;
 ghost use Rattle.board_domain.specs.Services.{no_limits, with_readers, with_nodes, factory_made, no_requirements};
@@ -15,7 +16,7 @@ use board_handles::{Domain, DomainState};
 use board_layout::BoardKey;
 use board_model::Limits;
 use board_names::{BlackboardOpenError, ServiceName};
-use board_service::NodeId;
+use board_service::{NodeId, ThingKind};
 use std::alloc::Global;
 use std::marker::{Model, PhantomData};
 use std::sync::Wait;
@@ -96,6 +97,8 @@ impl<K: BoardKey, P> Opener<K, P> {
             Refuses (with_value factory_made result) answer }
         ensures ok { let after = calls.after_open state.old.tables self.node self.name in
             OnOk result (state.new.tables ≡ after) }
+        ensures held { let keys = details K.type_bytes K.SIZE K.ALIGNMENT in
+            IfOk result (λ f. IsHeldAs state.new.tables keys f.made.thing ThingKind.Factory) }
         ensures err { OnErr result (state.new.tables ≡ state.old.tables) }
         ensures kept { IfOk result (λ f. KeepsBoard state.new.tables f) }
         ensures named { IfOk result (λ f. f.name ≡ self.name) }
@@ -123,6 +126,8 @@ impl<K: BoardKey, P> Opener<K, P> {
             Refuses (with_value factory_made result) answer }
         ensures ok { let after = calls.after_open state.old.tables self.node self.name in
             OnOk result (state.new.tables ≡ after) }
+        ensures held { let keys = details K.type_bytes K.SIZE K.ALIGNMENT in
+            IfOk result (λ f. IsHeldAs state.new.tables keys f.made.thing ThingKind.Factory) }
         ensures err { OnErr result (state.new.tables ≡ state.old.tables) }
         ensures kept { IfOk result (λ f. KeepsBoard state.new.tables f) }
         ensures named { IfOk result (λ f. f.name ≡ self.name) }

@@ -280,11 +280,11 @@ impl<K: BoardKey, P> PortFactory<K, P> {
         self.list_keys_in(&state, callback)
     }
 
-    /// What makes a reader of the board, while this factory stands.
+    /// What makes a reader of the board. This factory isn't given up before.
     ///
     /// # Errors
     /// `OutOfMemory` where one more owner of the domain is refused.
-    pub fn reader_builder(&self) -> Result<PortFactoryReader<K, P>, DomainError>
+    pub fn reader_builder(&self) -> Result<PortFactoryReader<'_, K, P>, DomainError>
         ensures ok { IfOk result (λ r. r ≡ self.now.made.thing) }
         ensures memory { IsOkUnless result OutOfMemory }
     {
@@ -294,11 +294,11 @@ impl<K: BoardKey, P> PortFactory<K, P> {
         Ok(PortFactoryReader::new(self.alloc, self.made.thing, domain))
     }
 
-    /// What makes a writer of the board, while this factory stands.
+    /// What makes a writer of the board. This factory isn't given up before.
     ///
     /// # Errors
     /// `OutOfMemory` where one more owner of the domain is refused.
-    pub fn writer_builder(&self) -> Result<PortFactoryWriter<K, P>, DomainError>
+    pub fn writer_builder(&self) -> Result<PortFactoryWriter<'_, K, P>, DomainError>
         ensures ok { IfOk result (λ w. w ≡ self.now.made.thing) }
         ensures memory { IsOkUnless result OutOfMemory }
     {

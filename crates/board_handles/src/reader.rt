@@ -26,16 +26,16 @@ use std::alloc::Global;
 use std::marker::{Model, PhantomData};
 use std::sync::Wait;
 
-/// What a reader is made by. Clauses see the number of the board's factory.
+/// What a reader is made by, while the board's factory isn't given up. Clauses see the factory's number.
 #[derive(Drop)]
-pub struct PortFactoryReader<K, P> {
+pub struct PortFactoryReader<'f, K, P> {
     factory: ThingId,
     alloc: Global,
     domain: Domain,
-    marker: PhantomData<(K, P)>,
+    marker: PhantomData<(&'f (), K, P)>,
 }
 
-impl<K, P> Model for PortFactoryReader<K, P> {
+impl<'f, K, P> Model for PortFactoryReader<'f, K, P> {
     ghost use Rattle.std.specs.Prelude.{ℕ};
 
     ghost Value = { ℕ };
@@ -83,9 +83,9 @@ fn new_reader<K: BoardKey>(
     state.tables.reader(factory)
 }
 
-impl<K: BoardKey, P> PortFactoryReader<K, P> {
+impl<'f, K: BoardKey, P> PortFactoryReader<'f, K, P> {
     /// What makes readers of the board of the factory with this number, in this domain.
-    pub fn new(alloc: Global, factory: ThingId, domain: Domain) -> PortFactoryReader<K, P>
+    pub fn new(alloc: Global, factory: ThingId, domain: Domain) -> PortFactoryReader<'f, K, P>
         ensures { result ≡ factory }
     {
         PortFactoryReader {
@@ -130,7 +130,7 @@ impl<K: BoardKey, P> PortFactoryReader<K, P> {
         }
     }
 
-    /// Makes a reader, where the factory wasn't released meanwhile. The answer is that of `create_in` over some state.
+    /// Makes a reader. The answer is that of `create_in` over some state.
     ///
     /// # Errors
     /// As for `create_in`.

@@ -24,16 +24,16 @@ use std::alloc::{AllocError, Global};
 use std::marker::{Model, PhantomData};
 use std::sync::Wait;
 
-/// What a writer is made by. Clauses see the number of the board's factory.
+/// What a writer is made by, while the board's factory isn't given up. Clauses see the factory's number.
 #[derive(Drop)]
-pub struct PortFactoryWriter<K, P> {
+pub struct PortFactoryWriter<'f, K, P> {
     factory: ThingId,
     alloc: Global,
     domain: Domain,
-    marker: PhantomData<(K, P)>,
+    marker: PhantomData<(&'f (), K, P)>,
 }
 
-impl<K, P> Model for PortFactoryWriter<K, P> {
+impl<'f, K, P> Model for PortFactoryWriter<'f, K, P> {
     ghost use Rattle.std.specs.Prelude.{ℕ};
 
     ghost Value = { ℕ };
@@ -81,9 +81,9 @@ fn new_writer<K: BoardKey>(
     state.tables.writer(factory)
 }
 
-impl<K: BoardKey, P> PortFactoryWriter<K, P> {
+impl<'f, K: BoardKey, P> PortFactoryWriter<'f, K, P> {
     /// What makes writers of the board of the factory with this number, in this domain.
-    pub fn new(alloc: Global, factory: ThingId, domain: Domain) -> PortFactoryWriter<K, P>
+    pub fn new(alloc: Global, factory: ThingId, domain: Domain) -> PortFactoryWriter<'f, K, P>
         ensures { result ≡ factory }
     {
         PortFactoryWriter {
@@ -128,7 +128,7 @@ impl<K: BoardKey, P> PortFactoryWriter<K, P> {
         }
     }
 
-    /// Makes a writer, where the factory wasn't released meanwhile. The answer is that of `create_in` over some state.
+    /// Makes a writer. The answer is that of `create_in` over some state.
     ///
     /// # Errors
     /// As for `create_in`.

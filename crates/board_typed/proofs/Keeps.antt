@@ -8,7 +8,7 @@ use Rattle.board_model.specs.declared.tables.ThingKind.TheVariants.{WriteHandle}
 use Rattle.board_model.specs.Tables.{board_at, is_numbered}
 use Rattle.board_model.specs.TableCalls.{place_of}
 use Rattle.board_service.specs.Domain.{Stands, after_open, after_reader, after_writer, after_release, cells_of, held, is_thing, stands_as, thing_or_none}
-use Rattle.board_service.specs.Facts.{IsDomain, thing_number}
+use Rattle.board_service.specs.Facts.{AreTables, IsDomain, thing_number}
 use Rattle.board_service.proofs.DrawnLemmas.{find-without-other}
 use Rattle.board_service.proofs.TableLemmas.{board_stands}
 use Rattle.board_cells.specs.Cells.{PlaceSeen, EndSeen, with_end, without_end}
@@ -86,7 +86,7 @@ create_keeps gone b d t facts is = subst (KeepsOthers gone d) (sym is.2) record 
 
 -- ---- release
 
-pub left_keeps : (d : Core) (thing board : ℕ) → IsDomain d → IsDomain (after_release d thing board) → KeepsOthers thing d (after_release d thing board)
+pub left_keeps : (d : Core) (thing board : ℕ) → IsDomain d → AreTables (after_release d thing board).tables (after_release d thing board).last_thing → KeepsOthers thing d (after_release d thing board)
 left_keeps d thing board facts after = record {
   things = λ n ne stands. found_left n ne;
   boards = λ n ne stands. (stays n ne stands).0;
@@ -99,7 +99,7 @@ left_keeps d thing board facts after = record {
     stays : (n : ℕ) → n ≢ thing → Stands d n → Stays d facts thing board (held d n).board
     stays n ne stands = ⊎_elim (λ (s : Stays d facts thing board (held d n).board). s)
         (λ (g : Goes d facts thing board (held d n).board). (
-        let there : is_some (board_at (after_release d thing board).tables (held (after_release d thing board) n).board) ≡ true = board_stands (after_release d thing board).tables (after_release d thing board).last_thing n after.tables (ap is_some (found_left n ne) ∙ stands) in
+        let there : is_some (board_at (after_release d thing board).tables (held (after_release d thing board) n).board) ≡ true = board_stands (after_release d thing board).tables (after_release d thing board).last_thing n after (ap is_some (found_left n ne) ∙ stands) in
         let same : held (after_release d thing board) n ≡ held d n = ap thing_or_none (found_left n ne) in
         let none : false ≡ true = sym (ap is_some g.0) ∙ ap (λ (t : Thing ℕ ℕ). is_some (board_at (after_release d thing board).tables t.board)) (sym same) ∙ there in
         absurd cc
@@ -108,19 +108,22 @@ left_keeps d thing board facts after = record {
 stayed : (gone : ℕ) (d : Core) → KeepsOthers gone d d
 stayed gone d = record { things = λ n ne stands. refl; boards = λ n ne stands. refl; cells = λ n i ne stands. refl }
 
-pub release_keeps : (d : Core) (keys : TypeDetail) (thing : ℕ) (kind : ThingKind) → IsDomain d → IsDomain (lent.without_thing d thing) → KeepsOthers thing d (lent.given_up d keys thing kind)
-release_keeps d keys thing kind facts after = by (stands_as d keys thing kind)
+pub release_keeps : (d : Core) (keys : TypeDetail) (thing : ℕ) (kind : ThingKind) → IsDomain d → IsDomain (lent.given_up d keys thing kind) → KeepsOthers thing d (lent.given_up d keys thing kind)
+release_keeps d keys thing kind facts after = by (stands_as d keys thing kind) after
   where
-    by : (s : Bool) → KeepsOthers thing d (if s then lent.without_thing d thing else d)
-    by true = left_keeps d thing (held d thing).board facts after
-    by false = stayed thing d
+    by : (s : Bool) → IsDomain (if s then lent.without_thing d thing else d) → KeepsOthers thing d (if s then lent.without_thing d thing else d)
+    by true left = left_keeps d thing (held d thing).board facts left.tables
+    by false left = stayed thing d
 
-pub release_mut_keeps : (d : Core) (keys : TypeDetail) (h : WriteSeen) → IsDomain d → IsDomain (lent.without_thing d h.found.thing) → KeepsOthers h.found.thing d (lent.write_given_up d keys h)
-release_mut_keeps d keys h facts after = by (stands_as d keys h.found.thing WriteHandle)
+pub release_mut_keeps : (d : Core) (keys : TypeDetail) (h : WriteSeen) → IsDomain d → IsDomain (lent.write_given_up d keys h) → KeepsOthers h.found.thing d (lent.write_given_up d keys h)
+release_mut_keeps d keys h facts after = by (stands_as d keys h.found.thing WriteHandle) after
   where
-    by : (s : Bool) → KeepsOthers h.found.thing d (if s then lent.without_writing d h.found.thing h.found.entry h.held else d)
-    by true =
+    by : (s : Bool) → IsDomain (if s then lent.without_writing d h.found.thing h.found.entry h.held else d) → KeepsOthers h.found.thing d (if s then lent.without_writing d h.found.thing h.found.entry h.held else d)
+    by true left =
         let same = parked_same (lent.without_thing d h.found.thing) (held d h.found.thing).board h.found.entry h.held in
+        let tables : AreTables (lent.without_thing d h.found.thing).tables (lent.without_thing d h.found.thing).last_thing =
+        subst (λ n. AreTables (lent.without_thing d h.found.thing).tables n) same.2
+        (subst (λ t. AreTables t (lent.without_writing d h.found.thing h.found.entry h.held).last_thing) same.0 left.tables) in
         same_keeps h.found.thing d (lent.without_thing d h.found.thing) (lent.without_writing d h.found.thing h.found.entry h.held)
-        (left_keeps d h.found.thing (held d h.found.thing).board facts after) same.0 same.1
-    by false = stayed h.found.thing d
+        (left_keeps d h.found.thing (held d h.found.thing).board facts tables) same.0 same.1
+    by false left = stayed h.found.thing d

@@ -1,6 +1,6 @@
 -- A board that is made has its cells in order.
-use Rattle.std.proofs.Common.{◌≡◌, ℕ, zero, suc, Bool, true, false, cond, ◌+◌, List, [], ◌∷◌, ◌++◌, Some, None, refl, sym, ap, ◌∙◌, subst}
-use Rattle.std.specs.Prelude.{◌≤◌, find, slice_get, is_some}
+use Rattle.std.proofs.Common.{◌≡◌, ℕ, zero, suc, Bool, true, false, cond, ◌+◌, List, [], ◌∷◌, ◌++◌, Option, Some, None, refl, sym, ap, ◌∙◌, subst}
+use Rattle.std.specs.Prelude.{◌≤◌, find, slice_get, is_some, IfSome}
 use Rattle.std.specs.List.{AllByRecursion}
 use Rattle.board_layout.specs.declared.shape.CellPlace.{CellPlace}
 use Rattle.board_layout.specs.Layout.{places_from}
@@ -14,6 +14,7 @@ use Rattle.board_service.proofs.DrawnLemmas.{there}
 use Rattle.board_cells.specs.Cells.{PlaceSeen, AreNew, cell_at, parked_at}
 use Rattle.board_handles.specs.BoardEnds.{Core}
 use Rattle.board_domain.specs.LentForms as lent
+use Rattle.board_domain.proofs.AskedLemmas.{board_found}
 use Rattle.board_typed.specs.Order.{AreInOrder, FitsEntry, IsInOrder, IsOwn, is_written}
 use Rattle.board_typed.proofs.Beside.{beside-push, is_beside, none_before}
 use Rattle.board_typed.proofs.Changed.{cells_beside, none_order, order_as, order_more}
@@ -99,5 +100,10 @@ module _ (b : lent.NewBoard) (d : Core) (facts : IsDomain d) (o : IsInOrder d) (
       by false true e f = order_as _ _ _ _ (is_written (made b d cells) n) (boards_if false true e f) (cells_if false true e f) (new_order (is_written (made b d cells) n))
       by false false e f = order_as _ _ _ _ (is_written (made b d cells) n) (boards_if false false e f) (cells_if false false e f) (none_order (is_written (made b d cells) n))
 
-pub creates : (b : lent.NewBoard) (d t : Core) → IsDomain d → IsInOrder d → b.keys.size ≤ 64 → AllByRecursion TakesItsWords b.entries → lent.IsMade b d t → IsInOrder t
-creates b d t facts o short typed is = subst IsInOrder (sym is.2) (each b d facts o short typed is.0 is.1)
+-- a domain's keys are short, so those of the new board are
+short_keys : (b : lent.NewBoard) (d t : Core) → IsDomain d → IsDomain t → lent.IsMade b d t → b.keys.size ≤ 64
+short_keys b d t facts after is =
+    subst (λ (w : Option Board). IfSome w (λ c. c.key.size ≤ 64)) (board_found b d t is facts (d.tables.last_board + 1) refl) (after.tables.keyed (d.tables.last_board + 1))
+
+pub creates : (b : lent.NewBoard) (d t : Core) → IsDomain d → IsDomain t → IsInOrder d → AllByRecursion TakesItsWords b.entries → lent.IsMade b d t → IsInOrder t
+creates b d t facts after o typed is = subst IsInOrder (sym is.2) (each b d facts o (short_keys b d t facts after is) typed is.0 is.1)

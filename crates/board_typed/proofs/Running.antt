@@ -162,24 +162,24 @@ written_last d keys h = elim (stands_as d keys h.found.thing thing_kind.WriteHan
   | false ↦ refl
 ]
 
-step : (c : Call) (old new : World) → IsDomain old.tables → Sound old → Happens c old new → Sound new
-step (Creates b) old new facts s h =
+step : (c : Call) (old new : World) → IsDomain old.tables → IsDomain new.tables → Sound old → Happens c old new → Sound new
+step (Creates b) old new facts after s h =
     gains old new (a_value (old.tables.last_thing + 1) thing_kind.Factory b.keys None) s
-    (creates b old.tables new.tables facts s.order h.0 h.1 h.2) (λ gone. create_keeps gone b old.tables new.tables facts h.2)
-    record { stands = h.3.as_kind; end = tt } refl (ap (λ (d : Core). d.last_thing) h.2.2) h.4
-step (Opens node name keys) old new facts s h =
+    (creates b old.tables new.tables facts after s.order h.0 h.1) (λ gone. create_keeps gone b old.tables new.tables facts h.1)
+    record { stands = h.2.as_kind; end = tt } refl (ap (λ (d : Core). d.last_thing) h.1.2) h.3
+step (Opens node name keys) old new facts after s h =
     gains old new (a_value (old.tables.last_thing + 1) thing_kind.Factory keys None) s
     (subst IsInOrder (sym h.0) (opens old.tables node name s.order)) (λ gone. subst (KeepsOthers gone old.tables) (sym h.0) (open_keeps gone old.tables node name))
     record { stands = h.1.as_kind; end = tt } refl (ap (λ (d : Core). d.last_thing) h.0) h.2
-step (MakesReader v) old new facts s h =
+step (MakesReader v) old new facts after s h =
     gains old new (a_value (old.tables.last_thing + 1) thing_kind.Reader v.keys None) s
     (subst IsInOrder (sym h.2) (makes_reader old.tables (held old.tables v.thing) s.order)) (λ gone. subst (KeepsOthers gone old.tables) (sym h.2) (reader_keeps gone old.tables (held old.tables v.thing)))
     record { stands = h.3.as_kind v.keys v.kind (good_of old v s h.0).stands; end = tt } refl (ap (λ (d : Core). d.last_thing) h.2) h.4
-step (MakesWriter v) old new facts s h =
+step (MakesWriter v) old new facts after s h =
     gains old new (a_value (old.tables.last_thing + 1) thing_kind.Writer v.keys None) s
     (subst IsInOrder (sym h.2) (makes_writer old.tables (held old.tables v.thing) s.order)) (λ gone. subst (KeepsOthers gone old.tables) (sym h.2) (writer_keeps gone old.tables (held old.tables v.thing)))
     record { stands = h.3.as_kind v.keys v.kind (good_of old v s h.0).stands; end = tt } refl (ap (λ (d : Core). d.last_thing) h.2) h.4
-step (Reads v a f c) old new facts s h =
+step (Reads v a f c) old new facts after s h =
     let d = old.tables in
     let of = held d v.thing in
     let x : Thing ℕ ℕ = record { holder = of.holder; name = d.last_thing + 1; board = of.board; kind = kind.ReadHandle (place_of (lent.entry_for d a v.thing)) } in
@@ -194,7 +194,7 @@ step (Reads v a f c) old new facts s h =
       );
     }
     refl (ap (λ (e : Core). e.last_thing) h.3) h.5
-step (Writes v a f p) old new facts s h =
+step (Writes v a f p) old new facts after s h =
     let d = old.tables in
     let of = held d v.thing in
     let m = lent.with_write d a v.thing in
@@ -211,11 +211,11 @@ step (Writes v a f p) old new facts s h =
       );
     }
     refl (ap (λ (e : Core). e.last_thing) h.3 ∙ same.2) h.5
-step (GivesUp v) old new facts s h =
+step (GivesUp v) old new facts after s h =
     loses old new v s (subst IsInOrder (sym h.2) (gives_up old.tables v.keys v.thing v.kind facts s.order h.1))
-    (subst (KeepsOthers v.thing old.tables) (sym h.2) (release_keeps old.tables v.keys v.thing v.kind facts h.3))
-    (ap (λ (d : Core). d.last_thing) h.2 ∙ given_last old.tables v.keys v.thing v.kind) h.4
-step (GivesUpWriting v w) old new facts s h =
+    (subst (KeepsOthers v.thing old.tables) (sym h.2) (release_keeps old.tables v.keys v.thing v.kind facts (subst (λ (d : Core). IsDomain d) h.2 after)))
+    (ap (λ (d : Core). d.last_thing) h.2 ∙ given_last old.tables v.keys v.thing v.kind) h.3
+step (GivesUpWriting v w) old new facts after s h =
     let d = old.tables in
     let good = good_of old v s h.0 in
     let end : (handle_entry (held d v.thing).kind ≡ Some w.found.entry) × (cell_of d (held d v.thing).board w.found.entry ≡ Some w.held.cell) =
@@ -224,10 +224,10 @@ step (GivesUpWriting v w) old new facts s h =
     subst (λ n. (handle_entry (held d n).kind ≡ Some w.found.entry) × (cell_of d (held d n).board w.found.entry ≡ Some w.held.cell)) (sym h.2) end in
     loses old new v s (subst IsInOrder (sym h.4) (gives_up_writing d v.keys w facts s.order here.0 here.1))
     (subst (KeepsOthers v.thing d) (sym h.4) (subst (λ n. KeepsOthers n d (lent.write_given_up d v.keys w)) h.2
-    (release_mut_keeps d v.keys w facts (subst (λ n. IsDomain (lent.without_thing d n)) (sym h.2) h.5))))
-    (ap (λ (e : Core). e.last_thing) h.4 ∙ written_last d v.keys w) h.6
+    (release_mut_keeps d v.keys w facts (subst (λ (e : Core). IsDomain e) h.4 after))))
+    (ap (λ (e : Core). e.last_thing) h.4 ∙ written_last d v.keys w) h.5
 
 -- so it is wherever a program comes
 pub sound : (calls : List Call) (w : World) → Comes calls w → Sound w
 sound [] w at = subst Sound (sym at) record { order = new_order; good = tt; apart = tt }
-sound (c ∷ cs) w at = step c at.0 w at.2 (sound cs at.0 at.1) at.3
+sound (c ∷ cs) w at = step c at.0 w at.2 at.4 (sound cs at.0 at.1) at.3

@@ -17,7 +17,7 @@ use Rattle.board_service.specs.Facts.{IsDomain, handle_entry}
 use Rattle.board_cells.specs.Cells.{EndSeen}
 use Rattle.board_handles.specs.BoardEnds.{Core, cell_of}
 use Rattle.board_handles.specs.Handles.{WriteSeen}
-use Rattle.board_handles.specs.LentForms.{Asked, given_up, read_answer, with_read, with_write_taken, without_thing, write_answer, write_given_up}
+use Rattle.board_handles.specs.LentForms.{Asked, given_up, read_answer, with_read, with_write_taken, write_answer, write_given_up}
 use Rattle.board_domain.specs.LentForms.{IsMade, NewBoard}
 use Rattle.board_typed.specs.Order.{IsInOrder}
 
@@ -29,7 +29,7 @@ pub record IsWhole (d : Core) (h : WriteSeen) : Type 0 where
 -- a new domain's cells are in order, and each call leaves them so
 pub record CallsKeepOrder : Type 0 where
   pub empty_one : IsInOrder empty
-  pub created : (b : NewBoard) (old new : Core) → IsDomain old → IsInOrder old → b.keys.size ≤ 64 → AllByRecursion TakesItsWords b.entries → IsMade b old new → IsInOrder new
+  pub created : (b : NewBoard) (old new : Core) → IsDomain old → IsDomain new → IsInOrder old → AllByRecursion TakesItsWords b.entries → IsMade b old new → IsInOrder new
   pub opened : (d : Core) (node : ℕ) (name : List ℕ) → IsInOrder d → IsInOrder (after_open d node name)
   pub reader : (d : Core) (of : Thing ℕ ℕ) → IsInOrder d → IsInOrder (after_reader d of)
   pub writer : (d : Core) (of : Thing ℕ ℕ) → IsInOrder d → IsInOrder (after_writer d of)
@@ -56,8 +56,8 @@ pub record CallsKeepOthers : Type 0 where
   pub writer : (d : Core) (of : Thing ℕ ℕ) → KeepsAll d (after_writer d of)
   pub entry : (d : Core) (a : Asked) (reader : ℕ) → KeepsAll d (with_read d a reader)
   pub entry_mut : (d : Core) (a : Asked) (writer : ℕ) → KeepsAll d (with_write_taken d a writer)
-  pub release : (d : Core) (keys : TypeDetail) (thing : ℕ) (kind : ThingKind) → IsDomain d → IsDomain (without_thing d thing) → KeepsOthers thing d (given_up d keys thing kind)
-  pub release_mut : (d : Core) (keys : TypeDetail) (h : WriteSeen) → IsDomain d → IsDomain (without_thing d h.found.thing) → KeepsOthers h.found.thing d (write_given_up d keys h)
+  pub release : (d : Core) (keys : TypeDetail) (thing : ℕ) (kind : ThingKind) → IsDomain d → IsDomain (given_up d keys thing kind) → KeepsOthers thing d (given_up d keys thing kind)
+  pub release_mut : (d : Core) (keys : TypeDetail) (h : WriteSeen) → IsDomain d → IsDomain (write_given_up d keys h) → KeepsOthers h.found.thing d (write_given_up d keys h)
 
 -- where the cells are in order, a thing that is held is of a board with short keys
 abbrev pub KeysAreShort : Type 0

@@ -16,7 +16,7 @@ use Rattle.board_service.specs.Facts.{IsDomain, IsHeldAs, IsHeldBeside, handle_e
 use Rattle.board_cells.specs.Cells.{EndSeen}
 use Rattle.board_handles.specs.BoardEnds.{Core, cell_of}
 use Rattle.board_handles.specs.Handles.{WriteSeen}
-use Rattle.board_handles.specs.LentForms.{Asked, given_up, read_answer, with_read, with_write_taken, without_thing, write_answer, write_given_up}
+use Rattle.board_handles.specs.LentForms.{Asked, given_up, read_answer, with_read, with_write_taken, write_answer, write_given_up}
 use Rattle.board_domain.specs.LentForms.{IsMade, NewBoard}
 
 -- a typed value that was not given back: its thing, what kind that is of, the type of its board's keys, and of a handle its entry and cell
@@ -66,10 +66,10 @@ pub data Call : Type 0 where
   GivesUp : Value → Call
   GivesUpWriting : Value → WriteSeen → Call
 
--- what the call's clauses say, by its own and the tables'
+-- what the clauses of the call's lent form say: what it answers and leaves (`answer`, `ok`, `tables`), that what is made is held (`held`), and that a creator's entries take the words of their types (`width`)
 abbrev pub Happens : Call → World → World → Type 0
 Happens (Creates b) old new =
-    (b.keys.size ≤ 64) × AllByRecursion TakesItsWords b.entries × IsMade b old.tables new.tables
+    AllByRecursion TakesItsWords b.entries × IsMade b old.tables new.tables
     × IsHeldAs new.tables b.keys (old.tables.last_thing + 1) Factory × Gains old new Factory b.keys None
 Happens (Opens node name keys) old new =
     (new.tables ≡ after_open old.tables node name)
@@ -87,15 +87,15 @@ Happens (Writes v a f e) old new =
     Holds old v × (v.kind ≡ Writer) × (write_answer old.tables a v.thing ≡ Ok (f, e)) × (new.tables ≡ with_write_taken old.tables a v.thing)
     × IsHeldBeside old.tables new.tables v.thing (old.tables.last_thing + 1) WriteHandle × Gains old new WriteHandle v.keys (Some (f.entry, e.cell))
 Happens (GivesUp v) old new =
-    Holds old v × (v.kind ≢ WriteHandle) × (new.tables ≡ given_up old.tables v.keys v.thing v.kind) × IsDomain (without_thing old.tables v.thing) × Loses old new v
+    Holds old v × (v.kind ≢ WriteHandle) × (new.tables ≡ given_up old.tables v.keys v.thing v.kind) × Loses old new v
 Happens (GivesUpWriting v h) old new =
     Holds old v × (v.kind ≡ WriteHandle) × (h.found.thing ≡ v.thing) × (v.end ≡ Some (h.found.entry, h.held.cell))
-    × (new.tables ≡ write_given_up old.tables v.keys h) × IsDomain (without_thing old.tables v.thing) × Loses old new v
+    × (new.tables ≡ write_given_up old.tables v.keys h) × Loses old new v
 
--- calls one after another lead from the start to here; each leaves a domain
+-- calls one after another lead from the start to here; before and after each the tables are a domain's, as `facts` tells of any
 abbrev pub Comes : List Call → World → Type 0
 Comes [] w = w ≡ start
-Comes (c ∷ cs) w = (old : World) × Comes cs old × IsDomain old.tables × Happens c old w
+Comes (c ∷ cs) w = (old : World) × Comes cs old × IsDomain old.tables × Happens c old w × IsDomain w.tables
 
 -- ---- what holds wherever a program comes
 

@@ -27,7 +27,7 @@ pub fn handles_share_the_cell()
     ensures { HandlesShareTheCell }
 {}
 
-/// Wherever typed calls alone lead, each value that was not given back stands, no reader or writer is answered `ThingUnknown`, and handles of an entry have one cell. A builder of ports is left out: its factory may be given back before it.
+/// Wherever typed calls alone lead, each value that was not given back stands, no reader or writer is answered `ThingUnknown`, and handles of an entry have one cell. A builder of ports borrows its factory, so it is none of these values.
 pub fn typed_calls_alone()
     ensures { TypedCallsAlone }
 {}

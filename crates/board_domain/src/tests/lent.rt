@@ -268,3 +268,36 @@ fn a_second_board_is_opened_in_a_lent_state(rt: HostRuntime) {
     two_boards::<Shared, HostRuntime>(&rt, rt.alloc());
     two_boards::<Single, HostRuntime>(&rt, rt.alloc());
 }
+
+// What a writer answers who is asked for a handle of the entry while a loan is out. The loan is discarded, and its handle given up.
+fn asked_beside<P>(
+    state: &mut DomainState,
+    writer: &Writer<u64, P>,
+    write: EntryHandleMut<u64, u64, P>,
+) -> Option<EntryHandleMutError> {
+    if write.generation() == u64::MAX {
+        return None;
+    }
+    let loan = write.loan_uninit();
+    let second = writer.entry_in::<u64>(state, &1).err();
+    loan.discard().release_in(state);
+    second
+}
+
+fn one_at_a_time<P: Policy, R: Abort>(rt: &R, alloc: Global) {
+    let mut state = DomainState::new(alloc);
+    let domain = new_domain(rt, alloc);
+    let node = new_node(rt, &mut state, &domain, "one");
+    let board = new_board::<P, R>(rt, alloc, &mut state, &node);
+    let writer = new_writer(rt, &mut state, &board);
+    let write = write_handle(rt, &mut state, &writer);
+    let second = asked_beside(&mut state, &writer, write);
+    assert_eq!(rt; second, Some(EntryHandleMutError::HandleAlreadyExists));
+    write_handle(rt, &mut state, &writer).release_in(&mut state);
+}
+
+#[test]
+fn a_loan_is_the_only_write_handle_of_a_lent_state(rt: HostRuntime) {
+    one_at_a_time::<Shared, HostRuntime>(&rt, rt.alloc());
+    one_at_a_time::<Single, HostRuntime>(&rt, rt.alloc());
+}

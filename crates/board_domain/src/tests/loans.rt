@@ -3,7 +3,8 @@ use super::new_domain;
 use super::published::publish_word;
 use super::typed::{new_board, new_node, new_reader, new_writer, read_handle, write_handle};
 use board_concepts::{Policy, Shared, Single};
-use board_handles::{EntryHandle, EntryHandleMut};
+use board_handles::{EntryHandle, EntryHandleMut, Writer};
+use board_names::EntryHandleMutError;
 use std::alloc::Global;
 use std::process::Abort;
 use std::sync::Wait;
@@ -69,4 +70,36 @@ fn lent<P: Policy, R: Wait + Abort>(rt: &R, alloc: Global) {
 fn a_loan_is_published_or_not(rt: HostRuntime) {
     lent::<Shared, HostRuntime>(&rt, rt.alloc());
     lent::<Single, HostRuntime>(&rt, rt.alloc());
+}
+
+// What a writer answers who is asked for a handle of the entry while a loan is out. The loan is discarded, and its handle given up.
+fn asked_beside<P, R: Wait>(
+    rt: &R,
+    writer: &Writer<u64, P>,
+    write: EntryHandleMut<u64, u64, P>,
+) -> Option<EntryHandleMutError> {
+    if write.generation() == u64::MAX {
+        return None;
+    }
+    let loan = write.loan_uninit();
+    let second = writer.entry::<u64, R>(rt, &1).err();
+    loan.discard().release(rt);
+    second
+}
+
+fn one_at_a_time<P: Policy, R: Wait + Abort>(rt: &R, alloc: Global) {
+    let domain = new_domain(rt, alloc);
+    let node = new_node(rt, &domain, "one");
+    let board = new_board::<P, R>(rt, alloc, &node);
+    let writer = new_writer(rt, &board);
+    let write = write_handle(rt, &writer);
+    let second = asked_beside(rt, &writer, write);
+    assert_eq!(rt; second, Some(EntryHandleMutError::HandleAlreadyExists));
+    write_handle(rt, &writer).release(rt);
+}
+
+#[test]
+fn a_loan_is_the_only_write_handle(rt: HostRuntime) {
+    one_at_a_time::<Shared, HostRuntime>(&rt, rt.alloc());
+    one_at_a_time::<Single, HostRuntime>(&rt, rt.alloc());
 }

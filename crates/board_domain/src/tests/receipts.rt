@@ -42,23 +42,25 @@ fn next_told<R: Wait>(rt: &R, post: &Post) -> u64 {
     }
 }
 
-// The generation of a value that is read in tries of four, and 0 where a hundred thousand of these give up.
-fn read_one(read: &mut EntryHandle<u64, u64, Shared>) -> u64 {
+// A value that is read in tries of four, with its generation, and zeros where a hundred thousand of these give up.
+fn read_one(read: &mut EntryHandle<u64, u64, Shared>) -> (u64, u64) {
     for _ in 0..100_000u32 {
         if let Ok(value) = read.try_get(4) {
-            return value.generation();
+            return (*value.get_ref(), value.generation());
         }
     }
-    0
+    (0, 0)
 }
 
-// How many of a hundred receipts were of the value that was read then, or of one before it.
+// How many of a hundred receipts were of the value that was read then, or of one before it. The first value that is
+// published is 1, at generation 2, and both rise by one, so each value is the number before its generation.
 fn read_all<R: Wait>(rt: &R, read: EntryHandle<u64, u64, Shared>, post: &Post) -> u32 {
     let mut read = read;
     let mut right = 0u32;
     for _ in 0..100u32 {
         let told = next_told(rt, post);
-        if read_one(&mut read) >= told {
+        let (value, generation) = read_one(&mut read);
+        if generation >= told && value.wrapping_add(1) == generation {
             right = right.wrapping_add(1);
         }
     }

@@ -6,8 +6,11 @@ use crate::messaging_pattern::MessagingPattern;
 use crate::node::Node;
 use crate::port_factory::PortFactory;
 use board_concepts::{Policy, Shared, Single};
-use board_handles::{Domain, EntryHandle, EntryHandleMut, Reader, Writer};
+use board_handles::{
+    Domain, EntryHandle, EntryHandleMut, PortFactoryReader, PortFactoryWriter, Reader, Writer,
+};
 use board_names::{EntryHandleError, EntryHandleMutError, ReaderCreateError, WriterCreateError};
+use board_service::ThingId;
 use std::alloc::Global;
 use std::process::Abort;
 use std::sync::Wait;
@@ -229,17 +232,17 @@ fn ports_and_handles_go_to_other_threads(rt: HostRuntime) {
     is_send(made).release(&rt);
 }
 
+// A builder that a factory gave borrows it. One that was made by a number asks whether its factory is held.
 #[test]
-fn a_builder_goes_with_its_factory(rt: HostRuntime) {
-    let Boards { made, opened } = make_boards::<Shared, HostRuntime>(&rt, rt.alloc());
-    let reader = made.reader_builder().expect(&rt, "memory");
-    let writer = made.writer_builder().expect(&rt, "memory");
-    made.release(&rt);
+fn a_builder_by_number_asks_for_its_factory(rt: HostRuntime) {
+    let domain = new_domain(&rt, rt.alloc());
+    let shared = domain.share().expect(&rt, "memory");
+    let reader = PortFactoryReader::<u64, Shared>::new(rt.alloc(), ThingId(1), shared);
     let no_reader = reader.create(&rt).err();
     assert_eq!(rt; no_reader, Some(ReaderCreateError::ThingUnknown(1)));
+    let writer = PortFactoryWriter::<u64, Shared>::new(rt.alloc(), ThingId(1), domain);
     let no_writer = writer.create(&rt).err();
     assert_eq!(rt; no_writer, Some(WriterCreateError::ThingUnknown(1)));
-    opened.release(&rt);
 }
 
 #[test]
