@@ -1,6 +1,6 @@
 -- What parties hold after one was abandoned: the same, and its listeners count as gone.
 use Rattle.std.proofs.Common.{◌≡◌, ℕ, Bool, true, false, List, [], ◌∷◌, refl, sym, ap, subst, ◌∙◌, Option, Some, None, inl, inr, ◌⊎◌}
-use Rattle.std.specs.Prelude.{if◌then◌else◌, ◌==◌, ◌&&◌, ◌||◌, cond, option_map, IfSome, IsSome}
+use Rattle.std.specs.Prelude.{if◌then◌else◌, ◌==◌, ◌&&◌, ◌||◌, option_map, IfSome, IsSome}
 use Rattle.std.specs.Str.{bytes_eq}
 use Rattle.std.specs.HashMap.{IsUnique, get, values}
 use Rattle.std.specs.List.{AllByRecursion, IsDistinct, list_any}
@@ -17,7 +17,7 @@ use Rattle.board_event_model.specs.EventSessions.{StandingEvent, event_of, gone_
 use Rattle.board_event_model.proofs.QuietLemmas.{eqb_self, eqb_true}
 use Rattle.board_event_model.proofs.SoundLemmas.{some_same}
 use Rattle.board_event_core.specs.EventTable.{EventTable, changed, event_at, names_of, with_gone}
-use Rattle.script_model.specs.ScriptEvents.{EventThing, ScriptEvents, events_abandoned, listener}
+use Rattle.script_model.specs.ScriptEvents.{ScriptEvents, events_abandoned, listener}
 use Rattle.script_model.specs.SoundEvents.{AreSoundEvents}
 use Rattle.script_events.specs.declared.things.Things.{Things}
 use Rattle.script_events.specs.declared.rows.Holding.{Holding}

@@ -1,5 +1,5 @@
 -- What parties hold after an access to an event: the same, with the event's memory changed.
-use Rattle.std.proofs.Common.{◌≡◌, ℕ, Bool, true, false, List, [], ◌∷◌, ◌++◌, length, refl, sym, ap, ◌∙◌, Option, Some, inl, inr}
+use Rattle.std.proofs.Common.{◌≡◌, ℕ, Bool, true, false, List, [], ◌∷◌, ◌++◌, length, refl, sym, ap, ◌∙◌, Some, inl, inr}
 use Rattle.std.specs.Prelude.{if◌then◌else◌, ◌==◌, ◌||◌, not, nat_lt}
 use Rattle.board_names.specs.Table.{at}
 use Rattle.board_event_model.specs.declared.access.EventAccess.{EventAccess}

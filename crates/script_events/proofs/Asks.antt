@@ -1,5 +1,5 @@
 -- What parties hold after a listener or a notifier was asked for.
-use Rattle.std.proofs.Common.{◌≡◌, ℕ, ◌+◌, ◌<◌, ◌≤◌, true, false, List, [], ◌∷◌, ◌++◌, refl, sym, ap, subst, ◌∙◌, Option, Some, None, inl, inr, arith}
+use Rattle.std.proofs.Common.{◌≡◌, ℕ, ◌+◌, ◌<◌, ◌≤◌, true, false, List, refl, sym, ap, subst, ◌∙◌, Option, Some, None, inl, inr, arith}
 use Rattle.std.specs.Prelude.{if◌then◌else◌, ◌==◌, ◌^◌, ◌-◌, nat_lt, Result, Ok, Err, IsSomeAnd}
 use Rattle.board_layout.specs.Answer.{Refuses}
 use Rattle.board_model.specs.Things.{with_at}
@@ -7,7 +7,6 @@ use Rattle.board_names.specs.Table.{at}
 use Rattle.board_event_model.specs.declared.kind.EventKind.{EventKind}
 use Rattle.board_event_model.specs.EventMemory.{Event, has_holder, new_event}
 use Rattle.board_event_model.specs.EventSessions.{EventSession, StandingEvent, event_of, listen, next_session}
-use Rattle.board_event_model.proofs.QuietLemmas.{eqb_true}
 use Rattle.board_event_model.proofs.SoundLemmas.{some_same}
 use Rattle.board_event_core.specs.EventTable.{EventTable, IsNotifierAnswer, changed, event_at, listen_answer, table_listened, names_of, notifier_of, with_notifier}
 use Rattle.board_names.specs.declared.errors.event.ListenerCreateError.{ListenerCreateError}

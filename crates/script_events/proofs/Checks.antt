@@ -12,7 +12,7 @@ use Rattle.board_model.specs.Requests.{and_then}
 use Rattle.board_model.specs.Things.{is_held as holds_thing}
 use Rattle.script_model.specs.declared.line.EventRequest.{EventRequest}
 use Rattle.script_model.specs.declared.line.EventRequest.TheVariants as request
-use Rattle.script_model.specs.ScriptEvents.{EventAsk, EventTask, EventThing, ScriptEvents, act, ask, holds_event, listened_event, listener, name_made, notified, notifier, on_event, task_of}
+use Rattle.script_model.specs.ScriptEvents.{EventTask, EventThing, ScriptEvents, act, ask, holds_event, listened_event, listener, name_made, notified, notifier, on_event, task_of}
 use Rattle.script_model.specs.ScriptTurns.{EventTurn, begins, refused, task_begun, task_turn}
 use Rattle.script_model.specs.SoundEvents.{AreSoundEvents}
 use Rattle.script_events.specs.declared.party_events.PartyEvents.{PartyEvents}

@@ -1,6 +1,6 @@
 -- What parties hold, as the maps from parties to what they hold change.
 use Rattle.std.proofs.Common.{◌≡◌, ℕ, Bool, true, false, cond, List, [], ◌∷◌, refl, ap, ◌∙◌, Option, None, inl, inr}
-use Rattle.std.specs.Prelude.{if◌then◌else◌, ◌&&◌, length}
+use Rattle.std.specs.Prelude.{length}
 use Rattle.std.specs.Str.{bytes_eq}
 use Rattle.std.specs.HashMap.{get}
 use Rattle.std.specs.Map.{lookup}

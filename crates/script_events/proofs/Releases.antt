@@ -1,5 +1,5 @@
 -- What parties hold after one lets a listener or a notifier go.
-use Rattle.std.proofs.Common.{◌≡◌, ℕ, ◌<◌, Bool, true, false, List, refl, sym, ap, ◌∙◌, Option, Some, None, inl, inr}
+use Rattle.std.proofs.Common.{◌≡◌, ℕ, ◌<◌, true, false, List, refl, sym, ap, ◌∙◌, Option, Some, None, inl, inr}
 use Rattle.std.specs.Prelude.{if◌then◌else◌, ◌==◌, ◌-◌, option_map, IsSomeAnd}
 use Rattle.board_names.specs.Table.{at}
 use Rattle.board_event_model.specs.EventMemory.{Event, has_holder}

@@ -11,7 +11,7 @@ use Rattle.script_model.specs.ScriptAnswers.{ScriptAnswer, of_ask, of_event}
 use Rattle.script_model.specs.ScriptEvents.{IsStepOf, ScriptEvents, step_made}
 use Rattle.script_events.specs.declared.party_events.PartyEvents.{PartyEvents}
 use Rattle.script_events.specs.declared.step.Stepped.TheVariants as stepped
-use Rattle.script_events.specs.PartyEvents.{IsAnswerOf, IsStepped, Represents}
+use Rattle.script_events.specs.PartyEvents.{IsStepped, Represents}
 
 -- an answer is right, and what follows is stood for
 pub record IsShown (new : PartyEvents) (x : ScriptEvents) (party : List ℕ) (a : ScriptAnswer) : Type 0 where

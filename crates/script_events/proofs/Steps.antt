@@ -5,7 +5,7 @@ use Rattle.board_event_model.specs.declared.access.EventAccess.{EventAccess}
 use Rattle.board_event_model.specs.declared.access.EventAnswer.{EventAnswer}
 use Rattle.board_event_model.specs.declared.call.EventProgress.{EventProgress}
 use Rattle.board_event_model.specs.declared.kind.EventKind.{EventKind}
-use Rattle.board_event_model.specs.EventMemory.{CanPerform, Event, IsRight, after}
+use Rattle.board_event_model.specs.EventMemory.{Event, IsRight, after}
 use Rattle.board_event_model.specs.EventCalls.{EventCall, a_notify, a_wait, is_last, is_waiting, owed, reported, turn, RunningCall, call_of, went_on}
 use Rattle.board_event_model.specs.EventSessions.{EventSession, PartyCall, change_at, do_at, doing_on, event_of, next_session, step_of, stepped_on, took_step}
 use Rattle.board_event_model.proofs.SoundLemmas.{after_kind}

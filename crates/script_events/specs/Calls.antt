@@ -16,7 +16,7 @@ use Rattle.board_model.specs.Things.{with_at}
 use Rattle.script_model.specs.declared.line.EventRequest.{EventRequest}
 use Rattle.script_model.specs.declared.reply.EventReply.{EventReply}
 use Rattle.script_model.specs.declared.reply.EventReply.TheVariants as reply
-use Rattle.script_model.specs.ScriptEvents.{EventAsk, EventTask, ScriptEvents, act, ask, ask_made, ask_told, end_told, is_for_all, name_made, task_of, to_listen, to_notify}
+use Rattle.script_model.specs.ScriptEvents.{EventAsk, EventTask, ScriptEvents, act, ask, ask_made, ask_told, end_told, is_for_all, task_of, to_listen, to_notify}
 use Rattle.script_model.specs.ScriptTurns.{EventTurn, begins, refused, task_turn}
 use Rattle.script_model.specs.SoundEvents.{AreSoundEvents}
 use Rattle.script_events.specs.declared.rows.Act.{Act}

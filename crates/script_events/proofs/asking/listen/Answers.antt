@@ -1,4 +1,4 @@
-use Rattle.std.proofs.Common.{◌≡◌, inl, inr, refl}
+use Rattle.std.proofs.Common.{◌≡◌, inl, inr}
 use Rattle.std.specs.Prelude.{Ok}
 use Rattle.board_layout.specs.Answer.{Refuses}
 use Rattle.board_names.specs.Table.{at}

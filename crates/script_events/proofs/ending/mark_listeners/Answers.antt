@@ -1,4 +1,4 @@
-use Rattle.std.proofs.Common.{◌≡◌, ◌∷◌, [], List, ap, rules, subst, sym, ◌∙◌}
+use Rattle.std.proofs.Common.{◌≡◌, ◌∷◌, List, ap, rules, subst, sym, ◌∙◌}
 use Rattle.std.specs.HashMap.{values}
 use Rattle.std.specs.List.{AllByRecursion}
 use Rattle.board_event_core.specs.EventTable.{EventTable}

@@ -1,4 +1,4 @@
-use Rattle.std.proofs.Common.{◌≡◌, [], Option, Some, None, rules, refl}
+use Rattle.std.proofs.Common.{◌≡◌, [], Some, None, rules, refl}
 use Rattle.std.specs.HashMap.{values}
 use Rattle.script_events.specs.Calls.{IsMarkable}
 use Rattle.script_events.specs.PartyEvents.{Own, held_in, own_in, task_in}

@@ -1,4 +1,4 @@
-use Rattle.std.proofs.Common.{◌≡◌, Option, Some, None, false, refl, rules, subst, sym, true}
+use Rattle.std.proofs.Common.{◌≡◌, Option, Some, None, false, refl, rules, subst, true}
 use Rattle.board_model.specs.declared.answer.Reason.TheVariants as reason
 use Rattle.script_events.specs.declared.rows.CallTask.{CallTask}
 use Rattle.script_events.specs.Calls.{may_end}

@@ -1,6 +1,5 @@
-use Rattle.std.proofs.Common.{◌≡◌, ◌∙◌, Option, Some, None, false, true, ap, rules, sym}
-use Rattle.std.specs.Prelude.{is_some, option_map}
-use Rattle.script_events.specs.declared.rows.Holding.{Holding}
+use Rattle.std.proofs.Common.{◌≡◌, ◌∙◌, Some, None, false, true, ap, rules, sym}
+use Rattle.std.specs.Prelude.{is_some}
 use Rattle.script_events.specs.declared.rows.Holding.TheVariants as holding
 use Rattle.script_events.specs.PartyEvents.{held_in, thing_in}
 use Rattle.script_events.proofs.Options.{is_some-map}
