@@ -113,14 +113,14 @@ impl<'f, K: BoardKey, P> PortFactoryReader<'f, K, P> {
     /// `ThingUnknown` where the factory isn't held; else `ExceedsMaxSupportedReaders` where the board has as many readers as it may; `NumbersSpent`; `OutOfMemory`. All stays as it was.
     pub fn create_in(self, state: &mut DomainState) -> Result<Reader<K, P>, ReaderCreateError>
         ensures answer { let keys = details K.type_bytes K.SIZE K.ALIGNMENT in
-            let answer = lent.reader_made state.old.tables keys self in
+            let answer = lent.reader_made state.old.tables keys self.entry in
             Answers result ReaderCreateError.OutOfMemory answer }
         ensures refused { let keys = details K.type_bytes K.SIZE K.ALIGNMENT in
-            Refuses result (lent.reader_made state.old.tables keys self) }
+            Refuses result (lent.reader_made state.old.tables keys self.entry) }
         ensures ok { let before = state.old.tables in
-            OnOk result (state.new.tables ≡ calls.after_reader before (calls.held before self)) }
+            OnOk result (state.new.tables ≡ calls.after_reader before (calls.held before self.entry)) }
         ensures held { let IsBeside = IsHeldBeside state.old.tables state.new.tables in
-            IfOk result (λ r. IsBeside self r.thing ThingKind.Reader) }
+            IfOk result (λ r. IsBeside self.entry r.thing ThingKind.Reader) }
         ensures err { OnErr result (state.new.tables ≡ state.old.tables) }
         ensures nodes { state.new.nodes ≡ state.old.nodes }
     {
@@ -136,7 +136,7 @@ impl<'f, K: BoardKey, P> PortFactoryReader<'f, K, P> {
     /// As for `create_in`.
     pub fn create<R: Wait>(self, rt: &R) -> Result<Reader<K, P>, ReaderCreateError>
         ensures answer { let keys = details K.type_bytes K.SIZE K.ALIGNMENT in
-            lent.MakesReader result keys self }
+            lent.MakesReader result keys self.entry }
     {
         let made = new_reader::<K>(&mut self.domain.lock(rt), self.factory);
         match made {

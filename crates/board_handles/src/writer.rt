@@ -111,14 +111,14 @@ impl<'f, K: BoardKey, P> PortFactoryWriter<'f, K, P> {
     /// `ThingUnknown` where the factory isn't held; else `ExceedsMaxSupportedWriters` where the board has as many writers as it may, each with a handle or itself; `NumbersSpent`; `OutOfMemory`. All stays as it was.
     pub fn create_in(self, state: &mut DomainState) -> Result<Writer<K, P>, WriterCreateError>
         ensures answer { let keys = details K.type_bytes K.SIZE K.ALIGNMENT in
-            let answer = lent.writer_made state.old.tables keys self in
+            let answer = lent.writer_made state.old.tables keys self.entry in
             Answers result WriterCreateError.OutOfMemory answer }
         ensures refused { let keys = details K.type_bytes K.SIZE K.ALIGNMENT in
-            Refuses result (lent.writer_made state.old.tables keys self) }
+            Refuses result (lent.writer_made state.old.tables keys self.entry) }
         ensures ok { let before = state.old.tables in
-            OnOk result (state.new.tables ≡ calls.after_writer before (calls.held before self)) }
+            OnOk result (state.new.tables ≡ calls.after_writer before (calls.held before self.entry)) }
         ensures held { let IsBeside = IsHeldBeside state.old.tables state.new.tables in
-            IfOk result (λ w. IsBeside self w.thing ThingKind.Writer) }
+            IfOk result (λ w. IsBeside self.entry w.thing ThingKind.Writer) }
         ensures err { OnErr result (state.new.tables ≡ state.old.tables) }
         ensures nodes { state.new.nodes ≡ state.old.nodes }
     {
@@ -134,7 +134,7 @@ impl<'f, K: BoardKey, P> PortFactoryWriter<'f, K, P> {
     /// As for `create_in`.
     pub fn create<R: Wait>(self, rt: &R) -> Result<Writer<K, P>, WriterCreateError>
         ensures answer { let keys = details K.type_bytes K.SIZE K.ALIGNMENT in
-            lent.MakesWriter result keys self }
+            lent.MakesWriter result keys self.entry }
     {
         let made = new_writer::<K>(&mut self.domain.lock(rt), self.factory);
         match made {
