@@ -111,7 +111,7 @@ impl Task {
     }
 
     /// An access was made; a read gave this word.
-    fn took(&mut self, word: u64) -> Progress
+    pub(crate) fn took(&mut self, word: u64) -> Progress
         requires { CanGoOn self.old }
         ensures call { self.new ≡ ticked self.old word }
         ensures progress { result ≡ progress_of (steps.ends_call self.old word) }
