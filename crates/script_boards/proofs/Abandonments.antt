@@ -11,9 +11,9 @@ use Rattle.script_boards.specs.declared.machine.Task.{Task}
 use Rattle.script_boards.specs.declared.machine.Task.TheVariants as task
 use Rattle.script_parties.specs.Parties.{Parties, words_of_boards}
 use Rattle.script_boards.specs.Steps.{HoldsAsBefore, IsPut, was_abandoned}
-use Rattle.script_boards.specs.Machine.{IsKeptOf, Represents, tables_of, task_of}
+use Rattle.script_boards.specs.Loans.{lent_words}
+use Rattle.script_boards.specs.Machine.{IsKeptOf, Represents, kept, tables_of, task_of}
 use Rattle.script_boards.proofs.PartyTasks.{no_call, replaced}
-use Rattle.script_boards.proofs.Seats.{of_name}
 
 -- ---- what a party's task tells
 
@@ -63,7 +63,7 @@ module _ {C : Type 0} (m new : BoardMachine C) (s : State) (rep : Represents m s
       tables = rep.tables ∙ sym tables;
       words = ap (λ (d : Parties). d.words) held.domain ∙ rep.words ∙ ap (λ x. words_of_boards s.memory x.boards) (sym tables);
       parties = replaced (task_of m) (task_of new) s.parties rep.parties party (Some task.Gone) put gone refl;
-      loans = λ p n. rep.loans p n ∙ sym (of_name held.loans p n);
-      values = λ p n. rep.values p n ∙ sym (of_name held.values p n);
+      loans = λ p n. rep.loans p n ∙ sym (λ i. lent_words (record m { loans = held.loans i }) p n);
+      values = λ p n. rep.values p n ∙ sym (λ i. kept (record m { values = held.values i }) p n);
     },
   )

@@ -254,7 +254,7 @@ module _ {C : Type 0} (m : BoardMachine C) (s : State) (rep : Represents m s) (s
       stored_values p n = rep.values p n ∙ sym (of_name is_stored.rest.values p n)
 
       put_over : (new : BoardMachine C) (x : Option Task) → IsPut (task_of stored) (task_of new) party x → IsPut (task_of m) (task_of new) party x
-      put_over new x put = put_after (task_of m) (task_of stored) (task_of new) party x is_stored.rest.parties put
+      put_over new x is = put_after (task_of m) (task_of stored) (task_of new) party x is_stored.rest.parties is
 
       all_words : (boards : List Board) → boards ≡ stored.domain.tables.boards → stored.domain.words ≡ words_of_boards (store s.memory w.board w.word w.value) boards
       all_words boards e =

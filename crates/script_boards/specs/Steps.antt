@@ -118,8 +118,8 @@ ends_call t v = true
 -- the boards and their words stand, and each party holds what it held
 pub record HoldsAsBefore {C : Type 0} (old new : BoardMachine C) : Type 0 where
   pub domain : new.domain ≡ old.domain
-  pub values : kept new ≡ kept old
-  pub loans : lent_words new ≡ lent_words old
+  pub values : new.values ≡ old.values
+  pub loans : new.loans ≡ old.loans
 
 -- a party has this from now on, or nothing, and the others have what they had
 abbrev pub IsPut : (List ℕ → Option Task) → (List ℕ → Option Task) → List ℕ → Option Task → Type 0

@@ -1,5 +1,6 @@
 //! Lines `abandon P`.
-ghost use Rattle.std.specs.Prelude.{◌≡◌, ◌+◌, ◌≤◌, IfOk, List, OnErr, OnOk, ℕ};
+ghost use Rattle.std.specs.Prelude.{◌≡◌, ◌+◌, ◌≤◌, IfOk, OnErr, OnOk};
+ghost use Rattle.std.specs.HashMap.{IsUnchanged};
 ghost use Rattle.board_model.specs.declared.line.Line.TheVariants as line;
 ghost use Rattle.script_boards.specs.Machine.{IsLed, Serves, task_of};
 ghost use Rattle.script_boards.specs.Steps as steps;
@@ -34,7 +35,7 @@ impl<C: BoardWords + Drop> BoardMachine<C> {
 
         // After want of memory nothing was abandoned.
         ensures held { OnErr result (HoldsAsBefore self.old self.new) }
-        ensures parties { OnErr result ((p : List ℕ) → task_of self.new p ≡ task_of self.old p) }
+        ensures parties { OnErr result (IsUnchanged self.old.parties self.new.parties) }
         ensures drawn { OnOk result (self.new.domain.drawn ≤ self.old.domain.drawn + 1) }
     {
         if self.is_gone(&party) {

@@ -1,6 +1,6 @@
 //! What stands in the machine's maps, and how it comes and goes.
 ghost use Rattle.std.specs.Prelude.{◌≡◌, ◌<◌, IsSomeAnd, None, OnErr, OnOk, Some, if◌then◌else◌, List, length, option_map, slice_set, false, ℕ};
-ghost use Rattle.std.specs.HashMap.{get};
+ghost use Rattle.std.specs.HashMap.{IsUnchanged, get};
 ghost use Rattle.std.specs.Str.{bytes_eq};
 ghost use Rattle.script_seats.specs.Seats.{SeatOf, same_seat};
 ghost use Rattle.script_boards.specs.Loans.{lent_words};
@@ -28,8 +28,7 @@ pub(crate) fn put_task(
 
     // It fails only at a party that had none, and then nothing changes.
     ensures absent { OnErr result (get bytes_eq tasks.old party ≡ None) }
-    ensures same { OnErr result ((p : List ℕ) → get bytes_eq tasks.new p
-        ≡ get bytes_eq tasks.old p) }
+    ensures same { OnErr result (IsUnchanged tasks.old tasks.new) }
 {
     let _ = tasks.insert(party, task)?;
     Ok(())

@@ -4,8 +4,9 @@ use Rattle.script_parties.specs.Parties.{Parties}
 use Rattle.script_boards.specs.declared.machine.Task.{Task}
 use Rattle.script_boards.specs.declared.step.OwedAccess.TheVariants as owed
 use Rattle.script_boards.specs.Machine.{task_of}
+use Rattle.script_boards.specs.Steps.{HasRead}
 use Rattle.script_boards.specs.TaskWants.{keeps_value}
-use Rattle.script_boards.proofs.OwedTasks.{can_go_on, heard_last, heard_more, owed_runs}
+use Rattle.script_boards.proofs.OwedTasks.{can_go_on, has_read, heard_last, heard_more, owed_runs}
 use Rattle.script_boards.proofs.OwedWords.{task_goes_on}
 use Rattle.script_boards.proofs.ReadSteps.{read_ends, read_goes_on, task_has_read}
 use Rattle.script_boards.proofs.StepWants.{anyway, get_takes}
@@ -29,6 +30,18 @@ hear-requires g c =
     let led = c.requires.led in
     can_go_on (task_of c.read_word-value.new.self party) owes.task (ap (λ (f : List ℕ → Option Task). f party) c.read_word-value.ensures.same.rest.parties ∙ owes.stands)
     (task_goes_on led.state led.reached.sound party owes.task (owed_runs m party o owes led.state led.represents))
+
+pub tell_read-requires : goal.tell_read-requires
+tell_read-requires g c =
+    let m = c.args.self.now in
+    let party = c.args.party.now in
+    let owes = c.requires.owes in
+    let same = c.read_word-value.ensures.same in
+    let v = c.read_word-value.result in
+    let heard = c.hear.ensures owes.task (ap (λ (f : List ℕ → Option Task). f party) same.rest.parties ∙ owes.stands) in
+    let mid = record c.read_word-value.new.self { parties = c.hear.new.tasks } in
+    let ends = heard_last (task_of m) (task_of c.read_word-value.new.self) (task_of mid) party owes.task v same.rest.parties c.hear.result c.in-Some.task heard c.in-Some.is in
+    subst HasRead (sym ends.task) (has_read owes.task c.args.read v owes.owes ends.last)
 
 pub returns-in-None-clause-serves : goal.returns-in-None-clause-serves
 returns-in-None-clause-serves g c =

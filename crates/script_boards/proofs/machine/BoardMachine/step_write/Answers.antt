@@ -4,7 +4,7 @@ use Rattle.script_boards.specs.declared.machine.Task.{Task}
 use Rattle.script_boards.specs.declared.step.OwedAccess.TheVariants as owed
 use Rattle.script_boards.specs.LoanCalls.{CanSettle, IsSettled}
 use Rattle.script_boards.specs.Machine.{task_of}
-use Rattle.script_boards.proofs.OwedTasks.{can_go_on, owed_is, owed_runs}
+use Rattle.script_boards.proofs.OwedTasks.{can_go_on, owed_is, owed_runs, was_found}
 use Rattle.script_boards.proofs.OwedWords.{task_goes_on}
 use Rattle.script_boards.proofs.WriteSteps.{can_settle, task_has_word, write_ends, write_goes_on}
 use Rattle.script_boards.proofs.machine.BoardMachine.step_write.Goals as goal
@@ -28,6 +28,12 @@ go_on-requires g c =
     can_go_on (task_of c.write_word.new.self party) owes.task (ap (λ (f : List ℕ → Option Task). f party) c.write_word.ensures.rest.parties ∙ owes.stands)
     (task_goes_on led.state led.reached.sound party owes.task (owed_runs m party o owes led.state led.represents))
 
+pub unreachable-requires : goal.unreachable-requires
+unreachable-requires g c =
+    let m = c.args.self.now in
+    let party = c.args.party.now in
+    was_found m party (owed.Write c.args.write) c.requires.owes c.remove.result (c.remove.ensures.value ∙ ap (λ (f : List ℕ → Option Task). f party) c.write_word.ensures.rest.parties) c.in_default.is
+
 pub settle-requires : goal.settle-requires
 settle-requires g c =
     let m = c.args.self.now in
@@ -40,8 +46,8 @@ settle-requires g c =
     let mid = record c.write_word.new.self { parties = c.remove.new.self } in
     subst (λ (t : Task). CanSettle mid party t) (sym is) (can_settle m led.state led.represents led.reached.sound party owes.task runs mid c.write_word.ensures.rest.loans owes.task runs.task)
 
-pub returns-then-write-clause-serves : goal.returns-then-write-clause-serves
-returns-then-write-clause-serves g c =
+pub returns-in-Some-clause-serves : goal.returns-in-Some-clause-serves
+returns-in-Some-clause-serves g c =
     let m = c.args.self.now in
     let party = c.args.party.now in
     let o = owed.Write c.args.write in
