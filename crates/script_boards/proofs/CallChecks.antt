@@ -1,7 +1,6 @@
 -- Lines that begin a call.
 use Rattle.std.proofs.Common.{◌≡◌, ℕ, ◌+◌, ◌^◌, ◌<◌, Bool, true, false, cond, List, [], ◌∷◌, ◌++◌, length, arith, refl, sym, ap, subst, ◌∙◌, Option, Some, None}
 use Rattle.std.specs.Prelude.{◌||◌, is_some, not, IsErrAnd, Result, Ok, Err}
-use Rattle.std.specs.List.{filter}
 use Rattle.std.proofs.lemmas.Result.{err_from_is_err_and}
 use Rattle.board_layout.specs.declared.type_detail.TypeDetail.{TypeDetail}
 use Rattle.board_model.specs.declared.answer.Answer.TheVariants as answer
@@ -31,10 +30,7 @@ use Rattle.board_model.specs.Sound.{BoardTables, HasEntry, HasEntryAt, IsTyped, 
 use Rattle.board_model.proofs.OpeningLemmas.{sized}
 use Rattle.board_model.proofs.ThingLemmas.{all_found}
 use Rattle.board_cell.specs.Calls.{Asking, Getting, Updating}
-use Rattle.script_boards.specs.declared.machine.KeptValue.{KeptValue}
-use Rattle.script_boards.specs.declared.machine.Lent.{Lent}
 use Rattle.script_boards.specs.declared.machine.BoardMachine.{BoardMachine}
-use Rattle.script_boards.specs.declared.machine.PartyRow.{PartyRow}
 use Rattle.script_boards.specs.declared.machine.Task.{Task}
 use Rattle.script_boards.specs.declared.machine.Task.TheVariants as task
 use Rattle.script_boards.specs.declared.not_begun.NotBegun.{NotBegun}
@@ -42,11 +38,12 @@ use Rattle.script_boards.specs.declared.not_begun.NotBegun.TheVariants as not_be
 use Rattle.script_boards.specs.Begins.{IsChecked, IsHandle, IsTaskFor, handle_held, holds_any, is_handle}
 use Rattle.script_boards.specs.Loans.{lent_words}
 use Rattle.script_parties.specs.Parties.{words_of_boards}
-use Rattle.script_boards.specs.Machine.{AreRowsOf, Represents, is_row_of, kept, tables_of, updating}
-use Rattle.script_boards.specs.Steps.{HasCounter, IsCounter}
+use Rattle.script_boards.specs.Machine.{IsKeptOf, Represents, kept, tables_of, task_of, updating}
+use Rattle.script_boards.specs.Steps.{HasCounter, IsCounter, IsPut}
 use Rattle.script_boards.specs.Wants.{takes_memory}
 use Rattle.script_boards.proofs.Bounds.{IsBounded}
-use Rattle.script_boards.proofs.PartyRows.{started}
+use Rattle.script_boards.proofs.PartyTasks.{replaced}
+use Rattle.script_boards.proofs.Seats.{of_name}
 use Rattle.script_boards.proofs.TableSteps.{counter_at}
 
 abbrev some_thing : Held → Option Held
@@ -140,11 +137,11 @@ write_handle m party name x e = at (thing_of m.domain.tables.things party name) 
 pub handle_is : {C : Type 0} (m : BoardMachine C) (s : State) → Represents m s → (party name : List ℕ) → handle_of s.standing party name ≡ handle_held m party name
 handle_is m s rep party name =
     ap (λ (o : Option (List (Option ℕ))). cond (is_some o) None (of_kind thing_kind.WriteHandle (thing_of s.standing.tables.things party name))) (rep.loans party name)
-    ∙ ap (λ t. cond (is_some (lent_words m.loans.items party name)) None (of_kind thing_kind.WriteHandle (thing_of t.things party name))) rep.tables
+    ∙ ap (λ t. cond (is_some (lent_words m party name)) None (of_kind thing_kind.WriteHandle (thing_of t.things party name))) rep.tables
 
 -- and it is a handle
 pub unlent_handle : {C : Type 0} (m : BoardMachine C) (party name : List ℕ) (x : Held) → handle_held m party name ≡ Some x → IsHandle m x
-unlent_handle m party name x e = by (is_some (lent_words m.loans.items party name)) e
+unlent_handle m party name x e = by (is_some (lent_words m party name)) e
   where
     by : (b : Bool) → cond b None (of_kind thing_kind.WriteHandle (thing_of m.domain.tables.things party name)) ≡ some_thing x → IsHandle m x
     by true q = absurd cc
@@ -228,7 +225,7 @@ module _ {C : Type 0} (m : BoardMachine C) (s : State) (rep : Represents m s) (s
         (Err (not_begun.Refused reason.Taken))
     get_taken name taken = rw (fetch_asked name) (rw (taken_is m s rep party name ∙ taken) refl)
 
-    module _ (name : List ℕ) (k : Kept) (stands : kept m.values.items party name ≡ Some k) where
+    module _ (name : List ℕ) (k : Kept) (stands : kept m party name ≡ Some k) where
       abbrev looked : Look
       looked = record { board = x.board; entry = entry_of x.kind; shape = cell_shape e.cell; type = e.value; handle = handle; kept = k.type; generation = k.generation }
 
@@ -307,7 +304,7 @@ some_request t (Some q) h = (q, refl, h)
 
 pub begin_begun : {C : Type 0} (m new : BoardMachine C) (s : State) (rep : Represents m s) (party : List ℕ) (c : Call) (t : Task) → s.parties party ≡ free
     → IsChecked (call_reason s.standing party c (request_of s.standing s.published party c)) (request_of s.standing s.published party c) (Ok t)
-    → tables_of new ≡ tables_of m → new.domain.words ≡ m.domain.words → new.values.items ≡ m.values.items → new.loans.items ≡ m.loans.items → new.parties.items ≡ m.parties.items ++ record { name = party; task = t } ∷ []
+    → tables_of new ≡ tables_of m → new.domain.words ≡ m.domain.words → kept new ≡ kept m → lent_words new ≡ lent_words m → IsPut (task_of m) (task_of new) party (Some t)
     → IsLine (line.Begin party c) → IsRight s (line.Begin party c) answer.Begun × Represents new (after s (line.Begin party c) answer.Begun)
 begin_begun m new s rep party c t e h tables words values loans parties l =
     let r : free_reason (s.parties party) (call_reason s.standing party c (request_of s.standing s.published party c)) ≡ None = rw e h.0 in
@@ -323,10 +320,9 @@ begin_begun m new s rep party c t e h tables words values loans parties l =
       record {
         tables = rep.tables ∙ sym tables;
         words = words ∙ rep.words ∙ ap (λ x. words_of_boards s.memory x.boards) (sym tables);
-        parties = subst (λ (o : Option Request). (p : List ℕ) → AreRowsOf (filter (is_row_of p) new.parties.items) (with_party s.parties party (begun o) p)) (sym q.1)
-            (subst (λ (xs : List PartyRow). (p : List ℕ) → AreRowsOf (filter (is_row_of p) xs) (with_party s.parties party (begun (Some q.0)) p)) (sym parties)
-            (started m.parties.items s.parties rep.parties party e t q.0 q.2));
-        loans = λ p n. rep.loans p n ∙ ap (λ (xs : List Lent). lent_words xs p n) (sym loans);
-        values = λ p n. rep.values p n ∙ ap (λ (vs : List KeptValue). kept vs p n) (sym values);
+        parties = subst (λ (o : Option Request). (p : List ℕ) → IsKeptOf (task_of new p) (with_party s.parties party (begun o) p)) (sym q.1)
+            (replaced (task_of m) (task_of new) s.parties rep.parties party (Some t) parties (begun (Some q.0)) (record { task = t; found = refl; is = q.2 }));
+        loans = λ p n. rep.loans p n ∙ sym (of_name loans p n);
+        values = λ p n. rep.values p n ∙ sym (of_name values p n);
       },
     )

@@ -26,12 +26,12 @@ use Rattle.script_boards.specs.declared.machine.Task.TheVariants as task
 use Rattle.script_boards.specs.declared.not_begun.NotBegun.{NotBegun}
 use Rattle.script_boards.specs.declared.not_begun.NotBegun.TheVariants as not_begun
 use Rattle.board_model.specs.declared.line.Call.TheVariants as call
-use Rattle.script_boards.specs.Begins.{HasNoRow, IsChecked, IsGenerationOf, IsHandle, holds, loan_held, written_by}
+use Rattle.script_boards.specs.Begins.{HasNoTask, IsChecked, IsGenerationOf, IsHandle, holds, loan_held, written_by}
 use Rattle.script_boards.specs.Loans.{lent_words}
-use Rattle.script_boards.specs.Machine.{IsLed, Represents, tables_of}
+use Rattle.script_boards.specs.Machine.{IsLed, Represents, tables_of, task_of}
 use Rattle.script_boards.specs.Steps.{IsCounter}
 use Rattle.script_boards.proofs.CallChecks.{entry_stands, taken_is, write_handle, unlent_handle}
-use Rattle.script_boards.proofs.PartyRows.{is_free}
+use Rattle.script_boards.proofs.PartyTasks.{is_free}
 use Rattle.script_boards.proofs.TableSteps.{counter_at, some_entry}
 
 -- a call is looked at so in a state
@@ -44,7 +44,7 @@ a_loan x words = Some (x, words)
 -- the thing of a loan is a write handle
 pub loan_handle : {C : Type 0} (m : BoardMachine C) (party lent : List ℕ) (x : Held) (words : List (Option ℕ)) → loan_held m party lent ≡ Some (x, words) → IsHandle m x
 loan_handle m party lent x words e =
-    write_handle m party lent x (thing (of_kind thing_kind.WriteHandle (thing_of m.domain.tables.things party lent)) (lent_words m.loans.items party lent) e)
+    write_handle m party lent x (thing (of_kind thing_kind.WriteHandle (thing_of m.domain.tables.things party lent)) (lent_words m party lent) e)
   where
     thing : (o : Option Held) (w : Option (List (Option ℕ))) → and_then o (λ t. and_then w (λ ws. a_loan t ws)) ≡ a_loan x words → o ≡ Some x
     thing None w e = absurd cc
@@ -81,8 +81,8 @@ thing_found k (Some t) x e = at (same_kind (kind_of t.kind) k) e
 
 -- a loan has a thing, and words
 loan_parts : {C : Type 0} (m : BoardMachine C) (party lent : List ℕ) (x : Held) (words : List (Option ℕ)) → loan_held m party lent ≡ Some (x, words)
-    → (thing_of m.domain.tables.things party lent ≡ Some x) × (lent_words m.loans.items party lent ≡ Some words)
-loan_parts m party lent x words e = parts (of_kind thing_kind.WriteHandle (thing_of m.domain.tables.things party lent)) refl (lent_words m.loans.items party lent) e
+    → (thing_of m.domain.tables.things party lent ≡ Some x) × (lent_words m party lent ≡ Some words)
+loan_parts m party lent x words e = parts (of_kind thing_kind.WriteHandle (thing_of m.domain.tables.things party lent)) refl (lent_words m party lent) e
   where
     parts : (o : Option Held) → of_kind thing_kind.WriteHandle (thing_of m.domain.tables.things party lent) ≡ o → (w : Option (List (Option ℕ))) → and_then o (λ t. and_then w (λ ws. a_loan t ws)) ≡ a_loan x words
         → (thing_of m.domain.tables.things party lent ≡ Some x) × (w ≡ Some words)
@@ -97,7 +97,7 @@ module _ {C : Type 0} (m : BoardMachine C) (s : State) (rep : Represents m s) (p
   pub loan_is : (lent : List ℕ) → loan_of s.standing party lent ≡ loan_held m party lent
   loan_is lent =
       ap (λ (o : Option (List (Option ℕ))). and_then (of_kind thing_kind.WriteHandle (thing_of s.standing.tables.things party lent)) (λ t. and_then o (λ ws. a_loan t ws))) (rep.loans party lent)
-      ∙ ap (λ t. and_then (of_kind thing_kind.WriteHandle (thing_of t.things party lent)) (λ x. and_then (lent_words m.loans.items party lent) (λ ws. a_loan x ws))) rep.tables
+      ∙ ap (λ t. and_then (of_kind thing_kind.WriteHandle (thing_of t.things party lent)) (λ x. and_then (lent_words m party lent) (λ ws. a_loan x ws))) rep.tables
 
   -- a loan of a free party has a place for each word of its entry
   pub loan_width : Sound s → s.parties party ≡ free → (x : Held) (e : Entry) → entry_at (tables_of m) x.board (entry_of x.kind) ≡ Some e
@@ -207,11 +207,11 @@ module _ {C : Type 0} (m : BoardMachine C) (s : State) (rep : Represents m s) (p
   pub loan_entry : Sound s → (x : Held) (lent : List ℕ) (words : List (Option ℕ)) → loan_held m party lent ≡ Some (x, words) → (e : Entry) × (entry_at (tables_of m) x.board (entry_of x.kind) ≡ Some e)
   loan_entry sound x lent words held = some_entry (entry_at (tables_of m) x.board (entry_of x.kind)) (entry_stands m s rep sound x (loan_handle m party lent x words held))
 
--- a loan of a party without a row has as many words as its entry's cell
-pub lent_width : {C : Type 0} (m : BoardMachine C) (party : List ℕ) → (led : IsLed m) → HasNoRow m party → (x : Held) (e : Entry) → entry_at (tables_of m) x.board (entry_of x.kind) ≡ Some e
+-- a loan of a party without a task has as many words as its entry's cell
+pub lent_width : {C : Type 0} (m : BoardMachine C) (party : List ℕ) → (led : IsLed m) → HasNoTask m party → (x : Held) (e : Entry) → entry_at (tables_of m) x.board (entry_of x.kind) ≡ Some e
     → (lent : List ℕ) (words : List (Option ℕ)) → loan_held m party lent ≡ Some (x, words) → (shape : CellShape) → shape ≡ cell_shape e.cell → length words ≡ shape.words
 lent_width m party led idle x e found lent words held shape is =
-    loan_width m led.state led.represents party led.reached.sound (is_free m.parties.items led.state.parties led.represents.parties party idle) x e found lent words held
+    loan_width m led.state led.represents party led.reached.sound (is_free (task_of m) led.state.parties led.represents.parties party idle) x e found lent words held
     ∙ ap (λ (y : CellShape). y.words) (sym is)
 
 -- the number that was read for a loan is the counter of its entry

@@ -16,13 +16,12 @@ use Rattle.board_model.proofs.StoreLemmas.{store_here}
 use Rattle.board_cell.specs.Calls.{Asking, Getting, Publishing, Putting, Updating}
 use Rattle.script_parties.specs.Parties.{HasWord, IsStored, Parties, words_of_boards}
 use Rattle.script_boards.specs.declared.machine.BoardMachine.{BoardMachine}
-use Rattle.script_boards.specs.declared.machine.PartyRow.{PartyRow}
 use Rattle.script_boards.specs.declared.machine.Task.{Task}
 use Rattle.script_boards.specs.declared.machine.Task.TheVariants as task
 use Rattle.script_boards.specs.Machine.{IsTaskOf, Represents}
 use Rattle.script_boards.specs.Steps.{CanGoOn}
 use Rattle.script_boards.proofs.Memories.{words-set, words_at}
-use Rattle.script_boards.proofs.PartyRows.{RunsAt}
+use Rattle.script_boards.proofs.PartyTasks.{IsRunning}
 use Rattle.script_boards.proofs.Rows.{first_at, found_somewhere}
 
 -- ---- calls that run
@@ -107,9 +106,9 @@ module _ {C : Type 0} (m : BoardMachine C) (s : State) (rep : Represents m s) (s
       ∙ ap (λ (ws : List (List ℕ)). set ws at.place (set (s.memory n) word value)) rep.words
       ∙ sym (words-set s.memory (store s.memory n word value) n (λ k e. rw e refl) (set (s.memory n) word value) (store_here s.memory n word value n refl) m.domain.tables.boards at.place at.stands single)
 
-module _ {C : Type 0} (m : BoardMachine C) (s : State) (rep : Represents m s) (sound : Sound s) (party : List ℕ) (place : ℕ) (row : PartyRow) (at : RunsAt m.parties.items s.parties party place row) where
+module _ (s : State) (sound : Sound s) (party : List ℕ) (own : Task) (at : IsRunning s.parties party own) where
   calling : IsCalling s party at.r at.r.request
   calling = runs s party at.r at.r.request sound at.runs refl
 
-  pub row_goes_on : CanGoOn row.task
-  row_goes_on = goes_on s party at.r row.task at.task calling
+  pub task_goes_on : CanGoOn own
+  task_goes_on = goes_on s party at.r own at.task calling

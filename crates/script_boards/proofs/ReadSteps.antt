@@ -1,10 +1,9 @@
 -- A step of a call that reads a word is right, and the machine stands for what follows.
 use Rattle.std.proofs.Common.{◌≡◌, ℕ, zero, suc, ◌<◌, Bool, true, false, cond, List, [], ◌∷◌, ◌++◌, length, map, get_or, set, arith, refl, sym, ap, subst, ◌∙◌, Option, Some, None}
 use Rattle.std.specs.Prelude.{◌==◌, ◌&&◌, is_some, slice_get}
-use Rattle.std.specs.List.{filter, remove}
 use Rattle.std.specs.Str.{bytes_eq}
 use Rattle.std.proofs.lemmas.Bool.{eqb-false, eqb-true, le-leb}
-use Rattle.std.proofs.lemmas.List.{append-nil, length-append, nil_from_length}
+use Rattle.std.proofs.lemmas.List.{length-append, nil_from_length}
 use Rattle.board_layout.specs.declared.type_detail.TypeDetail.{TypeDetail}
 use Rattle.board_cell_model.specs.declared.access.Access.{Access}
 use Rattle.board_cell_model.specs.declared.access.Access.TheVariants as access
@@ -32,22 +31,18 @@ use Rattle.board_model.proofs.KeptLemmas.{entry_board}
 use Rattle.board_model.proofs.ReadLaws.{last_value, reads_are_replies}
 use Rattle.board_model.proofs.RunningLemmas.{runs}
 use Rattle.board_cell.specs.Calls.{Asking, Getting, counter_of, words_of}
-use Rattle.script_boards.specs.declared.machine.KeptValue.{KeptValue}
-use Rattle.script_boards.specs.declared.machine.Lent.{Lent}
 use Rattle.script_boards.specs.declared.machine.BoardMachine.{BoardMachine}
-use Rattle.script_boards.specs.declared.machine.PartyRow.{PartyRow}
 use Rattle.script_boards.specs.declared.machine.Task.{Task}
 use Rattle.script_boards.specs.declared.machine.Task.TheVariants as task
 use Rattle.script_boards.specs.declared.step.OwedAccess.TheVariants as owed_access
 use Rattle.script_boards.specs.declared.step.OwedRead.{OwedRead}
 use Rattle.script_boards.specs.Loans.{lent_words}
-use Rattle.script_boards.specs.Machine as machine
-use Rattle.script_boards.specs.Machine.{AreRowsOf, IsTaskOf, Represents, getting, asking, is_row_of, kept, kept_from, kept_of, tables_of}
+use Rattle.script_boards.specs.Machine.{IsTaskOf, Represents, getting, asking, kept, tables_of, task_of}
 use Rattle.script_parties.specs.Parties as parties
 use Rattle.script_parties.specs.Parties.{HasWord, IsLoaded, Parties}
-use Rattle.script_boards.specs.Steps.{IsOwedBy, IsReadTold, ends_call, kept_anew, read_told, ticked, values_read}
-use Rattle.script_boards.proofs.PartyRows.{RunsAt, ended, went_on}
-use Rattle.script_boards.proofs.Rows.{remove-set}
+use Rattle.script_boards.specs.Steps.{EndsWith, GoesOn, IsOwedBy, IsReadTold, ends_call, kept_anew, read_told, ticked, values_read}
+use Rattle.script_boards.proofs.PartyTasks.{IsRunning, changed, put_before}
+use Rattle.script_boards.proofs.Seats.{of_name}
 use Rattle.script_boards.proofs.OwedWords.{has_word, stands_at}
 
 -- ---- what a read owes
@@ -102,11 +97,6 @@ same_either a b = at (a == b) refl (b == a) refl
     at false e true f = absurd (eqb-false a b e (sym (eqb-true b a f)))
     at false e false f = refl
 
--- the value kept last stands
-kept-push : (found : Option Kept) (p n : List ℕ) (vs : List KeptValue) (v : KeptValue) → kept_from found p n (vs ++ v ∷ []) ≡ cond (bytes_eq p v.party && bytes_eq n v.name) (Some (kept_of v)) (kept_from found p n vs)
-kept-push found p n [] v = refl
-kept-push found p n (w ∷ vs) v = kept-push (cond (machine.is_kept_as p n w) (Some (kept_of w)) found) p n vs v
-
 -- ---- what a read is told
 
 finished_reply : (type : TypeDetail) (y : Reading) → is_finished y ≡ true → reply_of_reading type y ≡ Some (reply.Got (value_type_of type) (words_of y) (counter_of y))
@@ -119,9 +109,9 @@ finished_is opening e = absurd cc
 finished_is (trying c ws) e = absurd cc
 finished_is (finished c ws) e = refl
 
-module _ {C : Type 0} (m : BoardMachine C) (s : State) (rep : Represents m s) (sound : Sound s) (party : List ℕ) (place : ℕ) (row : PartyRow) (at : RunsAt m.parties.items s.parties party place row) (x : OwedRead) (o : IsOwedBy row.task (owed_access.Read x)) where
+module _ {C : Type 0} (m : BoardMachine C) (s : State) (rep : Represents m s) (sound : Sound s) (party : List ℕ) (own : Task) (at : IsRunning s.parties party own) (x : OwedRead) (o : IsOwedBy own (owed_access.Read x)) where
   step : IsReadStep at.r.request at.r.so_far x
-  step = read_step row.task at.r x at.task o
+  step = read_step own at.r x at.task o
 
   calling : (q : Request) → at.r.request ≡ q → IsCalling s party at.r q
   calling q e = runs s party at.r q sound at.runs e
@@ -142,13 +132,13 @@ module _ {C : Type 0} (m : BoardMachine C) (s : State) (rep : Represents m s) (s
   board_stands task.Gone h o = absurd o
 
   stands : is_some (board_at s.standing.tables x.board) ≡ true
-  stands = ap (λ (n : ℕ). is_some (board_at s.standing.tables n)) step.board ∙ board_stands row.task at.task o
+  stands = ap (λ (n : ℕ). is_some (board_at s.standing.tables n)) step.board ∙ board_stands own at.task o
 
   inside : x.word < length (s.memory x.board)
   inside = (read_in_board s party at.r x.board x.word sound at.runs (sym step.next)).inside
 
-  pub row_has_read : HasWord m.domain x.board x.word
-  row_has_read = has_word m s rep sound x.board x.word stands inside
+  pub task_has_read : HasWord m.domain x.board x.word
+  task_has_read = has_word m s rep sound x.board x.word stands inside
 
   module _ (v : ℕ) (loaded : IsLoaded m.domain x.board x.word v) (boards : IsNumber x.board) (words : IsNumber x.word) (small : IsNumber v) (l : IsLine (line.Step party)) where
     abbrev made : Access
@@ -203,27 +193,26 @@ module _ {C : Type 0} (m : BoardMachine C) (s : State) (rep : Represents m s) (s
     rest_is task.Gone h o e = absurd o
 
     -- another read leaves the rest of the call
-    pub read_goes_on : (new : BoardMachine C) → tables_of new ≡ tables_of m → new.domain.words ≡ m.domain.words → new.values.items ≡ m.values.items → new.loans.items ≡ m.loans.items
-        → (y : PartyRow) → y.name ≡ row.name → y.task ≡ ticked row.task v → ends_call row.task v ≡ false → new.parties.items ≡ set m.parties.items place y
+    pub read_goes_on : (new : BoardMachine C) → tables_of new ≡ tables_of m → new.domain.words ≡ m.domain.words → kept new ≡ kept m → lent_words new ≡ lent_words m
+        → GoesOn (task_of m) (task_of new) party own v
         → IsRight s (line.Step party) (answer.Step made None) × Represents new (after s (line.Step party) (answer.Step made None))
-    read_goes_on new tables ws values loans y n t e rows =
+    read_goes_on new tables ws values loans goes =
         let next : Running = record at.r { so_far = more } in
-        let of : IsTaskOf y.task next.request next.so_far = subst (λ (z : Task). IsTaskOf z at.r.request more) (sym t) (rest_is row.task at.task o e) in (
+        let of : IsTaskOf (ticked own v) next.request next.so_far = rest_is own at.task o goes.more in (
           record {
             line = l;
             answer = ((boards, words, small), tt);
             reason = rw (at.runs) tt;
             owed = λ _. rw (at.runs) step.next;
             word = λ _. word;
-            reply = λ _. rw (at.runs) (record { last = sym (last_is row.task at.task o ∙ e); reply = tt });
+            reply = λ _. rw (at.runs) (record { last = sym (last_is own at.task o ∙ goes.more); reply = tt });
           },
           rw (at.runs) (record {
             tables = rep.tables ∙ sym tables;
             words = ws ∙ rep.words ∙ ap (λ z. parties.words_of_boards s.memory z.boards) (sym tables);
-            parties = subst (λ (xs : List PartyRow). (p : List ℕ) → AreRowsOf (filter (is_row_of p) xs) (with_party (λ q. notice made (s.parties q)) party (running next) p))
-                (sym rows) (went_on m.parties.items s.parties rep.parties party place row at made y next n of);
-            loans = λ p n. rep.loans p n ∙ ap (λ (xs : List Lent). lent_words xs p n) (sym loans);
-            values = λ p n. rep.values p n ∙ ap (λ (vs : List KeptValue). kept vs p n) (sym values);
+            parties = changed (task_of m) (task_of new) s.parties rep.parties party (Some (ticked own v)) goes.tasks made (running next) (record { task = ticked own v; found = refl; is = of });
+            loans = λ p n. rep.loans p n ∙ sym (of_name loans p n);
+            values = λ p n. rep.values p n ∙ sym (of_name values p n);
           }),
         )
 
@@ -252,16 +241,16 @@ module _ {C : Type 0} (m : BoardMachine C) (s : State) (rep : Represents m s) (s
     told_is task.Gone told h o e r = absurd o
 
     -- what a finished read leaves
-    record IsLeft (vs : List KeptValue) (told : Reply) (q : Request) : Type 0 where
+    record IsLeft (new : BoardMachine C) (told : Reply) (q : Request) : Type 0 where
       pub memory : memory_after s.memory q told ≡ s.memory
       pub tables : (ask s.standing s.published party q).standing.tables ≡ s.standing.tables
       pub loans : (p n : List ℕ) → (ask s.standing s.published party q).standing.loans p n ≡ s.standing.loans p n
-      pub values : (p n : List ℕ) → (ask s.standing s.published party q).standing.values p n ≡ kept vs p n
+      pub values : (p n : List ℕ) → (ask s.standing s.published party q).standing.values p n ≡ kept new p n
 
-    kept_values : (f : Fetch) (list : List (List ℕ)) (name : Option (List ℕ)) (type : ValueType) (call : Getting) (vs : List KeptValue) → type ≡ value_type_of f.type → words_of call.reading ≡ latest list → counter_of call.reading ≡ length list
-        → vs ≡ m.values.items ++ kept_anew party name type call → (p n : List ℕ) → (with_fetched s.standing party f (latest list) (length list) name).values p n ≡ kept vs p n
-    kept_values f list None type call vs t w c e p n = rep.values p n ∙ ap (λ (xs : List KeptValue). kept xs p n) (sym (e ∙ append-nil m.values.items))
-    kept_values f list (Some name) type call vs t w c e p n =
+    kept_values : (f : Fetch) (list : List (List ℕ)) (name : Option (List ℕ)) (type : ValueType) (call : Getting) (new : BoardMachine C) → type ≡ value_type_of f.type → words_of call.reading ≡ latest list → counter_of call.reading ≡ length list
+        → kept new ≡ kept_anew (kept m) party name type call → (p n : List ℕ) → (with_fetched s.standing party f (latest list) (length list) name).values p n ≡ kept new p n
+    kept_values f list None type call new t w c e p n = rep.values p n ∙ sym (of_name e p n)
+    kept_values f list (Some name) type call new t w c e p n =
         let here : Bool = bytes_eq p party && bytes_eq n name in
         let some : Kept → Option Kept = λ k. Some k in
         let there : Option Kept → Option Kept = λ k. cond here k (s.standing.values p n) in
@@ -269,64 +258,65 @@ module _ {C : Type 0} (m : BoardMachine C) (s : State) (rep : Represents m s) (s
         ∙ ap (λ (z : List ℕ). there (some (record { type = type; words = z; generation = length list }))) (sym w)
         ∙ ap (λ (z : ℕ). there (some (record { type = type; words = words_of call.reading; generation = z }))) (sym c)
         ∙ ap (λ (z : Option Kept). cond here (some (record { type = type; words = words_of call.reading; generation = counter_of call.reading })) z) (rep.values p n)
-        ∙ sym (kept-push None p n m.values.items (record { party = party; name = name; value_type = type; words = words_of call.reading; generation = counter_of call.reading }))
-        ∙ ap (λ (xs : List KeptValue). kept xs p n) (sym e)
+        ∙ sym (of_name e p n)
 
     no_name : (f : Fetch) (ws : List ℕ) (g : ℕ) (name : Option (List ℕ)) → ((with_fetched s.standing party f ws g name).tables ≡ s.standing.tables) × ((p n : List ℕ) → (with_fetched s.standing party f ws g name).loans p n ≡ s.standing.loans p n)
     no_name f ws g None = (refl, λ p n. refl)
     no_name f ws g (Some name) = (refl, λ p n. refl)
 
-    left_is : (t : Task) (told : Reply) (vs : List KeptValue) → IsTaskOf t at.r.request at.r.so_far → IsOwedBy t (owed_access.Read x) → ends_call t v ≡ true → vs ≡ m.values.items ++ values_read party (ticked t v) → IsLeft vs told at.r.request
-    left_is (task.Table t) told vs h o e k = absurd o
-    left_is (task.Get board call type name) told vs h o e k =
+    left_is : (t : Task) (told : Reply) (new : BoardMachine C) → IsTaskOf t at.r.request at.r.so_far → IsOwedBy t (owed_access.Read x) → ends_call t v ≡ true
+        → kept new ≡ values_read (kept m) party (ticked t v) → IsLeft new told at.r.request
+    left_is (task.Table t) told new h o e k = absurd o
+    left_is (task.Get board call type name) told new h o e k =
         let f = h.fetch in
         let list = s.published f.board f.entry in
         let y : Reading = hear call.shape.words call.reading v in
         let c : reading f.shape.words more ≡ y = heard_more f ∙ ap (λ (z : Getting). hear z.shape.words z.reading v) (sym h.call_is) in
         let all = last_value s party at.r made f (counter_of y) (words_of y) taking h.request (c ∙ finished_is y e) in
         let none = no_name f (latest list) (length list) f.name in
-        let of_name : vs ≡ m.values.items ++ kept_anew party f.name type (record call { reading = y }) = k ∙ ap (λ (z : Option (List ℕ)). m.values.items ++ kept_anew party z type (record call { reading = y })) h.name_is in
-        subst (λ (q : Request). IsLeft vs told q) (sym h.request) (record {
+        let named : kept new ≡ kept_anew (kept m) party f.name type (record call { reading = y }) = k ∙ ap (λ (z : Option (List ℕ)). kept_anew (kept m) party z type (record call { reading = y })) h.name_is in
+        subst (λ (q : Request). IsLeft new told q) (sym h.request) (record {
           memory = refl;
           tables = none.0;
           loans = none.1;
-          values = kept_values f list f.name type (record call { reading = y }) vs h.type_is all.0 all.1 of_name;
+          values = kept_values f list f.name type (record call { reading = y }) new h.type_is all.0 all.1 named;
         })
-    left_is (task.Fresh board call) told vs h o e k =
-        subst (λ (q : Request). IsLeft vs told q) (sym h.request) (record {
+    left_is (task.Fresh board call) told new h o e k =
+        subst (λ (q : Request). IsLeft new told q) (sym h.request) (record {
           memory = refl;
           tables = refl;
           loans = λ p n. refl;
-          values = λ p n. rep.values p n ∙ ap (λ (xs : List KeptValue). kept xs p n) (sym (k ∙ append-nil m.values.items));
+          values = λ p n. rep.values p n ∙ sym (of_name k p n);
         })
-    left_is (task.Update board call) told vs h o e k = absurd o
-    left_is (task.Put board call loan index w) told vs h o e k = absurd o
-    left_is (task.Publish board call loan handle) told vs h o e k = absurd o
-    left_is (task.Fill board call loan handle) told vs h o e k = absurd o
-    left_is task.Gone told vs h o e k = absurd o
+    left_is (task.Update board call) told new h o e k = absurd o
+    left_is (task.Put board call loan index w) told new h o e k = absurd o
+    left_is (task.Publish board call loan handle) told new h o e k = absurd o
+    left_is (task.Fill board call loan handle) told new h o e k = absurd o
+    left_is task.Gone told new h o e k = absurd o
 
     -- the last read ends the call
-    pub read_ends : (mid new : BoardMachine C) (y : PartyRow) → y.task ≡ ticked row.task v → ends_call row.task v ≡ true
-        → tables_of mid ≡ tables_of m → mid.domain.words ≡ m.domain.words → mid.values.items ≡ m.values.items → mid.loans.items ≡ m.loans.items → mid.parties.items ≡ remove (set m.parties.items place y) place
-        → (told : Reply) → IsReadTold mid new party (ticked row.task v) told → IsReply told
+    pub read_ends : (mid new : BoardMachine C) → tables_of mid ≡ tables_of m → mid.domain.words ≡ m.domain.words → kept mid ≡ kept m → lent_words mid ≡ lent_words m
+        → (last : Task) → EndsWith (task_of m) (task_of mid) party own v last → (told : Reply) → IsReadTold mid new party last told → IsReply told
         → IsRight s (line.Step party) (answer.Step made (Some told)) × Represents new (after s (line.Step party) (answer.Step made (Some told)))
-    read_ends mid new y t e tables ws values loans rows told h r =
-        let read = told_is row.task told at.task o e h.told_is in
-        let left = left_is row.task told new.values.items at.task o e (h.values ∙ ap (λ (vs : List KeptValue). vs ++ values_read party (ticked row.task v)) values) in (
+    read_ends mid new tables ws values loans last ends told h r =
+        let of_last : read_told (ticked own v) ≡ Some told = ap read_told (sym ends.task) ∙ h.told_is in
+        let read = told_is own told at.task o ends.last of_last in
+        let kept_now : kept new ≡ values_read (kept m) party (ticked own v) =
+        h.values ∙ ap (λ (t : Task). values_read (kept mid) party t) ends.task ∙ ap (λ (f : List ℕ → List ℕ → Option Kept). values_read f party (ticked own v)) values in
+        let left = left_is own told new at.task o ends.last kept_now in (
           record {
             line = l;
             answer = ((boards, words, small), r);
             reason = rw (at.runs) tt;
             owed = λ _. rw (at.runs) step.next;
             word = λ _. word;
-            reply = λ _. rw (at.runs) (record { last = sym (last_is row.task at.task o ∙ e); reply = reads_are_replies s party at.r made told taking read });
+            reply = λ _. rw (at.runs) (record { last = sym (last_is own at.task o ∙ ends.last); reply = reads_are_replies s party at.r made told taking read });
           },
           rw (at.runs) (record {
             tables = left.tables ∙ rep.tables ∙ sym tables ∙ ap (λ (d : Parties). d.tables) (sym h.domain);
             words = ap (λ (d : Parties). d.words) h.domain ∙ ws ∙ rep.words ∙ ap (λ z. parties.words_of_boards s.memory z.boards) (sym tables ∙ ap (λ (d : Parties). d.tables) (sym h.domain)) ∙ ap (λ (z : ℕ → List ℕ). parties.words_of_boards z new.domain.tables.boards) (sym left.memory);
-            parties = subst (λ (xs : List PartyRow). (p : List ℕ) → AreRowsOf (filter (is_row_of p) xs) (with_party (λ q. notice made (s.parties q)) party free p))
-                (sym (h.parties ∙ rows ∙ remove-set m.parties.items place y)) (ended m.parties.items s.parties rep.parties party place row at made);
-            loans = λ p n. left.loans p n ∙ rep.loans p n ∙ ap (λ (xs : List Lent). lent_words xs p n) (sym loans ∙ sym h.loans);
+            parties = changed (task_of m) (task_of new) s.parties rep.parties party None (put_before (task_of m) (task_of mid) (task_of new) party None ends.tasks h.parties) made free refl;
+            loans = λ p n. left.loans p n ∙ rep.loans p n ∙ sym (of_name loans p n) ∙ sym (of_name h.loans p n);
             values = left.values;
           }),
         )

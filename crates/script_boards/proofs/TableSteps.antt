@@ -2,7 +2,7 @@
 use Rattle.std.proofs.Common.{◌≡◌, ℕ, ◌+◌, ◌^◌, ◌<◌, true, List, [], ◌∷◌, ◌++◌, length, get_or, map, arith, refl, sym, ap, subst, ◌∙◌, Option, Some, None}
 use Rattle.std.specs.Prelude.{nat_le, is_some, Result, slice_index}
 use Rattle.std.specs.Str.{bytes_eq}
-use Rattle.std.specs.List.{filter, position_from, remove}
+use Rattle.std.specs.List.{position_from}
 use Rattle.std.proofs.lemmas.Bool.{eq-eqb, le-leb}
 use Rattle.std.proofs.lemmas.List.{length-append, map_push}
 use Rattle.board_cell_model.specs.declared.access.Access.TheVariants as access
@@ -39,31 +39,27 @@ use Rattle.board_model.proofs.ListLemmas.{any_missing, count_none}
 use Rattle.board_model.proofs.ReplyFormLemmas.{reply_told}
 use Rattle.board_model.proofs.RunningLemmas.{runs}
 use Rattle.board_model.proofs.ThingLemmas.{all_found, found_as}
-use Rattle.script_boards.specs.declared.machine.Lent.{Lent}
 use Rattle.script_boards.specs.declared.machine.BoardMachine.{BoardMachine}
-use Rattle.script_boards.specs.declared.machine.PartyRow.{PartyRow}
-use Rattle.script_boards.specs.declared.machine.KeptValue.{KeptValue}
+use Rattle.script_boards.specs.declared.machine.Task.{Task}
 use Rattle.script_boards.specs.declared.machine.TableTask.{TableTask}
 use Rattle.script_boards.specs.declared.machine.TableTask.TheVariants as table_task
 use Rattle.script_parties.specs.Overview.{keys_shown, standing_with}
 use Rattle.script_parties.specs.Parties.{IsAsked, IsCreate, IsFew, Parties, IsStandingThing, words_of_boards, words_with}
 use Rattle.script_boards.specs.LoanCalls.{IsGivenBack, IsLoaned}
 use Rattle.script_boards.specs.Loans.{IsDiscardTask, IsLoanTask, lent_words}
-use Rattle.script_boards.specs.Machine.{AreRowsOf, IsReached, IsTableTask, Represents, is_row_of, kept, tables_of}
-use Rattle.script_boards.specs.Steps.{CanRun, HasCounter, IsCounter, IsGen, IsShown, IsTold}
+use Rattle.script_boards.specs.Machine.{IsReached, IsTableTask, Represents, kept, tables_of, task_of}
+use Rattle.script_boards.specs.Steps.{CanRun, HasCounter, IsCounter, IsGen, IsPut, IsShown, IsTold}
 use Rattle.script_boards.specs.TableCalls.{IsRest}
 use Rattle.script_boards.proofs.Bounds.{IsBounded}
 use Rattle.script_boards.proofs.LoanSteps.{given_back_loans, given_back_tables, lent_loans, lent_tables}
 use Rattle.script_boards.proofs.Memories.{same_words}
-use Rattle.script_boards.proofs.PartyRows.{RunsAt, ended}
+use Rattle.script_boards.proofs.PartyTasks.{IsRunning, changed, put_before}
+use Rattle.script_boards.proofs.Seats.{of_name}
 use Rattle.script_boards.proofs.Shown.{board_shown}
 use Rattle.script_boards.proofs.OwedWords.{stands_at}
 
 abbrev BoardTables : Type 0
 BoardTables = Tables (List ℕ) (List ℕ)
-
-abbrev some_thing : Held → Option Held
-some_thing x = Some x
 
 pub some_entry : (o : Option Entry) → is_some o ≡ true → (e : Entry) × (o ≡ Some e)
 some_entry None e = absurd cc
@@ -101,15 +97,15 @@ module _ {C : Type 0} (m : BoardMachine C) (s : State) (rep : Represents m s) (s
 
 -- ---- replies and what follows
 
-module _ {C : Type 0} (m : BoardMachine C) (s : State) (rep : Represents m s) (reached : IsReached s) (party : List ℕ) (place : ℕ) (row : PartyRow) (at : RunsAt m.parties.items s.parties party place row) where
+module _ {C : Type 0} (m : BoardMachine C) (s : State) (rep : Represents m s) (reached : IsReached s) (party : List ℕ) (own : Task) (at : IsRunning s.parties party own) where
   -- a call on the tables is told so, and the machine has the tables after it
   pub record IsServed (new : BoardMachine C) (c : TableCall) (told : Reply) : Type 0 where
     pub told_is : told ≡ (ask_tables s.standing s.published party c).reply
     pub tables : (ask_tables s.standing s.published party c).standing.tables ≡ tables_of new
-    pub loans : (p n : List ℕ) → (ask_tables s.standing s.published party c).standing.loans p n ≡ lent_words new.loans.items p n
-    pub values : (p n : List ℕ) → (ask_tables s.standing s.published party c).standing.values p n ≡ kept new.values.items p n
+    pub loans : (p n : List ℕ) → (ask_tables s.standing s.published party c).standing.loans p n ≡ lent_words new p n
+    pub values : (p n : List ℕ) → (ask_tables s.standing s.published party c).standing.values p n ≡ kept new p n
     pub words : new.domain.words ≡ words_of_boards (memory_after s.memory (table c) told) new.domain.tables.boards
-    pub parties : new.parties.items ≡ remove m.parties.items place
+    pub parties : IsPut (task_of m) (task_of new) party None
 
   calling : (c : TableCall) → at.r.request ≡ table c → IsCalling s party at.r (table c)
   calling c e = runs s party at.r (table c) reached.sound at.runs e
@@ -137,9 +133,7 @@ module _ {C : Type 0} (m : BoardMachine C) (s : State) (rep : Represents m s) (r
         rw runs_call (record {
           tables = h.tables;
           words = h.words;
-          parties = subst (λ (xs : List PartyRow). (p : List ℕ) → AreRowsOf (filter (is_row_of p) xs) (with_party (λ q. notice access.Table (s.parties q)) party free p))
-              (sym h.parties)
-              (ended m.parties.items s.parties rep.parties party place row at access.Table);
+          parties = changed (task_of m) (task_of new) s.parties rep.parties party None h.parties access.Table free refl;
           loans = h.loans;
           values = h.values;
         }),
@@ -147,7 +141,7 @@ module _ {C : Type 0} (m : BoardMachine C) (s : State) (rep : Represents m s) (r
 
   -- ---- one call after another
 
-  module _ (mid new : BoardMachine C) (same : tables_of mid ≡ tables_of m) (same_list : mid.domain.words ≡ m.domain.words) (rows : mid.parties.items ≡ remove m.parties.items place) (same_values : mid.values.items ≡ m.values.items) (same_loans : mid.loans.items ≡ m.loans.items) where
+  module _ (mid new : BoardMachine C) (same : tables_of mid ≡ tables_of m) (same_list : mid.domain.words ≡ m.domain.words) (taken : IsPut (task_of m) (task_of mid) party None) (same_values : kept mid ≡ kept m) (same_loans : lent_words mid ≡ lent_words m) where
     tables_are : s.standing.tables ≡ tables_of mid
     tables_are = rep.tables ∙ sym same
 
@@ -159,14 +153,18 @@ module _ {C : Type 0} (m : BoardMachine C) (s : State) (rep : Represents m s) (r
     kept_words b w =
         w ∙ same_list ∙ rep.words ∙ ap (λ (bs : List Board). words_of_boards s.memory bs) (ap (λ t. t.boards) (sym same) ∙ sym b)
 
-    kept_values : new.values.items ≡ mid.values.items → (p n : List ℕ) → s.standing.values p n ≡ kept new.values.items p n
-    kept_values v p n = rep.values p n ∙ ap (λ (vs : List KeptValue). kept vs p n) (sym same_values ∙ sym v)
+    kept_values : kept new ≡ kept mid → (p n : List ℕ) → s.standing.values p n ≡ kept new p n
+    kept_values v p n = rep.values p n ∙ sym (of_name same_values p n) ∙ sym (of_name v p n)
 
-    mid_loans : (p n : List ℕ) → s.standing.loans p n ≡ lent_words mid.loans.items p n
-    mid_loans p n = rep.loans p n ∙ ap (λ (xs : List Lent). lent_words xs p n) (sym same_loans)
+    mid_loans : (p n : List ℕ) → s.standing.loans p n ≡ lent_words mid p n
+    mid_loans p n = rep.loans p n ∙ sym (of_name same_loans p n)
 
-    kept_loans : new.loans.items ≡ mid.loans.items → (p n : List ℕ) → s.standing.loans p n ≡ lent_words new.loans.items p n
-    kept_loans e p n = mid_loans p n ∙ ap (λ (xs : List Lent). lent_words xs p n) (sym e)
+    kept_loans : lent_words new ≡ lent_words mid → (p n : List ℕ) → s.standing.loans p n ≡ lent_words new p n
+    kept_loans e p n = mid_loans p n ∙ sym (of_name e p n)
+
+    -- what comes after the task was taken out changes no task
+    no_more : task_of new ≡ task_of mid → IsPut (task_of m) (task_of new) party None
+    no_more same = put_before (task_of m) (task_of mid) (task_of new) party None taken same
 
     -- a call that changes only the tables
     asked_served : {E : Type 0} (c : TableCall) (error : E → Reply) (f : BoardTables → Result ℕ E × BoardTables) (told : Reply)
@@ -180,7 +178,7 @@ module _ {C : Type 0} (m : BoardMachine C) (s : State) (rep : Represents m s) (r
       loans = λ p n. ap (λ (x : Asked). x.standing.loans p n) asks ∙ kept_loans h.1.loans p n;
       values = λ p n. ap (λ (x : Asked). x.standing.values p n) asks ∙ kept_values h.1.values p n;
       words = kept_words (ap (λ t. t.boards) h.0.tables ∙ boards) h.0.words ∙ ap (λ (x : ℕ → List ℕ). words_of_boards x new.domain.tables.boards) (sym memory);
-      parties = h.1.parties ∙ rows;
+      parties = no_more h.1.parties;
     }
 
     -- a call that only tells
@@ -189,10 +187,10 @@ module _ {C : Type 0} (m : BoardMachine C) (s : State) (rep : Represents m s) (r
     shown_served c shown told asks memory h = record {
       told_is = h.told_is ∙ ap (λ (x : Asked). x.reply) (sym asks);
       tables = ap (λ (x : Asked). x.standing.tables) asks ∙ tables_are ∙ ap tables_of (sym h.same);
-      loans = λ p n. ap (λ (x : Asked). x.standing.loans p n) asks ∙ kept_loans (ap (λ (y : BoardMachine C). y.loans.items) h.same) p n;
-      values = λ p n. ap (λ (x : Asked). x.standing.values p n) asks ∙ kept_values (ap (λ (y : BoardMachine C). y.values.items) h.same) p n;
+      loans = λ p n. ap (λ (x : Asked). x.standing.loans p n) asks ∙ kept_loans (ap (λ (y : BoardMachine C). lent_words y) h.same) p n;
+      values = λ p n. ap (λ (x : Asked). x.standing.values p n) asks ∙ kept_values (ap (λ (y : BoardMachine C). kept y) h.same) p n;
       words = kept_words (ap (λ (y : BoardMachine C). y.domain.tables.boards) h.same) (ap (λ (y : BoardMachine C). y.domain.words) h.same) ∙ ap (λ (x : ℕ → List ℕ). words_of_boards x new.domain.tables.boards) (sym memory);
-      parties = ap (λ (y : BoardMachine C). y.parties.items) h.same ∙ rows;
+      parties = no_more (ap (λ (y : BoardMachine C). task_of y) h.same);
     }
 
     -- the keys of the machine's boards are told as they were added
@@ -248,10 +246,10 @@ module _ {C : Type 0} (m : BoardMachine C) (s : State) (rep : Represents m s) (r
     gen_served x told e h = record {
       told_is = h.told_is ∙ ap (λ (n : ℕ). reply.Generation n) ((handle_counter x e).is_length h.counter (gen_count x h.counter h.is_counter));
       tables = tables_are ∙ ap tables_of (sym h.same);
-      loans = kept_loans (ap (λ (y : BoardMachine C). y.loans.items) h.same);
-      values = kept_values (ap (λ (y : BoardMachine C). y.values.items) h.same);
+      loans = kept_loans (ap (λ (y : BoardMachine C). lent_words y) h.same);
+      values = kept_values (ap (λ (y : BoardMachine C). kept y) h.same);
       words = kept_words (ap (λ (y : BoardMachine C). y.domain.tables.boards) h.same) (ap (λ (y : BoardMachine C). y.domain.words) h.same);
-      parties = ap (λ (y : BoardMachine C). y.parties.items) h.same ∙ rows;
+      parties = no_more (ap (λ (y : BoardMachine C). task_of y) h.same);
     }
 
     -- no board has the next number
@@ -308,20 +306,10 @@ module _ {C : Type 0} (m : BoardMachine C) (s : State) (rep : Represents m s) (r
                 h.0.words ∙ ap (λ (ws : List (List ℕ)). words_with ws entries told) same_list
                 ∙ subst (λ (t : Reply). words_with m.domain.words entries t ≡ words_of_boards (memory_after s.memory (table (create f n k limits attributes entries)) t) new.domain.tables.boards) (sym told_same)
                 (words_told (refusal s.standing.tables) new.domain.tables.boards (ap (λ t. t.boards) tables_same));
-            parties = h.1.parties ∙ rows;
+            parties = no_more h.1.parties;
           }
 
     -- ---- loans
-
-    -- no loan has a name that is free
-    unlent : (name : List ℕ) → IsFree s.standing party name → lent_words mid.loans.items party name ≡ None
-    unlent name f = sym (mid_loans party name) ∙ by (s.standing.loans party name) refl
-      where
-        by : (o : Option (List (Option ℕ))) → s.standing.loans party name ≡ o → o ≡ None
-        by None e = refl
-        by (Some ws) e =
-            let l = reached.sound.things.loans party name ws e in
-            absurd (let x : some_thing l.thing ≡ None = sym l.found ∙ f in cc)
 
     loan_served : (handle lent : List ℕ) (words : ℕ) (told : Reply) (e : IsLoanTask handle lent words at.r.request) → told ≡ reply.Done → IsLoaned mid new party handle lent words → IsServed new (loan e.lending) told
     loan_served handle lent words told e t h =
@@ -335,7 +323,7 @@ module _ {C : Type 0} (m : BoardMachine C) (s : State) (rep : Represents m s) (r
           loans = lent_loans s mid new tables_are mid_loans party l is;
           values = kept_values h.values;
           words = kept_words (ap (λ (d : Parties). d.tables.boards) h.domain) (ap (λ (d : Parties). d.words) h.domain);
-          parties = h.parties ∙ rows;
+          parties = no_more h.parties;
         }
 
     discard_served : (lent handle : List ℕ) (told : Reply) (e : IsDiscardTask lent handle at.r.request) → told ≡ reply.Done → IsGivenBack mid new party lent handle → IsServed new (discard e.lending) told
@@ -349,7 +337,7 @@ module _ {C : Type 0} (m : BoardMachine C) (s : State) (rep : Represents m s) (r
           loans = given_back_loans s mid new tables_are mid_loans party l is;
           values = kept_values h.values;
           words = kept_words (ap (λ (d : Parties). d.tables.boards) h.domain) (ap (λ (d : Parties). d.words) h.domain);
-          parties = h.parties ∙ rows;
+          parties = no_more h.parties;
         }
 
     -- the call of a task is told so
@@ -421,7 +409,7 @@ module _ {C : Type 0} (m : BoardMachine C) (s : State) (rep : Represents m s) (r
     task_can_run (table_task.EntryMut n x k type) b d e =
         let c = (calling (entry_mut n x k type) e).1 in
         (few b d, stands thing_kind.Writer x c.1, c.1.kind, typed x k c.2)
-    task_can_run (table_task.Loan handle lent words) b d e = subst (λ (n : List ℕ). lent_words mid.loans.items party n ≡ None) (sym e.loan_is) (unlent e.lending.loan (calling (loan e.lending) e.request).1.0)
+    task_can_run (table_task.Loan handle lent words) b d e = tt
     task_can_run (table_task.Discard lent handle) b d e = tt
     task_can_run (table_task.Keys x) b d e = tt
     task_can_run (table_task.Nodes x) b d e = tt

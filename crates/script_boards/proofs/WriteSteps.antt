@@ -1,7 +1,6 @@
 -- A step of a call that writes a word is right, and the machine stands for what follows.
-use Rattle.std.proofs.Common.{◌≡◌, ℕ, ◌+◌, ◌≤◌, Bool, true, false, List, [], ◌∷◌, ◌++◌, length, set, arith, refl, sym, ap, subst, ◌∙◌, Some, None}
+use Rattle.std.proofs.Common.{◌≡◌, ℕ, ◌+◌, ◌≤◌, Bool, true, false, List, [], ◌∷◌, ◌++◌, length, arith, refl, sym, ap, subst, ◌∙◌, Option, Some, None}
 use Rattle.std.specs.Prelude.{◌==◌, is_some, nat_le}
-use Rattle.std.specs.List.{filter, remove}
 use Rattle.std.proofs.lemmas.Bool.{eqb-true, eqb-false, le-leb, lt-leb}
 use Rattle.std.proofs.lemmas.List.{length-append}
 use Rattle.board_cell_model.specs.declared.access.Access.{Access}
@@ -24,10 +23,7 @@ use Rattle.board_model.proofs.RunningLemmas.{runs}
 use Rattle.board_model.proofs.KeptLemmas.{entry_board}
 use Rattle.board_model.proofs.BoundLaws.{write_in_board}
 use Rattle.board_cell.specs.Calls.{Publishing, Putting, Updating}
-use Rattle.script_boards.specs.declared.machine.KeptValue.{KeptValue}
-use Rattle.script_boards.specs.declared.machine.Lent.{Lent}
 use Rattle.script_boards.specs.declared.machine.BoardMachine.{BoardMachine}
-use Rattle.script_boards.specs.declared.machine.PartyRow.{PartyRow}
 use Rattle.script_boards.specs.declared.machine.Task.{Task}
 use Rattle.script_boards.specs.declared.machine.Task.TheVariants as task
 use Rattle.script_boards.specs.declared.step.OwedAccess.TheVariants as owed_access
@@ -35,11 +31,12 @@ use Rattle.script_boards.specs.declared.step.OwedWrite.{OwedWrite}
 use Rattle.script_boards.specs.LoanCalls.{CanSettle, IsGivenBack, IsSettled, IsWordPut}
 use Rattle.script_boards.specs.Loans.{filling, lent_words}
 use Rattle.script_parties.specs.Parties.{HasWord, Parties, words_of_boards}
-use Rattle.script_boards.specs.Machine.{AreRowsOf, IsTaskOf, Represents, is_row_of, kept, tables_of, updating}
-use Rattle.script_boards.specs.Steps.{IsOwedBy, IsWordSet, ticked}
+use Rattle.script_boards.specs.Machine.{IsTaskOf, Represents, kept, tables_of, task_of, updating}
+use Rattle.script_boards.specs.Steps.{IsOwedBy, IsPut, IsWordSet, ticked}
 use Rattle.script_boards.proofs.LoanSteps.{given_back_loans, given_back_tables, put_loans}
 use Rattle.script_boards.proofs.OwedWords.{has_word, stored_words}
-use Rattle.script_boards.proofs.PartyRows.{RunsAt, ended, went_on}
+use Rattle.script_boards.proofs.PartyTasks.{IsRunning, changed, put_after, put_before}
+use Rattle.script_boards.proofs.Seats.{of_name}
 
 -- a publication is done with the write after its last word
 done_when : (k n : ℕ) → k ≤ n → nat_le (n + 1) (k + 1) ≡ (k == n)
@@ -49,14 +46,14 @@ done_when k n le = by (k == n) refl
     by true e = let same : k ≡ n = eqb-true k n e in le-leb _ _ (omega (arith, same))
     by false e = lt-leb _ _ (omega (arith, eqb-false k n e, le))
 
-module _ {C : Type 0} (m : BoardMachine C) (s : State) (rep : Represents m s) (sound : Sound s) (party : List ℕ) (place : ℕ) (row : PartyRow) (at : RunsAt m.parties.items s.parties party place row) where
+module _ {C : Type 0} (m : BoardMachine C) (s : State) (rep : Represents m s) (sound : Sound s) (party : List ℕ) (own : Task) (at : IsRunning s.parties party own) where
   calling : (q : Request) → at.r.request ≡ q → IsCalling s party at.r q
   calling q e = runs s party at.r q sound at.runs e
 
   -- ---- the loan of a call
 
   -- the loan into which a word is put has the word
-  pub can_settle : (mid : BoardMachine C) → mid.loans.items ≡ m.loans.items → (t : Task) → IsTaskOf t at.r.request at.r.so_far → CanSettle mid party t
+  pub can_settle : (mid : BoardMachine C) → lent_words mid ≡ lent_words m → (t : Task) → IsTaskOf t at.r.request at.r.so_far → CanSettle mid party t
   can_settle mid same (task.Table t) h = tt
   can_settle mid same (task.Get board call type name) h = tt
   can_settle mid same (task.Fresh board call) h = tt
@@ -66,7 +63,7 @@ module _ {C : Type 0} (m : BoardMachine C) (s : State) (rep : Represents m s) (s
       let p = (calling (put l index word) h.request).1 in
       record {
         words = l.words;
-        lent = ap (λ (xs : List Lent). lent_words xs party loan) same ∙ sym (rep.loans party loan) ∙ ap (λ (n : List ℕ). s.standing.loans party n) h.loan_is ∙ p.words;
+        lent = of_name same party loan ∙ sym (rep.loans party loan) ∙ ap (λ (n : List ℕ). s.standing.loans party n) h.loan_is ∙ p.words;
         below = omega (arith, p.below, p.lent.size);
       }
   can_settle mid same (task.Publish board call loan handle) h = tt
@@ -78,15 +75,15 @@ module _ {C : Type 0} (m : BoardMachine C) (s : State) (rep : Represents m s) (s
     pub memory : (f : ℕ → List ℕ) → memory_after f q reply.Done ≡ f
     pub told : (ask s.standing s.published party q).reply ≡ reply.Done
     pub tables : (ask s.standing s.published party q).standing.tables ≡ tables_of new
-    pub loans : (p n : List ℕ) → (ask s.standing s.published party q).standing.loans p n ≡ lent_words new.loans.items p n
-    pub values : (p n : List ℕ) → (ask s.standing s.published party q).standing.values p n ≡ kept new.values.items p n
+    pub loans : (p n : List ℕ) → (ask s.standing s.published party q).standing.loans p n ≡ lent_words new p n
+    pub values : (p n : List ℕ) → (ask s.standing s.published party q).standing.values p n ≡ kept new p n
     pub boards : new.domain.tables.boards ≡ mid.domain.tables.boards
     pub words : new.domain.words ≡ mid.domain.words
-    pub parties : new.parties.items ≡ mid.parties.items
+    pub parties : task_of new ≡ task_of mid
 
-  module _ (mid new : BoardMachine C) (tables : s.standing.tables ≡ tables_of mid) (loans : (p n : List ℕ) → s.standing.loans p n ≡ lent_words mid.loans.items p n) (values : (p n : List ℕ) → s.standing.values p n ≡ kept mid.values.items p n) where
-    kept_values : new.values.items ≡ mid.values.items → (p n : List ℕ) → s.standing.values p n ≡ kept new.values.items p n
-    kept_values e p n = values p n ∙ ap (λ (vs : List KeptValue). kept vs p n) (sym e)
+  module _ (mid new : BoardMachine C) (tables : s.standing.tables ≡ tables_of mid) (loans : (p n : List ℕ) → s.standing.loans p n ≡ lent_words mid p n) (values : (p n : List ℕ) → s.standing.values p n ≡ kept mid p n) where
+    kept_values : kept new ≡ kept mid → (p n : List ℕ) → s.standing.values p n ≡ kept new p n
+    kept_values e p n = values p n ∙ sym (of_name e p n)
 
     -- a call that ends its loan
     gives_back : (l : Lending) (loan handle : List ℕ) → loan ≡ l.loan → handle ≡ l.handle → IsGivenBack mid new party loan handle → IsGivenBack mid new party l.loan l.handle
@@ -101,11 +98,11 @@ module _ {C : Type 0} (m : BoardMachine C) (s : State) (rep : Represents m s) (s
           memory = λ f. refl;
           told = refl;
           tables = tables ∙ ap tables_of (sym e);
-          loans = λ p n. loans p n ∙ ap (λ (x : BoardMachine C). lent_words x.loans.items p n) (sym e);
-          values = kept_values (ap (λ (x : BoardMachine C). x.values.items) e);
+          loans = λ p n. loans p n ∙ ap (λ (x : BoardMachine C). lent_words x p n) (sym e);
+          values = kept_values (ap (λ (x : BoardMachine C). kept x) e);
           boards = ap (λ (x : BoardMachine C). x.domain.tables.boards) e;
           words = ap (λ (x : BoardMachine C). x.domain.words) e;
-          parties = ap (λ (x : BoardMachine C). x.parties.items) e;
+          parties = ap (λ (x : BoardMachine C). task_of x) e;
         })
     left_is (task.Put board call loan index word) w h o e =
         let l = h.lending in
@@ -151,7 +148,7 @@ module _ {C : Type 0} (m : BoardMachine C) (s : State) (rep : Represents m s) (s
 
   -- ---- the write
 
-  module _ (w : OwedWrite) (o : IsOwedBy row.task (owed_access.Write w)) where
+  module _ (w : OwedWrite) (o : IsOwedBy own (owed_access.Write w)) where
     abbrev made : Access
     made = access.Write w.board w.word w.value
 
@@ -235,11 +232,11 @@ module _ {C : Type 0} (m : BoardMachine C) (s : State) (rep : Represents m s) (s
         })
     write_step task.Gone h o = absurd o
 
-    step : IsWriteStep row.task at.r.request
-    step = write_step row.task at.task o
+    step : IsWriteStep own at.r.request
+    step = write_step own at.task o
 
-    pub row_has_word : HasWord m.domain w.board w.word
-    row_has_word =
+    pub task_has_word : HasWord m.domain w.board w.word
+    task_has_word =
         let inside = write_in_board s party at.r w.board w.word w.value sound at.runs (sym step.next) in
         has_word m s rep sound w.board w.word step.board inside.inside
 
@@ -250,11 +247,14 @@ module _ {C : Type 0} (m : BoardMachine C) (s : State) (rep : Represents m s) (s
       pub value : IsNumber w.value
 
     module _ (stored : BoardMachine C) (is_stored : IsWordSet m stored w.board w.word w.value) (numbers : AreWritten) (l : IsLine (line.Step party)) where
-      stored_loans : (p n : List ℕ) → s.standing.loans p n ≡ lent_words stored.loans.items p n
-      stored_loans p n = rep.loans p n ∙ ap (λ (xs : List Lent). lent_words xs p n) (sym is_stored.rest.loans)
+      stored_loans : (p n : List ℕ) → s.standing.loans p n ≡ lent_words stored p n
+      stored_loans p n = rep.loans p n ∙ sym (of_name is_stored.rest.loans p n)
 
-      stored_values : (p n : List ℕ) → s.standing.values p n ≡ kept stored.values.items p n
-      stored_values p n = rep.values p n ∙ ap (λ (vs : List KeptValue). kept vs p n) (sym is_stored.rest.values)
+      stored_values : (p n : List ℕ) → s.standing.values p n ≡ kept stored p n
+      stored_values p n = rep.values p n ∙ sym (of_name is_stored.rest.values p n)
+
+      put_over : (new : BoardMachine C) (x : Option Task) → IsPut (task_of stored) (task_of new) party x → IsPut (task_of m) (task_of new) party x
+      put_over new x is = put_after (task_of m) (task_of stored) (task_of new) party x is_stored.rest.parties is
 
       all_words : (boards : List Board) → boards ≡ stored.domain.tables.boards → stored.domain.words ≡ words_of_boards (store s.memory w.board w.word w.value) boards
       all_words boards e =
@@ -262,14 +262,14 @@ module _ {C : Type 0} (m : BoardMachine C) (s : State) (rep : Represents m s) (s
           ∙ ap (λ (bs : List Board). words_of_boards (store s.memory w.board w.word w.value) bs) (ap (λ t. t.boards) (sym is_stored.stored.tables) ∙ sym e)
 
       -- the last write ends the call
-      pub write_ends : (mid new : BoardMachine C) → tables_of mid ≡ tables_of stored → mid.domain.words ≡ stored.domain.words → mid.values.items ≡ stored.values.items → mid.loans.items ≡ stored.loans.items
-          → mid.parties.items ≡ remove stored.parties.items place → w.is_last ≡ true → IsSettled mid new party row.task
+      pub write_ends : (mid new : BoardMachine C) → tables_of mid ≡ tables_of stored → mid.domain.words ≡ stored.domain.words → kept mid ≡ kept stored → lent_words mid ≡ lent_words stored
+          → IsPut (task_of stored) (task_of mid) party None → w.is_last ≡ true → IsSettled mid new party own
           → IsRight s (line.Step party) (answer.Step made (Some reply.Done)) × Represents new (after s (line.Step party) (answer.Step made (Some reply.Done)))
-      write_ends mid new tables words values loans rows e settled =
+      write_ends mid new tables words values loans taken e settled =
           let left = left_is mid new (rep.tables ∙ sym is_stored.stored.tables ∙ sym tables)
-          (λ p n. stored_loans p n ∙ ap (λ (xs : List Lent). lent_words xs p n) (sym loans))
-          (λ p n. stored_values p n ∙ ap (λ (vs : List KeptValue). kept vs p n) (sym values))
-          row.task w at.task o settled in (
+          (λ p n. stored_loans p n ∙ sym (of_name loans p n))
+          (λ p n. stored_values p n ∙ sym (of_name values p n))
+          own w at.task o settled in (
             record {
               line = l;
               answer = ((numbers.board, numbers.word, numbers.value), tt);
@@ -282,21 +282,19 @@ module _ {C : Type 0} (m : BoardMachine C) (s : State) (rep : Represents m s) (s
               tables = left.tables;
               words = left.words ∙ words ∙ all_words new.domain.tables.boards (left.boards ∙ ap (λ t. t.boards) tables)
                   ∙ ap (λ (f : ℕ → List ℕ). words_of_boards f new.domain.tables.boards) (sym (left.memory (store s.memory w.board w.word w.value)));
-              parties = subst (λ (xs : List PartyRow). (p : List ℕ) → AreRowsOf (filter (is_row_of p) xs) (with_party (λ q. notice made (s.parties q)) party free p))
-                  (ap (λ (xs : List PartyRow). remove xs place) (sym is_stored.rest.parties) ∙ sym (left.parties ∙ rows))
-                  (ended m.parties.items s.parties rep.parties party place row at made);
+              parties = changed (task_of m) (task_of new) s.parties rep.parties party None (put_before (task_of m) (task_of mid) (task_of new) party None (put_over mid None taken) left.parties) made free refl;
               loans = left.loans;
               values = left.values;
             }),
           )
 
       -- another write leaves the rest of the call
-      pub write_goes_on : (new : BoardMachine C) → tables_of new ≡ tables_of stored → new.domain.words ≡ stored.domain.words → new.values.items ≡ stored.values.items → new.loans.items ≡ stored.loans.items
-          → (y : PartyRow) → y.name ≡ row.name → y.task ≡ ticked row.task 0 → w.is_last ≡ false → new.parties.items ≡ set stored.parties.items place y
+      pub write_goes_on : (new : BoardMachine C) → tables_of new ≡ tables_of stored → new.domain.words ≡ stored.domain.words → kept new ≡ kept stored → lent_words new ≡ lent_words stored
+          → w.is_last ≡ false → IsPut (task_of stored) (task_of new) party (Some (ticked own 0))
           → IsRight s (line.Step party) (answer.Step made None) × Represents new (after s (line.Step party) (answer.Step made None))
-      write_goes_on new tables words values loans y n t e rows =
+      write_goes_on new tables words values loans e taken =
           let next : Running = record at.r { so_far = more } in
-          let of : IsTaskOf y.task next.request next.so_far = subst (λ (x : Task). IsTaskOf x at.r.request more) (sym t) (step.rest e) in (
+          let of : IsTaskOf (ticked own 0) next.request next.so_far = step.rest e in (
             record {
               line = l;
               answer = ((numbers.board, numbers.word, numbers.value), tt);
@@ -308,10 +306,8 @@ module _ {C : Type 0} (m : BoardMachine C) (s : State) (rep : Represents m s) (s
             rw (at.runs) (record {
               tables = rep.tables ∙ sym is_stored.stored.tables ∙ sym tables;
               words = words ∙ all_words new.domain.tables.boards (ap (λ t. t.boards) tables);
-              parties = subst (λ (xs : List PartyRow). (p : List ℕ) → AreRowsOf (filter (is_row_of p) xs) (with_party (λ q. notice made (s.parties q)) party (running next) p))
-                  (ap (λ (xs : List PartyRow). set xs place y) (sym is_stored.rest.parties) ∙ sym rows)
-                  (went_on m.parties.items s.parties rep.parties party place row at made y next n of);
-              loans = λ p n. stored_loans p n ∙ ap (λ (xs : List Lent). lent_words xs p n) (sym loans);
-              values = λ p n. stored_values p n ∙ ap (λ (vs : List KeptValue). kept vs p n) (sym values);
+              parties = changed (task_of m) (task_of new) s.parties rep.parties party (Some (ticked own 0)) (put_over new (Some (ticked own 0)) taken) made (running next) (record { task = ticked own 0; found = refl; is = of });
+              loans = λ p n. stored_loans p n ∙ sym (of_name loans p n);
+              values = λ p n. stored_values p n ∙ sym (of_name values p n);
             }),
           )

@@ -1,6 +1,5 @@
 -- Whether a call may begin.
 use Rattle.std.specs.Prelude.{◌≡◌, ℕ, Bool, true, false, ◌||◌, if◌then◌else◌, List, [], Option, Some, None, is_some, not, option_map, Result, Ok, Err, ⊤}
-use Rattle.std.specs.List.{position_from}
 use Rattle.board_model.specs.declared.answer.Reason.{Reason}
 use Rattle.board_model.specs.declared.answer.Reason.TheVariants as reason
 use Rattle.board_model.specs.declared.line.Call.{Call}
@@ -24,13 +23,13 @@ use Rattle.script_boards.specs.declared.machine.Task.{Task}
 use Rattle.script_boards.specs.declared.not_begun.NotBegun.{NotBegun}
 use Rattle.script_boards.specs.declared.not_begun.NotBegun.TheVariants as not_begun
 use Rattle.script_boards.specs.Loans.{lent_words}
-use Rattle.script_boards.specs.Machine.{IsReached, IsTaskOf, OfEach, is_row_of, kept}
+use Rattle.script_boards.specs.Machine.{IsReached, IsTaskOf, OfEach, kept, task_of}
 
 -- ---- what a party holds
 
 -- a thing or a value
 abbrev pub holds : {C : Type 0} → BoardMachine C → List ℕ → List ℕ → Bool
-holds m party name = is_some (thing_of m.domain.tables.things party name) || is_some (kept m.values.items party name)
+holds m party name = is_some (thing_of m.domain.tables.things party name) || is_some (kept m party name)
 
 -- the same, where there is a name
 abbrev pub holds_any : {C : Type 0} → BoardMachine C → List ℕ → Option (List ℕ) → Bool
@@ -53,18 +52,18 @@ pub record IsHandle {C : Type 0} (m : BoardMachine C) (x : Held) : Type 0 where
   pub handle : is_handle x.kind ≡ true
 
 -- the party runs no call, and isn't gone
-abbrev pub HasNoRow : {C : Type 0} → BoardMachine C → List ℕ → Type 0
-HasNoRow m party = None ≡ position_from (is_row_of party) 0 m.parties.items
+abbrev pub HasNoTask : {C : Type 0} → BoardMachine C → List ℕ → Type 0
+HasNoTask m party = task_of m party ≡ None
 
 -- ---- write handles and loans
 
 -- a write handle that isn't lent
 abbrev pub handle_held : {C : Type 0} → BoardMachine C → List ℕ → List ℕ → Option Held
-handle_held m party name = if is_some (lent_words m.loans.items party name) then None else of_kind thing_kind.WriteHandle (thing_of m.domain.tables.things party name)
+handle_held m party name = if is_some (lent_words m party name) then None else of_kind thing_kind.WriteHandle (thing_of m.domain.tables.things party name)
 
 -- the write handle that a loan is, and the words that were put
 abbrev pub loan_held : {C : Type 0} → BoardMachine C → List ℕ → List ℕ → Option (Held × List (Option ℕ))
-loan_held m party name = and_then (of_kind thing_kind.WriteHandle (thing_of m.domain.tables.things party name)) (λ t. and_then (lent_words m.loans.items party name) (λ words. Some (t, words)))
+loan_held m party name = and_then (of_kind thing_kind.WriteHandle (thing_of m.domain.tables.things party name)) (λ t. and_then (lent_words m party name) (λ words. Some (t, words)))
 
 -- the number is the counter of the entry of this thing, where there is one
 abbrev pub IsGenerationOf : {C : Type 0} → BoardMachine C → Option Held → ℕ → Type 0

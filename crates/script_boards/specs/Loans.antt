@@ -1,21 +1,18 @@
 -- Loans, and what the calls on them have to do.
-use Rattle.std.specs.Prelude.{◌≡◌, ℕ, Bool, false, ◌&&◌, List, Option, find, option_map}
-use Rattle.std.specs.Str.{bytes_eq}
+use Rattle.std.specs.Prelude.{◌≡◌, ℕ, false, List, Option, option_map}
+use Rattle.std.specs.HashMap.{get}
 use Rattle.board_model.specs.declared.value.Value.{Value}
 use Rattle.board_model.specs.TypeTable.{value_words}
 use Rattle.board_model.specs.Requests.{Lending, Request, fill, discard, loan, publish, put, table}
 use Rattle.board_cell.specs.Calls.{Publishing, Putting, Updating}
-use Rattle.script_boards.specs.declared.machine.Lent.{Lent}
+use Rattle.script_seats.specs.Seats.{same_seat}
+use Rattle.script_boards.specs.declared.machine.BoardMachine.{BoardMachine}
 
 -- ---- loans
 
--- the loan is the party's, under the name
-abbrev pub is_lent_as : List ℕ → List ℕ → Lent → Bool
-is_lent_as party name x = bytes_eq party x.party && bytes_eq name x.name
-
 -- the words of the loan that a party holds under a name
-abbrev pub lent_words : List Lent → List ℕ → List ℕ → Option (List (Option ℕ))
-lent_words loans party name = option_map (λ (x : Lent). x.words.items) (find (is_lent_as party name) loans)
+abbrev pub lent_words : {C : Type 0} → BoardMachine C → List ℕ → List ℕ → Option (List (Option ℕ))
+lent_words m party name = option_map (λ ws. ws.items) (get same_seat m.loans (record { party = party; name = name }))
 
 -- ---- tasks
 

@@ -1,6 +1,6 @@
 -- The state of a script that a machine stands for.
-use Rattle.std.specs.Prelude.{◌≡◌, ℕ, ◌<◌, ◌^◌, Bool, ◌&&◌, if◌then◌else◌, List, [], ◌∷◌, length, Option, Some, None, is_some}
-use Rattle.std.specs.List.{filter}
+use Rattle.std.specs.Prelude.{◌≡◌, ℕ, ◌<◌, ◌^◌, Bool, List, length, Option, Some, None, is_some, option_map}
+use Rattle.std.specs.HashMap as hash
 use Rattle.std.specs.Str.{bytes_eq}
 use Rattle.board_cell_model.specs.declared.access.Access.{Access}
 use Rattle.board_model.specs.declared.answer.Answer.{Answer}
@@ -18,10 +18,10 @@ use Rattle.board_model.specs.LawfulSession.{IsRight, State, after}
 use Rattle.board_model.specs.Sound.{Sound}
 use Rattle.board_cell.specs.Calls.{Asking, Getting, Updating}
 use Rattle.script_parties.specs.Parties.{words_of_boards}
+use Rattle.script_seats.specs.Seats.{same_seat}
 use Rattle.script_boards.specs.Loans.{IsDiscardTask, IsFillTask, IsLoanTask, IsPublishTask, IsPutTask, lent_words}
 use Rattle.script_boards.specs.declared.machine.KeptValue.{KeptValue}
 use Rattle.script_boards.specs.declared.machine.BoardMachine.{BoardMachine}
-use Rattle.script_boards.specs.declared.machine.PartyRow.{PartyRow}
 use Rattle.script_boards.specs.declared.machine.Task.{Task}
 use Rattle.script_boards.specs.declared.machine.Task.TheVariants as task
 use Rattle.script_boards.specs.declared.machine.TableTask.{TableTask}
@@ -29,9 +29,9 @@ use Rattle.script_boards.specs.declared.machine.TableTask.TheVariants as table_t
 
 -- ---- running calls
 
--- the row is of this party
-abbrev pub is_row_of : List ℕ → PartyRow → Bool
-is_row_of party row = bytes_eq party row.name
+-- what the call of a party has still to do, or that the party is gone
+abbrev pub task_of : {C : Type 0} → BoardMachine C → List ℕ → Option Task
+task_of m party = hash.get bytes_eq m.parties party
 
 -- the call of a task on the tables is this request
 abbrev pub IsTableTask : TableTask → Request → Type 0
@@ -95,42 +95,27 @@ IsTaskOf (task.Publish board call lent handle) q so_far = IsPublishTask board ca
 IsTaskOf (task.Fill board call lent handle) q so_far = IsFillTask board call lent handle q (length so_far)
 IsTaskOf task.Gone q so_far = ⊥
 
--- the one row of a party whose call runs
-pub record IsRowOf (rows : List PartyRow) (r : Running) : Type 0 where
-  pub row : PartyRow
-  pub only : rows ≡ row ∷ []
-  pub task : IsTaskOf row.task r.request r.so_far
+-- the task of a party whose call runs
+pub record IsKeptCall (kept : Option Task) (r : Running) : Type 0 where
+  pub task : Task
+  pub found : kept ≡ Some task
+  pub is : IsTaskOf task r.request r.so_far
 
--- the one row of a party that is gone
-pub record IsGoneRow (rows : List PartyRow) : Type 0 where
-  pub row : PartyRow
-  pub only : rows ≡ row ∷ []
-  pub task : row.task ≡ task.Gone
-
--- the rows of a party
-abbrev pub AreRowsOf : List PartyRow → Party → Type 0
-AreRowsOf rows free = rows ≡ []
-AreRowsOf rows (running r) = IsRowOf rows r
-AreRowsOf rows gone = IsGoneRow rows
+-- this is kept of a party
+abbrev pub IsKeptOf : Option Task → Party → Type 0
+IsKeptOf kept free = kept ≡ None
+IsKeptOf kept (running r) = IsKeptCall kept r
+IsKeptOf kept gone = kept ≡ Some task.Gone
 
 -- ---- values
 
--- the party keeps the value under the name
-abbrev pub is_kept_as : List ℕ → List ℕ → KeptValue → Bool
-is_kept_as party name v = bytes_eq party v.party && bytes_eq name v.name
-
--- a value without its names
+-- a value as the definitions have it
 abbrev pub kept_of : KeptValue → Kept
 kept_of v = record { type = v.value_type; words = v.words; generation = v.generation }
 
--- the value that a party kept last under a name, or what was found before
-abbrev pub kept_from : Option Kept → List ℕ → List ℕ → List KeptValue → Option Kept
-kept_from found party name [] = found
-kept_from found party name (v ∷ vs) = kept_from (if is_kept_as party name v then Some (kept_of v) else found) party name vs
-
 -- the value that a party kept last under a name
-abbrev pub kept : List KeptValue → List ℕ → List ℕ → Option Kept
-kept values party name = kept_from None party name values
+abbrev pub kept : {C : Type 0} → BoardMachine C → List ℕ → List ℕ → Option Kept
+kept m party name = option_map kept_of (hash.get same_seat m.values (record { party = party; name = name }))
 
 -- ---- the machine
 
@@ -142,9 +127,9 @@ tables_of m = m.domain.tables
 pub record Represents {C : Type 0} (m : BoardMachine C) (s : State) : Type 0 where
   pub tables : s.standing.tables ≡ tables_of m
   pub words : m.domain.words ≡ words_of_boards s.memory m.domain.tables.boards
-  pub parties : (p : List ℕ) → AreRowsOf (filter (is_row_of p) m.parties.items) (s.parties p)
-  pub loans : (p n : List ℕ) → s.standing.loans p n ≡ lent_words m.loans.items p n
-  pub values : (p n : List ℕ) → s.standing.values p n ≡ kept m.values.items p n
+  pub parties : (p : List ℕ) → IsKeptOf (task_of m p) (s.parties p)
+  pub loans : (p n : List ℕ) → s.standing.loans p n ≡ lent_words m p n
+  pub values : (p n : List ℕ) → s.standing.values p n ≡ kept m p n
 
 -- it holds of each state that the machine stands for
 abbrev pub OfEach : {C : Type 0} → BoardMachine C → (State → Type 0) → Type 0

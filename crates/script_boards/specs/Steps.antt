@@ -1,6 +1,7 @@
 -- What the parts of a step do to a machine.
-use Rattle.std.specs.Prelude.{◌≡◌, ℕ, ◌+◌, ◌<◌, ◌≤◌, ◌==◌, Bool, true, false, List, [], ◌∷◌, ◌++◌, length, Option, Some, None, IsSome, is_some, not, option_map, slice_index, slice_index_or, slice_set}
-use Rattle.std.specs.List.{filter, position_from}
+use Rattle.std.specs.Prelude.{◌≡◌, ℕ, ◌+◌, ◌<◌, ◌≤◌, ◌==◌, if◌then◌else◌, Bool, true, false, List, length, Option, Some, None, IsSome, is_some, option_map, slice_index, slice_index_or}
+use Rattle.std.specs.List.{position_from}
+use Rattle.std.specs.Str.{bytes_eq}
 use Rattle.board_model.specs.declared.answer.Reply.{Reply}
 use Rattle.board_model.specs.declared.answer.Reply.TheVariants as reply
 use Rattle.board_model.specs.declared.tables.Entry.{Entry}
@@ -11,15 +12,13 @@ use Rattle.board_model.specs.declared.tables.ThingKind.TheVariants as thing_kind
 use Rattle.board_model.specs.LawfulSession.{is_typed_key}
 use Rattle.board_model.specs.LineGrammar.{AreAttributes, AreRequirements, is_board_name}
 use Rattle.board_model.specs.Tables.{board_at, entry_at, entry_of, is_numbered, kind_of}
-use Rattle.board_model.specs.Things.{Held}
+use Rattle.board_model.specs.Things.{Held, Kept, with_at}
 use Rattle.board_model.specs.Replies.{id_number, info_of, nodes_of}
 use Rattle.board_cell.specs.Calls.{Getting, Updating, counter_of}
 use Rattle.board_cell.specs.Calls as cells
 use Rattle.board_cell.specs.declared.access.Access.{Access}
 use Rattle.board_cell.specs.declared.access.Access.TheVariants as access
-use Rattle.script_boards.specs.declared.machine.KeptValue.{KeptValue}
 use Rattle.script_boards.specs.declared.machine.BoardMachine.{BoardMachine}
-use Rattle.script_boards.specs.declared.machine.PartyRow.{PartyRow}
 use Rattle.script_boards.specs.declared.machine.TableTask.{TableTask}
 use Rattle.script_boards.specs.declared.machine.TableTask.TheVariants as table_task
 use Rattle.script_boards.specs.declared.machine.Task.{Task}
@@ -28,10 +27,10 @@ use Rattle.script_boards.specs.declared.step.OwedAccess.{OwedAccess}
 use Rattle.script_boards.specs.declared.step.OwedAccess.TheVariants as owed
 use Rattle.script_boards.specs.declared.step.OwedWrite.{OwedWrite}
 use Rattle.script_boards.specs.LoanCalls.{IsGivenBack, IsLoaned}
-use Rattle.script_boards.specs.Loans.{is_lent_as, lent_words}
+use Rattle.script_boards.specs.Loans.{lent_words}
 use Rattle.script_parties.specs.Overview.{keys_shown, standing_with}
 use Rattle.script_parties.specs.Parties.{IsCreate, IsEntry, IsEntryMut, IsFew, IsOpen, IsReader, IsReleased, IsStored, IsWriter, IsStandingThing}
-use Rattle.script_boards.specs.Machine.{is_kept_as, is_row_of, tables_of}
+use Rattle.script_boards.specs.Machine.{kept, tables_of, task_of}
 use Rattle.script_boards.specs.TableCalls.{IsRest}
 
 -- ---- the access that is owed
@@ -46,6 +45,11 @@ is_gone (task.Put board call loan index word) = false
 is_gone (task.Publish board call loan handle) = false
 is_gone (task.Fill board call loan handle) = false
 is_gone task.Gone = true
+
+-- the party whose task this is, if it has one, was abandoned
+abbrev pub was_abandoned : Option Task → Bool
+was_abandoned None = false
+was_abandoned (Some t) = is_gone t
 
 -- the call owes an access
 abbrev pub CanGoOn : Task → Type 0
@@ -86,10 +90,11 @@ IsOwedBy (task.Publish board call loan handle) (owed.Write w) = IsOnlyWrite boar
 IsOwedBy (task.Fill board call loan handle) (owed.Write w) = IsOwedWrite board call w
 IsOwedBy t o = ⊥
 
--- the party's row stands here, and its call owes this access
-pub record OwesAt {C : Type 0} (m : BoardMachine C) (party : List ℕ) (at : ℕ) (o : OwedAccess) : Type 0 where
-  pub stands : Some at ≡ position_from (is_row_of party) 0 m.parties.items
-  pub owes : (d : PartyRow) → IsOwedBy (slice_index_or m.parties.items at d).task o
+-- the party's call owes this access
+pub record Owes {C : Type 0} (m : BoardMachine C) (party : List ℕ) (o : OwedAccess) : Type 0 where
+  pub task : Task
+  pub stands : task_of m party ≡ Some task
+  pub owes : IsOwedBy task o
 
 -- an access was made, and a read gave this word
 abbrev pub ticked : Task → ℕ → Task
@@ -108,25 +113,41 @@ ends_call (task.Update board call) v = call.written == length call.words
 ends_call (task.Fill board call loan handle) v = call.written == length call.words
 ends_call t v = true
 
--- ---- rows
+-- ---- tasks of parties
 
 -- the boards and their words stand, and each party holds what it held
 pub record HoldsAsBefore {C : Type 0} (old new : BoardMachine C) : Type 0 where
   pub domain : new.domain ≡ old.domain
-  pub values : new.values.items ≡ old.values.items
-  pub loans : new.loans.items ≡ old.loans.items
+  pub values : new.values ≡ old.values
+  pub loans : new.loans ≡ old.loans
 
--- the call whose row stands here owes an access
-abbrev pub CanGoOnAt : List PartyRow → ℕ → Type 0
-CanGoOnAt rows i = (d : PartyRow) → CanGoOn (slice_index_or rows i d).task
+-- a party has this from now on, or nothing, and the others have what they had
+abbrev pub IsPut : (List ℕ → Option Task) → (List ℕ → Option Task) → List ℕ → Option Task → Type 0
+IsPut old new party o = (p : List ℕ) → new p ≡ (if bytes_eq party p then o else old p)
 
--- the call whose row stands here made a write, and no other row changes
-abbrev pub GoesOnAt : List PartyRow → List PartyRow → ℕ → Type 0
-GoesOnAt old new i = (row : PartyRow) → row ≡ slice_index_or old i row → new ≡ slice_set old i (record row { task = ticked row.task 0 })
+-- the call made an access that isn't its last, and the other calls stay
+pub record GoesOn (old new : List ℕ → Option Task) (party : List ℕ) (t : Task) (word : ℕ) : Type 0 where
+  pub more : ends_call t word ≡ false
+  pub tasks : IsPut old new party (Some (ticked t word))
 
--- the party whose row stands here is gone, and no other row changes
-abbrev pub IsGoneAt : List PartyRow → List PartyRow → ℕ → Type 0
-IsGoneAt old new i = (row : PartyRow) → row ≡ slice_index_or old i row → new ≡ slice_set old i (record row { task = task.Gone })
+-- the call made its last access, and its task is taken out
+pub record EndsWith (old new : List ℕ → Option Task) (party : List ℕ) (t : Task) (word : ℕ) (x : Task) : Type 0 where
+  pub last : ends_call t word ≡ true
+  pub task : x ≡ ticked t word
+  pub tasks : IsPut old new party None
+
+-- the call goes on, or it ends with this task
+abbrev pub GoesOnOrEnds : (List ℕ → Option Task) → (List ℕ → Option Task) → List ℕ → Task → ℕ → Option Task → Type 0
+GoesOnOrEnds old new party t word None = GoesOn old new party t word
+GoesOnOrEnds old new party t word (Some x) = EndsWith old new party t word x
+
+-- so it is of the party's call
+abbrev pub HasHeard : (List ℕ → Option Task) → (List ℕ → Option Task) → List ℕ → ℕ → Option Task → Type 0
+HasHeard old new party word left = (t : Task) → old party ≡ Some t → GoesOnOrEnds old new party t word left
+
+-- the party's call made a write, and the other calls stay
+abbrev pub HasTicked : (List ℕ → Option Task) → (List ℕ → Option Task) → List ℕ → Type 0
+HasTicked old new party = (t : Task) → old party ≡ Some t → IsPut old new party (Some (ticked t 0))
 
 -- ---- words
 
@@ -156,7 +177,7 @@ IsCounter m board i g = (place : ℕ) (e : Entry) (d : List ℕ) → Some place 
 
 -- ---- calls on the tables
 
--- numbers can be drawn, names and attributes are of the grammar, what the call uses stands, and no loan has the name of a new one
+-- numbers can be drawn, names and attributes are of the grammar, and what the call uses stands
 abbrev pub CanRun : {C : Type 0} → BoardMachine C → List ℕ → TableTask → Type 0
 CanRun m party (table_task.Create f n k l attributes entries) = IsFew m.domain × (is_board_name n ≡ true) × AreAttributes attributes
 CanRun m party (table_task.Open f n k l needs) = IsFew m.domain × (is_board_name n ≡ true) × AreRequirements needs
@@ -164,7 +185,7 @@ CanRun m party (table_task.Reader n x) = IsFew m.domain × IsStandingThing m.dom
 CanRun m party (table_task.Writer n x) = IsFew m.domain × IsStandingThing m.domain x
 CanRun m party (table_task.Entry n x k type) = IsFew m.domain × IsStandingThing m.domain x × (kind_of x.kind ≡ thing_kind.Reader) × (is_typed_key (board_at m.domain.tables x.board) k ≡ true)
 CanRun m party (table_task.EntryMut n x k type) = IsFew m.domain × IsStandingThing m.domain x × (kind_of x.kind ≡ thing_kind.Writer) × (is_typed_key (board_at m.domain.tables x.board) k ≡ true)
-CanRun m party (table_task.Loan handle loan words) = lent_words m.loans.items party loan ≡ None
+CanRun m party (table_task.Loan handle loan words) = Unit {0}
 CanRun m party (table_task.Discard loan handle) = Unit {0}
 CanRun m party (table_task.Keys x) = Unit {0}
 CanRun m party (table_task.Nodes x) = Unit {0}
@@ -205,9 +226,9 @@ IsTold old new party (table_task.Gen x) told = IsGen old new x told
 -- what a party held under a name is gone, and a board with its last thing
 pub record IsLetGo {C : Type 0} (old new : BoardMachine C) (party name : List ℕ) : Type 0 where
   pub domain : IsReleased old.domain new.domain party name
-  pub values : new.values.items ≡ filter (λ v. not (is_kept_as party name v)) old.values.items
-  pub loans : new.loans.items ≡ filter (λ x. not (is_lent_as party name x)) old.loans.items
-  pub parties : new.parties.items ≡ old.parties.items
+  pub values : kept new ≡ with_at (kept old) party name None
+  pub loans : lent_words new ≡ with_at (lent_words old) party name None
+  pub parties : task_of new ≡ task_of old
 
 -- ---- reads that end
 
@@ -217,10 +238,17 @@ HasRead (task.Get board call type name) = is_finished call.reading ≡ true
 HasRead (task.Fresh board call) = IsSome call.counter
 HasRead t = ⊥
 
--- the value, where it is to be kept
-abbrev pub kept_anew : List ℕ → Option (List ℕ) → ValueType → Getting → List KeptValue
-kept_anew party None type call = []
-kept_anew party (Some name) type call = record { party = party; name = name; value_type = type; words = cells.words_of call.reading; generation = counter_of call.reading } ∷ []
+-- the party keeps this under the name, and all else stays
+pub record IsKept {C : Type 0} (old new : BoardMachine C) (party name : List ℕ) (value : Kept) : Type 0 where
+  pub values : kept new ≡ with_at (kept old) party name (Some value)
+  pub domain : new.domain ≡ old.domain
+  pub parties : task_of new ≡ task_of old
+  pub loans : lent_words new ≡ lent_words old
+
+-- the values of parties, with that of a get where it is to be kept
+abbrev pub kept_anew : (List ℕ → List ℕ → Option Kept) → List ℕ → Option (List ℕ) → ValueType → Getting → List ℕ → List ℕ → Option Kept
+kept_anew values party None type call = values
+kept_anew values party (Some name) type call = with_at values party name (Some (record { type = type; words = cells.words_of call.reading; generation = counter_of call.reading }))
 
 -- what a finished read tells
 abbrev pub read_told : Task → Option Reply
@@ -228,15 +256,15 @@ read_told (task.Get board call type name) = Some (reply.Got type (cells.words_of
 read_told (task.Fresh board call) = option_map (λ v. reply.Fresh (v == call.generation)) call.counter
 read_told t = None
 
--- the values that a finished read adds
-abbrev pub values_read : List ℕ → Task → List KeptValue
-values_read party (task.Get board call type name) = kept_anew party name type call
-values_read party t = []
+-- the values of parties after a finished read
+abbrev pub values_read : (List ℕ → List ℕ → Option Kept) → List ℕ → Task → List ℕ → List ℕ → Option Kept
+values_read values party (task.Get board call type name) = kept_anew values party name type call
+values_read values party t = values
 
 -- a finished read is told so, and its value is kept
 pub record IsReadTold {C : Type 0} (old new : BoardMachine C) (party : List ℕ) (t : Task) (told : Reply) : Type 0 where
   pub told_is : read_told t ≡ Some told
-  pub values : new.values.items ≡ old.values.items ++ values_read party t
+  pub values : kept new ≡ values_read (kept old) party t
   pub domain : new.domain ≡ old.domain
-  pub parties : new.parties.items ≡ old.parties.items
-  pub loans : new.loans.items ≡ old.loans.items
+  pub parties : task_of new ≡ task_of old
+  pub loans : lent_words new ≡ lent_words old

@@ -1,24 +1,27 @@
 //! Lines `abandon P`.
-ghost use Rattle.std.specs.Prelude.{◌≡◌, ◌+◌, ◌<◌, ◌≤◌, IfOk, OnErr, OnOk, length};
+ghost use Rattle.std.specs.Prelude.{◌≡◌, ◌+◌, ◌≤◌, IfOk, OnErr, OnOk};
+ghost use Rattle.std.specs.HashMap.{IsUnchanged};
 ghost use Rattle.board_model.specs.declared.line.Line.TheVariants as line;
-ghost use Rattle.script_boards.specs.Machine.{IsLed, Serves};
-ghost use Rattle.script_boards.specs.Steps.{HoldsAsBefore, IsGoneAt};
+ghost use Rattle.script_boards.specs.Machine.{IsLed, Serves, task_of};
+ghost use Rattle.script_boards.specs.Steps as steps;
+ghost use Rattle.script_boards.specs.Steps.{HoldsAsBefore};
 ghost use Rattle.script_boards.specs.Wants.{MayWant};
 
-use crate::lookups::place_of_party;
-use crate::machine::{BoardMachine, PartyRow, Task};
+use crate::lookups::put_task;
+use crate::machine::{BoardMachine, Task};
 use board_model::{Answer, Name, Reason};
 use board_service::BoardWords;
 use std::alloc::AllocError;
 
 impl<C: BoardWords + Drop> BoardMachine<C> {
-    // The call whose row stands here runs no more.
-    fn end_call(&mut self, at: usize)
-        requires { at < length self.old.parties.items }
-        ensures held { HoldsAsBefore self.old self.new }
-        ensures gone { IsGoneAt self.old.parties.items self.new.parties.items at }
+    // Whether the party was abandoned.
+    fn is_gone(&self, party: &Name) -> bool
+        ensures { result ≡ steps.was_abandoned (task_of self.now party.now) }
     {
-        self.parties[at].task = Task::Gone;
+        match self.parties.get(party) {
+            Some(task) => task.is_gone(),
+            None => false,
+        }
     }
 
     /// A line `abandon P`. The call of the party runs no more, and what it holds stands for good.
@@ -32,20 +35,13 @@ impl<C: BoardWords + Drop> BoardMachine<C> {
 
         // After want of memory nothing was abandoned.
         ensures held { OnErr result (HoldsAsBefore self.old self.new) }
-        ensures parties { OnErr result (self.new.parties.items ≡ self.old.parties.items) }
+        ensures parties { OnErr result (IsUnchanged self.old.parties self.new.parties) }
         ensures drawn { OnOk result (self.new.domain.drawn ≤ self.old.domain.drawn + 1) }
     {
-        let Some(at) = place_of_party(&party, &self.parties) else {
-            self.parties.push(PartyRow {
-                name: party,
-                task: Task::Gone,
-            })?;
-            return Ok(Answer::Gone);
-        };
-        if self.parties[at].task.is_gone() {
+        if self.is_gone(&party) {
             return Ok(Answer::Refused(Reason::Abandoned));
         }
-        self.end_call(at);
+        put_task(party, Task::Gone, &mut self.parties)?;
         Ok(Answer::Gone)
     }
 }

@@ -9,14 +9,13 @@ ghost use Rattle.board_model.specs.declared.answer.Reason.TheVariants as reason;
 ghost use Rattle.board_model.specs.declared.line.Call.TheVariants as call;
 ghost use Rattle.board_model.specs.declared.line.Line.TheVariants as line;
 ghost use Rattle.script_boards.specs.Machine.{IsLed, Serves, kept, tables_of};
-ghost use Rattle.script_boards.specs.Begins.{Checks, HasGeneration, HasNoRow, IsGenerationOf, IsHandle, IsRequired, IsUsed, handle_held, has_id, holds, holds_any, thing_held, written_by};
+ghost use Rattle.script_boards.specs.Begins.{Checks, HasGeneration, HasNoTask, IsGenerationOf, IsHandle, IsRequired, IsUsed, handle_held, has_id, holds, holds_any, thing_held, written_by};
 ghost use Rattle.script_boards.specs.Loans.{lent_words};
 ghost use Rattle.script_boards.specs.ShortBegins.{begun_unless};
 ghost use Rattle.script_boards.specs.Wants.{MayWant};
 
-use crate::loans::words_lent;
-use crate::lookups::value_of;
-use crate::machine::{BoardMachine, PartyRow, TableTask, Task};
+use crate::lookups::put_task;
+use crate::machine::{BoardMachine, TableTask, Task};
 use crate::not_begun::NotBegun;
 use board_model::{
     AddedEntries, AddedEntry, Answer, Attributes, BoardName, Call, Entry, Key, KeyType, Kind,
@@ -98,7 +97,7 @@ impl<C: BoardWords + Drop> BoardMachine<C> {
     pub(crate) fn holds(&self, party: &Name, name: &Name) -> bool
         ensures { result ≡ holds self.now party.now name.now }
     {
-        self.domain.thing_of(party, name).is_some() || value_of(party, name, &self.values).is_some()
+        self.domain.thing_of(party, name).is_some() || self.value_of(party, name).is_some()
     }
 
     // The same, where there is a name.
@@ -113,9 +112,9 @@ impl<C: BoardWords + Drop> BoardMachine<C> {
 
     // Whether the party has a loan of this name.
     fn is_lent(&self, party: &Name, name: &Name) -> bool
-        ensures { result ≡ is_some (lent_words self.now.loans.items party.now name.now) }
+        ensures { result ≡ is_some (lent_words self.now party.now name.now) }
     {
-        words_lent(party, name, &self.loans).is_some()
+        self.words_lent(party, name).is_some()
     }
 
     /// The write handle that a party holds under a name, where it isn't lent.
@@ -188,7 +187,7 @@ impl<C: BoardWords + Drop> BoardMachine<C> {
     {
         let found = self.thing_used(ThingKind::ReadHandle, party, handle)?;
         let entry = self.entry_held(&found);
-        let Some(kept) = value_of(party, value, &self.values) else {
+        let Some(kept) = self.value_of(party, value) else {
             return Err(NotBegun::Refused(Reason::Unknown));
         };
         require(
@@ -291,7 +290,7 @@ impl<C: BoardWords + Drop> BoardMachine<C> {
     // What the call has to do, where it may begin.
     pub(crate) fn check(&self, party: &Name, call: Call, generation: u64) -> Result<Task, NotBegun>
         requires led { IsLed self.now }
-        requires free { HasNoRow self.now party.now }
+        requires free { HasNoTask self.now party.now }
         requires generation { HasGeneration self.now party.now call generation }
         ensures { Checks self.now party.now call result }
     {
@@ -411,7 +410,7 @@ impl<C: BoardWords + Drop> BoardMachine<C> {
     // A line `begin P CALL` of a free party.
     fn begin_free(&mut self, party: Name, call: Call) -> Result<Answer, AllocError>
         requires led { IsLed self.old }
-        requires free { HasNoRow self.old party }
+        requires free { HasNoTask self.old party }
         ensures serves { IfOk result (λ a. Serves self.old self.new (line.Begin party call) a) }
         ensures memory { OnErr result (MayWant self.old (line.Begin party call)) }
         ensures drawn { OnOk result (self.new.domain.drawn ≤ self.old.domain.drawn + 1) }
@@ -419,7 +418,7 @@ impl<C: BoardWords + Drop> BoardMachine<C> {
         let generation = self.generation_for(&party, &call);
         match self.check(&party, call, generation) {
             Ok(task) => {
-                self.parties.push(PartyRow { name: party, task })?;
+                put_task(party, task, &mut self.parties)?;
                 Ok(Answer::Begun)
             }
             Err(NotBegun::Refused(why)) => Ok(Answer::Refused(why)),
@@ -450,7 +449,7 @@ impl<C: BoardWords + Drop> BoardMachine<C> {
         value: Value,
     ) -> Result<Option<Reason>, AllocError>
         requires led { IsLed self.old }
-        requires free { HasNoRow self.old party }
+        requires free { HasNoTask self.old party }
         ensures serves { IfOk result (λ why. Serves self.old self.new
             (line.Begin party (call.Update handle value)) (begun_unless why)) }
         ensures memory { OnErr result (MayWant self.old
@@ -461,7 +460,7 @@ impl<C: BoardWords + Drop> BoardMachine<C> {
         let generation = self.generation_of(&found);
         match self.check_update(&party, &handle, found, value, generation) {
             Ok(task) => {
-                self.parties.push(PartyRow { name: party, task })?;
+                put_task(party, task, &mut self.parties)?;
                 Ok(None)
             }
             Err(NotBegun::Refused(why)) => Ok(Some(why)),
@@ -496,7 +495,7 @@ impl<C: BoardWords + Drop> BoardMachine<C> {
     #[inline(always)]
     fn begin_free_get(&mut self, party: Name, handle: Name) -> Result<Option<Reason>, AllocError>
         requires led { IsLed self.old }
-        requires free { HasNoRow self.old party }
+        requires free { HasNoTask self.old party }
         ensures serves { IfOk result (λ why. Serves self.old self.new
             (line.Begin party (call.Get handle None)) (begun_unless why)) }
         ensures memory { OnErr result (MayWant self.old (line.Begin party (call.Get handle None))) }
@@ -504,7 +503,7 @@ impl<C: BoardWords + Drop> BoardMachine<C> {
     {
         match self.check_get(&party, &handle, None) {
             Ok(task) => {
-                self.parties.push(PartyRow { name: party, task })?;
+                put_task(party, task, &mut self.parties)?;
                 Ok(None)
             }
             Err(NotBegun::Refused(why)) => Ok(Some(why)),

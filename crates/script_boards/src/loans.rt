@@ -1,55 +1,21 @@
 //! Loans: write handles that are out, and the words that were put.
-ghost use Rattle.std.specs.Prelude.{◌≡◌, ◌<◌, Option, None, IfOk, OnOk, not, option_map};
-ghost use Rattle.std.specs.List.{filter, position_from};
+ghost use Rattle.std.specs.Prelude.{◌≡◌, ◌<◌, Option, None, IfOk, OnOk, option_map};
 ghost use Rattle.board_model.specs.declared.answer.Reply.TheVariants as reply;
 ghost use Rattle.board_model.specs.declared.line.Call.TheVariants as call;
-ghost use Rattle.script_boards.specs.Begins.{Checks, HasGeneration, HasNoRow, loan_held};
+ghost use Rattle.script_boards.specs.Begins.{Checks, HasGeneration, HasNoTask, loan_held};
 ghost use Rattle.script_boards.specs.LoanCalls.{CanSettle, HasLoanWord, IsGivenBack, IsLoaned, IsSettled, IsWordPut};
-ghost use Rattle.script_boards.specs.Loans.{is_lent_as, lent_words};
 ghost use Rattle.script_boards.specs.Machine.{IsLed};
 
 use crate::begin::{is_value_of, require, write_core};
-use crate::machine::{BoardMachine, Lent, TableTask, Task};
+use crate::lookups::{forget, put, set_word};
+use crate::machine::{BoardMachine, TableTask, Task};
 use crate::not_begun::NotBegun;
 use board_model::{Name, Reason, Reply, ThingKind, Value, value_words};
 use board_ports::LoanCore;
 use board_service::BoardWords;
 use script_parties::Held;
+use script_seats::Seat;
 use std::alloc::AllocError;
-
-/// The words of the loan that a party holds under a name.
-pub(crate) fn words_lent<'a>(
-    party: &Name,
-    name: &Name,
-    loans: &'a [Lent],
-) -> Option<&'a Vec<Option<u64>>>
-    ensures { option_map (λ ws. ws.now.items) result ≡ lent_words loans.now party.now name.now }
-{
-    loans
-        .iter()
-        .find(|x| *party == x.party && *name == x.name)
-        .map(|x| &x.words)
-}
-
-// Where the loan stands that a party holds under a name.
-fn place_of_loan(party: &Name, name: &Name, loans: &[Lent]) -> Option<usize>
-    ensures { result ≡ position_from (is_lent_as party.now name.now) 0 loans.now }
-{
-    for (i, lent) in loans.iter().enumerate() {
-        if *party == lent.party && *name == lent.name {
-            return Some(i);
-        }
-    }
-    None
-}
-
-/// Forgets the words of the loan that a party holds under a name.
-pub(crate) fn forget_loan(party: &Name, name: &Name, loans: &mut Vec<Lent>)
-    ensures { loans.new.items
-        ≡ filter (λ x. not (is_lent_as party.now name.now x)) loans.old.items }
-{
-    loans.retain(|x| !(*party == x.party && *name == x.name));
-}
 
 impl<C: BoardWords + Drop> BoardMachine<C> {
     // The write handle that a loan of the party is, and its words.
@@ -60,7 +26,7 @@ impl<C: BoardWords + Drop> BoardMachine<C> {
         match (
             self.domain
                 .held_of_kind(ThingKind::WriteHandle, party, name),
-            words_lent(party, name, &self.loans),
+            self.words_lent(party, name),
         ) {
             (Some(found), Some(words)) => Some((found, words)),
             _ => None,
@@ -103,7 +69,7 @@ impl<C: BoardWords + Drop> BoardMachine<C> {
         generation: u64,
     ) -> Result<Task, NotBegun>
         requires led { IsLed self.now }
-        requires free { HasNoRow self.now party.now }
+        requires free { HasNoTask self.now party.now }
         requires generation { HasGeneration self.now party.now (call.Put loan index word)
             generation }
         ensures { Checks self.now party.now (call.Put loan index word) result }
@@ -134,7 +100,7 @@ impl<C: BoardWords + Drop> BoardMachine<C> {
         generation: u64,
     ) -> Result<Task, NotBegun>
         requires led { IsLed self.now }
-        requires free { HasNoRow self.now party.now }
+        requires free { HasNoTask self.now party.now }
         requires generation { HasGeneration self.now party.now (call.Publish loan handle)
             generation }
         ensures { Checks self.now party.now (call.Publish loan handle) result }
@@ -164,7 +130,7 @@ impl<C: BoardWords + Drop> BoardMachine<C> {
         generation: u64,
     ) -> Result<Task, NotBegun>
         requires led { IsLed self.now }
-        requires free { HasNoRow self.now party.now }
+        requires free { HasNoTask self.now party.now }
         requires generation { HasGeneration self.now party.now (call.Fill loan handle value)
             generation }
         ensures { Checks self.now party.now (call.Fill loan handle value) result }
@@ -193,16 +159,12 @@ impl<C: BoardWords + Drop> BoardMachine<C> {
         loan: Name,
         words: u64,
     ) -> Result<Reply, AllocError>
-        requires { lent_words self.old.loans.items party loan ≡ None }
         ensures told { IfOk result (λ told. told ≡ reply.Done) }
         ensures loan { OnOk result (IsLoaned self.old self.new party handle.now loan words) }
     {
         let none_put = Vec::from_elem(self.alloc, None, words as usize)?;
-        self.loans.push(Lent {
-            party,
-            name: loan,
-            words: none_put,
-        })?;
+        let seat = Seat { party, name: loan };
+        put(seat, none_put, &mut self.loans)?;
         self.domain.rename(&party, handle, &loan);
         Ok(Reply::Done)
     }
@@ -211,7 +173,11 @@ impl<C: BoardWords + Drop> BoardMachine<C> {
     pub(crate) fn give_back(&mut self, party: &Name, loan: &Name, handle: &Name)
         ensures { IsGivenBack self.old self.new party.now loan.now handle.now }
     {
-        forget_loan(party, loan, &mut self.loans);
+        let seat = Seat {
+            party: *party,
+            name: *loan,
+        };
+        forget(&seat, &mut self.loans);
         self.domain.rename(party, loan, handle);
     }
 
@@ -220,11 +186,11 @@ impl<C: BoardWords + Drop> BoardMachine<C> {
         requires { HasLoanWord self.old party.now loan.now index }
         ensures { IsWordPut self.old self.new party.now loan.now index word }
     {
-        match place_of_loan(party, loan, &self.loans) {
-            Some(place) => self.loans[place].words[index as usize] = Some(word),
-            // `HasLoanWord`: the loan stands.
-            None => unreachable!(),
-        }
+        let seat = Seat {
+            party: *party,
+            name: *loan,
+        };
+        set_word(&seat, index, word, &mut self.loans);
     }
 
     /// What the last write of a call does to its loan.

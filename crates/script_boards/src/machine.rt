@@ -6,7 +6,9 @@ use board_model::{
 };
 use board_service::BoardWords;
 use script_parties::{Held, PartyDomain};
+use script_seats::Seat;
 use std::alloc::Global;
+use std::collections::HashMap;
 
 /// A call on the tables, with the things that it uses found.
 #[derive(Drop, Debug)]
@@ -116,29 +118,12 @@ pub(crate) enum Task {
     Gone,
 }
 
-/// A party whose call runs, or that is gone.
-#[derive(Drop, Debug)]
-pub(crate) struct PartyRow {
-    pub(crate) name: Name,
-    pub(crate) task: Task,
-}
-
 /// A value that a party read and kept under a name.
 #[derive(Drop, Debug)]
 pub(crate) struct KeptValue {
-    pub(crate) party: Name,
-    pub(crate) name: Name,
     pub(crate) value_type: ValueType,
     pub(crate) words: Words,
     pub(crate) generation: u64,
-}
-
-/// A loan of a party: it is a write handle under the name, with the words that were put.
-#[derive(Drop, Debug)]
-pub(crate) struct Lent {
-    pub(crate) party: Name,
-    pub(crate) name: Name,
-    pub(crate) words: Vec<Option<u64>>,
 }
 
 /// Runs the lines of one script, one after another. The words of its boards are held by `C`.
@@ -147,8 +132,10 @@ pub struct BoardMachine<C: BoardWords> {
     pub(crate) alloc: Global,
     /// The boards, their words, and the things that parties hold.
     pub(crate) domain: PartyDomain<C>,
-    /// The parties that run a call or are gone, each once.
-    pub(crate) parties: Vec<PartyRow>,
-    pub(crate) values: Vec<KeptValue>,
-    pub(crate) loans: Vec<Lent>,
+    /// What the call of a party has still to do, for each party that runs one, and for each that is gone.
+    pub(crate) parties: HashMap<Name, Task>,
+    /// The values that parties keep, by party and name.
+    pub(crate) values: HashMap<Seat, KeptValue>,
+    /// The words that were put into each loan, by its party and name. A loan is a write handle under the name.
+    pub(crate) loans: HashMap<Seat, Vec<Option<u64>>>,
 }

@@ -2,10 +2,9 @@
 ghost use Rattle.std.specs.Prelude.{◌≡◌, None, IfNone};
 ghost use Rattle.board_model.specs.LawfulSession.{free_reason};
 ghost use Rattle.board_model.specs.Things as held;
-ghost use Rattle.script_boards.specs.Begins.{HasNoRow, LooksPastNames, past_names};
+ghost use Rattle.script_boards.specs.Begins.{HasNoTask, LooksPastNames, past_names};
 ghost use Rattle.script_boards.specs.Machine.{IsLed, OfEach};
 
-use crate::lookups::place_of_party;
 use crate::machine::BoardMachine;
 use crate::not_begun::NotBegun;
 use board_model::{Call, Name, Reason};
@@ -32,12 +31,12 @@ impl<C: BoardWords + Drop> BoardMachine<C> {
     /// Why a line is refused that only a free party may have. None where the party is free.
     pub fn refusal_of_party(&self, party: &Name) -> Option<Reason>
         ensures reason { OfEach self.now (λ s. result ≡ free_reason (s.parties party.now) None) }
-        ensures free { IfNone result (HasNoRow self.now party.now) }
+        ensures free { IfNone result (HasNoTask self.now party.now) }
     {
-        let Some(at) = place_of_party(party, &self.parties) else {
+        let Some(task) = self.parties.get(party) else {
             return None;
         };
-        if self.parties[at].task.is_gone() {
+        if task.is_gone() {
             Some(Reason::Abandoned)
         } else {
             Some(Reason::Busy)

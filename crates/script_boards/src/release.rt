@@ -1,31 +1,27 @@
 //! Lines `drop P T`.
-ghost use Rattle.std.specs.Prelude.{◌≡◌, ◌≤◌, ◌+◌, not};
-ghost use Rattle.std.specs.List.{filter};
+ghost use Rattle.std.specs.Prelude.{◌≡◌};
 ghost use Rattle.board_model.specs.declared.line.Line.TheVariants as line;
-ghost use Rattle.script_boards.specs.Machine.{IsLed, Serves, is_kept_as};
+ghost use Rattle.script_boards.specs.Machine.{IsLed, Serves};
 ghost use Rattle.script_boards.specs.Steps.{IsLetGo};
 
-use crate::loans::forget_loan;
-use crate::machine::{BoardMachine, KeptValue};
+use crate::lookups::forget;
+use crate::machine::BoardMachine;
 use board_cell_model::Access;
 use board_model::{Answer, Name, Reason, Reply};
 use board_service::BoardWords;
-
-/// Forgets what a party kept under a name.
-fn forget_values(party: &Name, name: &Name, values: &mut Vec<KeptValue>)
-    ensures { values.new.items
-        ≡ filter (λ v. not (is_kept_as party.now name.now v)) values.old.items }
-{
-    values.retain(|v| !(*party == v.party && *name == v.name));
-}
+use script_seats::Seat;
 
 impl<C: BoardWords + Drop> BoardMachine<C> {
     // Takes away what a party holds under a name, and the board with its last thing.
     fn let_go(&mut self, party: &Name, name: &Name)
         ensures { IsLetGo self.old self.new party.now name.now }
     {
-        forget_values(party, name, &mut self.values);
-        forget_loan(party, name, &mut self.loans);
+        let seat = Seat {
+            party: *party,
+            name: *name,
+        };
+        forget(&seat, &mut self.values);
+        forget(&seat, &mut self.loans);
         self.domain.release(party, name);
     }
 

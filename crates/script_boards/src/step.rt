@@ -1,24 +1,24 @@
 //! Lines `step P`.
-ghost use Rattle.std.specs.Prelude.{◌≡◌, ◌+◌, ◌<◌, ◌≤◌, ◌^◌, ◌==◌, true, IfOk, OnErr, OnOk, length, slice_set, slice_index_or};
-ghost use Rattle.std.specs.List.{remove};
+ghost use Rattle.std.specs.Prelude.{◌≡◌, ◌+◌, ◌<◌, ◌≤◌, ◌^◌, ◌==◌, true, IfOk, OnErr, OnOk};
 ghost use Rattle.board_cell.specs.Calls.{progress_of};
 ghost use Rattle.board_model.specs.AnswerGrammar.{IsReply};
 ghost use Rattle.board_model.specs.declared.line.Line.TheVariants as line;
 ghost use Rattle.script_parties.specs.Parties.{HasWord, IsLoaded};
-ghost use Rattle.script_boards.specs.Machine.{IsLed, Serves};
+ghost use Rattle.script_boards.specs.Machine.{IsLed, Serves, kept_of};
 ghost use Rattle.script_boards.specs.Steps as steps;
-ghost use Rattle.script_boards.specs.Steps.{CanGoOn, CanGoOnAt, CanRun, GoesOnAt, HasCounter, HasRead, HoldsAsBefore, IsCounter, IsOwedBy, IsReadTold, IsSame, IsTold, IsWordSet, OwesAt, owed_on, ticked};
+ghost use Rattle.script_boards.specs.Steps.{CanGoOn, CanRun, HasCounter, HasRead, IsCounter, IsKept, IsOwedBy, IsReadTold, IsSame, IsTold, IsWordSet, Owes, owed_on, ticked};
 ghost use Rattle.script_boards.specs.TaskWants.{TaskMayWant, keeps_value};
 ghost use Rattle.script_boards.specs.Wants.{MayWant};
 ghost use Rattle.script_boards.specs.declared.step.OwedAccess.TheVariants as owed;
 
-use crate::lookups::place_of_party;
-use crate::machine::{BoardMachine, KeptValue, PartyRow, TableTask, Task};
+use crate::lookups::{go_on, hear, put};
+use crate::machine::{BoardMachine, KeptValue, TableTask, Task};
 use board_cell::{Access as CellAccess, Progress};
 use board_cell_model::Access;
 use board_model::{Answer, Name, Reason, Reply, Words};
 use board_service::BoardWords;
 use script_parties::entry_of;
+use script_seats::Seat;
 use std::alloc::AllocError;
 
 /// The read that a call owes.
@@ -111,7 +111,7 @@ impl Task {
     }
 
     /// An access was made; a read gave this word.
-    fn took(&mut self, word: u64) -> Progress
+    pub(crate) fn took(&mut self, word: u64) -> Progress
         requires { CanGoOn self.old }
         ensures call { self.new ≡ ticked self.old word }
         ensures progress { result ≡ progress_of (steps.ends_call self.old word) }
@@ -183,16 +183,6 @@ impl<C: BoardWords + Drop> BoardMachine<C> {
         self.domain.store(board, word, value);
     }
 
-    // The call whose row stands here has made a write that isn't its last.
-    fn go_on(&mut self, at: usize)
-        requires inside { at < length self.old.parties.items }
-        requires owes { CanGoOnAt self.old.parties.items at }
-        ensures held { HoldsAsBefore self.old self.new }
-        ensures ticked { GoesOnAt self.old.parties.items self.new.parties.items at }
-    {
-        let _ = self.parties[at].task.took(0);
-    }
-
     // The one step of a call on the tables.
     fn run_table(&mut self, party: Name, task: TableTask) -> Result<Reply, AllocError>
         requires { CanRun self.old party task }
@@ -260,6 +250,15 @@ impl<C: BoardWords + Drop> BoardMachine<C> {
         }
     }
 
+    // The party keeps the value under the name, and no other that it kept under it.
+    fn keep(&mut self, party: Name, name: Name, value: KeptValue) -> Result<(), AllocError>
+        ensures { OnOk result (IsKept self.old self.new party name (kept_of value)) }
+    {
+        let seat = Seat { party, name };
+        put(seat, value, &mut self.values)?;
+        Ok(())
+    }
+
     // What a call that has read its last word is told. The value read is kept where the call names it.
     fn tell_read(&mut self, party: Name, task: Task) -> Result<Reply, AllocError>
         requires { HasRead task }
@@ -278,13 +277,12 @@ impl<C: BoardWords + Drop> BoardMachine<C> {
                 let words = call.into_buffer();
                 if let Some(name) = value {
                     let copy = Vec::from_slice(self.alloc, &words)?;
-                    self.values.push(KeptValue {
-                        party,
-                        name,
+                    let kept = KeptValue {
                         value_type,
                         words: Words::from_vec(copy),
                         generation,
-                    })?;
+                    };
+                    self.keep(party, name, kept)?;
                 }
                 Ok(Reply::Got {
                     value_type,
@@ -299,31 +297,34 @@ impl<C: BoardWords + Drop> BoardMachine<C> {
     }
 
     // A step of a call on the tables.
-    fn step_table(&mut self, party: &Name, at: usize) -> Result<Answer, AllocError>
+    fn step_table(&mut self, party: &Name) -> Result<Answer, AllocError>
         requires led { IsLed self.old }
-        requires owes { OwesAt self.old party.now at owed.Table }
+        requires owes { Owes self.old party.now owed.Table }
         ensures serves { IfOk result (λ a. Serves self.old self.new (line.Step party.now) a) }
         ensures memory { OnErr result (MayWant self.old (line.Step party.now)) }
         ensures drawn { OnOk result (self.new.domain.drawn ≤ self.old.domain.drawn + 1) }
     {
-        let PartyRow { name, task } = self.parties.remove(at);
+        let Some(task) = self.parties.remove(party) else {
+            // `Owes`: the party's call runs.
+            unreachable!()
+        };
         match task {
             Task::Table(task) => {
-                let told = self.run_table(name, task)?;
+                let told = self.run_table(*party, task)?;
                 Ok(Answer::Step {
                     access: Access::Table,
                     reply: Some(told),
                 })
             }
-            // `OwesAt`: the row that stands here owes a step on the tables.
+            // `Owes`: a step on the tables.
             _ => unreachable!(),
         }
     }
 
     // A step of a call that reads a word.
-    fn step_read(&mut self, party: &Name, at: usize, read: OwedRead) -> Result<Answer, AllocError>
+    fn step_read(&mut self, party: &Name, read: OwedRead) -> Result<Answer, AllocError>
         requires led { IsLed self.old }
-        requires owes { OwesAt self.old party.now at (owed.Read read) }
+        requires owes { Owes self.old party.now (owed.Read read) }
         ensures serves { IfOk result (λ a. Serves self.old self.new (line.Step party.now) a) }
         ensures memory { OnErr result (MayWant self.old (line.Step party.now)) }
         ensures drawn { OnOk result (self.new.domain.drawn ≤ self.old.domain.drawn + 1) }
@@ -334,14 +335,13 @@ impl<C: BoardWords + Drop> BoardMachine<C> {
             word: read.word,
             value,
         };
-        match self.parties[at].task.took(value) {
-            Progress::More => Ok(Answer::Step {
+        match hear(party, value, &mut self.parties) {
+            None => Ok(Answer::Step {
                 access,
                 reply: None,
             }),
-            Progress::Done => {
-                let PartyRow { name, task } = self.parties.remove(at);
-                let told = self.tell_read(name, task)?;
+            Some(task) => {
+                let told = self.tell_read(*party, task)?;
                 Ok(Answer::Step {
                     access,
                     reply: Some(told),
@@ -351,9 +351,9 @@ impl<C: BoardWords + Drop> BoardMachine<C> {
     }
 
     // A step of a call that writes a word.
-    fn step_write(&mut self, party: &Name, at: usize, write: OwedWrite) -> Answer
+    fn step_write(&mut self, party: &Name, write: OwedWrite) -> Answer
         requires led { IsLed self.old }
-        requires owes { OwesAt self.old party.now at (owed.Write write) }
+        requires owes { Owes self.old party.now (owed.Write write) }
         ensures serves { Serves self.old self.new (line.Step party.now) result }
         ensures drawn { self.new.domain.drawn ≤ self.old.domain.drawn + 1 }
     {
@@ -364,14 +364,17 @@ impl<C: BoardWords + Drop> BoardMachine<C> {
             value: write.value,
         };
         if write.is_last {
-            let PartyRow { name, task } = self.parties.remove(at);
-            self.settle(&name, task);
+            let Some(task) = self.parties.remove(party) else {
+                // `Owes`: the party's call runs.
+                unreachable!()
+            };
+            self.settle(party, task);
             Answer::Step {
                 access,
                 reply: Some(Reply::Done),
             }
         } else {
-            self.go_on(at);
+            go_on(party, &mut self.parties);
             Answer::Step {
                 access,
                 reply: None,
@@ -390,17 +393,16 @@ impl<C: BoardWords + Drop> BoardMachine<C> {
         ensures memory { OnErr result (MayWant self.old (line.Step party.now)) }
         ensures drawn { OnOk result (self.new.domain.drawn ≤ self.old.domain.drawn + 1) }
     {
-        let Some(at) = place_of_party(party, &self.parties) else {
+        let Some(task) = self.parties.get(party) else {
             return Ok(Answer::Refused(Reason::Idle));
         };
-        let task = &self.parties[at].task;
         if task.is_gone() {
             return Ok(Answer::Refused(Reason::Abandoned));
         }
         match task.owed() {
-            OwedAccess::Table => self.step_table(party, at),
-            OwedAccess::Read(read) => self.step_read(party, at, read),
-            OwedAccess::Write(write) => Ok(self.step_write(party, at, write)),
+            OwedAccess::Table => self.step_table(party),
+            OwedAccess::Read(read) => self.step_read(party, read),
+            OwedAccess::Write(write) => Ok(self.step_write(party, write)),
         }
     }
 }

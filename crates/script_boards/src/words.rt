@@ -10,6 +10,7 @@ use crate::machine::BoardMachine;
 use board_service::BoardWords;
 use script_parties::PartyDomain;
 use std::alloc::{AllocError, Global};
+use std::collections::HashMap;
 
 impl<C: BoardWords + Drop> BoardMachine<C> {
     /// A machine that stands for the state before the first line. It takes no memory.
@@ -20,9 +21,9 @@ impl<C: BoardWords + Drop> BoardMachine<C> {
         BoardMachine {
             alloc,
             domain: PartyDomain::new(alloc),
-            parties: Vec::new(alloc),
-            values: Vec::new(alloc),
-            loans: Vec::new(alloc),
+            parties: HashMap::new(alloc),
+            values: HashMap::new(alloc),
+            loans: HashMap::new(alloc),
         }
     }
 

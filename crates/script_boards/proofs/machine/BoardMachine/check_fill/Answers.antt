@@ -12,7 +12,7 @@ use Rattle.script_boards.proofs.Bounds.{bounded}
 use Rattle.script_boards.proofs.CallChecks.{cell_is_low, counter_is_low, refused_for, value_fits, wanted_by}
 use Rattle.script_boards.proofs.LoanChecks.{a_loan, lent_width, loan_counter, fill_begins, fill_mistyped}
 use Rattle.board_ports.specs.Loans.{LoanSeen}
-use Rattle.script_boards.proofs.PartyRows.{is_free}
+use Rattle.script_boards.proofs.PartyTasks.{is_free}
 use Rattle.script_boards.proofs.machine.BoardMachine.check_fill.Goals as goal
 
 abbrev a_fill : CellShape → ℕ → List ℕ → Updating

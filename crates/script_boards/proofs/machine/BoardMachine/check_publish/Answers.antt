@@ -10,7 +10,7 @@ use Rattle.script_boards.proofs.Bounds.{bounded}
 use Rattle.script_boards.proofs.CallChecks.{counter_is_low}
 use Rattle.script_boards.proofs.LoanChecks.{a_loan, lent_width, loan_counter, publish_begins}
 use Rattle.board_ports.specs.Loans.{LoanSeen}
-use Rattle.script_boards.proofs.PartyRows.{is_free}
+use Rattle.script_boards.proofs.PartyTasks.{is_free}
 use Rattle.script_boards.proofs.machine.BoardMachine.check_publish.Goals as goal
 
 abbrev a_publish : CellShape → ℕ → Publishing

@@ -9,7 +9,7 @@ use Rattle.script_boards.specs.Begins.{IsGenerationOf, loan_held}
 use Rattle.script_boards.proofs.CallChecks.{cell_is_low}
 use Rattle.script_boards.proofs.LoanChecks.{a_loan, lent_width, loan_counter, put_begins}
 use Rattle.board_ports.specs.Loans.{LoanSeen}
-use Rattle.script_boards.proofs.PartyRows.{is_free}
+use Rattle.script_boards.proofs.PartyTasks.{is_free}
 use Rattle.script_boards.proofs.machine.BoardMachine.check_put.Goals as goal
 
 abbrev a_put : CellShape → ℕ → ℕ → ℕ → Putting

@@ -1,13 +1,11 @@
-use Rattle.std.proofs.Common.{refl}
-use Rattle.script_boards.proofs.LoanRows.{forgotten}
+use Rattle.std.proofs.Common.{None, refl}
+use Rattle.script_boards.proofs.Seats.{put_under}
 use Rattle.script_boards.proofs.machine.BoardMachine.give_back.Goals as goal
 
 pub returns : goal.returns
-returns g c =
-    let m = c.args.self.now in
-    record {
-      domain = c.rename.ensures;
-      loans = forgotten c.args.party.now c.args.loan.now m.loans.items c.forget_loan.new.loans.items c.forget_loan.ensures;
-      parties = refl;
-      values = refl;
-    }
+returns g c = record {
+  domain = c.rename.ensures;
+  loans = put_under c.args.self.now.loans c.forget.new.map (λ ws. ws.items) c.args.party.now c.args.loan.now None c.forget.ensures;
+  parties = refl;
+  values = refl;
+}

@@ -1,47 +1,20 @@
-use Rattle.std.proofs.Common.{◌≡◌, ℕ, ◌<◌, true, List, length, set, rules, refl, sym, ap, subst, ◌∙◌, Option, Some, None}
-use Rattle.std.specs.List.{position_from}
-use Rattle.board_model.specs.Things.{with_at}
-use Rattle.script_boards.specs.Loans.{is_lent_as, lent_words}
-use Rattle.script_boards.proofs.LoanRows.{changed, lent_at, lent_nowhere}
-use Rattle.script_boards.proofs.Rows.{first_at}
+use Rattle.std.proofs.Common.{◌≡◌, ℕ, List, refl, ap, ◌∙◌, set, Option, Some}
+use Rattle.std.specs.Prelude.{option_map}
+use Rattle.std.specs.HashMap.{get}
+use Rattle.script_seats.specs.Seats.{same_seat}
+use Rattle.script_boards.proofs.Seats.{changed_under, has_word_of}
 use Rattle.script_boards.proofs.machine.BoardMachine.put_word.Goals as goal
 
-abbrev a_place : ℕ → Option ℕ
-a_place n = Some n
-
-pub index_mut-requires : goal.index_mut-requires
-index_mut-requires g c =
-    let place : a_place c.in-Some.place ≡ position_from (is_lent_as c.args.party.now c.args.loan.now) 0 c.args.self.now.loans.items = search rules in
-    let first = first_at (is_lent_as c.args.party.now c.args.loan.now) c.in-Some.place c.args.self.now.loans.items place in
-    search (rules, first.inside)
-
-pub index_mut-requires-in-Some : goal.index_mut-requires-in-Some
-index_mut-requires-in-Some g c =
-    let place : a_place c.in-Some.place ≡ position_from (is_lent_as c.args.party.now c.args.loan.now) 0 c.args.self.now.loans.items = search rules in
-    let here = lent_at c.args.party.now c.args.loan.now c.args.self.now.loans.items c.in-Some.place c.index_mut.result.now c.requires.words place c.index_mut.ensures.value c.requires.lent in
-    let below : c.args.index < length c.index_mut.result.now.words.items = subst (λ (ws : List (Option ℕ)). c.args.index < length ws) (sym here) c.requires.below in
-    search (rules, below)
-
-pub unreachable-requires : goal.unreachable-requires
-unreachable-requires g c =
-    let none : None ≡ position_from (is_lent_as c.args.party.now c.args.loan.now) 0 c.args.self.now.loans.items = search rules in
-    lent_nowhere c.args.party.now c.args.loan.now c.args.self.now.loans.items c.requires.words none c.requires.lent
+pub set_word-requires : goal.set_word-requires
+set_word-requires g c =
+    has_word_of (λ ws. ws.items) (get same_seat c.args.self.now.loans (record { party = c.args.party.now; name = c.args.loan.now })) c.requires.words c.args.index c.requires.lent c.requires.below
 
 pub returns : goal.returns
-returns g c =
-    let m = c.args.self.now in
-    let party = c.args.party.now in
-    let loan = c.args.loan.now in
-    let place : a_place c.in-Some.place ≡ position_from (is_lent_as party loan) 0 m.loans.items = search rules in
-    let first = first_at (is_lent_as party loan) c.in-Some.place m.loans.items place in
-    let x = c.index_mut.result.now in
-    let named : is_lent_as party loan x ≡ true = ap (is_lent_as party loan) c.index_mut.ensures.value ∙ first.passes x in
-    record {
-      domain = refl;
-      loans = λ put_words lent p n.
-          changed party loan m.loans.items _ c.in-Some.place _ refl place named p n
-          ∙ ap (λ (ws : List (Option ℕ)). with_at (lent_words m.loans.items) party loan (Some (set ws c.args.index (Some c.args.word))) p n)
-          (lent_at party loan m.loans.items c.in-Some.place x put_words place c.index_mut.ensures.value lent);
-      parties = refl;
-      values = refl;
-    }
+returns g c = record {
+  domain = refl;
+  loans = λ put_words lent.
+      changed_under c.args.self.now.loans c.set_word.new.loans (λ ws. ws.items) c.args.party.now c.args.loan.now (Some (set put_words c.args.index (Some c.args.word)))
+      (c.set_word.ensures.here ∙ ap (option_map (λ (ws : List (Option ℕ)). set ws c.args.index (Some c.args.word))) lent) c.set_word.ensures.others;
+  parties = refl;
+  values = refl;
+}
