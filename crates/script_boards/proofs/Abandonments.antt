@@ -1,10 +1,10 @@
 -- Lines that abandon a party.
-use Rattle.std.proofs.Common.{◌≡◌, ℕ, Bool, true, false, List, refl, sym, ap, ◌∙◌, Option, Some, None}
+use Rattle.std.proofs.Common.{◌≡◌, ℕ, true, false, List, refl, sym, ap, ◌∙◌, Option, Some, None}
 use Rattle.board_model.specs.declared.answer.Answer.TheVariants as answer
 use Rattle.board_model.specs.declared.answer.Reason.TheVariants as reason
 use Rattle.board_model.specs.declared.line.Line.TheVariants as line
 use Rattle.board_model.specs.LineGrammar.{IsLine}
-use Rattle.board_model.specs.Parties.{Party, free, gone, running, with_party}
+use Rattle.board_model.specs.Parties.{Party, free, gone, running}
 use Rattle.board_model.specs.LawfulSession.{IsRight, State, abandon_reason, after}
 use Rattle.script_boards.specs.declared.machine.BoardMachine.{BoardMachine}
 use Rattle.script_boards.specs.declared.machine.Task.{Task}

@@ -1,5 +1,5 @@
 -- The task of a party whose call owes an access.
-use Rattle.std.proofs.Common.{◌≡◌, ℕ, Bool, true, false, List, Some, None, Option, refl, sym, subst, ◌∙◌}
+use Rattle.std.proofs.Common.{◌≡◌, ℕ, true, false, List, Some, None, Option, refl, sym, subst, ◌∙◌}
 use Rattle.std.specs.Prelude.{IsSomeAnd}
 use Rattle.board_model.specs.LawfulSession.{State}
 use Rattle.script_boards.specs.declared.machine.BoardMachine.{BoardMachine}

@@ -1,5 +1,5 @@
 -- A step of a call that reads a word is right, and the machine stands for what follows.
-use Rattle.std.proofs.Common.{◌≡◌, ℕ, zero, suc, ◌<◌, Bool, true, false, cond, List, [], ◌∷◌, ◌++◌, length, map, get_or, set, arith, refl, sym, ap, subst, ◌∙◌, Option, Some, None}
+use Rattle.std.proofs.Common.{◌≡◌, ℕ, zero, suc, ◌<◌, Bool, true, false, cond, List, [], ◌∷◌, ◌++◌, length, map, get_or, arith, refl, sym, ap, subst, ◌∙◌, Option, Some, None}
 use Rattle.std.specs.Prelude.{◌==◌, ◌&&◌, is_some, slice_get}
 use Rattle.std.specs.Str.{bytes_eq}
 use Rattle.std.proofs.lemmas.Bool.{eqb-false, eqb-true, le-leb}
@@ -21,7 +21,7 @@ use Rattle.board_model.specs.Replies.{ask, latest, with_fetched}
 use Rattle.board_model.specs.Tables.{board_at}
 use Rattle.board_model.specs.Things.{Kept}
 use Rattle.board_model.specs.TypeTable.{value_type_of}
-use Rattle.board_model.specs.Parties.{Running, free, is_done, notice, owed, reading, reply_of_look, reply_of_reading, reply_read, running, with_party}
+use Rattle.board_model.specs.Parties.{Running, free, is_done, owed, reading, reply_of_look, reply_of_reading, reply_read, running}
 use Rattle.board_model.specs.LawfulSession.{IsRight, State, after}
 use Rattle.board_model.specs.LawsOfReads.{IsTaking}
 use Rattle.board_model.specs.Sound.{IsCalling, Sound}
@@ -37,7 +37,7 @@ use Rattle.script_boards.specs.declared.machine.Task.TheVariants as task
 use Rattle.script_boards.specs.declared.step.OwedAccess.TheVariants as owed_access
 use Rattle.script_boards.specs.declared.step.OwedRead.{OwedRead}
 use Rattle.script_boards.specs.Loans.{lent_words}
-use Rattle.script_boards.specs.Machine.{IsTaskOf, Represents, getting, asking, kept, tables_of, task_of}
+use Rattle.script_boards.specs.Machine.{IsTaskOf, Represents, kept, tables_of, task_of}
 use Rattle.script_parties.specs.Parties as parties
 use Rattle.script_parties.specs.Parties.{HasWord, IsLoaded, Parties}
 use Rattle.script_boards.specs.Steps.{EndsWith, GoesOn, IsOwedBy, IsReadTold, ends_call, kept_anew, read_told, ticked, values_read}

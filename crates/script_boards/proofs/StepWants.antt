@@ -1,6 +1,6 @@
 -- Steps that want memory take some.
-use Rattle.std.proofs.Common.{◌≡◌, ℕ, ◌+◌, Bool, true, false, List, [], length, refl, sym, ap, subst, ◌∙◌, Option, Some, None, inl, inr, ◌⊎◌}
-use Rattle.std.specs.Prelude.{◌&&◌, ◌==◌, is_none, is_some, OnErr, Result, Ok, Err}
+use Rattle.std.proofs.Common.{◌≡◌, ℕ, ◌+◌, Bool, true, false, List, length, refl, sym, ap, subst, ◌∙◌, Option, Some, None, inl, inr, ◌⊎◌}
+use Rattle.std.specs.Prelude.{◌==◌, is_none, is_some, OnErr, Result, Ok, Err}
 use Rattle.board_cell_model.specs.declared.access.Access.{Access}
 use Rattle.board_cell_model.specs.OwedAccesses.{Reading, finished, hear, is_finished, opening, trying}
 use Rattle.board_model.specs.declared.answer.Reply.{Reply}
@@ -8,9 +8,9 @@ use Rattle.board_model.specs.declared.answer.Reply.TheVariants as reply
 use Rattle.board_model.specs.declared.line.Line.{Line}
 use Rattle.board_model.specs.declared.line.Line.TheVariants as line
 use Rattle.board_model.specs.LawfulSession.{State, abandon_reason, reason_of, step_reason}
-use Rattle.board_model.specs.Parties.{Party, Running, free, gone, reading, running}
+use Rattle.board_model.specs.Parties.{Party, free, gone, reading, running}
 use Rattle.board_model.specs.Replies.{ask, number_or}
-use Rattle.board_model.specs.Requests.{Fetch, Request, get, table}
+use Rattle.board_model.specs.Requests.{Fetch, Request}
 use Rattle.board_model.specs.Sound.{BoardTables}
 use Rattle.board_model.specs.TableCalls.{asked, created, id_of, joined, number_of, with_read_handle, with_reader, with_write_handle, with_writer}
 use Rattle.board_model.specs.Tables.{Tables, board_named}

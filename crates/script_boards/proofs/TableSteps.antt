@@ -31,10 +31,10 @@ use Rattle.board_model.specs.TableCalls.{asked, create_asked, create_refusals, c
 use Rattle.board_model.specs.declared.tables.ThingKind.{ThingKind}
 use Rattle.board_model.specs.Things.{Held, thing_of}
 use Rattle.board_model.specs.TypeTable.{key_detail, same_key, value_detail}
-use Rattle.board_model.specs.Parties.{Party, Running, free, notice, running, with_party}
+use Rattle.board_model.specs.Parties.{Party, Running, free, running}
 use Rattle.board_model.specs.LawfulSession.{IsRight, State, after, is_typed_key}
 use Rattle.board_model.specs.LawsOfForms.{IsFormedInTable, IsFormedParty, IsFormedRequest}
-use Rattle.board_model.specs.Sound.{HasBoard, HasEntry, HasEntryAt, IsCalling, IsFree, IsHeldThing, IsTypedKey, Sound}
+use Rattle.board_model.specs.Sound.{HasBoard, HasEntry, HasEntryAt, IsCalling, IsHeldThing, IsTypedKey, Sound}
 use Rattle.board_model.proofs.ListLemmas.{any_missing, count_none}
 use Rattle.board_model.proofs.ReplyFormLemmas.{reply_told}
 use Rattle.board_model.proofs.RunningLemmas.{runs}

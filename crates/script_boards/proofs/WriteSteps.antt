@@ -16,7 +16,7 @@ use Rattle.board_model.specs.Requests.{Lending, Request, fill, publish, put, upd
 use Rattle.board_model.specs.Replies.{ask}
 use Rattle.board_model.specs.Tables.{board_at}
 use Rattle.board_model.specs.TypeTable.{value_words}
-use Rattle.board_model.specs.Parties.{Running, free, is_done, notice, owed, running, with_party}
+use Rattle.board_model.specs.Parties.{Running, free, is_done, owed, running}
 use Rattle.board_model.specs.LawfulSession.{IsRight, State, after}
 use Rattle.board_model.specs.Sound.{IsCalling, Sound}
 use Rattle.board_model.proofs.RunningLemmas.{runs}

@@ -1,5 +1,5 @@
 -- Where the parts of a step may want memory. No clause of a public call cites what follows.
-use Rattle.std.specs.Prelude.{◌≡◌, ℕ, Bool, true, false, List, Option, Some, None, is_some}
+use Rattle.std.specs.Prelude.{ℕ, Bool, false, List, is_some}
 use Rattle.script_parties.specs.Refusals.{IsUnrefused, create_refusal, entry_mut_refusal, entry_refusal, open_refusal, reader_refusal, writer_refusal}
 use Rattle.script_boards.specs.declared.machine.BoardMachine.{BoardMachine}
 use Rattle.script_boards.specs.declared.machine.TableTask.{TableTask}

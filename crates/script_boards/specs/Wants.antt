@@ -1,5 +1,5 @@
 -- Which lines take memory. No other line may want any: none that is refused, no drop, and no step that only reads or writes a word.
-use Rattle.std.specs.Prelude.{◌≡◌, ℕ, Bool, true, false, ◌&&◌, ◌==◌, List, length, Option, Some, None, is_none, is_some}
+use Rattle.std.specs.Prelude.{◌≡◌, ℕ, Bool, true, false, ◌&&◌, ◌==◌, List, length, is_none, is_some}
 use Rattle.board_cell_model.specs.declared.access.Access.{Access}
 use Rattle.board_cell_model.specs.OwedAccesses.{Reading, finished, opening, trying}
 use Rattle.board_model.specs.declared.answer.Reply.{Reply}
@@ -7,7 +7,7 @@ use Rattle.board_model.specs.declared.answer.Reply.TheVariants as reply
 use Rattle.board_model.specs.declared.line.Line.{Line}
 use Rattle.board_model.specs.declared.line.Line.TheVariants as line
 use Rattle.board_model.specs.LawfulSession.{State, reason_of}
-use Rattle.board_model.specs.Parties.{Party, Running, free, gone, reading, running}
+use Rattle.board_model.specs.Parties.{Party, free, gone, reading, running}
 use Rattle.board_model.specs.Replies.{ask}
 use Rattle.board_model.specs.Requests.{Request, TableCall, create, discard, entry, entry_mut, fill, fresh, gen, get, id, info, keys, loan, nodes, open_, publish, put, reader, table, update, writer}
 use Rattle.script_boards.specs.declared.machine.BoardMachine.{BoardMachine}

@@ -1,18 +1,15 @@
-use Rattle.std.specs.Prelude.{option_map}
-use Rattle.std.proofs.Common.{◌≡◌, ℕ, ◌+◌, ◌<◌, ◌^◌, List, length, rules, refl, sym, ap, subst, ◌∙◌, Option, Some, true, false}
+use Rattle.std.proofs.Common.{◌≡◌, ℕ, ◌+◌, ◌<◌, ◌^◌, List, length, rules, refl, sym, ap, subst, ◌∙◌, true, false}
 use Rattle.board_layout.specs.declared.shape.CellShape.{CellShape}
 use Rattle.board_layout.specs.Layout.{cell_end, cell_shape}
 use Rattle.board_cell.specs.Calls.{Updating}
 use Rattle.board_model.specs.declared.answer.Reason.TheVariants as reason
 use Rattle.board_model.specs.Tables.{entry_of}
-use Rattle.board_model.specs.Things.{Held}
 use Rattle.board_model.specs.TypeTable.{same_type, type_of, value_detail, value_words}
-use Rattle.script_boards.specs.Begins.{IsGenerationOf, holds, loan_held}
+use Rattle.script_boards.specs.Begins.{holds, loan_held}
 use Rattle.script_boards.proofs.Bounds.{bounded}
 use Rattle.script_boards.proofs.CallChecks.{cell_is_low, counter_is_low, refused_for, value_fits, wanted_by}
 use Rattle.script_boards.proofs.LoanChecks.{a_loan, lent_width, loan_counter, fill_begins, fill_mistyped}
 use Rattle.board_ports.specs.Loans.{LoanSeen}
-use Rattle.script_boards.proofs.PartyTasks.{is_free}
 use Rattle.script_boards.proofs.machine.BoardMachine.check_fill.Goals as goal
 
 abbrev a_fill : CellShape → ℕ → List ℕ → Updating

@@ -1,16 +1,13 @@
-use Rattle.std.specs.Prelude.{option_map}
-use Rattle.std.proofs.Common.{◌≡◌, ℕ, ◌+◌, ◌<◌, ◌^◌, List, rules, sym, ap, subst, ◌∙◌, Option, Some, true, false}
+use Rattle.std.proofs.Common.{◌≡◌, ℕ, ◌+◌, ◌<◌, ◌^◌, List, rules, sym, ap, subst, ◌∙◌, Option, true, false}
 use Rattle.board_layout.specs.declared.shape.CellShape.{CellShape}
 use Rattle.board_cell.specs.Calls.{Publishing}
 use Rattle.board_model.specs.Tables.{entry_of}
-use Rattle.board_model.specs.Things.{Held}
 use Rattle.board_model.specs.LawfulSession.{all_put}
-use Rattle.script_boards.specs.Begins.{IsGenerationOf, holds, loan_held}
+use Rattle.script_boards.specs.Begins.{holds, loan_held}
 use Rattle.script_boards.proofs.Bounds.{bounded}
 use Rattle.script_boards.proofs.CallChecks.{counter_is_low}
 use Rattle.script_boards.proofs.LoanChecks.{a_loan, lent_width, loan_counter, publish_begins}
 use Rattle.board_ports.specs.Loans.{LoanSeen}
-use Rattle.script_boards.proofs.PartyTasks.{is_free}
 use Rattle.script_boards.proofs.machine.BoardMachine.check_publish.Goals as goal
 
 abbrev a_publish : CellShape → ℕ → Publishing

@@ -1,15 +1,12 @@
-use Rattle.std.specs.Prelude.{option_map}
-use Rattle.std.proofs.Common.{◌≡◌, ℕ, zero, suc, ◌<◌, ◌≤◌, ◌^◌, List, rules, arith, sym, ap, subst, ◌∙◌, Option, Some, None, false}
+use Rattle.std.proofs.Common.{◌≡◌, ℕ, zero, suc, ◌<◌, ◌≤◌, ◌^◌, rules, arith, sym, ap, subst, ◌∙◌, Some, None, false}
 use Rattle.board_layout.specs.declared.shape.CellShape.{CellShape}
 use Rattle.board_layout.specs.Layout.{cell_end}
 use Rattle.board_cell.specs.Calls.{Putting}
 use Rattle.board_model.specs.Tables.{entry_of}
-use Rattle.board_model.specs.Things.{Held}
-use Rattle.script_boards.specs.Begins.{IsGenerationOf, loan_held}
+use Rattle.script_boards.specs.Begins.{loan_held}
 use Rattle.script_boards.proofs.CallChecks.{cell_is_low}
 use Rattle.script_boards.proofs.LoanChecks.{a_loan, lent_width, loan_counter, put_begins}
 use Rattle.board_ports.specs.Loans.{LoanSeen}
-use Rattle.script_boards.proofs.PartyTasks.{is_free}
 use Rattle.script_boards.proofs.machine.BoardMachine.check_put.Goals as goal
 
 abbrev a_put : CellShape → ℕ → ℕ → ℕ → Putting

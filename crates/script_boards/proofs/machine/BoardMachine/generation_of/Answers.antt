@@ -1,4 +1,4 @@
-use Rattle.std.proofs.Common.{◌≡◌, ℕ, sym, subst, Option}
+use Rattle.std.proofs.Common.{ℕ, sym, subst, Option}
 use Rattle.std.specs.Prelude.{IfSome}
 use Rattle.board_model.specs.Tables.{entry_at, entry_of}
 use Rattle.board_model.specs.Things.{Held}

@@ -1,4 +1,4 @@
-use Rattle.std.proofs.Common.{◌≡◌, ℕ, List, refl, ap, ◌∙◌, set, Option, Some}
+use Rattle.std.proofs.Common.{ℕ, List, refl, ap, ◌∙◌, set, Option, Some}
 use Rattle.std.specs.Prelude.{option_map}
 use Rattle.std.specs.HashMap.{get}
 use Rattle.script_seats.specs.Seats.{same_seat}

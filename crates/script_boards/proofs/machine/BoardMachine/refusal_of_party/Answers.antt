@@ -1,4 +1,4 @@
-use Rattle.std.proofs.Common.{◌≡◌, rules, refl, true, false, Some, None}
+use Rattle.std.proofs.Common.{◌≡◌, rules, refl, true, false, None}
 use Rattle.script_boards.specs.Machine.{task_of}
 use Rattle.script_boards.specs.Steps.{is_gone}
 use Rattle.script_boards.proofs.PartyTasks.{a_task, gone_at, is_free, is_running}

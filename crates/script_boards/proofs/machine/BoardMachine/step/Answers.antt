@@ -1,5 +1,4 @@
 use Rattle.std.proofs.Common.{◌≡◌, rules, true, false, None}
-use Rattle.script_boards.specs.declared.step.OwedAccess.TheVariants as owed
 use Rattle.script_boards.specs.Machine.{task_of}
 use Rattle.script_boards.specs.Steps.{is_gone}
 use Rattle.script_boards.proofs.OwedWords.{task_goes_on}

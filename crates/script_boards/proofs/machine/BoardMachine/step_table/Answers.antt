@@ -1,8 +1,7 @@
-use Rattle.std.proofs.Common.{◌≡◌, ℕ, List, refl, sym, subst, ◌∙◌}
+use Rattle.std.proofs.Common.{refl, sym, subst, ◌∙◌}
 use Rattle.script_boards.specs.declared.machine.Task.{Task}
-use Rattle.script_boards.specs.declared.machine.Task.TheVariants as task
 use Rattle.script_boards.specs.declared.step.OwedAccess.TheVariants as owed
-use Rattle.script_boards.specs.Machine.{IsTableTask, IsTaskOf, task_of}
+use Rattle.script_boards.specs.Machine.{IsTableTask, IsTaskOf}
 use Rattle.script_boards.proofs.Bounds.{bounded}
 use Rattle.script_boards.proofs.OwedTasks.{owed_is, owed_runs}
 use Rattle.script_boards.proofs.StepWants.{anyway, task_takes}

@@ -1,5 +1,4 @@
-use Rattle.std.proofs.Common.{◌≡◌, ◌<◌, ℕ, ◌^◌, List, Option, rules, refl, sym, ap, subst, ◌∙◌}
-use Rattle.script_parties.specs.Parties.{Parties}
+use Rattle.std.proofs.Common.{◌<◌, ℕ, ◌^◌, List, Option, rules, refl, sym, ap, subst, ◌∙◌}
 use Rattle.script_boards.specs.declared.machine.Task.{Task}
 use Rattle.script_boards.specs.declared.step.OwedAccess.TheVariants as owed
 use Rattle.script_boards.specs.LoanCalls.{CanSettle, IsSettled}
