@@ -1,11 +1,11 @@
 //! Channels: what is sent to one is received from it, and a name that only pretends to be gone is found.
 use board_channel::{
-    Channel, ChannelRegistry, CommunicationChannel, CommunicationChannelConnector,
+    Channel, ChannelRegistry, Channels, CommunicationChannel, CommunicationChannelConnector,
     CommunicationChannelCreator, CommunicationChannelParticipant, CommunicationChannelReceiver,
     CommunicationChannelSender, Connector, Creator,
 };
 use board_names::{
-    CommunicationChannelOpenError, Configuration, FileName, NamedConceptBuilder,
+    CommunicationChannelOpenError, Configuration, FileName, NameTable, NamedConceptBuilder,
     NamedConceptConfiguration, NamedConceptDoesExistError, NamedConceptMgmt,
 };
 use std::alloc::Global;
@@ -128,5 +128,17 @@ fn a_name_goes_with_its_receiver_alone(rt: HostRuntime) -> Result<(), Fail> {
     assert_eq!(rt; held(&rt, &registry, (&c, &d)), [Ok(true), Ok(true)]);
     receiver.release(&rt);
     assert_eq!(rt; held(&rt, &registry, (&c, &d)), [Ok(false), Ok(true)]);
+    Ok(())
+}
+
+#[test]
+fn the_ends_of_a_lent_channel_share_its_queue(rt: HostRuntime) -> Result<(), Fail> {
+    let registry = ChannelRegistry::new(rt.alloc())?;
+    let mut state = Channels::new(rt.alloc());
+    let c = FileName::new(b"c")?;
+    let receiver = Creator::new(&c, &registry)?.create_receiver_in(&mut state, rt.alloc())?;
+    let sender = Connector::new(&c, &registry)?.open_sender_in(&mut state)?;
+    let other = Connector::new(&c, &registry)?.try_open_sender_in(&mut state)?;
+    carries(&rt, &receiver, &sender, &other);
     Ok(())
 }
