@@ -122,6 +122,11 @@ fn channels_are_made_and_opened_when_lent(rt: HostRuntime) -> Result<(), Fail> {
     let sender = connector(b"c", &registry)?.open_sender_in(&mut state)?;
     let other = connector(b"c", &registry)?.try_open_sender_in(&mut state)?;
     assert_eq!(rt; (sender.buffer_size(), other.buffer_size()), (3, 3));
+    // All ends share one queue.
+    assert_eq!(rt; sender.send(&rt, &1), Ok(None));
+    assert_eq!(rt; other.send(&rt, &2), Ok(None));
+    assert_eq!(rt; receiver.receive(&rt), Ok(Some(1)));
+    assert_eq!(rt; receiver.receive(&rt), Ok(Some(2)));
     receiver.release_in(&mut state);
     assert_eq!(rt; state.name_at(0), None);
     Ok(())
