@@ -1,5 +1,6 @@
 //! Queues behind a lock, of which it stays known whether they overflow.
-ghost use Rattle.std.specs.Prelude.{◌≡◌, ℕ, List, Bool, true, false, IsOk};
+ghost use Rattle.std.specs.Prelude.{◌≡◌, ℕ, List, Bool, true, false, Ok, slice_get};
+ghost use Rattle.board_channel.specs.Queue.{sent, send_answer, received};
 ghost use Rattle.board_channel.specs.TypedCalls.{MaySend};
 
 use crate::duplex::Duplex;
@@ -19,7 +20,9 @@ impl OverflowingQueue {
         end: &Duplex,
         value: &u64,
     ) -> Result<Option<u64>, CommunicationChannelSendError>
-        ensures { MaySend true result }
+        ensures may { MaySend true result }
+        ensures answer { result ≡ send_answer self.old.queue }
+        ensures after { self.new.queue ≡ sent self.old.queue value.now }
     {
         end.send_in(&mut self.queue, value)
     }
@@ -28,7 +31,8 @@ impl OverflowingQueue {
         &mut self,
         end: &Duplex,
     ) -> Result<Option<u64>, CommunicationChannelReceiveError>
-        ensures { IsOk result }
+        ensures answer { result ≡ Ok (slice_get self.old.queue.items 0) }
+        ensures after { self.new.queue ≡ received self.old.queue }
     {
         end.receive_in(&mut self.queue)
     }
@@ -47,7 +51,9 @@ impl RefusingQueue {
         end: &Duplex,
         value: &u64,
     ) -> Result<Option<u64>, CommunicationChannelSendError>
-        ensures { MaySend false result }
+        ensures may { MaySend false result }
+        ensures answer { result ≡ send_answer self.old.queue }
+        ensures after { self.new.queue ≡ sent self.old.queue value.now }
     {
         end.send_in(&mut self.queue, value)
     }
@@ -56,7 +62,8 @@ impl RefusingQueue {
         &mut self,
         end: &Duplex,
     ) -> Result<Option<u64>, CommunicationChannelReceiveError>
-        ensures { IsOk result }
+        ensures answer { result ≡ Ok (slice_get self.old.queue.items 0) }
+        ensures after { self.new.queue ≡ received self.old.queue }
     {
         end.receive_in(&mut self.queue)
     }

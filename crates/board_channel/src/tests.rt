@@ -1,5 +1,6 @@
 //! Channels by the typed calls, of which their clauses say little, and once by the lent forms.
-ghost use Rattle.std.specs.Prelude.{IsTrue};
+ghost use Rattle.std.specs.Prelude.{IsOkUnless, IsTrue};
+ghost use Rattle.board_names.specs.declared.errors.communication_channel.CommunicationChannelCreateError.TheVariants.{OutOfMemory};
 
 use crate::{
     Channel, ChannelRegistry, Channels, CommunicationChannel, CommunicationChannelConnector,
@@ -9,7 +10,7 @@ use crate::{
 };
 use board_names::{
     CommunicationChannelCreateError, CommunicationChannelOpenError, CommunicationChannelSendError,
-    Configuration, FileName, NameTable, NamedConcept, NamedConceptBuilder,
+    Configuration, FileName, FilePath, NameTable, NamedConcept, NamedConceptBuilder,
     NamedConceptConfiguration, NamedConceptMgmt,
 };
 use std::alloc::Global;
@@ -122,6 +123,11 @@ fn channels_are_made_and_opened_when_lent(rt: HostRuntime) -> Result<(), Fail> {
     let sender = connector(b"c", &registry)?.open_sender_in(&mut state)?;
     let other = connector(b"c", &registry)?.try_open_sender_in(&mut state)?;
     assert_eq!(rt; (sender.buffer_size(), other.buffer_size()), (3, 3));
+    // All ends share one queue.
+    assert_eq!(rt; sender.send(&rt, &1), Ok(None));
+    assert_eq!(rt; other.send(&rt, &2), Ok(None));
+    assert_eq!(rt; receiver.receive(&rt), Ok(Some(1)));
+    assert_eq!(rt; receiver.receive(&rt), Ok(Some(2)));
     receiver.release_in(&mut state);
     assert_eq!(rt; state.name_at(0), None);
     Ok(())
@@ -190,6 +196,27 @@ fn queues_are_shared(rt: HostRuntime) -> Result<(), Fail> {
     assert_eq!(rt; (made.share()?.capacity(), opened.overflows()), (4, true));
     let alone = SharedQueue::new(rt.alloc(), 0, false)?;
     assert_eq!(rt; alone.capacity(), 1);
+    Ok(())
+}
+
+// A caller's proof over channels that were lent, whoever made them: a removed name can be taken, want of memory aside.
+fn takes_a_removed_name(
+    state: &mut Channels,
+    name: &FilePath,
+) -> Result<SharedQueue, CommunicationChannelCreateError>
+    ensures { IsOkUnless result OutOfMemory }
+{
+    state.remove(name);
+    state.create(name, 1, false)
+}
+
+#[test]
+fn a_removed_name_is_taken_again(rt: HostRuntime) -> Result<(), Fail> {
+    let mut state = Channels::new(rt.alloc());
+    let name = channels().path_for(&FileName::new(b"c")?);
+    let before = state.create(&name, 4, true)?;
+    let after = takes_a_removed_name(&mut state, &name)?;
+    assert_eq!(rt; (before.capacity(), after.capacity()), (4, 1));
     Ok(())
 }
 

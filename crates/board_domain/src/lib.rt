@@ -18,6 +18,7 @@ mod service_builder;
 mod service_hash;
 mod walks;
 
+pub use board_names::{NodeName, ServiceName};
 pub use board_service::AddError;
 pub use callback_progression::CallbackProgression;
 pub use creator::Creator;

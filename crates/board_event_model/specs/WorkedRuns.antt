@@ -1,12 +1,12 @@
--- Runs that were worked out by hand, of events of 64 and of 128 ids. `e` listens, `n` notifies; the last move comes first.
+-- Runs that were worked out by hand, of sets of 64 and of 128 ids and of a queue. `e` listens, `n` notifies; the last move comes first.
 use Rattle.std.specs.Prelude.{true, false, List, [], ◌∷◌, codes}
 use Rattle.board_event_model.specs.declared.access.EventAccess.TheVariants as access
 use Rattle.board_event_model.specs.declared.access.EventAnswer.TheVariants as answer
 use Rattle.board_event_model.specs.declared.call.WaitMode.{WaitMode}
 use Rattle.board_event_model.specs.declared.call.WaitMode.TheVariants as mode
 use Rattle.board_event_model.specs.declared.kind.EventKind.TheVariants as kind
-use Rattle.board_event_model.specs.NotifyCalls.{notify_bits}
-use Rattle.board_event_model.specs.WaitCalls.{wait_bits}
+use Rattle.board_event_model.specs.NotifyCalls.{notify_bits, notify_queue}
+use Rattle.board_event_model.specs.WaitCalls.{wait_bits, wait_queue}
 use Rattle.board_event_model.specs.EventCalls.{a_notify, a_wait, PartyName}
 use Rattle.board_event_model.specs.EventRuns.{EventMove, IsRun, begin, expire, listened, step}
 
@@ -25,6 +25,10 @@ RunsOnBits moves = IsRun (listened kind.Bits (codes "ev") 63 e) moves
 -- a run on one of two words
 abbrev pub RunsOnTwoWords : List EventMove → Type 0
 RunsOnTwoWords moves = IsRun (listened kind.Bits (codes "ev") 127 e) moves
+
+-- a run on a queue
+abbrev pub RunsOnQueue : List EventMove → Type 0
+RunsOnQueue moves = IsRun (listened kind.Queue (codes "q") 0 e) moves
 
 -- e waits for one id, finds none and looks
 abbrev pub first_look : WaitMode → List EventMove
@@ -54,6 +58,20 @@ a_made_up_id = step e (access.Scan 0) (answer.Word 1) ∷ step e access.Signal a
 -- a timed wait expires after its look
 abbrev pub an_expire_after_a_look : List EventMove
 an_expire_after_a_look = expire e ∷ first_look mode.Timed
+
+-- a timed wait for all was told an empty word, and expires after its look
+abbrev pub an_expire_of_a_wait_for_all : List EventMove
+an_expire_of_a_wait_for_all =
+    expire e
+    ∷ step e access.Signal answer.No
+    ∷ step e (access.Swap 0) (answer.Word 0)
+    ∷ step e access.Signal answer.No
+    ∷ begin e (a_wait (wait_bits 1 true mode.Timed))
+    ∷ []
+
+-- a timed wait on a queue expires after a pop that found nothing
+abbrev pub an_expire_after_a_pop : List EventMove
+an_expire_after_a_pop = expire e ∷ step e access.Pop answer.Empty ∷ begin e (a_wait (wait_queue false mode.Timed)) ∷ []
 
 -- a timed wait expires after its drain
 abbrev pub an_expire_after_the_drain : List EventMove
@@ -110,3 +128,13 @@ a_wait_between_words =
 -- there it expires
 abbrev pub an_expire_between_words : List EventMove
 an_expire_between_words = expire e ∷ a_wait_between_words
+
+-- n has pushed 5; e waits for all on the queue, pops the id, and expires then
+abbrev pub an_expire_after_an_id : List EventMove
+an_expire_after_an_id =
+    expire e
+    ∷ step e access.Pop (answer.Id 5)
+    ∷ begin e (a_wait (wait_queue true mode.Timed))
+    ∷ step n (access.Push 5) answer.Done
+    ∷ begin n (a_notify (notify_queue 5))
+    ∷ []

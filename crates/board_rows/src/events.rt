@@ -4,7 +4,7 @@ use crate::row::{PLAIN, Part, Row, Script, all_hold};
 use std::alloc::{AllocError, Global};
 use std::test::Fail;
 
-pub(crate) const ROWS: [Row; 6] = [
+pub(crate) const ROWS: [Row; 8] = [
     Row {
         name: "a blocking wait on bits",
         opening: &[A_SET_OF_64],
@@ -64,6 +64,51 @@ pub(crate) const ROWS: [Row; 6] = [
             ("step e", "table = ListenerCreateError::AlreadyExists"),
             ("begin m notifier x bits ev", "ok"),
             ("step m", "table = NotifierCreateError::DoesNotExist"),
+        ],
+        ..PLAIN
+    },
+    Row {
+        name: "expiry of a wait for all",
+        opening: &[A_SET_OF_128],
+        lines: &[
+            ("begin e wait e all timed", "ok"),
+            ("step e", "signal bits:ev no"),
+            ("step e", "swap bits:ev 0 0"),
+            ("step e", "swap bits:ev 1 0"),
+            ("expire e", "refused notwaiting"),
+            ("step e", "signal bits:ev no"),
+            ("expire e", "= none"),
+            ("expire e", "refused idle"),
+            ("begin n notify n 70", "ok"),
+            ("step n", "listener bits:ev yes"),
+            ("step n", "set bits:ev 70"),
+            ("step n", "post bits:ev = ok"),
+            ("begin e wait e all timed", "ok"),
+            ("step e", "signal bits:ev yes"),
+            ("step e", "signal bits:ev no"),
+            ("step e", "swap bits:ev 0 0"),
+            ("step e", "swap bits:ev 1 64 = ids 70"),
+        ],
+        ..PLAIN
+    },
+    Row {
+        name: "expiry of a wait on a queue",
+        opening: &[A_QUEUE],
+        lines: &[
+            ("begin e wait e one timed", "ok"),
+            ("expire e", "refused notwaiting"),
+            ("step e", "pop queue:q none"),
+            ("expire e", "= none"),
+            ("begin e wait e all timed", "ok"),
+            ("step e", "pop queue:q none"),
+            ("begin n notify n 5", "ok"),
+            ("step n", "push queue:q = ok"),
+            ("step e", "pop queue:q 5"),
+            ("expire e", "refused notwaiting"),
+            ("step e", "pop queue:q none = ids 5"),
+            ("begin e wait e all timed", "ok"),
+            ("step e", "pop queue:q none"),
+            ("expire e", "= none"),
         ],
         ..PLAIN
     },
