@@ -5,7 +5,6 @@ use Rattle.std.proofs.lemmas.Bool.Decides.{Decides-eqb}
 use Rattle.board_names.specs.declared.errors.boards.EntryHandleError.TheVariants as entry_error
 use Rattle.board_names.specs.declared.errors.boards.EntryHandleMutError.TheVariants as entry_mut_error
 use Rattle.board_names.specs.declared.errors.boards.EntryHandleError.{EntryHandleError}
-use Rattle.board_names.specs.declared.errors.boards.EntryHandleMutError.{EntryHandleMutError}
 use Rattle.board_layout.specs.declared.type_detail.TypeDetail.{TypeDetail}
 use Rattle.board_model.specs.declared.tables.Entry.{Entry}
 use Rattle.board_model.specs.declared.tables.ThingKind.{ThingKind}
@@ -56,21 +55,12 @@ no_refusal r x e ok refused = ok_is_no_refusal x e (ok ∙ refused)
 
 -- ---- what fits
 
--- what isn't there, or not of the width, is refused
-pub unfit : {A E : Type 0} (u : E) (width : ℕ) (width_of : A → ℕ) (x : Found) (o : Option A) → fits width width_of o ≡ false → Err u ≡ lent.fitting u width width_of x o
-unfit u width width_of x o h = sym (ap (λ b. if b then lent.given u x o else Err u) h)
-
 -- what fits is given
 pub is_given : {A E : Type 0} (u : E) (width : ℕ) (width_of : A → ℕ) (x y : Found) (o : Option A) (z : A) → fits width width_of o ≡ true → y ≡ x → o ≡ Some z → Ok (y, z) ≡ lent.fitting u width width_of x o
 is_given u width width_of x y None z h e q = absurd cc
 is_given u width width_of x y (Some a) z h e q =
     let same : a ≡ z = cc in
     (λ k. Ok (e k, sym same k)) ∙ sym (ap (λ b. if b then Ok (x, a) else Err u) h)
-
--- so it isn't refused
-pub fit_is_no_refusal : {A E : Type 0} (u e : E) (width : ℕ) (width_of : A → ℕ) (x : Found) (o : Option A) → fits width width_of o ≡ true → lent.fitting u width width_of x o ≡ Err e → ⊥
-fit_is_no_refusal u e width width_of x None h r = absurd cc
-fit_is_no_refusal u e width width_of x (Some a) h r = ok_is_no_refusal (x, a) e (sym (ap (λ b. if b then Ok (x, a) else Err u) h) ∙ r)
 
 -- ---- readers
 
@@ -107,20 +97,6 @@ write_is d keys v values is_key width writer thing board x b tv te tb is_b stand
     ∙ sym (ap (lent.handed (entry_mut_error.ThingUnknown writer) width end_width (parked_of d (held d writer).board))
     (ap (λ c. if c then entry_mut_answer d (held d writer) (lent.entry_for d (lent.asked keys is_key v width) writer) else Err (entry_mut_error.ThingUnknown writer)) (sym is_b ∙ stands) ∙ sym ans))
     ∙ (λ k. lent.write_answer d (lent.asked keys is_key (tv k) width) (te k))
-
--- a writer's answer, once its entry was refused
-pub write_refused : (d : Core) (keys v values : TypeDetail) (is_key : List ℕ → Bool) (width writer thing : ℕ) (why : EntryHandleMutError) (b : Bool)
-    → v ≡ values → writer ≡ thing → b ≡ stands_as d keys writer Writer → b ≡ true
-    → Err why ≡ entry_mut_answer d (held d writer) (lent.entry_for d (lent.asked keys is_key v width) writer)
-    → Err why ≡ lent.write_answer d (lent.asked keys is_key values width) thing
-write_refused d keys v values is_key width writer thing why b tv te is_b stands ans =
-    sym (ap (lent.handed (entry_mut_error.ThingUnknown writer) width end_width (parked_of d (held d writer).board))
-    (ap (λ c. if c then entry_mut_answer d (held d writer) (lent.entry_for d (lent.asked keys is_key v width) writer) else Err (entry_mut_error.ThingUnknown writer)) (sym is_b ∙ stands) ∙ sym ans))
-    ∙ (λ k. lent.write_answer d (lent.asked keys is_key (tv k) width) (te k))
-
--- the tables' call leaves the ends where they are
-pub same_end : (d : Core) (a : lent.Asked) (writer board entry : ℕ) (t : Core) → t ≡ lent.with_write d a writer → parked_of t board entry ≡ parked_of d board entry
-same_end d a writer board entry t is = ap (λ (s : Core). parked_of s board entry) is
 
 -- the tables after a write handle was made and its end taken
 pub write_done : (d : Core) (keys v values : TypeDetail) (is_key : List ℕ → Bool) (width writer thing board : ℕ) (x : Found) (t now : Core)

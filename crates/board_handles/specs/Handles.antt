@@ -26,11 +26,6 @@ pub record LoanSeen : Type 0 where
   pub handle : WriteSeen
   pub words : List (Option ℕ)
 
--- a port: its thing, and its number
-pub record PortSeen : Type 0 where
-  pub thing : ℕ
-  pub number : ℕ
-
 -- ---- what is true of a handle
 
 -- the pass is of the cell, whose values have this many words, as many as there is room for

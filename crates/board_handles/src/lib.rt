@@ -6,8 +6,8 @@
 //! with what becomes of the cells' ends (`specs/LentForms`).
 //!
 //! What stands behind the lock is known by its type alone. So a call on a thing first asks whether that thing is held,
-//! and answers `ThingUnknown` where it isn't. Where the typed calls alone are used, that comes of a builder of ports
-//! alone, whose factory was released before.
+//! and answers `ThingUnknown` where it isn't. Where the typed calls alone are used, it never isn't: a builder borrows
+//! what it makes ports or services of.
 //!
 //! A handle has an end of its entry's cell. Its calls take no lock, no memory and wait for nobody (`specs/Handles`), but
 //! `get`, which may wait for a writer, `release`, which locks, and `sent_receipt`, which takes one more owner of the cell.

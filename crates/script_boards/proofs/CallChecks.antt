@@ -29,7 +29,7 @@ use Rattle.board_model.specs.LawfulSession.{IsRight, State, after, call_reason, 
 use Rattle.board_model.specs.Sound.{BoardTables, HasEntry, HasEntryAt, IsTyped, Sound}
 use Rattle.board_model.proofs.OpeningLemmas.{sized}
 use Rattle.board_model.proofs.ThingLemmas.{all_found}
-use Rattle.board_cell.specs.Calls.{Asking, Getting, Updating}
+use Rattle.board_cell.specs.Calls.{Getting, Updating}
 use Rattle.script_boards.specs.declared.machine.BoardMachine.{BoardMachine}
 use Rattle.script_boards.specs.declared.machine.Task.{Task}
 use Rattle.script_boards.specs.declared.machine.Task.TheVariants as task
@@ -231,18 +231,6 @@ module _ {C : Type 0} (m : BoardMachine C) (s : State) (rep : Represents m s) (s
 
       look_asked : request_of s.standing s.published party (call.Fresh handle name) ≡ Some (fresh looked)
       look_asked = rw (handle_in party handle thing_kind.ReadHandle x held, entry_in_state x nb ib, rep.values party name ∙ stands) refl
-
-      -- a look that begins
-      pub fresh_begins : (begun : Asking) → begun ≡ record { shape = cell_shape e.cell; generation = k.generation; counter = None } → same_type (value_detail k.type) e.value ≡ true
-          → IsChecked (call_reason s.standing party (call.Fresh handle name) (request_of s.standing s.published party (call.Fresh handle name))) (request_of s.standing s.published party (call.Fresh handle name))
-          (Ok (task.Fresh n begun))
-      fresh_begins begun is typed = rw look_asked (rw typed refl, record { look = looked; request = refl; board_is = nb; call_is = is })
-
-      -- a look at a value of another type
-      pub fresh_mistyped : same_type (value_detail k.type) e.value ≡ false
-          → IsChecked (call_reason s.standing party (call.Fresh handle name) (request_of s.standing s.published party (call.Fresh handle name))) (request_of s.standing s.published party (call.Fresh handle name))
-          (Err (not_begun.Refused reason.Type))
-      fresh_mistyped typed = rw look_asked (rw typed refl)
 
   -- an update that begins
   pub update_begins : (party handle : List ℕ) (x : Held) (v : Value) (g : ℕ) (words : List ℕ) (begun : Updating) → begun ≡ record { shape = cell_shape e.cell; generation = g; words = words; written = 0 } → n ≡ x.board → i ≡ entry_of x.kind

@@ -3,7 +3,6 @@ use Rattle.std.proofs.Common.{◌≡◌, ℕ, true, false, List, Some, None, Opt
 use Rattle.std.specs.Prelude.{IsSomeAnd}
 use Rattle.board_model.specs.LawfulSession.{State}
 use Rattle.script_boards.specs.declared.machine.BoardMachine.{BoardMachine}
-use Rattle.script_boards.specs.declared.machine.TableTask.{TableTask}
 use Rattle.script_boards.specs.declared.machine.Task.{Task}
 use Rattle.script_boards.specs.declared.machine.Task.TheVariants as task
 use Rattle.script_boards.specs.declared.step.OwedAccess.{OwedAccess}
@@ -35,17 +34,6 @@ module _ {C : Type 0} (m : BoardMachine C) (party : List ℕ) (o : OwedAccess) (
   -- it is there
   pub was_found : (found : Option Task) → found ≡ task_of m party → found ≡ None → ⊥
   was_found found e f = (let x : a_task owes.task ≡ None = sym owes.stands ∙ sym e ∙ f in cc)
-
--- a call that owes a step on the tables is one on the tables
-pub on_tables : (t : Task) → IsOwedBy t owed.Table → ((x : TableTask) → t ≡ task.Table x → ⊥) → ⊥
-on_tables (task.Table t) o h = h t refl
-on_tables (task.Get b c type n) o h = o
-on_tables (task.Fresh b c) o h = o
-on_tables (task.Update b c) o h = o
-on_tables (task.Put b c l i w) o h = o
-on_tables (task.Publish b c l n) o h = o
-on_tables (task.Fill b c l n) o h = o
-on_tables task.Gone o h = o
 
 -- a read that is its call's last has all of its words
 pub has_read : (t : Task) (r : OwedRead) (v : ℕ) → IsOwedBy t (owed.Read r) → ends_call t v ≡ true → HasRead (ticked t v)

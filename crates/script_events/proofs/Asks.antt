@@ -13,7 +13,7 @@ use Rattle.board_names.specs.declared.errors.event.ListenerCreateError.{Listener
 use Rattle.board_names.specs.declared.errors.event.ListenerCreateError.TheVariants as listener_error
 use Rattle.board_names.specs.declared.errors.event.NotifierCreateError.{NotifierCreateError}
 use Rattle.board_names.specs.declared.errors.event.NotifierCreateError.TheVariants as notifier_error
-use Rattle.script_model.specs.ScriptEvents.{EventThing, ScriptEvents, listener, notifier, to_listen, to_notify, with_listener, name_held}
+use Rattle.script_model.specs.ScriptEvents.{ScriptEvents, listener, notifier, to_listen, to_notify, with_listener, name_held}
 use Rattle.script_model.specs.ScriptEvents as script
 use Rattle.script_model.specs.SoundEvents.{AreSoundEvents}
 use Rattle.script_model.specs.declared.reply.EventReply.TheVariants as reply
@@ -146,20 +146,6 @@ pub listen_wanted : (t : EventTable) (o : Option ℕ) → Refuses (no_listener l
 listen_wanted t None h = refl
 listen_wanted t (Some m) h = absurd (let e : no_listener listener_error.OutOfMemory ≡ no_listener listener_error.AlreadyExists = h listener_error.AlreadyExists refl in cc)
 
-pub listen_refused : (t u : EventTable) (held held' : Held) (party name : List ℕ) (k : EventKind) (event : List ℕ) (max : ℕ) → no_listener listener_error.AlreadyExists ≡ listen_answer t (at (names_of k t) event) → u ≡ t → held' ≡ held
-    → AnswersAsk t held u held' party (to_listen name k event max) reply.AlreadyExists
-listen_refused t u held held' party name k event max answer is same x count sound asked holds = by (at (names_of k t) event) refl answer
-  where
-    by : (o : Option ℕ) → at (names_of k t) event ≡ o → no_listener listener_error.AlreadyExists ≡ listen_answer t o → IsAsked u held' x party (to_listen name k event max) reply.AlreadyExists
-    by None e h = absurd (elim (either (nat_lt t.drawn (2 ^ 64 - 2))) [
-      | inl f ↦ (let g : no_listener listener_error.AlreadyExists ≡ Ok (t.drawn + 1) = (rw f at h) in cc)
-      | inr f ↦ (let g : no_listener listener_error.AlreadyExists ≡ Err listener_error.NumbersSpent = (rw f at h) in cc)
-    ])
-    by (Some m) e h =
-        let named : x.names k event ≡ Some m = sym (holds.names k event) ∙ e in
-        let after : Holds u held' x = rw (is, same) holds in
-        record { told_is = rw named refl; held = rw named after }
-
 -- what stands under the name of a script's events
 named_event : (t : EventTable) (held : Held) (x : ScriptEvents) → Holds t held x → (n : ℕ) (e : Event) → event_at t n ≡ Some e → event_of x.session.stands n ≡ Some e
 named_event t held x holds n e found = by (event_of x.session.stands n) refl (sym (holds.events n) ∙ found)
@@ -181,6 +167,15 @@ few_notifiers t held x count few sound holds n e found = by (x.session.stands n)
         let low : st.event.notifiers ≤ count = (sound.formed n st f).notifiers in
         let is : st.event.notifiers ≡ e.notifiers = ap (λ (d : Event). d.notifiers) same in
         omega (arith, low, few, is))
+
+-- a notifier was made of the event that the name was looked up for
+pub notifier_named : (t : EventTable) (n : ℕ) (o : Option ℕ) → IsNotifierAnswer t (Ok n) o → o ≡ Some n
+notifier_named t n None h = absurd cc
+notifier_named t n (Some m) h = by (event_at t m) h
+  where
+    by : (e : Option Event) → IsSomeAnd e (λ d. Ok n ≡ notifier_of m d) → Some m ≡ Some n
+    by None g = absurd g
+    by (Some d) g = ap (λ (i : ℕ). Some i) (sym (notifier_numbered n m d g).1)
 
 pub notifier_done : (t u : EventTable) (held held' : Held) (party name : List ℕ) (k : EventKind) (event : List ℕ) (n : ℕ) → IsNotifierAnswer t (Ok n) (at (names_of k t) event) → u ≡ changed t n with_notifier
     → HasAt held held' party name (Some (holding.Notifier n)) → AnswersAsk t held u held' party (to_notify name k event) reply.Done
@@ -235,25 +230,3 @@ notifier_refused t u held held' party name k event answer is same x count sound 
         let named : x.names k event ≡ None = sym (holds.names k event) ∙ f in
         record { told_is = rw named refl; held = rw named after }
     by (Some m) f h = there m f (event_at t m) refl h
-
--- the numbers aren't spent
-pub not_spent : (t : EventTable) (o : Option ℕ) → t.drawn < 2 ^ 63 → (e : ListenerCreateError) → no_listener e ≡ listen_answer t o → e ≡ listener_error.AlreadyExists
-not_spent t (Some m) few e h = cc
-not_spent t None few e h = elim (either (nat_lt t.drawn (2 ^ 64 - 2))) [
-  | inl f ↦ absurd (let g : no_listener e ≡ Ok (t.drawn + 1) = (rw f at h) in cc)
-  | inr f ↦ absurd (grind arith)
-]
-
-pub notifiers_not_spent : (t : EventTable) (o : Option ℕ) → HasFewNotifiers t → (e : NotifierCreateError) → IsNotifierAnswer t (Err e) o → e ≡ notifier_error.DoesNotExist
-notifiers_not_spent t None few e h = cc
-notifiers_not_spent t (Some m) few e h = by (event_at t m) refl h
-  where
-    by : (o : Option Event) → event_at t m ≡ o → IsSomeAnd o (λ d. no_notifier e ≡ notifier_of m d) → e ≡ notifier_error.DoesNotExist
-    by None f g = absurd g
-    by (Some d) f g = elim (either d.held) [
-      | inr i ↦ (let k : no_notifier e ≡ Err notifier_error.DoesNotExist = (rw i at g) in cc)
-      | inl i ↦ elim (either (nat_lt d.notifiers (2 ^ 64 - 2))) [
-        | inl j ↦ absurd (let k : no_notifier e ≡ Ok m = (rw (i, j) at g) in cc)
-        | inr j ↦ absurd (let low = few m d f in grind arith)
-      ]
-    ]

@@ -1,6 +1,6 @@
 -- Cases of truth values and options, and texts either way round.
 use Rattle.std.proofs.Common.{◌≡◌, ℕ, Bool, true, false, cond, List, refl, sym, ◌∙◌, Option, Some, None, ◌⊎◌, inl, inr}
-use Rattle.std.specs.Prelude.{is_some, option_map, Result, Ok, Err, IfOk, OnErr}
+use Rattle.std.specs.Prelude.{is_some, option_map, Result, Ok, Err, OnErr}
 use Rattle.std.specs.Str.{bytes_eq}
 use Rattle.board_model.proofs.ListLemmas.{same_bytes}
 use Rattle.board_model.proofs.ThingLemmas.{same_to_itself}
@@ -27,11 +27,6 @@ is_some-map f (Some x) = refl
 pub replaced : {X : Type 0} (b : Bool) (first second old mid : X) → mid ≡ cond b first old → cond b second mid ≡ cond b second old
 replaced true first second old mid e = refl
 replaced false first second old mid e = e
-
--- what is right of a value is right of a better one
-pub if_ok : {T E : Type 0} (r : Result T E) (P Q : T → Type 0) → ((a : T) → P a → Q a) → IfOk r P → IfOk r Q
-if_ok (Ok a) P Q f h = f a h
-if_ok (Err e) P Q f h = h
 
 -- and so of what is known of an error
 pub on_err : {T E : Type 0} (r : Result T E) (P Q : Type 0) → (P → Q) → OnErr r P → OnErr r Q

@@ -24,10 +24,6 @@ use Rattle.script_events.proofs.Tables.{at_name, at_number, lookup-put, lookup-r
 abbrev IsOnceNames : List (List ℕ × ℕ) → Type 0
 IsOnceNames names = AreOnce (slice_cmp nat_cmp) names
 
--- nor does a number
-abbrev IsOnceEvents : EventTable → Type 0
-IsOnceEvents t = AreOnce nat_cmp t.events
-
 -- the event under a number
 abbrev found_in : List (ℕ × Event) → ℕ → Option Event
 found_in es q = lookup (is_at (nat_cmp q)) es

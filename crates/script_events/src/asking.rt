@@ -69,7 +69,8 @@ pub(crate) fn add_notifier(
         (to_notify name kind event.now)) }
     ensures things { OnErr result ((p n : List ℕ)
         → held_in things.new p n ≡ held_in things.old p n) }
-    ensures events { OnErr result (HasNotifierMore events.old events.new) }
+    ensures events { OnErr result
+        (HasNotifierMore events.old events.new kind event.now) }
 {
     match events.notifier(kind, &full_name(event)) {
         Ok(number) => {

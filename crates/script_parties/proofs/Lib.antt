@@ -19,4 +19,3 @@ pub mod Refused
 pub mod Renaming
 pub mod Rising
 pub mod WordLookups
-pub mod NameEnds

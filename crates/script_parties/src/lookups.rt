@@ -1,6 +1,5 @@
 //! What names, kinds and nodes are.
-ghost use Rattle.std.specs.Prelude.{◌≡◌, ◌-◌, ◌<◌, length, slice_index};
-ghost use Rattle.std.specs.Str.{bytes_eq};
+ghost use Rattle.std.specs.Prelude.{◌≡◌, ◌+◌, ◌<◌, length};
 ghost use Rattle.board_model.specs.Tables as tables;
 ghost use Rattle.indexmap.specs.IndexSet.{spare};
 ghost use Rattle.script_parties.specs.Named.{node_number, nodes_with};
@@ -12,29 +11,6 @@ use indexmap::IndexSet;
 
 /// A thing of a board, under its party and its name.
 pub type Held = Thing<Name, Name>;
-
-// The last byte of a name, 0 where it has none.
-#[inline(always)]
-fn last_byte(name: &Name) -> u8
-    ensures { result ≡ slice_index name.now (length name.now - 1) }
-{
-    let bytes = name.as_bytes();
-    if bytes.is_empty() {
-        return 0;
-    }
-    bytes[bytes.len() - 1]
-}
-
-/// Whether two names are the same. Their last bytes are looked at first, in which names differ most.
-#[inline(always)]
-pub fn is_same_name(a: &Name, b: &Name) -> bool
-    ensures { result ≡ bytes_eq a.now b.now }
-{
-    if last_byte(a) != last_byte(b) {
-        return false;
-    }
-    *a == *b
-}
 
 /// The place of a handle's entry among those of its board.
 pub fn entry_of(kind: &Kind) -> u64

@@ -2,7 +2,7 @@
 use Rattle.std.proofs.Common.{◌≡◌, ℕ, zero, suc, ◌<◌, ◌≤◌, Bool, true, false, cond, List, [], ◌∷◌, ◌++◌, length, get_or, set, take, map, Option, Some, None, arith, refl, sym, ap, ◌∙◌}
 use Rattle.std.specs.Prelude.{find, option_map}
 use Rattle.board_model.specs.Tables.{holds_at, without_first}
-use Rattle.script_things.specs.Places.{IsFirstAt, IsFirstPlace, IsNowhere, IsOnlyAt, IsPlace, standing}
+use Rattle.script_things.specs.Places.{IsFirstAt, IsNowhere, IsOnlyAt, standing}
 
 module _ {X : Type 0} (p : X → Bool) where
   pub first_of_only : (os : List (Option X)) (k : ℕ) → IsOnlyAt p os k → IsFirstAt p os k
@@ -14,10 +14,6 @@ module _ {X : Type 0} (p : X → Bool) where
   inside [] k h = absurd h
   inside (o ∷ os) zero h = omega arith
   inside (o ∷ os) (suc k) h = omega (arith, inside os k h.1)
-
-  pub first_place_of : (os : List (Option X)) (o : Option ℕ) → IsPlace p os o → IsFirstPlace p os o
-  first_place_of os None h = h
-  first_place_of os (Some k) h = first_of_only os k h
 
   -- none of those before it passes
   pub first_after : (os : List (Option X)) (k : ℕ) (d : Option X) → IsNowhere p (take k os) → k < length os → holds_at (get_or os k d) p ≡ true → IsFirstAt p os k

@@ -93,20 +93,6 @@ raised_then party k o m n a r = record {
 }
 
 module _ {S : Type 0} (old mid new : HashMap ℕ Taken S) (t : Held) (opened : AreSame old mid) (others : (board : ℕ) → (t.board == board) ≡ false → get nat_eq new board ≡ get nat_eq mid board) where
-  pub row_raised : IsRaised t.holder t.kind (get nat_eq mid t.board) (get nat_eq new t.board) → AreRaised t old new
-  row_raised r = record {
-    this = raised_then t.holder t.kind (get nat_eq old t.board) (get nat_eq mid t.board) (get nat_eq new t.board) (opened t.board) r;
-    others = λ b h. same_then (get nat_eq old b) (get nat_eq mid b) (get nat_eq new b) (opened b) (same_is (get nat_eq mid b) (get nat_eq new b) (others b h));
-  }
-
-  pub row_same : IsSame (get nat_eq mid t.board) (get nat_eq new t.board) → AreSame old new
-  row_same s b =
-      same_then (get nat_eq old b) (get nat_eq mid b) (get nat_eq new b) (opened b)
-      (elim (t.board == b) as (λ z. (t.board == b) ≡ z → IsSame (get nat_eq mid b) (get nat_eq new b)) [
-        | true ↦ λ h. subst (λ n. IsSame (get nat_eq mid n) (get nat_eq new n)) (grind (arith, nat_tests, h)) s
-        | false ↦ λ h. same_is (get nat_eq mid b) (get nat_eq new b) (others b h)
-      ] refl)
-
 -- ---- one test, as a thing comes or goes
 
 module _ (test : Held → Bool) (ts : List Held) (t : Held) (z : Bool) (is : test t ≡ z) where

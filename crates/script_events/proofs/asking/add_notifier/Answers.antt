@@ -1,8 +1,9 @@
-use Rattle.std.specs.Prelude.{Ok}
+use Rattle.std.specs.Prelude.{Ok, Some}
+use Rattle.std.proofs.Common.{◌≡◌}
 use Rattle.board_names.specs.Table.{at}
 use Rattle.board_event_core.specs.EventTable.{IsNotifierAnswer, names_of}
 use Rattle.script_events.specs.Left.{HasNotifierMore}
-use Rattle.script_events.proofs.Asks.{notifier_done, notifier_makes}
+use Rattle.script_events.proofs.Asks.{notifier_done, notifier_makes, notifier_named}
 use Rattle.script_events.specs.PartyEvents.{held_in}
 use Rattle.script_events.proofs.Options.{anyway}
 use Rattle.script_events.proofs.asking.add_notifier.Goals as goal
@@ -21,5 +22,8 @@ returns-in_err-put-in-Ok-clause-memory c =
 
 pub returns-in_err-put-in-Ok-clause-events : goal.returns-in_err-put-in-Ok-clause-events
 returns-in_err-put-in-Ok-clause-events c =
-    let more : HasNotifierMore c.args.events.now c.notifier.new.self = (c.in-Ok.number, c.in-Ok.ensures.ok) in
+    let t = c.args.events.now in
+    let answer : IsNotifierAnswer t (Ok c.in-Ok.number) (at (names_of c.args.kind t) c.args.event.now) = rw c.full_name.ensures at c.in-Ok.ensures.answer in
+    let named : at (names_of c.args.kind t) c.args.event.now ≡ Some c.in-Ok.number = notifier_named t c.in-Ok.number (at (names_of c.args.kind t) c.args.event.now) answer in
+    let more : HasNotifierMore t c.notifier.new.self c.args.kind c.args.event.now = (c.in-Ok.number, named, c.in-Ok.ensures.ok) in
     anyway _ _ more
