@@ -78,21 +78,6 @@ small_same o n same small = record {
   handles = λ e. subst (λ (x : Option ℕ). number_in x < 2 ^ 63) (sym (same.handles e)) (small.handles e);
 }
 
-same_then : (o m n : Option Taken) → IsSame o m → IsSame m n → IsSame o n
-same_then o m n a b = record { readers = b.readers ∙ a.readers; nodes = λ p. b.nodes p ∙ a.nodes p; ports = λ p. b.ports p ∙ a.ports p; handles = λ e. b.handles e ∙ a.handles e }
-
-same_is : (o n : Option Taken) → n ≡ o → IsSame o n
-same_is o n e = record { readers = ap readers_in e; nodes = λ p. ap (λ x. nodes_in x p) e; ports = λ p. ap (λ x. ports_in x p) e; handles = λ f. ap (λ x. handles_in x f) e }
-
-raised_then : (party : List ℕ) (k : Kind) (o m n : Option Taken) → IsSame o m → IsRaised party k m n → IsRaised party k o n
-raised_then party k o m n a r = record {
-  readers = r.readers ∙ ap (λ x. x + number_if (is_reader k)) a.readers;
-  nodes = λ p. r.nodes p ∙ ap (one_more (bytes_eq party p)) (a.nodes p);
-  ports = λ p. r.ports p ∙ ap (one_more (holds_at (writer_port k) (λ q. q == p))) (a.ports p);
-  handles = λ e. r.handles e ∙ ap (one_more (writes_entry e k)) (a.handles e);
-}
-
-module _ {S : Type 0} (old mid new : HashMap ℕ Taken S) (t : Held) (opened : AreSame old mid) (others : (board : ℕ) → (t.board == board) ≡ false → get nat_eq new board ≡ get nat_eq mid board) where
 -- ---- one test, as a thing comes or goes
 
 module _ (test : Held → Bool) (ts : List Held) (t : Held) (z : Bool) (is : test t ≡ z) where
