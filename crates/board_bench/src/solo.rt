@@ -10,7 +10,9 @@ use std::alloc::Global;
 use std::sync::Wait;
 
 /// This many gets, one after another.
-pub fn gets<R: Wait>(
+// In the body of its caller the cell is a local, so that the place of its words stays in a register between the accesses.
+#[inline(always)]
+fn gets<R: Wait>(
     rt: &R,
     cell: &ThreadedCell,
     reader: &mut ReaderPass,
@@ -85,7 +87,9 @@ pub fn run_gets<R: Wait>(
     let words = vec![in alloc; 7; width as usize]?;
     let mut out = vec![in alloc; 0; width as usize]?;
     let (cell, _writer, mut reader) = ThreadedCell::new(alloc, &words)?;
-    gets(rt, &cell, &mut reader, &mut out, count);
+    // No other call of the program is made at the type of `&rt`: so the later tries of these gets have no other caller, and
+    // the compiler hands them that place by value.
+    gets(&rt, &cell, &mut reader, &mut out, count);
     Ok(reader)
 }
 

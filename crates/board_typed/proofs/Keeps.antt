@@ -23,7 +23,7 @@ use Rattle.board_typed.proofs.Made.{board_was, cells_were, found-push}
 use Rattle.board_typed.proofs.Places.{cell_with, cell_without}
 
 -- what was found is found with one more behind
-found_before : {A : Type 0} (p : A → Bool) (xs : List A) (x : A) → is_some (find p xs) ≡ true → find p (xs ++ x ∷ []) ≡ find p xs
+pub found_before : {A : Type 0} (p : A → Bool) (xs : List A) (x : A) → is_some (find p xs) ≡ true → find p (xs ++ x ∷ []) ≡ find p xs
 found_before p xs x e = found-push p xs x ∙ ap (λ b. cond b (find p xs) (cond (p x) (Some x) None)) e
 
 -- one thing more, with the same boards and cells

@@ -1,24 +1,26 @@
 -- A port that is held, of a domain whose cells are in order, is no unknown thing.
 use Rattle.std.proofs.Common.{◌≡◌, ℕ, suc, Bool, true, false, ◌+◌, List, [], ◌∷◌, Option, Some, None, refl, sym, ap, ◌∙◌, subst, arith}
-use Rattle.std.specs.Prelude.{◌&&◌, ◌==◌, ◌*◌, ◌<◌, ◌≤◌, find, slice_get, is_some, if◌then◌else◌, Result, Ok, Err}
+use Rattle.std.specs.Prelude.{◌&&◌, ◌||◌, ◌==◌, ◌*◌, ◌<◌, ◌≤◌, find, slice_get, is_some, nat_le, if◌then◌else◌, Result, Ok, Err}
 use Rattle.board_layout.specs.declared.type_detail.TypeDetail.{TypeDetail}
 use Rattle.board_layout.specs.Words.{IsWordCount}
 use Rattle.board_cell.specs.Passes.{CellSeen}
 use Rattle.board_model.specs.declared.tables.Board.{Board}
 use Rattle.board_model.specs.declared.tables.Entry.{Entry}
-use Rattle.board_model.specs.declared.tables.ThingKind.TheVariants.{Reader, Writer}
+use Rattle.board_model.specs.declared.tables.ThingKind.TheVariants.{Factory, Reader, Writer}
 use Rattle.board_model.specs.declared.tables.Thing.{Thing}
 use Rattle.board_model.specs.declared.tables.ThingKind.{ThingKind}
-use Rattle.board_model.specs.Tables.{board_at, holds_at, kind_of, same_kind, entry_found, entry_from, entry_in, of_type}
+use Rattle.board_model.specs.Tables.{board_at, holds_at, kind_of, same_kind, entry_found, entry_from, entry_in, of_type, reader_slots, writer_slots}
 use Rattle.board_model.specs.TableCalls.{answer_of}
 use Rattle.board_model.specs.TypeTable.{same_type, same_variant}
 use Rattle.std.specs.Str.{bytes_eq}
+use Rattle.board_names.specs.declared.errors.boards.ReaderCreateError.TheVariants as reader_error
+use Rattle.board_names.specs.declared.errors.boards.WriterCreateError.TheVariants as writer_error
 use Rattle.board_names.specs.declared.errors.boards.EntryHandleError.{EntryHandleError}
 use Rattle.board_names.specs.declared.errors.boards.EntryHandleError.TheVariants as entry_error
 use Rattle.board_names.specs.declared.errors.boards.EntryHandleMutError.{EntryHandleMutError}
 use Rattle.board_names.specs.declared.errors.boards.EntryHandleMutError.TheVariants as entry_mut_error
 use Rattle.board_service.specs.declared.made.Found.{Found}
-use Rattle.board_service.specs.Domain.{entry_answer, entry_mut_answer, found_at, held, is_thing, spent, stands_as}
+use Rattle.board_service.specs.Domain.{entry_answer, entry_mut_answer, found_at, held, is_thing, made, reader_answer, spent, stands_as, writer_answer}
 use Rattle.board_cells.specs.Cells.{EndSeen, cell_width, end_width, fits}
 use Rattle.board_handles.specs.BoardEnds.{Core, cell_of, parked_of}
 use Rattle.board_handles.specs.LentForms as lent
@@ -178,6 +180,30 @@ writer_known d a writer n o stands count e = by_found (lent.entry_for d a writer
     by_found : (f : Option (ℕ × Entry)) → lent.entry_for d a writer ≡ f → answer (entry_mut_answer d (held d writer) f) ≡ Err (entry_mut_error.ThingUnknown n) → ⊥
     by_found None is h = absurd cc
     by_found (Some f) is h = by_written f (is_written d (held d writer).board f.0) is refl h
+
+-- ---- factories
+
+pub factory_reader_known : (d : Core) (keys : TypeDetail) (factory n : ℕ) → stands_as d keys factory Factory ≡ true → lent.reader_made d keys factory ≡ Err (reader_error.ThingUnknown n) → ⊥
+factory_reader_known d keys factory n stands e =
+    by (holds_at (board_at d.tables (held d factory).board) (λ b. nat_le b.max_readers (reader_slots b.number d.tables.things))) (spent d.tables.last_port || spent d.last_thing)
+    (sym (ap (λ s. if s then reader_answer d (held d factory) else Err (reader_error.ThingUnknown factory)) stands) ∙ e)
+  where
+    by : (full s : Bool)
+        → answer_of (if full then Some reader_error.ExceedsMaxSupportedReaders else if s then Some reader_error.NumbersSpent else None) (made d (d.tables.last_port + 1)) ≡ Err (reader_error.ThingUnknown n) → ⊥
+    by true s h = absurd cc
+    by false true h = absurd cc
+    by false false h = absurd cc
+
+pub factory_writer_known : (d : Core) (keys : TypeDetail) (factory n : ℕ) → stands_as d keys factory Factory ≡ true → lent.writer_made d keys factory ≡ Err (writer_error.ThingUnknown n) → ⊥
+factory_writer_known d keys factory n stands e =
+    by (holds_at (board_at d.tables (held d factory).board) (λ b. nat_le b.max_writers (writer_slots b.number d.tables.things))) (spent d.tables.last_port || spent d.last_thing)
+    (sym (ap (λ s. if s then writer_answer d (held d factory) else Err (writer_error.ThingUnknown factory)) stands) ∙ e)
+  where
+    by : (full s : Bool)
+        → answer_of (if full then Some writer_error.ExceedsMaxSupportedWriters else if s then Some writer_error.NumbersSpent else None) (made d (d.tables.last_port + 1)) ≡ Err (writer_error.ThingUnknown n) → ⊥
+    by true s h = absurd cc
+    by false true h = absurd cc
+    by false false h = absurd cc
 
 -- ---- one cell behind both handles
 

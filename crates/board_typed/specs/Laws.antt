@@ -6,8 +6,10 @@ use Rattle.board_layout.specs.Words.{IsWordCount}
 use Rattle.board_cell.specs.Passes.{CellSeen}
 use Rattle.board_model.specs.declared.tables.Thing.{Thing}
 use Rattle.board_model.specs.declared.tables.ThingKind.{ThingKind}
-use Rattle.board_model.specs.declared.tables.ThingKind.TheVariants.{Reader, Writer, WriteHandle}
+use Rattle.board_model.specs.declared.tables.ThingKind.TheVariants.{Factory, Reader, Writer, WriteHandle}
 use Rattle.board_model.specs.Tables.{board_at}
+use Rattle.board_names.specs.declared.errors.boards.ReaderCreateError.TheVariants as reader_error
+use Rattle.board_names.specs.declared.errors.boards.WriterCreateError.TheVariants as writer_error
 use Rattle.board_names.specs.declared.errors.boards.EntryHandleError.TheVariants as entry_error
 use Rattle.board_names.specs.declared.errors.boards.EntryHandleMutError.TheVariants as entry_mut_error
 use Rattle.board_service.specs.declared.made.Found.{Found}
@@ -17,7 +19,7 @@ use Rattle.board_service.specs.Facts.{IsDomain, handle_entry}
 use Rattle.board_cells.specs.Cells.{EndSeen}
 use Rattle.board_handles.specs.BoardEnds.{Core, cell_of}
 use Rattle.board_handles.specs.Handles.{WriteSeen}
-use Rattle.board_handles.specs.LentForms.{Asked, given_up, read_answer, with_read, with_write_taken, write_answer, write_given_up}
+use Rattle.board_handles.specs.LentForms.{Asked, given_up, read_answer, reader_made, with_read, with_write_taken, write_answer, write_given_up, writer_made}
 use Rattle.board_domain.specs.LentForms.{IsMade, NewBoard}
 use Rattle.board_typed.specs.Order.{IsInOrder}
 
@@ -63,10 +65,12 @@ pub record CallsKeepOthers : Type 0 where
 abbrev pub KeysAreShort : Type 0
 KeysAreShort = (d : Core) (keys : TypeDetail) (thing : ℕ) (kind : ThingKind) → IsInOrder d → stands_as d keys thing kind ≡ true → keys.size ≤ 64
 
--- where the cells are in order, a port that is held is never an unknown thing, whatever entry it is asked for
+-- where the cells are in order, a port that is held is never an unknown thing, whatever entry it is asked for, nor is a factory that is held as a port is made by it
 pub record PortsAreKnown : Type 0 where
   pub reader : (d : Core) (a : Asked) (reader n : ℕ) → IsInOrder d → stands_as d a.keys reader Reader ≡ true → IsWordCount a.values.size a.width → read_answer d a reader ≢ Err (entry_error.ThingUnknown n)
   pub writer : (d : Core) (a : Asked) (writer n : ℕ) → IsInOrder d → stands_as d a.keys writer Writer ≡ true → IsWordCount a.values.size a.width → write_answer d a writer ≢ Err (entry_mut_error.ThingUnknown n)
+  pub factory_reader : (d : Core) (keys : TypeDetail) (factory n : ℕ) → stands_as d keys factory Factory ≡ true → reader_made d keys factory ≢ Err (reader_error.ThingUnknown n)
+  pub factory_writer : (d : Core) (keys : TypeDetail) (factory n : ℕ) → stands_as d keys factory Factory ≡ true → writer_made d keys factory ≢ Err (writer_error.ThingUnknown n)
 
 -- where the cells are in order, the handles that readers and writers are given of an entry have its one cell
 pub record HandlesShareTheCell : Type 0 where

@@ -12,7 +12,7 @@ pub fn calls_keep_others()
     ensures { CallsKeepOthers }
 {}
 
-/// Where the cells are in order, a port that is held is never answered `ThingUnknown`.
+/// Where the cells are in order, a port that is held is never answered `ThingUnknown`, nor is a factory that is held where a port is made of it.
 pub fn ports_are_known()
     ensures { PortsAreKnown }
 {}
@@ -27,7 +27,7 @@ pub fn handles_share_the_cell()
     ensures { HandlesShareTheCell }
 {}
 
-/// Wherever typed calls alone lead, each value that was not given back stands, no reader or writer is answered `ThingUnknown`, and handles of an entry have one cell. A builder of ports borrows its factory, so it is none of these values.
+/// Wherever typed calls alone lead, each value that was not given back stands, no reader, writer or builder of ports is answered `ThingUnknown`, and handles of an entry have one cell. That a factory isn't given up while a builder of it stands is its type's: it borrows the factory.
 pub fn typed_calls_alone()
     ensures { TypedCallsAlone }
 {}

@@ -1,17 +1,22 @@
 use Rattle.std.proofs.Common.{◌≡◌, ◌∙◌, ℕ, List, Option, Some, sym, subst}
-use Rattle.std.specs.Prelude.{IfSome, true}
+use Rattle.std.specs.Prelude.{Contains, IfSome, true}
 use Rattle.board_cell.specs.Passes.{CellSeen}
-use Rattle.board_model.specs.declared.tables.ThingKind.TheVariants.{Reader, Writer}
+use Rattle.board_model.specs.declared.tables.ThingKind.TheVariants.{Factory, Reader, Writer}
 use Rattle.board_service.specs.Domain.{held, stands_as}
 use Rattle.board_service.specs.Facts.{handle_entry}
 use Rattle.board_handles.specs.BoardEnds.{cell_of}
-use Rattle.board_typed.specs.Runs.{Call, CellsAreShared, Comes, IsGood, NothingIsUnknown, Value, ValuesStand, World}
-use Rattle.board_typed.proofs.Known.{reader_known, some_is, writer_known}
-use Rattle.board_typed.proofs.Running.{good_of, sound}
+use Rattle.board_typed.specs.Runs.{Builder, BuildersStand, Call, CellsAreShared, Comes, IsGood, NothingIsUnknown, Value, ValuesStand, World}
+use Rattle.board_typed.proofs.Known.{factory_reader_known, factory_writer_known, reader_known, some_is, writer_known}
+use Rattle.board_typed.proofs.Running.{good_of, lent_of, sound}
 use Rattle.board_typed.proofs.laws.typed_calls_alone.Goals as goal
 
 stand : (calls : List Call) (w : World) → Comes calls w → ValuesStand w
 stand calls w at v holds = (good_of w v (sound calls w at) holds).stands
+
+lent : (calls : List Call) (w : World) → Comes calls w → BuildersStand w
+lent calls w at b has =
+    let is = lent_of w b (sound calls w at) has in
+    (is.0, subst (λ k. stands_as w.tables b.factory.keys b.factory.thing k ≡ true) is.1 (stand calls w at b.factory is.0))
 
 known : (calls : List Call) (w : World) → Comes calls w → NothingIsUnknown w
 known calls w at = record {
@@ -19,6 +24,8 @@ known calls w at = record {
       (subst (λ k. stands_as w.tables k v.thing Reader ≡ true) (sym keys) (subst (λ k. stands_as w.tables v.keys v.thing k ≡ true) is_reader (stand calls w at v holds))) count;
   writer = λ v a n holds is_writer keys count. writer_known w.tables a v.thing n (sound calls w at).order
       (subst (λ k. stands_as w.tables k v.thing Writer ≡ true) (sym keys) (subst (λ k. stands_as w.tables v.keys v.thing k ≡ true) is_writer (stand calls w at v holds))) count;
+  factory_reader = λ b n has. factory_reader_known w.tables b.factory.keys b.factory.thing n (lent calls w at b has).1;
+  factory_writer = λ b n has. factory_writer_known w.tables b.factory.keys b.factory.thing n (lent calls w at b has).1;
 }
 
 -- a handle that is good has its entry's cell
@@ -33,4 +40,4 @@ shared calls w at u v i c e has_u has_v board end_u end_v =
     some_is c e (sym of_u ∙ subst (λ b. cell_of w.tables b i ≡ Some e) (sym board) of_v)
 
 pub returns : goal.returns
-returns c = record { stand = stand; known = known; shared = shared }
+returns c = record { stand = stand; lent = lent; known = known; shared = shared }
