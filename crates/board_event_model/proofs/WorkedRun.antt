@@ -27,6 +27,9 @@ all_runs = (((((tt, (refl, (refl, refl))), (refl, refl)), (refl, (0, refl, no_wo
 pub queue_runs : RunsOnQueue an_expire_after_a_pop
 queue_runs = (((tt, (refl, (refl, refl))), (refl, refl)), (refl, refl))
 
+pub queue_all_runs : RunsOnQueue an_expire_for_all_after_a_pop
+queue_all_runs = (((tt, (refl, (refl, refl))), (refl, refl)), (refl, refl))
+
 pub post_is_wrong : RunsOnBits a_post_before_the_set → ⊥
 post_is_wrong h = let owed = h.1.0 in cc
 
