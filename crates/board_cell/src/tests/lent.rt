@@ -7,12 +7,7 @@ use std::sync::Wait;
 use std::test::*;
 
 // A get by a pass that noted values before, whoever made these gets. What a pass notes doesn't fall, so it is none older.
-fn no_older<R: Wait>(
-    rt: &R,
-    cell: &ThreadedCell,
-    pass: &mut ReaderPass,
-    out: &mut Vec<u64>,
-) -> u64
+fn no_older<R: Wait>(rt: &R, cell: &ThreadedCell, pass: &mut ReaderPass, out: &mut Vec<u64>) -> u64
     requires cell { pass.old.cell ≡ cell.now.cell }
     requires width { length out.old.items ≡ cell.now.width }
     ensures { All (λ note. note.generation ≤ result) pass.old.notes }
