@@ -3,9 +3,9 @@ use Rattle.script_loop.specs.Reader.{line_given}
 use Rattle.script_loop.proofs.LineLemmas.{takes_line}
 use Rattle.script_exchanges.specs.DriveGrammar.{SpellsNoDrive}
 use Rattle.script_exchanges.specs.Exchanges.{output_of}
-use Rattle.script_drive.proofs.DriveEndings.{bad_at, gave_up, is_long_past, is_past, is_spent, left_grammar, long_at, spent_at_once, unwritten, was_long, write_cut}
+use Rattle.script_drive.proofs.DriveEndings.{bad_at, complete, gave_up, is_long_past, is_past, is_spent, left_grammar, long_at, spent_at_once, unwritten, was_long, write_cut}
 use Rattle.script_drive.proofs.DriveSteps.{fits_one_more, goes_on, stands_for, starts_on}
-use Rattle.script_drive.proofs.run.run_all.Goals as goal
+use Rattle.script_drive.proofs.run.run_driven.Goals as goal
 
 pub loop-n-init : goal.loop-n-init
 loop-n-init g c = record {
@@ -83,3 +83,18 @@ returns-clause-runs g c =
     let f = rw c.in-Ok-Line-next.field-0-is at c.in-Ok-Line-next.ensures.fetched in
     let one = rw c.in-Ok-Line-next.field-0-is at c.in-Ok-Line-next.ensures.short in
     was_long _ _ _ _ _ (search rules) (search rules) (is_past _ _ _ _ _ _ _ _ _ c.loop-n.invariant.on.run _ (line_given c.next-2.new.self) (omega arith) (takes_line _ _ _ _ one.0 f))
+
+pub returns-in-Ok-Long-clause-complete : goal.returns-in-Ok-Long-clause-complete
+returns-in-Ok-Long-clause-complete g c = λ sure room takes fits. complete _ _ _ _ _ _ (returns-in-Ok-Long-clause-runs g c) (λ e. cc) (λ e. cc) fits.script
+
+pub returns-in-Err-Bad-clause-complete : goal.returns-in-Err-Bad-clause-complete
+returns-in-Err-Bad-clause-complete g c = λ sure room takes fits. complete _ _ _ _ _ _ (returns-in-Err-Bad-clause-runs g c) (λ e. cc) (λ e. cc) fits.script
+
+pub returns-in-Ok-Long-next-clause-complete : goal.returns-in-Ok-Long-next-clause-complete
+returns-in-Ok-Long-next-clause-complete g c = λ sure room takes fits. complete _ _ _ _ _ _ (returns-in-Ok-Long-next-clause-runs g c) (λ e. cc) (λ e. cc) fits.script
+
+pub returns-clause-complete : goal.returns-clause-complete
+returns-clause-complete g c = λ sure room takes fits. complete _ _ _ _ _ _ (returns-clause-runs g c) (λ e. cc) (λ e. cc) fits.script
+
+pub returns-in-Err-write_whole-clause-complete : goal.returns-in-Err-write_whole-clause-complete
+returns-in-Err-write_whole-clause-complete g c = λ sure room takes fits. complete _ _ _ _ _ _ (returns-in-Err-write_whole-clause-runs g c) (λ e. cc) (returns-in-Err-write_whole-clause-writes g c room takes fits.output) fits.script
