@@ -9,7 +9,7 @@ ghost use Rattle.script_board_tables.specs.Tables.{Has, kept_at, kept_in, loan_a
 use crate::boards::Boards;
 use board_model::{Board, Entry, Items, Kind, Name, ThingKind, ValueType, Words};
 use script_seats::Seat;
-use script_things::{Held, NamedThings, entry_of};
+use script_things::{Held, NamedThings};
 use std::alloc::{AllocError, Global};
 use std::collections::HashMap;
 
@@ -122,7 +122,7 @@ impl BoardTables {
         ensures { option_map (λ e. e.now) result
             ≡ requests.handled (standing_of self.now) thing.now }
     {
-        self.boards.entry_at(thing.board, entry_of(&thing.kind))
+        self.boards.entry_at(thing.board, thing.kind.entry())
     }
 
     // The board that stands under a number.

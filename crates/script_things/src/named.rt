@@ -6,7 +6,6 @@ ghost use Rattle.board_model.specs.Replies as replies;
 ghost use Rattle.board_model.specs.Tables as tables;
 ghost use Rattle.board_model.specs.Things as held;
 
-use crate::kinds::is_kind;
 use crate::lookups::{Held, place_of, rename_all, rename_at, take_place};
 use crate::taken::{Taken, lower, raise};
 use board_model::{Name, Names, ThingKind};
@@ -73,7 +72,7 @@ impl NamedThings {
     {
         match self.at(party, name) {
             Some(thing) => {
-                if is_kind(kind, &thing.kind) {
+                if thing.kind.is(kind) {
                     Some(thing)
                 } else {
                     None
