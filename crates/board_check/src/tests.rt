@@ -1,8 +1,4 @@
-//! The sessions of the stored scripts, sessions with a wrong pair, and how the program ends.
-mod full_queue;
-mod rows_1;
-mod rows_2;
-
+//! Sessions of few pairs, sessions with a wrong pair, and how the program ends.
 use crate::{CheckError, Rule, Verdict, check, check_words, run_program};
 use script_loop::{MemorySink, MemorySource};
 use std::alloc::Global;
@@ -29,41 +25,6 @@ fn is_so(alloc: Global, trial: &Trial) -> Result<bool, Fail> {
     let words = Vec::new(alloc);
     let status = check_words(alloc, &words, &mut source, &mut sink, &mut notes);
     Ok(status == trial.status && sink.held() == trial.output && notes.held() == trial.note)
-}
-
-// The pairs of a stored script with its answers.
-#[derive(Clone, Copy)]
-struct Row {
-    pairs: u64,
-    lines: &'static [u8],
-}
-
-fn is_lawful(alloc: Global, row: &Row) -> Result<bool, Fail> {
-    let lines = Vec::from_slice(alloc, row.lines)?;
-    let mut source = MemorySource::new(lines, 0, Vec::new(alloc));
-    Ok(check(alloc, &mut source) == Ok(Verdict::Lawful { pairs: row.pairs }))
-}
-
-#[test]
-fn stored_scripts_are_lawful(rt: HostRuntime) -> Result<(), Fail> {
-    for row in &rows_1::ROWS {
-        assert!(rt; is_lawful(rt.alloc(), row)?);
-    }
-    for row in &rows_2::ROWS {
-        assert!(rt; is_lawful(rt.alloc(), row)?);
-    }
-    Ok(())
-}
-
-#[test]
-fn a_full_queue_is_lawful(rt: HostRuntime) -> Result<(), Fail> {
-    let lines = full_queue::pairs(rt.alloc())?;
-    let mut source = MemorySource::new(lines, 0, Vec::new(rt.alloc()));
-    assert_eq!(rt;
-        check(rt.alloc(), &mut source),
-        Ok(Verdict::Lawful { pairs: 1546 })
-    );
-    Ok(())
 }
 
 const PLAIN: Trial = Trial {

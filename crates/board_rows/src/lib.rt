@@ -1,4 +1,4 @@
-//! Worked scripts: each line with its answer, run line by line and from a source to a sink.
+//! Worked scripts: each line with its answer, run line by line and from a source to a sink, and checked.
 //!
 //! The tables of rows read as the first run in the README does. Their answers were worked out by hand from the definitions, and not taken from the program.
 #![tactic(auto)]

@@ -2,6 +2,7 @@
 ghost use Rattle.script_model.specs.ScriptSession.{start};
 
 use board_cell::{PlainWords, SeatWords};
+use board_check::{Verdict, check};
 use board_script::{
     LineError, Machine, MemorySink, MemorySource, RunsLines, run_script_on, run_words,
 };
@@ -87,7 +88,7 @@ pub(crate) struct Script<'a> {
 }
 
 impl Script<'_> {
-    /// Runs it line by line, over plain words and over words that threads may share, and then as the program does, in one piece and byte by byte.
+    /// Runs it line by line, over plain words and over words that threads may share, and then as the program does, in one piece and byte by byte. What it answers is checked.
     pub(crate) fn holds(&self, rt: &impl Abort, alloc: Global) -> Result<(), Fail> {
         answers_each_line(rt, alloc, &mut Machine::<PlainWords>::new(alloc), self)?;
         let mut machine = Machine::<SeatWords>::new(alloc);
@@ -96,7 +97,33 @@ impl Script<'_> {
         self.runs_on::<PlainWords>(rt, alloc)?;
         self.runs_on::<SeatWords>(rt, alloc)?;
         self.runs_in_pieces(rt, alloc, 0)?;
-        self.runs_in_pieces(rt, alloc, 1)
+        self.runs_in_pieces(rt, alloc, 1)?;
+        self.is_lawful(rt, alloc)
+    }
+
+    // The lines that are answered, each with its answer behind it, are a lawful session.
+    fn is_lawful(&self, rt: &impl Abort, alloc: Global) -> Result<(), Fail> {
+        let mut session = Vec::new(alloc);
+        let mut pairs = 0;
+        for (n, (line, answer)) in self.lines.iter().enumerate() {
+            if answer.is_empty() {
+                break;
+            }
+            push_line(line, &mut session)?;
+            push_line(answer, &mut session)?;
+            pairs = n + 1;
+        }
+        let mut source = MemorySource::new(session, 0, Vec::new(alloc));
+        let verdict = check(alloc, &mut source);
+        assert!(rt;
+            verdict
+                == Ok(Verdict::Lawful {
+                    pairs: pairs as u64
+                }),
+            "verdict on {}",
+            self.name
+        );
+        Ok(())
     }
 
     // Runs it from a source to a sink, over words of one kind.

@@ -7,10 +7,10 @@ use Rattle.script_model.proofs.AnswerLaws.{one_answer}
 use Rattle.script_exchanges.specs.declared.line.Drive.TheVariants.{Snapshots}
 use Rattle.script_exchanges.specs.declared.line.DriveLine.{DriveLine}
 use Rattle.script_exchanges.specs.declared.line.DriveLine.TheVariants.{Script, Start, Turn}
-use Rattle.script_exchanges.specs.DrivenParties.{abandoned_by, held_back, is_refused, kept_with}
+use Rattle.script_exchanges.specs.DrivenParties.{abandoned_by, held_back, if_kept, is_refused, kept_with, let_go}
 use Rattle.script_exchanges.specs.Exchanges.{Exchanges, SpellsAll, Told, given}
 use Rattle.script_snapshots.specs.Takings.{Taking, next_line, taken}
-use Rattle.script_snapshots.specs.SnapshotExchanges.{IsExchange, Leads, OfScript, OfTurn, Takings, fed_with, if_taking, kept_of, let_go, no_takings, said_of}
+use Rattle.script_snapshots.specs.SnapshotExchanges.{IsExchange, Leads, OfScript, OfTurn, Takings, fed_with, kept_of, no_takings, said_of}
 use Rattle.script_written.proofs.OneLineLemmas.{one_drive_line as one_line_of}
 use Rattle.board_snapshot.specs.LawsOfRuns.{BytesSpellOneLine, InputsHaveOneRun}
 
@@ -47,7 +47,7 @@ one_turn s t u party told more (Some x) h k =
     both_given (λ a. given (next_line party x, a) ∷ said_of party (taken s.fed party x a)) (λ a. fed_with s (next_line party x) a (kept_with s.of party (kept_of (taken s.fed party x a)))) h.answer k.answer told more t u (one_answer (state_met s.fed) (next_line party x) h.answer k.answer h.right k.right) h.told_is h.after k.told_is k.after
 
 one_exchange : (s t u : Takings) (l : DriveLine) (told more : List Told) → IsExchange s l told t → IsExchange s l more u → AreOne told more t u
-one_exchange s t u (Script l) told more h k = one_script s t u l told more (if_taking s (held_back l)) h.exchanged k.exchanged
+one_exchange s t u (Script l) told more h k = one_script s t u l told more (if_kept s.of (held_back l)) h.exchanged k.exchanged
 one_exchange s t u (Start party things) told more h k = record { told_is = h.exchanged.0 ∙ sym k.exchanged.0; after_is = h.exchanged.1 ∙ sym k.exchanged.1 }
 one_exchange s t u (Turn party) told more h k = one_turn s t u party told more (s.of party) h.exchanged k.exchanged
 

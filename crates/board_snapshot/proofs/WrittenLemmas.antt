@@ -4,6 +4,7 @@ use Rattle.std.specs.Prelude.{◌==◌, if◌then◌else◌, codes, is_some}
 use Rattle.std.specs.Str.{bytes_eq}
 use Rattle.board_model.specs.AnswerGrammar.{reply_text}
 use Rattle.board_model.specs.declared.answer.Reply.TheVariants as reply
+use Rattle.board_model.proofs.ListLemmas.{same_bytes}
 use Rattle.script_model.specs.declared.line.ScriptLine.{ScriptLine}
 use Rattle.script_model.specs.LawsOfComposition.{state_met}
 use Rattle.script_model.specs.ScriptAnswers.{ScriptAnswer}
@@ -15,11 +16,10 @@ use Rattle.script_moments.specs.Moments.{Moment}
 use Rattle.script_exchanges.specs.declared.line.Drive.TheVariants.{Snapshots}
 use Rattle.script_exchanges.specs.declared.line.DriveLine.{DriveLine}
 use Rattle.script_exchanges.specs.declared.line.DriveLine.TheVariants.{Script, Start, Turn}
-use Rattle.script_exchanges.specs.DrivenParties.{Got, abandoned_by, got_by, held_back, is_refused, kept_with, party_text}
+use Rattle.script_exchanges.specs.DrivenParties.{Got, abandoned_by, got_by, held_back, if_kept, is_refused, kept_with, let_go, party_text}
 use Rattle.script_exchanges.specs.Exchanges.{AreLinesOf, Exchanges, Told, given}
 use Rattle.script_snapshots.specs.Takings.{Outcome, Taking, after_get, after_round, ended, get_text, gets_text, goes_on, is_alike, moment_of, next_handle, next_line, snapshot_text, stepped_get, taken, taken_on, whole}
-use Rattle.script_snapshots.specs.SnapshotExchanges.{IsExchange, IsLawful, Leads, OfScript, OfTurn, Takings, if_taking, kept_of, let_go, no_takings, said_of, started}
-use Rattle.script_snapshots.proofs.FedLemmas.{same_bytes}
+use Rattle.script_snapshots.specs.SnapshotExchanges.{IsExchange, IsLawful, Leads, OfScript, OfTurn, Takings, kept_of, no_takings, said_of, started}
 use Rattle.script_snapshots.proofs.TakingLaws.{IsKept, leads_kept, none_kept}
 use Rattle.script_written.specs.GivenLines.{AllIsClear, AreClear, IsClear}
 use Rattle.script_written.proofs.ClearLemmas.{AreFree, AreFreeLines, IsFreeLine, got_free, index_free, input_free, name_free, names_free, next_free, pair_clear, said_free, says_clear, text_clear}
@@ -121,7 +121,7 @@ turn_named s t party told (Some y) h e k =
     (λ x f. (n.party, outcome_named party y.handles (taken s.fed party y k.answer) x (taken_handles s.fed party y k.answer) n.handles f)))
 
 exchange_named : (s t : Takings) (l : DriveLine) (told : List Told) → Names s.of → IsExchange s l told t → Names t.of
-exchange_named s t (Script l) told h x = script_named s t l told (if_taking s (held_back l)) h x.exchanged
+exchange_named s t (Script l) told h x = script_named s t l told (if_kept s.of (held_back l)) h x.exchanged
 exchange_named s t (Start party handles) told h x = subst (λ (u : Takings). Names u.of) (sym x.exchanged.1) (start_named s party handles (s.of party) h (name_free party x.line.0) (names_free handles x.line.1.named))
 exchange_named s t (Turn party) told h x = turn_named s t party told (s.of party) h refl x.exchanged
 
@@ -137,7 +137,7 @@ answer_free : (s : Takings) (l : ScriptLine) (a : ScriptAnswer) → IsHeld s →
 answer_free s l a h line right = pair_clear s.fed l a h.kept.lawful line right
 
 -- the party for which a line is held back takes a snapshot
-held_named : (s : Takings) (o : Option (List ℕ)) (party : List ℕ) → Names s.of → if_taking s o ≡ Some party → IsFree 10 party
+held_named : (s : Takings) (o : Option (List ℕ)) (party : List ℕ) → Names s.of → if_kept s.of o ≡ Some party → IsFree 10 party
 held_named s None party h e = absurd cc
 held_named s (Some q) party h e = at (s.of q) refl e
   where
@@ -145,7 +145,7 @@ held_named s (Some q) party h e = at (s.of q) refl e
     at None k f = absurd cc
     at (Some x) k f = subst (IsFree 10) (some_is q party f) (h q x k).party
 
-script_clear : (s t : Takings) (l : ScriptLine) (told : List Told) (o : Option (List ℕ)) → IsHeld s → IsFree 10 (script_spell l) → if_taking s (held_back l) ≡ o → OfScript s l o told t → AreClear told
+script_clear : (s t : Takings) (l : ScriptLine) (told : List Told) (o : Option (List ℕ)) → IsHeld s → IsFree 10 (script_spell l) → if_kept s.of (held_back l) ≡ o → OfScript s l o told t → AreClear told
 script_clear s t l told None h line e k = subst AreClear (sym k.told_is) (answer_free s l k.answer h line k.right, tt)
 script_clear s t l told (Some party) h line e k = says_clear (codes "snapping") party told refl refl (held_named s (held_back l) party h.named e) k.0
 
@@ -165,7 +165,7 @@ turn_clear s t party told (Some x) h p e k =
     )
 
 exchange_clear : (s t : Takings) (l : DriveLine) (told : List Told) → IsHeld s → IsFreeLine l → IsExchange s l told t → AreClear told
-exchange_clear s t (Script l) told h line x = script_clear s t l told (if_taking s (held_back l)) h line refl x.exchanged
+exchange_clear s t (Script l) told h line x = script_clear s t l told (if_kept s.of (held_back l)) h line refl x.exchanged
 exchange_clear s t (Start party handles) told h line x = says_clear (codes "snapping") party told refl refl (name_free party x.line.0) x.exchanged.0
 exchange_clear s t (Turn party) told h line x = turn_clear s t party told (s.of party) h (name_free party x.line) refl x.exchanged
 

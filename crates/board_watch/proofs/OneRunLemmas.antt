@@ -17,13 +17,12 @@ use Rattle.script_moments.specs.Watchers.{AskedId}
 use Rattle.script_exchanges.specs.declared.line.Drive.TheVariants.{Watchers}
 use Rattle.script_exchanges.specs.declared.line.DriveLine.{DriveLine}
 use Rattle.script_exchanges.specs.declared.line.DriveLine.TheVariants.{Script, Start, Turn}
-use Rattle.script_exchanges.specs.DrivenParties.{abandoned_by, held_back, is_refused, kept_with, party_text}
+use Rattle.script_exchanges.specs.DrivenParties.{abandoned_by, held_back, if_kept, is_refused, kept_with, let_go, party_text}
 use Rattle.script_exchanges.specs.Exchanges.{Exchanges, SpellsAll, Told, given, said}
-use Rattle.script_snapshots.specs.SnapshotExchanges.{let_go}
 use Rattle.script_feed.proofs.DriveLines.{head_is, rest_is}
 use Rattle.script_written.proofs.OneLineLemmas.{one_drive_line}
 use Rattle.script_watches.specs.Watchings.{Watching, new_watching, next_line, taken}
-use Rattle.script_watches.specs.WatchExchanges.{AreToldIds, IsExchange, IsToldId, Leads, OfScript, OfStart, OfTurn, Watchings, fed_with, id_line, if_watched, kept_of, no_watchings, pairs_of_id, pairs_of_ids, said_of}
+use Rattle.script_watches.specs.WatchExchanges.{AreToldIds, IsExchange, IsToldId, Leads, OfScript, OfStart, OfTurn, Watchings, fed_with, id_line, kept_of, no_watchings, pairs_of_id, pairs_of_ids, said_of}
 use Rattle.board_watch.specs.LawsOfWatchRuns.{InputsHaveOneRun}
 
 -- ---- right pairs
@@ -167,7 +166,7 @@ one_turn s t u party told more (Some x) h k =
     both_given (λ (a : ScriptAnswer). given (next_line party x, a) ∷ said_of party (taken s.fed party x a)) (λ (a : ScriptAnswer). fed_with s ((next_line party x, a) ∷ []) (kept_with s.of party (kept_of (taken s.fed party x a)))) h.answer k.answer told more t u (one_answer (state_met s.fed) (next_line party x) h.answer k.answer h.right k.right) h.told_is h.after k.told_is k.after
 
 one_exchange : (s t u : Watchings) (l : DriveLine) (told more : List Told) → IsExchange s l told t → IsExchange s l more u → AreOne told more t u
-one_exchange s t u (Script l) told more h k = one_script s t u l told more (if_watched s (held_back l)) h.exchanged k.exchanged
+one_exchange s t u (Script l) told more h k = one_script s t u l told more (if_kept s.of (held_back l)) h.exchanged k.exchanged
 one_exchange s t u (Start party []) told more h k = absurd h.exchanged
 one_exchange s t u (Start party (listener ∷ handles)) told more h k = one_start s t u party listener handles told more (s.of party) h.exchanged k.exchanged
 one_exchange s t u (Turn party) told more h k = one_turn s t u party told more (s.of party) h.exchanged k.exchanged

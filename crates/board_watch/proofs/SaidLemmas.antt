@@ -6,14 +6,14 @@ use Rattle.std.specs.Str.{bytes_eq}
 use Rattle.std.proofs.lemmas.Grind.{flat_map-append}
 use Rattle.std.proofs.lemmas.List.{append-nil, map-append}
 use Rattle.std.proofs.lemmas.Slice.Eq.{bytes_eq-Decides}
+use Rattle.board_model.proofs.ListLemmas.{same_bytes}
 use Rattle.script_model.specs.declared.line.ScriptLine.{ScriptLine}
 use Rattle.script_exchanges.specs.declared.line.DriveLine.{DriveLine}
 use Rattle.script_exchanges.specs.declared.line.DriveLine.TheVariants.{Script, Start, Turn}
-use Rattle.script_exchanges.specs.DrivenParties.{abandoned_by, held_back, is_refused}
+use Rattle.script_exchanges.specs.DrivenParties.{abandoned_by, held_back, if_kept, is_refused}
 use Rattle.script_exchanges.specs.Exchanges.{Exchange, Exchanges, Told, fed_session}
-use Rattle.script_snapshots.proofs.FedLemmas.{same_bytes}
 use Rattle.script_watches.specs.Watchings.{Outcome, Report, Watching, ended, goes_on, new_watching, report_text, reports, taken}
-use Rattle.script_watches.specs.WatchExchanges.{IsExchange, Leads, OfScript, OfStart, OfTurn, Watchings, if_watched, kept_of, no_watchings, said_of}
+use Rattle.script_watches.specs.WatchExchanges.{IsExchange, Leads, OfScript, OfStart, OfTurn, Watchings, kept_of, no_watchings, said_of}
 use Rattle.script_watches.proofs.WatchLaws.{leads_fed, leads_more}
 use Rattle.board_watch.specs.LawsOfWatchRuns.{AreReportsWritten, ReportsAreWritten, said_at, said_by, said_in_turns}
 use Rattle.board_watch.proofs.OutcomeLemmas.{Becomes, IsNext, kept_so, let_go_so, some_is, stays, taken_next}
@@ -107,7 +107,7 @@ turn_written p s t party told (Some x) h e k =
     (λ y f. let i = outcome_said party x o y (taken_next s.fed party x k.answer) f in goes_past p party x y (Turn party, told) i.more (h party x e) i.becomes (own ∙ i.said)))
 
 exchange_written : (p : Exchanges) (s t : Watchings) (l : DriveLine) (told : List Told) → AreWritten p s.of → s.fed ≡ fed_session p → IsExchange s l told t → AreWritten (p ++ (l, told) ∷ []) t.of
-exchange_written p s t (Script l) told h fed x = script_written p s t l told (if_watched s (held_back l)) h x.exchanged
+exchange_written p s t (Script l) told h fed x = script_written p s t l told (if_kept s.of (held_back l)) h x.exchanged
 exchange_written p s t (Start party []) told h fed x = absurd x.exchanged
 exchange_written p s t (Start party (listener ∷ handles)) told h fed x = start_written p s t party listener handles told (s.of party) h fed x.exchanged
 exchange_written p s t (Turn party) told h fed x = turn_written p s t party told (s.of party) h refl x.exchanged

@@ -15,14 +15,14 @@ use Rattle.script_moments.specs.Watchers.{AskedId, OpenTurn, Waited, called, eac
 use Rattle.script_exchanges.specs.declared.line.Drive.TheVariants.{Watchers}
 use Rattle.script_exchanges.specs.declared.line.DriveLine.{DriveLine}
 use Rattle.script_exchanges.specs.declared.line.DriveLine.TheVariants.{Script, Start, Turn}
-use Rattle.script_exchanges.specs.DrivenParties.{abandoned_by, held_back, is_refused, kept_with, party_text}
+use Rattle.script_exchanges.specs.DrivenParties.{abandoned_by, held_back, if_kept, is_refused, kept_with, party_text}
 use Rattle.script_exchanges.specs.Exchanges.{AreLinesOf, Exchanges, Told, given, said}
 use Rattle.script_snapshots.proofs.FedLemmas.{fed_lawful}
 use Rattle.script_written.specs.GivenLines.{AllIsClear, AreClear, IsClear}
 use Rattle.script_written.proofs.ClearLemmas.{AreFree, AreFreeLines, IsFreeLine, got_free, index_free, input_free, name_free, names_free, next_free, pair_clear, said_free, says_clear, text_clear}
 use Rattle.script_written.proofs.GivenLemmas.{all_found, all_read}
 use Rattle.script_watches.specs.Watchings.{Outcome, Report, Watching, called_by, ended, goes_on, line_at, new_watching, next_handle, next_line, report_text, reports, taken}
-use Rattle.script_watches.specs.WatchExchanges.{AreToldIds, IsExchange, IsLawful, Leads, OfScript, OfStart, OfTurn, Watchings, id_line, if_watched, kept_of, no_watchings, pairs_of_id, pairs_of_ids, said_of}
+use Rattle.script_watches.specs.WatchExchanges.{AreToldIds, IsExchange, IsLawful, Leads, OfScript, OfStart, OfTurn, Watchings, id_line, kept_of, no_watchings, pairs_of_id, pairs_of_ids, said_of}
 use Rattle.script_watches.proofs.OpeningLemmas.{id_lawful, ids_lawful}
 use Rattle.script_watches.proofs.WatchLaws.{IsKept, leads_kept, none_kept}
 use Rattle.board_watch.specs.LawsOfWatchRuns.{FedSessionsAreWritten, OutputsAreReadBack}
@@ -106,7 +106,7 @@ turn_named s t party told (Some x) h e k =
     (kept_named s.of party (kept_of (taken s.fed party x k.answer)) h (λ y f. outcome_named party x (taken s.fed party x k.answer) y n (taken_next s.fed party x k.answer) f))
 
 exchange_named : (s t : Watchings) (l : DriveLine) (told : List Told) → Names s.of → IsExchange s l told t → Names t.of
-exchange_named s t (Script l) told h x = script_named s t l told (if_watched s (held_back l)) h x.exchanged
+exchange_named s t (Script l) told h x = script_named s t l told (if_kept s.of (held_back l)) h x.exchanged
 exchange_named s t (Start party []) told h x = absurd x.exchanged
 exchange_named s t (Start party (listener ∷ handles)) told h x =
     let things : AreFree (listener ∷ handles) = names_free (listener ∷ handles) x.line.1.named in
@@ -134,7 +134,7 @@ given_clear [] text h k = (k, tt)
 given_clear (p ∷ ps) text h k = (h.0, given_clear ps text h.1 k)
 
 -- the party for which a line is held back is watched
-held_named : (s : Watchings) (o : Option (List ℕ)) (party : List ℕ) → Names s.of → if_watched s o ≡ Some party → IsFree 10 party
+held_named : (s : Watchings) (o : Option (List ℕ)) (party : List ℕ) → Names s.of → if_kept s.of o ≡ Some party → IsFree 10 party
 held_named s None party h e = absurd cc
 held_named s (Some q) party h e = at (s.of q) refl e
   where
@@ -142,7 +142,7 @@ held_named s (Some q) party h e = at (s.of q) refl e
     at None k f = absurd cc
     at (Some x) k f = subst (IsFree 10) (some_is q party f) (h q x k).party
 
-script_clear : (s t : Watchings) (l : ScriptLine) (told : List Told) (o : Option (List ℕ)) → IsHeld s → IsFree 10 (script_spell l) → if_watched s (held_back l) ≡ o → OfScript s l o told t → AreClear told
+script_clear : (s t : Watchings) (l : ScriptLine) (told : List Told) (o : Option (List ℕ)) → IsHeld s → IsFree 10 (script_spell l) → if_kept s.of (held_back l) ≡ o → OfScript s l o told t → AreClear told
 script_clear s t l told None h line e k = subst AreClear (sym k.told_is) (pair_clear s.fed l k.answer h.kept.lawful line k.right, tt)
 script_clear s t l told (Some party) h line e k = says_clear (codes "watched") party told refl refl (held_named s (held_back l) party h.named e) k.0
 
@@ -210,7 +210,7 @@ turn_clear s t party told (Some x) h p e k =
     )
 
 exchange_clear : (s t : Watchings) (l : DriveLine) (told : List Told) → IsHeld s → IsFreeLine l → IsExchange s l told t → AreClear told
-exchange_clear s t (Script l) told h line x = script_clear s t l told (if_watched s (held_back l)) h line refl x.exchanged
+exchange_clear s t (Script l) told h line x = script_clear s t l told (if_kept s.of (held_back l)) h line refl x.exchanged
 exchange_clear s t (Start party []) told h line x = absurd x.exchanged
 exchange_clear s t (Start party (listener ∷ handles)) told h line x =
     let things : AreFree (listener ∷ handles) = names_free (listener ∷ handles) x.line.1.named in

@@ -1,5 +1,5 @@
 -- Driven parties: which lines are held back from the machine while a party is driven, how answers are looked at, and what is said.
-use Rattle.std.specs.Prelude.{ℕ, Bool, true, false, if◌then◌else◌, List, ◌∷◌, ◌++◌, Option, Some, None}
+use Rattle.std.specs.Prelude.{ℕ, Bool, true, false, if◌then◌else◌, List, ◌∷◌, ◌++◌, Option, Some, None, is_some}
 use Rattle.std.specs.Str.{bytes_eq}
 use Rattle.board_model.specs.declared.answer.Answer.TheVariants as answer
 use Rattle.board_model.specs.declared.answer.Reply.TheVariants as reply
@@ -49,6 +49,16 @@ got_by a = None
 -- this is kept of the party from now on, and of others what was
 abbrev pub kept_with : {A : Type 0} → (List ℕ → Option A) → List ℕ → Option A → List ℕ → Option A
 kept_with kept party x p = if bytes_eq p party then x else kept p
+
+-- the party, where something is kept of it
+abbrev pub if_kept : {A : Type 0} → (List ℕ → Option A) → Option (List ℕ) → Option (List ℕ)
+if_kept of None = None
+if_kept of (Some party) = if is_some (of party) then Some party else None
+
+-- an abandonment that isn't refused ends what is kept of its party
+abbrev pub let_go : {A : Type 0} → (List ℕ → Option A) → Option (List ℕ) → Bool → List ℕ → Option A
+let_go of None refused = of
+let_go of (Some party) refused = if refused then of else kept_with of party None
 
 -- ---- what is said
 

@@ -1,13 +1,12 @@
 -- The lines of scripts whose parties can be driven are read back from their bytes, and what is read is spelled so.
 use Rattle.std.proofs.Common.{◌≡◌, ℕ, ◌+◌, ◌<◌, ◌≤◌, Bool, true, false, List, [], ◌∷◌, length, eqb, refl, sym, ap, subst, ◌∙◌, arith, zero-add, Option, Some, None}
-use Rattle.std.specs.Prelude.{◌||◌, codes, IfNone, IfOk, IfSome, IsSome, OnErr, Result, Ok, Err}
+use Rattle.std.specs.Prelude.{◌||◌, codes, IfNone, IfSome, IsSome}
 use Rattle.std.specs.Str.{bytes_eq}
 use Rattle.std.specs.List.{AllByRecursion, join_with_byte, list_all}
 use Rattle.std.proofs.lemmas.Bool.{false≢true}
 use Rattle.std.proofs.lemmas.List.Splits.{join_with_byte-slice_split, length-slice_split}
 use Rattle.board_model.specs.LineGrammar.{is_name}
 use Rattle.board_model.specs.declared.line.Line.TheVariants as board_line
-use Rattle.std.proofs.lemmas.Slice.Eq.{bytes_eq-Decides}
 use Rattle.script_model.specs.declared.line.ScriptLine.{ScriptLine}
 use Rattle.script_model.specs.declared.line.ScriptLine.TheVariants as line
 use Rattle.script_model.specs.ScriptGrammar.{SpellsLine, script_tokens}
@@ -24,9 +23,6 @@ use Rattle.script_exchanges.specs.declared.line.DriveLine.TheVariants.{Script, S
 use Rattle.script_exchanges.specs.DriveGrammar.{AreThings, SpellsDrive, SpellsNoDrive, drive_tokens, start_word}
 use Rattle.script_feed.specs.DriveReading.{IsPlainLine, are_things, has_place_for, read_start, read_turn}
 use Rattle.script_feed.proofs.WordLemmas.{each_named, is_place, named_each, place_is}
-
-pub same_bytes : (a b : List ℕ) → bytes_eq a b ≡ true → a ≡ b
-same_bytes a b e = (bytes_eq-Decides a b).0 e
 
 -- ---- a turn
 
@@ -222,15 +218,3 @@ module _ (d : Drive) (bytes : List ℕ) (short : length bytes ≤ 4096) (word : 
       none (Script l) s = h l (record { line = s.line; bytes = s.bytes; short = s.short })
       none (Start party things) s = no_start (head_is word (start_word d) ts (party ∷ things) (sym words ∙ split_drive d bytes (Start party things) s))
       none (Turn party) s = no_turn (head_is word (codes "turn") ts (party ∷ []) (sym words ∙ split_drive d bytes (Turn party) s))
-
--- ---- results
-
--- what holds of a result that is Ok leads to more
-pub ok_so : {A E : Type 0} (r : Result A E) (Q P : A → Type 0) → ((x : A) → Q x → P x) → IfOk r Q → IfOk r P
-ok_so (Ok x) Q P f h = f x h
-ok_so (Err e) Q P f h = tt
-
--- what holds of one that isn't does
-pub err_so : {A E : Type 0} (r : Result A E) (Q P : Type 0) → (Q → P) → OnErr r Q → OnErr r P
-err_so (Ok x) Q P f h = tt
-err_so (Err e) Q P f h = f h

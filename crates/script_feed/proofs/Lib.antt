@@ -1,3 +1,5 @@
 pub mod AnswerLemmas
 pub mod DriveLines
+pub mod GivenLemmas
+pub mod KeptLemmas
 pub mod WordLemmas

@@ -1,9 +1,15 @@
 //! What is kept of parties.
 ghost use Rattle.std.specs.Prelude.{◌≡◌, List, ℕ, None, Some, OnErr, OnOk, if◌then◌else◌, option_copied};
 ghost use Rattle.std.specs.Str.{bytes_eq};
+ghost use Rattle.script_exchanges.specs.DrivenParties as driven;
+ghost use Rattle.script_feed.specs.AnswerLooks.{IsAnswerOf};
 ghost use Rattle.script_feed.specs.KeptOf.{kept_of};
+ghost use Rattle.script_model.specs.ScriptAnswers.{ScriptAnswer};
 
+use crate::answers::is_refusal;
+use crate::lines::{abandoned_by, held_back};
 use board_model::Name;
+use script_model::ScriptLine;
 use std::alloc::{AllocError, AllocFailed, Global};
 use std::collections::HashMap;
 
@@ -54,5 +60,32 @@ impl<T: Drop> Parties<T> {
             Ok(_) => Ok(()),
             Err(_) => Err(AllocError),
         }
+    }
+
+    /// The party for which the line is held back: the one that it names, where something is kept of it, unless it abandons it.
+    pub fn held_back(&self, line: &ScriptLine) -> Option<Name>
+        ensures { result ≡ driven.if_kept (kept_of self.now) (driven.held_back line.now) }
+    {
+        let party = held_back(line)?;
+        if self.of(&party).is_none() {
+            return None;
+        }
+        Some(party)
+    }
+
+    /// An abandonment that isn't refused ends what is kept of its party.
+    pub fn let_go(&mut self, line: &ScriptLine, answer: &[u8])
+        ensures { (a : ScriptAnswer) → IsAnswerOf answer.now a → (p : List ℕ)
+            → kept_of self.new p
+            ≡ driven.let_go (kept_of self.old) (driven.abandoned_by line.now)
+            (driven.is_refused a) p }
+    {
+        let Some(party) = abandoned_by(line) else {
+            return;
+        };
+        if is_refusal(answer) {
+            return;
+        }
+        let _ = self.take(&party);
     }
 }

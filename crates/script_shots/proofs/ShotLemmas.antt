@@ -1,6 +1,6 @@
 -- A snapshot that is kept follows the answers.
 use Rattle.std.proofs.Common.{◌≡◌, ℕ, zero, suc, ◌<◌, ◌≤◌, Bool, true, false, eqb, List, [], ◌∷◌, ◌++◌, length, get_or, arith, refl, sym, ap, subst, ◌∙◌, append_assoc, inl, inr, Option, Some, None}
-use Rattle.std.specs.Prelude.{◌&&◌, IfOk, OnOk, Result, Ok, Err, codes, if◌then◌else◌, is_some}
+use Rattle.std.specs.Prelude.{◌&&◌, codes, if◌then◌else◌, is_some}
 use Rattle.std.specs.Str.{bytes_eq}
 use Rattle.std.specs.List.{AllByRecursion}
 use Rattle.std.proofs.lemmas.Bool.{eqb-true, false≢true}
@@ -234,14 +234,3 @@ module _ (old new : Shot) (fed : Session) (party : List ℕ) (x : Taking) (a : S
       by : (get : Moment × List Moment) → FitsGet (Some get) a → IsProgress new p (stepped_get x get (moment_of fed party x a) (got_by a))
       by get (inl g) = absurd (some (going_bytes g))
       by get (inr g) = subst (λ (o : Option Got). IsProgress new p (stepped_get x get (moment_of fed party x a) o)) (sym (getting_some g)) (follows g.1 (has g.1 (ending_bytes g)) x get (moment_of fed party x a) k)
-
--- ---- results
-
--- what holds of a result that is Ok leads to more
-pub ok_so : {A E : Type 0} (r : Result A E) (Q P : A → Type 0) → ((x : A) → Q x → P x) → IfOk r Q → IfOk r P
-ok_so (Ok x) Q P f h = f x h
-ok_so (Err e) Q P f h = tt
-
-pub on_so : {A E : Type 0} (r : Result A E) (Q P : Type 0) → (Q → P) → OnOk r Q → OnOk r P
-on_so (Ok x) Q P f h = f h
-on_so (Err e) Q P f h = tt

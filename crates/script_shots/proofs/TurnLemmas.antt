@@ -1,18 +1,17 @@
 -- The answers that a machine of snapshots meets, and what is told of them.
-use Rattle.std.proofs.Common.{◌≡◌, ℕ, zero, suc, ◌<◌, ◌≤◌, Bool, true, false, eqb, List, [], ◌∷◌, ◌++◌, length, length-append, get_or, arith, refl, sym, ap, subst, inl, inr, Option, Some, None}
-use Rattle.std.specs.Prelude.{◌⊎◌, ◌&&◌, codes, nat_le, not}
-use Rattle.std.specs.List.{AllByRecursion, list_all}
-use Rattle.std.proofs.lemmas.Bool.{leb-true}
+use Rattle.std.proofs.Common.{◌≡◌, ℕ, ◌<◌, ◌≤◌, Bool, true, false, List, [], ◌∷◌, ◌++◌, length, length-append, arith, refl, sym, ap, subst, inl, inr, Option, Some, None}
+use Rattle.std.specs.Prelude.{◌⊎◌, codes}
 use Rattle.board_model.specs.declared.answer.Answer.TheVariants as answer
 use Rattle.board_model.specs.declared.answer.Reply.TheVariants as reply
-use Rattle.board_model.specs.LineGrammar.{is_name, is_name_byte}
+use Rattle.board_model.specs.LineGrammar.{is_name}
 use Rattle.script_model.specs.ScriptAnswers.{IsScriptAnswer, ScriptAnswer, of_boards}
 use Rattle.script_model.specs.ScriptGrammar.{IsScriptLine, SpellsLine, script_spell}
 use Rattle.script_model.specs.ScriptSession.{IsRight, Session}
 use Rattle.script_model.specs.LawsOfComposition.{Pair, state_met}
-use Rattle.script_grammar.proofs.ReaderLemmas.{both}
 use Rattle.script_moments.specs.Moments.{Moment}
 use Rattle.script_moments.specs.LawsOfTurns.{StepsOn}
+use Rattle.script_feed.specs.KeptOf.{KeepsIfAny}
+use Rattle.script_feed.proofs.GivenLemmas.{named_at, short_name}
 use Rattle.script_exchanges.specs.DrivenParties.{Got, is_refused, party_text}
 use Rattle.script_exchanges.specs.Exchanges.{said}
 use Rattle.script_snapshots.specs.Takings.{Outcome, Taking, ended, goes_on, moment_of, next_handle, next_line, next_of, snapshot_text, whole}
@@ -20,7 +19,6 @@ use Rattle.script_snapshots.specs.SnapshotExchanges.{kept_of, said_of}
 use Rattle.script_snapshots.proofs.TakingLemmas.{FitsTaking, IsSound, fits}
 use Rattle.script_shots.specs.declared.shot.Progress.TheVariants.{GoesOn, Refused, Whole}
 use Rattle.script_shots.specs.declared.shot.Shot.{Shot}
-use Rattle.script_shots.specs.Machines.{KeepsIfAny}
 use Rattle.script_shots.specs.Shots.{Fits, FitsGet, IsGetting, IsGoingOn, IsProgress, Keeps, SaysWhole}
 
 -- ---- a right answer fits
@@ -47,11 +45,6 @@ right_fits fed party x a h right = at (is_refused a) refl
 
 -- ---- the next line is one of the grammar
 
-named_at : (hs : List (List ℕ)) (n : ℕ) → AllByRecursion (λ h. is_name h ≡ true) hs → n < length hs → is_name (get_or hs n []) ≡ true
-named_at [] n h lt = absurd (omega arith)
-named_at (x ∷ xs) zero h lt = h.0
-named_at (x ∷ xs) (suc n) h lt = named_at xs n h.1 (omega arith)
-
 next_is_line : (party handle : List ℕ) (o : Option (Moment × List Moment)) → is_name party ≡ true → is_name handle ≡ true → IsScriptLine (next_of party handle o)
 next_is_line party handle None p h = (p, (h, tt))
 next_is_line party handle (Some get) p h = p
@@ -59,9 +52,6 @@ next_is_line party handle (Some get) p h = p
 next_is_short : (party handle : List ℕ) (o : Option (Moment × List Moment)) → length party ≤ 16 → length handle ≤ 16 → length (script_spell (next_of party handle o)) ≤ 4096
 next_is_short party handle None p h = omega (arith, length-append (codes "begin") (32 ∷ (party ++ 32 ∷ (codes "get" ++ 32 ∷ handle))), length-append party (32 ∷ (codes "get" ++ 32 ∷ handle)), length-append (codes "get") (32 ∷ handle))
 next_is_short party handle (Some get) p h = omega (arith, length-append (codes "step") (32 ∷ party))
-
-short_name : (n : List ℕ) → is_name n ≡ true → length n ≤ 16
-short_name n h = leb-true (length n) 16 (both (not (eqb (length n) 0)) (nat_le (length n) 16) (both (not (eqb (length n) 0) && nat_le (length n) 16) (list_all is_name_byte n) h).0).1
 
 pub next_spelled : (c : Shot) (party : List ℕ) (x : Taking) (line : List ℕ) → Keeps c x → length x.shot.gets < length x.handles → is_name party ≡ true → line ≡ script_spell (next_line party x) → SpellsLine line (next_line party x)
 next_spelled c party x line k room named e =
@@ -74,7 +64,7 @@ next_spelled c party x line k room named e =
 
 -- ---- what became of a snapshot
 
-pub goes_kept : (c : Shot) (o : Outcome) → IsProgress c GoesOn o → KeepsIfAny (Some c) (kept_of o)
+pub goes_kept : (c : Shot) (o : Outcome) → IsProgress c GoesOn o → KeepsIfAny Keeps (Some c) (kept_of o)
 goes_kept c (goes_on y) h = h
 goes_kept c ended h = absurd h
 goes_kept c (whole y) h = absurd h

@@ -1,32 +1,18 @@
 -- What a machine of snapshots stands for.
-use Rattle.std.specs.Prelude.{◌≡◌, ℕ, ◌<◌, ◌^◌, if◌then◌else◌, List, length, Option, Some, None, is_some, ⊤}
+use Rattle.std.specs.Prelude.{◌≡◌, ℕ, ◌<◌, ◌^◌, List, length}
 use Rattle.script_model.specs.ScriptTurns.{ScriptState}
 use Rattle.script_model.specs.LawsOfComposition.{state_met}
-use Rattle.script_feed.specs.KeptOf.{kept_of}
+use Rattle.script_feed.specs.KeptOf.{KeepsIfAny, kept_of}
 use Rattle.script_exchanges.specs.declared.line.DriveLine.{DriveLine}
 use Rattle.script_exchanges.specs.Exchanges.{Exchanges, Told, text_of}
-use Rattle.script_snapshots.specs.Takings.{Taking}
 use Rattle.script_snapshots.specs.SnapshotExchanges.{IsExchange, Leads, Takings, no_takings}
 use Rattle.script_shots.specs.declared.machine.SnapshotMachine.{SnapshotMachine}
-use Rattle.script_shots.specs.declared.shot.Shot.{Shot}
 use Rattle.script_shots.specs.Shots.{Keeps}
-
--- a party's snapshot is kept, if it takes one
-abbrev pub KeepsIfAny : Option Shot → Option Taking → Type 0
-KeepsIfAny None None = ⊤
-KeepsIfAny (Some c) None = ⊥
-KeepsIfAny None (Some x) = ⊥
-KeepsIfAny (Some c) (Some x) = Keeps c x
-
--- the party, where something is kept of it
-abbrev pub if_kept : {A : Type 0} → (List ℕ → Option A) → Option (List ℕ) → Option (List ℕ)
-if_kept of None = None
-if_kept of (Some party) = if is_some (of party) then Some party else None
 
 -- the machine of scripts stands for the fed session, and each snapshot is kept
 pub record Represents {M : Type 0} (stands : M → ℕ → ScriptState → Type 0) (m : SnapshotMachine M) (s : Takings) : Type 0 where
   pub machine : stands m.machine (length s.fed) (state_met s.fed)
-  pub shots : (party : List ℕ) → KeepsIfAny (kept_of m.shots party) (s.of party)
+  pub shots : (party : List ℕ) → KeepsIfAny Keeps (kept_of m.shots party) (s.of party)
 
 -- the exchanges led there, and are few
 pub record IsLed (xs : Exchanges) (s : Takings) : Type 0 where

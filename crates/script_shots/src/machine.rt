@@ -1,22 +1,17 @@
 //! The machine of snapshots: a line in, and what is told of it out.
-ghost use Rattle.std.specs.Prelude.{◌≡◌, ℕ, List, [], OnOk};
-ghost use Rattle.script_exchanges.specs.DrivenParties as driven;
-ghost use Rattle.script_feed.specs.AnswerLooks.{IsAnswerOf};
-ghost use Rattle.script_feed.specs.KeptOf.{kept_of};
-ghost use Rattle.script_model.specs.ScriptAnswers.{ScriptAnswer};
-ghost use Rattle.script_snapshots.specs.SnapshotExchanges.{let_go};
+ghost use Rattle.std.specs.Prelude.{◌≡◌, [], OnOk};
 ghost use Rattle.script_exchanges.specs.declared.line.DriveLine.TheVariants as drive_line;
 ghost use Rattle.script_exchanges.specs.declared.line.Drive.TheVariants.{Snapshots};
 ghost use Rattle.script_exchanges.specs.DriveGrammar.{IsDriveLine, SpellsDrive};
 ghost use Rattle.script_model.specs.ScriptGrammar.{SpellsLine};
 ghost use Rattle.script_model.specs.ScriptSession.{start};
-ghost use Rattle.script_shots.specs.Machines.{IsAtWork, StandsAfter, Tells, if_kept};
+ghost use Rattle.script_shots.specs.Machines.{IsAtWork, StandsAfter, Tells};
 
 use crate::shot::{Progress, Shot};
 use board_model::{Name, Names};
 use script_drive::Drives;
 use script_exchanges::{Drive, DriveLine};
-use script_feed::{Parties, abandoned_by, give, held_back, is_refusal, parse_drive, say};
+use script_feed::{Parties, give, parse_drive, say};
 use script_loop::{LineError, RunsLines};
 use script_model::ScriptLine;
 use std::alloc::{AllocError, Global};
@@ -31,32 +26,6 @@ pub struct SnapshotMachine<M> {
     /// The line that is given, and the answer to it.
     line: Vec<u8>,
     answer: Vec<u8>,
-}
-
-// The party for which the line is held back: the one that it names, where that takes a snapshot and isn't abandoned.
-fn party_held(line: &ScriptLine, shots: &Parties<Shot>) -> Option<Name>
-    ensures { result ≡ if_kept (kept_of shots.now) (driven.held_back line.now) }
-{
-    let party = held_back(line)?;
-    if shots.of(&party).is_none() {
-        return None;
-    }
-    Some(party)
-}
-
-// An abandonment that isn't refused ends the snapshot of its party.
-fn let_go(line: &ScriptLine, answer: &[u8], shots: &mut Parties<Shot>)
-    ensures { (a : ScriptAnswer) → IsAnswerOf answer.now a → (p : List ℕ)
-        → kept_of shots.new p
-        ≡ let_go (kept_of shots.old) (driven.abandoned_by line.now) (driven.is_refused a) p }
-{
-    let Some(party) = abandoned_by(line) else {
-        return;
-    };
-    if is_refusal(answer) {
-        return;
-    }
-    let _ = shots.take(&party);
 }
 
 impl<M: RunsLines + Drop> SnapshotMachine<M> {
@@ -87,11 +56,11 @@ impl<M: RunsLines + Drop> SnapshotMachine<M> {
         ensures { OnOk result (Tells M.stands self.old self.new (drive_line.Script parsed)
             told.new.items) }
     {
-        if let Some(party) = party_held(&parsed, &self.shots) {
+        if let Some(party) = self.shots.held_back(&parsed) {
             return say(b"snapping", &party, told);
         }
         give(&mut self.machine, line, &mut self.answer, told)?;
-        let_go(&parsed, &self.answer, &mut self.shots);
+        self.shots.let_go(&parsed, &self.answer);
         Ok(())
     }
 

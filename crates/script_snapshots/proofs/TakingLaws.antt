@@ -4,6 +4,7 @@ use Rattle.std.specs.Prelude.{if◌then◌else◌, is_some}
 use Rattle.std.specs.Str.{bytes_eq}
 use Rattle.std.proofs.lemmas.List.{append-nil, length-append}
 use Rattle.board_model.specs.declared.line.Line.TheVariants as board_line
+use Rattle.board_model.proofs.ListLemmas.{same_bytes}
 use Rattle.script_model.specs.declared.line.ScriptLine.{ScriptLine}
 use Rattle.script_model.specs.declared.line.ScriptLine.TheVariants as line
 use Rattle.script_model.specs.ScriptAnswers.{ScriptAnswer}
@@ -16,12 +17,12 @@ use Rattle.script_moments.proofs.CountLemmas.{alone_two, are_short}
 use Rattle.script_moments.proofs.RoundLemmas.{of_one_moment}
 use Rattle.script_exchanges.specs.declared.line.DriveLine.{DriveLine}
 use Rattle.script_exchanges.specs.declared.line.DriveLine.TheVariants.{Script, Start, Turn}
-use Rattle.script_exchanges.specs.DrivenParties.{abandoned_by, held_back, is_refused, kept_with}
+use Rattle.script_exchanges.specs.DrivenParties.{abandoned_by, held_back, if_kept, is_refused, kept_with, let_go}
 use Rattle.script_exchanges.specs.Exchanges.{Exchanges, Told, fed_by, fed_session, given, said}
 use Rattle.script_snapshots.specs.Takings.{Outcome, Taking, ended, goes_on, new_taking, next_line, next_of, next_handle, taken, whole}
 use Rattle.script_snapshots.specs.LawsOfTakings.{FedSessionsAreLawful, IsShortTaking, TakingsAreShort, WrittenSnapshotsAreOfOneMoment}
-use Rattle.script_snapshots.specs.SnapshotExchanges.{IsExchange, Leads, OfScript, OfTurn, Takings, fed_with, if_taking, kept_of, let_go, no_takings, said_of, started}
-use Rattle.script_snapshots.proofs.FedLemmas.{fed_lawful, same_bytes}
+use Rattle.script_snapshots.specs.SnapshotExchanges.{IsExchange, Leads, OfScript, OfTurn, Takings, fed_with, kept_of, no_takings, said_of, started}
+use Rattle.script_snapshots.proofs.FedLemmas.{fed_lawful}
 use Rattle.script_snapshots.proofs.TakingLemmas.{IsBegunIf, IsOutcome, IsSound, IsWholeNow, new_sound, next_pair, others_sound, outcome, refused_sound}
 
 -- what holds after exchanges
@@ -40,7 +41,7 @@ here_or_there of party y p x P e here there = at (bytes_eq p party) refl e
 
 -- ---- lines of a plain script
 
-not_taking : (s : Takings) (q : List ℕ) (p : List ℕ) (x : Taking) → if_taking s (Some q) ≡ None → s.of p ≡ Some x → (b : Bool) → bytes_eq p q ≡ b → b ≡ false
+not_taking : (s : Takings) (q : List ℕ) (p : List ℕ) (x : Taking) → if_kept s.of (Some q) ≡ None → s.of p ≡ Some x → (b : Bool) → bytes_eq p q ≡ b → b ≡ false
 not_taking s q p x none e false k = refl
 not_taking s q p x none e true k =
     let same : p ≡ q = same_bytes p q k in
@@ -71,7 +72,7 @@ abandon_so s q a false h right accepts = record {
       (λ apart k. others_sound s.fed p x (line.Board (board_line.Abandon q), a) h.lawful right apart (h.sound p x k));
 }
 
-given_so : (s : Takings) (l : ScriptLine) (a : ScriptAnswer) → IsKept s → if_taking s (held_back l) ≡ None → IsRight (state_met s.fed) l a → IsKept (fed_with s l a (let_go s.of (abandoned_by l) (is_refused a)))
+given_so : (s : Takings) (l : ScriptLine) (a : ScriptAnswer) → IsKept s → if_kept s.of (held_back l) ≡ None → IsRight (state_met s.fed) l a → IsKept (fed_with s l a (let_go s.of (abandoned_by l) (is_refused a)))
 given_so s (line.Board (board_line.Begin q c)) a h none right = others_so s _ a h right (λ p x e. not_taking s q p x none e (bytes_eq p q) refl)
 given_so s (line.Board (board_line.Step q)) a h none right = others_so s _ a h right (λ p x e. not_taking s q p x none e (bytes_eq p q) refl)
 given_so s (line.Board (board_line.Release q n)) a h none right = others_so s _ a h right (λ p x e. not_taking s q p x none e (bytes_eq p q) refl)
@@ -80,7 +81,7 @@ given_so s (line.Board (board_line.Words b)) a h none right = others_so s _ a h 
 given_so s (line.Event q r) a h none right = others_so s _ a h right (λ p x e. not_taking s q p x none e (bytes_eq p q) refl)
 given_so s (line.Expire q) a h none right = others_so s _ a h right (λ p x e. not_taking s q p x none e (bytes_eq p q) refl)
 
-script_kept : (s t : Takings) (l : ScriptLine) (told : List Told) (o : Option (List ℕ)) → IsKept s → if_taking s (held_back l) ≡ o → OfScript s l o told t → IsKept t
+script_kept : (s t : Takings) (l : ScriptLine) (told : List Told) (o : Option (List ℕ)) → IsKept s → if_kept s.of (held_back l) ≡ o → OfScript s l o told t → IsKept t
 script_kept s t l told None h e k = subst IsKept (sym k.after) (given_so s l k.answer h e k.right)
 script_kept s t l told (Some party) h e k = subst IsKept (sym k.1) h
 
@@ -125,7 +126,7 @@ turn_kept s t party told (Some y) h e k = subst IsKept (sym k.after) (turn_so s 
 -- ---- exchanges
 
 exchange_kept : (s t : Takings) (l : DriveLine) (told : List Told) → IsKept s → IsExchange s l told t → IsKept t
-exchange_kept s t (Script l) told h x = script_kept s t l told (if_taking s (held_back l)) h refl x.exchanged
+exchange_kept s t (Script l) told h x = script_kept s t l told (if_kept s.of (held_back l)) h refl x.exchanged
 exchange_kept s t (Start party handles) told h x = subst IsKept (sym x.exchanged.1) (start_kept s party handles (s.of party) h (omega (arith, x.line.1.least)))
 exchange_kept s t (Turn party) told h x = turn_kept s t party told (s.of party) h refl x.exchanged
 
@@ -168,7 +169,7 @@ turn_fed s t party told (Some x) k =
     one_given s t (next_line party x) k.answer (kept_with s.of party (kept_of (taken s.fed party x k.answer))) told (said_of party (taken s.fed party x k.answer)) k.told_is (nothing_said party (taken s.fed party x k.answer)) k.after
 
 exchange_fed : (s t : Takings) (l : DriveLine) (told : List Told) → IsExchange s l told t → fed_more s.fed told t.fed
-exchange_fed s t (Script l) told x = script_fed s t l told (if_taking s (held_back l)) x.exchanged
+exchange_fed s t (Script l) told x = script_fed s t l told (if_kept s.of (held_back l)) x.exchanged
 exchange_fed s t (Start party handles) told x = none_given s t _ told x.exchanged.0 (ap (λ (y : Takings). y.fed) x.exchanged.1 ∙ started_fed s party handles (s.of party))
 exchange_fed s t (Turn party) told x = turn_fed s t party told (s.of party) x.exchanged
 
@@ -231,7 +232,7 @@ turn_few s t party told None k = none_few _ told k.0
 turn_few s t party told (Some x) k = given_few (next_line party x) k.answer told (said_of party (taken s.fed party x k.answer)) k.told_is (nothing_said party (taken s.fed party x k.answer))
 
 exchange_few : (s t : Takings) (l : DriveLine) (told : List Told) → IsExchange s l told t → length (fed_by told) ≤ 1
-exchange_few s t (Script l) told x = script_few s t l told (if_taking s (held_back l)) x.exchanged
+exchange_few s t (Script l) told x = script_few s t l told (if_kept s.of (held_back l)) x.exchanged
 exchange_few s t (Start party handles) told x = none_few _ told x.exchanged.0
 exchange_few s t (Turn party) told x = turn_few s t party told (s.of party) x.exchanged
 

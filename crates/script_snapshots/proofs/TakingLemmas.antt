@@ -11,6 +11,7 @@ use Rattle.board_model.specs.declared.line.Call.TheVariants as call
 use Rattle.board_model.specs.declared.line.Line.TheVariants as board_line
 use Rattle.board_model.specs.declared.value.ValueType.{ValueType}
 use Rattle.board_model.proofs.ThingLemmas.{same_to_itself}
+use Rattle.board_model.proofs.ListLemmas.{same_bytes}
 use Rattle.script_model.specs.declared.line.ScriptLine.{ScriptLine}
 use Rattle.script_model.specs.declared.line.ScriptLine.TheVariants as line
 use Rattle.script_model.specs.ScriptAnswers.{ScriptAnswer, of_boards}
@@ -28,7 +29,7 @@ use Rattle.script_exchanges.specs.DrivenParties.{Got, got_by, is_refused}
 use Rattle.script_moments.specs.LawsOfTurns.{StepsOn}
 use Rattle.script_snapshots.specs.Takings.{Outcome, Taking, after_round, ended, goes_on, is_alike, moment_of, new_taking, next_handle, next_line, next_of, shot_so, stepped_get, taken, taken_on, whole}
 use Rattle.script_snapshots.proofs.AliveLemmas.{IsAlive, IsThere, abandon_accepted, begin_alive, others_leave_alive, step_alive}
-use Rattle.script_snapshots.proofs.FedLemmas.{met_more, same_bytes}
+use Rattle.script_snapshots.proofs.FedLemmas.{met_more}
 
 -- ---- what holds of a snapshot that a party takes
 

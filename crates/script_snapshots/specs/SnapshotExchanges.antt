@@ -1,5 +1,5 @@
 -- Scripts whose parties can take snapshots: what is told of each line, and what stands afterwards.
-use Rattle.std.specs.Prelude.{◌≡◌, ℕ, Bool, if◌then◌else◌, List, [], ◌∷◌, ◌++◌, codes, Option, Some, None, is_some}
+use Rattle.std.specs.Prelude.{◌≡◌, ℕ, List, [], ◌∷◌, ◌++◌, codes, Option, Some, None}
 use Rattle.script_model.specs.declared.line.ScriptLine.{ScriptLine}
 use Rattle.script_model.specs.ScriptAnswers.{ScriptAnswer}
 use Rattle.script_model.specs.ScriptSession.{IsRight, Session}
@@ -8,7 +8,7 @@ use Rattle.script_exchanges.specs.declared.line.Drive.TheVariants.{Snapshots}
 use Rattle.script_exchanges.specs.declared.line.DriveLine.{DriveLine}
 use Rattle.script_exchanges.specs.declared.line.DriveLine.TheVariants.{Script, Start, Turn}
 use Rattle.script_exchanges.specs.DriveGrammar.{IsDriveLine}
-use Rattle.script_exchanges.specs.DrivenParties.{abandoned_by, held_back, is_refused, kept_with, party_text}
+use Rattle.script_exchanges.specs.DrivenParties.{abandoned_by, held_back, if_kept, is_refused, kept_with, let_go, party_text}
 use Rattle.script_exchanges.specs.Exchanges.{Exchanges, Told, given, said}
 use Rattle.script_snapshots.specs.Takings.{Outcome, Taking, ended, goes_on, new_taking, next_line, snapshot_text, taken, whole}
 
@@ -31,22 +31,12 @@ fed_with s l a of = record { fed = s.fed ++ (l, a) ∷ []; of = of }
 
 -- ---- lines of a plain script
 
--- an abandonment that isn't refused ends the snapshot of its party
-abbrev pub let_go : {A : Type 0} → (List ℕ → Option A) → Option (List ℕ) → Bool → List ℕ → Option A
-let_go of None refused = of
-let_go of (Some party) refused = if refused then of else kept_with of party None
-
--- the line is given, and its answer is right
+-- the line is given, and its answer is right; an abandonment that isn't refused ends the snapshot of its party
 pub record IsGiven (s : Takings) (l : ScriptLine) (told : List Told) (t : Takings) : Type 0 where
   pub answer : ScriptAnswer
   pub right : IsRight (state_met s.fed) l answer
   pub told_is : told ≡ given (l, answer) ∷ []
   pub after : t ≡ fed_with s l answer (let_go s.of (abandoned_by l) (is_refused answer))
-
--- the party, where it takes a snapshot
-abbrev pub if_taking : Takings → Option (List ℕ) → Option (List ℕ)
-if_taking s None = None
-if_taking s (Some party) = if is_some (s.of party) then Some party else None
 
 -- the line is held back where the party that it names takes a snapshot
 abbrev pub OfScript : Takings → ScriptLine → Option (List ℕ) → List Told → Takings → Type 0
@@ -89,7 +79,7 @@ OfTurn s party (Some x) told t = IsTurn s party x told t
 
 -- what is rightly told of a line, and what stands afterwards
 abbrev pub Exchanged : Takings → DriveLine → List Told → Takings → Type 0
-Exchanged s (Script l) told t = OfScript s l (if_taking s (held_back l)) told t
+Exchanged s (Script l) told t = OfScript s l (if_kept s.of (held_back l)) told t
 Exchanged s (Start party handles) told t = says told (codes "snapping") party × (t ≡ started s party handles (s.of party))
 Exchanged s (Turn party) told t = OfTurn s party (s.of party) told t
 

@@ -27,7 +27,8 @@ use Rattle.script_watchers.specs.declared.calls.Asked.{Asked}
 use Rattle.script_watchers.specs.Calls.{rows_of}
 use Rattle.script_watchers.specs.Opening.{AreAsked, AreDown, HasPlace, IsAsked, IsDown, StandsAt}
 use Rattle.script_watchers.specs.ToldIds.{told_id}
-use Rattle.script_watchers.proofs.GivenLemmas.{HasGiven, step_line}
+use Rattle.script_feed.proofs.GivenLemmas.{HasGiven}
+use Rattle.script_watchers.proofs.AskingLines.{step_line}
 use Rattle.script_watchers.proofs.ToldIdLemmas.{id_again}
 
 -- ---- texts

@@ -6,8 +6,8 @@ use Rattle.std.specs.Str.{bytes_eq}
 use Rattle.std.proofs.lemmas.Bool.{false≢true}
 use Rattle.std.proofs.lemmas.List.{append-nil}
 use Rattle.board_model.proofs.ThingLemmas.{same_to_itself}
+use Rattle.board_model.proofs.ListLemmas.{same_bytes}
 use Rattle.script_moments.specs.Watchers.{AskedId, called, calls, each_once}
-use Rattle.script_snapshots.proofs.FedLemmas.{same_bytes}
 use Rattle.script_watchers.specs.Calls.{collected, is_told, rows_of}
 
 -- the name is among these

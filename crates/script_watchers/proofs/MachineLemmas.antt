@@ -7,6 +7,7 @@ use Rattle.std.specs.Str.{bytes_eq}
 use Rattle.std.proofs.lemmas.List.{append-nil, take_rest}
 use Rattle.std.proofs.lemmas.List.Concat.{flat_map-append}
 use Rattle.board_model.specs.LineGrammar.{is_name}
+use Rattle.board_model.proofs.ListLemmas.{same_bytes}
 use Rattle.script_model.specs.declared.line.ScriptLine.{ScriptLine}
 use Rattle.script_model.specs.ScriptAnswers.{ScriptAnswer}
 use Rattle.script_model.specs.ScriptGrammar.{SpellsLine, script_spell}
@@ -18,86 +19,28 @@ use Rattle.script_loop.specs.Machines.{HasAnswered, StandsFor}
 use Rattle.script_feed.specs.AnswerLooks.{IsAnswerOf}
 use Rattle.script_feed.specs.Given.{given_text}
 use Rattle.script_feed.specs.KeptOf as map
+use Rattle.script_feed.specs.KeptOf.{KeepsIfAny}
+use Rattle.script_feed.proofs.GivenLemmas.{HasGiven, has_given}
+use Rattle.script_feed.proofs.KeptLemmas.{kept_alike, kept_as, keeps_none, keeps_with, let_go_keeps, none_keeps, not_kept}
 use Rattle.script_exchanges.specs.declared.line.Drive.TheVariants.{Watchers}
 use Rattle.script_exchanges.specs.declared.line.DriveLine.{DriveLine}
 use Rattle.script_exchanges.specs.declared.line.DriveLine.TheVariants.{Script, Start, Turn}
 use Rattle.script_exchanges.specs.DriveGrammar.{IsDriveLine, SpellsDrive}
-use Rattle.script_exchanges.specs.DrivenParties.{abandoned_by, held_back, is_refused, kept_with, party_text}
+use Rattle.script_exchanges.specs.DrivenParties.{abandoned_by, held_back, if_kept, is_refused, kept_with, let_go, party_text}
 use Rattle.script_exchanges.specs.Exchanges.{Exchanges, Told, given, said, text_of, told_text}
 use Rattle.script_drive.specs.Drivers.{HasTold}
-use Rattle.script_snapshots.specs.SnapshotExchanges.{let_go}
-use Rattle.script_snapshots.proofs.FedLemmas.{same_bytes}
 use Rattle.script_watches.specs.Watchings.{Outcome, Report, Watching, ended, goes_on, new_watching, next_line, report_text, reports, taken}
-use Rattle.script_watches.specs.WatchExchanges.{IsExchange, IsLawful, Leads, OfScript, OfStart, OfTurn, Watchings, fed_with, id_line, if_watched, kept_of, no_watchings, pairs_of_ids, said_of}
+use Rattle.script_watches.specs.WatchExchanges.{IsExchange, IsLawful, Leads, OfScript, OfStart, OfTurn, Watchings, fed_with, id_line, kept_of, no_watchings, pairs_of_ids, said_of}
 use Rattle.script_watches.proofs.WatchLaws.{IsKept, leads_few, leads_kept, leads_more, none_kept}
 use Rattle.script_watchers.specs.declared.machine.WatcherMachine.{WatcherMachine}
 use Rattle.script_watchers.specs.declared.watch.Progress.{Progress}
 use Rattle.script_watchers.specs.declared.watch.Progress.TheVariants.{GoesOn, Refused, Reports}
 use Rattle.script_watchers.specs.declared.watch.Watch.{Watch}
-use Rattle.script_watchers.specs.Machines.{IsTelling, KeepsIfAny, Represents, StandsAfter, StandsNow, if_kept}
+use Rattle.script_watchers.specs.Machines.{IsTelling, Represents, StandsAfter, StandsNow}
 use Rattle.script_watchers.specs.Opening.{AreAsked, AreDown, HasPlace, StandsAt}
 use Rattle.script_watchers.specs.Calls.{rows_of}
 use Rattle.script_watchers.specs.Watches.{Follows, HasNext, IsProgress, Keeps, SaysReport}
-use Rattle.script_watchers.proofs.GivenLemmas.{HasGiven, has_given}
 use Rattle.script_watchers.proofs.TurnLemmas.{next_spelled, right_fits, room_of}
-
--- ---- what is kept, if anything
-
-pub none_keeps : (o : Option Watch) → o ≡ None → KeepsIfAny o None
-none_keeps None e = tt
-none_keeps (Some c) e = absurd cc
-
-keeps_none : (x : Option Watching) → x ≡ None → KeepsIfAny None x
-keeps_none None e = tt
-keeps_none (Some x) e = absurd cc
-
--- taken out, and kept again
-pub put_back : (f g h : List ℕ → Option Watch) (party : List ℕ) (c : Watch) → ((p : List ℕ) → g p ≡ kept_with f party None p) → ((p : List ℕ) → h p ≡ kept_with g party (Some c) p) → (p : List ℕ) → h p ≡ kept_with f party (Some c) p
-put_back f g h party c taken kept p = kept p ∙ at (bytes_eq p party) refl
-  where
-    at : (b : Bool) → bytes_eq p party ≡ b → (if b then Some c else g p) ≡ (if b then Some c else f p)
-    at true e = refl
-    at false e = taken p ∙ ap (λ (b : Bool). if b then None else f p) e
-
--- a party is watched exactly where a watcher is kept
-pub not_kept : (o : Option Watch) (x : Option Watching) → KeepsIfAny o x → o ≡ None → x ≡ None
-not_kept None None k e = refl
-not_kept None (Some x) k e = absurd k
-not_kept (Some c) x k e = absurd cc
-
-pub record IsKeptAs (c : Watch) (o : Option Watching) : Type 0 where
-  pub watching : Watching
-  pub is : o ≡ Some watching
-  pub keeps : Keeps c watching
-
-pub kept_as : (o : Option Watch) (x : Option Watching) (c : Watch) → KeepsIfAny o x → o ≡ Some c → IsKeptAs c x
-kept_as None x c k e = absurd cc
-kept_as (Some d) None c k e = absurd k
-kept_as (Some d) (Some x) c k e = record { watching = x; is = refl; keeps = let same : d ≡ c = cc in subst (λ (b : Watch). Keeps b x) same k }
-
--- a line is held back exactly where its party is watched
-kept_some : (o : Option Watch) (x : Option Watching) → KeepsIfAny o x → is_some o ≡ is_some x
-kept_some None None k = refl
-kept_some None (Some x) k = absurd k
-kept_some (Some c) None k = absurd k
-kept_some (Some c) (Some x) k = refl
-
-kept_watched : (of : List ℕ → Option Watch) (s : Watchings) → ((p : List ℕ) → KeepsIfAny (of p) (s.of p)) → (o : Option (List ℕ)) → if_kept of o ≡ if_watched s o
-kept_watched of s k None = refl
-kept_watched of s k (Some party) = ap (λ (b : Bool). if b then Some party else None) (kept_some (of party) (s.of party) (k party))
-
--- of one party and of others
-keeps_with : (of : List ℕ → Option Watch) (xs : List ℕ → Option Watching) (party : List ℕ) (o : Option Watch) (x : Option Watching) (now : List ℕ → Option Watch) → ((p : List ℕ) → KeepsIfAny (of p) (xs p)) → KeepsIfAny o x → ((p : List ℕ) → now p ≡ kept_with of party o p) → (p : List ℕ) → KeepsIfAny (now p) (kept_with xs party x p)
-keeps_with of xs party o x now k here e p = subst (λ (s : Option Watch). KeepsIfAny s (kept_with xs party x p)) (sym (e p)) (at (bytes_eq p party))
-  where
-    at : (b : Bool) → KeepsIfAny (if b then o else of p) (if b then x else xs p)
-    at true = here
-    at false = k p
-
-let_go_keeps : (of : List ℕ → Option Watch) (xs : List ℕ → Option Watching) (o : Option (List ℕ)) (refused : Bool) → ((p : List ℕ) → KeepsIfAny (of p) (xs p)) → (p : List ℕ) → KeepsIfAny (let_go of o refused p) (let_go xs o refused p)
-let_go_keeps of xs None refused k p = k p
-let_go_keeps of xs (Some party) true k p = k p
-let_go_keeps of xs (Some party) false k p = keeps_with of xs party None None (kept_with of party None) k tt (λ q. refl) p
 
 -- ---- what is told
 
@@ -111,7 +54,7 @@ module _ {M : Type 0} (stands : M → ℕ → ScriptState → Type 0) where
   new_stands m ok none = record {
     state = no_watchings;
     leads = refl;
-    represents = record { machine = ok; watches = λ p. none_keeps (map.kept_of m.watches p) (none p) };
+    represents = record { machine = ok; watches = λ p. none_keeps Keeps (map.kept_of m.watches p) (none p) };
   }
 
   pub is_kept : (m : WatcherMachine M) (xs : Exchanges) (s : Watchings) → StandsNow stands m xs s → IsKept s
@@ -134,11 +77,11 @@ module _ {M : Type 0} (stands : M → ℕ → ScriptState → Type 0) where
   -- a line that is held back
   pub held_so : (m : WatcherMachine M) (xs : Exchanges) (s : Watchings) (l : ScriptLine) (line party out : List ℕ) → StandsNow stands m xs s → SpellsLine line l → Some party ≡ if_kept (map.kept_of m.watches) (held_back l) → out ≡ told_text (said (party_text (codes "watched") party)) → IsTelling stands m s (Script l) out
   held_so m xs s l line party out h spelled held e =
-      let there : Some party ≡ if_watched s (held_back l) = held ∙ kept_watched (map.kept_of m.watches) s h.represents.watches (held_back l) in
+      let there : Some party ≡ if_kept s.of (held_back l) = held ∙ kept_alike Keeps (map.kept_of m.watches) s.of h.represents.watches (held_back l) in
       says_so m s s (Script l) (party_text (codes "watched") party) out (record { line = spelled.line; exchanged = subst (λ (o : Option (List ℕ)). OfScript s l o (said (party_text (codes "watched") party) ∷ []) s) there (refl, refl) }) h.represents e
 
   -- a line that is given
-  pub given_so : (old new : WatcherMachine M) (xs : Exchanges) (s : Watchings) (l : ScriptLine) (line text out : List ℕ) → StandsNow stands old xs s → SpellsLine line l → if_watched s (held_back l) ≡ None → HasAnswered stands new.machine s.fed line text
+  pub given_so : (old new : WatcherMachine M) (xs : Exchanges) (s : Watchings) (l : ScriptLine) (line text out : List ℕ) → StandsNow stands old xs s → SpellsLine line l → if_kept s.of (held_back l) ≡ None → HasAnswered stands new.machine s.fed line text
       → ((a : ScriptAnswer) → IsAnswerOf text a → (p : List ℕ) → map.kept_of new.watches p ≡ let_go (map.kept_of old.watches) (abandoned_by l) (is_refused a) p) → out ≡ given_text line text → IsTelling stands new s (Script l) out
   given_so old new xs s l line text out h spelled none answered watches e =
       let g = has_given stands new.machine s.fed l line text spelled answered in
@@ -149,14 +92,14 @@ module _ {M : Type 0} (stands : M → ℕ → ScriptState → Type 0) where
         exchange = record { line = spelled.line; exchanged = subst (λ (o : Option (List ℕ)). OfScript s l o (given (l, g.answer) ∷ []) (fed_with s ((l, g.answer) ∷ []) of)) (sym none) (record { answer = g.answer; right = g.right; told_is = refl; after = refl }) };
         represents = record {
           machine = g.machine;
-          watches = λ p. subst (λ (k : Option Watch). KeepsIfAny k (of p)) (sym (watches g.answer g.text_is p)) (let_go_keeps (map.kept_of old.watches) s.of (abandoned_by l) (is_refused g.answer) h.represents.watches p);
+          watches = λ p. subst (λ (k : Option Watch). KeepsIfAny Keeps k (of p)) (sym (watches g.answer g.text_is p)) (let_go_keeps Keeps (map.kept_of old.watches) s.of (abandoned_by l) (is_refused g.answer) h.represents.watches p);
         };
         text_is = e ∙ g.told ∙ sym (append-nil (told_text (given (l, g.answer))));
       }
 
   -- no line is held back where nothing is kept
-  pub free_so : (m : WatcherMachine M) (xs : Exchanges) (s : Watchings) (l : ScriptLine) → StandsNow stands m xs s → None ≡ if_kept (map.kept_of m.watches) (held_back l) → if_watched s (held_back l) ≡ None
-  free_so m xs s l h held = sym (held ∙ kept_watched (map.kept_of m.watches) s h.represents.watches (held_back l))
+  pub free_so : (m : WatcherMachine M) (xs : Exchanges) (s : Watchings) (l : ScriptLine) → StandsNow stands m xs s → None ≡ if_kept (map.kept_of m.watches) (held_back l) → if_kept s.of (held_back l) ≡ None
+  free_so m xs s l h held = sym (held ∙ kept_alike Keeps (map.kept_of m.watches) s.of h.represents.watches (held_back l))
 
   -- ---- a watcher begins
 
@@ -168,7 +111,7 @@ module _ {M : Type 0} (stands : M → ℕ → ScriptState → Type 0) where
   -- the party is watched already
   pub still_so : (m : WatcherMachine M) (xs : Exchanges) (s : Watchings) (party listener : List ℕ) (handles things : List (List ℕ)) (c : Watch) (out : List ℕ) → StandsNow stands m xs s → IsDriveLine Watchers (Start party things) → things ≡ listener ∷ handles → map.kept_of m.watches party ≡ Some c → out ≡ told_text (said (party_text (codes "watched") party)) → IsTelling stands m s (Start party things) out
   still_so m xs s party listener handles things c out h line parts kept e =
-      let k = kept_as (map.kept_of m.watches party) (s.of party) c (h.represents.watches party) kept in
+      let k = kept_as Keeps (map.kept_of m.watches party) (s.of party) c (h.represents.watches party) kept in
       let start : OfStart s party listener handles (s.of party) (said (party_text (codes "watched") party) ∷ []) s = subst (λ (o : Option Watching). OfStart s party listener handles o (said (party_text (codes "watched") party) ∷ []) s) (sym k.is) (refl, refl) in
       says_so m s s (Start party things) (party_text (codes "watched") party) out (start_exchange s s party listener handles things (said (party_text (codes "watched") party) ∷ []) line parts start) h.represents e
 
@@ -177,7 +120,7 @@ module _ {M : Type 0} (stands : M → ℕ → ScriptState → Type 0) where
       → AreAsked stands m s.fed party handles c.rows.items before → ((asked : List AskedId) → c.rows.items ≡ rows_of handles asked → Keeps c (new_watching listener handles s.fed asked)) → new.machine ≡ m
       → ((p : List ℕ) → map.kept_of new.watches p ≡ kept_with (map.kept_of old.watches) party (Some c) p) → out ≡ before ++ told_text (said (party_text (codes "watching") party)) → IsTelling stands new s (Start party things) out
   opens_so old new m xs s party listener handles things c before out h line parts kept k keeps same watches e =
-      let none : s.of party ≡ None = not_kept (map.kept_of old.watches party) (s.of party) (h.represents.watches party) kept in
+      let none : s.of party ≡ None = not_kept Keeps (map.kept_of old.watches party) (s.of party) (h.represents.watches party) kept in
       let text : List ℕ = party_text (codes "watching") party in
       let told : List Told = map given (pairs_of_ids k.asked) ++ said text ∷ [] in
       let x : Watching = new_watching listener handles s.fed k.asked in
@@ -189,7 +132,7 @@ module _ {M : Type 0} (stands : M → ℕ → ScriptState → Type 0) where
         exchange = start_exchange s t party listener handles things told line parts (subst (λ (o : Option Watching). OfStart s party listener handles o told t) (sym none) opened);
         represents = record {
           machine = subst (λ (n : M). StandsAt stands n (s.fed ++ pairs_of_ids k.asked)) (sym same) k.machine;
-          watches = keeps_with (map.kept_of old.watches) s.of party (Some c) (Some x) (map.kept_of new.watches) h.represents.watches (keeps k.asked k.rows_are) watches;
+          watches = keeps_with Keeps (map.kept_of old.watches) s.of party (Some c) (Some x) (map.kept_of new.watches) h.represents.watches (keeps k.asked k.rows_are) watches;
         };
         text_is = e ∙ ap (λ (b : List ℕ). b ++ told_text (said text)) k.text_is ∙ sym (text_and (pairs_of_ids k.asked) text);
       }
@@ -198,7 +141,7 @@ module _ {M : Type 0} (stands : M → ℕ → ScriptState → Type 0) where
   pub turned_down_so : (old new : WatcherMachine M) (m : M) (xs : Exchanges) (s : Watchings) (party listener : List ℕ) (handles things : List (List ℕ)) (before out : List ℕ) → StandsNow stands old xs s → IsDriveLine Watchers (Start party things) → things ≡ listener ∷ handles → map.kept_of old.watches party ≡ None
       → AreDown stands m s.fed party handles before → new.machine ≡ m → new.watches ≡ old.watches → out ≡ before ++ told_text (said (party_text (codes "unwatched") party)) → IsTelling stands new s (Start party things) out
   turned_down_so old new m xs s party listener handles things before out h line parts kept k same watches e =
-      let none : s.of party ≡ None = not_kept (map.kept_of old.watches party) (s.of party) (h.represents.watches party) kept in
+      let none : s.of party ≡ None = not_kept Keeps (map.kept_of old.watches party) (s.of party) (h.represents.watches party) kept in
       let text : List ℕ = party_text (codes "unwatched") party in
       let pairs : Session = pairs_of_ids k.asked ++ (id_line party k.handle, k.answer) ∷ [] in
       let told : List Told = map given pairs ++ said text ∷ [] in
@@ -210,7 +153,7 @@ module _ {M : Type 0} (stands : M → ℕ → ScriptState → Type 0) where
         exchange = start_exchange s t party listener handles things told line parts (subst (λ (o : Option Watching). OfStart s party listener handles o told t) (sym none) down);
         represents = record {
           machine = subst (λ (n : M). StandsAt stands n (s.fed ++ pairs)) (sym same) k.machine;
-          watches = λ p. subst (λ w. KeepsIfAny (map.kept_of w p) (s.of p)) (sym watches) (h.represents.watches p);
+          watches = λ p. subst (λ w. KeepsIfAny Keeps (map.kept_of w p) (s.of p)) (sym watches) (h.represents.watches p);
         };
         text_is = e ∙ ap (λ (b : List ℕ). b ++ told_text (said text)) k.text_is ∙ sym (text_and pairs text);
       }
@@ -219,7 +162,7 @@ module _ {M : Type 0} (stands : M → ℕ → ScriptState → Type 0) where
 
   pub unwatched_so : (old new : WatcherMachine M) (xs : Exchanges) (s : Watchings) (party out : List ℕ) → StandsNow stands old xs s → IsDriveLine Watchers (Turn party) → map.kept_of old.watches party ≡ None → new.machine ≡ old.machine → ((p : List ℕ) → map.kept_of new.watches p ≡ kept_with (map.kept_of old.watches) party None p) → out ≡ told_text (said (party_text (codes "unwatched") party)) → IsTelling stands new s (Turn party) out
   unwatched_so old new xs s party out h line kept same watches e =
-      let none : s.of party ≡ None = not_kept (map.kept_of old.watches party) (s.of party) (h.represents.watches party) kept in
+      let none : s.of party ≡ None = not_kept Keeps (map.kept_of old.watches party) (s.of party) (h.represents.watches party) kept in
       says_so new s s (Turn party) (party_text (codes "unwatched") party) out
       (record { line = line; exchanged = subst (λ (o : Option Watching). OfTurn s party o (said (party_text (codes "unwatched") party) ∷ []) s) (sym none) (refl, refl) })
       (record {
@@ -227,13 +170,13 @@ module _ {M : Type 0} (stands : M → ℕ → ScriptState → Type 0) where
         watches = λ p. at p (bytes_eq p party) refl none;
       }) e
     where
-      at : (p : List ℕ) (b : Bool) → bytes_eq p party ≡ b → s.of party ≡ None → KeepsIfAny (map.kept_of new.watches p) (s.of p)
-      at p true same none = subst (λ (o : Option Watch). KeepsIfAny o (s.of p)) (sym (watches p ∙ ap (λ (b : Bool). if b then None else map.kept_of old.watches p) same)) (subst (KeepsIfAny None) (sym (ap s.of (same_bytes p party same) ∙ none)) tt)
-      at p false same none = subst (λ (o : Option Watch). KeepsIfAny o (s.of p)) (sym (watches p ∙ ap (λ (b : Bool). if b then None else map.kept_of old.watches p) same)) (h.represents.watches p)
+      at : (p : List ℕ) (b : Bool) → bytes_eq p party ≡ b → s.of party ≡ None → KeepsIfAny Keeps (map.kept_of new.watches p) (s.of p)
+      at p true same none = subst (λ (o : Option Watch). KeepsIfAny Keeps o (s.of p)) (sym (watches p ∙ ap (λ (b : Bool). if b then None else map.kept_of old.watches p) same)) (subst (KeepsIfAny Keeps None) (sym (ap s.of (same_bytes p party same) ∙ none)) tt)
+      at p false same none = subst (λ (o : Option Watch). KeepsIfAny Keeps o (s.of p)) (sym (watches p ∙ ap (λ (b : Bool). if b then None else map.kept_of old.watches p) same)) (h.represents.watches p)
 
   -- the answer was given, and the watcher became so
   turn_so : (old new : WatcherMachine M) (xs : Exchanges) (s : Watchings) (party : List ℕ) (x : Watching) (line text rest out : List ℕ) (kept : Option Watch) (tail : List Told) → StandsNow stands old xs s → IsDriveLine Watchers (Turn party) → s.of party ≡ Some x → (g : HasGiven stands new.machine s.fed (next_line party x) line text)
-      → KeepsIfAny kept (kept_of (taken s.fed party x g.answer)) → said_of party (taken s.fed party x g.answer) ≡ tail → text_of tail ≡ rest
+      → KeepsIfAny Keeps kept (kept_of (taken s.fed party x g.answer)) → said_of party (taken s.fed party x g.answer) ≡ tail → text_of tail ≡ rest
       → ((p : List ℕ) → map.kept_of new.watches p ≡ kept_with (map.kept_of old.watches) party kept p) → out ≡ given_text line text ++ rest → IsTelling stands new s (Turn party) out
   turn_so old new xs s party x line text rest out kept tail h is takes g keeps tells texts watches e =
       let l : ScriptLine = next_line party x in
@@ -246,7 +189,7 @@ module _ {M : Type 0} (stands : M → ℕ → ScriptState → Type 0) where
         exchange = record { line = is; exchanged = subst (λ (k : Option Watching). OfTurn s party k told t) (sym takes) (record { answer = g.answer; right = g.right; told_is = refl; after = refl }) };
         represents = record {
           machine = g.machine;
-          watches = keeps_with (map.kept_of old.watches) s.of party kept (kept_of o) (map.kept_of new.watches) h.represents.watches keeps watches;
+          watches = keeps_with Keeps (map.kept_of old.watches) s.of party kept (kept_of o) (map.kept_of new.watches) h.represents.watches keeps watches;
         };
         text_is = e ∙ ap (λ (b : List ℕ). b ++ rest) g.told ∙ ap (λ (b : List ℕ). told_text (given (l, g.answer)) ++ b) (sym texts ∙ ap text_of (sym tells));
       }
@@ -256,15 +199,15 @@ module _ {M : Type 0} (stands : M → ℕ → ScriptState → Type 0) where
   -- the watcher that is kept has a handle left, where it gets
   pub room_at : (m : WatcherMachine M) (xs : Exchanges) (s : Watchings) (party : List ℕ) (c : Watch) → StandsNow stands m xs s → Some c ≡ map.kept_of m.watches party → HasNext c
   room_at m xs s party c h e =
-      let k = kept_as (map.kept_of m.watches party) (s.of party) c (h.represents.watches party) (sym e) in
-      room_of c k.watching k.keeps ((is_kept m xs s h).sound party k.watching k.is).room
+      let k = kept_as Keeps (map.kept_of m.watches party) (s.of party) c (h.represents.watches party) (sym e) in
+      room_of c k.doing k.keeps ((is_kept m xs s h).sound party k.doing k.is).room
 
   -- and its next line is one of the grammar
   pub spelled_at : (m : WatcherMachine M) (xs : Exchanges) (s : Watchings) (party : List ℕ) (c : Watch) (line : List ℕ) → StandsNow stands m xs s → Some c ≡ map.kept_of m.watches party → is_name party ≡ true → ((x : Watching) → Keeps c x → line ≡ script_spell (next_line party x)) → (l : ScriptLine) × SpellsLine line l
   spelled_at m xs s party c line h e named is =
-      let k = kept_as (map.kept_of m.watches party) (s.of party) c (h.represents.watches party) (sym e) in
-      let sound = (is_kept m xs s h).sound party k.watching k.is in
-      (next_line party k.watching, next_spelled c party k.watching line k.keeps sound.room named (is k.watching k.keeps))
+      let k = kept_as Keeps (map.kept_of m.watches party) (s.of party) c (h.represents.watches party) (sym e) in
+      let sound = (is_kept m xs s h).sound party k.doing k.is in
+      (next_line party k.doing, next_spelled c party k.doing line k.keeps sound.room named (is k.doing k.keeps))
 
   -- what was answered to it, and what became of the watcher
   pub record IsTurned (m : M) (s : Watchings) (party : List ℕ) (new : Watch) (p : Progress) (line text : List ℕ) : Type 0 where
@@ -275,12 +218,12 @@ module _ {M : Type 0} (stands : M → ℕ → ScriptState → Type 0) where
 
   pub turned : (old : WatcherMachine M) (m : M) (xs : Exchanges) (s : Watchings) (party : List ℕ) (c new : Watch) (p : Progress) (line bytes text : List ℕ) → StandsNow stands old xs s → Some c ≡ map.kept_of old.watches party → is_name party ≡ true → ((x : Watching) → Keeps c x → line ≡ script_spell (next_line party x)) → HasAnswered stands m s.fed line text → bytes ≡ text → Follows c new bytes p → IsTurned m s party new p line text
   turned old m xs s party c new p line bytes text h e named is answered same follows =
-      let k = kept_as (map.kept_of old.watches party) (s.of party) c (h.represents.watches party) (sym e) in
-      let sound = (is_kept old xs s h).sound party k.watching k.is in
-      let g = has_given stands m s.fed (next_line party k.watching) line text (next_spelled c party k.watching line k.keeps sound.room named (is k.watching k.keeps)) answered in
-      record { watching = k.watching; takes = k.is; answered = g; progress = follows s.fed party k.watching g.answer k.keeps (right_fits s.fed party k.watching g.answer sound g.right) (same ∙ g.text_is) }
+      let k = kept_as Keeps (map.kept_of old.watches party) (s.of party) c (h.represents.watches party) (sym e) in
+      let sound = (is_kept old xs s h).sound party k.doing k.is in
+      let g = has_given stands m s.fed (next_line party k.doing) line text (next_spelled c party k.doing line k.keeps sound.room named (is k.doing k.keeps)) answered in
+      record { watching = k.doing; takes = k.is; answered = g; progress = follows s.fed party k.doing g.answer k.keeps (right_fits s.fed party k.doing g.answer sound g.right) (same ∙ g.text_is) }
 
-  goes_kept : (c : Watch) (o : Outcome) → IsProgress c GoesOn o → KeepsIfAny (Some c) (kept_of o)
+  goes_kept : (c : Watch) (o : Outcome) → IsProgress c GoesOn o → KeepsIfAny Keeps (Some c) (kept_of o)
   goes_kept c (goes_on y) h = h
   goes_kept c (reports y r) h = absurd h
   goes_kept c ended h = absurd h
@@ -300,7 +243,7 @@ module _ {M : Type 0} (stands : M → ℕ → ScriptState → Type 0) where
   refused_said c party (reports y r) h = absurd h
   refused_said c party ended h = refl
 
-  reports_kept : (c : Watch) (o : Outcome) → IsProgress c Reports o → KeepsIfAny (Some c) (kept_of o)
+  reports_kept : (c : Watch) (o : Outcome) → IsProgress c Reports o → KeepsIfAny Keeps (Some c) (kept_of o)
   reports_kept c (goes_on y) h = absurd h
   reports_kept c (reports y r) h = h.0
   reports_kept c ended h = absurd h
@@ -334,7 +277,7 @@ module _ {M : Type 0} (stands : M → ℕ → ScriptState → Type 0) where
   refused_so old new xs s party c line text out h is t watches e =
       let o : Outcome = taken s.fed party t.watching t.answered.answer in
       let told : Told = said (party_text (codes "unwatched") party) in
-      turn_so old new xs s party t.watching line text (told_text told) out None (told ∷ []) h is t.takes t.answered (keeps_none (kept_of o) (refused_kept c o t.progress)) (refused_said c party o t.progress) (append-nil (told_text told)) watches e
+      turn_so old new xs s party t.watching line text (told_text told) out None (told ∷ []) h is t.takes t.answered (keeps_none Keeps (kept_of o) (refused_kept c o t.progress)) (refused_said c party o t.progress) (append-nil (told_text told)) watches e
 
   -- ---- exchanges
 

@@ -17,6 +17,7 @@ use Rattle.board_model.specs.declared.answer.Answer.TheVariants as answer
 use Rattle.board_model.specs.declared.answer.Reply.TheVariants as board_reply
 use Rattle.board_model.specs.AnswerGrammar.{number_text}
 use Rattle.board_model.specs.LineGrammar.{IsNumber}
+use Rattle.board_model.proofs.ListLemmas.{same_bytes}
 use Rattle.script_model.specs.declared.reply.EventReply.{EventReply}
 use Rattle.script_model.specs.declared.reply.EventReply.TheVariants as reply
 use Rattle.script_model.specs.ScriptAnswers.{IsAnswerTo, IsFormedAccess, IsScriptAnswer, event_access_text, event_reply_text, event_text, of_boards, of_event, script_answer_text}
@@ -25,7 +26,6 @@ use Rattle.script_model.specs.LawsOfEvents.{TellsIds}
 use Rattle.script_grammar.specs.TokenReading.{◌>>=◌, read_number, split_tokens}
 use Rattle.script_grammar.proofs.NumeralLemmas.{number_again}
 use Rattle.script_grammar.proofs.SplitLemmas.{IsFree, free_append, free_event_name, free_lacks, free_number}
-use Rattle.script_snapshots.proofs.FedLemmas.{same_bytes}
 use Rattle.script_watches.specs.Watchings.{ids_by}
 use Rattle.script_watchers.specs.ToldIds.{behind_equals, ids_in, id_in, numbers_in, reply_words, told_id, told_ids}
 

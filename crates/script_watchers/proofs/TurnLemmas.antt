@@ -1,5 +1,5 @@
 -- The answers that a watcher meets, and the lines that it is given.
-use Rattle.std.proofs.Common.{◌≡◌, ℕ, zero, suc, ◌<◌, ◌≤◌, Bool, true, false, List, [], ◌∷◌, ◌++◌, length, length-append, get_or, arith, eqb, refl, sym, ap, subst, ◌∙◌, inl, inr, Some, None}
+use Rattle.std.proofs.Common.{◌≡◌, ℕ, ◌≤◌, Bool, true, false, List, [], ◌∷◌, ◌++◌, length, length-append, arith, eqb, refl, sym, ap, subst, ◌∙◌, inl, inr, Some, None}
 use Rattle.std.specs.Prelude.{◌⊎◌, codes, filter, if◌then◌else◌, not}
 use Rattle.std.specs.List.{AllByRecursion, list_any}
 use Rattle.std.specs.Str.{bytes_eq}
@@ -25,7 +25,7 @@ use Rattle.script_watchers.specs.declared.watch.Phase.{Phase}
 use Rattle.script_watchers.specs.declared.watch.Watch.{Watch}
 use Rattle.script_watchers.specs.ToldIds.{told_ids}
 use Rattle.script_watchers.specs.Watches.{Fits, FitsGet, FitsRest, HasNext, HasNextAt, IsPhase, Keeps}
-use Rattle.script_watchers.proofs.GivenLemmas.{short_name}
+use Rattle.script_feed.proofs.GivenLemmas.{named_at, short_name}
 use Rattle.script_watchers.proofs.ToldIdLemmas.{wait_goes, wait_told}
 
 -- ---- a handle that is called for is left
@@ -43,11 +43,6 @@ room_of c x k room = room_in c x x.watcher.rest k.phase room
 
 abbrev AreNamed : List (List ℕ) → Type 0
 AreNamed hs = AllByRecursion (λ h. is_name h ≡ true) hs
-
-named_at : (hs : List (List ℕ)) (n : ℕ) → AreNamed hs → n < length hs → is_name (get_or hs n []) ≡ true
-named_at [] n h lt = absurd (omega arith)
-named_at (x ∷ xs) zero h lt = h.0
-named_at (x ∷ xs) (suc n) h lt = named_at xs n h.1 (omega arith)
 
 named_called : (hs : List (List ℕ)) (xs : List AskedId) (ids : List ℕ) → AreNamed hs → AreNamed (called hs xs ids)
 named_called [] xs ids h = tt

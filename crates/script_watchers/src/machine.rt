@@ -1,23 +1,18 @@
 //! The machine of watchers: a line in, and what is told of it out.
-ghost use Rattle.std.specs.Prelude.{◌≡◌, ℕ, List, [], OnOk};
-ghost use Rattle.script_exchanges.specs.DrivenParties as driven;
-ghost use Rattle.script_feed.specs.AnswerLooks.{IsAnswerOf};
-ghost use Rattle.script_feed.specs.KeptOf.{kept_of};
-ghost use Rattle.script_model.specs.ScriptAnswers.{ScriptAnswer};
-ghost use Rattle.script_snapshots.specs.SnapshotExchanges.{let_go};
+ghost use Rattle.std.specs.Prelude.{◌≡◌, [], OnOk};
 ghost use Rattle.script_exchanges.specs.declared.line.DriveLine.TheVariants as drive_line;
 ghost use Rattle.script_exchanges.specs.declared.line.Drive.TheVariants.{Watchers};
 ghost use Rattle.script_exchanges.specs.DriveGrammar.{IsDriveLine, SpellsDrive};
 ghost use Rattle.script_model.specs.ScriptGrammar.{SpellsLine};
 ghost use Rattle.script_model.specs.ScriptSession.{start};
-ghost use Rattle.script_watchers.specs.Machines.{IsAtWork, StandsAfter, Tells, if_kept};
+ghost use Rattle.script_watchers.specs.Machines.{IsAtWork, StandsAfter, Tells};
 
 use crate::opening::ask_ids;
 use crate::watch::{Progress, Watch};
 use board_model::{Name, Names};
 use script_drive::Drives;
 use script_exchanges::{Drive, DriveLine};
-use script_feed::{Parties, abandoned_by, give, held_back, is_refusal, parse_drive, say};
+use script_feed::{Parties, give, parse_drive, say};
 use script_loop::{LineError, RunsLines};
 use script_model::ScriptLine;
 use std::alloc::{AllocError, Global};
@@ -32,32 +27,6 @@ pub struct WatcherMachine<M> {
     /// The line that is given, and the answer to it.
     line: Vec<u8>,
     answer: Vec<u8>,
-}
-
-// The party for which the line is held back: the one that it names, where that is watched and isn't abandoned.
-fn party_held(line: &ScriptLine, watches: &Parties<Watch>) -> Option<Name>
-    ensures { result ≡ if_kept (kept_of watches.now) (driven.held_back line.now) }
-{
-    let party = held_back(line)?;
-    if watches.of(&party).is_none() {
-        return None;
-    }
-    Some(party)
-}
-
-// An abandonment that isn't refused ends the watcher of its party.
-fn let_go(line: &ScriptLine, answer: &[u8], watches: &mut Parties<Watch>)
-    ensures { (a : ScriptAnswer) → IsAnswerOf answer.now a → (p : List ℕ)
-        → kept_of watches.new p
-        ≡ let_go (kept_of watches.old) (driven.abandoned_by line.now) (driven.is_refused a) p }
-{
-    let Some(party) = abandoned_by(line) else {
-        return;
-    };
-    if is_refusal(answer) {
-        return;
-    }
-    let _ = watches.take(&party);
 }
 
 impl<M: RunsLines + Drop> WatcherMachine<M> {
@@ -88,11 +57,11 @@ impl<M: RunsLines + Drop> WatcherMachine<M> {
         ensures { OnOk result (Tells M.stands self.old self.new (drive_line.Script parsed)
             told.new.items) }
     {
-        if let Some(party) = party_held(&parsed, &self.watches) {
+        if let Some(party) = self.watches.held_back(&parsed) {
             return say(b"watched", &party, told);
         }
         give(&mut self.machine, line, &mut self.answer, told)?;
-        let_go(&parsed, &self.answer, &mut self.watches);
+        self.watches.let_go(&parsed, &self.answer);
         Ok(())
     }
 

@@ -5,13 +5,13 @@ use Rattle.std.specs.List.{flat_map}
 use Rattle.std.specs.Str.{bytes_eq}
 use Rattle.std.proofs.lemmas.List.{append-nil, map-append}
 use Rattle.std.proofs.lemmas.List.Concat.{flat_map-append}
+use Rattle.board_model.proofs.ListLemmas.{same_bytes}
 use Rattle.script_moments.specs.Moments.{Moment}
 use Rattle.script_moments.specs.Gets.{Get, Round}
 use Rattle.script_moments.specs.Reports.{last_report, reports, reports_above}
 use Rattle.script_moments.specs.Watchers.{OpenTurn, Turn, Waited, getting, gets_in_turn, gets_of, gets_of_handle, reports_of, turn_begun}
 use Rattle.script_moments.specs.WatcherLines.{watcher_at}
 use Rattle.script_exchanges.specs.DrivenParties.{Got}
-use Rattle.script_snapshots.proofs.FedLemmas.{same_bytes}
 use Rattle.script_watches.specs.Watchings.{Report, Watching, after_gets, called_by, highest_of, last_generation, next_handle, reports_through, turn_ended, turn_so}
 use Rattle.script_watches.specs.LawsOfWatches.{got_of}
 

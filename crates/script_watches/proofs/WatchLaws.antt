@@ -6,6 +6,7 @@ use Rattle.std.specs.Str.{bytes_eq}
 use Rattle.std.proofs.Math.Seq.{drop-append_seam}
 use Rattle.std.proofs.lemmas.List.{append-nil, length-append}
 use Rattle.board_model.specs.declared.line.Line.TheVariants as board_line
+use Rattle.board_model.proofs.ListLemmas.{same_bytes}
 use Rattle.script_model.specs.declared.line.ScriptLine.{ScriptLine}
 use Rattle.script_model.specs.declared.line.ScriptLine.TheVariants as line
 use Rattle.script_model.specs.ScriptAnswers.{ScriptAnswer}
@@ -21,13 +22,12 @@ use Rattle.script_moments.proofs.KeptEntryLemmas.{entries_kept}
 use Rattle.script_moments.proofs.WatchLemmas.{all_reports, fresh, report_items}
 use Rattle.script_exchanges.specs.declared.line.DriveLine.{DriveLine}
 use Rattle.script_exchanges.specs.declared.line.DriveLine.TheVariants.{Script, Start, Turn}
-use Rattle.script_exchanges.specs.DrivenParties.{Got, abandoned_by, held_back, is_refused, kept_with, party_text}
+use Rattle.script_exchanges.specs.DrivenParties.{Got, abandoned_by, held_back, if_kept, is_refused, kept_with, let_go, party_text}
 use Rattle.script_exchanges.specs.Exchanges.{Exchanges, Told, fed_by, fed_session, given, said}
-use Rattle.script_snapshots.specs.SnapshotExchanges.{let_go}
-use Rattle.script_snapshots.proofs.FedLemmas.{fed_lawful, same_bytes}
+use Rattle.script_snapshots.proofs.FedLemmas.{fed_lawful}
 use Rattle.script_watches.specs.Watchings.{Outcome, Watching, ended, goes_on, last_generation, line_at, new_watching, next_line, reports, reports_through, taken}
 use Rattle.script_watches.specs.LawsOfWatches.{FedSessionsAreLawful, NoReportIsAboveTheLast, ReportedGenerationsRise, ReportsAreFresh, ReportsAreItems, Rise, WatchedPartiesHaveWatchers, got_of}
-use Rattle.script_watches.specs.WatchExchanges.{AreToldIds, IsExchange, IsOpened, IsTurnedDown, Leads, OfScript, OfStart, OfTurn, Watchings, fed_with, id_line, if_watched, kept_of, no_watchings, pairs_of_id, pairs_of_ids, said_of}
+use Rattle.script_watches.specs.WatchExchanges.{AreToldIds, IsExchange, IsOpened, IsTurnedDown, Leads, OfScript, OfStart, OfTurn, Watchings, fed_with, id_line, kept_of, no_watchings, pairs_of_id, pairs_of_ids, said_of}
 use Rattle.script_watches.proofs.OpeningLemmas.{ids_count, ids_lawful, opened_sound}
 use Rattle.script_watches.proofs.ReportedLemmas.{highest_is}
 use Rattle.script_watches.proofs.WatchingLemmas.{IsOutcome, IsSound, never_refused, next_pair, others_sound, outcome}
@@ -56,7 +56,7 @@ others_so s l a h right off = record {
 
 -- ---- lines of a plain script
 
-not_watched : (s : Watchings) (q : List ℕ) (p : List ℕ) (x : Watching) → if_watched s (Some q) ≡ None → s.of p ≡ Some x → (b : Bool) → bytes_eq p q ≡ b → b ≡ false
+not_watched : (s : Watchings) (q : List ℕ) (p : List ℕ) (x : Watching) → if_kept s.of (Some q) ≡ None → s.of p ≡ Some x → (b : Bool) → bytes_eq p q ≡ b → b ≡ false
 not_watched s q p x none e false k = refl
 not_watched s q p x none e true k =
     let same : p ≡ q = same_bytes p q k in
@@ -76,7 +76,7 @@ abandon_so s q a false h right accepts = record {
       (λ apart k. others_sound s.fed p x (line.Board (board_line.Abandon q), a) h.lawful right apart (h.sound p x k));
 }
 
-given_so : (s : Watchings) (l : ScriptLine) (a : ScriptAnswer) → IsKept s → if_watched s (held_back l) ≡ None → IsRight (state_met s.fed) l a → IsKept (fed_with s ((l, a) ∷ []) (let_go s.of (abandoned_by l) (is_refused a)))
+given_so : (s : Watchings) (l : ScriptLine) (a : ScriptAnswer) → IsKept s → if_kept s.of (held_back l) ≡ None → IsRight (state_met s.fed) l a → IsKept (fed_with s ((l, a) ∷ []) (let_go s.of (abandoned_by l) (is_refused a)))
 given_so s (line.Board (board_line.Begin q c)) a h none right = others_so s _ a h right (λ p x e. not_watched s q p x none e (bytes_eq p q) refl)
 given_so s (line.Board (board_line.Step q)) a h none right = others_so s _ a h right (λ p x e. not_watched s q p x none e (bytes_eq p q) refl)
 given_so s (line.Board (board_line.Release q n)) a h none right = others_so s _ a h right (λ p x e. not_watched s q p x none e (bytes_eq p q) refl)
@@ -85,7 +85,7 @@ given_so s (line.Board (board_line.Words b)) a h none right = others_so s _ a h 
 given_so s (line.Event q r) a h none right = others_so s _ a h right (λ p x e. not_watched s q p x none e (bytes_eq p q) refl)
 given_so s (line.Expire q) a h none right = others_so s _ a h right (λ p x e. not_watched s q p x none e (bytes_eq p q) refl)
 
-script_kept : (s t : Watchings) (l : ScriptLine) (told : List Told) (o : Option (List ℕ)) → IsKept s → if_watched s (held_back l) ≡ o → OfScript s l o told t → IsKept t
+script_kept : (s t : Watchings) (l : ScriptLine) (told : List Told) (o : Option (List ℕ)) → IsKept s → if_kept s.of (held_back l) ≡ o → OfScript s l o told t → IsKept t
 script_kept s t l told None h e k = subst IsKept (sym k.after) (given_so s l k.answer h e k.right)
 script_kept s t l told (Some party) h e k = subst IsKept (sym k.1) h
 
@@ -167,7 +167,7 @@ turn_kept s t party told (Some y) h e k = subst IsKept (sym k.after) (turn_so s 
 -- ---- exchanges
 
 exchange_kept : (s t : Watchings) (l : DriveLine) (told : List Told) → IsKept s → IsExchange s l told t → IsKept t
-exchange_kept s t (Script l) told h x = script_kept s t l told (if_watched s (held_back l)) h refl x.exchanged
+exchange_kept s t (Script l) told h x = script_kept s t l told (if_kept s.of (held_back l)) h refl x.exchanged
 exchange_kept s t (Start party []) told h x = absurd x.exchanged
 exchange_kept s t (Start party (listener ∷ handles)) told h x = start_kept s t party listener handles told (s.of party) h refl (omega (arith, x.line.1.least)) x.exchanged
 exchange_kept s t (Turn party) told h x = turn_kept s t party told (s.of party) h refl x.exchanged
@@ -217,7 +217,7 @@ turn_fed s t party told (Some x) k =
     some_given s t (next_pair party x k.answer ∷ []) (kept_with s.of party (kept_of (taken s.fed party x k.answer))) told (said_of party (taken s.fed party x k.answer)) k.told_is (nothing_said party (taken s.fed party x k.answer)) k.after
 
 exchange_fed : (s t : Watchings) (l : DriveLine) (told : List Told) → IsExchange s l told t → fed_more s.fed told t.fed
-exchange_fed s t (Script l) told x = script_fed s t l told (if_watched s (held_back l)) x.exchanged
+exchange_fed s t (Script l) told x = script_fed s t l told (if_kept s.of (held_back l)) x.exchanged
 exchange_fed s t (Start party []) told x = absurd x.exchanged
 exchange_fed s t (Start party (listener ∷ handles)) told x = start_fed s t party listener handles told (s.of party) x.exchanged
 exchange_fed s t (Turn party) told x = turn_fed s t party told (s.of party) x.exchanged
@@ -324,7 +324,7 @@ turn_few s t party told None k = none_few _ told k.0
 turn_few s t party told (Some x) k = omega (arith, some_few (next_pair party x k.answer ∷ []) told (said_of party (taken s.fed party x k.answer)) k.told_is (nothing_said party (taken s.fed party x k.answer)))
 
 exchange_few : (s t : Watchings) (l : DriveLine) (told : List Told) → IsExchange s l told t → length (fed_by told) ≤ 33
-exchange_few s t (Script l) told x = script_few s t l told (if_watched s (held_back l)) x.exchanged
+exchange_few s t (Script l) told x = script_few s t l told (if_kept s.of (held_back l)) x.exchanged
 exchange_few s t (Start party []) told x = absurd x.exchanged
 exchange_few s t (Start party (listener ∷ handles)) told x = start_few s t party listener handles told (s.of party) (omega (arith, x.line.1.most)) x.exchanged
 exchange_few s t (Turn party) told x = turn_few s t party told (s.of party) x.exchanged

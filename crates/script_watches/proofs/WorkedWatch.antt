@@ -15,13 +15,12 @@ use Rattle.script_moments.specs.Moments.{next_moment}
 use Rattle.script_moments.specs.WorkedWatchers.{b, before_it, behind_it, counter_read, get_begins, id_begins, id_popped, id_pushed, id_told, none_popped, notify_begun, since_it, the_get, the_id, the_take, the_turn, to_wait, update_begun, update_ended, value_got, wait_begins, word_read}
 use Rattle.script_moments.proofs.WorkedWatcher.{a_get, an_id, answered, lawful}
 use Rattle.script_exchanges.specs.declared.line.DriveLine.TheVariants.{Script, Start, Turn}
-use Rattle.script_exchanges.specs.DrivenParties.{abandoned_by, held_back, is_refused, kept_with}
+use Rattle.script_exchanges.specs.DrivenParties.{abandoned_by, held_back, if_kept, is_refused, kept_with, let_go}
 use Rattle.script_exchanges.specs.Exchanges.{Exchanges, given, said}
-use Rattle.script_snapshots.specs.SnapshotExchanges.{let_go}
 use Rattle.script_snapshots.proofs.FedLemmas.{met_more}
 use Rattle.script_watches.specs.LawsOfWatches.{IsCalledGet}
 use Rattle.script_watches.specs.Watchings.{Watching, new_watching, next_line, taken}
-use Rattle.script_watches.specs.WatchExchanges.{IsExchange, IsToldId, Leads, OfScript, OfTurn, Watchings, fed_with, if_watched, kept_of, no_watchings, said_of}
+use Rattle.script_watches.specs.WatchExchanges.{IsExchange, IsToldId, Leads, OfScript, OfTurn, Watchings, fed_with, kept_of, no_watchings, said_of}
 use Rattle.script_watches.specs.WorkedWatches.{AWatchIsWorked, plain, turn_of_b, turns_before_the_report, update_and_notify, value_reported, watch_begins, worked}
 
 -- ---- lines of a plain script that nothing holds back
@@ -34,7 +33,7 @@ is_free of (Some party) = not (is_some (of party))
 abbrev IsPlain : (List ℕ → Option Watching) → Pair → Type 0
 IsPlain of p = IsScriptLine p.0 × (is_free of (held_back p.0) ≡ true) × (abandoned_by p.0 ≡ None)
 
-not_held : (s : Watchings) (o : Option (List ℕ)) → is_free s.of o ≡ true → if_watched s o ≡ None
+not_held : (s : Watchings) (o : Option (List ℕ)) → is_free s.of o ≡ true → if_kept s.of o ≡ None
 not_held s None h = refl
 not_held s (Some party) h = at (s.of party) h
   where

@@ -1,5 +1,5 @@
 -- Scripts whose parties can be watchers: what is told of each line, and what stands afterwards.
-use Rattle.std.specs.Prelude.{◌≡◌, ℕ, true, if◌then◌else◌, List, [], ◌∷◌, ◌++◌, codes, map, Option, Some, None, is_some, ⊤, ◌⊎◌}
+use Rattle.std.specs.Prelude.{◌≡◌, ℕ, true, List, [], ◌∷◌, ◌++◌, codes, map, Option, Some, None, ⊤, ◌⊎◌}
 use Rattle.std.specs.List.{flat_map}
 use Rattle.board_model.specs.declared.line.Call.TheVariants as call
 use Rattle.board_model.specs.declared.line.Line.TheVariants as board_line
@@ -13,9 +13,9 @@ use Rattle.script_exchanges.specs.declared.line.Drive.TheVariants.{Watchers}
 use Rattle.script_exchanges.specs.declared.line.DriveLine.{DriveLine}
 use Rattle.script_exchanges.specs.declared.line.DriveLine.TheVariants.{Script, Start, Turn}
 use Rattle.script_exchanges.specs.DriveGrammar.{IsDriveLine}
-use Rattle.script_exchanges.specs.DrivenParties.{abandoned_by, held_back, is_refused, kept_with, party_text}
+use Rattle.script_exchanges.specs.DrivenParties.{abandoned_by, held_back, if_kept, is_refused, kept_with, let_go, party_text}
 use Rattle.script_exchanges.specs.Exchanges.{Exchanges, Told, given, said}
-use Rattle.script_snapshots.specs.SnapshotExchanges.{let_go, says}
+use Rattle.script_snapshots.specs.SnapshotExchanges.{says}
 use Rattle.script_watches.specs.Watchings.{Outcome, Watching, ended, goes_on, new_watching, next_line, report_text, reports, taken}
 
 -- after a script: the session that was fed, and the watchers of parties
@@ -43,11 +43,6 @@ pub record IsGiven (s : Watchings) (l : ScriptLine) (told : List Told) (t : Watc
   pub right : IsRight (state_met s.fed) l answer
   pub told_is : told ≡ given (l, answer) ∷ []
   pub after : t ≡ fed_with s ((l, answer) ∷ []) (let_go s.of (abandoned_by l) (is_refused answer))
-
--- the party, where it is watched
-abbrev pub if_watched : Watchings → Option (List ℕ) → Option (List ℕ)
-if_watched s None = None
-if_watched s (Some party) = if is_some (s.of party) then Some party else None
 
 -- the line is held back where the party that it names is watched
 abbrev pub OfScript : Watchings → ScriptLine → Option (List ℕ) → List Told → Watchings → Type 0
@@ -136,7 +131,7 @@ OfTurn s party (Some x) told t = IsTurn s party x told t
 
 -- what is rightly told of a line, and what stands afterwards
 abbrev pub Exchanged : Watchings → DriveLine → List Told → Watchings → Type 0
-Exchanged s (Script l) told t = OfScript s l (if_watched s (held_back l)) told t
+Exchanged s (Script l) told t = OfScript s l (if_kept s.of (held_back l)) told t
 Exchanged s (Start party []) told t = ⊥
 Exchanged s (Start party (listener ∷ handles)) told t = OfStart s party listener handles (s.of party) told t
 Exchanged s (Turn party) told t = OfTurn s party (s.of party) told t

@@ -1,5 +1,5 @@
 //! Lines outside the grammar, faults of source and sink, and words on the command line.
-use crate::tests::run::{End, Script};
+use crate::tests::run::{End, Lines, Script};
 use crate::{run_program, watch_words};
 use script_loop::{MemorySink, MemorySource};
 use std::process::ExitCode;
@@ -28,10 +28,11 @@ fn lines_are_outside_the_grammar(rt: HostRuntime) -> Result<(), Fail> {
     let alloc = rt.alloc();
     for line in OUTSIDE {
         let mut script = Script::new(alloc);
-        script.push(&[(
+        script.push(&Lines::Line(
             "watch b e h h h h h h h h h h h h h h h h",
-            &["> begin b id h", "refused unknown", "unwatched b"],
-        )])?;
+            &[("begin b id h", "refused unknown")],
+            "unwatched b",
+        ))?;
         script.input.extend_from_slice(line.as_bytes())?;
         script.input.push(b'\n')?;
         script.tells(&rt, alloc, line, SECOND_IS_BAD, 0)?;

@@ -1,431 +1,318 @@
 //! Watchers that open, wait, get and report, and that end.
-use crate::tests::run::{AT_THE_END, Part, Script};
+use crate::tests::run::{AT_THE_END, Lines, Scene, Script};
 use std::alloc::Global;
 use std::process::Abort;
 use std::test::Fail;
 
-// The parts, in one piece and byte by byte.
-fn tells(rt: &impl Abort, alloc: Global, name: &str, parts: &[Part]) -> Result<(), Fail> {
+// The scenes, in one piece and byte by byte.
+fn tells(rt: &impl Abort, alloc: Global, name: &str, scenes: &[Scene]) -> Result<(), Fail> {
     let mut script = Script::new(alloc);
-    for part in parts {
-        script.push(part)?;
+    for scene in scenes {
+        for lines in *scene {
+            script.push(lines)?;
+        }
     }
     script.tells(rt, alloc, name, AT_THE_END, 0)?;
     script.tells(rt, alloc, name, AT_THE_END, 1)
 }
 
-/// Party a writes the one entry of a board through m, and b reads it through h.
-const ONE_ENTRY: Part = &[
-    (
-        "begin a create f b u64 add u64:1 u64:7",
-        &["> begin a create f b u64 add u64:1 u64:7", "ok"],
-    ),
-    ("step a", &["> step a", "table = ok 1"]),
-    ("begin a writer w f", &["> begin a writer w f", "ok"]),
-    ("step a", &["> step a", "table = ok 1"]),
-    (
-        "begin a entrymut m w u64:1 u64",
-        &["> begin a entrymut m w u64:1 u64", "ok"],
-    ),
-    ("step a", &["> step a", "table = ok 0"]),
-    ("begin b open f b u64", &["> begin b open f b u64", "ok"]),
-    ("step b", &["> step b", "table = ok 1"]),
-    ("begin b reader r f", &["> begin b reader r f", "ok"]),
-    ("step b", &["> step b", "table = ok 2"]),
-    (
-        "begin b entry h r u64:1 u64",
-        &["> begin b entry h r u64:1 u64", "ok"],
-    ),
-    ("step b", &["> step b", "table = ok 0"]),
+// Party a writes the entry of 1 through m, and b reads it through h.
+const OPENED: Lines = Lines::Given(&[
+    ("begin a writer w f", "ok"),
+    ("step a", "table = ok 1"),
+    ("begin a entrymut m w u64:1 u64", "ok"),
+    ("step a", "table = ok 0"),
+    ("begin b open f b u64", "ok"),
+    ("step b", "table = ok 1"),
+    ("begin b reader r f", "ok"),
+    ("step b", "table = ok 2"),
+    ("begin b entry h r u64:1 u64", "ok"),
+    ("step b", "table = ok 0"),
+]);
+
+/// The one entry of a board is written and read.
+const ONE_ENTRY: Scene = &[
+    Lines::Given(&[
+        ("begin a create f b u64 add u64:1 u64:7", "ok"),
+        ("step a", "table = ok 1"),
+    ]),
+    OPENED,
 ];
 
 /// The same, with a second entry, that of 2, which b reads through k.
-const BOARD: Part = &[
-    (
-        "begin a create f b u64 add u64:1 u64:7 add u64:2 u64:8",
-        &[
-            "> begin a create f b u64 add u64:1 u64:7 add u64:2 u64:8",
+const BOARD: Scene = &[
+    Lines::Given(&[
+        (
+            "begin a create f b u64 add u64:1 u64:7 add u64:2 u64:8",
             "ok",
-        ],
-    ),
-    ("step a", &["> step a", "table = ok 1"]),
-    ("begin a writer w f", &["> begin a writer w f", "ok"]),
-    ("step a", &["> step a", "table = ok 1"]),
-    (
-        "begin a entrymut m w u64:1 u64",
-        &["> begin a entrymut m w u64:1 u64", "ok"],
-    ),
-    ("step a", &["> step a", "table = ok 0"]),
-    ("begin b open f b u64", &["> begin b open f b u64", "ok"]),
-    ("step b", &["> step b", "table = ok 1"]),
-    ("begin b reader r f", &["> begin b reader r f", "ok"]),
-    ("step b", &["> step b", "table = ok 2"]),
-    (
-        "begin b entry h r u64:1 u64",
-        &["> begin b entry h r u64:1 u64", "ok"],
-    ),
-    ("step b", &["> step b", "table = ok 0"]),
-    (
-        "begin b entry k r u64:2 u64",
-        &["> begin b entry k r u64:2 u64", "ok"],
-    ),
-    ("step b", &["> step b", "table = ok 32"]),
+        ),
+        ("step a", "table = ok 1"),
+    ]),
+    OPENED,
+    Lines::Given(&[
+        ("begin b entry k r u64:2 u64", "ok"),
+        ("step b", "table = ok 32"),
+    ]),
 ];
 
 /// b listens on a set of ids, and a notifies it.
-const BITS: Part = &[
-    (
-        "begin b listen e bits ev 63",
-        &["> begin b listen e bits ev 63", "ok"],
-    ),
-    ("step b", &["> step b", "table = ok"]),
-    (
-        "begin a notifier n bits ev",
-        &["> begin a notifier n bits ev", "ok"],
-    ),
-    ("step a", &["> step a", "table = ok"]),
-];
+const BITS: Scene = &[Lines::Given(&[
+    ("begin b listen e bits ev 63", "ok"),
+    ("step b", "table = ok"),
+    ("begin a notifier n bits ev", "ok"),
+    ("step a", "table = ok"),
+])];
 
 /// b listens on a queue of ids whose name is an equals sign, and a notifies it.
-const QUEUE: Part = &[
-    (
-        "begin b listen e queue =",
-        &["> begin b listen e queue =", "ok"],
-    ),
-    ("step b", &["> step b", "table = ok"]),
-    (
-        "begin a notifier n queue =",
-        &["> begin a notifier n queue =", "ok"],
-    ),
-    ("step a", &["> step a", "table = ok"]),
-];
+const QUEUE: Scene = &[Lines::Given(&[
+    ("begin b listen e queue =", "ok"),
+    ("step b", "table = ok"),
+    ("begin a notifier n queue =", "ok"),
+    ("step a", "table = ok"),
+])];
+
+// The entry that h reads has the id 0.
+const H_IS_0: &[(&str, &str)] = &[("begin b id h", "ok"), ("step b", "table = id 0")];
+
+const WATCHED: Lines = Lines::Line("watch b e h", H_IS_0, "watching b");
+
+const UPDATED: Lines = Lines::Given(&[
+    ("begin a update m u64:9", "ok"),
+    ("step a", "write 1:3 9"),
+    ("step a", "write 1:0 2 = ok"),
+]);
+
+const NOTIFIED: Lines = Lines::Given(&[
+    ("begin a notify n 0", "ok"),
+    ("step a", "listener bits:ev yes"),
+    ("step a", "set bits:ev 0"),
+    ("step a", "post bits:ev = ok"),
+]);
+
+const TAKEN: Lines = Lines::Turns(&[
+    ("begin b wait e all try", "ok"),
+    ("step b", "signal bits:ev yes"),
+    ("step b", "signal bits:ev no"),
+    ("step b", "swap bits:ev 0 1 = ids 0"),
+]);
+
+// All of a get of the second value but its last step.
+const READ: Lines = Lines::Turns(&[
+    ("begin b get h", "ok"),
+    ("step b", "read 1:0 2"),
+    ("step b", "read 1:3 9"),
+]);
+
+const GOT: &[(&str, &str)] = &[("step b", "read 1:0 2 = u64:9 gen 2")];
+
+const SAID: Lines = Lines::Line("turn b", GOT, "report b h u64:9 gen 2");
 
 /// A value that was notified is reported; notified anew it is not.
-const REPORTED: Part = &[
-    (
-        "watch b e h",
-        &[
-            "> begin b id h",
-            "ok",
-            "> step b",
-            "table = id 0",
-            "watching b",
-        ],
-    ),
-    (
-        "begin a update m u64:9",
-        &["> begin a update m u64:9", "ok"],
-    ),
-    ("step a", &["> step a", "write 1:3 9"]),
-    ("step a", &["> step a", "write 1:0 2 = ok"]),
-    ("begin a notify n 0", &["> begin a notify n 0", "ok"]),
-    ("step a", &["> step a", "listener bits:ev yes"]),
-    ("step a", &["> step a", "set bits:ev 0"]),
-    ("step a", &["> step a", "post bits:ev = ok"]),
-    ("turn b", &["> begin b wait e all try", "ok"]),
-    ("turn b", &["> step b", "signal bits:ev yes"]),
-    ("turn b", &["> step b", "signal bits:ev no"]),
-    ("turn b", &["> step b", "swap bits:ev 0 1 = ids 0"]),
-    ("turn b", &["> begin b get h", "ok"]),
-    ("turn b", &["> step b", "read 1:0 2"]),
-    ("turn b", &["> step b", "read 1:3 9"]),
-    (
-        "turn b",
-        &[
-            "> step b",
-            "read 1:0 2 = u64:9 gen 2",
-            "report b h u64:9 gen 2",
-        ],
-    ),
-    ("begin a notify n 0", &["> begin a notify n 0", "ok"]),
-    ("step a", &["> step a", "listener bits:ev yes"]),
-    ("step a", &["> step a", "set bits:ev 0"]),
-    ("step a", &["> step a", "post bits:ev = ok"]),
-    ("turn b", &["> begin b wait e all try", "ok"]),
-    ("turn b", &["> step b", "signal bits:ev yes"]),
-    ("turn b", &["> step b", "signal bits:ev no"]),
-    ("turn b", &["> step b", "swap bits:ev 0 1 = ids 0"]),
-    ("turn b", &["> begin b get h", "ok"]),
-    ("turn b", &["> step b", "read 1:0 2"]),
-    ("turn b", &["> step b", "read 1:3 9"]),
-    ("turn b", &["> step b", "read 1:0 2 = u64:9 gen 2"]),
+const REPORTED: Scene = &[
+    WATCHED,
+    UPDATED,
+    NOTIFIED,
+    TAKEN,
+    READ,
+    SAID,
+    NOTIFIED,
+    TAKEN,
+    READ,
+    Lines::Turns(GOT),
 ];
 
 /// The same value published anew has a generation of its own, and is reported again.
-const SAME_VALUE: Part = &[
-    (
-        "begin a update m u64:9",
-        &["> begin a update m u64:9", "ok"],
-    ),
-    ("step a", &["> step a", "write 1:2 9"]),
-    ("step a", &["> step a", "write 1:0 3 = ok"]),
-    ("begin a notify n 0", &["> begin a notify n 0", "ok"]),
-    ("step a", &["> step a", "listener bits:ev yes"]),
-    ("step a", &["> step a", "set bits:ev 0"]),
-    ("step a", &["> step a", "post bits:ev = ok"]),
-    ("turn b", &["> begin b wait e all try", "ok"]),
-    ("turn b", &["> step b", "signal bits:ev yes"]),
-    ("turn b", &["> step b", "signal bits:ev no"]),
-    ("turn b", &["> step b", "swap bits:ev 0 1 = ids 0"]),
-    ("turn b", &["> begin b get h", "ok"]),
-    ("turn b", &["> step b", "read 1:0 3"]),
-    ("turn b", &["> step b", "read 1:2 9"]),
-    (
+const SAME_VALUE: Scene = &[
+    Lines::Given(&[
+        ("begin a update m u64:9", "ok"),
+        ("step a", "write 1:2 9"),
+        ("step a", "write 1:0 3 = ok"),
+    ]),
+    NOTIFIED,
+    TAKEN,
+    Lines::Turns(&[
+        ("begin b get h", "ok"),
+        ("step b", "read 1:0 3"),
+        ("step b", "read 1:2 9"),
+    ]),
+    Lines::Line(
         "turn b",
-        &[
-            "> step b",
-            "read 1:0 3 = u64:9 gen 3",
-            "report b h u64:9 gen 3",
-        ],
+        &[("step b", "read 1:0 3 = u64:9 gen 3")],
+        "report b h u64:9 gen 3",
     ),
 ];
 
 /// Lines of a watched party are held back; its abandonment ends its watcher.
-const HELD_BACK: Part = &[
-    (
+const HELD_BACK: Scene = &[
+    WATCHED,
+    Lines::Line("step b", &[], "watched b"),
+    Lines::Line("begin b get h", &[], "watched b"),
+    Lines::Line("drop b h", &[], "watched b"),
+    Lines::Line("expire b", &[], "watched b"),
+    Lines::Line("begin b listen x bits x 0", &[], "watched b"),
+    Lines::Line("watch b e k", &[], "watched b"),
+    Lines::Given(&[("words 2", "refused noboard"), ("step c", "refused idle")]),
+    Lines::Line("turn c", &[], "unwatched c"),
+    Lines::Given(&[("abandon b", "gone")]),
+    Lines::Line("turn b", &[], "unwatched b"),
+    Lines::Given(&[("abandon b", "refused abandoned")]),
+    Lines::Line(
         "watch b e h",
-        &[
-            "> begin b id h",
-            "ok",
-            "> step b",
-            "table = id 0",
-            "watching b",
-        ],
-    ),
-    ("step b", &["watched b"]),
-    ("begin b get h", &["watched b"]),
-    ("drop b h", &["watched b"]),
-    ("expire b", &["watched b"]),
-    ("begin b listen x bits x 0", &["watched b"]),
-    ("watch b e k", &["watched b"]),
-    ("words 2", &["> words 2", "refused noboard"]),
-    ("step c", &["> step c", "refused idle"]),
-    ("turn c", &["unwatched c"]),
-    ("abandon b", &["> abandon b", "gone"]),
-    ("turn b", &["unwatched b"]),
-    ("abandon b", &["> abandon b", "refused abandoned"]),
-    (
-        "watch b e h",
-        &["> begin b id h", "refused abandoned", "unwatched b"],
+        &[("begin b id h", "refused abandoned")],
+        "unwatched b",
     ),
 ];
 
 /// A watched party is left to its watcher until it is abandoned.
-const ENDED: Part = &[
-    (
-        "watch b e h",
-        &[
-            "> begin b id h",
-            "ok",
-            "> step b",
-            "table = id 0",
-            "watching b",
-        ],
-    ),
-    ("step b", &["watched b"]),
-    ("turn c", &["unwatched c"]),
-    ("abandon b", &["> abandon b", "gone"]),
-    ("turn b", &["unwatched b"]),
+const ENDED: Scene = &[
+    WATCHED,
+    Lines::Line("step b", &[], "watched b"),
+    Lines::Line("turn c", &[], "unwatched c"),
+    Lines::Given(&[("abandon b", "gone")]),
+    Lines::Line("turn b", &[], "unwatched b"),
 ];
 
 /// A watcher over a handle that isn't there doesn't begin.
-const NO_HANDLE: Part = &[(
+const NO_HANDLE: Scene = &[Lines::Line(
     "watch b e z",
-    &["> begin b id z", "refused unknown", "unwatched b"],
+    &[("begin b id z", "refused unknown")],
+    "unwatched b",
 )];
 
 /// A begin that is refused ends the opening.
-const TURNED_DOWN: Part = &[
-    (
-        "watch b e z",
-        &["> begin b id z", "refused unknown", "unwatched b"],
-    ),
-    (
+const TURNED_DOWN: Scene = &[
+    Lines::Line(
         "watch b e h z k",
         &[
-            "> begin b id h",
-            "ok",
-            "> step b",
-            "table = id 0",
-            "> begin b id z",
-            "refused unknown",
-            "unwatched b",
+            ("begin b id h", "ok"),
+            ("step b", "table = id 0"),
+            ("begin b id z", "refused unknown"),
         ],
+        "unwatched b",
     ),
-    ("step b", &["> step b", "refused idle"]),
-    ("turn b", &["unwatched b"]),
-    (
-        "begin a update m u64:9",
-        &["> begin a update m u64:9", "ok"],
-    ),
-    (
+    Lines::Given(&[("step b", "refused idle")]),
+    Lines::Line("turn b", &[], "unwatched b"),
+    Lines::Given(&[("begin a update m u64:9", "ok")]),
+    Lines::Line(
         "watch a e m",
-        &["> begin a id m", "refused busy", "unwatched a"],
+        &[("begin a id m", "refused busy")],
+        "unwatched a",
     ),
-    ("step a", &["> step a", "write 1:3 9"]),
+    Lines::Given(&[("step a", "write 1:3 9")]),
 ];
 
 /// A watcher is abandoned in the midst of a get.
-const CUT: Part = &[
-    (
-        "watch b e h",
-        &[
-            "> begin b id h",
-            "ok",
-            "> step b",
-            "table = id 0",
-            "watching b",
-        ],
-    ),
-    (
-        "begin a update m u64:9",
-        &["> begin a update m u64:9", "ok"],
-    ),
-    ("step a", &["> step a", "write 1:3 9"]),
-    ("step a", &["> step a", "write 1:0 2 = ok"]),
-    ("begin a notify n 0", &["> begin a notify n 0", "ok"]),
-    ("step a", &["> step a", "listener bits:ev yes"]),
-    ("step a", &["> step a", "set bits:ev 0"]),
-    ("step a", &["> step a", "post bits:ev = ok"]),
-    ("turn b", &["> begin b wait e all try", "ok"]),
-    ("turn b", &["> step b", "signal bits:ev yes"]),
-    ("turn b", &["> step b", "signal bits:ev no"]),
-    ("turn b", &["> step b", "swap bits:ev 0 1 = ids 0"]),
-    ("turn b", &["> begin b get h", "ok"]),
-    ("turn b", &["> step b", "read 1:0 2"]),
-    ("step b", &["watched b"]),
-    ("abandon b", &["> abandon b", "gone"]),
-    ("turn b", &["unwatched b"]),
-    ("step b", &["> step b", "refused abandoned"]),
+const CUT: Scene = &[
+    WATCHED,
+    UPDATED,
+    NOTIFIED,
+    TAKEN,
+    Lines::Turns(&[("begin b get h", "ok"), ("step b", "read 1:0 2")]),
+    Lines::Line("step b", &[], "watched b"),
+    Lines::Given(&[("abandon b", "gone")]),
+    Lines::Line("turn b", &[], "unwatched b"),
+    Lines::Given(&[("step b", "refused abandoned")]),
 ];
 
 /// A wait that takes no id is followed by the next one.
-const NOTHING: Part = &[
-    (
-        "watch b e h",
-        &[
-            "> begin b id h",
-            "ok",
-            "> step b",
-            "table = id 0",
-            "watching b",
-        ],
-    ),
-    ("turn b", &["> begin b wait e all try", "ok"]),
-    ("turn b", &["> step b", "signal bits:ev no"]),
-    ("turn b", &["> step b", "swap bits:ev 0 0 = none"]),
-    ("turn b", &["> begin b wait e all try", "ok"]),
+const NOTHING: Scene = &[
+    WATCHED,
+    Lines::Turns(&[
+        ("begin b wait e all try", "ok"),
+        ("step b", "signal bits:ev no"),
+        ("step b", "swap bits:ev 0 0 = none"),
+        ("begin b wait e all try", "ok"),
+    ]),
 ];
 
 /// A listener that is none is looked at in the first turn.
-const NO_LISTENER: Part = &[
-    (
-        "watch b x h",
-        &[
-            "> begin b id h",
-            "ok",
-            "> step b",
-            "table = id 0",
-            "watching b",
-        ],
-    ),
-    (
+const NO_LISTENER: Scene = &[
+    Lines::Line("watch b x h", H_IS_0, "watching b"),
+    Lines::Line(
         "turn b",
-        &["> begin b wait x all try", "refused unknown", "unwatched b"],
+        &[("begin b wait x all try", "refused unknown")],
+        "unwatched b",
     ),
-    ("turn b", &["unwatched b"]),
+    Lines::Line("turn b", &[], "unwatched b"),
 ];
 
 /// Two handles, one named twice: each is got once, in the line's order, and an id of none is passed over.
-const TWO_HANDLES: Part = &[
-    (
+const TWO_HANDLES: Scene = &[
+    Lines::Line(
         "watch b e h k h",
         &[
-            "> begin b id h",
-            "ok",
-            "> step b",
-            "table = id 0",
-            "> begin b id k",
-            "ok",
-            "> step b",
-            "table = id 32",
-            "> begin b id h",
-            "ok",
-            "> step b",
-            "table = id 0",
-            "watching b",
+            ("begin b id h", "ok"),
+            ("step b", "table = id 0"),
+            ("begin b id k", "ok"),
+            ("step b", "table = id 32"),
+            ("begin b id h", "ok"),
+            ("step b", "table = id 0"),
         ],
+        "watching b",
     ),
-    (
-        "begin a update m u64:9",
-        &["> begin a update m u64:9", "ok"],
-    ),
-    ("step a", &["> step a", "write 1:3 9"]),
-    ("step a", &["> step a", "write 1:0 2 = ok"]),
-    ("begin a notify n 32", &["> begin a notify n 32", "ok"]),
-    ("step a", &["> step a", "push queue:= = ok"]),
-    ("begin a notify n 7", &["> begin a notify n 7", "ok"]),
-    ("step a", &["> step a", "push queue:= = ok"]),
-    ("begin a notify n 0", &["> begin a notify n 0", "ok"]),
-    ("step a", &["> step a", "push queue:= = ok"]),
-    ("begin a notify n 32", &["> begin a notify n 32", "ok"]),
-    ("step a", &["> step a", "push queue:= = ok"]),
-    ("turn b", &["> begin b wait e all try", "ok"]),
-    ("turn b", &["> step b", "pop queue:= 32"]),
-    ("turn b", &["> step b", "pop queue:= 7"]),
-    ("turn b", &["> step b", "pop queue:= 0"]),
-    ("turn b", &["> step b", "pop queue:= 32"]),
-    ("turn b", &["> step b", "pop queue:= none = ids 32 7 0 32"]),
-    ("turn b", &["> begin b get h", "ok"]),
-    ("turn b", &["> step b", "read 1:0 2"]),
-    ("turn b", &["> step b", "read 1:3 9"]),
-    (
+    UPDATED,
+    Lines::Given(&[
+        ("begin a notify n 32", "ok"),
+        ("step a", "push queue:= = ok"),
+        ("begin a notify n 7", "ok"),
+        ("step a", "push queue:= = ok"),
+        ("begin a notify n 0", "ok"),
+        ("step a", "push queue:= = ok"),
+        ("begin a notify n 32", "ok"),
+        ("step a", "push queue:= = ok"),
+    ]),
+    Lines::Turns(&[
+        ("begin b wait e all try", "ok"),
+        ("step b", "pop queue:= 32"),
+        ("step b", "pop queue:= 7"),
+        ("step b", "pop queue:= 0"),
+        ("step b", "pop queue:= 32"),
+        ("step b", "pop queue:= none = ids 32 7 0 32"),
+    ]),
+    READ,
+    SAID,
+    Lines::Turns(&[
+        ("begin b get k", "ok"),
+        ("step b", "read 1:4 1"),
+        ("step b", "read 1:6 8"),
+    ]),
+    Lines::Line(
         "turn b",
-        &[
-            "> step b",
-            "read 1:0 2 = u64:9 gen 2",
-            "report b h u64:9 gen 2",
-        ],
+        &[("step b", "read 1:4 1 = u64:8 gen 1")],
+        "report b k u64:8 gen 1",
     ),
-    ("turn b", &["> begin b get k", "ok"]),
-    ("turn b", &["> step b", "read 1:4 1"]),
-    ("turn b", &["> step b", "read 1:6 8"]),
-    (
-        "turn b",
-        &[
-            "> step b",
-            "read 1:4 1 = u64:8 gen 1",
-            "report b k u64:8 gen 1",
-        ],
-    ),
-    ("begin a notify n 7", &["> begin a notify n 7", "ok"]),
-    ("step a", &["> step a", "push queue:= = ok"]),
-    ("turn b", &["> begin b wait e all try", "ok"]),
-    ("turn b", &["> step b", "pop queue:= 7"]),
-    ("turn b", &["> step b", "pop queue:= none = ids 7"]),
-    ("turn b", &["> begin b wait e all try", "ok"]),
+    Lines::Given(&[
+        ("begin a notify n 7", "ok"),
+        ("step a", "push queue:= = ok"),
+    ]),
+    Lines::Turns(&[
+        ("begin b wait e all try", "ok"),
+        ("step b", "pop queue:= 7"),
+        ("step b", "pop queue:= none = ids 7"),
+        ("begin b wait e all try", "ok"),
+    ]),
 ];
 
 /// A reader has an id too, and a get through it is refused.
-const A_READER: Part = &[
-    (
+const A_READER: Scene = &[
+    Lines::Line(
         "watch b e r",
-        &[
-            "> begin b id r",
-            "ok",
-            "> step b",
-            "table = id 2",
-            "watching b",
-        ],
+        &[("begin b id r", "ok"), ("step b", "table = id 2")],
+        "watching b",
     ),
-    ("begin a notify n 2", &["> begin a notify n 2", "ok"]),
-    ("step a", &["> step a", "push queue:= = ok"]),
-    ("turn b", &["> begin b wait e all try", "ok"]),
-    ("turn b", &["> step b", "pop queue:= 2"]),
-    ("turn b", &["> step b", "pop queue:= none = ids 2"]),
-    (
+    Lines::Given(&[
+        ("begin a notify n 2", "ok"),
+        ("step a", "push queue:= = ok"),
+    ]),
+    Lines::Turns(&[
+        ("begin b wait e all try", "ok"),
+        ("step b", "pop queue:= 2"),
+        ("step b", "pop queue:= none = ids 2"),
+    ]),
+    Lines::Line(
         "turn b",
-        &["> begin b get r", "refused unknown", "unwatched b"],
+        &[("begin b get r", "refused unknown")],
+        "unwatched b",
     ),
 ];
 
@@ -450,7 +337,12 @@ fn one_entry_is_watched(rt: HostRuntime) -> Result<(), Fail> {
 fn watchers_end(rt: HostRuntime) -> Result<(), Fail> {
     let alloc = rt.alloc();
     tells(&rt, alloc, "held back", &[BOARD, BITS, HELD_BACK])?;
-    tells(&rt, alloc, "turned down", &[BOARD, BITS, TURNED_DOWN])?;
+    tells(
+        &rt,
+        alloc,
+        "turned down",
+        &[BOARD, BITS, NO_HANDLE, TURNED_DOWN],
+    )?;
     tells(&rt, alloc, "cut", &[BOARD, BITS, CUT])?;
     tells(&rt, alloc, "no listener", &[BOARD, BITS, NO_LISTENER])?;
     tells(&rt, alloc, "a reader", &[BOARD, QUEUE, A_READER])

@@ -5,8 +5,22 @@ use std::alloc::{AllocError, Global};
 use std::process::Abort;
 use std::test::Fail;
 
-/// Lines, each with what is told of it, line by line.
-pub(crate) type Part = &'static [(&'static str, &'static [&'static str])];
+/// Lines that are given to the machine, each with its answer.
+type Part = &'static [(&'static str, &'static str)];
+
+/// Lines of a script.
+#[derive(Clone, Copy)]
+pub(crate) enum Lines {
+    /// They are given as they are.
+    Given(Part),
+    /// Turns of b give them.
+    Turns(Part),
+    /// One line, those that it gives, and what is said behind them.
+    Line(&'static str, Part, &'static str),
+}
+
+/// Lines, one after another.
+pub(crate) type Scene = &'static [Lines];
 
 /// A script in bytes, and what is told of it.
 #[derive(Drop)]
@@ -41,13 +55,39 @@ impl Script {
         }
     }
 
+    // Adds a line, those that it gives, and what is said behind them.
+    fn push_line(
+        &mut self,
+        line: &str,
+        gives: &[(&str, &str)],
+        says: &str,
+    ) -> Result<(), AllocError> {
+        push_line(line, &mut self.input)?;
+        for (given, answer) in gives {
+            self.output.extend_from_slice(b"> ")?;
+            push_line(given, &mut self.output)?;
+            push_line(answer, &mut self.output)?;
+        }
+        if says.is_empty() {
+            return Ok(());
+        }
+        push_line(says, &mut self.output)
+    }
+
     /// Adds lines.
-    pub(crate) fn push(&mut self, part: Part) -> Result<(), AllocError> {
-        for (line, told) in part {
-            push_line(line, &mut self.input)?;
-            for text in *told {
-                push_line(text, &mut self.output)?;
+    pub(crate) fn push(&mut self, lines: &Lines) -> Result<(), AllocError> {
+        match lines {
+            Lines::Given(given) => {
+                for pair in *given {
+                    self.push_line(pair.0, &[*pair], "")?;
+                }
             }
+            Lines::Turns(given) => {
+                for pair in *given {
+                    self.push_line("turn b", &[*pair], "")?;
+                }
+            }
+            Lines::Line(line, gives, says) => self.push_line(line, gives, says)?,
         }
         Ok(())
     }

@@ -4,7 +4,8 @@ use Rattle.script_exchanges.specs.DrivenParties.{is_refused}
 use Rattle.script_exchanges.specs.Exchanges.{given, told_text}
 use Rattle.script_watches.specs.WatchExchanges.{id_line}
 use Rattle.script_watchers.proofs.AskLemmas.{asked_so, down_so, is_told, place_more}
-use Rattle.script_watchers.proofs.GivenLemmas.{has_given, id_spelled, step_line, step_spelled}
+use Rattle.script_feed.proofs.GivenLemmas.{has_given}
+use Rattle.script_watchers.proofs.AskingLines.{id_spelled, step_line, step_spelled}
 use Rattle.script_watchers.proofs.opening.ask_id.Goals as goal
 
 pub give-requires-clause-spelled : goal.give-requires-clause-spelled

@@ -1,9 +1,9 @@
+use Rattle.std.proofs.lemmas.Result.{on_ok_weaker}
 use Rattle.script_shots.proofs.MachineLemmas.{free_so, given_so, held_so, stands_for}
-use Rattle.script_shots.proofs.ShotLemmas.{on_so}
 use Rattle.script_shots.proofs.machine.SnapshotMachine.script.Goals as goal
 
 pub returns-in-Some : goal.returns-in-Some
-returns-in-Some g c = on_so c.say.result _ _ (λ e xs s h. held_so g.M.RunsLines.stands c.args.self.now xs s c.args.parsed c.args.line.now c.in-Some.party c.say.new.told.items h c.requires.spelled c.in-Some.ensures (rw c.requires.empty at e)) c.say.ensures
+returns-in-Some g c = on_ok_weaker c.say.result (λ e xs s h. held_so g.M.RunsLines.stands c.args.self.now xs s c.args.parsed c.args.line.now c.in-Some.party c.say.new.told.items h c.requires.spelled c.in-Some.ensures (rw c.requires.empty at e)) c.say.ensures
 
 pub give-requires-clause-stands : goal.give-requires-clause-stands
 give-requires-clause-stands g c = (c.requires.work.1.fed, stands_for g.M.RunsLines.stands c.args.self.now c.requires.work.0 c.requires.work.1 c.requires.work.2)

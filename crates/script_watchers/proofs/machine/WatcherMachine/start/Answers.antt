@@ -1,14 +1,14 @@
 use Rattle.std.proofs.Common.{◌≡◌, ℕ, ◌-◌, true, false, List, ap, arith, drop, get_or, length, refl, rules, subst, sym, take, ◌∙◌}
 use Rattle.std.specs.Prelude.{is_some}
+use Rattle.std.proofs.lemmas.Result.{on_ok_weaker}
 use Rattle.script_feed.specs.KeptOf as map
 use Rattle.script_watchers.specs.Opening.{AreAsked, AreAskedOrDown}
 use Rattle.script_watchers.proofs.MachineLemmas.{all_behind, copied_some, first_named, none_of, opens_so, place_for, some_kept, still_so, things_named, things_split, turned_down_so}
-use Rattle.script_watchers.proofs.ResultLemmas.{on_so}
 use Rattle.script_watchers.proofs.WatchLemmas.{new_keeps}
 use Rattle.script_watchers.proofs.machine.WatcherMachine.start.Goals as goal
 
 pub returns-then-is_some : goal.returns-then-is_some
-returns-then-is_some g c = on_so c.say.result _ _ (λ e xs s h.
+returns-then-is_some g c = on_ok_weaker c.say.result (λ e xs s h.
     let some : is_some (map.kept_of c.args.self.now.watches c.args.party) ≡ true = ap is_some (sym c.of.ensures) ∙ copied_some c.of.result ∙ sym c.is_some.ensures ∙ c.if-is_some.true in
     let kept = some_kept (map.kept_of c.args.self.now.watches c.args.party) some in
     still_so g.M.RunsLines.stands c.args.self.now xs s c.args.party (get_or c.args.things 0 c.args.party) (drop 1 c.args.things) c.args.things kept.watch c.say.new.told.items h c.requires.line (things_split c.args.things c.args.party c.requires.line.1.least) kept.is (rw c.requires.empty at e)) c.say.ensures
@@ -17,7 +17,7 @@ pub ask_ids-requires-clause-place : goal.ask_ids-requires-clause-place
 ask_ids-requires-clause-place g c = (c.requires.work.1.fed, place_for g.M.RunsLines.stands c.args.self.now c.requires.work.0 c.requires.work.1 c.requires.work.2)
 
 pub returns-then-not-are_told : goal.returns-then-not-are_told
-returns-then-not-are_told g c = on_so c.say-then-not-are_told.result _ _ (λ e xs s h.
+returns-then-not-are_told g c = on_ok_weaker c.say-then-not-are_told.result (λ e xs s h.
     let test = c.if-not-are_told.true in
     let down : c.in_ok-are_told.are_told ≡ false = first_of (search rules, grind arith) in
     let none : is_some (map.kept_of c.args.self.now.watches c.args.party) ≡ false = ap is_some (sym c.of.ensures) ∙ copied_some c.of.result ∙ sym c.is_some.ensures ∙ c.if-is_some.false in
@@ -29,7 +29,7 @@ returns-then-not-are_told g c = on_so c.say-then-not-are_told.result _ _ (λ e x
     (none_of (map.kept_of c.args.self.now.watches c.args.party) none) k refl refl e) c.say-then-not-are_told.ensures
 
 pub returns : goal.returns
-returns g c = on_so c.say-2.result _ _ (λ e xs s h.
+returns g c = on_ok_weaker c.say-2.result (λ e xs s h.
     let test = c.if-not-are_told.false in
     let told : c.in_ok-are_told.are_told ≡ true = first_of (search rules, grind arith) in
     let none : is_some (map.kept_of c.args.self.now.watches c.args.party) ≡ false = ap is_some (sym c.of.ensures) ∙ copied_some c.of.result ∙ sym c.is_some.ensures ∙ c.if-is_some.false in

@@ -2,7 +2,7 @@ use Rattle.std.proofs.Common.{◌≡◌, IsTrue}
 use Rattle.std.specs.Io.KnownBytes.{IsAtEnd, prepend_known}
 use Rattle.script_loop.specs.Reader.{TillEnd, source_ended, in_hand}
 use Rattle.script_drive.proofs.DriveSteps.{HasRunOn}
-use Rattle.script_drive.proofs.run.run_all.Given as goal
+use Rattle.script_drive.proofs.run.run_driven.Given as goal
 
 abbrev pub invariant-loop-n : goal.invariant-loop-n
 invariant-loop-n g l = record {
