@@ -198,25 +198,6 @@ event bits 10000000
 event queue 10000000
 shared 1 1 1000000000
 END
-# Calls are made on as many words as the command line says: an update of 32 words takes some 15 times as long as one of a
-# word, also on a busy machine, since the time of the processor is compared, and the least of three runs.
-# least COMMAND..: that time, in milliseconds; nothing where a run fails
-least() {
-    local run spent best= TIMEFORMAT=%U LC_ALL=C
-    for run in 1 2 3; do
-        spent=$({ time timeout 60 "$@" > /dev/null 2>&1; } 2>&1) || return
-        spent=$((10#${spent//./}))
-        [ -n "$best" ] && [ "$best" -le "$spent" ] || best=$spent
-    done
-    echo "$best"
-}
-for how in solo typed; do
-    one=$(least "$bench" $how 1 update 3000000)
-    many=$(least "$bench" $how 32 update 3000000)
-    [ -n "$one" ] && [ -n "$many" ] && [ "$many" -gt $((one * 4)) ] && good=yes || good=no
-    [ $good = yes ] || echo "$one and $many ms" >&2
-    tells "updates of more words take longer: $how" "$good"
-done
 gets=$("$bench" shared 1 2 1000) && [[ $gets =~ ^gets\ [1-9][0-9]*$ ]] && good=yes || good=no
 tells 'readers beside a writer' "$good"
 
