@@ -20,7 +20,7 @@ fn a_get_of_a_lent_pass_is_no_older(rt: HostRuntime) -> Result<(), Fail> {
     let words = vec![in rt.alloc(); 5u64; 4]?;
     let (cell, mut writer, mut pass) = ThreadedCell::new(rt.alloc(), &words)?;
     let mut out = words.clone()?;
-    assert_eq!(rt; no_older(&rt, &cell, &mut pass, &mut out), 1);
+    assert_eq!(rt; cell.get(&rt, &mut pass, &mut out), 1);
     cell.update(&mut writer, &words);
     assert_eq!(rt; no_older(&rt, &cell, &mut pass, &mut out), 2);
     Ok(())
