@@ -9,7 +9,6 @@ use crate::things::Things;
 use board_event_core::Events;
 use board_event_model::EventKind;
 use board_model::Name;
-use board_names::FilePath;
 use std::alloc::Global;
 use std::collections::HashMap;
 
@@ -59,8 +58,8 @@ impl PartyEvents {
         self.events.kind_of(event)
     }
 
-    /// The name of an event.
-    pub fn name_of(&self, event: u64) -> &FilePath
+    /// The bytes of the name of an event.
+    pub fn name_of(&self, event: u64) -> &[u8]
         requires { IsSome (event_at self.now.events event) }
         ensures { IsSomeAnd (event_at self.now.events event) (λ e. result.now ≡ e.name) }
     {
