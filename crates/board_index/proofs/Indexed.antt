@@ -1,6 +1,6 @@
 -- What the maps of the boards have, as boards come and go.
 use Rattle.std.proofs.Common.{◌≡◌, ◌≢◌, ℕ, ◌+◌, ◌≤◌, ◌<◌, Bool, true, false, cond, ◌==◌, List, [], ◌∷◌, Option, Some, None, refl, sym, ap, subst, ◌∙◌, arith}
-use Rattle.std.specs.Prelude.{find, is_some, min, nat_eq, option_map, ◌||◌, IfSome, IsSome, IsSomeAnd}
+use Rattle.std.specs.Prelude.{find, is_some, min, nat_eq, option_map, ◌||◌, IfSome, IsSome, IsSomeAnd, Vec}
 use Rattle.std.specs.HashMap.{HashMap, WritesThrough, spare}
 use Rattle.std.specs.List.{list_any, position_from}
 use Rattle.std.specs.Map.{lookup, set_value}
@@ -17,7 +17,7 @@ use Rattle.board_index.proofs.Beside.{beside_at, beside_gone, beside_put, nowher
 abbrev a_board : Board → Option Board
 a_board b = Some b
 
-abbrev a_number : ℕ → Option ℕ
+abbrev pub a_number : ℕ → Option ℕ
 a_number n = Some n
 
 not_true : (b : Bool) → (b ≡ true → ⊥) → b ≡ false
@@ -317,7 +317,7 @@ module _ {X S : Type 0} (k : ℕ) (m n : HashMap ℕ X S) (w : X) (writes : Writ
 pub same_loan : {N D E R : Type 0} (left : N → (E → D) → D → R) (name : N) {F G : E → D} {u v : D} → ((w : E) → F w ≡ G w) → u ≡ v → left name F u ≡ left name G v
 same_loan left name written rest = λ i. left name (λ w. written w i) (rest i)
 
-module _ {C S T R : Type 0} (rows : HashMap ℕ Board S) (cells new : HashMap ℕ C T) (names : HashMap (List ℕ) ℕ R) (last number : ℕ) (h : AreIndexed (under rows) (under cells) (called names) last) where
+module _ {C S T R Z : Type 0} (rows : HashMap ℕ Board S) (cells new : HashMap ℕ C T) (names : HashMap (Vec ℕ Z) ℕ R) (last number : ℕ) (h : AreIndexed (under rows) (under cells) (called names) last) where
   -- other cells of the board
   pub seen_written : (w : C) → WritesThrough nat_eq (nat_eq number) cells w new → seen rows new names last ≡ with_cells_in (seen rows cells names last) number w
   seen_written w writes =

@@ -3,8 +3,7 @@ ghost use Rattle.std.specs.Prelude.{◌≡◌, ◌+◌, ◌<◌, ◌^◌, ◌-�
 ghost use Rattle.std.specs.Borrow.{LendsIf, sem};
 ghost use Rattle.std.specs.HashMap.{get, spare};
 ghost use Rattle.std.specs.List.{list_any, position_from};
-ghost use Rattle.std.specs.Str.{bytes_eq};
-ghost use Rattle.board_index.specs.Boards.{but_at, cells_in, with_cells_in};
+ghost use Rattle.board_index.specs.Boards.{but_at, called, cells_in, with_cells_in};
 ghost use Rattle.board_index.specs.contracts.boards.Boards.{the_row};
 ghost use Rattle.board_model.specs.Tables as tables;
 
@@ -19,8 +18,8 @@ use std::marker::Model;
 pub struct Boards<C> {
     rows: HashMap<u64, BoardRow>,
     cells: HashMap<u64, C>,
-    /// The number of the board of a name.
-    names: HashMap<ServiceName, u64>,
+    /// The number of the board of a name, which is kept by as many bytes as it has.
+    names: HashMap<Vec<u8>, u64>,
     last: u64,
 }
 
@@ -39,11 +38,11 @@ impl<C> Model for Boards<C> {
 fn make_room<C>(
     rows: &mut HashMap<u64, BoardRow>,
     cells: &mut HashMap<u64, C>,
-    names: &mut HashMap<ServiceName, u64>,
+    names: &mut HashMap<Vec<u8>, u64>,
 ) -> Result<(), AllocError>
     ensures rows { (number : ℕ) → get nat_eq rows.new number ≡ get nat_eq rows.old number }
     ensures cells { (number : ℕ) → get nat_eq cells.new number ≡ get nat_eq cells.old number }
-    ensures names { (name : List ℕ) → get bytes_eq names.new name ≡ get bytes_eq names.old name }
+    ensures names { (name : List ℕ) → called names.new name ≡ called names.old name }
     ensures row { OnOk result (0 < spare rows.new) }
     ensures cell { OnOk result (0 < spare cells.new) }
     ensures name { OnOk result (0 < spare names.new) }
@@ -88,7 +87,7 @@ impl<C> Boards<C> {
         ensures { option_map (λ b. b.now) result
             ≡ find (tables.has_name name.now) self.now.boards }
     {
-        match self.names.get(name) {
+        match self.names.get(name.as_bytes()) {
             Some(number) => self.rows.get(number),
             None => None,
         }
@@ -98,7 +97,7 @@ impl<C> Boards<C> {
     pub fn has_name(&self, name: &ServiceName) -> bool
         ensures { result ≡ list_any (tables.has_name name.now) self.now.boards }
     {
-        self.names.contains_key(name)
+        self.names.contains_key(name.as_bytes())
     }
 
     /// The cells of the board with the number: `None` exactly where no such board stands.
@@ -134,8 +133,9 @@ impl<C> Boards<C> {
         make_room(&mut self.rows, &mut self.cells, &mut self.names)
     }
 
-    /// Adds a board with its cells, under the next number and a name that is free. Takes no memory: there is room.
-    pub fn push_reserved(&mut self, row: BoardRow, cells: C)
+    /// Adds a board with its cells, under the next number and a name that is free, of which `name` are the bytes. Takes no memory: there is room.
+    pub fn push_reserved(&mut self, row: BoardRow, name: Vec<u8>, cells: C)
+        requires named { name.items ≡ row.name }
         requires next { row.number ≡ self.old.last + 1 }
         requires free { list_any (tables.has_name row.name) self.old.boards ≡ false }
         requires room { 0 < self.old.room }
@@ -144,7 +144,7 @@ impl<C> Boards<C> {
         ensures last { self.new.last ≡ self.old.last + 1 }
     {
         let number = row.number();
-        let Ok(_) = self.names.insert(*row.name(), number) else {
+        let Ok(_) = self.names.insert(name, number) else {
             // There is room.
             unreachable!()
         };
@@ -176,7 +176,7 @@ impl<C> Boards<C> {
             // The board stands.
             unreachable!()
         };
-        let _ = self.names.remove(gone.name());
+        let _ = self.names.remove(gone.name().as_bytes());
         match self.cells.remove(&number) {
             Some(cells) => cells,
             // A board that stands has its cells.

@@ -103,6 +103,9 @@ impl<C: Cells> DomainCore<C> {
         let Ok(kept) = entries_for(self.alloc, &plan.cells, wanted) else {
             return Err(BlackboardCreateError::OutOfMemory);
         };
+        let Ok(key) = Vec::from_slice(self.alloc, name.as_bytes()) else {
+            return Err(BlackboardCreateError::OutOfMemory);
+        };
         if self.boards.reserve().is_err() || self.things.reserve().is_err() {
             return Err(BlackboardCreateError::OutOfMemory);
         }
@@ -141,7 +144,7 @@ impl<C: Cells> DomainCore<C> {
             attributes: description.attributes,
             entries: Entries::from_vec(kept),
         };
-        self.boards.push_reserved(row, cells);
+        self.boards.push_reserved(row, key, cells);
         let thing = push(node, number, Kind::Factory, &mut self.things);
         Ok(Made { thing, number })
     }

@@ -3,7 +3,8 @@ use Rattle.std.specs.List.{list_any}
 use Rattle.board_model.specs.Tables.{has_name}
 use Rattle.board_index.specs.Boards.{Rows}
 use Rattle.board_numbered.specs.Standing.{standing, under}
-use Rattle.board_index.proofs.Indexed.{indexed_pushed, unequal}
+use Rattle.board_index.proofs.Called.{called_turned}
+use Rattle.board_index.proofs.Indexed.{a_number, indexed_pushed, unequal}
 use Rattle.board_numbered.proofs.Standing.{standing_more}
 use Rattle.board_index.proofs.boards.Boards.push_reserved.Goals as goal
 
@@ -11,7 +12,8 @@ pub invariant_of-self : goal.invariant_of-self
 invariant_of-self g c =
     let next : c.number-number.result ≡ c.self.inside.last + 1 = c.number-number.ensures ∙ c.requires.next ∙ ap (λ (d : Rows g.row.C.Denot). d.last + 1) (sym c.self.view_is) in
     let free : list_any (has_name c.args.row.name) (standing (under c.self.inside.rows) c.self.inside.last) ≡ false = ap (λ (d : Rows g.row.C.Denot). list_any (has_name c.args.row.name) d.boards) c.self.view_is ∙ c.requires.free in
-    indexed_pushed c.self.invariant c.args.row c.args.cells c.number-number.ensures c.name.ensures next free c.in-Ok-insert.ensures.updates.0 c.in-Ok-None.ensures.updates.0 c.in-Ok.ensures.updates.0
+    indexed_pushed c.self.invariant c.args.row c.args.cells c.number-number.ensures c.requires.named next free c.in-Ok-insert.ensures.updates.0 c.in-Ok-None.ensures.updates.0
+    (called_turned c.self.inside.names c.insert.new.self c.args.name.items (a_number c.number-number.result) c.in-Ok.ensures.updates.0 c.in-Ok.ensures.updates.1)
 
 pub returns-clause-boards : goal.returns-clause-boards
 returns-clause-boards g c =

@@ -1,11 +1,11 @@
 use Rattle.std.proofs.Common.{◌≡◌, ℕ, List, Option, None, Some, cond, sym, ap, subst, ◌∙◌}
 use Rattle.std.specs.Prelude.{find, IsSome}
-use Rattle.std.specs.HashMap.{get}
 use Rattle.std.specs.List.{position_from}
 use Rattle.std.specs.Str.{bytes_eq}
 use Rattle.board_model.specs.Tables.{is_numbered, without_first}
-use Rattle.board_index.specs.Boards.{Rows, but_at, cells_in}
+use Rattle.board_index.specs.Boards.{Rows, but_at, called, cells_in}
 use Rattle.board_numbered.specs.Standing.{under}
+use Rattle.board_index.proofs.Called.{called_turned}
 use Rattle.board_index.proofs.Indexed.{cells_gone, found_cells, found_numbered, indexed_less, rows_gone, unequal}
 use Rattle.board_index.proofs.boards.Boards.take.Goals as goal
 
@@ -21,7 +21,8 @@ unreachable-requires g c =
 pub invariant_of-self : goal.invariant_of-self
 invariant_of-self g c =
     let stands : under c.self.inside.rows c.args.number ≡ Some c.in-Some.gone = sym c.remove.ensures.value ∙ c.in-Some.is in
-    let names = subst (λ (n : List ℕ). (t : List ℕ) → get bytes_eq c.remove-2.new.self t ≡ cond (bytes_eq n t) no_number (get bytes_eq c.self.inside.names t)) c.name.ensures c.remove-2.ensures.updates.0 in
+    let taken = called_turned c.self.inside.names c.remove-2.new.self c.as_bytes.result.now no_number c.remove-2.ensures.updates.0 c.remove-2.ensures.updates.1 in
+    let names = subst (λ (n : List ℕ). (t : List ℕ) → called c.remove-2.new.self t ≡ cond (bytes_eq n t) no_number (called c.self.inside.names t)) (c.as_bytes.ensures.value ∙ c.name.ensures) taken in
     indexed_less c.self.invariant c.args.number c.in-Some.gone stands c.remove.ensures.updates.0 c.remove-3.ensures.updates.0 names
 
 pub returns-clause-taken : goal.returns-clause-taken
