@@ -1,7 +1,8 @@
 -- What parties have under names, where one of it changes.
-use Rattle.std.proofs.Common.{◌≡◌, ℕ, ◌<◌, Bool, true, false, cond, List, length, refl, sym, ap, ◌∙◌, Option, Some, None}
+use Rattle.std.proofs.Common.{◌≡◌, ℕ, ◌<◌, Bool, true, false, cond, List, [], ◌∷◌, length, refl, sym, ap, ◌∙◌, Option, Some, None}
 use Rattle.std.specs.Prelude.{◌&&◌, option_map, IsSomeAnd}
 use Rattle.std.specs.HashMap.{HashMap, get}
+use Rattle.std.specs.Map.{lookup}
 use Rattle.std.specs.Str.{bytes_eq}
 use Rattle.std.proofs.lemmas.Bool.{and_parts}
 use Rattle.std.proofs.lemmas.Bool.Decides.{same_from_decides}
@@ -34,6 +35,14 @@ with_at-same {A = A} f g party name x h p n = ap (λ (o : Option A). cond (bytes
 -- and are so of each name
 pub of_name : {A : Type 0} {f g : List ℕ → List ℕ → Option A} → f ≡ g → (p n : List ℕ) → f p n ≡ g p n
 of_name e p n = λ i. e i p n
+
+-- an empty map has nothing
+pub none_under : {X S : Type 0} (map : HashMap SeatOf X S) → length map.entries ≡ 0 → (s : SeatOf) → get same_seat map s ≡ None
+none_under {X} map e s = by map.entries e
+  where
+    by : (es : List (SeatOf × X)) → length es ≡ 0 → lookup (same_seat s) es ≡ None
+    by [] e = refl
+    by (x ∷ es) e = absurd cc
 
 module _ {X A S : Type 0} (old new : HashMap SeatOf X S) (f : X → A) (party name : List ℕ) where
   -- what a map has under a party's name

@@ -92,12 +92,12 @@ anyway (Err e) X x = x
 wrong : {A : Type 0} → false ≡ true → A
 wrong e = absurd cc
 
-either : (b : Bool) → (b ≡ true) ⊎ (b ≡ false)
+pub either : (b : Bool) → (b ≡ true) ⊎ (b ≡ false)
 either true = inl refl
 either false = inr refl
 
 -- a get that is finished by a word had all words of its try
-finishes : (w : ℕ) (r : Reading) (v : ℕ) → is_finished r ≡ false → is_finished (hear w r v) ≡ true → may_finish w r ≡ true
+pub finishes : (w : ℕ) (r : Reading) (v : ℕ) → is_finished r ≡ false → is_finished (hear w r v) ≡ true → may_finish w r ≡ true
 finishes w opening v h k = wrong k
 finishes w (trying c words) v h k = elim (either (length words == w)) [
   | inl f ↦ f

@@ -4,6 +4,7 @@ pub mod LoanCalls
 pub mod Loans
 pub mod Machine
 pub mod Steps
+pub mod ShortSteps
 pub mod TableCalls
 pub mod TaskWants
 pub mod Wants

@@ -1,6 +1,7 @@
 //! Lines `begin P CALL`.
 ghost use Rattle.std.specs.Prelude.{◌≡◌, ◌+◌, ◌<◌, ◌≤◌, ◌^◌, ◌||◌, true, Some, None, IfOk, IfSome, OnErr, OnOk, find, is_some, not};
 ghost use Rattle.std.specs.List.{list_all};
+ghost use Rattle.board_layout.specs.Bytes.{details};
 ghost use Rattle.board_layout.specs.Layout.{cell_shape};
 ghost use Rattle.board_model.specs.LawfulSession.{has_key_type};
 ghost use Rattle.board_model.specs.Tables as tables;
@@ -17,10 +18,11 @@ ghost use Rattle.script_boards.specs.Wants.{MayWant};
 use crate::lookups::put_task;
 use crate::machine::{BoardMachine, TableTask, Task};
 use crate::not_begun::NotBegun;
+use board_layout::{TypeDetail, TypeVariant};
 use board_model::{
     AddedEntries, AddedEntry, Answer, Attributes, BoardName, Call, Entry, Key, KeyType, Kind,
-    Limits, Name, Reason, Requirements, ThingKind, Value, ValueType, same_key_type, same_type,
-    type_of, type_of_key, value_detail, value_type_of, value_words,
+    Limits, Name, Reason, Requirements, ThingKind, Value, ValueType, same_key_type, type_of,
+    type_of_key, value_words,
 };
 use board_ports::{CellShape, ReadCore, WriteCore};
 use board_service::BoardWords;
@@ -52,11 +54,59 @@ fn used(found: Option<Held>) -> Result<Held, Reason>
     found.ok_or(Reason::Unknown)
 }
 
+// Whether these are the details of a type of one size with this name, size and alignment.
+#[inline(always)]
+fn describes(name: &[u8], size: usize, alignment: usize, detail: &TypeDetail) -> bool
+    ensures { result ≡ types.same_type (details name.now size alignment) detail.now }
+{
+    matches!(detail.variant, TypeVariant::FixedSize)
+        && name == detail.type_name.as_bytes()
+        && size == detail.size
+        && alignment == detail.alignment
+}
+
+// The same, asked the other way round.
+#[inline(always)]
+fn is_described(detail: &TypeDetail, name: &[u8], size: usize, alignment: usize) -> bool
+    ensures { result ≡ types.same_type detail.now (details name.now size alignment) }
+{
+    matches!(detail.variant, TypeVariant::FixedSize)
+        && detail.type_name.as_bytes() == name
+        && detail.size == size
+        && detail.alignment == alignment
+}
+
+// The value type with these details. No description of a type is made.
+#[inline(always)]
+fn type_described(detail: &TypeDetail) -> ValueType
+    ensures { result ≡ types.value_type_of detail.now }
+{
+    if is_described(detail, b"bool", 1, 1) {
+        return ValueType::Bool;
+    }
+    if is_described(detail, b"u64", 8, 8) {
+        return ValueType::U64;
+    }
+    ValueType::Q4
+}
+
+// Whether these are the details of a value type. No description of the type is made.
+#[inline(always)]
+fn is_of_type(value_type: ValueType, detail: &TypeDetail) -> bool
+    ensures { result ≡ types.same_type (types.value_detail value_type) detail.now }
+{
+    match value_type {
+        ValueType::Bool => describes(b"bool", 1, 1, detail),
+        ValueType::U64 => describes(b"u64", 8, 8, detail),
+        ValueType::Q4 => describes(b"[u64; 4]", 32, 8, detail),
+    }
+}
+
 /// Whether a value is of an entry's type.
 pub(crate) fn is_value_of(value: Value, entry: &Entry) -> bool
     ensures { result ≡ types.same_type (types.value_detail (types.type_of value)) entry.now.value }
 {
-    same_type(&value_detail(type_of(value)), &entry.value)
+    is_of_type(type_of(value), &entry.value)
 }
 
 // What a read handle of an entry knows.
@@ -176,7 +226,7 @@ impl<C: BoardWords + Drop> BoardMachine<C> {
         Ok(Task::Get {
             board: found.board,
             call: core.get(buffer),
-            value_type: value_type_of(&entry.value),
+            value_type: type_described(&entry.value),
             value,
         })
     }
@@ -190,10 +240,7 @@ impl<C: BoardWords + Drop> BoardMachine<C> {
         let Some(kept) = self.value_of(party, value) else {
             return Err(NotBegun::Refused(Reason::Unknown));
         };
-        require(
-            same_type(&value_detail(kept.value_type), &entry.value),
-            Reason::Type,
-        )?;
+        require(is_of_type(kept.value_type, &entry.value), Reason::Type)?;
         Ok(Task::Fresh {
             board: found.board,
             call: read_core(entry).fresh(kept.generation),

@@ -18,7 +18,9 @@ mod machine;
 mod not_begun;
 mod refusals;
 mod release;
+mod short_step;
 mod step;
 mod words;
 
 pub use machine::BoardMachine;
+pub use short_step::ShortStep;

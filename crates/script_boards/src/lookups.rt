@@ -119,6 +119,10 @@ impl<C: BoardWords + Drop> BoardMachine<C> {
     pub(crate) fn words_lent(&self, party: &Name, name: &Name) -> Option<&Vec<Option<u64>>>
         ensures { option_map (λ ws. ws.now.items) result ≡ lent_words self.now party.now name.now }
     {
+        // Where there are no loans at all, the party and the name aren't looked up.
+        if self.loans.is_empty() {
+            return None;
+        }
         let seat = Seat {
             party: *party,
             name: *name,

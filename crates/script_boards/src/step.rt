@@ -46,6 +46,7 @@ pub(crate) enum OwedAccess {
 }
 
 // The access that a call makes to its cell, as one of the board. `is_last` is for a write.
+#[inline(always)]
 fn owed_on(board: u64, access: CellAccess, is_last: bool) -> OwedAccess
     ensures { result ≡ owed_on board access is_last }
 {
@@ -72,7 +73,8 @@ impl Task {
     }
 
     /// The access that is owed.
-    fn owed(&self) -> OwedAccess
+    #[inline(always)]
+    pub(crate) fn owed(&self) -> OwedAccess
         requires { CanGoOn self.now }
         ensures { IsOwedBy self.now result }
     {

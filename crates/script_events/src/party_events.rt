@@ -37,10 +37,14 @@ impl PartyEvents {
         }
     }
 
-    /// Whether a call of the party runs on events.
+    /// Whether a call of the party runs on events. Where none runs at all, the party isn't looked up.
+    #[inline(always)]
     pub fn runs(&self, party: &Name) -> bool
         ensures { OfEach self.now (λ x. result ≡ runs_on_events x party.now) }
     {
+        if self.calls.is_empty() {
+            return false;
+        }
         self.calls.contains_key(party)
     }
 

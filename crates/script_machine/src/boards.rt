@@ -11,6 +11,7 @@ ghost use Rattle.script_model.specs.ScriptEvents.{runs_on_events};
 ghost use Rattle.script_model.specs.ScriptTurns.{takes_event_name};
 ghost use Rattle.script_boards.specs.Machine.{drawn_by};
 ghost use Rattle.script_boards.specs.ShortBegins.{begun_unless};
+ghost use Rattle.script_boards.specs.ShortSteps.{short_answer};
 ghost use Rattle.script_events.specs.PartyEvents as events;
 ghost use Rattle.script_print.specs.Room.{LacksRoomFor};
 ghost use Rattle.script_machine.specs.ScriptMachine.{IsLed, OfEachState, TellsOfBoards, is_gone_answer};
@@ -20,9 +21,11 @@ use crate::machine::Machine;
 use board_cell_model::Access;
 use board_model::{Answer, Call, Name, Reason, Reply, Value};
 use board_service::BoardWords;
+use script_boards::ShortStep;
 use script_events::Stepped;
 use script_print::{
-    push_answer, push_begun, push_event_asked, push_event_step, push_refused, push_words,
+    push_access_made, push_answer, push_begun, push_event_asked, push_event_step, push_refused,
+    push_words,
 };
 use std::alloc::AllocError;
 
@@ -34,6 +37,17 @@ fn push_listing(words: &[u64], out: &mut Vec<u8>) -> Result<(), AllocError>
     ensures room { vec_capacity out.old ≤ vec_capacity out.new }
 {
     push_words(words, out)
+}
+
+// Tells the access of a step, and that its call is done where it was the last one.
+#[inline(always)]
+fn push_made(step: ShortStep, out: &mut Vec<u8>) -> Result<(), AllocError>
+    ensures ok { OnOk result (out.new.items
+        ≡ out.old.items ++ answer_line (short_answer step)) }
+    ensures room { OnErr result (LacksRoomFor out.old (answer_line (short_answer step))) }
+    ensures grows { vec_capacity out.old ≤ vec_capacity out.new }
+{
+    push_access_made(step.access, step.is_last, out)
 }
 
 // Tells that a call has begun, or why it is refused.
@@ -170,8 +184,28 @@ impl<C: BoardWords + Drop> Machine<C> {
         push_begin(refusal, out)
     }
 
-    /// A line `step P`.
+    /// A line `step P`. Steps that make one access and tell nothing of what was read go first: none of them is of a party
+    /// whose call on events runs.
+    #[inline(always)]
     pub(crate) fn step(&mut self, party: &Name, out: &mut Vec<u8>) -> Result<(), AllocError>
+        requires led { IsLed self.old }
+        requires line { IsLine (board_line.Step party.now) }
+        requires empty { out.old.items ≡ [] }
+        ensures tells { OnOk result (TellsOfBoards self.old self.new (board_line.Step party.now)
+            out.new.items) }
+        ensures memory { OnErr result (BoardMayWant self.old (board_line.Step party.now) out.old) }
+        ensures room { vec_capacity out.old ≤ vec_capacity out.new }
+        ensures drawn { OnOk result (drawn_by self.new.boards ≤ drawn_by self.old.boards + 1) }
+    {
+        match self.boards.step_short(party) {
+            Some(step) => push_made(step, out),
+            None => self.step_at_length(party, out),
+        }
+    }
+
+    // Any step.
+    #[inline(never)]
+    fn step_at_length(&mut self, party: &Name, out: &mut Vec<u8>) -> Result<(), AllocError>
         requires led { IsLed self.old }
         requires line { IsLine (board_line.Step party.now) }
         requires empty { out.old.items ≡ [] }
