@@ -6,7 +6,7 @@ use Rattle.std.proofs.lemmas.Nat.Bits.{bit_at-zero}
 use Rattle.std.specs.FinSet as set
 use Rattle.board_event_model.specs.declared.access.EventAnswer.TheVariants as answer
 use Rattle.board_event_model.specs.Ids.{has, IsWord}
-use Rattle.board_event_model.specs.WorkedRuns.{RunsOnBits, RunsOnQueue, RunsOnTwoWords, a_look_before_the_post, a_made_up_id, a_post_before_the_set, a_wait_between_words, an_expire_after_a_look, an_expire_after_a_pop, an_expire_after_a_signal, an_expire_after_an_id, an_expire_after_the_drain, an_expire_between_words, an_expire_of_a_blocking_wait, an_expire_of_a_wait_for_all, an_expire_that_drops_an_id, an_expire_that_leaves_an_id, an_expire_that_misses_an_id}
+use Rattle.board_event_model.specs.WorkedRuns.{RunsOnBits, RunsOnQueue, RunsOnTwoWords, a_look_before_the_post, a_made_up_id, a_post_before_the_set, a_wait_between_words, an_expire_after_a_look, an_expire_after_a_pop, an_expire_for_all_after_a_pop, an_expire_after_a_signal, an_expire_after_an_id, an_expire_after_the_drain, an_expire_between_words, an_expire_of_a_blocking_wait, an_expire_of_a_wait_for_all, an_expire_that_drops_an_id, an_expire_that_leaves_an_id, an_expire_that_misses_an_id}
 use Rattle.board_event_model.proofs.SetLemmas.{is_false, has_empty, has_inserted, has_itself}
 
 no_word : (k : ℕ) → IsWord set.empty k 0
@@ -26,6 +26,9 @@ all_runs = (((((tt, (refl, (refl, refl))), (refl, refl)), (refl, (0, refl, no_wo
 
 pub queue_runs : RunsOnQueue an_expire_after_a_pop
 queue_runs = (((tt, (refl, (refl, refl))), (refl, refl)), (refl, refl))
+
+pub queue_all_runs : RunsOnQueue an_expire_for_all_after_a_pop
+queue_all_runs = (((tt, (refl, (refl, refl))), (refl, refl)), (refl, refl))
 
 pub post_is_wrong : RunsOnBits a_post_before_the_set → ⊥
 post_is_wrong h = let owed = h.1.0 in cc

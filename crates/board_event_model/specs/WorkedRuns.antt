@@ -73,6 +73,10 @@ an_expire_of_a_wait_for_all =
 abbrev pub an_expire_after_a_pop : List EventMove
 an_expire_after_a_pop = expire e ∷ step e access.Pop answer.Empty ∷ begin e (a_wait (wait_queue false mode.Timed)) ∷ []
 
+-- and one for all does
+abbrev pub an_expire_for_all_after_a_pop : List EventMove
+an_expire_for_all_after_a_pop = expire e ∷ step e access.Pop answer.Empty ∷ begin e (a_wait (wait_queue true mode.Timed)) ∷ []
+
 -- a timed wait expires after its drain
 abbrev pub an_expire_after_the_drain : List EventMove
 an_expire_after_the_drain = expire e ∷ step e access.Signal answer.No ∷ begin e (a_wait (wait_bits 1 false mode.Timed)) ∷ []

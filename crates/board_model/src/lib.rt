@@ -15,6 +15,7 @@ pub mod count_laws;
 pub mod form_laws;
 pub mod id_laws;
 pub mod key_laws;
+mod kinds;
 mod line;
 pub mod listing_laws;
 mod lists;

@@ -10,7 +10,6 @@
 mod add_error;
 mod board_words;
 mod cells;
-mod counts;
 mod descriptions;
 mod domain_core;
 mod held;
@@ -25,10 +24,8 @@ mod told;
 pub use add_error::AddError;
 pub use board_model::{Limits, ThingKind, same_type};
 pub use cells::{BoardWords, Cells};
-pub use counts::port_of;
 pub use domain_core::DomainCore;
 pub use ids::{NodeId, ThingId};
-pub use lookups::is_kind;
 pub use made::{Found, Made};
 pub use new_entry::NewEntry;
 pub use told::{DynamicConfig, StaticConfig};

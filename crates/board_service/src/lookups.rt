@@ -8,7 +8,7 @@ ghost use Rattle.board_service.specs.Facts.{entry_count};
 
 use board_index::{BoardRow, Boards};
 use board_layout::{BoardKey, TypeDetail, is_key};
-use board_model::{Entry, Kind, ThingKind, same_type};
+use board_model::{Entry, same_type};
 use board_things::Things;
 
 /// Whether the board has as many readers as it may have.
@@ -30,31 +30,6 @@ pub(crate) fn has_all_writers<C>(board: u64, boards: &Boards<C>, things: &Things
     match boards.at(board) {
         Some(b) => b.max_writers() <= things.writer_slots(b.number()),
         None => false,
-    }
-}
-
-/// Whether a thing is of the kind.
-pub fn is_kind(kind: ThingKind, of: &Kind) -> bool
-    ensures { result ≡ tables.same_kind (tables.kind_of of.now) kind }
-{
-    match (of, kind) {
-        (Kind::Factory, ThingKind::Factory) => true,
-        (Kind::Reader { port: _ }, ThingKind::Reader) => true,
-        (Kind::Writer { port: _ }, ThingKind::Writer) => true,
-        (Kind::ReadHandle { entry: _ }, ThingKind::ReadHandle) => true,
-        (Kind::WriteHandle { entry: _, port: _ }, ThingKind::WriteHandle) => true,
-        _ => false,
-    }
-}
-
-/// The place of a handle's entry.
-pub(crate) fn entry_of(kind: &Kind) -> u64
-    ensures { result ≡ tables.entry_of kind.now }
-{
-    match kind {
-        Kind::ReadHandle { entry } => *entry,
-        Kind::WriteHandle { entry, port: _ } => *entry,
-        _ => 0,
     }
 }
 

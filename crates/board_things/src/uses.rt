@@ -17,26 +17,6 @@ pub(crate) struct Use {
     pub(crate) nodes: u64,
 }
 
-fn is_reader(kind: &Kind) -> bool
-    ensures { result ≡ tables.is_reader kind.now }
-{
-    match kind {
-        Kind::Reader { port: _ } => true,
-        _ => false,
-    }
-}
-
-/// The port of a writer, or of a handle made from one.
-pub(crate) fn writer_port(kind: &Kind) -> Option<u64>
-    ensures { result ≡ tables.writer_port kind.now }
-{
-    match kind {
-        Kind::Writer { port } => Some(*port),
-        Kind::WriteHandle { entry: _, port } => Some(*port),
-        _ => None,
-    }
-}
-
 fn number_if(test: bool) -> u64
     ensures { result ≡ kept.number_if test }
 {
@@ -72,7 +52,7 @@ pub(crate) fn raise(board: u64, kind: &Kind, node: bool, port: bool, uses: &mut 
     let u = use_of(board, uses);
     let more = Use {
         things: u.things + 1,
-        readers: u.readers + number_if(is_reader(kind)),
+        readers: u.readers + number_if(kind.is_reader()),
         writers: u.writers + number_if(port),
         nodes: u.nodes + number_if(node),
     };
@@ -96,7 +76,7 @@ pub(crate) fn lower(board: u64, kind: &Kind, node: bool, port: bool, uses: &mut 
     let u = use_of(board, uses);
     let less = Use {
         things: u.things - 1,
-        readers: u.readers - number_if(is_reader(kind)),
+        readers: u.readers - number_if(kind.is_reader()),
         writers: u.writers - number_if(port),
         nodes: u.nodes - number_if(node),
     };
@@ -158,7 +138,7 @@ pub(crate) fn is_only_of_port(board: u64, kind: &Kind, ports: &HashMap<(u64, u64
     ensures { result ≡ tables.holds_at (tables.writer_port kind.now)
         (λ p. nat_eq (kept.kept_at ports.now board p) 0) }
 {
-    match writer_port(kind) {
+    match kind.writer_port() {
         Some(port) => count_at(board, port, ports) == 0,
         None => false,
     }
@@ -171,7 +151,7 @@ pub(crate) fn raise_port(board: u64, kind: &Kind, ports: &mut HashMap<(u64, u64)
     ensures { (b p : ℕ) → kept.kept_at ports.new b p ≡ kept.kept_at ports.old b p
         + kept.number_if ((board == b) && tables.holds_at (tables.writer_port kind.now) (λ q. q == p)) }
 {
-    if let Some(port) = writer_port(kind) {
+    if let Some(port) = kind.writer_port() {
         raise_at(board, port, ports);
     }
 }
@@ -184,7 +164,7 @@ pub(crate) fn lower_port(board: u64, kind: &Kind, ports: &mut HashMap<(u64, u64)
         + kept.number_if ((board == b) && tables.holds_at (tables.writer_port kind.now) (λ q. q == p))
         ≡ kept.kept_at ports.old b p }
 {
-    if let Some(port) = writer_port(kind) {
+    if let Some(port) = kind.writer_port() {
         lower_at(board, port, ports);
     }
 }

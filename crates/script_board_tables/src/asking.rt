@@ -27,7 +27,7 @@ use board_names::{
     ReaderCreateError, WriterCreateError,
 };
 use script_board_rows::{find, has_equal_keys, meets, open};
-use script_things::{Held, NamedThings, entry_of, info_of, keys_of, port_of};
+use script_things::{Held, NamedThings, info_of, keys_of};
 use std::alloc::AllocError;
 use std::collections::HashMap;
 
@@ -397,7 +397,7 @@ impl BoardTables {
             board: writer.board,
             kind: Kind::WriteHandle {
                 entry: found.0,
-                port: port_of(&writer.kind),
+                port: writer.kind.port(),
             },
         })?;
         Ok(Reply::Number(found.1))
@@ -509,7 +509,7 @@ impl BoardTables {
             TableCall::Id { thing } => Ok(Reply::Id(self.id(&thing))),
             TableCall::Gen { handle } => Ok(Reply::Generation(self.generation(
                 handle.board,
-                entry_of(&handle.kind),
+                handle.kind.entry(),
             ))),
         }
     }

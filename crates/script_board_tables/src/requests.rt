@@ -18,7 +18,7 @@ use board_model::{
     value_words,
 };
 use script_board_rows::Reading;
-use script_things::{Held, entry_of};
+use script_things::Held;
 use std::alloc::{AllocError, Global};
 
 /// A call that was looked up, and what else is to hold of it.
@@ -244,7 +244,7 @@ impl BoardTables {
         Some(plain(BoardCall::Get {
             fetch: Fetch {
                 board: thing.board,
-                entry: entry_of(&thing.kind),
+                entry: thing.kind.entry(),
                 shape: entry.cell.shape(),
                 value_type: value_type_of(&entry.value),
                 value,
@@ -261,7 +261,7 @@ impl BoardTables {
         let kept = self.kept(party, value)?;
         let mut found = plain(BoardCall::Fresh(Look {
             board: thing.board,
-            entry: entry_of(&thing.kind),
+            entry: thing.kind.entry(),
             shape: entry.cell.shape(),
             generation: kept.generation,
         }));
@@ -284,7 +284,7 @@ impl BoardTables {
             return Ok(None);
         };
         let words = Words::from_vec(value_words(self.alloc, value)?);
-        let at = entry_of(&thing.kind);
+        let at = thing.kind.entry();
         let mut found = plain(BoardCall::Update(Publishing {
             board: thing.board,
             entry: at,
@@ -301,7 +301,7 @@ impl BoardTables {
     fn lent(&self, thing: &Held, entry: &Entry, loan: Name, handle: Name, words: LoanWords) -> Lent
         ensures { result ≡ lent_of (published_of self.now) thing.now entry.now loan handle words }
     {
-        let at = entry_of(&thing.kind);
+        let at = thing.kind.entry();
         Lent {
             board: thing.board,
             entry: at,

@@ -26,7 +26,7 @@ use board_model::{
 };
 use board_ports::{CellShape, ReadCore, WriteCore};
 use board_service::BoardWords;
-use script_parties::{Held, entry_of};
+use script_parties::Held;
 use std::alloc::AllocError;
 
 fn have_key_type(key_type: KeyType, entries: &[AddedEntry]) -> bool
@@ -185,7 +185,7 @@ impl<C: BoardWords + Drop> BoardMachine<C> {
         ensures { tables.entry_at (tables_of self.now) handle.now.board
             (tables.entry_of handle.now.kind) ≡ Some result.now }
     {
-        match self.domain.entry_at(handle.board, entry_of(&handle.kind)) {
+        match self.domain.entry_at(handle.board, handle.kind.entry()) {
             Some(entry) => entry,
             // `IsLed` and `IsHandle`: the entry of a handle stands.
             None => unreachable!(),
@@ -329,7 +329,7 @@ impl<C: BoardWords + Drop> BoardMachine<C> {
         ensures same { self.new ≡ self.old }
     {
         match self.written_by(party, call) {
-            Some(found) => self.counter(found.board, entry_of(&found.kind)),
+            Some(found) => self.counter(found.board, found.kind.entry()),
             None => 0,
         }
     }
@@ -482,7 +482,7 @@ impl<C: BoardWords + Drop> BoardMachine<C> {
         ensures same { self.new ≡ self.old }
     {
         match found {
-            Some(found) => self.counter(found.board, entry_of(&found.kind)),
+            Some(found) => self.counter(found.board, found.kind.entry()),
             None => 0,
         }
     }

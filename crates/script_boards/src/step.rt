@@ -17,7 +17,6 @@ use board_cell::{Access as CellAccess, Progress};
 use board_cell_model::Access;
 use board_model::{Answer, Name, Reason, Reply, Words};
 use board_service::BoardWords;
-use script_parties::entry_of;
 use script_seats::Seat;
 use std::alloc::AllocError;
 
@@ -247,7 +246,7 @@ impl<C: BoardWords + Drop> BoardMachine<C> {
             TableTask::Id { thing } => Ok(Reply::Id(self.domain.id_of(&thing))),
             TableTask::Gen { handle } => Ok(Reply::Generation(self.counter(
                 handle.board,
-                entry_of(&handle.kind),
+                handle.kind.entry(),
             ))),
         }
     }

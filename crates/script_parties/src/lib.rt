@@ -15,5 +15,5 @@ mod named;
 mod party_domain;
 mod typed_calls;
 
-pub use lookups::{Held, entry_of};
+pub use lookups::Held;
 pub use party_domain::PartyDomain;

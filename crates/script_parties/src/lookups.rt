@@ -1,29 +1,15 @@
 //! What names, kinds and nodes are.
-ghost use Rattle.std.specs.Prelude.{◌≡◌, ◌+◌, ◌<◌, length};
-ghost use Rattle.board_model.specs.Tables as tables;
+ghost use Rattle.std.specs.Prelude.{◌≡◌, ◌<◌};
 ghost use Rattle.indexmap.specs.IndexSet.{spare};
 ghost use Rattle.script_parties.specs.Named.{node_number, nodes_with};
 
 use board_layout::Text;
-use board_model::{Kind, Name, Thing};
+use board_model::{Name, Thing};
 use board_names::ServiceName;
 use indexmap::IndexSet;
 
 /// A thing of a board, under its party and its name.
 pub type Held = Thing<Name, Name>;
-
-/// The place of a handle's entry among those of its board.
-pub fn entry_of(kind: &Kind) -> u64
-    ensures { result ≡ tables.entry_of kind.now }
-{
-    match kind {
-        Kind::Factory => 0,
-        Kind::Reader { port: _ } => 0,
-        Kind::Writer { port: _ } => 0,
-        Kind::ReadHandle { entry } => *entry,
-        Kind::WriteHandle { entry, port: _ } => *entry,
-    }
-}
 
 /// The number of a party that is a node, or the next number.
 pub(crate) fn node_for(party: &Name, nodes: &IndexSet<Name>) -> u64

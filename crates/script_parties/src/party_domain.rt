@@ -16,7 +16,7 @@ mod refusals;
 
 use crate::adding::{attributes_for, needs_for};
 use crate::lists::{keys_of, nodes_at};
-use crate::lookups::{Held, entry_of, name_text};
+use crate::lookups::{Held, name_text};
 use crate::named::NamedThings;
 use board_cell::Words;
 use board_layout::Text;
@@ -25,7 +25,7 @@ use board_model::{
     NewLimits, Reply, Requirements, ThingKind, ValueType, key_detail, key_type_of, same_type,
     type_of_key,
 };
-use board_service::{BoardWords, DomainCore, ThingId, is_kind};
+use board_service::{BoardWords, DomainCore, ThingId};
 use indexmap::IndexSet;
 use script_seats::Seat;
 use std::alloc::{AllocError, Global};
@@ -112,7 +112,7 @@ impl<C: BoardWords + Drop> PartyDomain<C> {
     {
         match self.thing_of(party, name) {
             Some(thing) => {
-                if is_kind(kind, &thing.kind) {
+                if thing.kind.is(kind) {
                     Some(*thing)
                 } else {
                     None
@@ -367,7 +367,7 @@ impl<C: BoardWords + Drop> PartyDomain<C> {
         match &thing.kind {
             Kind::Reader { port } => *port,
             Kind::Writer { port } => *port,
-            kind => match self.entry_at(thing.board, entry_of(kind)) {
+            kind => match self.entry_at(thing.board, kind.entry()) {
                 Some(entry) => entry.cell.place,
                 None => 0,
             },

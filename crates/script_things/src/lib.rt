@@ -6,7 +6,6 @@
 //! Each function's contract names the function of the definitions that it computes.
 #![tactic(auto)]
 
-mod kinds;
 mod listings;
 mod lookups;
 mod named;
@@ -14,7 +13,6 @@ mod taken;
 #[cfg(test)]
 mod tests;
 
-pub use kinds::{entry_of, port_of};
 pub use listings::{info_of, keys_of};
 pub use lookups::Held;
 pub use named::NamedThings;

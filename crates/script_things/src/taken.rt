@@ -8,7 +8,6 @@ ghost use Rattle.std.specs.Str.{bytes_eq};
 ghost use Rattle.board_model.specs.Tables as tables;
 ghost use Rattle.script_things.specs.Taken.{AreLowered, AreRaised, AreSame, HasOne, IsLowered, IsRaised, IsSame, IsSmall, number_if, number_in, one_less, one_more};
 
-use crate::kinds::{is_reader, writer_port, written_entry};
 use crate::lookups::Held;
 use board_model::{Kind, Name};
 use std::alloc::{AllocError, Global};
@@ -122,13 +121,13 @@ impl Taken {
         self.ports.reserve(1)?;
         self.handles.reserve(1)?;
         raise_node(party, &mut self.nodes)?;
-        if is_reader(kind) {
+        if kind.is_reader() {
             self.readers += 1;
         }
-        if let Some(port) = writer_port(kind) {
+        if let Some(port) = kind.writer_port() {
             raise_at(port, &mut self.ports);
         }
-        if let Some(entry) = written_entry(kind) {
+        if let Some(entry) = kind.written_entry() {
             raise_at(entry, &mut self.handles);
         }
         Ok(())
@@ -140,13 +139,13 @@ impl Taken {
         ensures { IsLowered party.now kind.now (Some self.old) (Some self.new) }
     {
         lower_node(party, &mut self.nodes);
-        if is_reader(kind) {
+        if kind.is_reader() {
             self.readers -= 1;
         }
-        if let Some(port) = writer_port(kind) {
+        if let Some(port) = kind.writer_port() {
             lower_at(port, &mut self.ports);
         }
-        if let Some(entry) = written_entry(kind) {
+        if let Some(entry) = kind.written_entry() {
             lower_at(entry, &mut self.handles);
         }
     }

@@ -1,5 +1,5 @@
 //! Things of a session: what is taken of a board, and things by other names.
-use crate::{Held, NamedThings, entry_of, info_of, port_of};
+use crate::{Held, NamedThings, info_of};
 use board_layout::Text;
 use board_model::{Attributes, Board, Entries, KeyType, Kind, Name, ThingKind, key_detail};
 use std::alloc::Global;
@@ -71,7 +71,7 @@ fn what_is_taken_of_a_board(rt: HostRuntime) -> Result<(), Fail> {
         &things,
     )?;
     assert!(rt; (info.readers, info.writers, info.nodes) == (1, 1, 2));
-    assert!(rt; entry_of(&handle) == 0 && port_of(&handle) == 2);
+    assert!(rt; handle.entry() == 0 && handle.port() == 2);
 
     // The writer's slot is free again when its handle is gone too, and the node when all its things are.
     let gone: [(&[u8], &[u8], (u64, u64, u64)); 5] = [

@@ -8,7 +8,6 @@ ghost use Rattle.board_service.specs.Facts.{IsHeldBeside, KeepsHeld};
 
 use super::DomainCore;
 use crate::cells::Cells;
-use crate::counts::port_of;
 use crate::held::thing_of;
 use crate::ids::{NodeId, ThingId};
 use crate::lookups::find_entry;
@@ -107,7 +106,7 @@ impl<C: Cells> DomainCore<C> {
         }
         let kind = Kind::WriteHandle {
             entry,
-            port: port_of(&of.kind),
+            port: of.kind.port(),
         };
         match self.add_thing(NodeId(of.holder), of.board, kind) {
             Ok(thing) => Ok(Found::at(thing, entry, &cell)),

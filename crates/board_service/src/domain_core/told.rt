@@ -12,7 +12,7 @@ use crate::cells::Cells;
 use crate::descriptions::path_of;
 use crate::held::{node_at, thing_at, thing_of};
 use crate::ids::{NodeId, ThingId};
-use crate::lookups::{entry_of, has_details, is_kind};
+use crate::lookups::has_details;
 use crate::made::Found;
 use crate::told::{DynamicConfig, StaticConfig};
 use board_concepts::AttributeSet;
@@ -45,7 +45,7 @@ impl<C: Cells> DomainCore<C> {
     {
         let key = TypeDetail::new::<K>(TypeVariant::FixedSize);
         match thing_at(thing, &self.things) {
-            Some(t) => is_kind(kind, &t.kind) && has_details(t.board, &key, &self.boards),
+            Some(t) => t.kind.is(kind) && has_details(t.board, &key, &self.boards),
             None => false,
         }
     }
@@ -56,7 +56,7 @@ impl<C: Cells> DomainCore<C> {
         ensures { result ≡ told.found_of self.now handle }
     {
         let t = thing_of(handle, &self.things);
-        let entry = entry_of(&t.kind);
+        let entry = t.kind.entry();
         match self.boards.at(t.board) {
             Some(b) => match b.entries().get(entry as usize) {
                 Some(e) => Some(Found::at(handle, entry, &e.cell)),

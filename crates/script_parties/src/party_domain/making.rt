@@ -22,7 +22,7 @@ use board_names::{
     BlackboardCreateError, EntryHandleError, EntryHandleMutError, ReaderCreateError, ServiceName,
     WriterCreateError,
 };
-use board_service::{BoardWords, NodeId, port_of};
+use board_service::{BoardWords, NodeId};
 use std::alloc::AllocError;
 
 impl<C: BoardWords + Drop> PartyDomain<C> {
@@ -216,7 +216,7 @@ impl<C: BoardWords + Drop> PartyDomain<C> {
                     board: writer.board,
                     kind: Kind::WriteHandle {
                         entry: found.entry,
-                        port: port_of(&writer.kind),
+                        port: writer.kind.port(),
                     },
                 };
                 self.names.push(found.thing, thing);

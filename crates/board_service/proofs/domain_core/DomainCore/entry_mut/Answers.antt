@@ -15,14 +15,14 @@ add_thing-requires-clause-port g c =
     let known = subst (λ (d : Domain g.row.C.Denot). IsDomain d) c.self.view_is (core_domain c.self.invariant.core) in
     let same : c.thing_of-of.result ≡ held c.args.self.now c.args.writer =
     c.thing_of-of.ensures ∙ ap (λ (ts : List (Thing ℕ ℕ)). thing_numbered c.args.writer ts) (ap (λ (d : Domain g.row.C.Denot). d.tables.things) c.self.view_is) in
-    subst (λ (p : ℕ). p ≤ c.args.self.now.tables.last_port) (sym (c.port_of.ensures ∙ ap (λ (t : Thing ℕ ℕ). port_of t.kind) same)) (port_drawn c.args.self.now c.args.writer known)
+    subst (λ (p : ℕ). p ≤ c.args.self.now.tables.last_port) (sym (c.port.ensures ∙ ap (λ (t : Thing ℕ ℕ). port_of t.kind) same)) (port_drawn c.args.self.now c.args.writer known)
 
 pub add_thing-requires-clause-room : goal.add_thing-requires-clause-room
 add_thing-requires-clause-room g c =
     let known = subst (λ (d : Domain g.row.C.Denot). IsDomain d) c.self.view_is (core_domain c.self.invariant.core) in
     let same : c.thing_of-of.result ≡ held c.args.self.now c.args.writer =
     c.thing_of-of.ensures ∙ ap (λ (ts : List (Thing ℕ ℕ)). thing_numbered c.args.writer ts) (ap (λ (d : Domain g.row.C.Denot). d.tables.things) c.self.view_is) in
-    write_handle_room c.args.self.now c.args.writer _ _ c.thing_of-of.result _ known c.requires same c.port_of.ensures
+    write_handle_room c.args.self.now c.args.writer _ _ c.thing_of-of.result _ known c.requires same c.port.ensures
 
 pub returns-in-Ok-clause-held : goal.returns-in-Ok-clause-held
 returns-in-Ok-clause-held g c =

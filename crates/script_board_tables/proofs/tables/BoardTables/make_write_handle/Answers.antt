@@ -24,4 +24,4 @@ returns c =
     let found = entry_found (board_at (tables_of old) of.board) (keeps_key c.args.key.now) (value_detail c.args.value_type) in
     let free : list_any (is_write_handle of.board c.args.found.0) old.things ≡ false = search rules in
     entry_mut_made old c.hold.new.self c.args.party.now c.args.name of found c.args.found.0 c.args.found.1 (found_as found c.args.found.0 c.args.found.1 (sym c.requires))
-    (requests.table (requests.entry_mut c.args.name of c.args.key.now c.args.value_type)) refl refl refl free c.port_of.result c.port_of.ensures c.in_ok-hold.ensures
+    (requests.table (requests.entry_mut c.args.name of c.args.key.now c.args.value_type)) refl refl refl free c.port.result c.port.ensures c.in_ok-hold.ensures

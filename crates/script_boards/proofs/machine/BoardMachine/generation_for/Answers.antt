@@ -20,5 +20,5 @@ counter-requires g c =
     let found : written_by m c.args.party.now c.args.call.now ≡ a_thing x = search rules in
     let stands = entry_stands m led.state led.represents led.reached.sound x (written_handle m c.args.party.now c.args.call.now x found) in
     let entry = some_entry (entry_at (tables_of m) x.board (entry_of x.kind)) stands in
-    subst (λ (k : ℕ). HasCounter m x.board k) (sym c.entry_of.ensures)
+    subst (λ (k : ℕ). HasCounter m x.board k) (sym c.entry.ensures)
     (entry_has_counter m led.state led.represents led.reached.sound x.board (entry_of x.kind) entry.0 entry.1)

@@ -17,5 +17,5 @@ counter-requires g c =
     let handle = subst (λ (o : Option Held). IfSome o (λ t. IsHandle m t)) c.in-Some.is c.requires.handle in
     let stands = entry_stands m led.state led.represents led.reached.sound x handle in
     let entry = some_entry (entry_at (tables_of m) x.board (entry_of x.kind)) stands in
-    subst (λ (k : ℕ). HasCounter m x.board k) (sym c.entry_of.ensures)
+    subst (λ (k : ℕ). HasCounter m x.board k) (sym c.entry.ensures)
     (entry_has_counter m led.state led.represents led.reached.sound x.board (entry_of x.kind) entry.0 entry.1)

@@ -53,8 +53,8 @@ push-requires-clause-free g c =
     let i = thing_of_call s.nodes.keys at (named_at c.reserve.new.self) s.core x n h c.reserve.ensures.things stands c.number_of-number.ensures in
     let answer = subst (λ v. Answers (ok_of c.in-Ok.found) entry_mut_error.OutOfMemory (entry_mut_answer s.core (held s.core n) (entry_for s.core (held s.core n) (keeps_key c.args.key.now) v))) c.value_detail.ensures c.in-Ok.ensures.answer in
     let ok = subst (λ v. c.entry_mut_in.new.core ≡ after_entry_mut s.core (held s.core n) (entry_for s.core (held s.core n) (keeps_key c.args.key.now) v)) c.value_detail.ensures c.in-Ok.ensures.ok in
-    let new = from x c.args.name (kind.WriteHandle c.in-Ok.found.entry c.port_of.result) in
-    let both = entry_mut_made g.C.Words.list s.nodes.keys at s.core c.entry_mut_in.new.core x n c.args.name (keeps_key c.args.key.now) (value_detail c.args.value_type) c.in-Ok.found c.port_of.result h i c.port_of.ensures answer ok in
+    let new = from x c.args.name (kind.WriteHandle c.in-Ok.found.entry c.port.result) in
+    let both = entry_mut_made g.C.Words.list s.nodes.keys at s.core c.entry_mut_in.new.core x n c.args.name (keeps_key c.args.key.now) (value_detail c.args.value_type) c.in-Ok.found c.port.result h i c.port.ensures answer ok in
     next_free s.nodes.keys at (named_at c.reserve.new.self) s.core c.in-Ok.found.thing h c.reserve.ensures.things both.1.next
 
 pub invariant_of-self-in-Ok : goal.invariant_of-self-in-Ok
@@ -68,8 +68,8 @@ invariant_of-self-in-Ok g c =
     let i = thing_of_call s.nodes.keys at (named_at c.reserve.new.self) s.core x n h c.reserve.ensures.things stands c.number_of-number.ensures in
     let answer = subst (λ v. Answers (ok_of c.in-Ok.found) entry_mut_error.OutOfMemory (entry_mut_answer s.core (held s.core n) (entry_for s.core (held s.core n) (keeps_key c.args.key.now) v))) c.value_detail.ensures c.in-Ok.ensures.answer in
     let ok = subst (λ v. c.entry_mut_in.new.core ≡ after_entry_mut s.core (held s.core n) (entry_for s.core (held s.core n) (keeps_key c.args.key.now) v)) c.value_detail.ensures c.in-Ok.ensures.ok in
-    let new = from x c.args.name (kind.WriteHandle c.in-Ok.found.entry c.port_of.result) in
-    let both = entry_mut_made g.C.Words.list s.nodes.keys at s.core c.entry_mut_in.new.core x n c.args.name (keeps_key c.args.key.now) (value_detail c.args.value_type) c.in-Ok.found c.port_of.result h i c.port_of.ensures answer ok in
+    let new = from x c.args.name (kind.WriteHandle c.in-Ok.found.entry c.port.result) in
+    let both = entry_mut_made g.C.Words.list s.nodes.keys at s.core c.entry_mut_in.new.core x n c.args.name (keeps_key c.args.key.now) (value_detail c.args.value_type) c.in-Ok.found c.port.result h i c.port.ensures answer ok in
     let pushed : named_at c.push.new.self ≡ put c.in-Ok.found.thing (Some new) at = c.push.ensures.things ∙ ap (put c.in-Ok.found.thing (Some new)) c.reserve.ensures.things in
     (c.push.ensures.index, subst (λ a. IsNamed s.nodes.keys a c.entry_mut_in.new.core) (sym pushed) (named_more s.nodes.keys at s.core c.entry_mut_in.new.core c.in-Ok.found.thing new h both.1))
 
@@ -84,8 +84,8 @@ returns-in-Ok-clause-asked g c =
     let i = thing_of_call s.nodes.keys at (named_at c.reserve.new.self) s.core x n h c.reserve.ensures.things stands c.number_of-number.ensures in
     let answer = subst (λ v. Answers (ok_of c.in-Ok.found) entry_mut_error.OutOfMemory (entry_mut_answer s.core (held s.core n) (entry_for s.core (held s.core n) (keeps_key c.args.key.now) v))) c.value_detail.ensures c.in-Ok.ensures.answer in
     let ok = subst (λ v. c.entry_mut_in.new.core ≡ after_entry_mut s.core (held s.core n) (entry_for s.core (held s.core n) (keeps_key c.args.key.now) v)) c.value_detail.ensures c.in-Ok.ensures.ok in
-    let new = from x c.args.name (kind.WriteHandle c.in-Ok.found.entry c.port_of.result) in
-    let both = entry_mut_made g.C.Words.list s.nodes.keys at s.core c.entry_mut_in.new.core x n c.args.name (keeps_key c.args.key.now) (value_detail c.args.value_type) c.in-Ok.found c.port_of.result h i c.port_of.ensures answer ok in
+    let new = from x c.args.name (kind.WriteHandle c.in-Ok.found.entry c.port.result) in
+    let both = entry_mut_made g.C.Words.list s.nodes.keys at s.core c.entry_mut_in.new.core x n c.args.name (keeps_key c.args.key.now) (value_detail c.args.value_type) c.in-Ok.found c.port.result h i c.port.ensures answer ok in
     let pushed : named_at c.push.new.self ≡ put c.in-Ok.found.thing (Some new) at = c.push.ensures.things ∙ ap (put c.in-Ok.found.thing (Some new)) c.reserve.ensures.things in
     carried (λ now xs. IsEntryMut now (shown g.C.Words.list c.entry_mut_in.new.core xs) c.args.name x c.args.key.now c.args.value_type (reply.Number c.in-Ok.found.place)) (shown g.C.Words.list s.core (things_of at s.core)) c.args.self.now
     (things_of at s.core ++ new ∷ []) (things_of (named_at c.push.new.self) c.entry_mut_in.new.core)
