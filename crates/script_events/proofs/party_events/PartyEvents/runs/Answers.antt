@@ -12,6 +12,6 @@ returns-then-is_empty c = λ x count few sound rep.
     let empty : length m.calls.entries ≡ 0 = search rules in
     sym (ap is_some (none_in m.calls empty party)) ∙ is_running (task_in m party) (x.asked party) (x.session.doing party) (rep.calls party)
 
-pub returns-else-is_empty : goal.returns-else-is_empty
-returns-else-is_empty c = λ x count few sound rep.
+pub returns : goal.returns
+returns c = λ x count few sound rep.
     c.contains_key.ensures ∙ is_running (task_in c.args.self.now c.args.party.now) (x.asked c.args.party.now) (x.session.doing c.args.party.now) (rep.calls c.args.party.now)
