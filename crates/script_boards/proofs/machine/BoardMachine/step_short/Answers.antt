@@ -3,6 +3,7 @@ use Rattle.std.specs.Prelude.{is_some}
 use Rattle.std.specs.HashMap.{get}
 use Rattle.std.specs.Str.{bytes_eq}
 use Rattle.script_boards.specs.declared.machine.BoardMachine.{BoardMachine}
+use Rattle.script_parties.specs.Parties.{Parties}
 use Rattle.script_boards.specs.declared.machine.Task.{Task}
 use Rattle.script_boards.specs.declared.step.OwedAccess.TheVariants as owed
 use Rattle.script_boards.specs.LoanCalls.{CanSettle, IsSettled}
@@ -33,3 +34,43 @@ load-value-requires g c =
     let short : is_short t ≡ true = search rules in
     let led = c.requires in
     task_has_read m led.state led.represents led.reached.sound c.args.party.now t (is_running (task_of m) led.state.parties led.represents.parties c.args.party.now t stands (short_runs t short)) c.in-Read.read c.in-Read.ensures
+
+pub unreachable-requires : goal.unreachable-requires
+unreachable-requires g c =
+    let t = c.in-Some.task.now in
+    let short : is_short t ≡ true = search rules in
+    short_on_cell t short c.in-Table.ensures
+
+pub returns-in_default-clause-same : goal.returns-in_default-clause-same
+returns-in_default-clause-same g c = as_before c.args.self.now _ refl refl refl (λ p. ap (λ n. get bytes_eq n p) c.get_mut.follows.holds-at-none)
+
+pub returns-then-not-is_short-clause-same : goal.returns-then-not-is_short-clause-same
+returns-then-not-is_short-clause-same g c =
+    let m = c.args.self.now in
+    let party = c.args.party.now in
+    let t = c.in-Some.task.now in
+    let stands : task_of m party ≡ a_task t = sym c.in-Some.ensures.value in
+    let put = ((c.get_mut.follows.holds t).3 (ap is_some stands)).0 in
+    as_before m _ refl refl refl (put_same (task_of m) (λ p. get bytes_eq (c.get_mut.follows.lender t) p) party t stands put)
+
+pub returns-in-Read-clause-serves : goal.returns-in-Read-clause-serves
+returns-in-Read-clause-serves g c =
+    let m = c.args.self.now in
+    let party = c.args.party.now in
+    let t = c.in-Some.task.now in
+    let stands : task_of m party ≡ a_task t = sym c.in-Some.ensures.value in
+    let short : is_short t ≡ true = search rules in
+    let left = c.took.new.self in
+    let v = c.load-value.result in
+    let put = ((c.get_mut.follows.holds left).3 (ap is_some stands)).0 in
+    let tasks = put_as (task_of m) (λ p. get bytes_eq (c.get_mut.follows.lender left) p) party left (ticked t v) c.took.ensures.call put in
+    let same = c.load-value.ensures.same in
+    let board : c.in-Read.read.board < 2 ^ 64 = search rules in
+    let word : c.in-Read.read.word < 2 ^ 64 = search rules in
+    let value : v < 2 ^ 64 = search rules in
+    λ s rep reached l.
+    let at = is_running (task_of m) s.parties rep.parties party t stands (short_runs t short) in
+    let goes = task_goes_on s reached.sound party t at in
+    read_goes_on m s rep reached.sound party t at c.in-Read.read c.in-Read.ensures v c.load-value.ensures.value board word value l _
+    (ap (λ (d : Parties). d.tables) same) (ap (λ (d : Parties). d.words) same) refl refl
+    (record { more = short_goes_on t c.in-Read.read v short goes c.in-Read.ensures; tasks = tasks })
