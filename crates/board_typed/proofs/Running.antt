@@ -1,6 +1,6 @@
 -- Wherever typed calls alone lead, values stand, and the cells are in order.
 use Rattle.std.proofs.Common.{◌≡◌, ◌≢◌, ℕ, Bool, true, false, cond, ◌+◌, ◌++◌, List, [], ◌∷◌, Option, Some, None, refl, sym, ap, ◌∙◌, subst, arith}
-use Rattle.std.specs.Prelude.{◌&&◌, ◌==◌, ◌<◌, All, Contains, drop, find, is_some, length, slice_index_or, suc, take, IfSome, if◌then◌else◌, Result, Ok, Err}
+use Rattle.std.specs.Prelude.{◌&&◌, ◌==◌, All, Contains, drop, find, is_some, slice_index_or, suc, take, IfSome, if◌then◌else◌, Result, Ok, Err}
 use Rattle.std.specs.List.{AllByRecursion}
 use Rattle.std.proofs.lemmas.List.Elements.{All-append, All-nil, All-contains, All-drop, All-push, All-take, All-weaker}
 use Rattle.std.proofs.lemmas.Option.{get_or_from_slice_get, slice_get_within}
@@ -30,7 +30,6 @@ use Rattle.board_typed.specs.Order.{IsInOrder}
 use Rattle.board_typed.specs.Laws.{KeepsAll, KeepsOthers}
 use Rattle.board_typed.specs.Runs.{Builder, Call, Comes, Happens, Holds, IsGood, IsNotLent, KeepsBuilders, Spends, Value, World, a_builder, a_value, has_thing, start, value_thing}
 use Rattle.board_typed.specs.Runs.{Creates, Opens, LendsReaderBuilder, LendsWriterBuilder, MakesReader, MakesWriter, Drops, Reads, Writes, GivesUp, GivesUpWriting}
-use Rattle.board_typed.proofs.Changed.{by_number}
 use Rattle.board_typed.proofs.Calls.{new_order, opens, makes_reader, makes_writer, reads, writes}
 use Rattle.board_typed.proofs.Left.{gives_up, gives_up_writing}
 use Rattle.board_typed.proofs.Made.{creates}

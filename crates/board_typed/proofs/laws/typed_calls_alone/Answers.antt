@@ -1,11 +1,11 @@
 use Rattle.std.proofs.Common.{◌≡◌, ◌∙◌, ℕ, List, Option, Some, sym, subst}
-use Rattle.std.specs.Prelude.{Contains, IfSome, true}
+use Rattle.std.specs.Prelude.{IfSome, true}
 use Rattle.board_cell.specs.Passes.{CellSeen}
-use Rattle.board_model.specs.declared.tables.ThingKind.TheVariants.{Factory, Reader, Writer}
+use Rattle.board_model.specs.declared.tables.ThingKind.TheVariants.{Reader, Writer}
 use Rattle.board_service.specs.Domain.{held, stands_as}
 use Rattle.board_service.specs.Facts.{handle_entry}
 use Rattle.board_handles.specs.BoardEnds.{cell_of}
-use Rattle.board_typed.specs.Runs.{Builder, BuildersStand, Call, CellsAreShared, Comes, IsGood, NothingIsUnknown, Value, ValuesStand, World}
+use Rattle.board_typed.specs.Runs.{BuildersStand, Call, CellsAreShared, Comes, IsGood, NothingIsUnknown, Value, ValuesStand, World}
 use Rattle.board_typed.proofs.Known.{factory_reader_known, factory_writer_known, reader_known, some_is, writer_known}
 use Rattle.board_typed.proofs.Running.{good_of, lent_of, sound}
 use Rattle.board_typed.proofs.laws.typed_calls_alone.Goals as goal
