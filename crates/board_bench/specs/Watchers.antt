@@ -1,5 +1,5 @@
 -- Readers of one cell.
-use Rattle.std.specs.Prelude.{◌≡◌, ℕ, ◌+◌, ◌-◌, ◌^◌, ◌<◌, ◌≤◌, All, List, length, slice_get, IfSome, min, sum_by}
+use Rattle.std.specs.Prelude.{◌≡◌, ℕ, zero, suc, ◌+◌, ◌-◌, ◌%◌, ◌^◌, ◌<◌, ◌≤◌, ◌==◌, if◌then◌else◌, All, List, [], ◌∷◌, ◌++◌, length, replicate, slice_get, IfSome, min, sum_by}
 use Rattle.board_cell.specs.Passes.{CellSeen, ReaderSeen, WriterSeen}
 use Rattle.board_cell.specs.declared.threaded.view.Note.{Note}
 use Rattle.board_bench.specs.declared.shared.Watcher.{Watcher}
@@ -33,6 +33,16 @@ StayWide width old new = AreWide width old → AreWide width new
 -- the writer is of this cell, the words are as many as a value has, and so many updates can be counted
 abbrev pub CanUpdate : CellSeen → WriterSeen → List ℕ → ℕ → Type 0
 CanUpdate cell w words updates = (w.cell ≡ cell.cell) × (length words ≡ cell.width) × (length w.published + updates < 2 ^ 64)
+
+-- 1, 2 and so on, so many values: each number in each word
+abbrev pub numbered : ℕ → ℕ → List (List ℕ)
+numbered width zero = []
+numbered width (suc n) = numbered width n ++ replicate width (n + 1) ∷ []
+
+-- two values in turn, so many
+abbrev pub in_turn : List ℕ → List ℕ → ℕ → List (List ℕ)
+in_turn one two zero = []
+in_turn one two (suc n) = in_turn one two n ++ (if n % 2 == 0 then one else two) ∷ []
 
 -- the writer after so many updates of this cell
 abbrev pub HasUpdated : CellSeen → WriterSeen → WriterSeen → ℕ → Type 0

@@ -1,9 +1,9 @@
 //! A race: one thread updates a cell, others get it until they have seen the last update.
-ghost use Rattle.std.specs.Prelude.{ℕ, ◌≡◌, ◌+◌, ◌^◌, ◌<◌, ◌≤◌, ◌↔◌, true, length, map, All, IfOk, OnOk};
+ghost use Rattle.std.specs.Prelude.{ℕ, ◌≡◌, ◌+◌, ◌++◌, ◌^◌, ◌<◌, ◌≤◌, ◌↔◌, true, length, map, All, IfOk, OnOk};
 ghost use denote.Param.Send.{IsSync};
 ghost use Rattle.board_cell.specs.Passes.{ReaderSeen, notes_of};
 ghost use Rattle.board_cell.specs.History.{IsLegal, history};
-ghost use Rattle.board_bench.specs.Watchers.{AreReaders, AreWide, CanUpdate, HasSeen, HasUpdated, HaveWatched, IsOf, gets_of};
+ghost use Rattle.board_bench.specs.Watchers.{AreReaders, AreWide, CanUpdate, HasSeen, HasUpdated, HaveWatched, IsOf, gets_of, numbered};
 
 use board_cell::{CellError, ReaderPass, ThreadedCell, WriterPass};
 use std::alloc::Global;
@@ -51,6 +51,7 @@ impl Watcher {
 }
 
 /// Updates the cell with 1, 2 and so on up to the last number, in each word.
+#[tactic(auto, using(crate::proofs::Turns::numbered_more))]
 pub fn write(
     cell: &ThreadedCell,
     mut writer: WriterPass,
@@ -58,7 +59,8 @@ pub fn write(
     last: u64,
 ) -> WriterPass
     requires { CanUpdate cell.now writer words.items last }
-    ensures { HasUpdated cell.now writer result last }
+    ensures updated { HasUpdated cell.now writer result last }
+    ensures values { result.published ≡ writer.published ++ numbered cell.now.width last }
 {
     for i in 0..last {
         words.as_mut_slice().fill(i + 1);

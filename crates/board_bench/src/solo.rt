@@ -1,8 +1,8 @@
 //! Calls on a cell in one thread.
-ghost use Rattle.std.specs.Prelude.{◌≡◌, ◌+◌, ◌*◌, ◌^◌, ◌<◌, length, IfOk, IfErr, OnOk};
+ghost use Rattle.std.specs.Prelude.{◌≡◌, ◌+◌, ◌*◌, ◌^◌, ◌<◌, ◌++◌, length, IfOk, IfErr, OnOk};
 ghost use Rattle.board_bench.specs.Done.{MayEnd};
 ghost use Rattle.board_bench.specs.declared.task.Call.TheVariants as call;
-ghost use Rattle.board_bench.specs.Watchers.{AreCopiedWide, AreWide, StayCopiedWide, StayWide};
+ghost use Rattle.board_bench.specs.Watchers.{AreCopiedWide, AreWide, StayCopiedWide, StayWide, in_turn};
 
 use crate::bench_error::BenchError;
 use board_cell::{CellError, GetAgain, ReaderPass, ThreadedCell, WriterPass};
@@ -50,6 +50,7 @@ pub fn tries(
 }
 
 /// This many updates, by two values in turn.
+#[tactic(auto, using(crate::proofs::Turns::in_turn_more))]
 pub fn updates(
     cell: &ThreadedCell,
     writer: &mut WriterPass,
@@ -63,6 +64,8 @@ pub fn updates(
     requires room { length writer.old.published + count < 2 ^ 64 }
     ensures count { length writer.new.published ≡ length writer.old.published + count }
     ensures wide { StayWide cell.now.width writer.old.published writer.new.published }
+    ensures values { writer.new.published
+        ≡ writer.old.published ++ in_turn one.now.items two.now.items count }
 {
     for i in 0..count {
         cell.update(writer, if i % 2 == 0 { one } else { two });
