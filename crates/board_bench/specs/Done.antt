@@ -1,12 +1,13 @@
 -- What a task leaves that was done.
-use Rattle.std.specs.Prelude.{◌≡◌, ℕ, ◌+◌, ◌*◌, ◌⊎◌, List, codes, length, map}
+use Rattle.std.specs.Prelude.{◌≡◌, ℕ, ◌+◌, ◌*◌, ◌⊎◌, All, Err, List, Result, codes, length, map}
+use Rattle.anyhow.specs.declared.error.Error.{Error}
 use Rattle.board_cell.specs.Passes.{notes_of}
 use Rattle.board_cell.specs.History.{IsLegal, history}
 use Rattle.board_event_model.specs.declared.kind.EventKind.{EventKind}
 use Rattle.board_event_model.specs.declared.kind.EventKind.TheVariants.{Bits, Queue}
 use Rattle.board_handles.specs.Handles.{ReadSeen, WriteSeen}
 use Rattle.board_bench.specs.declared.bench_error.BenchError.{BenchError}
-use Rattle.board_bench.specs.declared.bench_error.BenchError.TheVariants.{OutOfMemory, Again}
+use Rattle.board_bench.specs.declared.bench_error.BenchError.TheVariants.{OutOfMemory, Refused}
 use Rattle.board_bench.specs.declared.done.Done.{Done}
 use Rattle.board_bench.specs.declared.done.Done.TheVariants.{Got, Updated, GotTyped, UpdatedTyped, BitsReturned, QueueReturned, Raced}
 use Rattle.board_bench.specs.declared.shared.Outcome.{Outcome}
@@ -16,13 +17,13 @@ use Rattle.board_bench.specs.declared.task.Task.{Task}
 use Rattle.board_bench.specs.declared.task.Task.TheVariants.{Solo, Typed, Event, Shared}
 use Rattle.board_bench.specs.Handles.{read_seen, write_seen}
 use Rattle.board_bench.specs.Task.{IsTaskOf}
-use Rattle.board_bench.specs.Watchers.{AreCopiedWide, AreWide, gets_of}
+use Rattle.board_bench.specs.Watchers.{AreCopiedWide, AreWide, HasReadTo, counted_up, gets_of, took_turns}
 
--- as many gets or updates of a cell, each of as many words, which the program tells; a get of one try loads the counter twice
+-- as many gets or updates of a cell, each of as many words, which the program tells; a get of one try loads the counter twice, and updates publish two values in turn
 abbrev pub HasCalled : Call → ℕ → ℕ → Done → Type 0
 HasCalled Get width count (Got reader made) = (made ≡ count) × (length reader.notes ≡ count) × AreCopiedWide width reader.notes
 HasCalled TryGet width count (Got reader made) = (made ≡ count) × (length reader.notes ≡ count) × (length reader.loads ≡ 2 * count) × AreCopiedWide width reader.notes
-HasCalled Update width count (Updated writer made) = (made ≡ count) × (length writer.published ≡ count + 1) × AreWide width writer.published
+HasCalled Update width count (Updated writer made) = (made ≡ count) × (length writer.published ≡ count + 1) × AreWide width writer.published × (writer.published ≡ took_turns width count)
 HasCalled call width count done = ⊥
 
 -- the same by a handle, of an entry of as many words
@@ -47,13 +48,15 @@ HasReturned Bits count (BitsReturned trips) = trips.made ≡ count
 HasReturned Queue count (QueueReturned trips) = trips.made ≡ count
 HasReturned kind count done = ⊥
 
--- a race of so many readers with a writer that made so many updates of so many words; its history is legal
+-- a race of so many readers with a writer that made so many updates of so many words, 1, 2 and so on; its history is legal, and each reader's last get copied the last of them
 pub record HasRaced (wide many last : ℕ) (outcome : Outcome) : Type 0 where
   pub updates : length outcome.writer.published ≡ last + 1
   pub words : AreWide wide outcome.writer.published
+  pub values : outcome.writer.published ≡ counted_up wide last
   pub readers : length outcome.readers.items ≡ many
   pub gets : outcome.gets ≡ gets_of outcome.readers.items
   pub legal : IsLegal (history outcome.writer.published (map notes_of outcome.readers.items))
+  pub seen : All (HasReadTo wide last) outcome.readers.items
 
 abbrev pub HasRun : ℕ → ℕ → ℕ → Done → Type 0
 HasRun width readers updates (Raced outcome) = HasRaced width readers updates outcome
@@ -70,16 +73,21 @@ HasDone (Shared width readers updates) done = HasRun width readers updates done
 abbrev pub HasDoneOne : List (List ℕ) → Done → Type 0
 HasDoneOne words done = (task : Task) × IsTaskOf words task × HasDone task done
 
--- calls on a cell end for want of memory, and gets of one try where one met an update
-abbrev pub MayEnd : Call → BenchError → Type 0
-MayEnd TryGet e = (e ≡ OutOfMemory) ⊎ (e ≡ Again)
-MayEnd call e = e ≡ OutOfMemory
+-- one of the calls was refused
+abbrev pub IsRefused : BenchError → Type 0
+IsRefused (Refused error) = Unit {0}
+IsRefused e = ⊥
 
--- calls on typed ports and events may be refused besides
+-- the error with which these calls ended, as it was
+abbrev pub IsRefusalOf : {T : Type 0} → Result T Error → BenchError → Type 0
+IsRefusalOf tried e = (error : Error) × (tried ≡ Err error) × (e ≡ Refused error)
+
+-- calls on a cell end for want of memory alone; of those on typed ports and events one was refused
 abbrev pub EndsBy : Task → BenchError → Type 0
-EndsBy (Solo calls) e = MayEnd calls.call e
+EndsBy (Solo calls) e = e ≡ OutOfMemory
+EndsBy (Typed calls) e = IsRefused e
+EndsBy (Event kind count) e = IsRefused e
 EndsBy (Shared width readers updates) e = e ≡ OutOfMemory
-EndsBy task e = Unit {0}
 
 -- memory is refused, or the task that these words spell ends so
 abbrev pub EndsOneBy : List (List ℕ) → BenchError → Type 0

@@ -2,7 +2,7 @@
 ghost use Rattle.std.specs.Prelude.{◌≡◌};
 ghost use Rattle.board_bench.specs.declared.bench_error.BenchError.TheVariants as bench_error;
 
-use board_cell::{CellError, GetAgain};
+use board_cell::CellError;
 use std::alloc::AllocError;
 use thiserror::Error;
 
@@ -12,9 +12,6 @@ pub enum BenchError {
     /// Memory was refused.
     #[error("out of memory")]
     OutOfMemory,
-    /// A get of one try met an update, though none was made.
-    #[error("a try met an update")]
-    Again,
     /// A call on typed ports or events was refused, for want of memory too.
     #[error("{0}")]
     Refused(anyhow::Error),
@@ -27,14 +24,6 @@ impl From<CellError> for BenchError {
         match error {
             CellError::OutOfMemory => BenchError::OutOfMemory,
         }
-    }
-}
-
-impl From<GetAgain> for BenchError {
-    ghost from_gives = { λ _ e. e ≡ bench_error.Again };
-
-    fn from(_: GetAgain) -> BenchError {
-        BenchError::Again
     }
 }
 

@@ -1,6 +1,6 @@
 //! What the words of the command line ask for is done.
 ghost use Rattle.std.specs.Prelude.{◌≡◌, ◌<◌, ◌^◌, map, Ok, IfOk, IfErr, IfSome, IsSome, IsTrue, string_bytes};
-ghost use Rattle.board_bench.specs.Done.{EndsBy, EndsOneBy, HasCalled, HasCalledTyped, HasDone, HasDoneOne, HasReturned, MayEnd, counted_of, told_of};
+ghost use Rattle.board_bench.specs.Done.{EndsBy, EndsOneBy, HasCalled, HasCalledTyped, HasDone, HasDoneOne, HasReturned, IsRefusalOf, counted_of, told_of};
 ghost use Rattle.board_bench.specs.Task.{IsBenchTask, IsCount, is_width, spelling};
 ghost use Rattle.board_bench.specs.declared.bench_error.BenchError.TheVariants as bench_error;
 ghost use Rattle.board_bench.specs.declared.task.Task.{Task};
@@ -74,7 +74,7 @@ fn run_solo<R: Wait>(
 ) -> Result<Done, BenchError>
     requires { IsCount count }
     ensures done { IfOk result (HasCalled call width count) }
-    ensures err { IfErr result (MayEnd call) }
+    ensures err { IfErr result (λ e. e ≡ bench_error.OutOfMemory) }
 {
     Ok(match call {
         Call::Get => Done::Got(run_gets(rt, alloc, width, count)?, count),
@@ -116,9 +116,10 @@ fn run_event<R: Threads + Wait + Sync>(
     })
 }
 
-// What was done, or that it was refused.
+// What was done, or the call that was refused.
 fn or_refused(tried: anyhow::Result<Done>) -> Result<Done, BenchError>
-    ensures { IfOk result (λ done. tried ≡ Ok done) }
+    ensures ok { IfOk result (λ done. tried ≡ Ok done) }
+    ensures err { IfErr result (IsRefusalOf tried) }
 {
     match tried {
         Ok(done) => Ok(done),
@@ -129,7 +130,7 @@ fn or_refused(tried: anyhow::Result<Done>) -> Result<Done, BenchError>
 /// Does the task.
 ///
 /// # Errors
-/// `OutOfMemory` where memory is refused; of gets of one try `Again` where one met an update; of typed ports and events `Refused` where one of their calls is.
+/// `OutOfMemory` where memory is refused; of typed ports and events `Refused`, where one of their calls is, for want of memory too.
 pub fn run<R: Threads + Wait + Sync>(rt: &R, alloc: Global, task: Task) -> Result<Done, BenchError>
     requires { IsBenchTask task }
     ensures done { IfOk result (HasDone task) }
@@ -156,7 +157,7 @@ pub fn run<R: Threads + Wait + Sync>(rt: &R, alloc: Global, task: Task) -> Resul
 /// Does the task that the words spell, if they spell one.
 ///
 /// # Errors
-/// `OutOfMemory` where memory is refused; of gets of one try `Again` where one met an update; of typed ports and events `Refused` where one of their calls is.
+/// `OutOfMemory` where memory is refused; of typed ports and events `Refused`, where one of their calls is, for want of memory too.
 pub fn measure<R: Threads + Wait + Sync>(
     rt: &R,
     alloc: Global,

@@ -1,12 +1,12 @@
 //! A race: one thread updates a cell, others get it until they have seen the last update.
-ghost use Rattle.std.specs.Prelude.{ℕ, ◌≡◌, ◌+◌, ◌^◌, ◌<◌, ◌≤◌, ◌↔◌, true, length, map, All, IfOk, OnOk};
+ghost use Rattle.std.specs.Prelude.{ℕ, ◌≡◌, ◌+◌, ◌++◌, ◌^◌, ◌<◌, ◌≤◌, ◌↔◌, true, length, map, replicate, All, IfOk, OnOk};
 ghost use denote.Param.Send.{IsSync};
 ghost use Rattle.board_cell.specs.Passes.{ReaderSeen, notes_of};
 ghost use Rattle.board_cell.specs.History.{IsLegal, history};
-ghost use Rattle.board_bench.specs.Watchers.{AreReaders, AreWide, CanUpdate, HasSeen, HasUpdated, HaveWatched, IsOf, gets_of};
+ghost use Rattle.board_bench.specs.Watchers.{AreReaders, AreWide, CanUpdate, HasReadTo, HasSeen, HasUpdated, HaveWatched, IsOf, counted_up, gets_of, numbered, passes_back};
 
 use board_cell::{CellError, ReaderPass, ThreadedCell, WriterPass};
-use std::alloc::Global;
+use std::alloc::{AllocError, Global};
 use std::sync::Wait;
 use std::thread;
 use std::thread::Threads;
@@ -51,6 +51,7 @@ impl Watcher {
 }
 
 /// Updates the cell with 1, 2 and so on up to the last number, in each word.
+#[tactic(auto, using(crate::proofs::Turns::numbered_more))]
 pub fn write(
     cell: &ThreadedCell,
     mut writer: WriterPass,
@@ -58,7 +59,8 @@ pub fn write(
     last: u64,
 ) -> WriterPass
     requires { CanUpdate cell.now writer words.items last }
-    ensures { HasUpdated cell.now writer result last }
+    ensures updated { HasUpdated cell.now writer result last }
+    ensures values { result.published ≡ writer.published ++ numbered cell.now.width last }
 {
     for i in 0..last {
         words.as_mut_slice().fill(i + 1);
@@ -68,6 +70,7 @@ pub fn write(
 }
 
 /// Gets until the last number is seen.
+#[tactic(auto, using(crate::proofs::Reading::read_last_push))]
 pub fn watch<R: Wait>(rt: &R, cell: &ThreadedCell, watcher: &mut Watcher, last: u64)
     requires { IsOf cell.now watcher.old }
     ensures kept { IsOf cell.now watcher.new }
@@ -84,6 +87,17 @@ pub fn watch<R: Wait>(rt: &R, cell: &ThreadedCell, watcher: &mut Watcher, last: 
     unreachable!()
 }
 
+// A buffer of as many zeros as a value has words, with room behind them.
+fn zeros(alloc: Global, cell: &ThreadedCell) -> Result<Vec<u64>, AllocError>
+    ensures items { IfOk result (λ v. v.items ≡ replicate cell.now.width 0) }
+    ensures len { IfOk result (λ v. length v.items ≡ cell.now.width) }
+{
+    let words = cell.words() as usize;
+    let mut out = Vec::with_capacity(alloc, words.saturating_add(APART))?;
+    out.resize(words, 0)?;
+    Ok(out)
+}
+
 /// So many readers of the cell.
 ///
 /// # Errors
@@ -92,18 +106,15 @@ pub fn watchers_of(
     alloc: Global,
     cell: &ThreadedCell,
     first: &mut ReaderPass,
-    words: &Vec<u64>,
     readers: u64,
 ) -> Result<Vec<Watcher>, CellError>
-    requires cell { first.old.cell ≡ cell.now.cell }
-    requires width { length words.now.items ≡ cell.now.width }
+    requires { first.old.cell ≡ cell.now.cell }
     ensures first { OnOk result (first.new.cell ≡ cell.now.cell) }
     ensures watchers { IfOk result (λ v. AreReaders cell.now readers v.items) }
 {
     let mut watchers = Vec::new(alloc);
     for _ in 0..readers {
-        let mut out = Vec::with_capacity(alloc, words.len().saturating_add(APART))?;
-        out.extend_from_slice(words)?;
+        let out = zeros(alloc, cell)?;
         watchers.push(Watcher {
             pass: cell.split(first),
             out,
@@ -151,6 +162,7 @@ pub fn race<R: Threads + Wait + Sync>(
     requires writer { CanUpdate cell.now writer words.items last }
     requires watchers { All (IsOf cell.now) watchers.items }
     ensures writer { HasUpdated cell.now writer result.0 last }
+    ensures values { result.0.published ≡ writer.published ++ numbered cell.now.width last }
     ensures count { length result.1.items ≡ length watchers.items }
     ensures kept { All (IsOf cell.now) result.1.items }
     ensures seen { All (HasSeen last) result.1.items }
@@ -159,7 +171,8 @@ pub fn race<R: Threads + Wait + Sync>(
         rt,
         move || -> WriterPass
             requires { CanUpdate cell.now writer words.items last }
-            ensures { HasUpdated cell.entry.now writer result last }
+            ensures { HasUpdated cell.entry.now writer result last
+                × (result.published ≡ writer.published ++ numbered cell.entry.now.width last) }
         { write(cell, writer, words, last) },
         move || -> Vec<Watcher>
             requires { IsSync R.row × All (IsOf cell.now) watchers.items }
@@ -172,6 +185,7 @@ pub fn race<R: Threads + Wait + Sync>(
 ///
 /// # Errors
 /// `OutOfMemory` where memory is refused.
+#[tactic(auto, using(crate::proofs::Reading::pass_moved_all))]
 pub fn passes_of(
     alloc: Global,
     cell: &ThreadedCell,
@@ -180,6 +194,7 @@ pub fn passes_of(
     requires { All (IsOf cell.now) watchers.items }
     ensures cell { IfOk result (λ r. All (λ (p : ReaderSeen). p.cell ≡ cell.now.cell) r.0.items) }
     ensures count { IfOk result (λ r. length r.0.items ≡ length watchers.items) }
+    ensures passes { IfOk result (λ r. r.0.items ≡ passes_back watchers.items) }
     ensures gets { IfOk result (λ r. r.1 ≡ gets_of r.0.items) }
 {
     let mut passes = Vec::new(alloc);
@@ -201,6 +216,7 @@ pub fn passes_of(
 ///
 /// # Errors
 /// `OutOfMemory` where memory is refused.
+#[tactic(auto, using(crate::proofs::Reading::have_read_all))]
 pub fn run_shared<R: Threads + Wait + Sync>(
     rt: &R,
     alloc: Global,
@@ -211,14 +227,18 @@ pub fn run_shared<R: Threads + Wait + Sync>(
     requires { updates < 2 ^ 40 }
     ensures updates { IfOk result (λ r. length r.writer.published ≡ updates + 1) }
     ensures wide { IfOk result (λ r. AreWide width r.writer.published) }
+    ensures values { IfOk result (λ r. r.writer.published ≡ counted_up width updates) }
     ensures readers { IfOk result (λ r. length r.readers.items ≡ readers) }
     ensures gets { IfOk result (λ r. r.gets ≡ gets_of r.readers.items) }
     ensures legal { IfOk result (λ r.
         IsLegal (history r.writer.published (map notes_of r.readers.items))) }
+
+    // Each reader's last get copied the last number, or a later one.
+    ensures seen { IfOk result (λ r. All (HasReadTo width updates) r.readers.items) }
 {
     let words = vec![in alloc; 0u64; width as usize]?;
     let (cell, writer, mut first) = ThreadedCell::new(alloc, &words)?;
-    let watchers = watchers_of(alloc, &cell, &mut first, &words, readers)?;
+    let watchers = watchers_of(alloc, &cell, &mut first, readers)?;
     let (mut writer, watchers) = race(rt, &cell, writer, words, watchers, updates);
     let (mut passes, gets) = passes_of(alloc, &cell, watchers)?;
     cell.meet(&mut writer, &mut first);

@@ -11,7 +11,6 @@ use board_names::{
     NamedConceptDoesExistError, Registry, Table,
 };
 use std::alloc::{AllocError, Global};
-use std::collections::BTreeMap;
 use std::marker::Model;
 
 /// A queue that many values share. Clauses see how many numbers it holds, at least one, and whether it overflows; its numbers
@@ -136,7 +135,7 @@ impl Channels {
         let Ok(shared) = queue.share() else {
             return Err(CommunicationChannelCreateError::OutOfMemory);
         };
-        match self.names.insert(*name, queue) {
+        match self.names.insert(name, queue) {
             Ok(_) => Ok(shared),
             Err(_) => Err(CommunicationChannelCreateError::OutOfMemory),
         }
@@ -170,7 +169,7 @@ impl NameTable for Channels {
 
     fn new(alloc: Global) -> Channels {
         Channels {
-            names: BTreeMap::new(alloc),
+            names: Table::new(alloc),
             alloc,
         }
     }

@@ -1,8 +1,7 @@
-//! Sessions of few pairs, sessions with a wrong pair, and how the program ends.
-use crate::{CheckError, Rule, Verdict, check, check_words, run_program};
+//! Sessions of few pairs, sessions with a wrong pair, and faults of source and sink.
+use crate::{CheckError, Rule, Verdict, check, check_words};
 use script_loop::{MemorySink, MemorySource};
 use std::alloc::Global;
-use std::process::ExitCode;
 use std::test::Fail;
 
 // Lines and answers in turn, and the program's status, output and note on them, with the read that fails and the sink's room.
@@ -62,21 +61,6 @@ fn faults_are_noted(rt: HostRuntime) -> Result<(), Fail> {
     for trial in &trials {
         assert!(rt; is_so(rt.alloc(), trial)?);
     }
-    Ok(())
-}
-
-#[test]
-fn words_are_on_the_command_line(rt: HostRuntime) -> Result<(), Fail> {
-    let alloc = rt.alloc();
-    let mut words = Vec::new(alloc);
-    words.push(String::new(alloc))?;
-    let mut source = MemorySource::new(Vec::from_slice(alloc, MADE)?, 0, Vec::new(alloc));
-    let mut sink = MemorySink::new(alloc, 100, 0, Vec::new(alloc))?;
-    let mut notes = MemorySink::new(alloc, 100, 0, Vec::new(alloc))?;
-    let code = run_program(alloc, &words, &mut source, &mut sink, &mut notes);
-    assert_eq!(rt; code, ExitCode::from(2));
-    assert_eq!(rt; sink.held(), b"".as_slice());
-    assert_eq!(rt; notes.held(), b"usage: board_check_run\n".as_slice());
     Ok(())
 }
 

@@ -1,14 +1,9 @@
 -- What the steps on the rows leave: no name is new.
-use Rattle.std.specs.Prelude.{◌≡◌, ℕ, Bool, true, false, cond, List, Option, Some, None}
+use Rattle.std.specs.Prelude.{◌≡◌, ℕ, List, Some}
 use Rattle.board_names.specs.Table.{at}
 use Rattle.board_event_model.specs.declared.kind.EventKind.{EventKind}
 use Rattle.board_event_model.specs.declared.kind.EventKind.TheVariants as kind
 use Rattle.board_event_core.specs.EventTable.{AreLeft, EventTable, names_of, with_names, without_event}
-
--- what is found where one entry was taken out stood before
-pub found_before : {X : Type 0} (b : Bool) (old new : Option X) (x : X) → new ≡ cond b None old → new ≡ Some x → old ≡ Some x
-found_before true old new x is found = absurd (let none = (rw is at found) in cc)
-found_before false old new x is found = rw is at found
 
 -- fewer names of one kind
 pub left_of_kind : (t : EventTable) (k : EventKind) (names : List (List ℕ × ℕ)) → ((name : List ℕ) (n : ℕ) → at names name ≡ Some n → at (names_of k t) name ≡ Some n) → AreLeft t (with_names k t names)

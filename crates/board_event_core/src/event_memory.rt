@@ -9,7 +9,7 @@ use crate::bit_set::BitSet;
 use crate::semaphore::Semaphore;
 use crate::signal_mechanism::SignalMechanism;
 use board_event_model::{EventAccess, EventAnswer, EventKind};
-use board_names::FilePath;
+use board_names::{FilePath, KeptPath};
 use circular_buffer::HeapCircularBuffer;
 use std::alloc::{AllocError, Global};
 use std::marker::Model;
@@ -27,7 +27,7 @@ pub(crate) enum Pending {
 /// The memory of one event. Clauses see the event.
 #[derive(Drop)]
 pub(crate) struct EventMemory {
-    name: FilePath,
+    name: KeptPath,
     max: u64,
     pending: Pending,
     signals: Semaphore,
@@ -80,7 +80,7 @@ impl EventMemory {
             }
         };
         Ok(EventMemory {
-            name: *name,
+            name: KeptPath::of(alloc, name)?,
             max,
             pending,
             signals: Semaphore::new(),
@@ -100,11 +100,18 @@ impl EventMemory {
         }
     }
 
-    /// Its full name.
-    pub fn name(&self) -> &FilePath
+    /// The bytes of its full name.
+    pub fn name(&self) -> &[u8]
         ensures { result.now ≡ self.now.name }
     {
-        &self.name
+        self.name.as_bytes()
+    }
+
+    /// Its full name.
+    pub fn path(&self) -> FilePath
+        ensures { result ≡ self.now.name }
+    {
+        self.name.path()
     }
 
     /// The greatest id that was handed to `new`.

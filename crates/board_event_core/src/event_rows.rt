@@ -43,8 +43,8 @@ impl EventRows {
         EventRows {
             drawn: 0,
             events: BTreeMap::new(alloc),
-            bits: BTreeMap::new(alloc),
-            queues: BTreeMap::new(alloc),
+            bits: Table::new(alloc),
+            queues: Table::new(alloc),
             alloc,
         }
     }
@@ -131,8 +131,8 @@ impl EventRows {
         ensures refused { result ≡ false → self.new ≡ self.old }
     {
         match kind {
-            EventKind::Bits => self.bits.insert(*name, number).is_ok(),
-            EventKind::Queue => self.queues.insert(*name, number).is_ok(),
+            EventKind::Bits => self.bits.insert(name, number).is_ok(),
+            EventKind::Queue => self.queues.insert(name, number).is_ok(),
         }
     }
 
@@ -233,7 +233,7 @@ impl EventRows {
         ensures gone { IsSomeAnd (event_at self.old event) (λ e. LosesName e self.new event) }
     {
         let memory = self.standing(event);
-        let (kind, name) = (memory.kind(), *memory.name());
+        let (kind, name) = (memory.kind(), memory.path());
         if !memory.holds_name() {
             self.free_name(kind, &name, event);
         }

@@ -107,7 +107,7 @@ impl Events {
         ensures ascend { NamesAscend (names_of kind self.now) }
     {
         table_stands(self);
-        self.rows.names(kind).keys().nth(index).copied()
+        self.rows.names(kind).name_at(index)
     }
 
     /// Lets a name of this kind go, and tells whether it was held. Its event goes on without the name.
@@ -224,8 +224,8 @@ impl Events {
         self.rows.standing(event).kind()
     }
 
-    /// The full name with which an event was made.
-    pub fn full_name_of(&self, event: u64) -> &FilePath
+    /// The bytes of the full name with which an event was made.
+    pub fn full_name_of(&self, event: u64) -> &[u8]
         requires { IsSome (event_at self.now event) }
         ensures { IsSomeAnd (event_at self.now event) (λ e. result.now ≡ e.name) }
     {

@@ -1,9 +1,18 @@
 -- Files in memory after their changes.
 use Rattle.std.proofs.Common.{◌≡◌, ℕ, zero, suc, ◌+◌, ◌<◌, ◌≤◌, List, [], ◌∷◌, ◌++◌, length, take, get_or, refl, sym, ◌∙◌, ap, arith}
+use Rattle.std.specs.Prelude.{Bool, true, false, cond, Option, Some, None}
+use Rattle.std.specs.declared.cmp.Ordering.{Ordering}
+use Rattle.std.specs.declared.cmp.Ordering.TheVariants.{Less, Equal, Greater}
+use Rattle.std.specs.Ordering.{match_ordering, nat_cmp}
+use Rattle.std.specs.Map.{remove_entry}
+use Rattle.std.specs.BTreeMap.{insert_entry, is_at}
+use Rattle.std.specs.Cmp.Lexicographic.{slice_cmp}
 use Rattle.std.proofs.lemmas.List.{take_all, take_more}
+use Rattle.board_names.specs.Table.{at}
 use Rattle.board_files.specs.Files.{File, Held, Told, moved}
-use Rattle.board_files.specs.Changes.{applied, replayed, moments_from, told_after, last_moment, stopped_at}
+use Rattle.board_files.specs.Changes.{altered_by, applied, replayed, moments_from, told_after, last_moment, stopped_at}
 use Rattle.board_files.specs.declared.changes.Change.{Change}
+use Rattle.board_files.specs.declared.changes.Change.TheVariants.{Made, Wrote, Finished, Removed}
 
 pub replayed-push : (files : Held) (changes : List Change) (c : Change) → replayed files (changes ++ c ∷ []) ≡ applied c (replayed files changes)
 replayed-push files [] c = refl
@@ -47,3 +56,41 @@ pub stopped-next : (front : List Change) (i : ℕ) (c : Change) (now next : Told
 stopped-next front i c now next less item so made =
     made ∙ ap (λ t. moved t (applied c t.files)) so ∙ sym (told_after-push (take i front) c)
     ∙ ap told_after (ap (λ d. take i front ++ d ∷ []) item ∙ sym (take_more front i c less))
+
+-- a new entry is one more at most
+length-insert_entry : {K X : Type 0} (cmp : K → K → Ordering) (es : List (K × X)) (k : K) (x : X) → length (insert_entry cmp es k x) ≤ length es + 1
+length-insert_entry cmp [] k x = omega arith
+length-insert_entry cmp (e ∷ es) k x =
+    elim (cmp k e.0) as (λ o. length (match_ordering o ((k, x) ∷ e ∷ es) ((e.0, x) ∷ es) (e ∷ insert_entry cmp es k x)) ≤ length (e ∷ es) + 1) [
+      | Less ↦ omega arith
+      | Equal ↦ omega arith
+      | Greater ↦ let more = length-insert_entry cmp es k x in omega (arith, more)
+    ]
+
+-- an entry that is taken out is none more
+length-remove_entry : {K X : Type 0} (test : K → Bool) (es : List (K × X)) → length (remove_entry test es) ≤ length es
+length-remove_entry test [] = omega arith
+length-remove_entry test (e ∷ es) =
+    elim (test e.0) as (λ b. length (cond b es (e ∷ remove_entry test es)) ≤ length (e ∷ es)) [
+      | true ↦ omega arith
+      | false ↦ let fewer = length-remove_entry test es in omega (arith, fewer)
+    ]
+
+length-altered_by : (files : Held) (name : List ℕ) (change : File → File) (one : Option File) → length (altered_by files name change one) ≤ length files + 1
+length-altered_by files name change None = omega arith
+length-altered_by files name change (Some file) = length-insert_entry _ files name (change file)
+
+-- a change makes one file at most
+length-applied : (c : Change) (files : Held) → length (applied c files) ≤ length files + 1
+length-applied (Made name) files = length-insert_entry _ files name _
+length-applied (Wrote name bytes) files = length-altered_by files name _ (at files name)
+length-applied (Finished name) files = length-altered_by files name _ (at files name)
+length-applied (Removed name) files = let fewer = length-remove_entry (is_at (slice_cmp nat_cmp name)) files in omega (arith, fewer)
+
+-- there are no more files than there were, and changes
+pub length-replayed : (files : Held) (changes : List Change) → length (replayed files changes) ≤ length files + length changes
+length-replayed files [] = omega arith
+length-replayed files (c ∷ changes) =
+    let one = length-applied c files in
+    let rest = length-replayed (applied c files) changes in
+    omega (arith, one, rest)

@@ -1,5 +1,5 @@
 -- What a call that failed counts.
-use Rattle.std.proofs.Common.{◌≡◌, ℕ, zero, suc, ◌+◌, ◌-◌, ◌^◌, ◌<◌, min, refl, arith, sym, ◌∙◌, ap, subst, Result, Err}
+use Rattle.std.proofs.Common.{◌≡◌, ℕ, zero, suc, ◌+◌, ◌<◌, refl, arith, sym, ◌∙◌, ap, subst, Result, Err}
 use Rattle.board_files.specs.Files.{Counts, raised, HasRisen, CountsCall, CountsWrite}
 use Rattle.board_files.specs.declared.files.FilesError.{FilesError}
 use Rattle.board_files.specs.declared.files.FilesError.TheVariants.{Failed}

@@ -1,11 +1,11 @@
 -- What is told of files after a call on them.
-use Rattle.std.proofs.Common.{◌≡◌, ◌≢◌, ℕ, ◌+◌, ◌<◌, ◌≤◌, List, [], ◌∷◌, ◌++◌, length, take, drop, refl, sym, ◌∙◌, ap, subst, arith}
-use Rattle.std.specs.Prelude.{Bool, true, false, not, is_some, Option, Some, None, option_map, IfSome, IsSomeAnd, IsSome, All}
+use Rattle.std.proofs.Common.{◌≡◌, ℕ, List, [], ◌∷◌, ◌++◌, refl, sym, ◌∙◌, ap, subst}
+use Rattle.std.specs.Prelude.{true, false, not, is_some, Option, Some, None, IsSome}
 use Rattle.std.proofs.lemmas.List.{append-nil, append_assoc}
 use Rattle.std.proofs.lemmas.List.Elements.{All-nil, All-cons, All-append}
 use Rattle.board_names.specs.Table.{at, putting}
-use Rattle.board_names.proofs.TableLemmas.{at-putting, at-putting-other}
-use Rattle.board_files.specs.Files.{File, Held, Told, new_file, final_file, lengthened, finished, moved, created, created_by, written, written_by, finalized, finalized_by, AddsMoments, SameOthers}
+use Rattle.board_names.proofs.TableLemmas.{at-putting-other}
+use Rattle.board_files.specs.Files.{File, Held, Told, new_file, final_file, lengthened, moved, created, created_by, written, written_by, finalized, finalized_by, AddsMoments, SameOthers}
 use Rattle.board_files.specs.Storage.{FromTo}
 
 -- ---- Options

@@ -1,6 +1,6 @@
 -- How the names of the final files are listed.
-use Rattle.std.proofs.Common.{◌≡◌, ℕ, ◌+◌, ◌-◌, ◌^◌, ◌<◌, ◌≤◌, List, [], ◌∷◌, ◌++◌, length, drop, get_or, refl, sym, ◌∙◌, ap, subst, arith, ⊎_elim}
-use Rattle.std.specs.Prelude.{Bool, true, false, cond, Option, Some, None, option_map, option_to_list, slice_get, Result, Ok, Err, IfSome}
+use Rattle.std.proofs.Common.{◌≡◌, ℕ, ◌+◌, ◌^◌, ◌<◌, ◌≤◌, List, [], ◌∷◌, length, drop, refl, sym, ◌∙◌, ap, subst, arith, ⊎_elim}
+use Rattle.std.specs.Prelude.{Bool, true, false, cond, Option, Some, None, option_map, slice_get, Result, Ok, Err, IfSome}
 use Rattle.std.specs.List.{AllByRecursion, filter}
 use Rattle.std.specs.List.Sorted.{IsStrictlySortedBy}
 use Rattle.std.specs.Map.{keys_of}
@@ -14,7 +14,7 @@ use Rattle.std.proofs.lemmas.Map.Entries.{lookup_from_place}
 use Rattle.std.proofs.lemmas.Map.Keys.{IsDistinct-from_sorted}
 use Rattle.std.proofs.lemmas.Option.{slice_get-map, slice_get-get_or, slice_get_within, get_or_from_slice_get}
 use Rattle.board_names.specs.declared.configuration.Configuration.{Configuration}
-use Rattle.board_names.specs.Extraction.{Extracts, Lists, FullNamesAscend}
+use Rattle.board_names.specs.Extraction.{Lists, FullNamesAscend}
 use Rattle.board_names.specs.Table.{at, name_at, NamesAscend}
 use Rattle.board_names.proofs.Listing.{ListsBehind, ListsBehind-next, Lists-ascend}
 use Rattle.board_files.specs.Files.{File, Held, Told, new_file, AreListed, TellsName, LooksAt}

@@ -1,6 +1,6 @@
 -- What `create` and `unlock` of a static storage over files answer and leave.
-use Rattle.std.proofs.Common.{◌≡◌, ◌≢◌, ℕ, ◌+◌, ◌<◌, ◌≤◌, List, [], ◌∷◌, ◌++◌, length, take, drop, refl, sym, ◌∙◌, ap, subst, arith, inl, inr, ⊎_elim}
-use Rattle.std.specs.Prelude.{Bool, true, false, nat_lt, not, is_some, Option, Some, None, option_map, Result, Ok, Err, IfSome, IsSomeAnd, IsSome, OnOk, OnErr, IsErrOf, All, if◌then◌else◌}
+use Rattle.std.proofs.Common.{◌≡◌, ◌≢◌, ℕ, ◌<◌, ◌≤◌, List, [], ◌∷◌, ◌++◌, length, take, refl, sym, ◌∙◌, ap, subst, arith, inl, inr, ⊎_elim}
+use Rattle.std.specs.Prelude.{Bool, true, false, nat_lt, Option, Some, None, option_map, Result, Ok, Err, IfSome, IsSomeAnd, OnOk, OnErr, if◌then◌else◌}
 use Rattle.std.proofs.lemmas.Bool.{ltb-true, lt-ltb, cases_lt}
 use Rattle.std.proofs.lemmas.List.{take_all}
 use Rattle.board_names.specs.declared.configuration.Configuration.{Configuration}
@@ -11,7 +11,7 @@ use Rattle.board_names.specs.declared.errors.static_storage.StaticStorageCreateE
 use Rattle.board_names.specs.declared.errors.static_storage.StaticStorageUnlockError.{StaticStorageUnlockError}
 use Rattle.board_names.specs.declared.errors.static_storage.StaticStorageUnlockError.TheVariants as unlocking
 use Rattle.board_names.proofs.TableLemmas.{at-putting}
-use Rattle.board_files.specs.Files.{File, Held, Told, new_file, final_file, lengthened, moved, created, written, written_by, finalized, HasRisen, Creates, Writes, Finalizes, CountsFaults, CountsShort, AddsMoments, SameOthers}
+use Rattle.board_files.specs.Files.{Held, Told, new_file, final_file, lengthened, created, written, finalized, Creates, Writes, Finalizes, CountsShort, AddsMoments, SameOthers}
 use Rattle.board_files.specs.Storage.{AnswersOr, FromTo, locked_of, create_answer, LeftBy, UnlockLeaves, IsOpen, IsFresh, IsWhole, HasFront, IsLockedMoment, IsUnlockMoment}
 use Rattle.board_files.specs.Told.{create_told, write_told, final_told}
 use Rattle.board_files.specs.declared.files.FilesError.{FilesError}

@@ -1,5 +1,5 @@
 -- What `open`, `read` and `remove` of a static storage over files answer.
-use Rattle.std.proofs.Common.{◌≡◌, ◌≢◌, ℕ, ◌<◌, ◌≤◌, List, ◌++◌, length, take, drop, refl, sym, ◌∙◌, ap, subst}
+use Rattle.std.proofs.Common.{◌≡◌, ℕ, ◌<◌, ◌≤◌, List, ◌++◌, length, take, drop, refl, sym, ap, subst}
 use Rattle.std.specs.Prelude.{Bool, true, false, ◌==◌, is_some, Option, Some, None, Result, Ok, Err, IfSome, IsSomeAnd, OnOk, if◌then◌else◌}
 use Rattle.std.proofs.lemmas.Bool.{eqb-true, lt-ltb, le-ltb}
 use Rattle.board_layout.specs.Answer.{with_value}

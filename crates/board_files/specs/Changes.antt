@@ -1,5 +1,5 @@
 -- Files in memory as the list of their changes.
-use Rattle.std.specs.Prelude.{◌≡◌, ℕ, List, [], ◌∷◌, Option, Some, None, ⊤, take}
+use Rattle.std.specs.Prelude.{ℕ, List, [], ◌∷◌, Option, Some, None, ⊤, take}
 use Rattle.board_names.specs.Table.{at, putting, without, IsFree}
 use Rattle.board_files.specs.Files.{File, Held, Told, new_file, lengthened, finished}
 use Rattle.board_files.specs.declared.changes.Change.{Change}

@@ -1,5 +1,5 @@
 -- Files that are written once, and what each call on them answers and leaves.
-use Rattle.std.specs.Prelude.{◌≡◌, ◌≢◌, ℕ, ◌+◌, ◌-◌, ◌*◌, ◌^◌, ◌<◌, ◌≤◌, List, [], ◌∷◌, ◌++◌, length, take, drop, min, Bool, true, false, not, is_some, is_none, Option, Some, None, option_map, Result, Ok, Err, IfSome, IfOk, OnOk, IsSome, IsSomeAnd, All}
+use Rattle.std.specs.Prelude.{◌≡◌, ◌≢◌, ℕ, ◌+◌, ◌-◌, ◌^◌, ◌<◌, ◌≤◌, List, [], ◌∷◌, ◌++◌, length, take, drop, min, Bool, true, false, not, is_some, Option, Some, None, option_map, Result, Ok, Err, IfSome, IfOk, OnOk, IsSome, IsSomeAnd, All}
 use Rattle.board_names.specs.Table.{at, putting, without, name_at, NamesAscend, IsFree}
 use Rattle.board_files.specs.declared.files.FilesError.{FilesError}
 use Rattle.board_files.specs.declared.files.FilesError.TheVariants.{Failed, OutOfMemory}

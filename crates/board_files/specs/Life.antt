@@ -1,5 +1,5 @@
 -- Why the life of a storage over files ends early.
-use Rattle.std.specs.Prelude.{◌≡◌, ◌≢◌, ◌⊎◌, ℕ, ◌<◌, Bool, true, false, ⊤, Result, Ok, Err}
+use Rattle.std.specs.Prelude.{◌≡◌, ◌≢◌, ℕ, ◌<◌, Bool, true, false, ⊤, Result, Ok, Err}
 use Rattle.board_names.specs.declared.errors.static_storage.StaticStorageCreateError.TheVariants.{Creation}
 use Rattle.board_names.specs.declared.errors.static_storage.StaticStorageOpenError.{StaticStorageOpenError}
 use Rattle.board_names.specs.declared.errors.static_storage.StaticStorageOpenError.TheVariants as opening

@@ -1,5 +1,5 @@
 -- Files in memory that fail where they are told to.
-use Rattle.std.specs.Prelude.{◌≡◌, ◌⊎◌, ℕ, ◌+◌, ◌-◌, ◌^◌, ◌==◌, List, min, Bool, Option, Some, None, find, IsTrue}
+use Rattle.std.specs.Prelude.{◌≡◌, ◌⊎◌, ℕ, ◌==◌, List, min, Bool, Option, Some, None, find, IsTrue}
 use Rattle.std.specs.List.{list_any}
 use Rattle.board_names.specs.Table.{IsFree}
 use Rattle.board_files.specs.Files.{Counts, raised}

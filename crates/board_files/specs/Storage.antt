@@ -1,5 +1,5 @@
 -- Static storage over files: what its calls answer, what they leave, and what others find at each moment.
-use Rattle.std.specs.Prelude.{◌≡◌, ◌≢◌, ◌⊎◌, ℕ, ◌<◌, ◌==◌, List, [], ◌∷◌, ◌++◌, length, take, drop, min, Bool, true, false, nat_lt, not, is_some, slice_get, Option, option_map, Some, None, ⊤, IsTrue, Result, Ok, Err, IsOk, IfSome, IsSomeAnd, IsErrOf, OnOk, OnErr, option_to_list, if◌then◌else◌}
+use Rattle.std.specs.Prelude.{◌≡◌, ◌≢◌, ◌⊎◌, ℕ, ◌<◌, ◌==◌, List, ◌++◌, length, take, min, Bool, true, false, nat_lt, slice_get, Option, option_map, Some, None, ⊤, Result, Ok, Err, IsOk, IfSome, IsSomeAnd, IsErrOf, option_to_list, if◌then◌else◌}
 use Rattle.std.specs.List.{filter}
 use Rattle.std.specs.Map.{keys_of}
 use Rattle.board_layout.specs.Answer.{with_value}
@@ -19,7 +19,7 @@ use Rattle.board_names.specs.declared.errors.static_storage.StaticStorageReadErr
 use Rattle.board_names.specs.declared.errors.static_storage.StaticStorageUnlockError.{StaticStorageUnlockError}
 use Rattle.board_names.specs.declared.errors.static_storage.StaticStorageUnlockError.TheVariants.{NoSpaceLeft}
 use Rattle.board_names.specs.declared.errors.static_storage.StaticStorageUnlockError.TheVariants as unlocking
-use Rattle.board_files.specs.Files.{File, Held, Told, Counts, new_file, final_file, written, finalized, HasRisen, AddsMoments, SameOthers}
+use Rattle.board_files.specs.Files.{File, Held, Told, Counts, new_file, final_file, written, finalized, HasRisen, SameOthers}
 use Rattle.board_files.specs.declared.file_locked.FileLocked.{FileLocked}
 use Rattle.board_files.specs.declared.file_storage.FileStorage.{FileStorage}
 

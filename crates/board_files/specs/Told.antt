@@ -1,5 +1,5 @@
 -- How the calls of a static storage hand on what files answered.
-use Rattle.std.specs.Prelude.{ℕ, List, Bool, true, false, nat_lt, nat_eq, not, Option, Some, None, Result, Ok, Err, if◌then◌else◌}
+use Rattle.std.specs.Prelude.{ℕ, List, Bool, true, false, nat_lt, Option, Some, None, Result, Ok, Err, if◌then◌else◌}
 use Rattle.board_files.specs.declared.files.FilesError.{FilesError}
 use Rattle.board_files.specs.declared.files.FilesError.TheVariants.{Failed, OutOfMemory}
 use Rattle.board_files.specs.declared.file_locked.FileLocked.{FileLocked}

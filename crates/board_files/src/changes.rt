@@ -69,8 +69,6 @@ fn put(files: &mut Table<StoredFile>, name: &FilePath, file: StoredFile) -> Resu
     ensures ok { OnOk result (files.new.entries ≡ putting files.old.entries name.now file) }
     ensures err { OnErr result (files.new.entries ≡ files.old.entries) }
 {
-    match files.insert(*name, file) {
-        Ok(_) => Ok(()),
-        Err(_) => Err(AllocError),
-    }
+    files.insert(name, file)?;
+    Ok(())
 }

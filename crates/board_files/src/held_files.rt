@@ -9,7 +9,6 @@ use crate::stored_file::StoredFile;
 use board_names::{FilePath, Table};
 use board_store::Content;
 use std::alloc::{AllocError, Global};
-use std::collections::BTreeMap;
 use std::marker::Model;
 
 /// Files in memory, with the list of their changes. Clauses see the files, and what was held after each change.
@@ -38,7 +37,7 @@ impl HeldFiles {
         ensures { result ≡ told_after [] }
     {
         HeldFiles {
-            files: BTreeMap::new(alloc),
+            files: Table::new(alloc),
             changes: Vec::new(alloc),
             alloc,
         }
@@ -131,7 +130,15 @@ impl HeldFiles {
         ensures value { result ≡ name_at self.now.files index }
         ensures listed { AreListed self.now.files }
     {
-        self.files.keys().nth(index).copied()
+        self.are_few();
+        self.files.name_at(index)
+    }
+
+    /// There are no more files than changes, so an index counts them.
+    fn are_few(&self)
+        ensures { length self.now.files < 2 ^ 63 }
+    {
+        let _changes = self.changes.as_slice();
     }
 
     /// The files as they stood after so many changes.

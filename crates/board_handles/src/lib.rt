@@ -6,8 +6,8 @@
 //! with what becomes of the cells' ends (`specs/LentForms`).
 //!
 //! What stands behind the lock is known by its type alone. So a call on a thing first asks whether that thing is held,
-//! and answers `ThingUnknown` where it isn't. Where the typed calls alone are used, it never isn't: a builder borrows
-//! what it makes ports or services of.
+//! and answers `ThingUnknown` where it isn't. Where the typed calls alone are used, it never isn't: a builder of ports
+//! borrows the factory that it makes them of (`typed_calls_alone`, of the lent forms).
 //!
 //! A handle has an end of its entry's cell. Its calls take no lock, no memory and wait for nobody (`specs/Handles`), but
 //! `get`, which may wait for a writer, `release`, which locks, and `sent_receipt`, which takes one more owner of the cell.

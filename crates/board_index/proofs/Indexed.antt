@@ -1,6 +1,7 @@
 -- What the maps of the boards have, as boards come and go.
 use Rattle.std.proofs.Common.{◌≡◌, ◌≢◌, ℕ, ◌+◌, ◌≤◌, ◌<◌, Bool, true, false, cond, ◌==◌, List, [], ◌∷◌, Option, Some, None, refl, sym, ap, subst, ◌∙◌, arith}
-use Rattle.std.specs.Prelude.{find, is_some, min, nat_eq, option_map, ◌||◌, IfSome, IsSome, IsSomeAnd}
+use Rattle.std.specs.Prelude.{find, is_some, min, nat_eq, option_map, ◌||◌, IfSome, IsSome, IsSomeAnd, Vec}
+use Rattle.std.specs.Global.{Box}
 use Rattle.std.specs.HashMap.{HashMap, WritesThrough, spare}
 use Rattle.std.specs.List.{list_any, position_from}
 use Rattle.std.specs.Map.{lookup, set_value}
@@ -9,15 +10,15 @@ use Rattle.std.proofs.lemmas.Slice.Eq.{bytes_eq-Decides}
 use Rattle.board_model.specs.declared.tables.Board.{Board}
 use Rattle.board_model.specs.Tables.{has_name, is_numbered, without_first}
 use Rattle.board_model.proofs.ListLemmas.{same_bytes}
-use Rattle.board_index.specs.Boards.{AreIndexed, IsRow, at, but_at, called, seen, set_at, with_cells_in}
+use Rattle.board_index.specs.Boards.{AreIndexed, IsRow, at, but_at, called, rows_under, seen, set_at, with_cells_in}
 use Rattle.board_numbered.specs.Standing.{standing, under}
 use Rattle.board_numbered.proofs.Standing.{Picks, found_standing, is_other, is_same, none_standing, standing_same, without_standing}
 use Rattle.board_index.proofs.Beside.{beside_at, beside_gone, beside_put, nowhere}
 
-abbrev a_board : Board → Option Board
+abbrev pub a_board : Board → Option Board
 a_board b = Some b
 
-abbrev a_number : ℕ → Option ℕ
+abbrev pub a_number : ℕ → Option ℕ
 a_number n = Some n
 
 not_true : (b : Bool) → (b ≡ true → ⊥) → b ≡ false
@@ -27,6 +28,19 @@ not_true false f = refl
 -- another number
 pub unequal : (n k : ℕ) → n ≢ k → nat_eq k n ≡ false
 unequal n k other = not_true (nat_eq k n) (λ z. other (sym (is_same k n z)))
+
+-- a map's rows, as one comes or goes
+pub rows_turned : {X Y : Type 0} (f : X → Y) (old new o : Option X) (z : Bool) → new ≡ cond z o old → option_map f new ≡ cond z (option_map f o) (option_map f old)
+rows_turned f old new o true e = ap (option_map f) e
+rows_turned f old new o false e = ap (option_map f) e
+
+-- what has changed under one number alone
+module _ {X : Type 0} (old new : ℕ → Option X) (number : ℕ) (o : Option X) (turned : (n : ℕ) → new n ≡ cond (nat_eq number n) o (old n)) where
+  pub put_there : new number ≡ o
+  put_there = turned number ∙ ap (λ (z : Bool). cond z o (old number)) (let same : nat_eq number number ≡ true = grind arith in same)
+
+  pub put_others : (n : ℕ) → n ≢ number → new n ≡ old n
+  put_others n other = turned n ∙ ap (λ (z : Bool). cond z o (old n)) (unequal n number other)
 
 pub map_some : {X Y : Type 0} (f : X → Y) (o : Option X) → is_some (option_map f o) ≡ is_some o
 map_some f None = refl
@@ -317,12 +331,12 @@ module _ {X S : Type 0} (k : ℕ) (m n : HashMap ℕ X S) (w : X) (writes : Writ
 pub same_loan : {N D E R : Type 0} (left : N → (E → D) → D → R) (name : N) {F G : E → D} {u v : D} → ((w : E) → F w ≡ G w) → u ≡ v → left name F u ≡ left name G v
 same_loan left name written rest = λ i. left name (λ w. written w i) (rest i)
 
-module _ {C S T R : Type 0} (rows : HashMap ℕ Board S) (cells new : HashMap ℕ C T) (names : HashMap (List ℕ) ℕ R) (last number : ℕ) (h : AreIndexed (under rows) (under cells) (called names) last) where
+module _ {C S T R Z : Type 0} (rows : HashMap ℕ (Box Board) S) (cells new : HashMap ℕ C T) (names : HashMap (Vec ℕ Z) ℕ R) (last number : ℕ) (h : AreIndexed (rows_under rows) (under cells) (called names) last) where
   -- other cells of the board
   pub seen_written : (w : C) → WritesThrough nat_eq (nat_eq number) cells w new → seen rows new names last ≡ with_cells_in (seen rows cells names last) number w
   seen_written w writes =
       let put = cells_put h number w (under new) (written_there number cells new w writes) (written_others number cells new w writes) (λ none. written_absent number cells new w writes none number ∙ none) in
-      λ i. record { boards = standing (under rows) last; cells = put i; last = last; room = min (spare rows) (min (writes.6 i) (spare names)) }
+      λ i. record { boards = standing (rows_under rows) last; cells = put i; last = last; room = min (spare rows) (min (writes.6 i) (spare names)) }
 
   -- nothing else
   pub seen_unwritten : new ≡ cells → seen rows new names last ≡ seen rows cells names last

@@ -1,2 +1,3 @@
 pub mod Beside
+mod Called
 pub mod Indexed

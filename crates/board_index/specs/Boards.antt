@@ -1,6 +1,7 @@
 -- The boards of a domain with their cells, as contracts see them, and how maps give them.
-use Rattle.std.specs.Prelude.{◌≡◌, ℕ, ◌<◌, ◌≤◌, min, List, Option, Some, None, is_some, IfSome, IsSomeAnd, remove, slice_get, slice_set}
-use Rattle.std.specs.HashMap.{HashMap, get, spare}
+use Rattle.std.specs.Prelude.{◌≡◌, ℕ, ◌<◌, ◌≤◌, min, List, Option, Some, None, is_some, nat_eq, option_map, IfSome, IsSomeAnd, remove, slice_get, slice_set, Vec}
+use Rattle.std.specs.Global.{Box}
+use Rattle.std.specs.HashMap.{HashMap, get, get_by, spare}
 use Rattle.std.specs.List.{position_from}
 use Rattle.std.specs.Str.{bytes_eq}
 use Rattle.board_model.specs.declared.tables.Board.{Board}
@@ -41,14 +42,18 @@ with_cells_in d number c = record d { cells = set_at d.cells (position_from (is_
 
 -- ---- how they are kept; no public clause speaks of what follows
 
+-- the boards that a map has under numbers
+abbrev pub rows_under : {S : Type 0} → HashMap ℕ (Box Board) S → ℕ → Option Board
+rows_under m = λ number. option_map (λ b. b.value) (get nat_eq m number)
+
 -- the numbers that a map has under names
-abbrev pub called : {S : Type 0} → HashMap (List ℕ) ℕ S → List ℕ → Option ℕ
-called m = λ name. get bytes_eq m name
+abbrev pub called : {S Z : Type 0} → HashMap (Vec ℕ Z) ℕ S → List ℕ → Option ℕ
+called m = λ name. get_by (λ k. bytes_eq name k.items) m
 
 -- what contracts see of the maps
-abbrev pub seen : {C S T R : Type 0} → HashMap ℕ Board S → HashMap ℕ C T → HashMap (List ℕ) ℕ R → ℕ → Rows C
+abbrev pub seen : {C S T R Z : Type 0} → HashMap ℕ (Box Board) S → HashMap ℕ C T → HashMap (Vec ℕ Z) ℕ R → ℕ → Rows C
 seen rows cells names last = record {
-  boards = standing (under rows) last;
+  boards = standing (rows_under rows) last;
   cells = standing (under cells) last;
   last = last;
   room = min (spare rows) (min (spare cells) (spare names));

@@ -1,14 +1,14 @@
 //! The boards under their numbers and names.
-ghost use Rattle.std.specs.Prelude.{◌≡◌, ◌+◌, ◌<◌, ◌^◌, ◌-◌, ◌++◌, ◌∷◌, [], ℕ, List, None, Some, IsSome, OnOk, false, find, option_map, is_some, nat_eq};
+ghost use Rattle.std.specs.Prelude.{◌≡◌, ◌+◌, ◌<◌, ◌^◌, ◌-◌, ◌++◌, ◌∷◌, [], ℕ, List, None, Some, IsSome, OnOk, false, cond, find, option_map, is_some, nat_eq};
 ghost use Rattle.std.specs.Borrow.{LendsIf, sem};
 ghost use Rattle.std.specs.HashMap.{get, spare};
 ghost use Rattle.std.specs.List.{list_any, position_from};
-ghost use Rattle.std.specs.Str.{bytes_eq};
-ghost use Rattle.board_index.specs.Boards.{but_at, cells_in, with_cells_in};
+ghost use Rattle.board_index.specs.Boards.{but_at, called, cells_in, rows_under, with_cells_in};
 ghost use Rattle.board_index.specs.contracts.boards.Boards.{the_row};
 ghost use Rattle.board_model.specs.Tables as tables;
 
 use crate::board_row::BoardRow;
+use crate::new_board::NewBoard;
 use board_names::ServiceName;
 use std::alloc::{AllocError, Global};
 use std::collections::HashMap;
@@ -17,33 +17,33 @@ use std::marker::Model;
 /// The boards of a domain in the order of making, each with its cells. Numbers are drawn from 1 on, and none is drawn again.
 #[derive(Drop)]
 pub struct Boards<C> {
-    rows: HashMap<u64, BoardRow>,
+    rows: HashMap<u64, Box<BoardRow>>,
     cells: HashMap<u64, C>,
-    /// The number of the board of a name.
-    names: HashMap<ServiceName, u64>,
+    /// The number of the board of a name, which is kept by as many bytes as it has.
+    names: HashMap<Vec<u8>, u64>,
     last: u64,
 }
 
 impl<C> Model for Boards<C> {
-    ghost use Rattle.board_index.specs.Boards.{AreIndexed, Rows, called, seen};
+    ghost use Rattle.board_index.specs.Boards.{AreIndexed, Rows, called, rows_under, seen};
     ghost use Rattle.board_numbered.specs.Standing.{under};
 
     ghost Value = { Rows C };
 
     ghost view = { λ d. seen d.rows d.cells d.names d.last };
 
-    ghost invariant = { λ d. AreIndexed (under d.rows) (under d.cells) (called d.names) d.last };
+    ghost invariant = { λ d. AreIndexed (rows_under d.rows) (under d.cells) (called d.names) d.last };
 }
 
 // Makes room for one board more.
 fn make_room<C>(
-    rows: &mut HashMap<u64, BoardRow>,
+    rows: &mut HashMap<u64, Box<BoardRow>>,
     cells: &mut HashMap<u64, C>,
-    names: &mut HashMap<ServiceName, u64>,
+    names: &mut HashMap<Vec<u8>, u64>,
 ) -> Result<(), AllocError>
-    ensures rows { (number : ℕ) → get nat_eq rows.new number ≡ get nat_eq rows.old number }
+    ensures rows { (number : ℕ) → rows_under rows.new number ≡ rows_under rows.old number }
     ensures cells { (number : ℕ) → get nat_eq cells.new number ≡ get nat_eq cells.old number }
-    ensures names { (name : List ℕ) → get bytes_eq names.new name ≡ get bytes_eq names.old name }
+    ensures names { (name : List ℕ) → called names.new name ≡ called names.old name }
     ensures row { OnOk result (0 < spare rows.new) }
     ensures cell { OnOk result (0 < spare cells.new) }
     ensures name { OnOk result (0 < spare names.new) }
@@ -51,6 +51,37 @@ fn make_room<C>(
     rows.reserve(1)?;
     cells.reserve(1)?;
     names.reserve(1)
+}
+
+// The row under a number.
+fn row_in(rows: &HashMap<u64, Box<BoardRow>>, number: u64) -> Option<&BoardRow>
+    ensures { option_map (λ b. b.now) result ≡ rows_under rows.now number }
+{
+    match rows.get(&number) {
+        Some(row) => Some(&**row),
+        None => None,
+    }
+}
+
+// Puts a row under a number. Takes no memory: there is room.
+fn put_row(rows: &mut HashMap<u64, Box<BoardRow>>, number: u64, row: Box<BoardRow>)
+    requires { 0 < spare rows.old }
+    ensures { (n : ℕ) → rows_under rows.new n
+        ≡ cond (nat_eq number n) (Some row.value) (rows_under rows.old n) }
+{
+    let Ok(_) = rows.insert(number, row) else {
+        // There is room.
+        unreachable!()
+    };
+}
+
+// Takes the row under a number out. Takes no memory.
+fn take_row(rows: &mut HashMap<u64, Box<BoardRow>>, number: u64) -> Option<Box<BoardRow>>
+    ensures value { option_map (λ b. b.value) result ≡ rows_under rows.old number }
+    ensures left { (n : ℕ) → rows_under rows.new n
+        ≡ cond (nat_eq number n) None (rows_under rows.old n) }
+{
+    rows.remove(&number)
 }
 
 impl<C> Boards<C> {
@@ -80,7 +111,7 @@ impl<C> Boards<C> {
         ensures { option_map (λ b. b.now) result
             ≡ find (tables.is_numbered number) self.now.boards }
     {
-        self.rows.get(&number)
+        row_in(&self.rows, number)
     }
 
     /// The board with the name.
@@ -88,8 +119,8 @@ impl<C> Boards<C> {
         ensures { option_map (λ b. b.now) result
             ≡ find (tables.has_name name.now) self.now.boards }
     {
-        match self.names.get(name) {
-            Some(number) => self.rows.get(number),
+        match self.names.get(name.as_bytes()) {
+            Some(number) => row_in(&self.rows, *number),
             None => None,
         }
     }
@@ -98,7 +129,7 @@ impl<C> Boards<C> {
     pub fn has_name(&self, name: &ServiceName) -> bool
         ensures { result ≡ list_any (tables.has_name name.now) self.now.boards }
     {
-        self.names.contains_key(name)
+        self.names.contains_key(name.as_bytes())
     }
 
     /// The cells of the board with the number: `None` exactly where no such board stands.
@@ -135,7 +166,7 @@ impl<C> Boards<C> {
     }
 
     /// Adds a board with its cells, under the next number and a name that is free. Takes no memory: there is room.
-    pub fn push_reserved(&mut self, row: BoardRow, cells: C)
+    pub fn push_reserved(&mut self, row: NewBoard, cells: C)
         requires next { row.number ≡ self.old.last + 1 }
         requires free { list_any (tables.has_name row.name) self.old.boards ≡ false }
         requires room { 0 < self.old.room }
@@ -143,15 +174,13 @@ impl<C> Boards<C> {
         ensures cells { self.new.cells ≡ self.old.cells ++ cells ∷ [] }
         ensures last { self.new.last ≡ self.old.last + 1 }
     {
+        let NewBoard { row, name } = row;
         let number = row.number();
-        let Ok(_) = self.names.insert(*row.name(), number) else {
+        let Ok(_) = self.names.insert(name, number) else {
             // There is room.
             unreachable!()
         };
-        let Ok(_) = self.rows.insert(number, row) else {
-            // There is room.
-            unreachable!()
-        };
+        put_row(&mut self.rows, number, row);
         match self.cells.insert(number, cells) {
             Ok(None) => {}
             // No board had the number.
@@ -172,11 +201,11 @@ impl<C> Boards<C> {
             (position_from (tables.is_numbered number) 0 self.old.boards) }
         ensures last { self.new.last ≡ self.old.last }
     {
-        let Some(gone) = self.rows.remove(&number) else {
+        let Some(gone) = take_row(&mut self.rows, number) else {
             // The board stands.
             unreachable!()
         };
-        let _ = self.names.remove(gone.name());
+        let _ = self.names.remove(gone.name().as_bytes());
         match self.cells.remove(&number) {
             Some(cells) => cells,
             // A board that stands has its cells.

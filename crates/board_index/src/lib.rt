@@ -5,10 +5,13 @@
 //! Contracts see the boards as a list in the order of making, and their cells as a list beside it; `specs/Boards` says how
 //! the maps give them. The maps hash by std's default hasher, whose seed is fixed: whoever chooses the names of boards can
 //! choose many that are hashed alike, and then a name is looked up as slowly as in a list of those, and found all the same.
+//! A board's row lies on the heap, and its name is a key by as many bytes as it has, since a map has more places than rows.
 #![tactic(auto)]
 
 mod board_row;
 mod boards;
+mod new_board;
 
 pub use board_row::BoardRow;
 pub use boards::Boards;
+pub use new_board::NewBoard;

@@ -11,7 +11,6 @@ use board_names::{
     NamedConceptDoesExistError, Registry, Table,
 };
 use std::alloc::Global;
-use std::collections::BTreeMap;
 use std::marker::Model;
 
 /// What stands under a monitored name.
@@ -56,7 +55,7 @@ impl Monitors {
         if self.names.contains_key(name) {
             return Err(MonitoringCreateTokenError::AlreadyExists);
         }
-        match self.names.insert(*name, Life::Alive) {
+        match self.names.insert(name, Life::Alive) {
             Ok(_) => Ok(()),
             Err(_) => Err(MonitoringCreateTokenError::OutOfMemory),
         }
@@ -79,7 +78,7 @@ impl Monitors {
             }
             Some(Life::Dead) => {
                 // The name is held, so the table doesn't grow.
-                let Ok(_) = self.names.insert(*name, Life::OwnedByCleaner) else {
+                let Ok(_) = self.names.insert(name, Life::OwnedByCleaner) else {
                     unreachable!()
                 };
                 Ok(())
@@ -107,7 +106,7 @@ impl Monitors {
             return false;
         }
         // The name is held, so the table doesn't grow.
-        let Ok(_) = self.names.insert(*name, Life::Dead) else {
+        let Ok(_) = self.names.insert(name, Life::Dead) else {
             unreachable!()
         };
         true
@@ -123,7 +122,7 @@ impl NameTable for Monitors {
 
     fn new(alloc: Global) -> Monitors {
         Monitors {
-            names: BTreeMap::new(alloc),
+            names: Table::new(alloc),
         }
     }
 

@@ -113,3 +113,15 @@ pub at-without-other : {X : Type 0} (table : List (List ℕ × X)) (name other :
 at-without-other table name other differ =
     lookup-remove_entry-other (slice_cmp nat_cmp) other name
     (λ one h. tied_apart other name one differ (is_eq-Equal (slice_cmp nat_cmp name one) h)) table
+
+-- what stands under a name where another was taken out stood there before
+pub at-without-before : {X : Type 0} (table : List (List ℕ × X)) (name other : List ℕ) (x : X) → at (without table name) name ≡ None → at (without table name) other ≡ Some x → at table other ≡ Some x
+at-without-before table name other x gone found =
+    elim (slice_cmp nat_cmp other name) as (λ o. slice_cmp nat_cmp other name ≡ o → at table other ≡ Some x) [
+      | Less ↦ λ h. sym (at-without-other table name other (differs Less h (λ e. cc e))) ∙ found
+      | Equal ↦ λ h. let same = exact_bytes other name h in let none : at (without table name) other ≡ None = ap (λ n. at (without table name) n) same ∙ gone in cc (none, found)
+      | Greater ↦ λ h. sym (at-without-other table name other (differs Greater h (λ e. cc e))) ∙ found
+    ] refl
+  where
+    differs : (o : Ordering) → slice_cmp nat_cmp other name ≡ o → (Equal ≡ o → ⊥) → other ≢ name
+    differs o h not_equal same = not_equal (sym (ap (λ n. slice_cmp nat_cmp n name) same ∙ tied_itself nat_list_cmp_total name) ∙ h)

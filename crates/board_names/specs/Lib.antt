@@ -3,3 +3,4 @@ pub mod Names
 pub mod Configuration
 pub mod Concept
 pub mod Extraction
+pub mod Keys

@@ -6,6 +6,10 @@ use Rattle.std.specs.List.Sorted.{IsStrictlySortedBy}
 use Rattle.std.specs.Map.{lookup, remove_entry, keys_of}
 use Rattle.std.specs.BTreeMap.{insert_entry, is_at}
 
+-- what stands under the names of a table, in the order of the names
+pub record Held (X : Type 0) : Type 0 where
+  pub entries : List (List ℕ × X)
+
 -- the names ascend by their bytes, so each is held once
 abbrev pub NamesAscend : {X : Type 0} → List (List ℕ × X) → Type 0
 NamesAscend table = IsStrictlySortedBy (slice_cmp nat_cmp) (keys_of table)

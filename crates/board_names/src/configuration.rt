@@ -39,6 +39,16 @@ impl Configuration {
         let name = before(rest, self.suffix.as_bytes())?;
         FileName::new(name).ok()
     }
+
+    /// The name that this full name is of.
+    pub(crate) fn name_in_path(&self, value: &[u8]) -> Option<FileName>
+        ensures found { IfSome result (IsSpelled (full_name self.now) value.now) }
+        ensures every { IsEach (full_name self.now) value.now result }
+    {
+        let rest = after(value, self.path_hint.as_bytes())?;
+        let file = after(rest, b"/")?;
+        self.name_in(file)
+    }
 }
 
 /// The parts of a configuration, the full names that it spells, and the names that it reads back.
@@ -126,9 +136,7 @@ impl NamedConceptConfiguration for Configuration {
     }
 
     fn extract_name_from_path(&self, value: &FilePath) -> Option<FileName> {
-        let rest = after(value.as_bytes(), self.path_hint.as_bytes())?;
-        let file = after(rest, b"/")?;
-        self.name_in(file)
+        self.name_in_path(value.as_bytes())
     }
 
     fn extract_name_from_file(&self, value: &FileName) -> Option<FileName> {

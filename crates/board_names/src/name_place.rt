@@ -7,8 +7,8 @@ use crate::configuration::{Configuration, NamedConceptConfiguration};
 use crate::errors::concept::RegistryError;
 use crate::file_name::FileName;
 use crate::file_path::FilePath;
+use crate::name_table::NameTable;
 use crate::registry::Registry;
-use crate::table::NameTable;
 use std::marker::Model;
 use std::sync::{MutexGuard, Wait};
 

@@ -12,8 +12,9 @@ use crate::errors::concept::{
     NamedConceptRemoveError, RegistryError,
 };
 use crate::file_name::FileName;
+use crate::name_table::NameTable;
 use crate::path::Path;
-use crate::table::{NameTable, list_names};
+use crate::table::list_names;
 use std::alloc::Global;
 use std::sync::{MutexGuard, Wait};
 

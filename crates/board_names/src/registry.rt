@@ -1,6 +1,6 @@
 //! Names that many values share.
 use crate::errors::concept::RegistryError;
-use crate::table::NameTable;
+use crate::name_table::NameTable;
 use std::alloc::Global;
 use std::sync::{Arc, Mutex, MutexGuard, Wait};
 

@@ -1,67 +1,123 @@
 //! Tables of values by full names.
-ghost use Rattle.std.specs.Prelude.{◌≡◌, ℕ, List, [], ◌∷◌, ◌++◌, Option, Result, Bool, is_some, length, IfOk, IsOkUnless};
+ghost use Rattle.std.specs.Prelude.{◌≡◌, ℕ, ◌+◌, ◌<◌, ◌≤◌, List, [], ◌∷◌, ◌++◌, Option, None, is_some, length, slice_get, option_copied, option_map, IfOk, OnOk, OnErr, IsOkUnless};
 ghost use Rattle.std.specs.Map.{keys_of};
+ghost use Rattle.std.specs.BTreeMap.{IsOrdered, keys};
+ghost use Rattle.std.specs.Ordering.{nat_cmp};
+ghost use Rattle.std.specs.Cmp.Lexicographic.{slice_cmp};
 ghost use Rattle.board_names.specs.Extraction.{Lists, FullNamesAscend};
-ghost use Rattle.board_names.specs.Table.{at, without, name_at, NamesAscend, IsFree};
-ghost use Rattle.board_names.specs.declared.errors.concept.NamedConceptDoesExistError.{NamedConceptDoesExistError};
+ghost use Rattle.board_names.specs.Table.{at, putting, without, name_at, NamesAscend, IsFree};
 
-use crate::configuration::{Configuration, NamedConceptConfiguration};
-use crate::errors::concept::{NamedConceptDoesExistError, NamedConceptListError};
+use crate::configuration::Configuration;
+use crate::errors::concept::NamedConceptListError;
 use crate::file_name::FileName;
 use crate::file_path::FilePath;
-use std::alloc::Global;
+use board_layout::Text;
+use std::alloc::{AllocError, Global};
 use std::collections::BTreeMap;
+use std::marker::Model;
+use std::mem::replace;
 
-/// Values by full names, in the order of the names.
-pub type Table<V> = BTreeMap<FilePath, V>;
-
-/// What stands under the names of one kind of things.
+/// Values by full names, in the order of the names. A name is kept on the heap, by as many bytes as it has.
 ///
-/// The names of every table ascend by their bytes, and so differ: `name_count` and `name_at` say it of any table that
-/// they are asked of, also of one from behind a lock.
-pub trait NameTable: Sized {
-    /// What stands under a name.
-    type Value;
+/// Clauses see the pairs of name and value as its `entries`.
+#[derive(Drop)]
+pub struct Table<V> {
+    values: BTreeMap<Vec<u8>, V>,
+    alloc: Global,
+}
 
-    ghost entries: { Self → List (List ℕ × Self.Value) };
+impl<V> Model for Table<V> {
+    ghost use Rattle.board_names.specs.Table.{Held};
+    ghost use Rattle.board_names.specs.Keys.{AreFullNames, held};
 
-    ghost existence: { Option Self.Value → Result Bool NamedConceptDoesExistError };
+    ghost Value = { Held V };
 
+    ghost view = { λ t. held t.values };
+
+    ghost invariant = { λ t. AreFullNames t.values };
+}
+
+/// The key at an index.
+fn key_at<V>(values: &BTreeMap<Vec<u8>, V>, index: usize) -> Option<&Vec<u8>>
+    ensures value { option_map (λ k. k.now) result ≡ slice_get (keys values.now) index }
+    ensures ordered { IsOrdered (λ k other. slice_cmp nat_cmp k.items other.items) values.now }
+{
+    values.keys().nth(index)
+}
+
+impl<V> Table<V> {
     /// No names. Takes no memory.
-    fn new(alloc: Global) -> Self
-        ensures { entries result ≡ [] };
-
-    /// The table.
-    fn table(&self) -> &Table<Self::Value>
-        ensures { result.now.entries ≡ entries self.now };
-
-    /// Whether the name is held.
-    ///
-    /// # Errors
-    /// `UnderlyingResourcesBeingSetUp` where the name is that of a locked static storage.
-    fn does_exist(&self, name: &FilePath) -> Result<bool, NamedConceptDoesExistError>
-        ensures { result ≡ existence (at (entries self.now) name.now) };
-
-    /// Lets a name go, and tells whether it was held. Who shares what it stood for goes on without the name.
-    fn remove(&mut self, name: &FilePath) -> bool
-        ensures value { result ≡ is_some (at (entries self.old) name.now) }
-        ensures after { entries self.new ≡ without (entries self.old) name.now }
-        ensures gone { IsFree (entries self.new) name.now };
-
-    /// How many names are held. Takes no memory.
-    fn name_count(&self) -> usize
-        ensures count { result ≡ length (entries self.now) }
-        ensures ascend { NamesAscend (entries self.now) }
+    pub fn new(alloc: Global) -> Table<V>
+        ensures { result.entries ≡ [] }
     {
-        self.table().len()
+        Table {
+            values: BTreeMap::new(alloc),
+            alloc,
+        }
     }
 
-    /// The name at an index, counted from 0 in the order of the names.
-    fn name_at(&self, index: usize) -> Option<FilePath>
-        ensures value { result ≡ name_at (entries self.now) index }
-        ensures ascend { NamesAscend (entries self.now) }
+    /// How many names are held. Takes no memory.
+    pub fn len(&self) -> usize
+        ensures count { result ≡ length self.now.entries }
+        ensures ascend { NamesAscend self.now.entries }
     {
-        self.table().keys().nth(index).copied()
+        self.values.len()
+    }
+
+    /// What stands under a name.
+    pub fn get(&self, name: &FilePath) -> Option<&V>
+        ensures { option_copied result ≡ at self.now.entries name.now }
+    {
+        self.values.get(name.as_bytes())
+    }
+
+    /// Whether a name is held.
+    pub fn contains_key(&self, name: &FilePath) -> bool
+        ensures { result ≡ is_some (at self.now.entries name.now) }
+    {
+        self.values.contains_key(name.as_bytes())
+    }
+
+    /// The name at an index, counted from 0 in the order of the names. Takes no memory.
+    pub fn name_at(&self, index: usize) -> Option<FilePath>
+        ensures value { result ≡ name_at self.now.entries index }
+        ensures ascend { NamesAscend self.now.entries }
+    {
+        match key_at(&self.values, index) {
+            Some(name) => Some(FilePath::from_text(Text::of(name.as_slice()))),
+            None => None,
+        }
+    }
+}
+
+impl<V: Drop> Table<V> {
+    /// Puts a value under a name, and hands back what stood there. It takes memory only for a name that isn't held.
+    ///
+    /// # Errors
+    /// `AllocError` where memory is refused. Then nothing stood there, and the table stays as it was.
+    pub fn insert(&mut self, name: &FilePath, value: V) -> Result<Option<V>, AllocError>
+        ensures old { IfOk result (λ old. old ≡ at self.old.entries name.now) }
+        ensures entries { OnOk result (self.new.entries ≡ putting self.old.entries name.now value) }
+        ensures absent { OnErr result (at self.old.entries name.now ≡ None) }
+        ensures err { OnErr result (self.new ≡ self.old) }
+    {
+        if let Some(place) = self.values.get_mut(name.as_bytes()) {
+            return Ok(Some(replace(place, value)));
+        }
+        let key = Vec::from_slice(self.alloc, name.as_bytes())?;
+        match self.values.insert(key, value) {
+            Ok(old) => Ok(old),
+            Err(_) => Err(AllocError),
+        }
+    }
+
+    /// Takes a name out with its value. Takes no memory.
+    pub fn remove(&mut self, name: &FilePath) -> Option<V>
+        ensures value { result ≡ at self.old.entries name.now }
+        ensures after { self.new.entries ≡ without self.old.entries name.now }
+        ensures gone { IsFree self.new.entries name.now }
+    {
+        self.values.remove(name.as_bytes())
     }
 }
 
@@ -79,8 +135,8 @@ pub fn list_names<V>(
     ensures memory { IsOkUnless result NamedConceptListError.OutOfMemory }
 {
     let mut names = Vec::new(alloc);
-    for path in table.keys() {
-        if let Some(name) = cfg.extract_name_from_path(path) {
+    for path in table.values.keys() {
+        if let Some(name) = cfg.name_in_path(path.as_slice()) {
             if names.push(name).is_err() {
                 return Err(NamedConceptListError::OutOfMemory);
             }

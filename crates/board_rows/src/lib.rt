@@ -1,4 +1,5 @@
-//! Worked scripts: each line with its answer, run line by line and from a source to a sink, and checked.
+//! Worked scripts: each line with its answer, run line by line and from a source to a sink, and checked; and scripts whose
+//! parties are driven, with what is told of them.
 //!
 //! The tables of rows read as the first run in the README does. Their answers were worked out by hand from the definitions, and not taken from the program.
 #![tactic(auto)]
@@ -7,6 +8,8 @@
 mod abandoned;
 #[cfg(test)]
 mod boards;
+#[cfg(test)]
+mod driven;
 #[cfg(test)]
 mod events;
 #[cfg(test)]
@@ -20,8 +23,12 @@ mod openings;
 #[cfg(test)]
 mod program;
 #[cfg(test)]
+mod programs;
+#[cfg(test)]
 mod readers;
 #[cfg(test)]
 mod row;
 #[cfg(test)]
 mod tables;
+#[cfg(test)]
+mod whole;

@@ -1,10 +1,23 @@
 //! Beginnings that several scripts share.
 use crate::row::Part;
 
-/// `a` writes a board of one number, and `b` reads it.
+/// `a` makes a board of one number.
 pub(crate) const ONE_NUMBER: Part = &[
     ("begin a create f b u64 add u64:1 u64:7", "ok"),
     ("step a", "table = ok 1"),
+];
+
+/// `a` makes a board of two numbers.
+pub(crate) const TWO_NUMBERS: Part = &[
+    (
+        "begin a create f b u64 add u64:1 u64:7 add u64:2 u64:8",
+        "ok",
+    ),
+    ("step a", "table = ok 1"),
+];
+
+/// `a` writes the first number through m, and `b` reads it through h.
+pub(crate) const WRITTEN_AND_READ: Part = &[
     ("begin a writer w f", "ok"),
     ("step a", "table = ok 1"),
     ("begin a entrymut m w u64:1 u64", "ok"),
@@ -17,7 +30,19 @@ pub(crate) const ONE_NUMBER: Part = &[
     ("step b", "table = ok 0"),
 ];
 
-/// The same with an entry of four words.
+/// `b` reads the second number through k.
+pub(crate) const SECOND_READ: Part = &[
+    ("begin b entry k r u64:2 u64", "ok"),
+    ("step b", "table = ok 32"),
+];
+
+/// `a` writes it through n.
+pub(crate) const SECOND_WRITTEN: Part = &[
+    ("begin a entrymut n w u64:2 u64", "ok"),
+    ("step a", "table = ok 32"),
+];
+
+/// `a` writes an entry of four words, and `b` reads it.
 pub(crate) const FOUR_WORDS: Part = &[
     ("begin a create f b u64 add u64:1 q4:1,2,3,4", "ok"),
     ("step a", "table = ok 1"),
@@ -90,6 +115,26 @@ pub(crate) const THREE_WORDS_PUT: Part = &[
 pub(crate) const FOURTH_WORD_PUT: Part = &[
     ("begin a put l 3 8", "ok"),
     ("step a", "write 1:9 8 = ok"),
+];
+
+/// The steps by which `a` writes and publishes four other words.
+pub(crate) const FOUR_WORDS_WRITTEN: Part = &[
+    ("step a", "write 1:6 5"),
+    ("step a", "write 1:7 6"),
+    ("step a", "write 1:8 7"),
+    ("step a", "write 1:9 8"),
+    ("step a", "write 1:0 2 = ok"),
+];
+
+/// `b` gets the four words.
+pub(crate) const FOUR_WORDS_GOT: Part = &[
+    ("begin b get h", "ok"),
+    ("step b", "read 1:0 1"),
+    ("step b", "read 1:2 1"),
+    ("step b", "read 1:3 2"),
+    ("step b", "read 1:4 3"),
+    ("step b", "read 1:5 4"),
+    ("step b", "read 1:0 1 = q4:1,2,3,4 gen 1"),
 ];
 
 /// `e` listens on a set of 64 ids, and `n` notifies it.

@@ -1,14 +1,16 @@
-//! The program: its words, its faults, its statuses and its notes.
+//! The programs: their words, faults, statuses and notes.
 use crate::boards::FIRST_RUN;
+use crate::programs::{Ended, Program, words_of};
 use crate::row::bytes_of;
-use board_script::{MemorySink, MemorySource, run_words};
+use board_script::{MemorySink, MemorySource};
 use std::alloc::Global;
-use std::process::Abort;
+use std::process::{Abort, ExitCode};
 use std::test::Fail;
 
-/// A run of the program with these words on its command line. Its source gives the first run, 60 bytes a call, and its sink has so much room; the calls of these numbers, counted from 0, fail.
+/// A run of a program with these words on its command line. Its source gives the first run, 60 bytes a call, and its sink has so much room; the calls of these numbers, counted from 0, fail.
 #[derive(Clone, Copy)]
 struct Run {
+    program: Program,
     words: &'static [&'static str],
     failed_reads: &'static [u64],
     room: usize,
@@ -18,8 +20,9 @@ struct Run {
     note: &'static str,
 }
 
-/// The program without words and faults.
+/// The program of scripts without words and faults.
 const PLAIN: Run = Run {
+    program: Program::Scripts,
     words: &[],
     failed_reads: &[],
     room: 4096,
@@ -43,7 +46,7 @@ const USAGE: Run = Run {
     ..PLAIN
 };
 
-const RUNS: [Run; 12] = [
+const RUNS: [Run; 15] = [
     Run {
         failed_reads: &[1],
         status: 3,
@@ -109,28 +112,66 @@ const RUNS: [Run; 12] = [
         words: &["x"],
         ..USAGE
     },
+    Run {
+        program: Program::Snapshots,
+        words: &[""],
+        note: "usage: board_snapshot_run\n",
+        ..USAGE
+    },
+    Run {
+        program: Program::Watchers,
+        words: &[""],
+        note: "usage: board_watch_run\n",
+        ..USAGE
+    },
+    Run {
+        program: Program::Sessions,
+        words: &[""],
+        note: "usage: board_check_run\n",
+        ..USAGE
+    },
 ];
 
 impl Run {
     fn holds(&self, rt: &impl Abort, alloc: Global) -> Result<(), Fail> {
-        let mut words = Vec::new(alloc);
-        for word in self.words {
-            words.push(String::from_str(alloc, word)?)?;
-        }
+        let words = words_of(alloc, self.words)?;
         let (script, _) = bytes_of(alloc, FIRST_RUN.lines)?;
-        let mut source = MemorySource::new(script, 60, self.failed_reads.to_vec(alloc)?);
-        let mut sink = MemorySink::new(alloc, self.room, 0, self.failed_writes.to_vec(alloc)?)?;
-        let mut notes = MemorySink::new(alloc, 100, 0, Vec::new(alloc))?;
-        let status = run_words(alloc, &words, &mut source, &mut sink, &mut notes);
-        assert_eq!(rt; status, self.status, "status of {words:?}");
-        assert_eq!(rt; sink.held(), self.output.as_bytes(), "output of {words:?}");
-        assert_eq!(rt; notes.held(), self.note.as_bytes(), "note of {words:?}");
+        let source = MemorySource::new(script, 60, self.failed_reads.to_vec(alloc)?);
+        let sink = MemorySink::new(alloc, self.room, 0, self.failed_writes.to_vec(alloc)?)?;
+        let ended = Ended::with_words(alloc, self.program, &words, source, sink)?;
+        assert_eq!(rt; ended.status, self.status, "status of {words:?}");
+        assert_eq!(rt;
+            ended.output.as_slice(),
+            self.output.as_bytes(),
+            "output of {words:?}"
+        );
+        assert_eq!(rt;
+            ended.note.as_slice(),
+            self.note.as_bytes(),
+            "note of {words:?}"
+        );
         Ok(())
     }
 }
 
 #[test]
-fn the_program_ends_as_it_is_called(rt: HostRuntime) -> Result<(), Fail> {
+fn a_process_has_the_status_of_its_program(rt: HostRuntime) -> Result<(), Fail> {
+    let alloc = rt.alloc();
+    for run in &RUNS {
+        let words = words_of(alloc, run.words)?;
+        let (script, _) = bytes_of(alloc, FIRST_RUN.lines)?;
+        let mut source = MemorySource::new(script, 60, run.failed_reads.to_vec(alloc)?);
+        let mut sink = MemorySink::new(alloc, run.room, 0, run.failed_writes.to_vec(alloc)?)?;
+        let mut notes = MemorySink::new(alloc, 100, 0, Vec::new(alloc))?;
+        let program = run.program;
+        let code = program.exit_code(alloc, &words, &mut source, &mut sink, &mut notes);
+        assert_eq!(rt; code, ExitCode::from(run.status));
+    }
+    Ok(())
+}
+
+#[test]
+fn each_program_ends_as_it_is_called(rt: HostRuntime) -> Result<(), Fail> {
     for run in &RUNS {
         run.holds(&rt, rt.alloc())?;
     }

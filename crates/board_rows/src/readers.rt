@@ -1,7 +1,18 @@
 //! Readers beside a writer.
-use crate::openings::{FOUR_WORDS, IT_IS_THE_WRITER, IT_WRITES, ONE_NUMBER, ONE_PARTY_READS};
-use crate::row::{PLAIN, Row, all_hold};
+use crate::openings::{
+    FOUR_WORDS, FOUR_WORDS_GOT, IT_IS_THE_WRITER, IT_WRITES, ONE_NUMBER, ONE_PARTY_READS,
+    WRITTEN_AND_READ,
+};
+use crate::row::{PLAIN, Part, Row, all_hold};
 use std::test::Fail;
+
+// `a` is abandoned when it has written half of an update.
+const AN_UPDATE_LEFT: Part = &[
+    ("begin a update m q4:5,6,7,8", "ok"),
+    ("step a", "write 1:6 5"),
+    ("step a", "write 1:7 6"),
+    ("abandon a", "gone"),
+];
 
 pub(crate) const ROWS: [Row; 8] = [
     Row {
@@ -18,7 +29,7 @@ pub(crate) const ROWS: [Row; 8] = [
     },
     Row {
         name: "two parties one u64 entry",
-        opening: &[ONE_NUMBER],
+        opening: &[ONE_NUMBER, WRITTEN_AND_READ],
         ..PLAIN
     },
     Row {
@@ -28,7 +39,7 @@ pub(crate) const ROWS: [Row; 8] = [
     },
     Row {
         name: "a get that meets one update",
-        opening: &[ONE_NUMBER],
+        opening: &[ONE_NUMBER, WRITTEN_AND_READ],
         lines: &[
             ("begin b get h v", "ok"),
             ("step b", "read 1:0 1"),
@@ -77,7 +88,7 @@ pub(crate) const ROWS: [Row; 8] = [
     },
     Row {
         name: "an equal value is a new generation",
-        opening: &[ONE_NUMBER],
+        opening: &[ONE_NUMBER, WRITTEN_AND_READ],
         lines: &[
             ("begin b get h v", "ok"),
             ("step b", "read 1:0 1"),
@@ -109,19 +120,8 @@ pub(crate) const ROWS: [Row; 8] = [
     },
     Row {
         name: "a writer abandoned in an update",
-        opening: &[FOUR_WORDS],
+        opening: &[FOUR_WORDS, AN_UPDATE_LEFT, FOUR_WORDS_GOT],
         lines: &[
-            ("begin a update m q4:5,6,7,8", "ok"),
-            ("step a", "write 1:6 5"),
-            ("step a", "write 1:7 6"),
-            ("abandon a", "gone"),
-            ("begin b get h", "ok"),
-            ("step b", "read 1:0 1"),
-            ("step b", "read 1:2 1"),
-            ("step b", "read 1:3 2"),
-            ("step b", "read 1:4 3"),
-            ("step b", "read 1:5 4"),
-            ("step b", "read 1:0 1 = q4:1,2,3,4 gen 1"),
             ("begin b writer w f", "ok"),
             (
                 "step b",

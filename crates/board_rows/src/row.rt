@@ -1,11 +1,11 @@
 //! A worked script, and the ways in which it is run.
 ghost use Rattle.script_model.specs.ScriptSession.{start};
 
+use crate::programs::Program;
+use crate::whole::Whole;
 use board_cell::{PlainWords, SeatWords};
 use board_check::{Verdict, check};
-use board_script::{
-    LineError, Machine, MemorySink, MemorySource, RunsLines, run_script_on, run_words,
-};
+use board_script::{LineError, Machine, MemorySink, MemorySource, RunsLines, run_script_on};
 use board_service::BoardWords;
 use std::alloc::{AllocError, Global};
 use std::process::Abort;
@@ -144,17 +144,12 @@ impl Script<'_> {
 
     // Runs it as the program does. Source and sink give and take so many bytes a call, or any number where that is 0.
     fn runs_in_pieces(&self, rt: &impl Abort, alloc: Global, piece: usize) -> Result<(), Fail> {
-        let (script, output) = bytes_of(alloc, self.lines)?;
-        let mut note = Vec::new(alloc);
-        push_told(self.note, &mut note)?;
-        let mut source = MemorySource::new(script, piece, Vec::new(alloc));
-        let mut sink = MemorySink::new(alloc, output.len(), piece, Vec::new(alloc))?;
-        let mut notes = MemorySink::new(alloc, 100, 0, Vec::new(alloc))?;
-        let status = run_words(alloc, &Vec::new(alloc), &mut source, &mut sink, &mut notes);
-        assert_eq!(rt; sink.held(), output.as_slice(), "output of {}", self.name);
-        assert_eq!(rt; status, self.status, "status of {}", self.name);
-        assert_eq!(rt; notes.held(), note.as_slice(), "note of {}", self.name);
-        Ok(())
+        let mut whole = Whole::new(alloc, Program::Scripts, self.name);
+        for (line, answer) in self.lines {
+            whole.push(line, answer)?;
+        }
+        whole.ends_with(self.status, self.note)?;
+        whole.runs_in_pieces(rt, alloc, piece)
     }
 }
 

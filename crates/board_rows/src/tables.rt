@@ -1,5 +1,5 @@
 //! The tables of boards: who may make, open and hold what, and how long it stands.
-use crate::openings::ONE_NUMBER;
+use crate::openings::{ONE_NUMBER, WRITTEN_AND_READ};
 use crate::row::{PLAIN, Part, Row, all_hold};
 use std::test::Fail;
 
@@ -17,6 +17,27 @@ const KEYS_UP_TO_CASE: Part = &[
     ("step a", "table = ok 1"),
 ];
 
+// Nor is one with sixteen keys of which two differ only in case; with sixteen others it is, and a key finds its entry in any case.
+const SIXTEEN_KEYS: Part = &[
+    (
+        "begin a create f b f8 add f8:a bool:true add f8:b bool:true add f8:c bool:true add f8:d bool:true add f8:e bool:true add f8:f bool:true add f8:g bool:true add f8:h bool:true add f8:i bool:true add f8:j bool:true add f8:k bool:true add f8:l bool:true add f8:m bool:true add f8:n bool:true add f8:o bool:true add f8:C bool:true",
+        "ok",
+    ),
+    (
+        "step a",
+        "table = BlackboardCreateError::ServiceInCorruptedState",
+    ),
+    (
+        "begin a create f b f8 add f8:a bool:true add f8:b bool:true add f8:c bool:true add f8:d bool:true add f8:e bool:true add f8:f bool:true add f8:g bool:true add f8:h bool:true add f8:i bool:true add f8:j bool:true add f8:k bool:true add f8:l bool:true add f8:m bool:true add f8:n bool:true add f8:o bool:true add f8:P bool:true",
+        "ok",
+    ),
+    ("step a", "table = ok 1"),
+    ("begin a reader r f", "ok"),
+    ("step a", "table = ok 1"),
+    ("begin a entry h r f8:p bool", "ok"),
+    ("step a", "table = ok 480"),
+];
+
 // The place of the only writer is free once its last handle was dropped.
 const A_FREED_WRITER: Part = &[
     ("drop a w", "table = ok"),
@@ -32,10 +53,21 @@ const A_FREED_WRITER: Part = &[
     ("step a", "table = ok 0"),
 ];
 
-const ROWS: [Row; 12] = [
+// `a` is a writer of a board of two numbers, which has two.
+const TWO_SLOTS: Part = &[
+    (
+        "begin a create f b u64 writers 2 add u64:1 u64:7 add u64:2 u64:8",
+        "ok",
+    ),
+    ("step a", "table = ok 1"),
+    ("begin a writer w f", "ok"),
+    ("step a", "table = ok 1"),
+];
+
+const ROWS: [Row; 13] = [
     Row {
         name: "a name that stands",
-        opening: &[ONE_NUMBER],
+        opening: &[ONE_NUMBER, WRITTEN_AND_READ],
         lines: &[
             ("begin c create g b f8", "ok"),
             ("step c", "table = BlackboardCreateError::AlreadyExists"),
@@ -45,6 +77,11 @@ const ROWS: [Row; 12] = [
     Row {
         name: "keys equal up to case without keys",
         opening: &[KEYS_UP_TO_CASE],
+        ..PLAIN
+    },
+    Row {
+        name: "keys equal up to case among sixteen",
+        opening: &[SIXTEEN_KEYS],
         ..PLAIN
     },
     Row {
@@ -130,12 +167,12 @@ const ROWS: [Row; 12] = [
     },
     Row {
         name: "the writer slot without loans",
-        opening: &[ONE_NUMBER, A_FREED_WRITER],
+        opening: &[ONE_NUMBER, WRITTEN_AND_READ, A_FREED_WRITER],
         ..PLAIN
     },
     Row {
         name: "the writer slot",
-        opening: &[ONE_NUMBER, A_FREED_WRITER],
+        opening: &[ONE_NUMBER, WRITTEN_AND_READ, A_FREED_WRITER],
         lines: &[
             ("begin a loan l m", "ok"),
             ("step a", "table = ok"),
@@ -150,7 +187,7 @@ const ROWS: [Row; 12] = [
     },
     Row {
         name: "the tables told",
-        opening: &[ONE_NUMBER],
+        opening: &[ONE_NUMBER, WRITTEN_AND_READ],
         lines: &[
             ("begin b info f", "ok"),
             (
@@ -171,14 +208,8 @@ const ROWS: [Row; 12] = [
     },
     Row {
         name: "two writers of one board",
+        opening: &[TWO_SLOTS],
         lines: &[
-            (
-                "begin a create f b u64 writers 2 add u64:1 u64:7 add u64:2 u64:8",
-                "ok",
-            ),
-            ("step a", "table = ok 1"),
-            ("begin a writer w f", "ok"),
-            ("step a", "table = ok 1"),
             ("begin b open f b u64", "ok"),
             ("step b", "table = ok 1"),
             ("begin b writer x f", "ok"),
@@ -240,14 +271,8 @@ const ROWS: [Row; 12] = [
     },
     Row {
         name: "slots of two writers",
+        opening: &[TWO_SLOTS],
         lines: &[
-            (
-                "begin a create f b u64 writers 2 add u64:1 u64:7 add u64:2 u64:8",
-                "ok",
-            ),
-            ("step a", "table = ok 1"),
-            ("begin a writer w f", "ok"),
-            ("step a", "table = ok 1"),
             ("begin a writer x f", "ok"),
             ("step a", "table = ok 2"),
             ("begin a entrymut m w u64:1 u64", "ok"),

@@ -15,3 +15,4 @@ pub mod BoardLemmas
 pub mod NameLemmas
 pub mod CellLemmas
 pub mod BesideLemmas
+pub mod MetKeys

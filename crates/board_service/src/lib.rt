@@ -2,7 +2,7 @@
 //!
 //! `DomainCore<C>` is the definitions' tables, generic in what holds the words of a board: the boards by number and name
 //! (`board_index`), and the things with the numbers that are kept of them (`board_things`). A call is early returns by tests
-//! (`refusals`, `counts`, `lookups`), then all memory that is wanted, then pushes that can't fail. `specs/Domain` says what each call answers and leaves, in the words of the definitions. The descriptions of
+//! (`refusals`, `lookups`), then all memory that is wanted, then pushes that can't fail. `specs/Domain` says what each call answers and leaves, in the words of the definitions. The descriptions of
 //! boards stand in a static storage, under full names made from board numbers; `specs/Descriptions` has the invariant
 //! that they are those of the boards that stand.
 #![tactic(auto)]

@@ -1,5 +1,5 @@
-//! Why boards are not made and not opened. None of these functions takes memory.
-ghost use Rattle.std.specs.Prelude.{◌≡◌, ◌≤◌, ◌<◌, ◌-◌, ◌^◌, ◌||◌, ◌∷◌, [], ◌++◌, find, length, nat_eq, true, false, IfNone, IsSome};
+//! Why boards are not made and not opened. None of these functions needs memory.
+ghost use Rattle.std.specs.Prelude.{◌≡◌, ◌≤◌, ◌<◌, ◌-◌, ◌^◌, ◌||◌, ◌∷◌, [], ◌++◌, find, length, nat_eq, true, false, IfNone, IfSome, IsSome};
 ghost use Rattle.std.specs.List.{list_any};
 ghost use Rattle.board_layout.specs.Keys as keys;
 ghost use Rattle.board_model.specs.Tables as tables;
@@ -14,13 +14,18 @@ use crate::new_entry::NewEntry;
 use crate::planned::is_too_large;
 use board_concepts::AttributeVerifier;
 use board_index::{BoardRow, Boards};
-use board_layout::{BoardKey, KeyMemory, TypeDetail, same_keys};
+use board_layout::{BoardKey, KeyMemory, TypeDetail, key_of, same_keys};
 use board_model::{Limits, same_type};
 use board_names::{BlackboardCreateError, BlackboardOpenError, ServiceName};
 use board_things::Things;
+use std::alloc::Global;
+use std::collections::HashSet;
 
 /// The last number from which no other is drawn: 2^64 - 2.
 pub(crate) const LAST: u64 = 18446744073709551614;
+
+// With as many entries or more, equal keys are looked for by their hashes. With fewer, each compared with each is as fast.
+const MANY: usize = 16;
 
 fn has_key<K: BoardKey>(key: &KeyMemory<64>, entries: &[NewEntry]) -> bool
     requires { K.SIZE ≤ 64 }
@@ -35,7 +40,26 @@ fn has_key<K: BoardKey>(key: &KeyMemory<64>, entries: &[NewEntry]) -> bool
     false
 }
 
-fn has_equal_keys<K: BoardKey>(entries: &[NewEntry]) -> bool
+// Whether two of the keys are equal, found by their hashes. `None` where there is no memory for these.
+fn has_equal_hashed<K: BoardKey>(alloc: Global, entries: &[NewEntry]) -> Option<bool>
+    requires { K.SIZE ≤ 64 }
+    ensures { IfSome result (λ equal. equal
+        ≡ tables.has_equal_keys (keys.same_keys K.eq K.value_of K.SIZE K.WORDS) (added entries.now)) }
+{
+    let mut met: HashSet<K> = HashSet::new(alloc);
+    let mut left = entries;
+    while let Some((last, before)) = left.split_last() {
+        match met.insert(key_of::<K>(&last.key)) {
+            Ok(true) => left = before,
+            Ok(false) => return Some(true),
+            Err(_) => return None,
+        }
+    }
+    Some(false)
+}
+
+// Whether two of the keys are equal, each compared with each.
+fn has_equal_compared<K: BoardKey>(entries: &[NewEntry]) -> bool
     requires { K.SIZE ≤ 64 }
     ensures { result ≡ tables.has_equal_keys (keys.same_keys K.eq K.value_of K.SIZE K.WORDS)
         (added entries.now) }
@@ -48,8 +72,23 @@ fn has_equal_keys<K: BoardKey>(entries: &[NewEntry]) -> bool
     false
 }
 
+// Whether two of the keys are equal.
+fn has_equal_keys<K: BoardKey>(alloc: Global, entries: &[NewEntry]) -> bool
+    requires { K.SIZE ≤ 64 }
+    ensures { result ≡ tables.has_equal_keys (keys.same_keys K.eq K.value_of K.SIZE K.WORDS)
+        (added entries.now) }
+{
+    if entries.len() >= MANY {
+        if let Some(equal) = has_equal_hashed::<K>(alloc, entries) {
+            return equal;
+        }
+    }
+    has_equal_compared::<K>(entries)
+}
+
 /// Why a board is not made.
 pub(crate) fn create_refusal<K: BoardKey, C>(
+    alloc: Global,
     name: &ServiceName,
     entries: &[NewEntry],
     boards: &Boards<C>,
@@ -73,7 +112,7 @@ pub(crate) fn create_refusal<K: BoardKey, C>(
     if entries.is_empty() {
         return Some(BlackboardCreateError::NoEntriesProvided);
     }
-    if has_equal_keys::<K>(entries) || is_too_large(entries) {
+    if has_equal_keys::<K>(alloc, entries) || is_too_large(entries) {
         return Some(BlackboardCreateError::ServiceInCorruptedState);
     }
     if boards.last() >= LAST || last_thing >= LAST {

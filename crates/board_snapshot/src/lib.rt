@@ -8,8 +8,6 @@
 #![tactic(auto)]
 
 pub mod run_laws;
-#[cfg(test)]
-mod tests;
 mod top;
 
 pub use top::{run_program, snapshot_words};

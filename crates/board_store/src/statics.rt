@@ -11,7 +11,6 @@ use board_names::{
     StaticStorageOpenError, StaticStorageUnlockError, Table,
 };
 use std::alloc::{AllocError, Global};
-use std::collections::BTreeMap;
 use std::marker::Model;
 
 /// What stands under a name: a storage that is still to be filled, or one with its bytes.
@@ -56,7 +55,7 @@ impl Statics {
         if self.names.contains_key(name) {
             return Err(StaticStorageCreateError::AlreadyExists);
         }
-        match self.names.insert(*name, Stored::Locked) {
+        match self.names.insert(name, Stored::Locked) {
             Ok(_) => Ok(()),
             Err(_) => Err(StaticStorageCreateError::OutOfMemory),
         }
@@ -87,7 +86,7 @@ impl Statics {
         let Ok(shared) = content.share() else {
             return Err(StaticStorageCreateError::OutOfMemory);
         };
-        match self.names.insert(*name, Stored::Final(content)) {
+        match self.names.insert(name, Stored::Final(content)) {
             Ok(_) => Ok(shared),
             Err(_) => Err(StaticStorageCreateError::OutOfMemory),
         }
@@ -129,7 +128,7 @@ impl Statics {
         let content = Content::of(self.alloc, contents)?;
         let shared = content.share()?;
         // The name is held, so the table doesn't grow.
-        let Ok(_) = self.names.insert(*name, Stored::Final(content)) else {
+        let Ok(_) = self.names.insert(name, Stored::Final(content)) else {
             unreachable!()
         };
         Ok(shared)
@@ -185,7 +184,7 @@ impl NameTable for Statics {
 
     fn new(alloc: Global) -> Statics {
         Statics {
-            names: BTreeMap::new(alloc),
+            names: Table::new(alloc),
             alloc,
         }
     }

@@ -176,9 +176,8 @@ pub(crate) fn raise_handle(board: u64, kind: &Kind, written: &mut HashMap<(u64, 
     ensures { (b e : ℕ) → kept.kept_at written.new b e ≡ kept.kept_at written.old b e
         + kept.number_if ((board == b) && tables.writes_entry e kind.now) }
 {
-    match kind {
-        Kind::WriteHandle { entry, port: _ } => raise_at(board, *entry, written),
-        _ => {}
+    if let Some(entry) = kind.written_entry() {
+        raise_at(board, entry, written);
     }
 }
 
@@ -190,8 +189,7 @@ pub(crate) fn lower_handle(board: u64, kind: &Kind, written: &mut HashMap<(u64, 
         + kept.number_if ((board == b) && tables.writes_entry e kind.now)
         ≡ kept.kept_at written.old b e }
 {
-    match kind {
-        Kind::WriteHandle { entry, port: _ } => lower_at(board, *entry, written),
-        _ => {}
+    if let Some(entry) = kind.written_entry() {
+        lower_at(board, entry, written);
     }
 }

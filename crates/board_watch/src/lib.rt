@@ -10,8 +10,6 @@
 #![tactic(auto)]
 
 mod run_laws;
-#[cfg(test)]
-mod tests;
 mod top;
 
 pub use run_laws::{

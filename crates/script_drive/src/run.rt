@@ -1,6 +1,5 @@
 //! Lines that are run one after another.
-ghost use Rattle.std.specs.Prelude.{◌≡◌, ◌≢◌, ◌<◌, ℕ, [], IfErr, IfSome, IsErrOf, OnErr, OnOk, false};
-ghost use Rattle.script_loop.specs.Reader.{in_hand, source_ended};
+ghost use Rattle.std.specs.Prelude.{◌≡◌, ◌≢◌, ◌<◌, ℕ, [], IfErr, IsErrOf, OnErr, OnOk};
 ghost use Rattle.script_loop.specs.Runs.{stream_of};
 ghost use Rattle.script_exchanges.specs.declared.line.Drive.{Drive};
 ghost use Rattle.script_exchanges.specs.DriveGrammar.{SpellsNoDrive};
@@ -8,7 +7,7 @@ ghost use Rattle.script_drive.specs.DriveRuns.{DriveRuns, FitsInto, IsRunnable};
 ghost use Rattle.script_drive.specs.Drivers.{StandsFor, StandsStill, TellsEach};
 ghost use Rattle.script_exchanges.specs.Exchanges.{Exchanges};
 
-use script_loop::{Fetched, LineError, LineReader, ScriptError, Sink, Source, write_whole};
+use script_loop::{Fetched, LineError, ScriptError, Sink, Source, new_reader, write_whole};
 use std::alloc::Global;
 
 /// What answers the lines of a script whose parties can be driven.
@@ -39,19 +38,6 @@ pub trait Drives {
         ensures same { IsErrOf result LineError.Bad → StandsStill stands self.old self.new }
 
         ensures err { OnErr result (told.new.items ≡ []) };
-}
-
-// A reader with nothing in hand, or none where memory is refused.
-fn new_reader(alloc: Global) -> Option<LineReader>
-    ensures hand { IfSome result (λ reader. in_hand reader ≡ []) }
-    ensures ended { IfSome result (λ reader. source_ended reader ≡ false) }
-{
-    match LineReader::new(alloc) {
-        Ok(reader) => Some(reader),
-        Err(LineError::OutOfMemory) => None,
-        // No line was looked at yet.
-        Err(LineError::Bad) => unreachable!(),
-    }
 }
 
 /// Answers the lines of the source, at most `limit` of them, and writes what is told of each before the next line is looked at.

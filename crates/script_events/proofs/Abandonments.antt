@@ -23,7 +23,9 @@ use Rattle.script_events.specs.declared.things.Things.{Things}
 use Rattle.script_events.specs.declared.rows.Holding.{Holding}
 use Rattle.script_events.specs.declared.rows.Holding.TheVariants as holding
 use Rattle.script_events.specs.Calls.{IsMarkable, marked, marked_gone}
-use Rattle.script_events.specs.PartyEvents.{Held, Holds, IsOnce, Own, held_in, own_in, thing_in, where_held}
+use Rattle.script_events.specs.PartyEvents.{Held, Holds, IsOnce, IsUniqueIn, Own, all_in, held_in, named_by, own_in, thing_in, where_held}
+use Rattle.script_events.specs.declared.holdings.Holdings.TheVariants as holdings
+use Rattle.script_events.proofs.Maps.{OwnMap}
 use Rattle.script_events.proofs.Options.{either, turned}
 use Rattle.script_events.proofs.TableCalls.{change, changed_events}
 use Rattle.script_events.proofs.Holding.{event_of-none, event_of-some, listener_there}
@@ -81,24 +83,40 @@ own_found (x ∷ es) apart h (inr more) = (
     let found = own_found es (IsDistinct-tail bytes_eq x.0 (keys_of es) apart) h more in
     (found.0, rw (apart_names x.0 found.0 es h (IsDistinct-head bytes_eq x.0 (keys_of es) apart) found.1) found.1))
 
+-- what a party holds is what stands under its names
+all_listed : (own : Own) → IsUniqueIn own → AreFound (named_by own) (all_in own) × AreAll (named_by own) (all_in own)
+all_listed holdings.Nothing unique = ((λ h i. absurd i), (λ name h f. absurd cc))
+all_listed (holdings.One held one) unique = (found, all)
+  where
+    found : AreFound (named_by (holdings.One held one)) (one ∷ [])
+    found h (inl same) = (held, rw (same_to_itself held) (ap (λ (y : Holding). Some y) (sym same)))
+    found h (inr more) = absurd more
+
+    all : AreAll (named_by (holdings.One held one)) (one ∷ [])
+    all name h e = elim (either (bytes_eq held name)) [
+      | inl f ↦ (let here : Some one ≡ Some h = (rw f at e) in inl (some_same h one (sym here)))
+      | inr f ↦ absurd (let no : None ≡ Some h = (rw f at e) in cc)
+    ]
+all_listed (holdings.Many all) unique = (own_found all.value.entries unique, own_all all.value.entries)
+
 module _ (things : Things) (party : List ℕ) where
   -- what a party holds that holds something
-  pub own_listed : (own : Own) → own_in things party ≡ Some own → IsUnique bytes_eq own → AreFound (held_in things party) (values own) × AreAll (held_in things party) (values own)
-  own_listed own e unique = subst (λ (o : Option Own). AreFound (λ name. and_then o (λ w. get bytes_eq w name)) (values own) × AreAll (λ name. and_then o (λ w. get bytes_eq w name)) (values own)) (sym e) (own_found own.entries unique, own_all own.entries)
+  pub own_listed : (own : Own) → own_in things party ≡ Some own → IsUniqueIn own → AreFound (held_in things party) (all_in own) × AreAll (held_in things party) (all_in own)
+  own_listed own e unique = subst (λ (o : Option Own). AreFound (λ name. and_then o (λ w. named_by w name)) (all_in own) × AreAll (λ name. and_then o (λ w. named_by w name)) (all_in own)) (sym e) (all_listed own unique)
 
   -- and one that holds nothing
   pub none_listed : own_in things party ≡ None → AreFound (held_in things party) [] × AreAll (held_in things party) []
-  none_listed e = ((λ h i. absurd i), (λ name h f. absurd (let none : held_in things party name ≡ None = ap (λ (o : Option Own). and_then o (λ w. get bytes_eq w name)) e in let no : None ≡ Some h = sym none ∙ f in cc)))
+  none_listed e = ((λ h i. absurd i), (λ name h f. absurd (let none : held_in things party name ≡ None = ap (λ (o : Option Own). and_then o (λ w. named_by w name)) e in let no : None ≡ Some h = sym none ∙ f in cc)))
 
-  pub own_held : (own : Own) → own_in things party ≡ Some own → (P : Holding → Type 0) → ((name : List ℕ) → IfSome (held_in things party name) P) → (name : List ℕ) → IfSome (get bytes_eq own name) P
-  own_held own e P each name = subst (λ (o : Option Own). IfSome (and_then o (λ w. get bytes_eq w name)) P) e (each name)
+  pub own_held : (own : Own) → own_in things party ≡ Some own → (P : Holding → Type 0) → ((name : List ℕ) → IfSome (held_in things party name) P) → (name : List ℕ) → IfSome (named_by own name) P
+  own_held own e P each name = subst (λ (o : Option Own). IfSome (and_then o (λ w. named_by w name)) P) e (each name)
 
 all_by : (P : Holding → Type 0) (hs : List Holding) → ((h : Holding) → IsIn h hs → P h) → AllByRecursion P hs
 all_by P [] each = tt
 all_by P (h ∷ hs) each = (each h (inl refl), all_by P hs (λ y more. each y (inr more)))
 
 -- what holds of each that stands under a name holds of all values
-pub all_values : (own : Own) (P : Holding → Type 0) → IsUnique bytes_eq own → ((name : List ℕ) → IfSome (get bytes_eq own name) P) → AllByRecursion P (values own)
+pub all_values : (own : OwnMap) (P : Holding → Type 0) → IsUnique bytes_eq own → ((name : List ℕ) → IfSome (get bytes_eq own name) P) → AllByRecursion P (values own)
 all_values own P unique each = all_by P (values own) (λ h i. (let found = own_found own.entries unique h i in subst (λ (o : Option Holding). IfSome o P) found.1 (each found.0)))
 
 -- ---- the table after the marks

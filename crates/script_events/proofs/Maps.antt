@@ -2,24 +2,30 @@
 use Rattle.std.proofs.Common.{◌≡◌, ℕ, Bool, true, false, cond, List, [], ◌∷◌, refl, ap, ◌∙◌, Option, None, inl, inr}
 use Rattle.std.specs.Prelude.{length}
 use Rattle.std.specs.Str.{bytes_eq}
-use Rattle.std.specs.HashMap.{get}
+use Rattle.std.specs.HashMap.{HashMap, get}
+use Rattle.std.specs.declared.hash.BuildHasherDefault.{BuildHasherDefault}
+use Rattle.std.specs.declared.hash.FoldHasher.{FoldHasher}
 use Rattle.std.specs.Map.{lookup}
 use Rattle.board_model.proofs.ListLemmas.{same_bytes}
 use Rattle.board_model.specs.Requests.{and_then}
 use Rattle.board_model.specs.Things.{with_at}
 use Rattle.script_events.specs.declared.rows.Holding.{Holding}
-use Rattle.script_events.specs.PartyEvents.{Own}
+use Rattle.script_events.specs.PartyEvents.{Own, named_by}
 use Rattle.script_events.proofs.Options.{either, turned}
+
+-- a map of what one party holds
+abbrev pub OwnMap : Type 0
+OwnMap = HashMap (List ℕ) Holding (BuildHasherDefault FoldHasher)
 
 -- what is held under a name, where something is
 abbrev pub named_in : Option Own → List ℕ → Option Holding
-named_in own name = and_then own (λ w. get bytes_eq w name)
+named_in own name = and_then own (λ w. named_by w name)
 
 -- an empty map has nothing
-pub none_in : (own : Own) → length own.entries ≡ 0 → (name : List ℕ) → get bytes_eq own name ≡ None
-none_in own e name = by own.entries e
+pub none_in : {X S : Type 0} (own : HashMap (List ℕ) X S) → length own.entries ≡ 0 → (name : List ℕ) → get bytes_eq own name ≡ None
+none_in {X} own e name = by own.entries e
   where
-    by : (es : List (List ℕ × Holding)) → length es ≡ 0 → lookup (bytes_eq name) es ≡ None
+    by : (es : List (List ℕ × X)) → length es ≡ 0 → lookup (bytes_eq name) es ≡ None
     by [] e = refl
     by (x ∷ es) e = absurd cc
 

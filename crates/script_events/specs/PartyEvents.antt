@@ -1,11 +1,9 @@
 -- The events of a script that what parties hold and run stands for.
-use Rattle.std.specs.Prelude.{◌≡◌, ℕ, ◌<◌, ◌^◌, Bool, true, false, if◌then◌else◌, List, [], ◌∷◌, Option, Some, None, IfSome, IsSomeAnd, option_map, ⊤}
+use Rattle.std.specs.Prelude.{◌≡◌, ℕ, ◌<◌, ◌^◌, Bool, true, false, cond, if◌then◌else◌, List, [], ◌∷◌, Option, Some, None, IfSome, IsSomeAnd, option_map, ⊤}
 use Rattle.std.specs.declared.cmp.Ordering.{Ordering}
 use Rattle.std.specs.BTreeMap.{is_at}
 use Rattle.std.specs.Cmp.Lexicographic.{slice_cmp}
-use Rattle.std.specs.HashMap.{HashMap, get}
-use Rattle.std.specs.declared.hash.BuildHasherDefault.{BuildHasherDefault}
-use Rattle.std.specs.declared.hash.FoldHasher.{FoldHasher}
+use Rattle.std.specs.HashMap.{IsUnique, get, values}
 use Rattle.std.specs.Map.{lookup}
 use Rattle.std.specs.Ordering.{nat_cmp}
 use Rattle.std.specs.Str.{bytes_eq}
@@ -28,6 +26,8 @@ use Rattle.script_model.specs.ScriptEvents.{EventAsk, EventThing, IsStepOf, Scri
 use Rattle.script_model.specs.ScriptTurns.{EventTurn, begins, drops, expire_of_call, expires, refused, steps, task_turn, turned}
 use Rattle.script_model.specs.SoundEvents.{AreSoundEvents}
 use Rattle.script_events.specs.declared.party_events.PartyEvents.{PartyEvents}
+use Rattle.script_events.specs.declared.holdings.Holdings.{Holdings}
+use Rattle.script_events.specs.declared.holdings.Holdings.TheVariants as holdings
 use Rattle.script_events.specs.declared.rows.Act.{Act}
 use Rattle.script_events.specs.declared.rows.ActiveCall.{ActiveCall}
 use Rattle.script_events.specs.declared.rows.ActiveCall.TheVariants as active
@@ -59,7 +59,25 @@ Held = List ℕ → List ℕ → Option Holding
 
 -- what one party holds, by the names that it gave
 abbrev pub Own : Type 0
-Own = HashMap (List ℕ) Holding (BuildHasherDefault FoldHasher)
+Own = Holdings
+
+-- what one party holds under a name
+abbrev pub named_by : Own → List ℕ → Option Holding
+named_by holdings.Nothing name = None
+named_by (holdings.One held h) name = cond (bytes_eq held name) (Some h) None
+named_by (holdings.Many all) name = get bytes_eq all.value name
+
+-- all that one party holds
+abbrev pub all_in : Own → List Holding
+all_in holdings.Nothing = []
+all_in (holdings.One held h) = h ∷ []
+all_in (holdings.Many all) = values all.value
+
+-- no two things of a party have one name
+abbrev pub IsUniqueIn : Own → Type 0
+IsUniqueIn holdings.Nothing = ⊤
+IsUniqueIn (holdings.One held h) = ⊤
+IsUniqueIn (holdings.Many all) = IsUnique bytes_eq all.value
 
 -- what a party holds, where it holds something
 abbrev pub own_in : Things → List ℕ → Option Own
@@ -67,7 +85,7 @@ own_in things party = get bytes_eq things.parties party
 
 -- what a party holds under a name
 abbrev pub held_in : Things → Held
-held_in things party name = and_then (own_in things party) (λ own. get bytes_eq own name)
+held_in things party name = and_then (own_in things party) (λ own. named_by own name)
 
 -- ---- what parties run
 

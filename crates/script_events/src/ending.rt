@@ -4,13 +4,14 @@ ghost use Rattle.std.specs.HashMap.{IsUnique, get, values};
 ghost use Rattle.std.specs.Str.{bytes_eq};
 ghost use Rattle.script_model.specs.ScriptEvents.{events_abandoned, holds_event};
 ghost use Rattle.script_events.specs.Calls.{IsMarkable, marked, marked_gone};
-ghost use Rattle.script_events.specs.PartyEvents.{IsLed, IsTurned, OfEach, Represents, expiry, thing_let_go};
+ghost use Rattle.script_events.specs.PartyEvents.{IsLed, IsTurned, IsUniqueIn, OfEach, Represents, all_in, expiry, named_by, thing_let_go};
 
+use crate::holdings::Holdings;
 use crate::party_events::PartyEvents;
 use crate::rows::Holding;
-use crate::things::Holdings;
 use board_event_core::Events;
 use board_model::{Name, Reason};
+use std::collections::HashMap;
 
 /// Counts a listener as gone.
 fn mark(holding: &Holding, events: &mut Events)
@@ -23,14 +24,27 @@ fn mark(holding: &Holding, events: &mut Events)
     }
 }
 
-/// Counts the listeners of a party as gone, which holds this.
-fn mark_listeners(own: &Holdings, events: &mut Events)
+/// Counts the listeners of a party as gone, which holds these.
+fn mark_listeners(own: &HashMap<Name, Holding>, events: &mut Events)
     requires { (name : List ℕ) → IfSome (get bytes_eq own.now name) (IsMarkable events.old) }
     ensures marked { events.new ≡ marked_gone (values own.now) events.old }
     ensures unique { IsUnique bytes_eq own.now }
 {
     for holding in own.values() {
         mark(holding, events);
+    }
+}
+
+/// Counts the listeners of a party as gone, which holds this.
+fn mark_own(own: &Holdings, events: &mut Events)
+    requires { (name : List ℕ) → IfSome (named_by own.now name) (IsMarkable events.old) }
+    ensures marked { events.new ≡ marked_gone (all_in own.now) events.old }
+    ensures unique { IsUniqueIn own.now }
+{
+    match own {
+        Holdings::Nothing => {}
+        Holdings::One(_, holding) => mark(holding, events),
+        Holdings::Many(all) => mark_listeners(all, events),
     }
 }
 
@@ -71,7 +85,7 @@ impl PartyEvents {
     {
         let _ = self.calls.remove(party);
         if let Some(own) = self.things.of(party) {
-            mark_listeners(own, &mut self.events);
+            mark_own(own, &mut self.events);
         }
     }
 }

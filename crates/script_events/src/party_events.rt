@@ -9,7 +9,6 @@ use crate::things::Things;
 use board_event_core::Events;
 use board_event_model::EventKind;
 use board_model::Name;
-use board_names::FilePath;
 use std::alloc::Global;
 use std::collections::HashMap;
 
@@ -37,10 +36,14 @@ impl PartyEvents {
         }
     }
 
-    /// Whether a call of the party runs on events.
+    /// Whether a call of the party runs on events. Where none runs at all, the party isn't looked up.
+    #[inline(always)]
     pub fn runs(&self, party: &Name) -> bool
         ensures { OfEach self.now (λ x. result ≡ runs_on_events x party.now) }
     {
+        if self.calls.is_empty() {
+            return false;
+        }
         self.calls.contains_key(party)
     }
 
@@ -59,8 +62,8 @@ impl PartyEvents {
         self.events.kind_of(event)
     }
 
-    /// The name of an event.
-    pub fn name_of(&self, event: u64) -> &FilePath
+    /// The bytes of the name of an event.
+    pub fn name_of(&self, event: u64) -> &[u8]
         requires { IsSome (event_at self.now.events event) }
         ensures { IsSomeAnd (event_at self.now.events event) (λ e. result.now ≡ e.name) }
     {

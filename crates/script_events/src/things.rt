@@ -3,13 +3,11 @@ ghost use Rattle.std.specs.Prelude.{◌≡◌, ℕ, List, None, OnErr, OnOk, Som
 ghost use Rattle.script_events.specs.Calls.{HasAt, listened_in, notified_in};
 ghost use Rattle.script_events.specs.PartyEvents.{held_in, own_in};
 
+use crate::holdings::Holdings;
 use crate::rows::Holding;
 use board_model::Name;
 use std::alloc::{AllocError, Global};
 use std::collections::HashMap;
-
-/// What a party holds, by the names that it gave.
-pub(crate) type Holdings = HashMap<Name, Holding>;
 
 /// What each party holds.
 #[derive(Drop)]
@@ -41,7 +39,7 @@ impl Things {
         ensures { result ≡ held_in self.now party.now name.now }
     {
         match self.parties.get(party) {
-            Some(own) => own.get(name).copied(),
+            Some(own) => own.get(name),
             None => None,
         }
     }
@@ -84,12 +82,9 @@ impl Things {
             → held_in self.new p n ≡ held_in self.old p n) }
     {
         if let Some(own) = self.parties.get_mut(&party) {
-            let _ = own.insert(name, holding)?;
-            return Ok(());
+            return own.put(self.alloc, name, holding);
         }
-        let mut own = HashMap::new(self.alloc);
-        let _ = own.insert(name, holding)?;
-        let _ = self.parties.insert(party, own)?;
+        let _ = self.parties.insert(party, Holdings::One(name, holding))?;
         Ok(())
     }
 
@@ -101,7 +96,7 @@ impl Things {
         let Some(own) = self.parties.get_mut(party) else {
             return None;
         };
-        let holding = own.remove(name);
+        let holding = own.take(name);
         if own.is_empty() {
             let _ = self.parties.remove(party);
         }

@@ -17,8 +17,8 @@ mod tests;
 mod writer;
 
 pub use error::{LineError, ScriptError, SinkError};
-pub use line_reader::{Fetched, LineReader};
+pub use line_reader::{Fetched, LineReader, newline_in};
 pub use memory::{MemorySink, MemorySource};
-pub use run::{RunsLines, run_lines};
+pub use run::{RunsLines, new_reader, run_lines};
 pub use stream::{Failed, Sink, Source};
 pub use writer::write_whole;

@@ -4,6 +4,8 @@ ghost use Rattle.std.specs.Prelude.{◌≡◌, ◌≤◌, vec_len};
 mod hand;
 mod next;
 
+pub use hand::newline_in;
+
 /// What a look for the next line found.
 #[derive(Clone, Copy, Debug, PartialEq, Eq)]
 pub enum Fetched {

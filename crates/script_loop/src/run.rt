@@ -47,8 +47,8 @@ pub trait RunsLines {
 // Room for each answer that tells no list, which is taken before the first line: so none of them needs any of its own.
 const SHORT_ANSWER: usize = 400;
 
-// A reader with nothing in hand, or none where memory is refused.
-fn new_reader(alloc: Global) -> Option<LineReader>
+/// A reader with nothing in hand, or none where memory is refused.
+pub fn new_reader(alloc: Global) -> Option<LineReader>
     ensures hand { IfSome result (λ reader. in_hand reader ≡ []) }
     ensures ended { IfSome result (λ reader. source_ended reader ≡ false) }
 {

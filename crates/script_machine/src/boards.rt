@@ -209,7 +209,7 @@ impl<C: BoardWords + Drop> Machine<C> {
                 told,
             } => push_event_step(
                 self.events.kind_of(event),
-                self.events.name_of(event).as_bytes(),
+                self.events.name_of(event),
                 access,
                 answer,
                 told.as_ref(),

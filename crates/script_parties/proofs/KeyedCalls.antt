@@ -18,19 +18,17 @@ use Rattle.board_model.specs.Tables.{Added, Tables, board_at, entry_found, entry
 use Rattle.board_model.proofs.ThingLemmas.{all_found}
 use Rattle.board_service.specs.Domain.{Domain, create_answer, entry_for}
 use Rattle.script_parties.proofs.KeyTests.{first_text, first_word, is_number, is_text, lowered}
+use Rattle.script_parties.specs.Keyed.{AgreeOnPairs}
 use Rattle.script_parties.specs.Named.{HasShortKey, HasShortKeys}
 use Rattle.board_model.specs.ShortKeys.{IsShortKey}
 
 -- the tests agree on short keys
-abbrev pub AgreeOnPairs : (List ℕ → List ℕ → Bool) → (List ℕ → List ℕ → Bool) → Type 0
-AgreeOnPairs s t = (a b : List ℕ) → IsShortKey a → IsShortKey b → s a b ≡ t a b
-
 abbrev pub Agree : (List ℕ → Bool) → (List ℕ → Bool) → Type 0
 Agree s t = (a : List ℕ) → IsShortKey a → s a ≡ t a
 
 -- ---- new entries
 
-has_key_same : (s t : List ℕ → List ℕ → Bool) → AgreeOnPairs s t → (k : List ℕ) → IsShortKey k → (es : List Added) → AllByRecursion HasShortKey es → has_key s k es ≡ has_key t k es
+pub has_key_same : (s t : List ℕ → List ℕ → Bool) → AgreeOnPairs s t → (k : List ℕ) → IsShortKey k → (es : List Added) → AllByRecursion HasShortKey es → has_key s k es ≡ has_key t k es
 has_key_same s t agree k h [] es = refl
 has_key_same s t agree k h (e ∷ more) es =
     ap (λ (b : Bool). b || has_key s k more) (agree e.key k es.0 h) ∙ ap (λ (b : Bool). t e.key k || b) (has_key_same s t agree k h more es.1)

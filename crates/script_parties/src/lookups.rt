@@ -1,4 +1,4 @@
-//! What names, kinds and nodes are.
+//! What names and nodes are.
 ghost use Rattle.std.specs.Prelude.{◌≡◌, ◌<◌};
 ghost use Rattle.indexmap.specs.IndexSet.{spare};
 ghost use Rattle.script_parties.specs.Named.{node_number, nodes_with};

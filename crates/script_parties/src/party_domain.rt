@@ -203,7 +203,7 @@ impl<C: BoardWords + Drop> PartyDomain<C> {
     /// Makes a board with its words, and a factory of it for the party. What it is told is a number or an error of the call.
     ///
     /// # Errors
-    /// `AllocError` where memory is refused, which is taken only where nothing else refuses the call. All stays as it was.
+    /// `AllocError` where memory is refused, which is wanted only where nothing else refuses the call. All stays as it was.
     pub fn create(
         &mut self,
         party: Name,

@@ -1,7 +1,8 @@
 //! By typed calls.
 use super::loans::drop_loan;
 use super::published::publish;
-use super::{creator, new_domain, node_name, note, opener, taken};
+use super::{builder, creator, new_domain, node_name, note, opener, taken};
+use crate::creator::Creator;
 use crate::messaging_pattern::MessagingPattern;
 use crate::node::Node;
 use crate::port_factory::PortFactory;
@@ -9,7 +10,10 @@ use board_concepts::{Policy, Shared, Single};
 use board_handles::{
     Domain, EntryHandle, EntryHandleMut, PortFactoryReader, PortFactoryWriter, Reader, Writer,
 };
-use board_names::{EntryHandleError, EntryHandleMutError, ReaderCreateError, WriterCreateError};
+use board_names::{
+    BlackboardCreateError, EntryHandleError, EntryHandleMutError, ReaderCreateError,
+    WriterCreateError,
+};
 use board_service::ThingId;
 use std::alloc::Global;
 use std::process::Abort;
@@ -243,6 +247,26 @@ fn a_builder_by_number_asks_for_its_factory(rt: HostRuntime) {
     let writer = PortFactoryWriter::<u64, Shared>::new(rt.alloc(), ThingId(1), domain);
     let no_writer = writer.create(&rt).err();
     assert_eq!(rt; no_writer, Some(WriterCreateError::ThingUnknown(1)));
+}
+
+// What makes a board of sixteen numbers, under the keys 0 to 14 and this one.
+fn many<R: Abort>(rt: &R, alloc: Global, node: &Node, last: u64) -> Creator<u64, Shared> {
+    let mut creator = builder(rt, node, "many").blackboard_creator::<u64, Shared>(alloc);
+    for key in 0..15 {
+        creator = creator.add(key, 7u64).expect(rt, "memory");
+    }
+    creator.add(last, 7u64).expect(rt, "memory")
+}
+
+#[test]
+fn equal_keys_are_found_among_many(rt: HostRuntime) {
+    let domain = new_domain(&rt, rt.alloc());
+    let node = new_node(&rt, &domain, "first");
+    let refused = many(&rt, rt.alloc(), &node, 3).create(&rt).err();
+    let corrupted = BlackboardCreateError::ServiceInCorruptedState;
+    assert_eq!(rt; refused, Some(corrupted));
+    let made = many(&rt, rt.alloc(), &node, 15).create(&rt);
+    made.expect(&rt, "sixteen keys").release(&rt);
 }
 
 #[test]

@@ -55,90 +55,84 @@ pub(super) const A_UPDATES: Part = &[
     ("words 1", "words 2 0 7 6"),
 ];
 
-/// Another party makes a board, reads the one that stands, and listens and waits.
-pub(super) const C_GOES_ON: Part = &[
+// Another party makes a board.
+const C_MAKES_BOARD_2: Part = &[
     ("begin c create g d u64 add u64:1 u64:5", "ok"),
     ("step c", "table = ok 2"),
+];
+
+const C_MAKES_BOARD_3: Part = &[
+    ("begin c create g d u64 add u64:1 u64:5", "ok"),
+    ("step c", "table = ok 3"),
+];
+
+const C_MAKES_THE_FIRST: Part = &[
+    ("begin c create g c u64 add u64:1 u64:5", "ok"),
+    ("step c", "table = ok 1"),
+    ("begin c reader r g", "ok"),
+    ("step c", "table = ok 1"),
+];
+
+const C_MAKES_THE_SECOND: Part = &[
+    ("begin c create g c u64 add u64:1 u64:5", "ok"),
+    ("step c", "table = ok 2"),
+    ("begin c reader r g", "ok"),
+    ("step c", "table = ok 3"),
+];
+
+// It opens the one that stands, as a reader of this number.
+const C_IS_READER_3: Part = &[
     ("begin c open f b u64", "ok"),
     ("step c", "table = ok 1"),
     ("begin c reader r f", "ok"),
     ("step c", "table = ok 3"),
-    ("begin c entry h r u64:1 u64", "ok"),
-    ("step c", "table = ok 0"),
-    ("begin c get h", "ok"),
-    ("step c", "read 1:0 1"),
-    ("step c", "read 1:2 5"),
-    ("step c", "read 1:0 1 = u64:5 gen 1"),
-    ("words 2", "words 1 0 5 0"),
-    ("begin c listen l bits other 0", "ok"),
-    ("step c", "table = ok"),
-    ("begin c wait l all try", "ok"),
-    ("step c", "signal bits:other no"),
-    ("step c", "swap bits:other 0 0 = none"),
 ];
 
-/// The same, where a board was made, which stands.
-pub(super) const C_GOES_ON_AFTER_A_BOARD: Part = &[
-    ("begin c create g d u64 add u64:1 u64:5", "ok"),
-    ("step c", "table = ok 3"),
-    ("begin c open f b u64", "ok"),
-    ("step c", "table = ok 1"),
-    ("begin c reader r f", "ok"),
-    ("step c", "table = ok 3"),
-    ("begin c entry h r u64:1 u64", "ok"),
-    ("step c", "table = ok 0"),
-    ("begin c get h", "ok"),
-    ("step c", "read 1:0 1"),
-    ("step c", "read 1:2 5"),
-    ("step c", "read 1:0 1 = u64:5 gen 1"),
-    ("words 3", "words 1 0 5 0"),
-    ("words 2", "words 1 0 5 0"),
-    ("begin c create k c u64 add u64:1 u64:5", "ok"),
-    ("step c", "table = BlackboardCreateError::AlreadyExists"),
-    ("begin c listen l bits other 0", "ok"),
-    ("step c", "table = ok"),
-    ("begin c wait l all try", "ok"),
-    ("step c", "signal bits:other no"),
-    ("step c", "swap bits:other 0 0 = none"),
-];
-
-/// The same, where a port was made.
-pub(super) const C_GOES_ON_AFTER_A_PORT: Part = &[
-    ("begin c create g d u64 add u64:1 u64:5", "ok"),
-    ("step c", "table = ok 2"),
+const C_IS_READER_4: Part = &[
     ("begin c open f b u64", "ok"),
     ("step c", "table = ok 1"),
     ("begin c reader r f", "ok"),
     ("step c", "table = ok 4"),
+];
+
+// It gets the first value of board 1, or the one that was published, or the first of board 2.
+const C_HAS_THE_ENTRY: Part = &[
     ("begin c entry h r u64:1 u64", "ok"),
     ("step c", "table = ok 0"),
     ("begin c get h", "ok"),
+];
+
+const C_GETS_THE_FIRST: Part = &[
     ("step c", "read 1:0 1"),
     ("step c", "read 1:2 5"),
     ("step c", "read 1:0 1 = u64:5 gen 1"),
-    ("words 2", "words 1 0 5 0"),
-    ("begin c listen l bits other 0", "ok"),
-    ("step c", "table = ok"),
-    ("begin c wait l all try", "ok"),
-    ("step c", "signal bits:other no"),
-    ("step c", "swap bits:other 0 0 = none"),
 ];
 
-/// The same, where the value was published.
-pub(super) const C_GETS_THE_UPDATE: Part = &[
-    ("begin c create g d u64 add u64:1 u64:5", "ok"),
-    ("step c", "table = ok 2"),
-    ("begin c open f b u64", "ok"),
-    ("step c", "table = ok 1"),
-    ("begin c reader r f", "ok"),
-    ("step c", "table = ok 3"),
-    ("begin c entry h r u64:1 u64", "ok"),
-    ("step c", "table = ok 0"),
-    ("begin c get h", "ok"),
+const C_GETS_THE_SECOND: Part = &[
     ("step c", "read 1:0 2"),
     ("step c", "read 1:3 6"),
     ("step c", "read 1:0 2 = u64:6 gen 2"),
-    ("words 2", "words 1 0 5 0"),
+];
+
+const C_GETS_FROM_BOARD_2: Part = &[
+    ("step c", "read 2:0 1"),
+    ("step c", "read 2:2 5"),
+    ("step c", "read 2:0 1 = u64:5 gen 1"),
+];
+
+// What stands in a board that was just made.
+const BOARD_2_IS_NEW: Part = &[("words 2", "words 1 0 5 0")];
+
+const BOARD_3_IS_NEW: Part = &[("words 3", "words 1 0 5 0")];
+
+// The board that the abandoned call made has its name.
+const THE_NAME_IS_TAKEN: Part = &[
+    ("begin c create k c u64 add u64:1 u64:5", "ok"),
+    ("step c", "table = BlackboardCreateError::AlreadyExists"),
+];
+
+// It listens and waits.
+const C_WAITS: Part = &[
     ("begin c listen l bits other 0", "ok"),
     ("step c", "table = ok"),
     ("begin c wait l all try", "ok"),
@@ -146,8 +140,83 @@ pub(super) const C_GETS_THE_UPDATE: Part = &[
     ("step c", "swap bits:other 0 0 = none"),
 ];
 
-/// Things of abandoned parties count: `c` is told of two readers, a writer and three parties.
-pub(super) const TWO_READERS_COUNT: Part = &[
+/// Another party makes the first board, reads it, and listens and waits.
+pub(super) const C_IS_FIRST: &[Part] = &[
+    C_MAKES_THE_FIRST,
+    C_HAS_THE_ENTRY,
+    C_GETS_THE_FIRST,
+    AS_IT_WAS,
+    C_WAITS,
+];
+
+/// The same with the second board, where two ports were made.
+pub(super) const C_IS_SECOND: &[Part] = &[
+    C_MAKES_THE_SECOND,
+    C_HAS_THE_ENTRY,
+    C_GETS_FROM_BOARD_2,
+    BOARD_2_IS_NEW,
+    C_WAITS,
+];
+
+/// Another party makes a board, reads the one that stands, and listens and waits. The things of abandoned parties count.
+pub(super) const C_GOES_ON: &[Part] = &[
+    C_MAKES_BOARD_2,
+    C_IS_READER_3,
+    C_HAS_THE_ENTRY,
+    C_GETS_THE_FIRST,
+    BOARD_2_IS_NEW,
+    C_WAITS,
+    TWO_READERS_COUNT,
+];
+
+/// The same, where a board was made, which stands.
+pub(super) const C_GOES_ON_AFTER_A_BOARD: &[Part] = &[
+    C_MAKES_BOARD_3,
+    C_IS_READER_3,
+    C_HAS_THE_ENTRY,
+    C_GETS_THE_FIRST,
+    BOARD_3_IS_NEW,
+    BOARD_2_IS_NEW,
+    THE_NAME_IS_TAKEN,
+    C_WAITS,
+    TWO_READERS_COUNT,
+];
+
+/// The same, where a port was made.
+pub(super) const C_GOES_ON_AFTER_A_PORT: &[Part] = &[
+    C_MAKES_BOARD_2,
+    C_IS_READER_4,
+    C_HAS_THE_ENTRY,
+    C_GETS_THE_FIRST,
+    BOARD_2_IS_NEW,
+    C_WAITS,
+    THREE_READERS_COUNT,
+];
+
+/// The same, where the value was published.
+pub(super) const C_GETS_THE_UPDATE: &[Part] = &[
+    C_MAKES_BOARD_2,
+    C_IS_READER_3,
+    C_HAS_THE_ENTRY,
+    C_GETS_THE_SECOND,
+    BOARD_2_IS_NEW,
+    C_WAITS,
+    TWO_READERS_COUNT,
+];
+
+/// The same, where both parties are writers.
+pub(super) const C_GOES_ON_BESIDE_TWO_WRITERS: &[Part] = &[
+    C_MAKES_BOARD_2,
+    C_IS_READER_3,
+    C_HAS_THE_ENTRY,
+    C_GETS_THE_FIRST,
+    BOARD_2_IS_NEW,
+    C_WAITS,
+    TWO_WRITERS_COUNT,
+];
+
+// Things of abandoned parties count: `c` is told of two readers, a writer and three parties.
+const TWO_READERS_COUNT: Part = &[
     ("begin c info f", "ok"),
     (
         "step c",
@@ -155,8 +224,8 @@ pub(super) const TWO_READERS_COUNT: Part = &[
     ),
 ];
 
-/// The same, where one more reader was made.
-pub(super) const THREE_READERS_COUNT: Part = &[
+// The same, where one more reader was made.
+const THREE_READERS_COUNT: Part = &[
     ("begin c info f", "ok"),
     (
         "step c",
@@ -164,8 +233,8 @@ pub(super) const THREE_READERS_COUNT: Part = &[
     ),
 ];
 
-/// The same, where both parties are writers, and `c` is the only reader.
-pub(super) const TWO_WRITERS_COUNT: Part = &[
+// The same, where both parties are writers, and `c` is the only reader.
+const TWO_WRITERS_COUNT: Part = &[
     ("begin c info f", "ok"),
     (
         "step c",

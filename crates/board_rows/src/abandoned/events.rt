@@ -124,3 +124,74 @@ pub(super) const STILL_A_QUEUE: Part = &[
     ("begin m listen y queue q", "ok"),
     ("step m", "table = ok"),
 ];
+
+/// `e` finds two signals and takes both.
+pub(super) const TWO_SIGNALS: Part = &[
+    ("step e", "signal bits:ev yes"),
+    ("step e", "signal bits:ev yes"),
+    ("step e", "signal bits:ev no"),
+];
+
+/// It takes the lower id.
+pub(super) const AN_ID_CLEARED: Part = &[
+    ("step e", "scan bits:ev 0 2"),
+    ("step e", "clear bits:ev 1 = id 1"),
+];
+
+/// `e` finds no signal, and no id in either word, as it looks for one of them.
+pub(super) const NOTHING_SCANNED: Part = &[
+    ("step e", "signal bits:ev no"),
+    ("step e", "scan bits:ev 0 0"),
+    ("step e", "scan bits:ev 1 0"),
+];
+
+/// The same, as it looks for all.
+pub(super) const NOTHING_SWAPPED: Part = &[
+    ("step e", "signal bits:ev no"),
+    ("step e", "swap bits:ev 0 0"),
+    ("step e", "swap bits:ev 1 0"),
+];
+
+/// Then it waits for a signal.
+pub(super) const NO_SIGNAL: Part = &[
+    ("step e", "signal bits:ev no"),
+    ("step e", "signal bits:ev no"),
+    ("step e", "signal bits:ev no"),
+    ("step e", "signal bits:ev no"),
+    ("step e", "signal bits:ev no"),
+];
+
+/// It waits for an id in a queue.
+pub(super) const NOTHING_POPPED: Part = &[
+    ("step e", "pop queue:q none"),
+    ("step e", "pop queue:q none"),
+    ("step e", "pop queue:q none"),
+    ("step e", "pop queue:q none"),
+];
+
+/// The name of the set is held, and another listener doesn't get it.
+pub(super) const THE_SET_IS_HELD: Part = &[
+    ("begin m listen y bits ev 0", "ok"),
+    ("step m", "table = ListenerCreateError::AlreadyExists"),
+];
+
+/// It is free.
+pub(super) const THE_SET_IS_FREE: Part = &[
+    ("begin m listen y bits ev 0", "ok"),
+    ("step m", "table = ok"),
+];
+
+/// The name of the queue is held.
+pub(super) const THE_QUEUE_IS_HELD: Part = &[
+    ("begin m listen y queue q", "ok"),
+    ("step m", "table = ListenerCreateError::AlreadyExists"),
+];
+
+/// It is free.
+pub(super) const THE_QUEUE_IS_FREE: Part = &[
+    ("begin m listen y queue q", "ok"),
+    ("step m", "table = ok"),
+];
+
+/// `e` drops its listener.
+pub(super) const E_DROPS_IT: Part = &[("drop e e", "table = ok")];

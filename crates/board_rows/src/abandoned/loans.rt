@@ -1,23 +1,11 @@
 //! What stands after calls on four words, and after those on loans of them.
 use crate::row::Part;
 
-/// `a` is abandoned, and `b` still gets the first value.
-pub(super) const FIRST_VALUE: Part = &[
-    ("abandon a", "gone"),
-    ("step a", "refused abandoned"),
-    ("begin b get h", "ok"),
-    ("step b", "read 1:0 1"),
-    ("step b", "read 1:2 1"),
-    ("step b", "read 1:3 2"),
-    ("step b", "read 1:4 3"),
-    ("step b", "read 1:5 4"),
-    ("step b", "read 1:0 1 = q4:1,2,3,4 gen 1"),
-];
+/// `a` is abandoned.
+pub(super) const A_LEFT: Part = &[("abandon a", "gone"), ("step a", "refused abandoned")];
 
-/// `a` is abandoned, and `b` gets what was written.
-pub(super) const SECOND_VALUE: Part = &[
-    ("abandon a", "gone"),
-    ("step a", "refused abandoned"),
+/// `b` gets what was written.
+pub(super) const OTHER_WORDS_GOT: Part = &[
     ("begin b get h", "ok"),
     ("step b", "read 1:0 2"),
     ("step b", "read 1:6 5"),

@@ -21,7 +21,7 @@ use crate::planned::{entries_for, plan_for};
 use crate::refusals::{create_refusal, limit_of};
 use board_cell::CellError;
 use board_concepts::{AttributeSet, Description};
-use board_index::BoardRow;
+use board_index::{BoardRow, NewBoard};
 use board_layout::{BoardKey, Plan, TypeDetail, TypeVariant};
 use board_model::{Entries, Kind, Limits, ThingKind};
 use board_names::{BlackboardCreateError, FilePath, NameTable, ServiceName};
@@ -93,7 +93,8 @@ impl<C: Cells> DomainCore<C> {
         ensures kept { KeepsHeld self.old self.new }
     {
         let wanted = entries.as_slice();
-        let refusal = create_refusal::<K, C>(name, wanted, &self.boards, self.things.last());
+        let last_thing = self.things.last();
+        let refusal = create_refusal::<K, C>(self.alloc, name, wanted, &self.boards, last_thing);
         if let Some(why) = refusal {
             return Err(why);
         }
@@ -119,6 +120,19 @@ impl<C: Cells> DomainCore<C> {
             return Err(BlackboardCreateError::OutOfMemory);
         };
         let number = self.boards.last() + 1;
+        let row = BoardRow {
+            number,
+            name: description.name,
+            key: description.key,
+            max_readers: description.max_readers,
+            max_nodes: description.max_nodes,
+            max_writers: description.max_writers,
+            attributes: description.attributes,
+            entries: Entries::from_vec(kept),
+        };
+        let Ok(board) = NewBoard::new(self.alloc, row) else {
+            return Err(BlackboardCreateError::OutOfMemory);
+        };
         let path = path_of(number);
         let made = make_described(
             self.alloc,
@@ -131,17 +145,7 @@ impl<C: Cells> DomainCore<C> {
         let Ok(cells) = made else {
             return Err(BlackboardCreateError::OutOfMemory);
         };
-        let row = BoardRow {
-            number,
-            name: description.name,
-            key: description.key,
-            max_readers: description.max_readers,
-            max_nodes: description.max_nodes,
-            max_writers: description.max_writers,
-            attributes: description.attributes,
-            entries: Entries::from_vec(kept),
-        };
-        self.boards.push_reserved(row, cells);
+        self.boards.push_reserved(board, cells);
         let thing = push(node, number, Kind::Factory, &mut self.things);
         Ok(Made { thing, number })
     }

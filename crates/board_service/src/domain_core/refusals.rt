@@ -1,4 +1,4 @@
-//! Why a call would be refused, and what it would make, for callers that take memory of their own first. None of these takes memory.
+//! Why a call would be refused, and what it would make, for callers that take memory of their own first. None of these needs memory: equal keys of many entries are looked for with a set of hashes, and one after another where it gets none.
 ghost use Rattle.std.specs.Prelude.{◌≡◌, ◌≤◌, ◌<◌, ◌-◌, ◌^◌, true, length, nat_eq, IfNone, OnOk};
 ghost use Rattle.std.specs.List.{list_any};
 ghost use Rattle.board_layout.specs.Keys.{is_key, same_keys};
@@ -43,7 +43,7 @@ impl<C: Cells> DomainCore<C> {
         ensures { result ≡ first_of (domain.create_list self.now
             (same_keys K.eq K.value_of K.SIZE K.WORDS) name.now (added entries.now)) }
     {
-        create_refusal::<K, C>(name, entries, &self.boards, self.things.last())
+        create_refusal::<K, C>(self.alloc, name, entries, &self.boards, self.things.last())
     }
 
     /// Why `open` would be refused, want of memory aside.

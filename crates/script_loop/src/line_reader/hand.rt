@@ -31,9 +31,9 @@ fn read_behind<S: Source>(bytes: &mut [u8], from: usize, source: &mut S) -> Resu
     source.read(&mut bytes[from..])
 }
 
-// Where the first newline stands.
+/// Where the first newline stands.
 #[inline(always)]
-fn newline_in(bytes: &[u8]) -> Option<usize>
+pub fn newline_in(bytes: &[u8]) -> Option<usize>
     ensures none { IfNone result (IsOneLine bytes.now) }
     ensures inside { IfSome result (λ at. at < length bytes.now) }
     ensures found { IfSome result (λ at. slice_index bytes.now at ≡ 10) }

@@ -1,27 +1,15 @@
 //! How lines and answers are read in turn.
-ghost use Rattle.std.specs.Prelude.{◌≡◌, ◌≢◌, ◌≤◌, ◌<◌, ◌↔◌, [], Err, IfErr, IfNone, IfOk, IfSome, IsErrOf, IsOk, IsTrue, OnErr, OnOk, drop, false, length, slice_index, take, true};
+ghost use Rattle.std.specs.Prelude.{◌≡◌, ◌≢◌, ◌≤◌, ◌<◌, ◌↔◌, [], Err, IfErr, IfOk, IsErrOf, IsOk, IsTrue, OnErr, OnOk, drop, false, length, true};
 ghost use Rattle.std.specs.Io.KnownBytes.{IsAtEnd, Keeps};
-ghost use Rattle.board_model.specs.Lines.{HasCause, IsOneLine, Rose};
+ghost use Rattle.board_model.specs.Lines.{HasCause, Rose};
 ghost use Rattle.script_loop.specs.Reader.{HasMore, TillEnd};
 ghost use Rattle.script_loop.specs.Streams.{one_fault_more};
 ghost use Rattle.script_pairs.specs.PairLines.{IsFound, TakesPart, has_ended, in_hand, to_come};
 
 use super::{CHUNK, Found, PairLines};
 use crate::verdict::CheckError;
-use memchr::memchr;
-use script_loop::{Failed, Source};
+use script_loop::{Failed, Source, newline_in};
 use std::alloc::{AllocError, Global};
-
-// Where the first newline stands.
-#[inline(always)]
-fn newline_in(bytes: &[u8]) -> Option<usize>
-    ensures none { IfNone result (IsOneLine bytes.now) }
-    ensures inside { IfSome result (λ at. at < length bytes.now) }
-    ensures found { IfSome result (λ at. slice_index bytes.now at ≡ 10) }
-    ensures first { IfSome result (λ at. IsOneLine (take at bytes.now)) }
-{
-    memchr(b'\n', bytes)
-}
 
 // What the bytes behind the last newline are: a line, or the end.
 fn last_of(line: &[u8]) -> Found

@@ -1,4 +1,4 @@
-//! Why the calls are refused, want of memory aside. Nothing here takes memory.
+//! Why the calls are refused, want of memory aside. Nothing here needs memory.
 ghost use Rattle.std.specs.Prelude.{◌≡◌, true};
 ghost use Rattle.board_model.specs.LineGrammar.{is_board_name};
 ghost use Rattle.board_model.specs.Tables as tables;
@@ -37,7 +37,7 @@ impl<C: BoardWords + Drop> PartyDomain<C> {
         if entries.is_empty() {
             return Some(BlackboardCreateError::NoEntriesProvided);
         }
-        if has_equal_keys(key_type, entries) || is_too_large(entries) {
+        if has_equal_keys(self.alloc, key_type, entries) || is_too_large(entries) {
             return Some(BlackboardCreateError::ServiceInCorruptedState);
         }
         None

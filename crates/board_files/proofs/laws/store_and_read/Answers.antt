@@ -1,4 +1,4 @@
-use Rattle.std.proofs.Common.{◌≡◌, length, ap, subst, Ok, Err}
+use Rattle.std.proofs.Common.{length, ap, subst, Ok, Err}
 use Rattle.std.specs.Prelude.{IfSome}
 use Rattle.board_files.proofs.LifeLemmas.{ReadInto, Misreads, life-opened, life-read, life-misread, opened_quiet, stored_quiet, unopened_counted, unread_counted, unstored_counted}
 use Rattle.board_files.proofs.laws.store_and_read.Goals as goal

@@ -1,4 +1,4 @@
-use Rattle.std.proofs.Common.{◌≡◌, sym, ap, subst, IfSome}
+use Rattle.std.proofs.Common.{sym, ap, subst, IfSome}
 use Rattle.board_names.specs.Configuration.{full_name}
 use Rattle.board_files.specs.Files.{AddsMoments, SameOthers}
 use Rattle.board_files.specs.Storage.{FromTo, IsFresh, IsOpen, IsWhole, IsUnlockMoment}

@@ -1,4 +1,4 @@
-use Rattle.std.proofs.Common.{◌≡◌, sym, subst, Result, OnOk, IfSome}
+use Rattle.std.proofs.Common.{◌≡◌, sym, subst, OnOk, IfSome}
 use Rattle.board_names.specs.Configuration.{full_name}
 use Rattle.board_names.specs.declared.errors.static_storage.StaticStorageCreateError.TheVariants.{Creation, OutOfMemory}
 use Rattle.board_files.specs.Files.{Creates, created}

@@ -1,6 +1,6 @@
-use Rattle.std.proofs.Common.{rules, ◌≡◌, sym, ◌∙◌, subst, length, Ok, Err, IfSome, option_map}
+use Rattle.std.proofs.Common.{rules, ◌≡◌, sym, ◌∙◌, subst, length, Ok, Err}
 use Rattle.board_names.specs.Configuration.{full_name}
-use Rattle.board_files.specs.Files.{Writes, Finalizes, written}
+use Rattle.board_files.specs.Files.{Writes, Finalizes}
 use Rattle.board_files.specs.Storage.{storage_of}
 use Rattle.board_files.specs.Told.{write_told, final_told}
 use Rattle.board_files.proofs.LockLemmas.{refused, write-after, open-after, whole-after, write-front, write-err, write-stop, write-others, write-whole, open-err, open-stop, open-others, whole-whole, whole-stop, whole-others}

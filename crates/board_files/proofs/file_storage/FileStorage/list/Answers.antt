@@ -1,5 +1,5 @@
-use Rattle.std.proofs.Common.{rules, ◌≡◌, ◌+◌, ◌<◌, ℕ, List, sym, ◌∙◌, ap, subst, Some, None}
-use Rattle.std.specs.Prelude.{Bool, Option, IfSome}
+use Rattle.std.proofs.Common.{rules, ◌≡◌, ◌∙◌, subst, None}
+use Rattle.std.specs.Prelude.{IfSome}
 use Rattle.board_files.specs.Files.{AreListed}
 use Rattle.board_files.specs.Storage.{name_and_final}
 use Rattle.board_files.proofs.ListLemmas.{listed-next, listed-all, listed-ascend}

@@ -1,4 +1,4 @@
-use Rattle.std.proofs.Common.{rules, ◌≡◌, ◌<◌, ◌≤◌, take, length, get_or, min, sym, ◌∙◌, ap, subst}
+use Rattle.std.proofs.Common.{rules, ◌≡◌, ◌≤◌, take, length, get_or, min, sym, ◌∙◌, ap, subst}
 use Rattle.std.proofs.lemmas.List.{take_all, take_min}
 use Rattle.board_files.specs.Changes.{told_after, stopped_at}
 use Rattle.board_files.proofs.ChangeLemmas.{stopped-next, stopped-all, told_after-take}

@@ -1,4 +1,4 @@
-use Rattle.std.proofs.Common.{rules, ◌≡◌, ◌∙◌, ap, subst, length, Err}
+use Rattle.std.proofs.Common.{rules, ◌≡◌, ◌∙◌, ap, subst, Err}
 use Rattle.board_files.specs.Files.{HasRisen}
 use Rattle.board_files.specs.Memory.{counts_of}
 use Rattle.board_files.specs.declared.files.FilesError.TheVariants.{Failed}

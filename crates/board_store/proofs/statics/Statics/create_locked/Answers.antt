@@ -5,11 +5,6 @@ use Rattle.board_names.proofs.TableLemmas.{taking-free}
 use Rattle.board_names.specs.declared.errors.static_storage.StaticStorageCreateError.TheVariants.{AlreadyExists}
 use Rattle.board_store.proofs.statics.Statics.create_locked.Goals as goal
 
-pub returns-in-Ok-clause-refused : goal.returns-in-Ok-clause-refused
-returns-in-Ok-clause-refused c =
-    let free : is_some (at c.args.self.now c.args.name.now) ≡ false = search rules in
-    Refuses-value _ _ tt (taking-free tt AlreadyExists _ free)
-
 pub returns-clause-refused : goal.returns-clause-refused
 returns-clause-refused c =
     let free : is_some (at c.args.self.now c.args.name.now) ≡ false = search rules in

@@ -42,8 +42,7 @@ returns-in-Acted-clause-tells g c = on_ok (λ e s count rep reached.
     let runs : runs_on_events s.events c.args.party.now ≡ true = c.requires.runs s.events count reached.few reached.sound.events rep.events in
     let stepped = subst (λ (t : Stepped). IsStepped c.step.new.self s.events c.args.party.now t) c.in-Acted.is (c.in_ok-reply.ensures.told s.events count reached.few reached.sound.events rep.events) in
     let shown = access_shown c.step.new.self s.events c.args.party.now c.in-Acted.event c.in-Acted.access c.in-Acted.answer c.in-Acted.told c.kind_of.result c.name_of.result.now stepped c.kind_of.ensures c.name_of.ensures in
-    let printed = e ∙ ap (λ (n : List ℕ). c.args.out.now.items ++ script_answer_line (of_event c.kind_of.result n c.in-Acted.access c.in-Acted.answer (option_map (λ reply. reply.now) c.as_ref.result))) c.as_bytes.ensures.value
-    ∙ ap (λ (t : Option EventReply). c.args.out.now.items ++ script_answer_line (of_event c.kind_of.result c.name_of.result.now c.in-Acted.access c.in-Acted.answer t)) c.as_ref.ensures.value in
+    let printed = e ∙ ap (λ (t : Option EventReply). c.args.out.now.items ++ script_answer_line (of_event c.kind_of.result c.name_of.result.now c.in-Acted.access c.in-Acted.answer t)) c.as_ref.ensures.value in
     told_turn _ s (line.Board (board_line.Step c.args.party.now)) (steps c.args.party.now) (of_event c.kind_of.result c.name_of.result.now c.in-Acted.access c.in-Acted.answer c.in-Acted.told) _ (step_taken s c.args.party.now runs) c.requires.line shown.right (step_formed_so s (line.Board (board_line.Step c.args.party.now)) count c.args.party.now _ reached.sound reached.few shown.right)
     (record { alive = rep.alive; boards = rep.boards; events = shown.represents }) (from_nothing _ _ _ c.requires.empty printed)) c.push_event_step.result c.push_event_step.ensures.ok
 
@@ -76,7 +75,7 @@ returns-in-Acted-clause-memory g c =
     access_shown c.step.new.self s.events p c.in-Acted.event c.in-Acted.access c.in-Acted.answer c.in-Acted.told c.kind_of.result c.name_of.result.now
     (subst (λ (t : Stepped). IsStepped c.step.new.self s.events p t) c.in-Acted.is (c.in_ok-reply.ensures.told s.events count reached.few reached.sound.events rep.events)) c.kind_of.ensures c.name_of.ensures in
     let text = λ (n : List ℕ) (t : Option EventReply). script_answer_line (of_event c.kind_of.result n c.in-Acted.access c.in-Acted.answer t) in
-    let named = ap (λ (n : List ℕ). text n (option_map (λ reply. reply.now) c.as_ref.result)) c.as_bytes.ensures.value ∙ ap (λ (t : Option EventReply). text c.name_of.result.now t) c.as_ref.ensures.value in
+    let named = ap (λ (t : Option EventReply). text c.name_of.result.now t) c.as_ref.ensures.value in
     let lacks = subst (λ (bytes : List ℕ). OnErr c.push_event_step.result (LacksRoomFor c.args.out.now bytes)) named c.push_event_step.ensures.room in
     told_wants c.push_event_step.result m (line.Board (board_line.Step p)) c.args.out.now (of_event c.kind_of.result c.name_of.result.now c.in-Acted.access c.in-Acted.answer c.in-Acted.told) lacks
     (λ s count rep reached.

@@ -1,0 +1,6 @@
+use Rattle.std.proofs.Common.{◌∙◌}
+use Rattle.board_names.proofs.KeyLemmas.{at-held}
+use Rattle.board_names.proofs.table.Table.get.Goals as goal
+
+pub returns : goal.returns
+returns g c = c.get.ensures.value ∙ at-held c.self.inside.values c.args.self.now c.self.view_is c.as_bytes.result.now c.args.name.now c.as_bytes.ensures.value
