@@ -5,7 +5,7 @@ mod events;
 mod loans;
 
 use crate::row::{Part, Script, joined};
-use cases::{ON_BOARDS, ON_EVENTS, ON_FOUR_WORDS};
+use cases::{ON_BOARDS, ON_EVENTS, ON_FOUR_WORDS, ON_INFO, ON_ONE_NUMBER, ON_QUEUES, ON_SETS};
 use std::alloc::Global;
 use std::process::Abort;
 use std::test::Fail;
@@ -57,8 +57,22 @@ fn all_hold(rt: &impl Abort, alloc: Global, cases: &[Abandoned]) -> Result<(), F
 }
 
 #[test]
-fn each_call_on_boards_is_abandoned_after_each_step(rt: HostRuntime) -> Result<(), Fail> {
+fn each_call_that_makes_things_of_boards_is_abandoned_after_each_step(
+    rt: HostRuntime,
+) -> Result<(), Fail> {
     all_hold(&rt, rt.alloc(), &ON_BOARDS)
+}
+
+#[test]
+fn each_call_that_asks_of_a_board_is_abandoned_after_each_step(
+    rt: HostRuntime,
+) -> Result<(), Fail> {
+    all_hold(&rt, rt.alloc(), &ON_INFO)
+}
+
+#[test]
+fn each_call_on_a_number_is_abandoned_after_each_step(rt: HostRuntime) -> Result<(), Fail> {
+    all_hold(&rt, rt.alloc(), &ON_ONE_NUMBER)
 }
 
 #[test]
@@ -67,6 +81,18 @@ fn each_call_on_four_words_is_abandoned_after_each_step(rt: HostRuntime) -> Resu
 }
 
 #[test]
-fn each_call_on_events_is_abandoned_after_each_step(rt: HostRuntime) -> Result<(), Fail> {
+fn each_call_on_a_set_is_abandoned_after_each_step(rt: HostRuntime) -> Result<(), Fail> {
+    all_hold(&rt, rt.alloc(), &ON_SETS)
+}
+
+#[test]
+fn each_call_on_a_queue_is_abandoned_after_each_step(rt: HostRuntime) -> Result<(), Fail> {
+    all_hold(&rt, rt.alloc(), &ON_QUEUES)
+}
+
+#[test]
+fn each_call_that_makes_things_of_events_is_abandoned_after_each_step(
+    rt: HostRuntime,
+) -> Result<(), Fail> {
     all_hold(&rt, rt.alloc(), &ON_EVENTS)
 }

@@ -1,4 +1,4 @@
-//! The table of calls whose parties are abandoned, in three parts. Each call of a script begins and makes its steps, and ends, or goes on where it waits or reads without end.
+//! The tables of calls whose parties are abandoned. Each call of a script begins and makes its steps, and ends, or goes on where it waits or reads without end.
 use super::Abandoned;
 use super::boards::{
     A_BECOMES_THE_WRITER, A_GETS_NO_HANDLE, A_GETS_THE_HANDLE, A_UPDATES, A_WORD_WRITTEN,
@@ -37,31 +37,37 @@ const OF_ONE_NUMBER: Abandoned = Abandoned {
 /// A call of `a` or `b`, of whom `a` writes an entry of four words and `b` reads it.
 const OF_FOUR_WORDS: Abandoned = Abandoned {
     opening: &[FOUR_WORDS],
+    call: &[],
+    steps: &[],
     after: &[&[A_LEFT, FOUR_WORDS_GOT, NO_WORD, STILL_HELD]],
     other: &[C_IS_SECOND],
-    ..OF_ONE_NUMBER
 };
 
 /// A call that makes an event.
 const OF_NO_EVENT: Abandoned = Abandoned {
     opening: &[],
+    call: &[],
+    steps: &[],
     after: &[],
     other: &[C_IS_FIRST],
-    ..OF_ONE_NUMBER
 };
 
 /// A wait of `e`, who listens on a set.
 const OF_A_SET: Abandoned = Abandoned {
     opening: &[A_SET_OF_128, ANOTHER_NOTIFIER],
+    call: &[],
+    steps: &[],
     after: &[&[E_LEFT, THE_SET_STANDS]],
-    ..OF_NO_EVENT
+    other: &[C_IS_FIRST],
 };
 
 /// The same of a queue.
 const OF_A_QUEUE: Abandoned = Abandoned {
     opening: &[A_QUEUE, ANOTHER_OF_THE_QUEUE],
+    call: &[],
+    steps: &[],
     after: &[&[E_LEFT, THE_QUEUE_IS_GONE]],
-    ..OF_NO_EVENT
+    other: &[C_IS_FIRST],
 };
 
 /// What stands before the first of four words is written, after each of them, and after the last step.
@@ -74,8 +80,8 @@ const WORD_BY_WORD: &[&[Part]] = &[
     &[A_LEFT, OTHER_WORDS_GOT, PUBLISHED, STILL_HELD],
 ];
 
-/// Calls on boards of one number.
-pub(super) const ON_BOARDS: [Abandoned; 17] = [
+/// Calls that make boards of one number, and their ports and handles.
+pub(super) const ON_BOARDS: [Abandoned; 8] = [
     // The board stands with the step, since `b` still holds its factory.
     Abandoned {
         call: &[
@@ -142,6 +148,10 @@ pub(super) const ON_BOARDS: [Abandoned; 17] = [
         other: &[C_GOES_ON_BESIDE_TWO_WRITERS],
         ..OF_ONE_NUMBER
     },
+];
+
+/// Calls that ask of such boards.
+pub(super) const ON_INFO: [Abandoned; 5] = [
     Abandoned {
         call: &[("begin b gen m", "ok"), ("step b", "table = gen 1")],
         ..OF_ONE_NUMBER
@@ -168,6 +178,10 @@ pub(super) const ON_BOARDS: [Abandoned; 17] = [
         call: &[("begin b keys f", "ok"), ("step b", "table = keys u64:1")],
         ..OF_ONE_NUMBER
     },
+];
+
+/// Calls on their numbers.
+pub(super) const ON_ONE_NUMBER: [Abandoned; 4] = [
     Abandoned {
         call: &[("begin b fresh h v", "ok"), ("step b", "read 1:0 1 = true")],
         ..OF_ONE_NUMBER
@@ -298,8 +312,8 @@ pub(super) const ON_FOUR_WORDS: [Abandoned; 8] = [
     },
 ];
 
-/// Calls on events.
-pub(super) const ON_EVENTS: [Abandoned; 20] = [
+/// Calls on sets of ids.
+pub(super) const ON_SETS: [Abandoned; 8] = [
     // The id is pending with the set, and signalled with the post.
     Abandoned {
         call: &[
@@ -362,6 +376,10 @@ pub(super) const ON_EVENTS: [Abandoned; 20] = [
         steps: &[NOTHING_SWAPPED, NO_SIGNAL],
         ..OF_A_SET
     },
+];
+
+/// Calls on queues of ids.
+pub(super) const ON_QUEUES: [Abandoned; 8] = [
     // The id is pending with the push.
     Abandoned {
         call: &[
@@ -436,6 +454,10 @@ pub(super) const ON_EVENTS: [Abandoned; 20] = [
         steps: &[NOTHING_POPPED, NOTHING_POPPED],
         ..OF_A_QUEUE
     },
+];
+
+/// Calls that make events, and their notifiers.
+pub(super) const ON_EVENTS: [Abandoned; 4] = [
     // The event and its name stand with the step.
     Abandoned {
         call: &[
