@@ -1,7 +1,8 @@
 //! The adapters of a process's streams.
 use crate::{InSource, OutSink};
 use script_loop::{Failed, Sink, Source};
-use std::io::Cursor;
+use std::io;
+use std::io::{Cursor, Read, Write};
 use std::test::Fail;
 
 #[test]
@@ -24,5 +25,57 @@ fn a_sink_fails_where_its_writer_takes_nothing(rt: HostRuntime) -> Result<(), Fa
     assert_eq!(rt; sink.write(b""), Ok(0));
     assert_eq!(rt; sink.write(b"gone\n"), Ok(1));
     assert_eq!(rt; sink.write(b"one\n"), Err(Failed));
+    Ok(())
+}
+
+/// A stream whose first call fails.
+#[derive(Drop)]
+struct FailsOnce {
+    has_failed: bool,
+}
+
+impl FailsOnce {
+    fn fail(&mut self) -> io::Result<()> {
+        if self.has_failed {
+            return Ok(());
+        }
+        self.has_failed = true;
+        Err(io::Error::from(io::ErrorKind::BrokenPipe))
+    }
+}
+
+impl Read for FailsOnce {
+    fn read(&mut self, buf: &mut [u8]) -> io::Result<usize> {
+        self.fail()?;
+        match buf.first_mut() {
+            Some(first) => {
+                *first = b'g';
+                Ok(1)
+            }
+            None => Ok(0),
+        }
+    }
+}
+
+impl Write for FailsOnce {
+    fn write(&mut self, buf: &[u8]) -> io::Result<usize> {
+        self.fail()?;
+        Ok(buf.len())
+    }
+
+    fn flush(&mut self) -> io::Result<()> {
+        Ok(())
+    }
+}
+
+#[test]
+fn a_failed_call_is_not_made_once_more(rt: HostRuntime) -> Result<(), Fail> {
+    let mut source = InSource::new(FailsOnce { has_failed: false });
+    let mut buffer = [0u8; 3];
+    assert_eq!(rt; source.read(&mut buffer), Err(Failed));
+    assert_eq!(rt; source.read(&mut buffer), Ok(1));
+    let mut sink = OutSink::new(FailsOnce { has_failed: false });
+    assert_eq!(rt; sink.write(b"ok\n"), Err(Failed));
+    assert_eq!(rt; sink.write(b"ok\n"), Ok(3));
     Ok(())
 }
