@@ -1,6 +1,6 @@
 -- What readers' gets copied last, and whose passes are given back.
-use Rattle.std.proofs.Common.{◌≡◌, ◌+◌, ◌∙◌, ℕ, List, [], ◌∷◌, ◌++◌, All, append-nil, append_assoc, ap, arith, length, length-append, map, refl, replicate, reverse, subst, sym}
-use Rattle.std.proofs.lemmas.List.{map-append, reverse-append}
+use Rattle.std.proofs.Common.{◌≡◌, ◌+◌, ◌∙◌, ℕ, List, [], ◌∷◌, ◌++◌, All, append-nil, append_assoc, ap, arith, length, length-append, map, refl, reverse, subst, sym}
+use Rattle.std.proofs.lemmas.List.{reverse-append}
 use Rattle.std.proofs.lemmas.List.Elements.{All-map}
 use Rattle.std.proofs.lemmas.List.Sorted.{IsPermutation-reverse}
 use Rattle.std.proofs.lemmas.Map.Views.{All-map-IsPermutation}

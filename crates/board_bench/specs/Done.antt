@@ -1,7 +1,7 @@
 -- What a task leaves that was done.
 use Rattle.std.specs.Prelude.{◌≡◌, ℕ, ◌+◌, ◌*◌, ◌⊎◌, All, Err, List, Result, codes, length, map}
 use Rattle.anyhow.specs.declared.error.Error.{Error}
-use Rattle.board_cell.specs.Passes.{notes_of}
+use Rattle.board_cell.specs.Passes.{NotesRise, notes_of}
 use Rattle.board_cell.specs.History.{IsLegal, history}
 use Rattle.board_event_model.specs.declared.kind.EventKind.{EventKind}
 use Rattle.board_event_model.specs.declared.kind.EventKind.TheVariants.{Bits, Queue}
@@ -15,7 +15,7 @@ use Rattle.board_bench.specs.declared.task.Call.{Call}
 use Rattle.board_bench.specs.declared.task.Call.TheVariants.{Get, TryGet, Update}
 use Rattle.board_bench.specs.declared.task.Task.{Task}
 use Rattle.board_bench.specs.declared.task.Task.TheVariants.{Solo, Typed, Event, Shared}
-use Rattle.board_bench.specs.Handles.{read_seen, write_seen}
+use Rattle.board_bench.specs.Handles.{HasReadSevens, HasTakenTurns, read_seen, write_seen}
 use Rattle.board_bench.specs.Task.{IsTaskOf}
 use Rattle.board_bench.specs.Watchers.{AreCopiedWide, AreWide, HasReadTo, counted_up, gets_of, took_turns}
 
@@ -26,15 +26,21 @@ HasCalled TryGet width count (Got reader made) = (made ≡ count) × (length rea
 HasCalled Update width count (Updated writer made) = (made ≡ count) × (length writer.published ≡ count + 1) × AreWide width writer.published × (writer.published ≡ took_turns width count)
 HasCalled call width count done = ⊥
 
--- the same by a handle, of an entry of as many words
-abbrev pub HasGot : ℕ → ℕ → ReadSeen → Type 0
-HasGot width count h = (length h.pass.notes ≡ count) × (h.cell.width ≡ width)
+-- so many gets by a handle, of an entry of as many words: the last one copied 7 in each word, and no generation falls
+pub record HasGot (wide many : ℕ) (h : ReadSeen) : Type 0 where
+  pub gets : length h.pass.notes ≡ many
+  pub width : h.cell.width ≡ wide
+  pub values : HasReadSevens wide h
+  pub rises : NotesRise h.pass.notes
 
 abbrev pub HasTried : ℕ → ℕ → ReadSeen → Type 0
 HasTried width count h = HasGot width count h × (length h.pass.loads ≡ 2 * count)
 
-abbrev pub HasPublished : ℕ → ℕ → WriteSeen → Type 0
-HasPublished width count h = (length h.held.published ≡ count + 1) × (h.held.cell.width ≡ width)
+-- so many updates by a handle, of an entry of as many words: 1 and 2 in each word in turn
+pub record HasPublished (wide many : ℕ) (h : WriteSeen) : Type 0 where
+  pub updates : length h.held.published ≡ many + 1
+  pub width : h.held.cell.width ≡ wide
+  pub values : HasTakenTurns wide many h
 
 abbrev pub HasCalledTyped : Call → ℕ → ℕ → Done → Type 0
 HasCalledTyped Get width count (GotTyped h made) = (made ≡ count) × HasGot width count (read_seen h)

@@ -1,6 +1,7 @@
 //! Typed calls, by the width of the values.
 ghost use Rattle.std.specs.Prelude.{◌≡◌, ◌+◌, ◌*◌, ◌^◌, ◌<◌, length, IfOk, IsTrue};
-ghost use Rattle.board_bench.specs.Handles.{read_seen, write_seen};
+ghost use Rattle.board_cell.specs.Passes.{NotesRise};
+ghost use Rattle.board_bench.specs.Handles.{HasReadSevens, HasTakenTurns, read_seen, write_seen};
 ghost use Rattle.board_bench.specs.Task.{is_width};
 
 use crate::block::Block;
@@ -39,6 +40,8 @@ pub fn typed_gets<R: Wait>(rt: &R, alloc: Global, width: u64, count: u64) -> Res
     requires { IsTrue (is_width width) }
     ensures width { IfOk result (λ h. (read_seen h).cell.width ≡ width) }
     ensures count { IfOk result (λ h. length (read_seen h).pass.notes ≡ count) }
+    ensures values { IfOk result (λ h. HasReadSevens width (read_seen h)) }
+    ensures rises { IfOk result (λ h. NotesRise (read_seen h).pass.notes) }
 {
     Ok(match width {
         1 => ReadHandle::One(run_gets(rt, alloc, 7, count)?),
@@ -56,6 +59,8 @@ pub fn typed_tries<R: Wait>(rt: &R, alloc: Global, width: u64, count: u64) -> Re
     ensures width { IfOk result (λ h. (read_seen h).cell.width ≡ width) }
     ensures count { IfOk result (λ h. length (read_seen h).pass.notes ≡ count) }
     ensures loads { IfOk result (λ h. length (read_seen h).pass.loads ≡ 2 * count) }
+    ensures values { IfOk result (λ h. HasReadSevens width (read_seen h)) }
+    ensures rises { IfOk result (λ h. NotesRise (read_seen h).pass.notes) }
 {
     Ok(match width {
         1 => ReadHandle::One(run_tries(rt, alloc, 7, count)?),
@@ -73,6 +78,7 @@ pub fn typed_updates<R: Wait>(rt: &R, alloc: Global, width: u64, count: u64) -> 
     requires count { count < 2 ^ 40 }
     ensures width { IfOk result (λ h. (write_seen h).held.cell.width ≡ width) }
     ensures count { IfOk result (λ h. length (write_seen h).held.published ≡ count + 1) }
+    ensures values { IfOk result (λ h. HasTakenTurns width count (write_seen h)) }
 {
     let (one, two) = (Block { words: [1; 32] }, Block { words: [2; 32] });
     Ok(match width {
