@@ -28,39 +28,45 @@ fn a_sink_fails_where_its_writer_takes_nothing(rt: HostRuntime) -> Result<(), Fa
     Ok(())
 }
 
-/// A stream whose first call fails.
+/// A stream whose first calls fail. A writer's second call takes nothing.
 #[derive(Drop)]
-struct FailsOnce {
-    has_failed: bool,
+struct FailsAtFirst {
+    calls: u32,
 }
 
-impl FailsOnce {
-    fn fail(&mut self) -> io::Result<()> {
-        if self.has_failed {
-            return Ok(());
-        }
-        self.has_failed = true;
-        Err(io::Error::from(io::ErrorKind::BrokenPipe))
+impl FailsAtFirst {
+    // The number of this call, counted from 0.
+    fn call(&mut self) -> u32 {
+        let number = self.calls;
+        self.calls = number.saturating_add(1);
+        number
     }
 }
 
-impl Read for FailsOnce {
+impl Read for FailsAtFirst {
     fn read(&mut self, buf: &mut [u8]) -> io::Result<usize> {
-        self.fail()?;
-        match buf.first_mut() {
-            Some(first) => {
-                *first = b'g';
-                Ok(1)
-            }
-            None => Ok(0),
+        match self.call() {
+            0 => Err(io::Error::from(io::ErrorKind::Interrupted)),
+            1 => Err(io::Error::from(io::ErrorKind::BrokenPipe)),
+            _ => match buf.first_mut() {
+                Some(first) => {
+                    *first = b'g';
+                    Ok(1)
+                }
+                None => Ok(0),
+            },
         }
     }
 }
 
-impl Write for FailsOnce {
+impl Write for FailsAtFirst {
     fn write(&mut self, buf: &[u8]) -> io::Result<usize> {
-        self.fail()?;
-        Ok(buf.len())
+        match self.call() {
+            0 => Err(io::Error::from(io::ErrorKind::Interrupted)),
+            1 => Ok(0),
+            2 => Err(io::Error::from(io::ErrorKind::BrokenPipe)),
+            _ => Ok(buf.len()),
+        }
     }
 
     fn flush(&mut self) -> io::Result<()> {
@@ -70,11 +76,14 @@ impl Write for FailsOnce {
 
 #[test]
 fn a_failed_call_is_not_made_once_more(rt: HostRuntime) -> Result<(), Fail> {
-    let mut source = InSource::new(FailsOnce { has_failed: false });
+    let mut source = InSource::new(FailsAtFirst { calls: 0 });
     let mut buffer = [0u8; 3];
     assert_eq!(rt; source.read(&mut buffer), Err(Failed));
+    assert_eq!(rt; source.read(&mut buffer), Err(Failed));
     assert_eq!(rt; source.read(&mut buffer), Ok(1));
-    let mut sink = OutSink::new(FailsOnce { has_failed: false });
+    let mut sink = OutSink::new(FailsAtFirst { calls: 0 });
+    assert_eq!(rt; sink.write(b"ok\n"), Err(Failed));
+    assert_eq!(rt; sink.write(b"ok\n"), Err(Failed));
     assert_eq!(rt; sink.write(b"ok\n"), Err(Failed));
     assert_eq!(rt; sink.write(b"ok\n"), Ok(3));
     Ok(())
