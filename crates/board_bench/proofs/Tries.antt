@@ -33,5 +33,6 @@ gave_up start before after old new from h =
     record {
       begins = omega (arith, from, h.begins, two.0);
       rose = omega (arith, two.0, two.1);
-      reached = h.reached;
+      last = old;
+      gave_up = h;
     }

@@ -79,7 +79,7 @@ HasDone (Shared width readers updates) done = HasRun width readers updates done
 abbrev pub HasDoneOne : List (List ℕ) → Done → Type 0
 HasDoneOne words done = (task : Task) × IsTaskOf words task × HasDone task done
 
--- one of the calls was refused
+-- the task wasn't done: a call of it was refused, or didn't give what was put; the error's text tells
 abbrev pub IsRefused : BenchError → Type 0
 IsRefused (Refused error) = Unit {0}
 IsRefused e = ⊥
@@ -88,7 +88,7 @@ IsRefused e = ⊥
 abbrev pub IsRefusalOf : {T : Type 0} → Result T Error → BenchError → Type 0
 IsRefusalOf tried e = (error : Error) × (tried ≡ Err error) × (e ≡ Refused error)
 
--- calls on a cell end for want of memory alone; of those on typed ports and events one was refused
+-- calls on a cell end for want of memory alone; of tasks on typed ports and events an error's text tells why
 abbrev pub EndsBy : Task → BenchError → Type 0
 EndsBy (Solo calls) e = e ≡ OutOfMemory
 EndsBy (Typed calls) e = IsRefused e

@@ -1,6 +1,6 @@
 -- Readers of one cell.
 use Rattle.std.specs.Prelude.{◌≡◌, ℕ, zero, suc, ◌+◌, ◌-◌, ◌%◌, ◌^◌, ◌<◌, ◌≤◌, ◌==◌, if◌then◌else◌, All, List, [], ◌∷◌, ◌++◌, length, replicate, slice_get, IfSome, map, min, reverse, sum_by}
-use Rattle.board_cell.specs.Passes.{CellSeen, ReaderSeen, WriterSeen}
+use Rattle.board_cell.specs.Passes.{CellSeen, GivesUp, ReaderSeen, WriterSeen}
 use Rattle.board_cell.specs.declared.threaded.view.Note.{Note}
 use Rattle.board_bench.specs.declared.shared.Watcher.{Watcher}
 
@@ -87,11 +87,12 @@ AreCopiedWide width notes = All (λ (n : Note). length n.words ≡ width) notes
 abbrev pub StayCopiedWide : ℕ → List Note → List Note → Type 0
 StayCopiedWide width old new = AreCopiedWide width old → AreCopiedWide width new
 
--- no try was accepted, for the counter rose: from no less than was known to be reached before
+-- the last get had one try, and it wasn't accepted, for the counter rose: from no less than was known to be reached before
 pub record MetUpdate (known before after : ℕ) (new : ReaderSeen) : Type 0 where
   pub begins : known ≤ before
   pub rose : before < after
-  pub reached : new.reached ≡ after
+  pub last : ReaderSeen
+  pub gave_up : GivesUp 1 before after last new
 
 -- readers of this cell that have all seen the last update, as many as before
 abbrev pub HaveWatched : CellSeen → ℕ → List Watcher → List Watcher → Type 0

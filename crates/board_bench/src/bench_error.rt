@@ -12,7 +12,7 @@ pub enum BenchError {
     /// Memory was refused.
     #[error("out of memory")]
     OutOfMemory,
-    /// A call on typed ports or events was refused, for want of memory too.
+    /// A call on typed ports or events was refused, for want of memory too, or didn't give what was put. The text tells which.
     #[error("{0}")]
     Refused(anyhow::Error),
 }

@@ -130,7 +130,7 @@ fn or_refused(tried: anyhow::Result<Done>) -> Result<Done, BenchError>
 /// Does the task.
 ///
 /// # Errors
-/// `OutOfMemory` where memory is refused; of typed ports and events `Refused`, where one of their calls is, for want of memory too.
+/// `OutOfMemory` where memory is refused; of typed ports and events `Refused`, where one of their calls is, for want of memory too, or doesn't give what was put.
 pub fn run<R: Threads + Wait + Sync>(rt: &R, alloc: Global, task: Task) -> Result<Done, BenchError>
     requires { IsBenchTask task }
     ensures done { IfOk result (HasDone task) }
@@ -157,7 +157,7 @@ pub fn run<R: Threads + Wait + Sync>(rt: &R, alloc: Global, task: Task) -> Resul
 /// Does the task that the words spell, if they spell one.
 ///
 /// # Errors
-/// `OutOfMemory` where memory is refused; of typed ports and events `Refused`, where one of their calls is, for want of memory too.
+/// `OutOfMemory` where memory is refused; of typed ports and events `Refused`, where one of their calls is, for want of memory too, or doesn't give what was put.
 pub fn measure<R: Threads + Wait + Sync>(
     rt: &R,
     alloc: Global,
