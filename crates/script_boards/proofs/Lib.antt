@@ -14,6 +14,7 @@ pub mod ReadSteps
 pub mod Releases
 pub mod Rows
 pub mod Seats
+pub mod ShortSteps
 pub mod Shown
 pub mod StepRefusals
 pub mod StepWants

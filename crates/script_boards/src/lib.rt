@@ -18,6 +18,7 @@ mod machine;
 mod not_begun;
 mod refusals;
 mod release;
+mod short_steps;
 mod step;
 mod words;
 

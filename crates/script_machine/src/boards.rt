@@ -22,7 +22,8 @@ use board_model::{Answer, Call, Name, Reason, Reply, Value};
 use board_service::BoardWords;
 use script_events::Stepped;
 use script_print::{
-    push_answer, push_begun, push_event_asked, push_event_step, push_refused, push_words,
+    push_access_made, push_answer, push_begun, push_event_asked, push_event_step, push_refused,
+    push_words,
 };
 use std::alloc::AllocError;
 
@@ -170,7 +171,7 @@ impl<C: BoardWords + Drop> Machine<C> {
         push_begin(refusal, out)
     }
 
-    /// A line `step P`.
+    /// A line `step P`, with a short way for steps that read or write a word and aren't the last of their call.
     pub(crate) fn step(&mut self, party: &Name, out: &mut Vec<u8>) -> Result<(), AllocError>
         requires led { IsLed self.old }
         requires line { IsLine (board_line.Step party.now) }
@@ -184,8 +185,13 @@ impl<C: BoardWords + Drop> Machine<C> {
         if self.events.runs(party) {
             return self.step_on_events(party, out);
         }
-        let answer = self.boards.step(party)?;
-        push_answer(&answer, out)
+        match self.boards.step_short(party) {
+            Some(access) => push_access_made(access, out),
+            None => {
+                let answer = self.boards.step(party)?;
+                push_answer(&answer, out)
+            }
+        }
     }
 
     // A step of a party whose call on events runs.
