@@ -1,28 +1,24 @@
 -- A step by the short way is right, and the machine stands for what follows.
-use Rattle.std.proofs.Common.{◌≡◌, ℕ, ◌<◌, ◌≤◌, ◌^◌, Bool, true, false, cond, List, length, arith, refl, sym, ap, subst, ◌∙◌, Option, Some, None, inl, inr}
-use Rattle.std.specs.Prelude.{◌⊎◌, ◌==◌, nat_lt}
+use Rattle.std.proofs.Common.{◌≡◌, ℕ, ◌<◌, ◌^◌, Bool, true, false, cond, List, length, arith, refl, sym, ap, subst, ◌∙◌, Option, Some, None}
+use Rattle.std.specs.Prelude.{◌==◌, nat_lt}
 use Rattle.std.specs.Str.{bytes_eq}
-use Rattle.std.proofs.lemmas.Bool.{eqb-true, ltb-true, ne_eqb}
-use Rattle.board_cell.specs.Calls.{Getting, Updating, words_of}
+use Rattle.std.proofs.lemmas.Bool.{ltb-true, ne_eqb}
+use Rattle.board_cell.specs.Calls.{Updating}
 use Rattle.board_cell_model.specs.declared.access.Access.{Access}
 use Rattle.board_cell_model.specs.declared.access.Access.TheVariants as access
-use Rattle.board_cell_model.specs.OwedAccesses.{Reading, finished, hear, is_finished, opening, owed_write, to_write, trying}
+use Rattle.board_cell_model.specs.OwedAccesses.{owed_write, to_write}
 use Rattle.board_model.proofs.ListLemmas.{same_bytes}
-use Rattle.board_model.specs.declared.answer.Answer.TheVariants as answer
-use Rattle.board_model.specs.declared.line.Line.TheVariants as line
-use Rattle.board_model.specs.declared.value.ValueType.{ValueType}
 use Rattle.board_model.specs.LawfulSession.{State}
 use Rattle.script_parties.specs.Parties.{Parties, words_of_boards}
 use Rattle.script_boards.specs.declared.machine.BoardMachine.{BoardMachine}
 use Rattle.script_boards.specs.declared.machine.Task.{Task}
-use Rattle.script_boards.specs.declared.machine.Task.TheVariants as task
 use Rattle.script_boards.specs.declared.step.OwedAccess.TheVariants as owed
 use Rattle.script_boards.specs.declared.step.OwedRead.{OwedRead}
 use Rattle.script_boards.specs.declared.step.OwedWrite.{OwedWrite}
 use Rattle.script_boards.specs.Loans.{lent_words}
 use Rattle.script_boards.specs.Machine.{IsKeptOf, IsLed, Represents, kept, task_of}
-use Rattle.script_boards.specs.ShortSteps.{HasOwedWords, IsAccessOf, IsShortStep, IsWordRead, IsWordWritten, MakesAccess}
-use Rattle.script_boards.specs.Steps.{CanGoOn, IsOwedBy, IsOwedWrite, IsPut, IsSame, is_gone}
+use Rattle.script_boards.specs.ShortSteps.{HasOwedWords, IsShortStep, MakesAccess}
+use Rattle.script_boards.specs.Steps.{CanGoOn, IsOwedWrite, IsPut, IsSame, is_gone}
 use Rattle.script_boards.proofs.OwedTasks.{owed_runs}
 use Rattle.script_boards.proofs.OwedWords.{task_goes_on}
 use Rattle.script_boards.proofs.PartyTasks.{is_running}
@@ -30,67 +26,15 @@ use Rattle.script_boards.proofs.ReadSteps.{read_goes_on, task_has_read}
 use Rattle.script_boards.proofs.Seats.{of_name}
 use Rattle.script_boards.proofs.WriteSteps.{task_has_word, write_goes_on}
 
--- ---- accesses that aren't the last
+-- ---- writes that aren't the last
 
-either : (b : Bool) → (b ≡ true) ⊎ (b ≡ false)
-either true = inl refl
-either false = inr refl
-
--- a get that owes a word isn't finished by it
-goes_on_reading : (w : ℕ) (r : Reading) (v : ℕ) → is_finished r ≡ false → nat_lt (length (words_of r)) w ≡ true → is_finished (hear w r v) ≡ false
-goes_on_reading w opening v h below = refl
-goes_on_reading w (trying c words) v h below = elim (either (length words == w)) [
-  | inl full ↦ absurd (omega (arith, eqb-true (length words) w full, ltb-true (length words) w below))
-  | inr owes ↦ rw owes refl
-]
-goes_on_reading w (finished c words) v h below = absurd cc
-
--- nor is a publication that owes one
 owes_more : (k n : ℕ) → nat_lt k n ≡ true → false ≡ (k == n)
 owes_more k n below = sym (ne_eqb k n (λ e. absurd (omega (arith, ltb-true k n below, e))))
-
-pub written_below : (k n : ℕ) → nat_lt k n ≡ true → k ≤ n
-written_below k n below = omega (arith, ltb-true k n below)
 
 -- the write that a publication owes
 pub owed_write_of : (board : ℕ) (call : Updating) (word value : ℕ) → nat_lt call.written (length call.words) ≡ true → to_write board word value ≡ owed_write board call.shape call.generation call.words call.written
     → IsOwedWrite board call (record { board = board; word = word; value = value; is_last = false })
 owed_write_of board call word value below e = record { board_is = refl; access = e; last = owes_more call.written (length call.words) below }
-
-module _ (old new : Parties) (board : ℕ) (made : Access) where
-  -- the task of a get that read
-  pub read_made : (call heard : Getting) (type : ValueType) (name : Option (List ℕ)) → is_finished call.reading ≡ false → nat_lt (length (words_of call.reading)) call.shape.words ≡ true → IsWordRead old new board call heard made
-      → IsAccessOf old new (task.Get board call type name) (task.Get board heard type name) made
-  read_made call heard type name going below h =
-      subst (λ (a : Access). IsAccessOf old new (task.Get board call type name) (task.Get board heard type name) a) (sym h.made_is) (record {
-        owed = h.owed;
-        loaded = h.loaded;
-        more = goes_on_reading call.shape.words call.reading h.value going below;
-        after_is = ap (λ (c : Getting). task.Get board c type name) h.heard_is;
-        same = h.same;
-        numbers = h.numbers;
-      })
-
-  -- the task of an update that wrote
-  pub update_made : (call after : Updating) → nat_lt call.written (length call.words) ≡ true → IsWordWritten old new board call after made → IsAccessOf old new (task.Update board call) (task.Update board after) made
-  update_made call after below h =
-      subst (λ (a : Access). IsAccessOf old new (task.Update board call) (task.Update board after) a) (sym h.made_is) (record {
-        owed = owed_write_of board call h.word h.value below h.owed;
-        stored = h.stored;
-        after_is = ap (λ (c : Updating). task.Update board c) h.after_is;
-        numbers = h.numbers;
-      })
-
-  -- and that of a fill
-  pub fill_made : (call after : Updating) (loan handle : List ℕ) → nat_lt call.written (length call.words) ≡ true → IsWordWritten old new board call after made
-      → IsAccessOf old new (task.Fill board call loan handle) (task.Fill board after loan handle) made
-  fill_made call after loan handle below h =
-      subst (λ (a : Access). IsAccessOf old new (task.Fill board call loan handle) (task.Fill board after loan handle) a) (sym h.made_is) (record {
-        owed = owed_write_of board call h.word h.value below h.owed;
-        stored = h.stored;
-        after_is = ap (λ (c : Updating). task.Fill board c loan handle) h.after_is;
-        numbers = h.numbers;
-      })
 
 -- ---- the machine
 

@@ -83,8 +83,8 @@ impl Task {
 }
 
 impl<C: BoardWords + Drop> BoardMachine<C> {
-    /// A line `step P`, where the party's call owes a word, so that its access isn't the last: that access, and nothing is told.
-    /// Where there is none nothing changes, and `step` answers the line. It takes no memory.
+    /// A line `step P` whose call owes a word, so that it goes on: the access that it made, with nothing told. It takes no memory.
+    /// Where there is none nothing changes, and `step` answers the line.
     pub fn step_short(&mut self, party: &Name) -> Option<Access>
         requires { IsLed self.old }
         ensures steps { IsShortStep self.old self.new party.now result }
