@@ -32,7 +32,7 @@ no_read true n word p v q w e = absurd cc
 no_read false n word p v q w e = absurd cc
 
 -- the write behind the words is the last
-last_write : (k n : ℕ) → k ≤ n → not (nat_lt k n) ≡ (k == n)
+pub last_write : (k n : ℕ) → k ≤ n → not (nat_lt k n) ≡ (k == n)
 last_write k n h = by (nat_lt k n) refl
   where
     by : (x : Bool) → nat_lt k n ≡ x → not x ≡ (k == n)

@@ -1,8 +1,7 @@
 -- A step by the short way is right, and the machine stands for what follows.
-use Rattle.std.proofs.Common.{◌≡◌, ℕ, ◌<◌, ◌^◌, Bool, true, false, cond, List, length, arith, refl, sym, ap, subst, ◌∙◌, Option, Some, None}
-use Rattle.std.specs.Prelude.{◌==◌, nat_lt}
+use Rattle.std.proofs.Common.{◌≡◌, ℕ, ◌<◌, ◌≤◌, ◌^◌, Bool, true, false, cond, List, length, refl, sym, ap, subst, ◌∙◌, Option, Some, None}
+use Rattle.std.specs.Prelude.{nat_lt, not}
 use Rattle.std.specs.Str.{bytes_eq}
-use Rattle.std.proofs.lemmas.Bool.{ltb-true, ne_eqb}
 use Rattle.board_cell.specs.Calls.{Updating}
 use Rattle.board_cell_model.specs.declared.access.Access.{Access}
 use Rattle.board_cell_model.specs.declared.access.Access.TheVariants as access
@@ -12,29 +11,28 @@ use Rattle.board_model.specs.LawfulSession.{State}
 use Rattle.script_parties.specs.Parties.{Parties, words_of_boards}
 use Rattle.script_boards.specs.declared.machine.BoardMachine.{BoardMachine}
 use Rattle.script_boards.specs.declared.machine.Task.{Task}
+use Rattle.script_boards.specs.declared.machine.Task.TheVariants as task
+use Rattle.script_boards.specs.declared.short_steps.ShortStep.{ShortStep}
 use Rattle.script_boards.specs.declared.step.OwedAccess.TheVariants as owed
 use Rattle.script_boards.specs.declared.step.OwedRead.{OwedRead}
 use Rattle.script_boards.specs.declared.step.OwedWrite.{OwedWrite}
+use Rattle.script_boards.specs.LoanCalls.{IsSettled}
 use Rattle.script_boards.specs.Loans.{lent_words}
 use Rattle.script_boards.specs.Machine.{IsKeptOf, IsLed, Represents, kept, task_of}
-use Rattle.script_boards.specs.ShortSteps.{HasOwedWords, IsShortStep, MakesAccess}
+use Rattle.script_boards.specs.ShortSteps.{HasOwedWords, IsAccessOf, IsReadOf, IsShortStep, IsUpdateTask, IsWriteOf, MakesAccess}
 use Rattle.script_boards.specs.Steps.{CanGoOn, IsOwedWrite, IsPut, IsSame, is_gone}
+use Rattle.script_boards.proofs.OwedAccesses.{last_write}
 use Rattle.script_boards.proofs.OwedTasks.{owed_runs}
 use Rattle.script_boards.proofs.OwedWords.{task_goes_on}
 use Rattle.script_boards.proofs.PartyTasks.{is_running}
 use Rattle.script_boards.proofs.ReadSteps.{read_goes_on, task_has_read}
 use Rattle.script_boards.proofs.Seats.{of_name}
-use Rattle.script_boards.proofs.WriteSteps.{task_has_word, write_goes_on}
-
--- ---- writes that aren't the last
-
-owes_more : (k n : ℕ) → nat_lt k n ≡ true → false ≡ (k == n)
-owes_more k n below = sym (ne_eqb k n (λ e. absurd (omega (arith, ltb-true k n below, e))))
+use Rattle.script_boards.proofs.WriteSteps.{task_has_word, write_ends, write_goes_on}
 
 -- the write that a publication owes
-pub owed_write_of : (board : ℕ) (call : Updating) (word value : ℕ) → nat_lt call.written (length call.words) ≡ true → to_write board word value ≡ owed_write board call.shape call.generation call.words call.written
-    → IsOwedWrite board call (record { board = board; word = word; value = value; is_last = false })
-owed_write_of board call word value below e = record { board_is = refl; access = e; last = owes_more call.written (length call.words) below }
+pub owed_write_of : (board : ℕ) (call : Updating) (word value : ℕ) → call.written ≤ length call.words → to_write board word value ≡ owed_write board call.shape call.generation call.words call.written
+    → IsOwedWrite board call (record { board = board; word = word; value = value; is_last = not (nat_lt call.written (length call.words)) })
+owed_write_of board call word value le e = record { board_is = refl; access = e; last = last_write call.written (length call.words) le }
 
 -- ---- the machine
 
@@ -59,10 +57,14 @@ module _ {C : Type 0} (m : BoardMachine C) (party : List ℕ) (own : Task) (stan
       writes = λ w o. task_has_word m led.state led.represents led.reached.sound party own (owed_runs m party (owed.Write w) (record { task = own; stands = stands; owes = o }) led.state led.represents) w o;
     }
 
-  module _ (new : BoardMachine C) (after : Task) (put : IsPut (task_of m) (task_of new) party (Some after)) (values : kept new ≡ kept m) (loans : lent_words new ≡ lent_words m) where
-    -- what the task made is the step's answer
-    pub short_step : (made : Option Access) → MakesAccess m.domain new.domain own after made → IsShortStep m new party made
-    short_step None h = record {
+  module _ (new : BoardMachine C) (after : Task) (values : kept new ≡ kept m) (loans : lent_words new ≡ lent_words m) where
+    -- the party's task from now on, or none where the call is done
+    abbrev left_with : Bool → Option Task
+    left_with is_done = cond is_done None (Some after)
+
+    -- a task that made nothing stands as it did
+    pub none_made : MakesAccess m.domain new.domain own after None → IsPut (task_of m) (task_of new) party (Some after) → IsShortStep m new party None
+    none_made h put = record {
       domain = h.1;
       rest = record {
         parties = put_again (task_of m) (task_of new) party own stands (subst (λ (t : Task). IsPut (task_of m) (task_of new) party (Some t)) h.0 put);
@@ -70,18 +72,57 @@ module _ {C : Type 0} (m : BoardMachine C) (party : List ℕ) (own : Task) (stan
         loans = loans;
       };
     }
-    short_step (Some access.Table) h = absurd h
-    short_step (Some (access.Read board word value)) h = λ s rep reached l.
-        read_goes_on m s rep reached.sound party own (owed_runs m party (owed.Read (record { board = board; word = word })) (record { task = own; stands = stands; owes = h.owed }) s rep) (record { board = board; word = word }) h.owed value h.loaded
-        h.numbers.0 h.numbers.1 h.numbers.2 l new (ap (λ (d : Parties). d.tables) h.same) (ap (λ (d : Parties). d.words) h.same) values loans
-        (record { more = h.more; tasks = subst (λ (t : Task). IsPut (task_of m) (task_of new) party (Some t)) h.after_is put })
-    short_step (Some (access.Write board word value)) h = λ s rep reached l.
+
+    written : (board word value : ℕ) (is_done : Bool) → IsWriteOf m.domain new.domain own after board word value is_done → IsPut (task_of m) (task_of new) party (left_with is_done)
+        → IsShortStep m new party (Some (record { access = access.Write board word value; is_done = is_done }))
+    written board word value true h put = λ s rep reached l.
+        let w : OwedWrite = record { board = board; word = word; value = value; is_last = true } in
+        let stored : BoardMachine C = record m { domain = new.domain } in
+        write_ends m s rep reached.sound party own (owed_runs m party (owed.Write w) (record { task = own; stands = stands; owes = h.owed }) s rep) w h.owed
+        stored (record { stored = h.stored; rest = record { parties = refl; values = refl; loans = refl } })
+        (record { board = h.numbers.0; word = h.numbers.1; value = h.numbers.2 }) l new new refl refl values loans put refl (settled own (h.ends refl))
+      where
+        settled : (t : Task) → IsUpdateTask t → IsSettled new new party t
+        settled (task.Table t) u = absurd u
+        settled (task.Get b c type name) u = absurd u
+        settled (task.Fresh b c) u = absurd u
+        settled (task.Update b c) u = refl
+        settled (task.Put b c loan index w) u = absurd u
+        settled (task.Publish b c loan handle) u = absurd u
+        settled (task.Fill b c loan handle) u = absurd u
+        settled task.Gone u = absurd u
+    written board word value false h put = λ s rep reached l.
         let w : OwedWrite = record { board = board; word = word; value = value; is_last = false } in
         let stored : BoardMachine C = record m { domain = new.domain } in
         write_goes_on m s rep reached.sound party own (owed_runs m party (owed.Write w) (record { task = own; stands = stands; owes = h.owed }) s rep) w h.owed
         stored (record { stored = h.stored; rest = record { parties = refl; values = refl; loans = refl } })
         (record { board = h.numbers.0; word = h.numbers.1; value = h.numbers.2 }) l new refl refl values loans refl
         (subst (λ (t : Task). IsPut (task_of m) (task_of new) party (Some t)) h.after_is put)
+
+    was_read : (board word value : ℕ) (is_done : Bool) → IsReadOf m.domain new.domain own after board word value is_done → IsPut (task_of m) (task_of new) party (left_with is_done)
+        → IsShortStep m new party (Some (record { access = access.Read board word value; is_done = is_done }))
+    was_read board word value true h put = absurd (let no : true ≡ false = h.goes_on in cc)
+    was_read board word value false h put = λ s rep reached l.
+        read_goes_on m s rep reached.sound party own (owed_runs m party (owed.Read (record { board = board; word = word })) (record { task = own; stands = stands; owes = h.owed }) s rep) (record { board = board; word = word }) h.owed value h.loaded
+        h.numbers.0 h.numbers.1 h.numbers.2 l new (ap (λ (d : Parties). d.tables) h.same) (ap (λ (d : Parties). d.words) h.same) values loans
+        (record { more = h.more; tasks = subst (λ (t : Task). IsPut (task_of m) (task_of new) party (Some t)) h.after_is put })
+
+    made_by : (a : Access) (is_done : Bool) → IsAccessOf m.domain new.domain own after a is_done → IsPut (task_of m) (task_of new) party (left_with is_done) → IsShortStep m new party (Some (record { access = a; is_done = is_done }))
+    made_by access.Table is_done h put = absurd h
+    made_by (access.Read board word value) is_done h put = was_read board word value is_done h put
+    made_by (access.Write board word value) is_done h put = written board word value is_done h put
+
+    -- what the task made is the step's answer
+    pub some_made : (made : ShortStep) → MakesAccess m.domain new.domain own after (Some made) → IsPut (task_of m) (task_of new) party (left_with made.is_done) → IsShortStep m new party (Some made)
+    some_made made h put = made_by made.access made.is_done h put
+
+-- a task that was put and then taken out
+pub put_and_taken : (tasks mid new : List ℕ → Option Task) (party : List ℕ) (t : Option Task) → IsPut tasks mid party t → IsPut mid new party None → IsPut tasks new party None
+put_and_taken tasks mid new party t put taken p = taken p ∙ at (bytes_eq party p) (put p)
+  where
+    at : (b : Bool) → mid p ≡ cond b t (tasks p) → cond b None (mid p) ≡ cond b None (tasks p)
+    at true e = refl
+    at false e = e
 
 -- ---- nothing changed
 

@@ -171,7 +171,7 @@ impl<C: BoardWords + Drop> Machine<C> {
         push_begin(refusal, out)
     }
 
-    /// A line `step P`, with a short way for steps that read or write a word and aren't the last of their call.
+    /// A line `step P`. Most steps that read or write a word go a short way, and are answered with no answer built.
     pub(crate) fn step(&mut self, party: &Name, out: &mut Vec<u8>) -> Result<(), AllocError>
         requires led { IsLed self.old }
         requires line { IsLine (board_line.Step party.now) }
@@ -186,7 +186,7 @@ impl<C: BoardWords + Drop> Machine<C> {
             return self.step_on_events(party, out);
         }
         match self.boards.step_short(party) {
-            Some(access) => push_access_made(access, out),
+            Some(made) => push_access_made(made.access, made.is_done, out),
             None => {
                 let answer = self.boards.step(party)?;
                 push_answer(&answer, out)

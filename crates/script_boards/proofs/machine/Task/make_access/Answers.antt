@@ -1,5 +1,5 @@
-use Rattle.std.proofs.Common.{◌≡◌, true, false, length, rules, sym, subst}
-use Rattle.std.specs.Prelude.{nat_lt}
+use Rattle.std.proofs.Common.{◌≡◌, ◌≤◌, Bool, true, false, length, rules, sym, subst, ap, ◌∙◌}
+use Rattle.std.specs.Prelude.{nat_lt, not}
 use Rattle.script_boards.specs.declared.machine.Task.{Task}
 use Rattle.script_boards.specs.declared.step.OwedAccess.TheVariants as owed
 use Rattle.script_boards.specs.declared.step.OwedRead.{OwedRead}
@@ -16,13 +16,13 @@ read_word-requires-clause-word g c = λ word e.
 pub write_word-requires-clause-word : goal.write_word-requires-clause-word
 write_word-requires-clause-word g c = λ word value e.
     let call = c.in-Update.call in
-    let w : OwedWrite = record { board = c.in-Update.board; word = word; value = value; is_last = false } in
-    let below : nat_lt call.written (length call.words) ≡ true = search rules in
-    c.requires.words.writes w (subst (λ (t : Task). IsOwedBy t (owed.Write w)) (sym c.in-Update.is) (owed_write_of c.in-Update.board call word value below e))
+    let w : OwedWrite = record { board = c.in-Update.board; word = word; value = value; is_last = not (nat_lt call.written (length call.words)) } in
+    let le : call.written ≤ length call.words = search rules in
+    c.requires.words.writes w (subst (λ (t : Task). IsOwedBy t (owed.Write w)) (sym c.in-Update.is) (owed_write_of c.in-Update.board call word value le e))
 
 pub write_word-requires-in-Fill-clause-word : goal.write_word-requires-in-Fill-clause-word
 write_word-requires-in-Fill-clause-word g c = λ word value e.
     let call = c.in-Fill.call in
-    let w : OwedWrite = record { board = c.in-Fill.board; word = word; value = value; is_last = false } in
-    let below : nat_lt call.written (length call.words) ≡ true = search rules in
-    c.requires.words.writes w (subst (λ (t : Task). IsOwedBy t (owed.Write w)) (sym c.in-Fill.is) (owed_write_of c.in-Fill.board call word value below e))
+    let w : OwedWrite = record { board = c.in-Fill.board; word = word; value = value; is_last = not (nat_lt call.written (length call.words)) } in
+    let le : call.written ≤ length call.words = search rules in
+    c.requires.words.writes w (subst (λ (t : Task). IsOwedBy t (owed.Write w)) (sym c.in-Fill.is) (owed_write_of c.in-Fill.board call word value le e))
