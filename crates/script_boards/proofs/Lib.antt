@@ -4,6 +4,7 @@ pub mod CallChecks
 pub mod Listings
 pub mod LoanChecks
 pub mod LoanSteps
+pub mod EmptyMaps
 pub mod Memories
 pub mod OwedAccesses
 pub mod OwedTasks
