@@ -1,5 +1,5 @@
 //! Lines of boards, and those that boards and events share.
-ghost use Rattle.std.specs.Prelude.{◌≡◌, ◌+◌, ◌++◌, ◌≤◌, [], true, None, OnErr, OnOk, vec_capacity};
+ghost use Rattle.std.specs.Prelude.{◌≡◌, ◌+◌, ◌++◌, ◌≤◌, [], true, false, None, OnErr, OnOk, vec_capacity};
 ghost use Rattle.std.specs.List.{AllByRecursion};
 ghost use Rattle.board_model.specs.declared.answer.Answer.TheVariants as answer;
 ghost use Rattle.board_model.specs.declared.line.Call.TheVariants as call;
@@ -187,11 +187,25 @@ impl<C: BoardWords + Drop> Machine<C> {
         }
         match self.boards.step_short(party) {
             Some(made) => push_access_made(made.access, made.is_done, out),
-            None => {
-                let answer = self.boards.step(party)?;
-                push_answer(&answer, out)
-            }
+            None => self.step_on_boards(party, out),
         }
+    }
+
+    // A step of a party whose call on events doesn't run, by any way. Apart, so that a short step doesn't pay for it.
+    #[inline(never)]
+    fn step_on_boards(&mut self, party: &Name, out: &mut Vec<u8>) -> Result<(), AllocError>
+        requires led { IsLed self.old }
+        requires line { IsLine (board_line.Step party.now) }
+        requires runs { events.OfEach self.old.events (λ x. runs_on_events x party.now ≡ false) }
+        requires empty { out.old.items ≡ [] }
+        ensures tells { OnOk result (TellsOfBoards self.old self.new (board_line.Step party.now)
+            out.new.items) }
+        ensures memory { OnErr result (BoardMayWant self.old (board_line.Step party.now) out.old) }
+        ensures room { vec_capacity out.old ≤ vec_capacity out.new }
+        ensures drawn { OnOk result (drawn_by self.new.boards ≤ drawn_by self.old.boards + 1) }
+    {
+        let answer = self.boards.step(party)?;
+        push_answer(&answer, out)
     }
 
     // A step of a party whose call on events runs.
