@@ -6,7 +6,6 @@ use Rattle.board_cell.specs.Calls.{Updating}
 use Rattle.board_cell_model.specs.declared.access.Access.{Access}
 use Rattle.board_cell_model.specs.declared.access.Access.TheVariants as access
 use Rattle.board_cell_model.specs.OwedAccesses.{owed_write, to_write}
-use Rattle.board_model.proofs.ListLemmas.{same_bytes}
 use Rattle.board_model.specs.LawfulSession.{State}
 use Rattle.script_parties.specs.Parties.{Parties, words_of_boards}
 use Rattle.script_boards.specs.declared.machine.BoardMachine.{BoardMachine}
@@ -14,7 +13,6 @@ use Rattle.script_boards.specs.declared.machine.Task.{Task}
 use Rattle.script_boards.specs.declared.machine.Task.TheVariants as task
 use Rattle.script_boards.specs.declared.short_steps.ShortStep.{ShortStep}
 use Rattle.script_boards.specs.declared.step.OwedAccess.TheVariants as owed
-use Rattle.script_boards.specs.declared.step.OwedRead.{OwedRead}
 use Rattle.script_boards.specs.declared.step.OwedWrite.{OwedWrite}
 use Rattle.script_boards.specs.LoanCalls.{IsSettled}
 use Rattle.script_boards.specs.Loans.{lent_words}
@@ -36,14 +34,6 @@ owed_write_of board call word value le e = record { board_is = refl; access = e;
 
 -- ---- the machine
 
--- a task that was put where it stood changes nothing
-put_again : (tasks new : List ℕ → Option Task) (party : List ℕ) (own : Task) → tasks party ≡ Some own → IsPut tasks new party (Some own) → new ≡ tasks
-put_again tasks new party own stands put = λ i p. at p (bytes_eq party p) refl i
-  where
-    at : (p : List ℕ) (b : Bool) → bytes_eq party p ≡ b → new p ≡ tasks p
-    at p true e = put p ∙ ap (λ (b : Bool). cond b (Some own) (tasks p)) e ∙ sym stands ∙ ap tasks (same_bytes party p e)
-    at p false e = put p ∙ ap (λ (b : Bool). cond b (Some own) (tasks p)) e
-
 module _ {C : Type 0} (m : BoardMachine C) (party : List ℕ) (own : Task) (stands : task_of m party ≡ Some own) where
   module _ (led : IsLed m) where
     -- the call goes on
@@ -61,17 +51,6 @@ module _ {C : Type 0} (m : BoardMachine C) (party : List ℕ) (own : Task) (stan
     -- the party's task from now on, or none where the call is done
     abbrev left_with : Bool → Option Task
     left_with is_done = cond is_done None (Some after)
-
-    -- a task that made nothing stands as it did
-    pub none_made : MakesAccess m.domain new.domain own after None → IsPut (task_of m) (task_of new) party (Some after) → IsShortStep m new party None
-    none_made h put = record {
-      domain = h.1;
-      rest = record {
-        parties = put_again (task_of m) (task_of new) party own stands (subst (λ (t : Task). IsPut (task_of m) (task_of new) party (Some t)) h.0 put);
-        values = values;
-        loans = loans;
-      };
-    }
 
     written : (board word value : ℕ) (is_done : Bool) → IsWriteOf m.domain new.domain own after board word value is_done → IsPut (task_of m) (task_of new) party (left_with is_done)
         → IsShortStep m new party (Some (record { access = access.Write board word value; is_done = is_done }))
