@@ -39,7 +39,7 @@ pub(crate) fn has_details<C>(board: u64, key: &TypeDetail, boards: &Boards<C>) -
         (λ b. types.same_type b.key key.now) }
 {
     match boards.at(board) {
-        Some(b) => same_type(b.key(), key),
+        Some(b) => b.key().is(key),
         None => false,
     }
 }
@@ -104,5 +104,5 @@ fn entry_with<'a, K: BoardKey>(key: &K, board: &'a BoardRow) -> Option<(u64, &'a
         board.now.entries }
     ensures inside { IfSome result (λ f. f.0 < length board.now.entries) }
 {
-    entry_from::<K>(key, board.entries.as_slice())
+    entry_from::<K>(key, board.entries())
 }

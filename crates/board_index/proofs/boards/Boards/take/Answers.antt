@@ -27,8 +27,8 @@ unreachable-requires g c =
 pub invariant_of-self : goal.invariant_of-self
 invariant_of-self g c =
     let stands : rows_under c.self.inside.rows c.args.number ≡ Some c.in-Some.gone.value = sym c.take_row.ensures.value ∙ ap (λ (o : Option (Box Board)). option_map box_value o) c.in-Some.is in
-    let taken = called_turned c.self.inside.names c.remove.new.self c.as_bytes.result.now no_number c.remove.ensures.updates.0 c.remove.ensures.updates.1 in
-    let names = subst (λ (n : List ℕ). (t : List ℕ) → called c.remove.new.self t ≡ cond (bytes_eq n t) no_number (called c.self.inside.names t)) (c.as_bytes.ensures.value ∙ c.name.ensures ∙ ap (λ (b : Board). b.name) c.deref.ensures) taken in
+    let taken = called_turned c.self.inside.names c.remove.new.self c.name_bytes.result.now no_number c.remove.ensures.updates.0 c.remove.ensures.updates.1 in
+    let names = subst (λ (n : List ℕ). (t : List ℕ) → called c.remove.new.self t ≡ cond (bytes_eq n t) no_number (called c.self.inside.names t)) (c.name_bytes.ensures.value ∙ ap (λ (b : Board). b.name) c.deref.ensures) taken in
     indexed_less c.self.invariant c.args.number c.in-Some.gone.value stands c.take_row.ensures.left c.remove-2.ensures.updates.0 names
 
 pub returns-clause-taken : goal.returns-clause-taken
