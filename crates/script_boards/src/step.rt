@@ -384,8 +384,8 @@ impl<C: BoardWords + Drop> BoardMachine<C> {
     /// A line `step P`.
     ///
     /// # Errors
-    /// `AllocError` where memory is refused: only for a step that makes or lends something, tells a list or an info, or may be
-    /// the last of a get that keeps its value. Of the machine nothing is said then.
+    /// `AllocError` where memory is refused: only for a step that makes or lends something, tells a list or an info, or is the
+    /// last of a get that keeps its value. Of the machine nothing is said then.
     pub fn step(&mut self, party: &Name) -> Result<Answer, AllocError>
         requires { IsLed self.old }
         ensures serves { IfOk result (λ a. Serves self.old self.new (line.Step party.now) a) }

@@ -31,20 +31,26 @@ use Rattle.script_machine.specs.ScriptMachine.{OfEachState}
 use Rattle.script_machine.specs.Wants.{BoardMayWant, IsCramped, LineTakes, MayWant, SpellsTaking, SpellsWanting, StepTakesAt, TakesMemory, refusal, refusal_at}
 
 -- a line whose right answer has no room takes memory, or the answer is short
-cramped : (s : ScriptState) (l : ScriptLine) (room : ℕ) (a : ScriptAnswer) → IsRight s l a → room < length (script_answer_line a) → ((IsShortScriptAnswer a → ⊥) → LineTakes s l) → LineTakes s l ⊎ IsCramped s l room
+cramped : (s : ScriptState) (l : ScriptLine) (room : ℕ) (a : ScriptAnswer) → IsRight s l a → room < length (script_answer_line a) → (short_room < length (script_answer_line a) → LineTakes s l) → LineTakes s l ⊎ IsCramped s l room
 cramped s l room a right long takes =
     let n = length (script_answer_line a) in
     elim (nat_lt short_room n) as (λ b. nat_lt short_room n ≡ b → LineTakes s l ⊎ IsCramped s l room) [
-      | true ↦ λ e. inl (takes (λ short. absurd (omega (arith, ltb-true short_room n e, short_fits a right.answer short))))
+      | true ↦ λ e. inl (takes (ltb-true short_room n e))
       | false ↦ λ e. inr (record { answer = a; right = right; short = ltb-false short_room n e; long = long })
     ] refl
 
 -- an answer that was told: it has no room, or the line takes memory
+pub long_wants : {C T E : Type 0} (r : Result T E) (m : Machine C) (l : ScriptLine) (out : Vec ℕ) (a : ScriptAnswer) → OnErr r (LacksRoomFor out (script_answer_line a)) → OfEachState m (λ s. IsRight s l a)
+    → OfEachState m (λ s. short_room < length (script_answer_line a) → LineTakes s l) → OnErr r (MayWant m l out)
+long_wants (Ok t) m l out a lacks right takes = tt
+long_wants (Err e) m l out a lacks right takes = λ room fits s count rep reached.
+    cramped s l room a (right s count rep reached) (omega (arith, lacks, fits)) (takes s count rep reached)
+
+-- the same of one that is long where it isn't short
 pub told_wants : {C T E : Type 0} (r : Result T E) (m : Machine C) (l : ScriptLine) (out : Vec ℕ) (a : ScriptAnswer) → OnErr r (LacksRoomFor out (script_answer_line a)) → OfEachState m (λ s. IsRight s l a)
     → OfEachState m (λ s. (IsShortScriptAnswer a → ⊥) → LineTakes s l) → OnErr r (MayWant m l out)
-told_wants (Ok t) m l out a lacks right takes = tt
-told_wants (Err e) m l out a lacks right takes = λ room fits s count rep reached.
-    cramped s l room a (right s count rep reached) (omega (arith, lacks, fits)) (takes s count rep reached)
+told_wants r m l out a lacks right takes = long_wants r m l out a lacks right (λ s count rep reached long.
+    takes s count rep reached (λ short. absurd (omega (arith, long, short_fits a (right s count rep reached).answer short))))
 
 -- a refusal that was told
 pub refused_wants : {C T E : Type 0} (r : Result T E) (m : Machine C) (l : ScriptLine) (out : Vec ℕ) (why : Reason) → OnErr r (LacksRoomFor out (answer_line (answer.Refused why))) → OfEachState m (λ s. IsRight s l (of_boards (answer.Refused why)))

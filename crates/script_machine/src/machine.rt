@@ -166,8 +166,8 @@ impl<C: BoardWords + Drop> Machine<C> {
     /// `Bad` exactly where the line is outside the grammar, and then the machine stays as it was. After `OutOfMemory` the
     /// machine is spent. On both `answer` is empty. `OutOfMemory` never comes for a line outside the grammar. Where `answer` has
     /// room for the right answer, or for 400 bytes, it comes neither for a step that makes and lends nothing, tells neither a list
-    /// nor an info, can't be the last of a get that keeps its value and can't be given ids, nor for a drop, an expiry or an
-    /// abandonment of a party whose call on boards runs, nor for any refused line.
+    /// nor an info, isn't the last of a get that keeps its value, is given no ids and tells at most 400 bytes, nor for a drop, an
+    /// expiry or an abandonment of a party whose call on boards runs, nor for any refused line.
     pub fn line(&mut self, line: &[u8], answer: &mut Vec<u8>) -> Result<(), LineError>
         // The machine isn't spent, and it stands for a lawful session of fewer than 2^63 lines.
         requires { (session : Session) × StandsFor StandsAfter self.old session }

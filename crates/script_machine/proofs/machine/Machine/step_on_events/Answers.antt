@@ -1,5 +1,5 @@
-use Rattle.std.proofs.Common.{◌≡◌, ℕ, true, ap, subst, ◌∙◌, List, ◌++◌, Option}
-use Rattle.std.specs.Prelude.{OnErr, option_map}
+use Rattle.std.proofs.Common.{◌≡◌, ℕ, true, ap, subst, ◌∙◌, List, ◌++◌, Option, inl, inr}
+use Rattle.std.specs.Prelude.{OnErr}
 use Rattle.script_model.specs.declared.reply.EventReply.{EventReply}
 use Rattle.board_model.specs.declared.line.Line.TheVariants as board_line
 use Rattle.script_boards.proofs.Listings.{on_ok}
@@ -15,8 +15,7 @@ use Rattle.script_model.proofs.RuleLemmas.{right_on_events}
 use Rattle.script_machine.proofs.Turns.{from_nothing, step_taken, told_turn}
 use Rattle.script_print.specs.Room.{LacksRoomFor}
 use Rattle.script_machine.specs.ScriptMachine.{IsReached, Represents}
-use Rattle.script_machine.proofs.ShortSteps.{event_step_wants}
-use Rattle.script_machine.proofs.Wants.{step_takes_at, takes_anyway, told_wants}
+use Rattle.script_machine.proofs.Wants.{long_wants, step_takes_at, takes_anyway}
 use Rattle.script_machine.proofs.machine.Machine.step_on_events.Goals as goal
 
 pub step-requires-clause-runs : goal.step-requires-clause-runs
@@ -50,7 +49,7 @@ pub returns-in_err-reply-clause-memory : goal.returns-in_err-reply-clause-memory
 returns-in_err-reply-clause-memory g c =
     takes_anyway c.from_residual.result c.args.self.now (line.Board (board_line.Step c.args.party.now)) c.args.out.now (λ s count rep reached.
     let runs : runs_on_events s.events c.args.party.now ≡ true = c.requires.runs s.events count reached.few reached.sound.events rep.events in
-    step_takes_at s c.args.party.now true runs (c.in_err-reply.ensures.memory s.events count reached.few reached.sound.events rep.events))
+    step_takes_at s c.args.party.now true runs (inl (c.in_err-reply.ensures.memory s.events count reached.few reached.sound.events rep.events)))
 
 pub returns-in-Asked-clause-memory : goal.returns-in-Asked-clause-memory
 returns-in-Asked-clause-memory g c =
@@ -58,14 +57,14 @@ returns-in-Asked-clause-memory g c =
     let p = c.args.party.now in
     let shown = λ (s : ScriptState) (count : ℕ) (rep : Represents m s) (reached : IsReached s count).
     ask_shown c.step.new.self s.events p c.in-Asked.reply (subst (λ (t : Stepped). IsStepped c.step.new.self s.events p t) c.in-Asked.is (c.in_ok-reply.ensures.told s.events count reached.few reached.sound.events rep.events)) in
-    told_wants c.push_event_asked.result m (line.Board (board_line.Step p)) c.args.out.now (of_ask c.in-Asked.reply) c.push_event_asked.ensures.room
+    long_wants c.push_event_asked.result m (line.Board (board_line.Step p)) c.args.out.now (of_ask c.in-Asked.reply) c.push_event_asked.ensures.room
     (λ s count rep reached.
     let runs : runs_on_events s.events c.args.party.now ≡ true = c.requires.runs s.events count reached.few reached.sound.events rep.events in
     let right = (shown s count rep reached).right in
     right_on_events s (line.Board (board_line.Step p)) (steps p) (of_ask c.in-Asked.reply) (step_taken s p runs) c.requires.line right (step_formed_so s (line.Board (board_line.Step p)) count p _ reached.sound reached.few right))
     (λ s count rep reached long.
     step_takes_at s p true (c.requires.runs s.events count reached.few reached.sound.events rep.events)
-    (event_step_wants s.events (s.events.asked p) (s.events.session.doing p) _ (shown s count rep reached).right long))
+    (inr (record { answer = _; right = (shown s count rep reached).right; long = long })))
 
 pub returns-in-Acted-clause-memory : goal.returns-in-Acted-clause-memory
 returns-in-Acted-clause-memory g c =
@@ -77,11 +76,11 @@ returns-in-Acted-clause-memory g c =
     let text = λ (n : List ℕ) (t : Option EventReply). script_answer_line (of_event c.kind_of.result n c.in-Acted.access c.in-Acted.answer t) in
     let named = ap (λ (t : Option EventReply). text c.name_of.result.now t) c.as_ref.ensures.value in
     let lacks = subst (λ (bytes : List ℕ). OnErr c.push_event_step.result (LacksRoomFor c.args.out.now bytes)) named c.push_event_step.ensures.room in
-    told_wants c.push_event_step.result m (line.Board (board_line.Step p)) c.args.out.now (of_event c.kind_of.result c.name_of.result.now c.in-Acted.access c.in-Acted.answer c.in-Acted.told) lacks
+    long_wants c.push_event_step.result m (line.Board (board_line.Step p)) c.args.out.now (of_event c.kind_of.result c.name_of.result.now c.in-Acted.access c.in-Acted.answer c.in-Acted.told) lacks
     (λ s count rep reached.
     let runs : runs_on_events s.events c.args.party.now ≡ true = c.requires.runs s.events count reached.few reached.sound.events rep.events in
     let right = (shown s count rep reached).right in
     right_on_events s (line.Board (board_line.Step p)) (steps p) (of_event c.kind_of.result c.name_of.result.now c.in-Acted.access c.in-Acted.answer c.in-Acted.told) (step_taken s p runs) c.requires.line right (step_formed_so s (line.Board (board_line.Step p)) count p _ reached.sound reached.few right))
     (λ s count rep reached long.
     step_takes_at s p true (c.requires.runs s.events count reached.few reached.sound.events rep.events)
-    (event_step_wants s.events (s.events.asked p) (s.events.session.doing p) _ (shown s count rep reached).right long))
+    (inr (record { answer = _; right = (shown s count rep reached).right; long = long })))
