@@ -1,6 +1,7 @@
 pub mod Abandonments
 pub mod Bounds
 pub mod CallChecks
+pub mod EmptyMaps
 pub mod Listings
 pub mod LoanChecks
 pub mod LoanSteps
@@ -14,6 +15,7 @@ pub mod ReadSteps
 pub mod Releases
 pub mod Rows
 pub mod Seats
+pub mod ShortSteps
 pub mod Shown
 pub mod StepRefusals
 pub mod StepWants
