@@ -44,6 +44,3 @@ pub use threaded::{
 pub use update_call::{UpdateCall, ValueWords};
 pub use whole_calls::{fresh_on, get_on, update_on};
 pub use words::Words;
-
-#[cfg(test)]
-mod tests;

@@ -32,6 +32,3 @@ pub use text::Text;
 pub use type_detail::{TypeDetail, TypeVariant};
 pub use type_name::{MAX_TYPE_NAME_LENGTH, TypeName};
 pub use zero_copy_send::{BoardKey, ZeroCopySend};
-
-#[cfg(test)]
-mod tests;

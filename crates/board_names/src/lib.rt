@@ -31,8 +31,6 @@ mod path;
 mod registry;
 mod service_name;
 mod table;
-#[cfg(test)]
-mod tests;
 mod trigger_id;
 
 pub use base64url::Base64Url;

@@ -12,8 +12,6 @@ mod groups;
 mod item;
 mod replies;
 mod steps;
-#[cfg(test)]
-mod tests;
 mod tokens;
 
 pub use answer::{is_answer, most_bytes};

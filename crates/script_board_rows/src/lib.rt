@@ -9,8 +9,6 @@ mod attributes;
 mod cell_calls;
 mod keys;
 mod new_board;
-#[cfg(test)]
-mod tests;
 
 pub use attributes::meets;
 pub use cell_calls::{Reading, Written, current_at, heard, spare_at, word_to_read, word_to_write};

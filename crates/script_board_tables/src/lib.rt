@@ -16,8 +16,6 @@ mod release;
 mod requests;
 mod step;
 mod tables;
-#[cfg(test)]
-mod tests;
 
 pub use calls::{BoardCall, Fetch, Lent, Look, Publishing, TableCall};
 pub use laws::running_calls_can_step;

@@ -3,7 +3,5 @@
 #![tactic(auto)]
 
 mod endings;
-#[cfg(test)]
-mod tests;
 
 pub use endings::{end_with, end_without_words, refuse_words};

@@ -11,8 +11,6 @@ mod event_row;
 mod id_words;
 mod notify_task;
 mod reports;
-#[cfg(test)]
-mod tests;
 mod wait_task;
 
 pub use event_call::{EventCall, Took};

@@ -7,7 +7,5 @@
 mod event_names;
 mod event_table;
 mod listeners;
-#[cfg(test)]
-mod tests;
 
 pub use event_table::EventTable;

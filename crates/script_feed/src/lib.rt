@@ -18,6 +18,3 @@ pub use lines::{abandoned_by, held_back, write_get, write_step};
 pub use parse::parse_drive;
 pub use parties::Parties;
 pub use words::Words;
-
-#[cfg(test)]
-mod tests;

@@ -9,7 +9,5 @@ mod boards;
 mod events;
 mod judge;
 mod task;
-#[cfg(test)]
-mod tests;
 
 pub use judge::Judge;

@@ -6,5 +6,4 @@ pub mod WholeLemmas
 pub mod RunLemmas
 pub mod GoingOn
 pub mod CompleteLemmas
-pub mod IdleLemmas
 pub mod NewlineLemmas

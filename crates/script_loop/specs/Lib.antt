@@ -4,4 +4,3 @@ pub mod Memory
 pub mod Reader
 pub mod Machines
 pub mod Runs
-pub mod IdleMachine

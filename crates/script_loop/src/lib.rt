@@ -12,8 +12,6 @@ mod line_reader;
 mod memory;
 mod run;
 mod stream;
-#[cfg(test)]
-mod tests;
 mod writer;
 
 pub use error::{LineError, ScriptError, SinkError};

@@ -2,4 +2,3 @@ pub mod FirstLines
 pub mod RuleLemmas
 pub mod FedLemmas
 pub mod EndLemmas
-pub mod NoCalls

@@ -8,8 +8,6 @@
 mod check;
 mod lines;
 mod pair_lines;
-#[cfg(test)]
-mod tests;
 mod verdict;
 
 pub use check::{KnowsAnswers, check_pairs};

@@ -12,8 +12,6 @@ mod events;
 mod options;
 mod parse;
 mod short;
-#[cfg(test)]
-mod tests;
 mod tokens;
 mod unkept;
 mod values;

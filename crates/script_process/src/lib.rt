@@ -4,8 +4,6 @@
 
 mod command_line;
 mod streams;
-#[cfg(test)]
-mod tests;
 
 pub use command_line::words;
 pub use streams::{InSource, OutSink, StderrSink, StdinSource, StdoutSink};

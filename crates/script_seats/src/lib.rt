@@ -5,7 +5,5 @@
 #![tactic(auto)]
 
 mod seats;
-#[cfg(test)]
-mod tests;
 
 pub use seats::{Seat, Seats, Sought};

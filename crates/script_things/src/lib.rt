@@ -10,8 +10,6 @@ mod listings;
 mod lookups;
 mod named;
 mod taken;
-#[cfg(test)]
-mod tests;
 
 pub use listings::{info_of, keys_of};
 pub use lookups::Held;

@@ -1,5 +1,0 @@
-use Rattle.std.proofs.Common.{◌≡◌, length}
-use Rattle.board_cell.proofs.tests.shared.read_all.Given as goal
-
-abbrev pub invariant-loop : goal.invariant-loop
-invariant-loop l = (l.reader.cell ≡ l.initial.reader.cell) × (length l.out.items ≡ length l.initial.out.items)

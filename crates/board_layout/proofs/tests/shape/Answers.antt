@@ -1,5 +1,0 @@
-use Rattle.std.proofs.Common.{refl, arith}
-use Rattle.board_layout.proofs.tests.shape.Goals as goal
-
-pub returns : goal.returns
-returns c = record { words = c.requires; alignment = (3, omega arith, refl) }

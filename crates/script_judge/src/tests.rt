@@ -1,2 +1,0 @@
-//! The judge of sessions.
-mod verdicts;

@@ -1,0 +1,2 @@
+mod IdleLemmas
+mod NoCalls
