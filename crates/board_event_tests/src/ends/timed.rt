@@ -1,7 +1,7 @@
 //! Waits that end when their time is up.
 use super::typed::{Ends, make_ends};
 use super::with_id;
-use crate::{KindOfEvents, Listener, Notifier, QueueOfIds, SetOfIds, TriggerId};
+use board_event::{KindOfEvents, Listener, Notifier, QueueOfIds, SetOfIds, TriggerId};
 use std::process::Abort;
 use std::sync::Wait;
 use std::time::{Clock, Duration, Instant};

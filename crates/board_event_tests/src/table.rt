@@ -1,5 +1,5 @@
 //! Each call on events abandoned at each step, and the corners. Every step of a call is one row of a table.
-use crate::{
+use board_event_core::{
     EventAccess, EventAnswer, EventKind, EventProgress, EventStep, Events, ListenerCreateError,
     NotifierCreateError, NotifyCall, WaitCall, notify_step, wait_step,
 };

@@ -3,7 +3,7 @@ ghost use Rattle.std.specs.Prelude.{◌≡◌, ◌≢◌, IsFalse, IsSome, IsTru
 ghost use Rattle.board_event_core.specs.EventTable.{CanPerformAt, event_at};
 
 use super::{Deed, full_name, tell};
-use crate::{EventAccess, EventAnswer, EventKind, Events, table_stands};
+use board_event_core::{EventAccess, EventAnswer, EventKind, Events, table_stands};
 
 /// Whether nobody holds an event under this number. Then none stands there.
 fn is_unheld(events: &Events, event: u64) -> bool

@@ -5,7 +5,7 @@ use super::{
     Deed, Told, configuration, file_name, is_told, list_told, listens, one_told, opens,
     row_of_names, row_of_queues, row_of_sets, with_id,
 };
-use crate::{
+use board_event::{
     EventListener, EventListenerBuilder, EventNotifier, EventRegistry, EventsOf, KindOfEvents,
     ListenerBuilder, LocalEvent, NotifierNotifyError, QueueOfIds, SetOfIds, TriggerId,
 };

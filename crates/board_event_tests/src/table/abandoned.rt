@@ -1,6 +1,6 @@
 //! Each call abandoned at each step: what a later wait for all still finds.
 use super::{full_name, notifies, waits};
-use crate::{
+use board_event_core::{
     EventKind, EventProgress, Events, ListenerCreateError, NotifyCall, WaitCall, WaitMode,
 };
 use std::process::Abort;

@@ -1,6 +1,6 @@
 //! One text over both kinds, which knows the traits alone.
 use super::{configuration, file_name, with_id};
-use crate::{
+use board_event::{
     BitEvent, BitRegistry, Event, Listener, ListenerBuilder, Notifier, NotifierBuilder,
     NotifierNotifyError, QueueEvent, QueueRegistry, TriggerId,
 };

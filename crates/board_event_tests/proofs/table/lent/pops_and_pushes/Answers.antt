@@ -5,8 +5,8 @@ use Rattle.board_event_model.specs.declared.access.EventAccess.TheVariants as ac
 use Rattle.board_event_model.specs.declared.kind.EventKind.TheVariants as kind
 use Rattle.board_event_model.specs.EventMemory.{CanPerform, Event, after, push_answer}
 use Rattle.board_event_core.specs.EventTable.{CanPerformAt, EventTable, IsEventTable, changed, event_at, with_event}
-use Rattle.board_event_core.proofs.StandingLemmas.{here-with_event, sound_at}
-use Rattle.board_event_core.proofs.tests.lent.pops_and_pushes.Goals as goal
+use Rattle.board_event_tests.proofs.LentTables.{here-with_event, sound_at}
+use Rattle.board_event_tests.proofs.table.lent.pops_and_pushes.Goals as goal
 
 -- a queue with room for one id
 record HasRoom (t : EventTable) (n : ℕ) : Type 0 where
@@ -33,14 +33,14 @@ not_full e room = elim (not e.held || e.gone) as (λ b. (if b then answer.Gone e
   | false ↦ let few : nat_lt (length e.queue) 512 ≡ true = grind (arith, room) in rw few (λ full. absurd cc)
 ]
 
--- src/tests/lent.rt:37:5
+-- src/table/lent.rt:37:5
 pub perform-requires-2 : goal.perform-requires-2
 perform-requires-2 c = rw there.stands (record { kind = there.kind; inside = tt })
   where
     there : HasRoom c.perform.new.self c.args.event
     there = popped c.args.events.now c.perform.new.self c.args.event c.table_stands.ensures c.requires c.perform.ensures.after
 
--- src/tests/lent.rt:31:1
+-- src/table/lent.rt:31:1
 pub returns : goal.returns
 returns c = λ full. not_full there.event there.room (sym told ∙ full)
   where

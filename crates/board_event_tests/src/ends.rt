@@ -1,6 +1,6 @@
 //! The rows on events, each by typed calls and by lent forms with the same answers, and what no clause says: the typed
 //! calls at their limits, and ends in two threads.
-use crate::{
+use board_event::{
     BitEvent, Event, EventListenerBuilder, EventNotifierBuilder, EventRegistry, KindOfEvents,
     ListenerCreateError, ListenerWaitError, NotifierCreateError, NotifierNotifyError, TriggerId,
 };

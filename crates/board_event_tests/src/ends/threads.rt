@@ -1,6 +1,6 @@
 //! A notifier and a listener in two threads.
 use super::typed::{Ends, make_ends};
-use crate::{
+use board_event::{
     KindOfEvents, Listener, Notifier, NotifierNotifyError, QueueOfIds, SetOfIds, TriggerId,
 };
 use std::process::Abort;

@@ -1,7 +1,7 @@
 use Rattle.std.specs.Prelude.{◌≡◌, Bool, true, false, not}
 use Rattle.std.proofs.lemmas.Bool.{false≢true}
-use Rattle.board_event_core.proofs.StandingLemmas.{none_unheld}
-use Rattle.board_event_core.proofs.tests.lent.is_unheld.Goals as goal
+use Rattle.board_event_tests.proofs.LentTables.{none_unheld}
+use Rattle.board_event_tests.proofs.table.lent.is_unheld.Goals as goal
 
 not_both : (b : Bool) → not b ≡ true → b ≡ true → ⊥
 not_both true absent held = false≢true absent

@@ -1,6 +1,6 @@
 //! Words without ids, which a wait passes over.
 use super::{Deed, Told, full_name, notify_is, tell, wait_is};
-use crate::{
+use board_event_core::{
     EventAccess as A, EventAnswer as B, EventKind, EventProgress as P, Events, NotifyCall,
     WaitCall, WaitMode, pass_empty_words,
 };

@@ -1,6 +1,6 @@
 //! Corners: names that stand side by side, names that are freed, and waits for all.
 use super::{Deed, Told, deeds_are, full_name, notify_is, tell, wait_is};
-use crate::{
+use board_event_core::{
     EventAccess as A, EventAnswer as B, EventKind, EventProgress as P, Events, ListenerCreateError,
     NotifierCreateError, NotifierNotifyError, NotifyCall, WaitCall, WaitMode, table_stands,
 };

@@ -1,7 +1,7 @@
 //! Typed calls at their limits: the greatest id, a full queue, ends that go.
 use super::typed::{Ends, make_ends, row_is};
 use super::{Deed, Told, file_name, listens, opens};
-use crate::{
+use board_event::{
     BitEvent, BitRegistry, BitSet, Event, EventRegistry, IdTracker, KindOfEvents, Listener,
     ListenerBuilder, Notifier, NotifierBuilder, NotifierNotifyError, QUEUE_CAPACITY, QueueEvent,
     QueueOfIds, SetOfIds, TriggerId,

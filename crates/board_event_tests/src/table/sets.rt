@@ -1,5 +1,7 @@
 //! A set of ids and a count of signals, by their traits.
-use crate::{BitSet, IdTracker, NotifierNotifyError, Semaphore, SignalMechanism, TriggerId};
+use board_event_core::{
+    BitSet, IdTracker, NotifierNotifyError, Semaphore, SignalMechanism, TriggerId,
+};
 use std::process::Abort;
 
 fn adds<R: Abort, T: IdTracker>(rt: &R, ids: &mut T, rows: &[(usize, bool)]) {

@@ -1,7 +1,7 @@
 //! Two events of one registry: ids of the one aren't the other's, and a notify wakes who waits for it, whoever else sleeps.
 use super::threads::leaves;
 use super::{listens, opens};
-use crate::{
+use board_event::{
     EventListener, EventNotifier, EventRegistry, KindOfEvents, Listener, ListenerBuilder, Notifier,
     NotifierBuilder, NotifierNotifyError, QueueOfIds, SetOfIds, TriggerId,
 };
