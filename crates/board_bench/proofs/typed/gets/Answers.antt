@@ -1,8 +1,16 @@
-use Rattle.std.proofs.Common.{◌∙◌, ◌∷◌, [], ap, arith, length, length-append}
+use Rattle.std.proofs.Common.{◌∙◌, ◌∷◌, [], ap, arith, length, length-append, refl}
 use Rattle.board_cell.specs.Passes.{note}
 use Rattle.board_handles.specs.Handles.{ReadSeen}
-use Rattle.board_bench.proofs.Values.{one_read}
+use Rattle.board_bench.proofs.Values.{none_read, one_read}
 use Rattle.board_bench.proofs.typed.gets.Goals as goal
+
+pub loop-init : goal.loop-init
+loop-init g c = record {
+  kept = refl;
+  count = omega arith;
+  values = none_read _ _ _;
+  rises = λ before. before;
+}
 
 pub loop-preserved : goal.loop-preserved
 loop-preserved g c =
