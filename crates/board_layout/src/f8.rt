@@ -39,7 +39,7 @@ impl PartialEq for F8 {
     ghost laws = { on_per (λ k. map to_ascii_lowercase k.bytes) (partial_equiv_from_equiv nat_list_eq_equiv) };
 
     fn eq(&self, other: &F8) -> bool {
-        self.lowered() == other.lowered()
+        self.bytes.as_slice().eq_ignore_ascii_case(&other.bytes)
     }
 }
 

@@ -39,6 +39,17 @@ fn little(bytes: &[u8]) -> u64
     }
 }
 
+// The same, with a whole word's bytes read in one go.
+fn word_of(bytes: &[u8]) -> u64
+    requires { length bytes.now ≤ 8 }
+    ensures { result ≡ layout.little bytes.now }
+{
+    match bytes {
+        [a, b, c, d, e, f, g, h] => u64::from_le_bytes([*a, *b, *c, *d, *e, *f, *g, *h]),
+        _ => little(bytes),
+    }
+}
+
 // Fills words from bytes, with zeros behind.
 fn take_words(words: &mut [u64], bytes: &[u8])
     ensures { words.new ≡ keys.words_in (length words.old) bytes.now }
@@ -46,7 +57,7 @@ fn take_words(words: &mut [u64], bytes: &[u8])
     let mut rest = bytes;
     for i in 0..words.len() {
         let (front, behind) = rest.split_at(rest.len().min(8));
-        words[i] = little(front);
+        words[i] = word_of(front);
         rest = behind;
     }
 }

@@ -11,6 +11,7 @@ use Rattle.std.proofs.lemmas.Bool.Decides.{Decides-eqb, same_from_decides}
 use Rattle.std.proofs.lemmas.List.{append_cancel_right, map-append, take_all}
 use Rattle.std.proofs.lemmas.Nat.{le_bytes_8}
 use Rattle.std.proofs.lemmas.Slice.Eq.{bytes_eq-Decides}
+use Rattle.board_layout.proofs.Bytes.{little_eight}
 use Rattle.board_layout.specs.declared.f8.F8.{F8}
 use Rattle.board_layout.specs.Keys.{is_key, same_keys}
 use Rattle.board_layout.specs.Bytes.{little}
@@ -30,25 +31,12 @@ small_at [] h i = omega arith
 small_at (b ∷ bytes) h zero = h.0
 small_at (b ∷ bytes) h (suc i) = small_at bytes h.1 i
 
--- the number of eight bytes, in two spellings
-little_eight : (bytes : List ℕ) → length bytes ≡ 8 → little bytes ≡ from_le_bytes w64 bytes
-little_eight (a ∷ b ∷ c ∷ d ∷ e ∷ f ∷ g ∷ h ∷ []) q = omega arith
-little_eight [] q = absurd (omega arith)
-little_eight (a ∷ []) q = absurd (omega arith)
-little_eight (a ∷ b ∷ []) q = absurd (omega arith)
-little_eight (a ∷ b ∷ c ∷ []) q = absurd (omega arith)
-little_eight (a ∷ b ∷ c ∷ d ∷ []) q = absurd (omega arith)
-little_eight (a ∷ b ∷ c ∷ d ∷ e ∷ []) q = absurd (omega arith)
-little_eight (a ∷ b ∷ c ∷ d ∷ e ∷ f ∷ []) q = absurd (omega arith)
-little_eight (a ∷ b ∷ c ∷ d ∷ e ∷ f ∷ g ∷ []) q = absurd (omega arith)
-little_eight (a ∷ b ∷ c ∷ d ∷ e ∷ f ∷ g ∷ h ∷ i ∷ bytes) q = absurd (omega arith)
-
 -- the first eight bytes of a short key
 front_word : (bytes : List ℕ) → IsShortKey bytes → little (take 8 (take 8 bytes)) ≡ little (take 8 bytes)
 front_word bytes h = ap little (take_all 8 (take 8 bytes) (omega (arith, h.size)))
 
 front_again : (bytes : List ℕ) → IsShortKey bytes → to_le_bytes w64 (little (take 8 bytes)) ≡ take 8 bytes
-front_again bytes h = le_bytes_8 (take 8 bytes) (little (take 8 bytes)) h.size (small_at (take 8 bytes) h.small) (little_eight (take 8 bytes) h.size)
+front_again bytes h = le_bytes_8 (take 8 bytes) (little (take 8 bytes)) h.size (small_at (take 8 bytes) h.small) (sym (little_eight (take 8 bytes) h.size))
 
 -- ---- keys that are numbers
 

@@ -212,28 +212,31 @@ impl ThreadedCell {
         unreachable!()
     }
 
-    // The tries of a `get` after the first one. Takes the buffer itself, since a lent one would have to lie in memory at every `get`.
+    // The tries of a `get` after the first one: they stay out of its way.
     #[cold]
     #[inline(never)]
     fn get_later<R: Wait>(
         &self,
         rt: &R,
         seat: &mut Seat<(), View>,
-        buffer: Vec<u64>,
+        out: &mut Vec<u64>,
         opened: u64,
-    ) -> (u64, Vec<u64>)
+    ) -> u64
         requires cell { seat.old.table_id ≡ self.now.cell }
         requires seat { (seat.old.me.0 ≡ Reader (reader_of seat.old.me.0)) × ((reader_of seat.old.me.0).found ≡ [])
             × ((reader_of seat.old.me.0).opened ≡ opened) }
-        requires width { length buffer.items ≡ self.now.width }
+        requires width { length out.old.items ≡ self.now.width }
         ensures cell { (seat.new.table_id ≡ seat.old.table_id) × (seat.new.me.1 ≡ seat.old.me.1) }
-        ensures width { length result.1.items ≡ self.now.width }
+        ensures width { length out.new.items ≡ self.now.width }
         ensures rises { NotesRise (reader_of seat.new.me.0).notes }
-        ensures ok { AfterTries (reader_of seat.old.me.0) seat.new.me.0 opened result.0 result.1.items }
+        ensures ok { AfterTries (reader_of seat.old.me.0) seat.new.me.0 opened result out.new.items }
     {
-        let mut call = GetCall::in_try(self.shape(), buffer, opened);
+        let shape = self.shape();
+        let buffer = mem::replace(out, Vec::new(*out.allocator()));
+        let mut call = GetCall::in_try(shape, buffer, opened);
         let generation = self.run_all(rt, seat, &mut call, opened);
-        (generation, call.into_buffer())
+        mem::forget(mem::replace(out, call.into_buffer()));
+        generation
     }
 
     /// Reads the value, in as many tries as it takes. Gives its generation, and its words in `out`, which has as many
@@ -256,7 +259,9 @@ impl ThreadedCell {
             mem::forget(mem::replace(out, buffer));
             return after;
         }
-        let (generation, buffer) = self.get_later(rt, &mut pass.seat, buffer, after);
+        // A place of its own is lent, which is there only where the first try failed.
+        let mut buffer = buffer;
+        let generation = self.get_later(rt, &mut pass.seat, &mut buffer, after);
         mem::forget(mem::replace(out, buffer));
         generation
     }
