@@ -4,6 +4,7 @@ pub mod CallChecks
 pub mod Listings
 pub mod LoanChecks
 pub mod LoanSteps
+pub mod EmptyMaps
 pub mod Memories
 pub mod OwedAccesses
 pub mod OwedTasks
@@ -14,6 +15,7 @@ pub mod ReadSteps
 pub mod Releases
 pub mod Rows
 pub mod Seats
+pub mod ShortSteps
 pub mod Shown
 pub mod StepRefusals
 pub mod StepWants

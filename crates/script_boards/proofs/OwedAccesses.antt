@@ -27,12 +27,12 @@ fresh_owes board call (access.Write word v) e = absurd (read_only (e 0))
     read_only e = absurd cc
 
 -- no access of a publication is a read
-no_read : (b : Bool) (n word p v q w : ℕ) → to_read n word ≡ cond b (to_write n p v) (to_write n q w) → ⊥
+pub no_read : (b : Bool) (n word p v q w : ℕ) → to_read n word ≡ cond b (to_write n p v) (to_write n q w) → ⊥
 no_read true n word p v q w e = absurd cc
 no_read false n word p v q w e = absurd cc
 
 -- the write behind the words is the last
-last_write : (k n : ℕ) → k ≤ n → not (nat_lt k n) ≡ (k == n)
+pub last_write : (k n : ℕ) → k ≤ n → not (nat_lt k n) ≡ (k == n)
 last_write k n h = by (nat_lt k n) refl
   where
     by : (x : Bool) → nat_lt k n ≡ x → not x ≡ (k == n)

@@ -1,5 +1,6 @@
 pub mod Begins
 pub mod ShortBegins
+pub mod ShortSteps
 pub mod LoanCalls
 pub mod Loans
 pub mod Machine

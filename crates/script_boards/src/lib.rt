@@ -5,9 +5,9 @@
 //! line goes over the calls, values or loans of others. `Represents` of `specs/Machine` says
 //! which states of boards it stands for. Its calls are lines of boards: `begin` (may the call begin, and what has it to
 //! do), `step` (one access: a call on the domain, a word read, a word written), `release` (a thing goes, and a board
-//! with its last thing), `abandon`, and the listing of a board's words. `loans` has the calls on loans, `lookups` what
-//! stands in the maps and how it comes and goes, `refusals` what the machine of scripts asks where a name is that of a
-//! listener or notifier.
+//! with its last thing), `abandon`, and the listing of a board's words. `step_short` is a short way for steps of updates,
+//! and for those of gets and fills that owe a word. `loans` has the calls on loans, `lookups` what stands in the maps and
+//! how it comes and goes, `refusals` what the machine of scripts asks where a name is that of a listener or notifier.
 #![tactic(auto)]
 
 mod abandon;
@@ -18,7 +18,9 @@ mod machine;
 mod not_begun;
 mod refusals;
 mod release;
+mod short_steps;
 mod step;
 mod words;
 
 pub use machine::BoardMachine;
+pub use short_steps::ShortStep;

@@ -4,6 +4,7 @@ pub mod Turns
 pub mod Wants
 mod Reports
 pub mod ShortSteps
+pub mod StepsOnBoards
 pub mod BytesWant
 mod Refusals
 mod UnkeptLines

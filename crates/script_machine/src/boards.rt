@@ -1,5 +1,5 @@
 //! Lines of boards, and those that boards and events share.
-ghost use Rattle.std.specs.Prelude.{◌≡◌, ◌+◌, ◌++◌, ◌≤◌, [], true, None, OnErr, OnOk, vec_capacity};
+ghost use Rattle.std.specs.Prelude.{◌≡◌, ◌+◌, ◌++◌, ◌≤◌, [], true, false, None, OnErr, OnOk, vec_capacity};
 ghost use Rattle.std.specs.List.{AllByRecursion};
 ghost use Rattle.board_model.specs.declared.answer.Answer.TheVariants as answer;
 ghost use Rattle.board_model.specs.declared.line.Call.TheVariants as call;
@@ -22,7 +22,8 @@ use board_model::{Answer, Call, Name, Reason, Reply, Value};
 use board_service::BoardWords;
 use script_events::Stepped;
 use script_print::{
-    push_answer, push_begun, push_event_asked, push_event_step, push_refused, push_words,
+    push_access_made, push_answer, push_begun, push_event_asked, push_event_step, push_refused,
+    push_words,
 };
 use std::alloc::AllocError;
 
@@ -170,7 +171,7 @@ impl<C: BoardWords + Drop> Machine<C> {
         push_begin(refusal, out)
     }
 
-    /// A line `step P`.
+    /// A line `step P`. Most steps that read or write a word go a short way, and are answered with no answer built.
     pub(crate) fn step(&mut self, party: &Name, out: &mut Vec<u8>) -> Result<(), AllocError>
         requires led { IsLed self.old }
         requires line { IsLine (board_line.Step party.now) }
@@ -184,6 +185,25 @@ impl<C: BoardWords + Drop> Machine<C> {
         if self.events.runs(party) {
             return self.step_on_events(party, out);
         }
+        match self.boards.step_short(party) {
+            Some(made) => push_access_made(made.access, made.is_done, out),
+            None => self.step_on_boards(party, out),
+        }
+    }
+
+    // A step of a party whose call on events doesn't run, by any way. Apart, so that a short step doesn't pay for it.
+    #[inline(never)]
+    fn step_on_boards(&mut self, party: &Name, out: &mut Vec<u8>) -> Result<(), AllocError>
+        requires led { IsLed self.old }
+        requires line { IsLine (board_line.Step party.now) }
+        requires runs { events.OfEach self.old.events (λ x. runs_on_events x party.now ≡ false) }
+        requires empty { out.old.items ≡ [] }
+        ensures tells { OnOk result (TellsOfBoards self.old self.new (board_line.Step party.now)
+            out.new.items) }
+        ensures memory { OnErr result (BoardMayWant self.old (board_line.Step party.now) out.old) }
+        ensures room { vec_capacity out.old ≤ vec_capacity out.new }
+        ensures drawn { OnOk result (drawn_by self.new.boards ≤ drawn_by self.old.boards + 1) }
+    {
         let answer = self.boards.step(party)?;
         push_answer(&answer, out)
     }

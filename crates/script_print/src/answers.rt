@@ -1,8 +1,9 @@
 //! The bytes of answers, which are added to a buffer of the caller's.
-ghost use Rattle.std.specs.Prelude.{◌≡◌, ◌+◌, ◌<◌, ◌≤◌, ◌++◌, OnErr, OnOk, Some, codes, decimal, vec_capacity};
+ghost use Rattle.std.specs.Prelude.{◌≡◌, ◌+◌, ◌<◌, ◌≤◌, ◌++◌, if◌then◌else◌, None, OnErr, OnOk, Some, codes, decimal, vec_capacity};
 ghost use Rattle.std.specs.List.{flat_map};
 ghost use Rattle.board_cell_model.specs.declared.access.Access.TheVariants as access;
 ghost use Rattle.board_model.specs.declared.answer.Answer.TheVariants as answer;
+ghost use Rattle.board_model.specs.declared.answer.Reply.TheVariants as reply;
 ghost use Rattle.board_model.specs.AnswerGrammar.{access_text, answer_line, answer_text, number_text, place_text, reply_text, told_text};
 ghost use Rattle.script_print.specs.Room.{LacksRoomFor};
 
@@ -273,6 +274,25 @@ pub fn push_step(access: Access, reply: &Option<Reply>, out: &mut Vec<u8>) -> Re
 {
     push_access(access, out)?;
     push_end(reply, out)
+}
+
+/// Adds the line of a step that tells its access, and `ok` where its call is done.
+///
+/// # Errors
+/// `AllocError` where memory is refused, and only where the buffer has no room for the line; then a front of it may have been added.
+pub fn push_access_made(access: Access, is_done: bool, out: &mut Vec<u8>) -> Result<(), AllocError>
+    ensures ok { OnOk result (out.new.items ≡ out.old.items
+        ++ answer_line (answer.Step access (if is_done then Some reply.Done else None))) }
+    ensures room { OnErr result (LacksRoomFor out.old
+        (answer_line (answer.Step access (if is_done then Some reply.Done else None)))) }
+    ensures grows { vec_capacity out.old ≤ vec_capacity out.new }
+{
+    push_access(access, out)?;
+    if is_done {
+        return out.extend_from_slice(b" = ok\n");
+    }
+    out.push(b'\n')?;
+    Ok(())
 }
 
 /// Adds the line that lists these words.

@@ -10,5 +10,7 @@ mod replies;
 #[cfg(test)]
 mod tests;
 
-pub use answers::{push_answer, push_begun, push_gone, push_refused, push_step, push_words};
+pub use answers::{
+    push_access_made, push_answer, push_begun, push_gone, push_refused, push_step, push_words,
+};
 pub use event_answers::{push_event_asked, push_event_step, push_expired};

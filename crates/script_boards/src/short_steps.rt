@@ -1,0 +1,124 @@
+//! The short way of a line `step P`: a word is read or written, and nothing is told, or `ok` with the last write of an update.
+ghost use Rattle.std.specs.Prelude.{◌≡◌, ◌≤◌, false, length};
+ghost use Rattle.board_cell_model.specs.OwedAccesses.{is_finished};
+ghost use Rattle.script_boards.specs.Machine.{IsLed};
+ghost use Rattle.script_boards.specs.ShortSteps.{HasOwedWords, HasReadWord, HasWrittenWord, IsShortStep, IsWordRead, IsWordWritten, MakesAccess};
+ghost use Rattle.script_boards.specs.Steps as steps;
+ghost use Rattle.script_boards.specs.Steps.{CanGoOn};
+
+use crate::machine::{BoardMachine, Task};
+use board_cell::{Access as CellAccess, GetCall, UpdateCall};
+use board_cell_model::Access;
+use board_model::Name;
+use board_service::BoardWords;
+use script_parties::PartyDomain;
+
+/// What a step by the short way made. Where the call is done with it, `ok` is told.
+#[derive(Clone, Copy, Debug, PartialEq, Eq)]
+pub struct ShortStep {
+    pub access: Access,
+    pub is_done: bool,
+}
+
+// A get reads the word that it owes.
+#[inline(always)]
+fn read_word<C: BoardWords + Drop>(
+    board: u64,
+    call: &mut GetCall,
+    domain: &mut PartyDomain<C>,
+) -> Access
+    requires goes_on { is_finished call.old.reading ≡ false }
+    requires word { HasReadWord domain.old board call.old }
+    ensures { IsWordRead domain.old domain.new board call.old call.new result }
+{
+    let CellAccess::Read { word } = call.next() else {
+        // A get reads.
+        unreachable!()
+    };
+    let value = domain.load(board, word);
+    let _ = call.took(value);
+    Access::Read { board, word, value }
+}
+
+// An update or a fill writes the word that it owes.
+#[inline(always)]
+fn write_word<C: BoardWords + Drop>(
+    board: u64,
+    call: &mut UpdateCall,
+    domain: &mut PartyDomain<C>,
+) -> Access
+    requires goes_on { call.old.written ≤ length call.old.words }
+    requires word { HasWrittenWord domain.old board call.old }
+    ensures { IsWordWritten domain.old domain.new board call.old call.new result }
+{
+    let CellAccess::Write { word, value } = call.next() else {
+        // A publication writes.
+        unreachable!()
+    };
+    domain.store(board, word, value);
+    let _ = call.took(0);
+    Access::Write { board, word, value }
+}
+
+impl Task {
+    // Makes the access that is owed, where it is to a word and nothing but `ok` can be told with it. No loan ends by it.
+    #[inline(always)]
+    fn make_access<C: BoardWords + Drop>(
+        &mut self,
+        domain: &mut PartyDomain<C>,
+    ) -> Option<ShortStep>
+        requires goes_on { steps.is_gone self.old ≡ false → CanGoOn self.old }
+        requires words { HasOwedWords domain.old self.old }
+        ensures { MakesAccess domain.old domain.new self.old self.new result }
+    {
+        match self {
+            Task::Update { board, call } => {
+                let is_done = !call.owes_word();
+                Some(ShortStep {
+                    access: write_word(*board, call, domain),
+                    is_done,
+                })
+            }
+            Task::Get {
+                board,
+                call,
+                value_type: _,
+                value: _,
+            } if call.owes_word() => Some(ShortStep {
+                access: read_word(*board, call, domain),
+                is_done: false,
+            }),
+            Task::Fill {
+                board,
+                call,
+                loan: _,
+                handle: _,
+            } if call.owes_word() => Some(ShortStep {
+                access: write_word(*board, call, domain),
+                is_done: false,
+            }),
+            _ => None,
+        }
+    }
+}
+
+impl<C: BoardWords + Drop> BoardMachine<C> {
+    /// A line `step P` of an update, or of a get or a fill that owes a word: what it made. It takes no memory. Where there is
+    /// none nothing changes, and `step` answers the line.
+    pub fn step_short(&mut self, party: &Name) -> Option<ShortStep>
+        requires { IsLed self.old }
+        ensures steps { IsShortStep self.old self.new party.now result }
+        ensures drawn { self.new.domain.drawn ≡ self.old.domain.drawn }
+    {
+        let Some(task) = self.parties.get_mut(party) else {
+            return None;
+        };
+        let Some(made) = task.make_access(&mut self.domain) else {
+            return None;
+        };
+        if made.is_done {
+            let _ = self.parties.remove(party);
+        }
+        Some(made)
+    }
+}
