@@ -205,7 +205,7 @@ impl<C> Boards<C> {
             // The board stands.
             unreachable!()
         };
-        let _ = self.names.remove(gone.name().as_bytes());
+        let _ = self.names.remove(gone.name_bytes());
         match self.cells.remove(&number) {
             Some(cells) => cells,
             // A board that stands has its cells.

@@ -1,7 +1,7 @@
 //! A board that is to be added.
 ghost use Rattle.std.specs.Prelude.{◌≡◌, IfOk};
 
-use crate::board_row::BoardRow;
+use crate::board_row::{BoardParts, BoardRow};
 use std::alloc::{AllocError, Global};
 use std::marker::Model;
 
@@ -29,10 +29,11 @@ impl NewBoard {
     ///
     /// # Errors
     /// `AllocError` where memory is refused.
-    pub fn new(alloc: Global, row: BoardRow) -> Result<NewBoard, AllocError>
-        ensures { IfOk result (λ b. b ≡ row) }
+    pub fn new(alloc: Global, parts: BoardParts) -> Result<NewBoard, AllocError>
+        ensures { IfOk result (λ b. b ≡ parts) }
     {
-        let name = Vec::from_slice(alloc, row.name().as_bytes())?;
+        let row = BoardRow::of(alloc, parts)?;
+        let name = Vec::from_slice(alloc, row.name_bytes())?;
         let row = Box::new(alloc, row)?;
         Ok(NewBoard { row, name })
     }

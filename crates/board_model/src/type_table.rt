@@ -8,7 +8,8 @@ use crate::value::{Key, KeyType, Value, ValueType};
 use board_layout::{F8, KeyMemory, Text, TypeDetail, TypeVariant};
 use std::alloc::{AllocError, Global};
 
-fn same_variant(a: TypeVariant, b: TypeVariant) -> bool
+/// Whether both have one size, or neither has.
+pub fn same_variant(a: TypeVariant, b: TypeVariant) -> bool
     ensures { result ≡ types.same_variant a b }
 {
     match (a, b) {
