@@ -39,7 +39,7 @@ pub(crate) fn has_details<C>(board: u64, key: &TypeDetail, boards: &Boards<C>) -
         (λ b. types.same_type b.key key.now) }
 {
     match boards.at(board) {
-        Some(b) => same_type(b.key(), key),
+        Some(b) => b.key().is(key),
         None => false,
     }
 }

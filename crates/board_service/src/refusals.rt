@@ -15,7 +15,7 @@ use crate::planned::is_too_large;
 use board_concepts::AttributeVerifier;
 use board_index::{BoardRow, Boards};
 use board_layout::{BoardKey, KeyMemory, TypeDetail, key_of, same_keys};
-use board_model::{Limits, same_type};
+use board_model::Limits;
 use board_names::{BlackboardCreateError, BlackboardOpenError, ServiceName};
 use board_things::Things;
 use std::alloc::Global;
@@ -163,7 +163,7 @@ pub(crate) fn open_refusal<C>(
     let Some(board) = boards.named(name) else {
         return Some(BlackboardOpenError::DoesNotExist);
     };
-    if !same_type(board.key(), key) {
+    if !board.key().is(key) {
         return Some(BlackboardOpenError::IncompatibleKeys);
     }
     if !needs.verify_requirements(board.attributes()) {

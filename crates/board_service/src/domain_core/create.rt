@@ -21,7 +21,7 @@ use crate::planned::{entries_for, plan_for};
 use crate::refusals::{create_refusal, limit_of};
 use board_cell::CellError;
 use board_concepts::{AttributeSet, Description};
-use board_index::{BoardRow, NewBoard};
+use board_index::{BoardParts, NewBoard};
 use board_layout::{BoardKey, Plan, TypeDetail, TypeVariant};
 use board_model::{Entries, Kind, Limits, ThingKind};
 use board_names::{BlackboardCreateError, FilePath, NameTable, ServiceName};
@@ -120,7 +120,7 @@ impl<C: Cells> DomainCore<C> {
             return Err(BlackboardCreateError::OutOfMemory);
         };
         let number = self.boards.last() + 1;
-        let row = BoardRow {
+        let parts = BoardParts {
             number,
             name: description.name,
             key: description.key,
@@ -130,7 +130,7 @@ impl<C: Cells> DomainCore<C> {
             attributes: description.attributes,
             entries: Entries::from_vec(kept),
         };
-        let Ok(board) = NewBoard::new(self.alloc, row) else {
+        let Ok(board) = NewBoard::new(self.alloc, parts) else {
             return Err(BlackboardCreateError::OutOfMemory);
         };
         let path = path_of(number);

@@ -67,9 +67,8 @@ impl<C: Cells> DomainCore<C> {
     }
 
     /// The board's name.
-    pub fn name_of(&self, board: u64) -> Option<&ServiceName>
-        ensures { option_map (λ n. n.now) result
-            ≡ option_map (λ b. b.name) (board_at self.now.tables board) }
+    pub fn name_of(&self, board: u64) -> Option<ServiceName>
+        ensures { result ≡ option_map (λ b. b.name) (board_at self.now.tables board) }
     {
         match self.boards.at(board) {
             Some(b) => Some(b.name()),
@@ -83,7 +82,7 @@ impl<C: Cells> DomainCore<C> {
     {
         match self.boards.at(board) {
             Some(b) => Some(StaticConfig {
-                type_details: *b.key(),
+                type_details: b.key().detail(),
                 max_readers: b.max_readers(),
                 max_nodes: b.max_nodes(),
                 max_writers: b.max_writers(),

@@ -127,10 +127,7 @@ pub(super) fn replaced<K: BoardKey, C: Cells + Drop>(
     requires size { 0 < length entries.items → K.SIZE ≤ 64 }
     requires shapes { HaveShapes entries.items }
 {
-    let name = match core.name_of(core.board_of(last)) {
-        Some(name) => *name,
-        None => return None,
-    };
+    let name = core.name_of(core.board_of(last))?;
     if core.release(last).is_none() {
         return None;
     }
