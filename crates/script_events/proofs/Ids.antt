@@ -1,5 +1,5 @@
 -- The ids of one bit more.
-use Rattle.std.proofs.Common.{◌≡◌, ℕ, zero, suc, ◌+◌, Bool, List, [], ◌∷◌, ◌++◌, append_assoc, arith, refl, sym, ap, ◌∙◌, inl, inr}
+use Rattle.std.proofs.Common.{◌≡◌, ℕ, zero, suc, ◌+◌, ◌<◌, Bool, true, List, [], ◌∷◌, ◌++◌, length, append_assoc, arith, refl, sym, ap, subst, ◌∙◌, inl, inr}
 use Rattle.std.specs.Prelude.{if◌then◌else◌, ◌==◌, ◌-◌}
 use Rattle.std.specs.Int.{bit_at}
 use Rattle.board_event_model.specs.Ids.{ids_where}
@@ -25,3 +25,23 @@ told_more bits base i old mid new e f =
     f ∙ ap (λ (xs : List ℕ). xs ++ (if bit_at bits i == 1 then (base + i) ∷ [] else [])) e ∙ append_assoc old (ids_where p base i) (if bit_at bits i == 1 then (base + i) ∷ [] else [])
     ∙ ap (λ (j : ℕ). old ++ (ids_where p base i ++ (if bit_at bits j == 1 then (base + i) ∷ [] else []))) (sym same)
     ∙ ap (λ (xs : List ℕ). old ++ xs) (sym (ids_where-more p base i)) ∙ ap (λ (m : ℕ). old ++ ids_where p base m) (sym next)
+
+-- there are some where one passes
+some_where : (p : ℕ → Bool) (at i n : ℕ) → i < n → p (at + i) ≡ true → 0 < length (ids_where p at n)
+some_where p at i zero below passes = absurd (omega (arith, below))
+some_where p at zero (suc n) below passes = (let same : at + 0 ≡ at = omega arith in rw (subst (λ (j : ℕ). p j ≡ true) same passes) (omega arith))
+some_where p at (suc i) (suc n) below passes =
+    let same : at + suc i ≡ at + 1 + i = omega arith in
+    elim (either (p at)) [
+      | inl f ↦ rw f (omega arith)
+      | inr f ↦ rw f (some_where p (at + 1) i n (omega (arith, below)) (subst (λ (j : ℕ). p j ≡ true) same passes))
+    ]
+
+-- the bits of a word have some where one of them has
+pub some_ids : (bits base i count : ℕ) → i < count → 0 < length (if bit_at bits i == 1 then (base + i) ∷ [] else []) → 0 < length (ids_where (λ j. bit_at bits (j - base) == 1) base count)
+some_ids bits base i count below some =
+    let same : base + i - base ≡ i = omega arith in
+    elim (either (bit_at bits i == 1)) [
+      | inl f ↦ some_where (λ j. bit_at bits (j - base) == 1) base i count below (rw same f)
+      | inr f ↦ absurd (let none = subst (λ (b : Bool). 0 < length (if b then (base + i) ∷ [] else [])) f some in omega (arith, none))
+    ]

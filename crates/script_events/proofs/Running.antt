@@ -23,8 +23,7 @@ use Rattle.board_event_model.proofs.SoundLemmas.{gone_on, none_some, some_same}
 use Rattle.board_event_model.proofs.ViewLemmas.{session_reached}
 use Rattle.script_model.specs.ScriptEvents.{ScriptEvents, is_for_all}
 use Rattle.script_model.specs.SoundEvents.{AreSoundEvents}
-use Rattle.script_events.specs.Calls.{GoesOn, StartsWord, reports}
-use Rattle.script_events.specs.PartyEvents.{may_give}
+use Rattle.script_events.specs.Calls.{GoesOn, StartsWord}
 use Rattle.script_events.proofs.Options.{either}
 
 -- ---- stages
@@ -210,59 +209,3 @@ module _ (x : ScriptEvents) (count : ℕ) (few : count < 2 ^ 63) (sound : AreSou
 pub same_many : (c : EventCall) (a : EventAnswer) → is_for_all (turn c a).1 ≡ is_for_all c
 same_many (a_notify n) a = refl
 same_many (a_wait w) a = refl
-
--- ---- what reports ids
-
-abbrev NotifyTells : EventProgress × NotifyStage → Type 0
-NotifyTells t = reports t.0 ≡ false
-
-abbrev WaitTells : EventProgress × WaitStage → Type 0
-WaitTells t = reports t.0 ≡ false
-
-wrong : {A : Type 0} → false ≡ true → A
-wrong e = absurd cc
-
-pushed_tells : (a : EventAnswer) → reports (pushed a) ≡ false
-pushed_tells answer.Done = refl
-pushed_tells answer.Yes = refl
-pushed_tells answer.No = refl
-pushed_tells (answer.Word v) = refl
-pushed_tells (answer.Id x) = refl
-pushed_tells answer.Empty = refl
-pushed_tells answer.Full = refl
-pushed_tells answer.Gone = refl
-
--- a notify reports none
-notify_tells : (n : Notify) (stage : NotifyStage) (a : EventAnswer) → NotifyTells (notify_turn n stage a)
-notify_tells n notify.Look a = choose NotifyTells (is_yes a) _ _ (choose NotifyTells (nat_lt n.max n.id) _ _ refl refl) refl
-notify_tells n notify.Set a = refl
-notify_tells n notify.Post a = refl
-notify_tells n notify.Push a = pushed_tells a
-notify_tells n notify.Finished a = refl
-
-nothing_tells : (w : Wait) → WaitTells (nothing w)
-nothing_tells w = choose WaitTells (is_try w.mode) _ _ refl refl
-
-scan_tells : (w : Wait) (k v : ℕ) → WaitTells (wait_turn w (wait.Scan k) (answer.Word v))
-scan_tells w k v = choose WaitTells (v == 0) _ _ (choose WaitTells (k + 1 == w.words) _ _ (nothing_tells w) refl) refl
-
-scanned_tells : (w : Wait) (k : ℕ) (a : EventAnswer) → WaitTells (wait_turn w (wait.Scan k) a)
-scanned_tells w k a = scan_tells w k (word_in a)
-
-look_tells : (w : Wait) (a : EventAnswer) → WaitTells (wait_turn w wait.Look a)
-look_tells w a = choose WaitTells (is_yes a) _ _ refl refl
-
--- a wait reports ids where it clears one, takes a word, or pops
-wait_gives : (w : Wait) (stage : WaitStage) (a : EventAnswer) → reports (wait_turn w stage a).0 ≡ true → may_give (wait_owed stage) ≡ true
-wait_gives w wait.Drain a h = wrong h
-wait_gives w (wait.Scan k) a h = wrong (sym (scanned_tells w k a) ∙ h)
-wait_gives w (wait.Clear id) a h = refl
-wait_gives w (wait.Swap k some) a h = refl
-wait_gives w wait.Look a h = wrong (sym (look_tells w a) ∙ h)
-wait_gives w (wait.Pop n) a h = refl
-wait_gives w wait.Finished a h = wrong h
-
--- ids are reported only where the access may give some
-pub reporting : (c : EventCall) (a : EventAnswer) → reports (turn c a).0 ≡ true → may_give (owed c) ≡ true
-reporting (a_notify n) a h = wrong (sym (notify_tells n n.stage a) ∙ h)
-reporting (a_wait w) a h = wait_gives w w.stage a h

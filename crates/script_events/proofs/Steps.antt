@@ -1,5 +1,5 @@
 -- Steps of calls.
-use Rattle.std.proofs.Common.{◌≡◌, ℕ, ◌<◌, ◌≤◌, Bool, true, false, List, ◌∷◌, ◌++◌, refl, sym, ap, subst, ◌∙◌, Option, Some, None, inl, inr, ◌⊎◌, arith}
+use Rattle.std.proofs.Common.{◌≡◌, ℕ, ◌<◌, ◌≤◌, Bool, true, false, List, ◌∷◌, ◌++◌, length, refl, sym, ap, subst, ◌∙◌, Option, Some, None, inl, inr, ◌⊎◌, arith}
 use Rattle.std.specs.Prelude.{if◌then◌else◌, ◌^◌, not, is_some, option_map, IfOk, IsSomeAnd, OnErr, Result, Ok, Err}
 use Rattle.board_event_model.specs.declared.access.EventAccess.{EventAccess}
 use Rattle.board_event_model.specs.declared.access.EventAnswer.{EventAnswer}
@@ -24,7 +24,7 @@ use Rattle.script_events.specs.declared.step.Stepped.TheVariants as stepped
 use Rattle.script_events.specs.Calls.{AnswersAsk, CanStep, GoesOn, IsAnswered, IsAsked, IsLeft, IsWentOn, Makes, StepsTo, TakesAt, stays}
 use Rattle.script_events.specs.Calls.{goes_on as goes_on_told}
 use Rattle.script_events.specs.Left.{HasTask}
-use Rattle.script_events.specs.PartyEvents.{AreCalls, Held, Holds, IsActOf, IsAnswerOf, IsAskedBy, IsCall, IsRunning, IsStepped, IsTaskOf, Represents, StepMayWant, StepTakes, Steps, event_call, held_in, may_give, task_in, thing_in}
+use Rattle.script_events.specs.PartyEvents.{AreCalls, Gives, Held, Holds, IsActOf, IsAnswerOf, IsAskedBy, IsCall, IsRunning, IsStepped, IsTaskOf, Represents, StepMayWant, StepTakes, Steps, event_call, held_in, task_in, thing_in}
 use Rattle.script_events.proofs.Asks.{few_notifiers}
 use Rattle.script_events.proofs.Tasks.{alike, ask_changed, call_changed}
 use Rattle.script_events.proofs.Holding.{IsThere, event_of-some, thing_there}
@@ -152,9 +152,12 @@ module _ (m : PartyEvents) (x : ScriptEvents) (count : ℕ) (few : count < 2 ^ 6
   act_can : CanPerformAt m.events a.event (owed (event_call a.call))
   act_can = rw (acts.is.event, acts.is.call, there.found) (can x count few sound party acts.call acts.doing there.st there.stands)
 
-  -- it takes memory where its access may give ids
-  act_takes : may_give (owed (event_call a.call)) ≡ true → StepTakes x (x.asked party) (x.session.doing party)
-  act_takes h = rw (acts.idle, acts.doing) (subst (λ (c : EventCall). may_give (owed c) ≡ true) acts.is.call h)
+  -- it takes memory where its access gives ids
+  act_takes : IsSomeAnd (event_at m.events a.event) (λ e. Gives e (event_call a.call)) → StepTakes x (x.asked party) (x.session.doing party)
+  act_takes h =
+      let same : event_at m.events a.event ≡ event_of x.session.stands acts.call.on = ap (event_at m.events) acts.is.event ∙ there.found ∙ sym (event_of-some x.session.stands acts.call.on there.st there.stands) in
+      let given = subst (λ (c : EventCall). IsSomeAnd (event_at m.events a.event) (λ e. Gives e c)) acts.is.call h in
+      rw (acts.idle, acts.doing) (subst (λ (o : Option Event). IsSomeAnd o (λ e. Gives e (call_of acts.call.call))) same given)
 
 -- the session after the access
 abbrev session_after : EventSession → List ℕ → PartyCall → Event → EventAccess → EventAnswer → EventSession
@@ -288,6 +291,14 @@ module _ (m new : PartyEvents) (x : ScriptEvents) (count : ℕ) (few : count < 2
     });
     represents = subst (λ (q : Option EventAsk). Represents new (step_made x party q shown)) (sym mine.idle) stands_for;
   })
+
+-- an access that gives ids
+pub gives_at : (t : EventTable) (n : ℕ) (c : EventCall) (access : EventAccess) (answer : EventAnswer) → IsSomeAnd (event_at t n) (λ e. IsRight e access answer) → access ≡ owed c → 0 < length (reported (turn c answer).0) → IsSomeAnd (event_at t n) (λ e. Gives e c)
+gives_at t n c access answer right owes ids = by (event_at t n) right
+  where
+    by : (o : Option Event) → IsSomeAnd o (λ e. IsRight e access answer) → IsSomeAnd o (λ e. Gives e c)
+    by None h = absurd h
+    by (Some e) h = record { answer = answer; right = subst (λ (a : EventAccess). IsRight e a answer) owes h; ids = ids }
 
 -- ---- the step of whatever a party runs
 

@@ -26,7 +26,7 @@ use Rattle.script_events.specs.declared.rows.Holding.{Holding}
 use Rattle.script_events.specs.declared.rows.Holding.TheVariants as holding
 use Rattle.script_events.specs.declared.step.Stepped.{Stepped}
 use Rattle.script_events.specs.declared.step.Stepped.TheVariants as stepped
-use Rattle.script_events.specs.PartyEvents.{Held, Holds, IsAskedBy, TellsTaken, event_call, may_give}
+use Rattle.script_events.specs.PartyEvents.{Gives, Held, Holds, IsAskedBy, TellsTaken, event_call}
 
 -- ---- lookups
 
@@ -104,16 +104,6 @@ StartsWord progress.Notified = ⊤
 StartsWord (progress.Refused why) = ⊤
 StartsWord progress.Nothing = ⊤
 
--- a step reports ids
-abbrev pub reports : EventProgress → Bool
-reports progress.More = false
-reports progress.Waiting = false
-reports (progress.Took base bits last) = true
-reports (progress.Id id last) = true
-reports progress.Notified = false
-reports (progress.Refused why) = false
-reports progress.Nothing = false
-
 -- the call is told so, where the ids that it has reported with its last access are these
 abbrev pub IsEndTold : Bool → EventProgress → List ℕ → EventReply → Type 0
 IsEndTold many p ids told = (before : List ℕ) → ids ≡ before ++ reported p → told ≡ end_told many before p
@@ -180,7 +170,7 @@ StepsTo t held t' held' party (task.Act a) left told = ((p n : List ℕ) → hel
 abbrev pub TakesAt : EventTable → Held → List ℕ → CallTask → Type 0
 TakesAt t held party (task.Listen name kind event max) = Makes t held party (to_listen name kind event max)
 TakesAt t held party (task.Notifier name kind event) = Makes t held party (to_notify name kind event)
-TakesAt t held party (task.Act a) = may_give (owed (event_call a.call)) ≡ true
+TakesAt t held party (task.Act a) = IsSomeAnd (event_at t a.event) (λ e. Gives e (event_call a.call))
 
 -- the call goes on that was told so
 abbrev pub stays : Stepped → Bool

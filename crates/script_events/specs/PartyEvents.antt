@@ -1,5 +1,5 @@
 -- The events of a script that what parties hold and run stands for.
-use Rattle.std.specs.Prelude.{◌≡◌, ℕ, ◌<◌, ◌^◌, Bool, true, false, cond, if◌then◌else◌, List, [], ◌∷◌, Option, Some, None, IfSome, IsSomeAnd, option_map, ⊤}
+use Rattle.std.specs.Prelude.{◌≡◌, ℕ, ◌<◌, ◌^◌, Bool, true, false, cond, if◌then◌else◌, List, [], ◌∷◌, Option, Some, None, IfSome, IsSomeAnd, length, option_map, ⊤}
 use Rattle.std.specs.declared.cmp.Ordering.{Ordering}
 use Rattle.std.specs.BTreeMap.{is_at}
 use Rattle.std.specs.Cmp.Lexicographic.{slice_cmp}
@@ -9,10 +9,9 @@ use Rattle.std.specs.Ordering.{nat_cmp}
 use Rattle.std.specs.Str.{bytes_eq}
 use Rattle.board_names.specs.Table.{at}
 use Rattle.board_event_model.specs.declared.kind.EventKind.{EventKind}
-use Rattle.board_event_model.specs.EventMemory.{Event, has_holder}
-use Rattle.board_event_model.specs.declared.access.EventAccess.{EventAccess}
-use Rattle.board_event_model.specs.declared.access.EventAccess.TheVariants as access
-use Rattle.board_event_model.specs.EventCalls.{EventCall, a_notify, a_wait, call_of, owed}
+use Rattle.board_event_model.specs.EventMemory.{Event, IsRight, has_holder}
+use Rattle.board_event_model.specs.declared.access.EventAnswer.{EventAnswer}
+use Rattle.board_event_model.specs.EventCalls.{EventCall, a_notify, a_wait, call_of, owed, reported, turn}
 use Rattle.board_event_model.specs.EventSessions.{PartyCall, event_of}
 use Rattle.board_event_core.specs.EventTable.{EventTable, event_at, names_of}
 use Rattle.board_model.specs.declared.answer.Reason.{Reason}
@@ -232,23 +231,17 @@ IsUnrefused x party q taken =
 abbrev pub BeginMayWant : PartyEvents → List ℕ → EventRequest → Bool → Type 0
 BeginMayWant m party q taken = OfEach m (λ x. IsUnrefused x party q taken)
 
--- an access that may give ids: a bit is cleared, a word is taken, or an id is popped
-abbrev pub may_give : EventAccess → Bool
-may_give access.Listener = false
-may_give (access.Set id) = false
-may_give access.Post = false
-may_give (access.Push id) = false
-may_give access.Signal = false
-may_give (access.Scan k) = false
-may_give (access.Clear id) = true
-may_give (access.Swap k) = true
-may_give access.Pop = true
+-- the access that a call on an event owes may be told so, and gives the call ids
+pub record Gives (e : Event) (c : EventCall) : Type 0 where
+  pub answer : EventAnswer
+  pub right : IsRight e (owed c) answer
+  pub ids : 0 < length (reported (turn c answer).0)
 
--- the step of what a party runs takes memory: for a listener or a notifier that it makes, or for ids that it may be given
+-- the step of what a party runs takes memory: for a listener or a notifier that it makes, or for ids that it is given
 abbrev pub StepTakes : ScriptEvents → Option EventAsk → Option PartyCall → Type 0
 StepTakes x (Some q) d = ask_told x q ≡ reply.Done
 StepTakes x None None = ⊥
-StepTakes x None (Some d) = may_give (owed (call_of d.call)) ≡ true
+StepTakes x None (Some d) = IsSomeAnd (event_of x.session.stands d.on) (λ e. Gives e (call_of d.call))
 
 -- a step wants memory only where it takes some
 abbrev pub StepMayWant : PartyEvents → List ℕ → Type 0

@@ -1,9 +1,9 @@
 //! Calls on an event: their accesses, the ids that they report, and what they are told at their end.
-ghost use Rattle.std.specs.Prelude.{◌≡◌, ◌++◌, ◌≤◌, ◌^◌, ◌+◌, ◌<◌, true, OnErr, OnOk};
+ghost use Rattle.std.specs.Prelude.{◌≡◌, ◌++◌, ◌≤◌, ◌^◌, ◌+◌, ◌<◌, length, OnErr, OnOk};
 ghost use Rattle.board_event_model.specs.EventCalls as calls;
 ghost use Rattle.board_event_core.specs.EventTable.{CanPerformAt};
 ghost use Rattle.script_model.specs.ScriptEvents as model;
-ghost use Rattle.script_events.specs.Calls.{GoesOn, IsActStep, IsEndTold, StartsWord, id_of_bit, ids_of_bits, may_end, reports};
+ghost use Rattle.script_events.specs.Calls.{GoesOn, IsActStep, IsEndTold, StartsWord, id_of_bit, ids_of_bits, may_end};
 ghost use Rattle.script_events.specs.PartyEvents.{event_call};
 
 use crate::rows::{ActiveCall, CallTask};
@@ -104,7 +104,8 @@ pub(crate) fn is_waiting(progress: EventProgress) -> bool
 fn tell_bit(base: u64, bits: u64, i: u64, told: &mut Vec<u64>) -> Result<(), AllocError>
     requires word { i < 64 }
     requires room { base + i < 2 ^ 64 }
-    ensures { OnOk result (told.new.items ≡ told.old.items ++ id_of_bit base bits i) }
+    ensures ok { OnOk result (told.new.items ≡ told.old.items ++ id_of_bit base bits i) }
+    ensures memory { OnErr result (0 < length (id_of_bit base bits i)) }
 {
     if (bits >> i) & 1 == 1 {
         told.push(base + i)?;
@@ -116,7 +117,8 @@ fn tell_bit(base: u64, bits: u64, i: u64, told: &mut Vec<u64>) -> Result<(), All
 fn tell_bits(base: u64, bits: u64, count: u64, told: &mut Vec<u64>) -> Result<(), AllocError>
     requires word { count ≤ 64 }
     requires room { base + count ≤ 2 ^ 64 }
-    ensures { OnOk result (told.new.items ≡ told.old.items ++ ids_of_bits base bits count) }
+    ensures ok { OnOk result (told.new.items ≡ told.old.items ++ ids_of_bits base bits count) }
+    ensures memory { OnErr result (0 < length (ids_of_bits base bits count)) }
 {
     for i in 0..count {
         tell_bit(base, bits, i, told)?;
@@ -128,7 +130,7 @@ fn tell_bits(base: u64, bits: u64, count: u64, told: &mut Vec<u64>) -> Result<()
 pub(crate) fn tell(progress: EventProgress, told: &mut Vec<u64>) -> Result<(), AllocError>
     requires { StartsWord progress }
     ensures ok { OnOk result (told.new.items ≡ told.old.items ++ calls.reported progress) }
-    ensures memory { OnErr result (reports progress ≡ true) }
+    ensures memory { OnErr result (0 < length (calls.reported progress)) }
 {
     match progress {
         EventProgress::Took {

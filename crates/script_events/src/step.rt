@@ -1,11 +1,11 @@
 //! Steps of calls on events.
-ghost use Rattle.std.specs.Prelude.{◌≡◌, ℕ, List, true, IfOk, OnErr};
+ghost use Rattle.std.specs.Prelude.{◌≡◌, ℕ, List, true, IfOk, IsSomeAnd, OnErr};
 ghost use Rattle.board_event_model.specs.EventCalls.{owed};
-ghost use Rattle.board_event_core.specs.EventTable.{CanPerformAt};
+ghost use Rattle.board_event_core.specs.EventTable.{CanPerformAt, event_at};
 ghost use Rattle.script_model.specs.ScriptEvents.{runs_on_events};
 ghost use Rattle.script_events.specs.Calls.{CanStep, GoesOn, IsWentOn, StepsTo, TakesAt, goes_on};
 ghost use Rattle.script_events.specs.Left.{IsCutAt, IsCutShort, IsPerformed};
-ghost use Rattle.script_events.specs.PartyEvents.{IsLed, OfEach, StepMayWant, Steps, event_call, held_in, may_give};
+ghost use Rattle.script_events.specs.PartyEvents.{Gives, IsLed, OfEach, StepMayWant, Steps, event_call, held_in};
 
 use crate::asking::{add_notifier, listen};
 use crate::calls::{end_told, is_last, is_waiting, tell};
@@ -127,7 +127,8 @@ impl Act {
         requires goes_on { GoesOn (event_call self.old.call) }
         requires can { CanPerformAt events.old self.old.event (owed (event_call self.old.call)) }
         ensures told { IfOk result (IsWentOn events.old events.new self.old self.new) }
-        ensures memory { OnErr result (may_give (owed (event_call self.old.call)) ≡ true) }
+        ensures memory { OnErr result (IsSomeAnd (event_at events.old self.old.event)
+            (λ e. Gives e (event_call self.old.call))) }
         ensures events { OnErr result
             (IsPerformed events.old events.new self.old.event (owed (event_call self.old.call))) }
     {

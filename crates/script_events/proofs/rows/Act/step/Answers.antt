@@ -1,4 +1,4 @@
-use Rattle.std.proofs.Common.{◌≡◌, ◌∙◌, ◌++◌, Bool, Some, ap, rules, subst, sym, false, true}
+use Rattle.std.proofs.Common.{◌≡◌, ◌∙◌, ◌++◌, ◌<◌, Bool, Some, length, ap, rules, subst, sym, false, true}
 use Rattle.board_event_core.specs.EventTable.{changed}
 use Rattle.board_event_model.specs.declared.access.EventAccess.{EventAccess}
 use Rattle.board_event_model.specs.declared.call.EventProgress.{EventProgress}
@@ -7,10 +7,11 @@ use Rattle.board_event_model.specs.EventMemory.{after}
 use Rattle.script_model.specs.declared.reply.EventReply.{EventReply}
 use Rattle.script_model.specs.ScriptEvents.{end_told, is_for_all}
 use Rattle.script_events.specs.declared.step.Stepped.TheVariants as stepped
-use Rattle.script_events.specs.Calls.{StartsWord, reports}
+use Rattle.script_events.specs.Calls.{StartsWord}
 use Rattle.script_events.specs.PartyEvents.{event_call}
 use Rattle.script_events.proofs.Options.{anyway}
-use Rattle.script_events.proofs.Running.{reporting, same_many, turn_words}
+use Rattle.script_events.proofs.Running.{same_many, turn_words}
+use Rattle.script_events.proofs.Steps.{gives_at}
 use Rattle.script_events.proofs.rows.Act.step.Goals as goal
 
 pub tell-requires : goal.tell-requires
@@ -34,8 +35,9 @@ returns-then-is_last-clause-told c =
 
 pub returns-in_err-tell-clause-memory : goal.returns-in_err-tell-clause-memory
 returns-in_err-tell-clause-memory c =
-    anyway c.from_residual.result _ (reporting (event_call c.args.self.now.call) c.step-step.result.answer
-    (subst (λ (p : EventProgress). reports p ≡ true) c.step-step.ensures.progress c.in_err-tell.ensures.memory))
+    let step = c.step-step.ensures in
+    anyway c.from_residual.result _ (gives_at c.args.events.now c.args.self.now.event (event_call c.args.self.now.call) c.step-step.result.access c.step-step.result.answer step.right step.owes
+    (subst (λ (p : EventProgress). 0 < length (reported p)) step.progress c.in_err-tell.ensures.memory))
 
 pub returns-in_err-tell-clause-events : goal.returns-in_err-tell-clause-events
 returns-in_err-tell-clause-events c =
