@@ -48,17 +48,17 @@ use Rattle.script_boards.proofs.OwedWords.{has_word, stands_at}
 -- ---- what a read owes
 
 -- the board of a read
-abbrev board_read : Request → ℕ
+abbrev pub board_read : Request → ℕ
 board_read (get f) = f.board
 board_read (fresh l) = l.board
 board_read q = 0
 
 -- the read of a running call
-record IsReadStep (q : Request) (so_far : List Access) (x : OwedRead) : Type 0 where
+pub record IsReadStep (q : Request) (so_far : List Access) (x : OwedRead) : Type 0 where
   pub next : to_read x.board x.word ≡ owed q so_far
   pub board : x.board ≡ board_read q
 
-read_step : (t : Task) (r : Running) (x : OwedRead) → IsTaskOf t r.request r.so_far → IsOwedBy t (owed_access.Read x) → IsReadStep r.request r.so_far x
+pub read_step : (t : Task) (r : Running) (x : OwedRead) → IsTaskOf t r.request r.so_far → IsOwedBy t (owed_access.Read x) → IsReadStep r.request r.so_far x
 read_step (task.Table t) r x h o = absurd o
 read_step (task.Get board call type name) r x h o =
     let f = h.fetch in
@@ -140,6 +140,10 @@ module _ {C : Type 0} (m : BoardMachine C) (s : State) (rep : Represents m s) (s
   pub task_has_read : HasWord m.domain x.board x.word
   task_has_read = has_word m s rep sound x.board x.word stands inside
 
+  -- the word that is read is the one that stands
+  pub word_stands : (v : ℕ) → IsLoaded m.domain x.board x.word v → v ≡ get_or (s.memory x.board) x.word 0
+  word_stands v loaded = (let st = stands_at m s rep sound x.board stands in loaded st.place [] st.stands ∙ ap (λ (ws : List ℕ). get_or ws x.word 0) (st.words []))
+
   module _ (v : ℕ) (loaded : IsLoaded m.domain x.board x.word v) (boards : IsNumber x.board) (words : IsNumber x.word) (small : IsNumber v) (l : IsLine (line.Step party)) where
     abbrev made : Access
     made = access.Read x.board x.word v
@@ -149,9 +153,7 @@ module _ {C : Type 0} (m : BoardMachine C) (s : State) (rep : Represents m s) (s
 
     -- the word is the one that stands
     word : slice_get (s.memory x.board) x.word ≡ Some v
-    word =
-        let st = stands_at m s rep sound x.board stands in
-        slice_get-inside (s.memory x.board) x.word v inside (loaded st.place [] st.stands ∙ ap (λ (ws : List ℕ). get_or ws x.word 0) (st.words []))
+    word = slice_get-inside (s.memory x.board) x.word v inside (word_stands v loaded)
 
     taking : IsTaking s party at.r made
     taking = record { sound = sound; runs = at.runs; next = step.next; word = word }

@@ -1,14 +1,15 @@
 -- Steps that want memory take some.
 use Rattle.std.proofs.Common.{◌≡◌, ℕ, ◌+◌, Bool, true, false, List, length, refl, sym, ap, subst, ◌∙◌, Option, Some, None, inl, inr, ◌⊎◌}
-use Rattle.std.specs.Prelude.{◌==◌, is_none, is_some, OnErr, Result, Ok, Err}
+use Rattle.std.specs.Prelude.{◌==◌, is_none, is_some, slice_index, OnErr, Result, Ok, Err}
+use Rattle.board_layout.specs.declared.shape.CellShape.{CellShape}
 use Rattle.board_cell_model.specs.declared.access.Access.{Access}
-use Rattle.board_cell_model.specs.OwedAccesses.{Reading, finished, hear, is_finished, opening, trying}
+use Rattle.board_cell_model.specs.OwedAccesses.{Reading, finished, hear, is_finished, opening, owed_read, to_read, trying}
 use Rattle.board_model.specs.declared.answer.Reply.{Reply}
 use Rattle.board_model.specs.declared.answer.Reply.TheVariants as reply
 use Rattle.board_model.specs.declared.line.Line.{Line}
 use Rattle.board_model.specs.declared.line.Line.TheVariants as line
 use Rattle.board_model.specs.LawfulSession.{State, abandon_reason, reason_of, step_reason}
-use Rattle.board_model.specs.Parties.{Party, free, gone, reading, running}
+use Rattle.board_model.specs.Parties.{Party, Running, free, gone, owed, reading, running}
 use Rattle.board_model.specs.Replies.{ask, number_or}
 use Rattle.board_model.specs.Requests.{Fetch, Request}
 use Rattle.board_model.specs.Sound.{BoardTables}
@@ -22,10 +23,13 @@ use Rattle.script_boards.specs.declared.machine.TableTask.{TableTask}
 use Rattle.script_boards.specs.declared.machine.TableTask.TheVariants as table_task
 use Rattle.script_boards.specs.declared.machine.Task.{Task}
 use Rattle.script_boards.specs.declared.machine.Task.TheVariants as task
+use Rattle.script_boards.specs.declared.step.OwedAccess.TheVariants as owed_access
+use Rattle.script_boards.specs.declared.step.OwedRead.{OwedRead}
 use Rattle.script_boards.specs.Machine.{IsTableTask, IsTaskOf, tables_of}
-use Rattle.script_boards.specs.Steps.{CanGoOn, ends_call, ticked}
+use Rattle.script_boards.specs.Steps.{CanGoOn, IsOwedBy, ends_call, ticked}
 use Rattle.script_boards.specs.TaskWants.{TaskMayWant, keeps_value}
-use Rattle.script_boards.specs.Wants.{is_free, is_number, may_finish, next_takes, step_takes, takes_memory}
+use Rattle.script_boards.specs.Wants.{ends_next, is_free, is_number, next_takes, step_takes, takes_memory}
+use Rattle.script_boards.proofs.ReadSteps.{board_read, read_step}
 
 -- ---- calls on the tables
 
@@ -35,7 +39,7 @@ number_told {E} error o n after before e = subst (λ (p : Option E). is_number (
 
 module _ {C : Type 0} (mid : BoardMachine C) (s : State) (tables : s.standing.tables ≡ tables_of mid) (party : List ℕ) (so_far : List Access) where
   abbrev Takes : Request → Type 0
-  Takes q = next_takes q so_far (ask s.standing s.published party q).reply ≡ true
+  Takes q = next_takes s.memory q so_far (ask s.standing s.published party q).reply ≡ true
 
   -- the tables of the machine are those of the state
   abbrev here : BoardTables → Parties
@@ -96,32 +100,39 @@ either : (b : Bool) → (b ≡ true) ⊎ (b ≡ false)
 either true = inl refl
 either false = inr refl
 
--- a get that is finished by a word had all words of its try
-finishes : (w : ℕ) (r : Reading) (v : ℕ) → is_finished r ≡ false → is_finished (hear w r v) ≡ true → may_finish w r ≡ true
-finishes w opening v h k = wrong k
-finishes w (trying c words) v h k = elim (either (length words == w)) [
-  | inl f ↦ f
+-- a get that is finished by a word had all words of its try, and hears the counter as it was
+finishes : (c : CellShape) (memory : List ℕ) (y : Reading) (board on word v : ℕ) → to_read on word ≡ owed_read board c y → v ≡ slice_index memory word → is_finished y ≡ false → is_finished (hear c.words y v) ≡ true → ends_next c memory y ≡ true
+finishes c memory opening board on word v next stands h k = wrong k
+finishes c memory (trying counter words) board on word v next stands h k = elim (either (length words == c.words)) [
+  | inl f ↦ elim (either (v == counter)) [
+    | inl g ↦ (let e : to_read on word ≡ to_read board c.first = rw f at next in let first : word ≡ c.first = cc in let there : slice_index memory c.first ≡ v = sym (stands ∙ ap (λ (n : ℕ). slice_index memory n) first) in rw (f, there) g)
+    | inr g ↦ wrong (rw (f, g) at k)
+  ]
   | inr f ↦ wrong (rw f at k)
 ]
-finishes w (finished c words) v h k = wrong (sym h)
+finishes c memory (finished counter words) board on word v next stands h k = wrong (sym h)
 
 -- the last step of a get takes memory where its value is kept
-pub get_takes : (told : Reply) (q : Request) (so_far : List Access) (t : Task) (v : ℕ) → IsTaskOf t q so_far → keeps_value (ticked t v) ≡ true → CanGoOn t → ends_call t v ≡ true → next_takes q so_far told ≡ true
-get_takes told q so_far (task.Table t) v is keeps goes ends = wrong keeps
-get_takes told q so_far (task.Get board call type name) v is keeps goes ends =
+pub get_takes : (memory : ℕ → List ℕ) (told : Reply) (r : Running) (t : Task) (x : OwedRead) (v : ℕ) → IsTaskOf t r.request r.so_far → IsOwedBy t (owed_access.Read x) → v ≡ slice_index (memory x.board) x.word → keeps_value (ticked t v) ≡ true → CanGoOn t → ends_call t v ≡ true
+    → next_takes memory r.request r.so_far told ≡ true
+get_takes memory told r (task.Table t) x v is o word keeps goes ends = wrong keeps
+get_takes memory told r (task.Get board call type name) x v is o word keeps goes ends =
     let f : Fetch = is.fetch in
-    let w = f.shape.words in
-    let r = reading w so_far in
+    let y = reading f.shape.words r.so_far in
+    let h = read_step (task.Get board call type name) r x is o in
+    let next : to_read x.board x.word ≡ owed_read f.board f.shape y = h.next ∙ ap (λ (q : Request). owed q r.so_far) is.request in
+    let on : x.board ≡ f.board = h.board ∙ ap board_read is.request in
+    let stands : v ≡ slice_index (memory f.board) x.word = word ∙ ap (λ (n : ℕ). slice_index (memory n) x.word) on in
     let named : is_some f.name ≡ true = ap (λ (n : Option (List ℕ)). is_some n) (sym is.name_is) ∙ keeps in
-    let runs : is_finished r ≡ false = rw is.call_is at goes in
-    let last : is_finished (hear w r v) ≡ true = rw is.call_is at ends in
-    subst (λ (p : Request). next_takes p so_far told ≡ true) (sym is.request) (rw (named, finishes w r v runs last) refl)
-get_takes told q so_far (task.Fresh board call) v is keeps goes ends = wrong keeps
-get_takes told q so_far (task.Update board call) v is keeps goes ends = wrong keeps
-get_takes told q so_far (task.Put board call loan index word) v is keeps goes ends = wrong keeps
-get_takes told q so_far (task.Publish board call loan handle) v is keeps goes ends = wrong keeps
-get_takes told q so_far (task.Fill board call loan handle) v is keeps goes ends = wrong keeps
-get_takes told q so_far task.Gone v is keeps goes ends = wrong keeps
+    let runs : is_finished y ≡ false = rw is.call_is at goes in
+    let last : is_finished (hear f.shape.words y v) ≡ true = rw is.call_is at ends in
+    subst (λ (p : Request). next_takes memory p r.so_far told ≡ true) (sym is.request) (rw (named, finishes f.shape (memory f.board) y f.board x.board x.word v next stands runs last) refl)
+get_takes memory told r (task.Fresh board call) x v is o word keeps goes ends = wrong keeps
+get_takes memory told r (task.Update board call) x v is o word keeps goes ends = wrong keeps
+get_takes memory told r (task.Put board call loan index word) x v is o at keeps goes ends = wrong keeps
+get_takes memory told r (task.Publish board call loan handle) x v is o word keeps goes ends = wrong keeps
+get_takes memory told r (task.Fill board call loan handle) x v is o word keeps goes ends = wrong keeps
+get_takes memory told r task.Gone x v is o word keeps goes ends = wrong keeps
 
 -- ---- a line that takes memory isn't refused
 

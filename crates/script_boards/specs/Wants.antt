@@ -1,5 +1,6 @@
 -- Which lines take memory. No other line may want any: none that is refused, no drop, and no step that only reads or writes a word.
-use Rattle.std.specs.Prelude.{◌≡◌, ℕ, Bool, true, false, ◌&&◌, ◌==◌, List, length, is_none, is_some}
+use Rattle.std.specs.Prelude.{◌≡◌, ℕ, Bool, true, false, ◌&&◌, ◌==◌, List, length, is_none, is_some, slice_index}
+use Rattle.board_layout.specs.declared.shape.CellShape.{CellShape}
 use Rattle.board_cell_model.specs.declared.access.Access.{Access}
 use Rattle.board_cell_model.specs.OwedAccesses.{Reading, finished, opening, trying}
 use Rattle.board_model.specs.declared.answer.Reply.{Reply}
@@ -34,26 +35,26 @@ table_takes (info x) told = true
 table_takes (id x) told = false
 table_takes (gen x) told = false
 
--- the next word may be the last of a get: its try has all of its words
-abbrev pub may_finish : ℕ → Reading → Bool
-may_finish w opening = false
-may_finish w (trying c words) = length words == w
-may_finish w (finished c words) = false
+-- a get ends with its next word, over these words of its board: its try has all of its words, and the counter stands as it did at first
+abbrev pub ends_next : CellShape → List ℕ → Reading → Bool
+ends_next c memory opening = false
+ends_next c memory (trying counter words) = (length words == c.words) && (slice_index memory c.first == counter)
+ends_next c memory (finished counter words) = false
 
 -- the next step of a call that is told so takes memory: a call on the tables, or the last step of a get that keeps its value
-abbrev pub next_takes : Request → List Access → Reply → Bool
-next_takes (table c) so_far told = table_takes c told
-next_takes (get f) so_far told = is_some f.name && may_finish f.shape.words (reading f.shape.words so_far)
-next_takes (fresh l) so_far told = false
-next_takes (update u) so_far told = false
-next_takes (put l i w) so_far told = false
-next_takes (publish l) so_far told = false
-next_takes (fill l v) so_far told = false
+abbrev pub next_takes : (ℕ → List ℕ) → Request → List Access → Reply → Bool
+next_takes memory (table c) so_far told = table_takes c told
+next_takes memory (get f) so_far told = is_some f.name && ends_next f.shape (memory f.board) (reading f.shape.words so_far)
+next_takes memory (fresh l) so_far told = false
+next_takes memory (update u) so_far told = false
+next_takes memory (put l i w) so_far told = false
+next_takes memory (publish l) so_far told = false
+next_takes memory (fill l v) so_far told = false
 
 -- the step of a party takes memory
 abbrev pub step_takes : State → List ℕ → Party → Bool
 step_takes s party free = false
-step_takes s party (running r) = next_takes r.request r.so_far (ask s.standing s.published party r.request).reply
+step_takes s party (running r) = next_takes s.memory r.request r.so_far (ask s.standing s.published party r.request).reply
 step_takes s party gone = false
 
 -- the party runs no call, and isn't gone

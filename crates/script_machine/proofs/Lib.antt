@@ -2,7 +2,6 @@ pub mod CounterLemmas
 pub mod Sessions
 pub mod Turns
 pub mod Wants
-mod Reports
 pub mod ShortSteps
 pub mod StepsOnBoards
 pub mod BytesWant

@@ -1,11 +1,6 @@
 -- A step that takes no memory tells no list.
 use Rattle.std.proofs.Common.{◌≡◌, ℕ, ◌≤◌, Bool, true, false, List, length, arith, refl, sym, subst, ◌∙◌, Option, Some, None, inl, inr}
-use Rattle.std.specs.Prelude.{◌⊎◌, if◌then◌else◌, is_some, IfSome, IsSomeAnd, Result, Ok, Err}
-use Rattle.board_event_model.specs.declared.call.EventProgress.{EventProgress}
-use Rattle.board_event_model.specs.declared.call.EventProgress.TheVariants as progress
-use Rattle.board_event_model.specs.EventCalls.{RunningCall, call_of, owed, turn}
-use Rattle.board_event_model.specs.EventMemory.{Event}
-use Rattle.board_event_model.specs.EventSessions.{PartyCall, event_of}
+use Rattle.std.specs.Prelude.{◌⊎◌, IfSome, Result, Ok, Err}
 use Rattle.board_model.specs.declared.answer.Answer.{Answer}
 use Rattle.board_model.specs.declared.answer.Answer.TheVariants as answer
 use Rattle.board_model.specs.declared.answer.Reply.{Reply}
@@ -16,20 +11,12 @@ use Rattle.board_model.specs.declared.value.ValueType.TheVariants as type
 use Rattle.board_model.specs.LawfulSession.{IsOwedStep, IsRight, IsToldStep, State, reason_of}
 use Rattle.board_model.specs.Parties.{Party, Running, free, gone, running}
 use Rattle.board_model.specs.Replies.{ask, latest, number_or}
-use Rattle.board_model.specs.Requests.{Fetch, Request, and_then, create, discard, entry, entry_mut, fill, fresh, gen, get, id, info, keys, loan, nodes, open_, publish, put, reader, table, update, writer}
+use Rattle.board_model.specs.Requests.{Fetch, Request, create, discard, entry, entry_mut, fill, fresh, gen, get, id, info, keys, loan, nodes, open_, publish, put, reader, table, update, writer}
 use Rattle.board_model.specs.Sound.{IsCalling, IsParty, Sound}
 use Rattle.board_model.specs.TypeTable.{word_count}
 use Rattle.script_boards.specs.Wants.{next_takes, step_takes, takes_memory}
-use Rattle.script_events.specs.Calls.{reports}
-use Rattle.script_events.specs.PartyEvents.{StepTakes, may_give}
-use Rattle.script_machine.proofs.Reports.{reporting}
-use Rattle.script_lengths.specs.ShortAnswers.{IsShortAnswer, IsShortOnEvents, IsShortReply, IsShortScriptAnswer}
-use Rattle.script_model.specs.declared.reply.EventReply.TheVariants as event_reply
-use Rattle.script_model.specs.ScriptAnswers.{ScriptAnswer}
-use Rattle.script_model.specs.ScriptEvents.{EventAsk, IsEventAccess, IsStepOf, ScriptEvents, ask_told, opened_told, step_told, to_listen, to_notify}
+use Rattle.script_lengths.specs.ShortAnswers.{IsShortAnswer, IsShortReply}
 use Rattle.script_machine.proofs.Wants.{short_by}
-
--- ---- boards
 
 few_words : (t : ValueType) → word_count t ≤ 4
 few_words type.Bool = omega arith
@@ -52,7 +39,7 @@ module _ (s : State) (sound : Sound s) (party : List ℕ) (r : Running) where
       let typed = sound.boards.typed f.board f.entry e k.place.found in
       omega (arith, cell.size, typed.words, few_words typed.type)
 
-  asked_short : (q : Request) → IsCalling s party r q → (next_takes q r.so_far (told_by q) ≡ true → ⊥) → IsShortReply (told_by q)
+  asked_short : (q : Request) → IsCalling s party r q → (next_takes s.memory q r.so_far (told_by q) ≡ true → ⊥) → IsShortReply (told_by q)
   asked_short (table (create f n k limits attributes entries)) h stays = number_short (λ e. reply.CreateError e) _ (λ e. tt)
   asked_short (table (open_ f n k limits needs)) h stays = number_short (λ e. reply.OpenError e) _ (λ e. tt)
   asked_short (table (reader n x)) h stays = number_short (λ e. reply.ReaderError e) _ (λ e. tt)
@@ -101,36 +88,3 @@ step_wants s party a sound right long = elim (test (takes_memory s (board_line.S
   | inl takes ↦ takes
   | inr not ↦ absurd (long (step_short s party a sound right (λ takes. (let e : true ≡ false = sym takes ∙ not in absurd cc))))
 ]
-
--- ---- events
-
-ask_short : (x : ScriptEvents) (q : EventAsk) → IsShortOnEvents (ask_told x q)
-ask_short x (to_listen name k event max) = elim (is_some (x.names k event)) as (λ b. IsShortOnEvents (if b then event_reply.AlreadyExists else event_reply.Done)) [ true ↦ tt | false ↦ tt ]
-ask_short x (to_notify name k event) = opened (and_then (x.names k event) (event_of x.session.stands))
-  where
-    opened : (o : Option Event) → IsShortOnEvents (opened_told o)
-    opened None = tt
-    opened (Some e) = elim e.held as (λ b. IsShortOnEvents (if b then event_reply.Done else event_reply.DoesNotExist)) [ true ↦ tt | false ↦ tt ]
-
--- a call is told ids only where its last access reports some
-ids_short : (r : RunningCall) (p : EventProgress) → reports p ≡ false → IfSome (step_told r p) IsShortOnEvents
-ids_short r progress.More e = tt
-ids_short r progress.Waiting e = tt
-ids_short r (progress.Took base bits last) e = absurd cc
-ids_short r (progress.Id i last) e = absurd cc
-ids_short r progress.Notified e = tt
-ids_short r (progress.Refused why) e = tt
-ids_short r progress.Nothing e = tt
-
--- a step on events whose answer isn't short takes memory
-pub event_step_wants : (x : ScriptEvents) (q : Option EventAsk) (d : Option PartyCall) (a : ScriptAnswer) → IsStepOf x q d a → (IsShortScriptAnswer a → ⊥) → StepTakes x q d
-event_step_wants x (Some q) d a h long = absurd (long (subst IsShortScriptAnswer (sym h) (ask_short x q)))
-event_step_wants x None None a h long = absurd h
-event_step_wants x None (Some d) a h long = at (event_of x.session.stands d.on) h
-  where
-    at : (o : Option Event) → IsSomeAnd o (λ e. IsEventAccess e d.call a) → may_give (owed (call_of d.call)) ≡ true
-    at None k = absurd k
-    at (Some e) k = elim (test (reports (turn (call_of d.call) k.answer).0)) [
-      | inl gives ↦ reporting (call_of d.call) k.answer gives
-      | inr none ↦ absurd (long (subst IsShortScriptAnswer (sym k.printed) (ids_short d.call (turn (call_of d.call) k.answer).0 none)))
-    ]

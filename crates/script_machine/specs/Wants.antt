@@ -1,17 +1,19 @@
 -- Which lines of a script take memory. No other line wants any, where there is room for its answer.
 use Rattle.std.specs.Prelude.{◌≡◌, ◌⊎◌, ℕ, ◌+◌, ◌<◌, ◌≤◌, Bool, true, false, List, Option, Some, None, length, vec_capacity, vec_len}
 use Rattle.std.specs.Global.{Vec}
+use Rattle.board_event_model.specs.EventSessions.{PartyCall}
 use Rattle.board_model.specs.declared.answer.Reason.{Reason}
 use Rattle.board_model.specs.declared.line.Line.{Line}
 use Rattle.board_model.specs.declared.line.Line.TheVariants as board_line
 use Rattle.board_model.specs.LawfulSession.{reason_of}
 use Rattle.script_boards.specs.Wants as boards
 use Rattle.script_events.specs.PartyEvents.{StepTakes, refusal_of}
+use Rattle.script_lengths.specs.ShortAnswers.{IsShortScriptAnswer}
 use Rattle.script_loop.specs.Machines.{short_room}
 use Rattle.script_model.specs.declared.line.ScriptLine.{ScriptLine}
 use Rattle.script_model.specs.declared.line.ScriptLine.TheVariants as line
 use Rattle.script_model.specs.ScriptAnswers.{ScriptAnswer, script_answer_line}
-use Rattle.script_model.specs.ScriptEvents.{runs_on_events}
+use Rattle.script_model.specs.ScriptEvents.{EventAsk, IsStepOf, ScriptEvents, runs_on_events}
 use Rattle.script_model.specs.ScriptGrammar.{SpellsLine}
 use Rattle.script_model.specs.ScriptSession.{IsRight, Session, start, state_after}
 use Rattle.script_model.specs.ScriptTurns.{EventTurn, ScriptState, turn_of}
@@ -29,9 +31,15 @@ refusal_at s (line.Expire party) None = None
 abbrev pub refusal : ScriptState → ScriptLine → Option Reason
 refusal s l = refusal_at s l (turn_of s l)
 
--- a step takes memory: on events where it makes a listener or notifier or may be given ids, and else where the boards' does
+-- the right answer to a step on events tells a list of ids
+pub record TellsIds (x : ScriptEvents) (q : Option EventAsk) (d : Option PartyCall) : Type 0 where
+  pub answer : ScriptAnswer
+  pub right : IsStepOf x q d answer
+  pub list : IsShortScriptAnswer answer → ⊥
+
+-- a step takes memory: on events where it makes a listener or notifier, is given ids or tells those that were given, and else where the boards' does
 abbrev pub StepTakesAt : Bool → ScriptState → List ℕ → Type 0
-StepTakesAt true s party = StepTakes s.events (s.events.asked party) (s.events.session.doing party)
+StepTakesAt true s party = (let q = s.events.asked party in let d = s.events.session.doing party in StepTakes s.events q d ⊎ TellsIds s.events q d)
 StepTakesAt false s party = boards.takes_memory s.boards (board_line.Step party) ≡ true
 
 -- a line of boards takes memory: no drop does, nor an abandonment of a party whose call on boards runs, nor a line that is refused

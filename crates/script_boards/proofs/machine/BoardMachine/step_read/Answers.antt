@@ -8,7 +8,7 @@ use Rattle.script_boards.specs.Steps.{HasRead}
 use Rattle.script_boards.specs.TaskWants.{keeps_value}
 use Rattle.script_boards.proofs.OwedTasks.{can_go_on, has_read, heard_last, heard_more, owed_runs}
 use Rattle.script_boards.proofs.OwedWords.{task_goes_on}
-use Rattle.script_boards.proofs.ReadSteps.{read_ends, read_goes_on, task_has_read}
+use Rattle.script_boards.proofs.ReadSteps.{read_ends, read_goes_on, task_has_read, word_stands}
 use Rattle.script_boards.proofs.StepWants.{anyway, get_takes}
 use Rattle.script_boards.proofs.machine.BoardMachine.step_read.Goals as goal
 
@@ -94,4 +94,5 @@ returns-in_err-told-in-Some-clause-memory g c =
     anyway c.from_residual.result _ (λ s rep reached.
     let runs = owed_runs m party o owes s rep in
     rw runs.runs
-    (get_takes (ask s.standing s.published party runs.r.request).reply runs.r.request runs.r.so_far owes.task v runs.task keeps (task_goes_on s reached.sound party owes.task runs) ends.last))
+    (get_takes s.memory (ask s.standing s.published party runs.r.request).reply runs.r owes.task c.args.read v runs.task owes.owes
+    (word_stands m s rep reached.sound party owes.task runs c.args.read owes.owes v c.read_word-value.ensures.value) keeps (task_goes_on s reached.sound party owes.task runs) ends.last))

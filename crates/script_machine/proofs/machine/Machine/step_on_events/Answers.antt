@@ -1,4 +1,4 @@
-use Rattle.std.proofs.Common.{◌≡◌, ℕ, true, ap, subst, ◌∙◌, List, ◌++◌, Option}
+use Rattle.std.proofs.Common.{◌≡◌, ℕ, true, ap, subst, ◌∙◌, List, ◌++◌, Option, inl, inr}
 use Rattle.std.specs.Prelude.{OnErr, option_map}
 use Rattle.script_model.specs.declared.reply.EventReply.{EventReply}
 use Rattle.board_model.specs.declared.line.Line.TheVariants as board_line
@@ -15,7 +15,6 @@ use Rattle.script_model.proofs.RuleLemmas.{right_on_events}
 use Rattle.script_machine.proofs.Turns.{from_nothing, step_taken, told_turn}
 use Rattle.script_print.specs.Room.{LacksRoomFor}
 use Rattle.script_machine.specs.ScriptMachine.{IsReached, Represents}
-use Rattle.script_machine.proofs.ShortSteps.{event_step_wants}
 use Rattle.script_machine.proofs.Wants.{step_takes_at, takes_anyway, told_wants}
 use Rattle.script_machine.proofs.machine.Machine.step_on_events.Goals as goal
 
@@ -50,7 +49,7 @@ pub returns-in_err-reply-clause-memory : goal.returns-in_err-reply-clause-memory
 returns-in_err-reply-clause-memory g c =
     takes_anyway c.from_residual.result c.args.self.now (line.Board (board_line.Step c.args.party.now)) c.args.out.now (λ s count rep reached.
     let runs : runs_on_events s.events c.args.party.now ≡ true = c.requires.runs s.events count reached.few reached.sound.events rep.events in
-    step_takes_at s c.args.party.now true runs (c.in_err-reply.ensures.memory s.events count reached.few reached.sound.events rep.events))
+    step_takes_at s c.args.party.now true runs (inl (c.in_err-reply.ensures.memory s.events count reached.few reached.sound.events rep.events)))
 
 pub returns-in-Asked-clause-memory : goal.returns-in-Asked-clause-memory
 returns-in-Asked-clause-memory g c =
@@ -65,7 +64,7 @@ returns-in-Asked-clause-memory g c =
     right_on_events s (line.Board (board_line.Step p)) (steps p) (of_ask c.in-Asked.reply) (step_taken s p runs) c.requires.line right (step_formed_so s (line.Board (board_line.Step p)) count p _ reached.sound reached.few right))
     (λ s count rep reached long.
     step_takes_at s p true (c.requires.runs s.events count reached.few reached.sound.events rep.events)
-    (event_step_wants s.events (s.events.asked p) (s.events.session.doing p) _ (shown s count rep reached).right long))
+    (inr (record { answer = _; right = (shown s count rep reached).right; list = long })))
 
 pub returns-in-Acted-clause-memory : goal.returns-in-Acted-clause-memory
 returns-in-Acted-clause-memory g c =
@@ -84,4 +83,4 @@ returns-in-Acted-clause-memory g c =
     right_on_events s (line.Board (board_line.Step p)) (steps p) (of_event c.kind_of.result c.name_of.result.now c.in-Acted.access c.in-Acted.answer c.in-Acted.told) (step_taken s p runs) c.requires.line right (step_formed_so s (line.Board (board_line.Step p)) count p _ reached.sound reached.few right))
     (λ s count rep reached long.
     step_takes_at s p true (c.requires.runs s.events count reached.few reached.sound.events rep.events)
-    (event_step_wants s.events (s.events.asked p) (s.events.session.doing p) _ (shown s count rep reached).right long))
+    (inr (record { answer = _; right = (shown s count rep reached).right; list = long })))
