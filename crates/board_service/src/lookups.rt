@@ -104,5 +104,5 @@ fn entry_with<'a, K: BoardKey>(key: &K, board: &'a BoardRow) -> Option<(u64, &'a
         board.now.entries }
     ensures inside { IfSome result (λ f. f.0 < length board.now.entries) }
 {
-    entry_from::<K>(key, board.entries.as_slice())
+    entry_from::<K>(key, board.entries())
 }

@@ -415,7 +415,7 @@ impl<C: BoardWords + Drop> PartyDomain<C> {
             self.core.use_of(board),
         ) {
             (Some(name), Some(config), Some(attributes), Some(taken)) => Ok(Info {
-                name: LongName::new(self.alloc, name_text(name))?,
+                name: LongName::new(self.alloc, name_text(&name))?,
                 key_type: key_type_of(&config.type_details),
                 max_readers: config.max_readers,
                 max_nodes: config.max_nodes,
