@@ -23,7 +23,7 @@ returns g c =
       writers = λ n. writers-same (party_at d.nodes.keys) n ts xs same;
       nodes = λ n. nodes-same d.nodes.keys n ts xs h.parties h.holders same;
     } in
-    info_told xs ts (tables.board_at d.core.tables c.args.board) in_all.name.now in_all.config in_all.attributes.now in_all.taken alike
+    info_told xs ts (tables.board_at d.core.tables c.args.board) in_all.name in_all.config in_all.attributes.now in_all.taken alike
     (record { name_is = in_all.ensures; config_is = in_all.ensures'; attributes_are = in_all.ensures''; taken_is = in_all.ensures''' })
     named.field-0 c.key_type_of.result c.len.result (named.ensures ∙ c.name_text.ensures) c.key_type_of.ensures c.len.ensures.value
     ∙ ap (λ (p : Parties). replies.info_of p.tables.things (tables.board_at p.tables c.args.board)) c.self.view_is
