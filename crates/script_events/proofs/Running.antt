@@ -13,7 +13,7 @@ use Rattle.board_event_model.specs.declared.call.WaitStage.{WaitStage}
 use Rattle.board_event_model.specs.declared.call.WaitStage.TheVariants as wait
 use Rattle.board_event_model.specs.EventMemory.{CanPerform, Event, is_bits}
 use Rattle.board_event_model.specs.NotifyCalls.{Notify, is_yes, notify_turn, pushed}
-use Rattle.board_event_model.specs.WaitCalls.{Wait, first_word, is_try, nothing, popped, wait_owed, wait_turn, word_in}
+use Rattle.board_event_model.specs.WaitCalls.{Wait, first_word, is_try, nothing, popped, wait_turn, word_in}
 use Rattle.board_event_model.specs.EventCalls.{EventCall, a_notify, a_wait, is_last, owed, turn, PartyName, RunningCall, call_of, new_call, went_on}
 use Rattle.board_event_model.specs.EventRuns.{EventMove, IsAllowed, IsCallOf, IsReached, IsRun, Moment, abandon, begin, elsewhere, expire, listened, moved, notifiers, put, release_listener, run_to, step, stepped}
 use Rattle.board_event_model.specs.EventSessions.{EventSession, PartyCall, SessionAccess, StandingEvent, history_on, running_on, view}

@@ -1,5 +1,5 @@
 -- What the parts of a call do. No clause of a public call cites what follows.
-use Rattle.std.specs.Prelude.{◌≡◌, ◌≢◌, ℕ, ◌+◌, ◌-◌, ◌*◌, ◌<◌, ◌^◌, Bool, true, false, not, ◌&&◌, ◌==◌, if◌then◌else◌, List, [], ◌∷◌, ◌++◌, Option, Some, None, is_some, IsSomeAnd, IsSome, Result, Ok, Err, ⊤}
+use Rattle.std.specs.Prelude.{◌≡◌, ◌≢◌, ℕ, ◌+◌, ◌-◌, ◌*◌, ◌<◌, ◌^◌, Bool, false, not, ◌&&◌, ◌==◌, if◌then◌else◌, List, [], ◌∷◌, ◌++◌, Option, Some, None, is_some, IsSomeAnd, IsSome, Result, Ok, Err, ⊤}
 use Rattle.std.specs.Int.{bit_at}
 use Rattle.board_event_model.specs.declared.call.EventProgress.{EventProgress}
 use Rattle.board_event_model.specs.declared.call.EventProgress.TheVariants as progress
