@@ -1,0 +1,10 @@
+//! The tests of the lowest crates, by their public names alone: plans, keys and details, names and how they are spelled,
+//! and cells, in one thread and between threads.
+#![tactic(auto)]
+
+#[cfg(test)]
+mod cell;
+#[cfg(test)]
+mod layout;
+#[cfg(test)]
+mod names;
