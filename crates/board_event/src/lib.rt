@@ -30,8 +30,6 @@ mod notifier_builder;
 mod patience;
 mod registry;
 mod taking;
-#[cfg(test)]
-mod tests;
 
 pub use board_event_core::{
     BitSet, EventAccess, EventAnswer, EventId, EventKind, EventProgress, EventStep, Events,

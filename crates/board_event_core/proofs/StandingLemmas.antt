@@ -20,9 +20,7 @@ use Rattle.board_event_model.specs.declared.kind.EventKind.TheVariants as kind
 use Rattle.board_event_model.specs.declared.access.EventAccess.{EventAccess}
 use Rattle.board_event_model.specs.declared.access.EventAccess.TheVariants as access
 use Rattle.board_event_model.specs.EventMemory.{Event, after, holds_name, has_holder, new_event}
-use Rattle.board_event_model.proofs.QuietLemmas.{ltb_true}
-use Rattle.board_event_model.proofs.SetLemmas.{is_false}
-use Rattle.board_event_core.specs.EventTable.{AreLeft, DropsEvent, DropsEventOf, EventTable, FreesName, FreesNameOf, freed, HoldsName, IsAttended, IsEvent, IsKept, LosesName, changed, event_at, table_listened, named_with, names_of, settled, settled_with, with_event, with_gone, with_names, with_notifier, without_event, without_listener, without_name}
+use Rattle.board_event_core.specs.EventTable.{AreLeft, DropsEvent, DropsEventOf, EventTable, FreesName, FreesNameOf, freed, HoldsName, IsAttended, IsEvent, IsKept, LosesName, changed, event_at, table_listened, named_with, names_of, settled, settled_with, with_event, with_gone, with_names, with_notifier, without_event, without_name}
 use Rattle.board_event_core.proofs.EventLemmas.{IsAttended-new_event, IsEvent-new_event}
 
 -- ---- equal keys
@@ -487,36 +485,3 @@ drops_event t s u n f some changed_is dropped = by (event_at t n) refl
         let s_is : s ≡ with_event t n (f e) = (rw (h, changed) at changed_is) in
         let there : event_at s n ≡ Some (f e) = rw s_is (here-with_event t n e (f e) h) in
         (rw there at dropped)
-
--- ---- what a caller knows of a table that it is lent
-
--- an event without a notifier has its listener
-pub listens_alone : (t : EventTable) (n : ℕ) → IsKept t → IsSome (event_at t n) → ¬ IsSomeAnd (event_at t n) (λ e. 0 < e.notifiers) → IsSomeAnd (event_at t n) (λ e. e.held ≡ true)
-listens_alone t n table some none = by (event_at t n) (table.attended n) some none
-  where
-    held_by : (held : Bool) (n : ℕ) → held || nat_lt 0 n ≡ true → ¬ (0 < n) → held ≡ true
-    held_by true n holds none = refl
-    held_by false n holds none = absurd (none (grind arith))
-
-    by : (o : Option Event) → IfSome o IsAttended → IsSome o → ¬ IsSomeAnd o (λ e. 0 < e.notifiers) → IsSomeAnd o (λ e. e.held ≡ true)
-    by None held found none = absurd (cc found)
-    by (Some e) held found none = held_by e.held e.notifiers held.holder none
-
--- and where it is let go, nothing stands
-pub alone_goes : (t u : EventTable) (n : ℕ) → ¬ IsSomeAnd (event_at t n) (λ e. 0 < e.notifiers) → DropsEventOf t u n without_listener → event_at u n ≡ None
-alone_goes t u n none dropped = by (event_at t n) none dropped
-  where
-    unheld : (n : ℕ) → ¬ (0 < n) → false || nat_lt 0 n ≡ false
-    unheld n none = is_false (nat_lt 0 n) (λ h. none (ltb_true 0 n h))
-
-    by : (o : Option Event) → ¬ IsSomeAnd o (λ e. 0 < e.notifiers) → IsSomeAnd o (λ e. DropsEvent u n (without_listener e)) → event_at u n ≡ None
-    by None none gone = absurd gone
-    by (Some e) none gone = gone (unheld e.notifiers none)
-
--- where nobody holds it, none stands
-pub none_unheld : (t : EventTable) (n : ℕ) → IsKept t → ¬ IsSomeAnd (event_at t n) (λ e. e.held ≡ true) → ¬ IsSomeAnd (event_at t n) (λ e. 0 < e.notifiers) → event_at t n ≡ None
-none_unheld t n table no_listener no_notifier = by (event_at t n) refl
-  where
-    by : (o : Option Event) → event_at t n ≡ o → o ≡ None
-    by None h = refl
-    by (Some e) h = absurd (no_listener (listens_alone t n table (rw h refl) no_notifier))

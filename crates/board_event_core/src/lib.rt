@@ -34,6 +34,3 @@ pub use semaphore::Semaphore;
 pub use signal_mechanism::SignalMechanism;
 pub use steps::{EventStep, notify_step, pass_empty_words, wait_step};
 pub use wait_call::WaitCall;
-
-#[cfg(test)]
-mod tests;
