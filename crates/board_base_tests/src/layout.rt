@@ -152,7 +152,12 @@ fn keys_are_compared_by_their_type(rt: HostRuntime) -> Result<(), Fail> {
     Ok(())
 }
 
-fn prints<R: Abort, E: Display>(rt: &R, alloc: Global, error: &E, text: &str) -> Result<(), Fail> {
+pub(crate) fn prints<R: Abort, E: Display>(
+    rt: &R,
+    alloc: Global,
+    error: &E,
+    text: &str,
+) -> Result<(), Fail> {
     let printed = format!(in alloc; "{error}")?;
     assert_eq!(rt; printed.as_str(), text);
     Ok(())

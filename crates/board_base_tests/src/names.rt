@@ -1,4 +1,5 @@
 //! What is refused, how names are spelled, and what the errors print.
+use crate::layout::prints;
 use board_names::{
     ArcSyncPolicyCreationError, AttributeError, Base64Url, BlackboardCreateError,
     BlackboardOpenError, CommunicationChannelCreateError, CommunicationChannelOpenError,
@@ -13,10 +14,7 @@ use board_names::{
     SerializeError, ServiceName, StaticStorageCreateError, StaticStorageOpenError,
     StaticStorageReadError, StaticStorageUnlockError, TriggerId, WriterCreateError, path_and_back,
 };
-use std::alloc::Global;
 use std::collections::HashMap;
-use std::fmt::Display;
-use std::process::Abort;
 use std::test::Fail;
 
 const INVALID: Option<SemanticStringError> = Some(SemanticStringError::InvalidContent);
@@ -149,12 +147,6 @@ fn services_are_looked_up_by_name(rt: HostRuntime) -> Result<(), Fail> {
     ports.insert(ServiceName::new("door")?, 7)?;
     assert_eq!(rt; ports.get(&ServiceName::new("door")?).copied(), Some(7));
     assert_eq!(rt; ports.get(&ServiceName::new("wall")?).copied(), None);
-    Ok(())
-}
-
-fn prints<R: Abort, E: Display>(rt: &R, alloc: Global, error: &E, text: &str) -> Result<(), Fail> {
-    let printed = format!(in alloc; "{error}")?;
-    assert_eq!(rt; printed.as_str(), text);
     Ok(())
 }
 
