@@ -8,8 +8,7 @@ ghost use Rattle.board_domain.specs.Walks.{WalksTo, at_places, key_seen};
 use crate::callback_progression::CallbackProgression;
 use board_handles::BoardCells;
 use board_layout::{BoardKey, key_of};
-use board_model::Entry;
-use board_service::{DomainCore, NodeId};
+use board_service::{DomainCore, EntryRow, NodeId};
 
 /// Calls a callback with the first so many nodes of a board, ascending, until it says to stop.
 pub(crate) fn visit_nodes<F: FnMut(NodeId) -> CallbackProgression>(
@@ -37,7 +36,7 @@ pub(crate) fn visit_nodes<F: FnMut(NodeId) -> CallbackProgression>(
 
 /// Calls a callback with the keys of these entries, in their order, until it says to stop.
 pub(crate) fn visit_keys<K: BoardKey, F: FnMut(&K) -> CallbackProgression>(
-    entries: &[Entry],
+    entries: &[EntryRow],
     callback: &mut F,
 )
     requires size { K.SIZE ≤ 64 }

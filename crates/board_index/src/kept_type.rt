@@ -1,8 +1,9 @@
 //! A type, as it was told, by as many bytes as its name has.
 ghost use Rattle.std.specs.Prelude.{◌≡◌, IfOk};
+ghost use Rattle.board_layout.specs.Bytes.{details};
 ghost use Rattle.board_model.specs.TypeTable as types;
 
-use board_layout::{TypeDetail, TypeName, TypeVariant};
+use board_layout::{TypeDetail, TypeName, TypeVariant, ZeroCopySend};
 use board_model::same_variant;
 use std::alloc::{AllocError, Global};
 use std::marker::Model;
@@ -72,5 +73,15 @@ impl KeptType {
             && self.name.as_slice() == detail.type_name.as_bytes()
             && self.size == detail.size
             && self.alignment == detail.alignment
+    }
+
+    /// Whether it is the type `T`, of fixed size.
+    pub fn is_of<T: ZeroCopySend>(&self) -> bool
+        ensures { result ≡ types.same_type self.now (details T.type_bytes T.SIZE T.ALIGNMENT) }
+    {
+        same_variant(self.variant, TypeVariant::FixedSize)
+            && self.name.as_slice() == T::name_text().as_bytes()
+            && self.size == T::SIZE
+            && self.alignment == T::ALIGNMENT
     }
 }

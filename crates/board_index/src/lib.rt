@@ -6,15 +6,17 @@
 //! the maps give them. The maps hash by std's default hasher, whose seed is fixed: whoever chooses the names of boards can
 //! choose many that are hashed alike, and then a name is looked up as slowly as in a list of those, and found all the same.
 //! A board's row lies on the heap, and its name is a key by as many bytes as it has, since a map has more places than rows.
-//! In the row, too, a board's name and that of its key type have as many bytes as they need.
+//! In the row, too, a board's name and those of its types have as many bytes as they need.
 #![tactic(auto)]
 
 mod board_row;
 mod boards;
+mod entry_row;
 mod kept_type;
 mod new_board;
 
 pub use board_row::{BoardParts, BoardRow};
 pub use boards::Boards;
+pub use entry_row::EntryRow;
 pub use kept_type::KeptType;
 pub use new_board::NewBoard;

@@ -22,6 +22,7 @@ mod refusals;
 mod told;
 
 pub use add_error::AddError;
+pub use board_index::{EntryRow, KeptType};
 pub use board_model::{Limits, ThingKind, same_type};
 pub use cells::{BoardWords, Cells};
 pub use domain_core::DomainCore;

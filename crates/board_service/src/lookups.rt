@@ -6,9 +6,8 @@ ghost use Rattle.board_model.specs.Tables as tables;
 ghost use Rattle.board_model.specs.TypeTable as types;
 ghost use Rattle.board_service.specs.Facts.{entry_count};
 
-use board_index::{BoardRow, Boards};
+use board_index::{BoardRow, Boards, EntryRow};
 use board_layout::{BoardKey, TypeDetail, is_key};
-use board_model::{Entry, same_type};
 use board_things::Things;
 
 /// Whether the board has as many readers as it may have.
@@ -44,7 +43,7 @@ pub(crate) fn has_details<C>(board: u64, key: &TypeDetail, boards: &Boards<C>) -
     }
 }
 
-fn entry_from<'a, K: BoardKey>(key: &K, entries: &'a [Entry]) -> Option<(u64, &'a Entry)>
+fn entry_from<'a, K: BoardKey>(key: &K, entries: &'a [EntryRow]) -> Option<(u64, &'a EntryRow)>
     requires { K.SIZE ≤ 64 }
     ensures found { option_map (λ f. (f.0, f.1.now)) result
         ≡ tables.entry_from 0 (keys.is_key K.eq K.value_of K.SIZE K.WORDS key.now) entries.now }
@@ -58,15 +57,15 @@ fn entry_from<'a, K: BoardKey>(key: &K, entries: &'a [Entry]) -> Option<(u64, &'
     None
 }
 
-fn of_type<'a>(value: &TypeDetail, found: Option<(u64, &'a Entry)>) -> Option<(u64, &'a Entry)>
+fn of_type<'a>(value: &TypeDetail, found: Option<(u64, &'a EntryRow)>) -> Option<(u64, &'a EntryRow)>
     ensures same { option_map (λ f. (f.0, f.1.now)) result
         ≡ tables.of_type value.now (option_map (λ f. (f.0, f.1.now)) found.entry) }
     ensures one { IfSome result (λ f. found.entry ≡ Some f) }
 {
     match found {
-        Some(f) => {
-            if same_type(&f.1.value, value) {
-                Some(f)
+        Some((place, entry)) => {
+            if entry.value.is(value) {
+                Some((place, entry))
             } else {
                 None
             }
@@ -81,7 +80,7 @@ pub(crate) fn find_entry<'a, K: BoardKey, C>(
     key: &K,
     value: &TypeDetail,
     boards: &'a Boards<C>,
-) -> Option<(u64, &'a Entry)>
+) -> Option<(u64, &'a EntryRow)>
     requires { tables.holds_at (find (tables.is_numbered number) boards.now.boards)
         (λ b. types.same_type b.key (details K.type_bytes K.SIZE K.ALIGNMENT)) ≡ true }
     ensures found { option_map (λ f. (f.0, f.1.now)) result
@@ -97,7 +96,7 @@ pub(crate) fn find_entry<'a, K: BoardKey, C>(
 }
 
 // The entry of a board with the key, with its place.
-fn entry_with<'a, K: BoardKey>(key: &K, board: &'a BoardRow) -> Option<(u64, &'a Entry)>
+fn entry_with<'a, K: BoardKey>(key: &K, board: &'a BoardRow) -> Option<(u64, &'a EntryRow)>
     requires { types.same_type board.now.key (details K.type_bytes K.SIZE K.ALIGNMENT) ≡ true }
     ensures found { option_map (λ f. (f.0, f.1.now)) result
         ≡ tables.entry_from 0 (keys.is_key K.eq K.value_of K.SIZE K.WORDS key.now)

@@ -20,5 +20,6 @@ pub mod Shown
 pub mod StepRefusals
 pub mod StepWants
 pub mod TableSteps
+pub mod TypeLemmas
 pub mod WriteSteps
 pub mod HeldHandles

@@ -18,12 +18,12 @@ use crate::lookups::put_task;
 use crate::machine::{BoardMachine, TableTask, Task};
 use crate::not_begun::NotBegun;
 use board_model::{
-    AddedEntries, AddedEntry, Answer, Attributes, BoardName, Call, Entry, Key, KeyType, Kind,
-    Limits, Name, Reason, Requirements, ThingKind, Value, ValueType, same_key_type, same_type,
-    type_of, type_of_key, value_detail, value_type_of, value_words,
+    AddedEntries, AddedEntry, Answer, Attributes, BoardName, Call, Key, KeyType, Kind, Limits,
+    Name, Reason, Requirements, ThingKind, Value, ValueType, same_key_type, type_of, type_of_key,
+    value_words,
 };
 use board_ports::{CellShape, ReadCore, WriteCore};
-use board_service::BoardWords;
+use board_service::{BoardWords, EntryRow, KeptType};
 use script_parties::Held;
 use std::alloc::AllocError;
 
@@ -52,15 +52,39 @@ fn used(found: Option<Held>) -> Result<Held, Reason>
     found.ok_or(Reason::Unknown)
 }
 
+// The type of a script's values that is kept so.
+fn value_type_of(kept: &KeptType) -> ValueType
+    ensures { result ≡ types.value_type_of kept.now }
+{
+    if kept.is_of::<bool>() {
+        ValueType::Bool
+    } else if kept.is_of::<u64>() {
+        ValueType::U64
+    } else {
+        ValueType::Q4
+    }
+}
+
+// Whether values of the type are of an entry's.
+fn is_type_of(value_type: ValueType, entry: &EntryRow) -> bool
+    ensures { result ≡ types.same_type (types.value_detail value_type) entry.now.value }
+{
+    match value_type {
+        ValueType::Bool => entry.value.is_of::<bool>(),
+        ValueType::U64 => entry.value.is_of::<u64>(),
+        ValueType::Q4 => entry.value.is_of::<[u64; 4]>(),
+    }
+}
+
 /// Whether a value is of an entry's type.
-pub(crate) fn is_value_of(value: Value, entry: &Entry) -> bool
+pub(crate) fn is_value_of(value: Value, entry: &EntryRow) -> bool
     ensures { result ≡ types.same_type (types.value_detail (types.type_of value)) entry.now.value }
 {
-    same_type(&value_detail(type_of(value)), &entry.value)
+    is_type_of(type_of(value), entry)
 }
 
 // What a read handle of an entry knows.
-fn read_core(entry: &Entry) -> ReadCore
+fn read_core(entry: &EntryRow) -> ReadCore
     ensures { result.shape ≡ cell_shape entry.now.cell }
 {
     ReadCore {
@@ -70,7 +94,7 @@ fn read_core(entry: &Entry) -> ReadCore
 }
 
 /// What a write handle of an entry knows at this generation.
-pub(crate) fn write_core(entry: &Entry, generation: u64) -> WriteCore
+pub(crate) fn write_core(entry: &EntryRow, generation: u64) -> WriteCore
     ensures shape { result.shape ≡ cell_shape entry.now.cell }
     ensures generation { result.generation ≡ generation }
 {
@@ -129,7 +153,7 @@ impl<C: BoardWords + Drop> BoardMachine<C> {
     }
 
     /// The entry of a handle that a party holds.
-    pub(crate) fn entry_held(&self, handle: &Held) -> &Entry
+    pub(crate) fn entry_held(&self, handle: &Held) -> &EntryRow
         requires led { IsLed self.now }
         requires held { IsHandle self.now handle.now }
         ensures { tables.entry_at (tables_of self.now) handle.now.board
@@ -190,10 +214,7 @@ impl<C: BoardWords + Drop> BoardMachine<C> {
         let Some(kept) = self.value_of(party, value) else {
             return Err(NotBegun::Refused(Reason::Unknown));
         };
-        require(
-            same_type(&value_detail(kept.value_type), &entry.value),
-            Reason::Type,
-        )?;
+        require(is_type_of(kept.value_type, entry), Reason::Type)?;
         Ok(Task::Fresh {
             board: found.board,
             call: read_core(entry).fresh(kept.generation),

@@ -8,8 +8,8 @@ ghost use Rattle.board_model.specs.Tables.{holds_at};
 ghost use Rattle.script_parties.specs.BoardNodes.{AreHolders, is_told, node_count, node_party};
 ghost use Rattle.script_parties.specs.Overview.{key_shown};
 
-use board_model::{Entry, KeyType, Keys, Name, Names, key_of};
-use board_service::{BoardWords, DomainCore, NodeId};
+use board_model::{KeyType, Keys, Name, Names, key_of};
+use board_service::{BoardWords, DomainCore, EntryRow, NodeId};
 use indexmap::IndexSet;
 use std::alloc::{AllocError, Global};
 use std::collections::BTreeSet;
@@ -18,7 +18,7 @@ use std::collections::BTreeSet;
 pub(crate) fn keys_of(
     alloc: Global,
     key_type: KeyType,
-    entries: &[Entry],
+    entries: &[EntryRow],
 ) -> Result<Keys, AllocError>
     ensures { IfOk result (λ keys. keys ≡ map (key_shown key_type) entries.now) }
 {

@@ -21,11 +21,11 @@ use crate::named::NamedThings;
 use board_cell::Words;
 use board_layout::Text;
 use board_model::{
-    AddedEntries, Attributes, Entry, Info, Key, KeyType, Keys, Kind, Limits, LongName, Name, Names,
+    AddedEntries, Attributes, Info, Key, KeyType, Keys, Kind, Limits, LongName, Name, Names,
     NewLimits, Reply, Requirements, ThingKind, ValueType, key_detail, key_type_of, same_type,
     type_of_key,
 };
-use board_service::{BoardWords, DomainCore, ThingId};
+use board_service::{BoardWords, DomainCore, EntryRow, ThingId};
 use indexmap::IndexSet;
 use script_seats::Seat;
 use std::alloc::{AllocError, Global};
@@ -140,7 +140,7 @@ impl<C: BoardWords + Drop> PartyDomain<C> {
     }
 
     /// The entry of a board at a place.
-    pub fn entry_at(&self, board: u64, entry: u64) -> Option<&Entry>
+    pub fn entry_at(&self, board: u64, entry: u64) -> Option<&EntryRow>
         ensures { option_map (λ e. e.now) result ≡ tables.entry_at self.now.tables board entry }
     {
         match self.core.entries_of(board) {

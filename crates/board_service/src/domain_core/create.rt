@@ -23,7 +23,7 @@ use board_cell::CellError;
 use board_concepts::{AttributeSet, Description};
 use board_index::{BoardParts, NewBoard};
 use board_layout::{BoardKey, Plan, TypeDetail, TypeVariant};
-use board_model::{Entries, Kind, Limits, ThingKind};
+use board_model::{Kind, Limits, ThingKind};
 use board_names::{BlackboardCreateError, FilePath, NameTable, ServiceName};
 use board_store::Statics;
 use std::alloc::{AllocError, Global};
@@ -128,7 +128,7 @@ impl<C: Cells> DomainCore<C> {
             max_nodes: description.max_nodes,
             max_writers: description.max_writers,
             attributes: description.attributes,
-            entries: Entries::from_vec(kept),
+            entries: kept,
         };
         let Ok(board) = NewBoard::new(self.alloc, parts) else {
             return Err(BlackboardCreateError::OutOfMemory);

@@ -16,8 +16,9 @@ use crate::lookups::has_details;
 use crate::made::Found;
 use crate::told::{DynamicConfig, StaticConfig};
 use board_concepts::AttributeSet;
+use board_index::EntryRow;
 use board_layout::{BoardKey, KeyMemory, TypeDetail, TypeVariant};
-use board_model::{Entry, ThingKind};
+use board_model::ThingKind;
 use board_names::ServiceName;
 
 impl<C: Cells> DomainCore<C> {
@@ -138,7 +139,7 @@ impl<C: Cells> DomainCore<C> {
     }
 
     /// The entries of the board, in the order of adding.
-    pub fn entries_of(&self, board: u64) -> Option<&[Entry]>
+    pub fn entries_of(&self, board: u64) -> Option<&[EntryRow]>
         ensures { option_map (λ es. es.now) result
             ≡ option_map (λ b. b.entries) (board_at self.now.tables board) }
     {
