@@ -1,0 +1,262 @@
+//! Monitoring by the typed calls, of which their clauses say little, and once by the lent forms.
+ghost use Rattle.std.specs.Prelude.{IsOkUnless};
+ghost use Rattle.board_names.specs.Table.{NamesAscend};
+ghost use Rattle.board_names.specs.declared.errors.monitoring.MonitoringCreateTokenError.TheVariants.{OutOfMemory};
+
+use board_monitoring::{
+    Builder, Cleaner, Monitor, Monitoring, MonitoringBuilder, MonitoringCleaner, MonitoringMonitor,
+    MonitoringRegistry, MonitoringToken, Monitors, ProcessLocalMonitoring, State, Token,
+};
+use board_names::{
+    Configuration, FileName, FilePath, MonitoringCreateCleanerError, MonitoringCreateTokenError,
+    NameTable, NamedConcept, NamedConceptBuilder, NamedConceptConfiguration, NamedConceptMgmt,
+};
+use std::alloc::Global;
+use std::process::Abort;
+use std::sync::Wait;
+use std::test::Fail;
+
+fn names(registry: &MonitoringRegistry) -> Result<Builder, Fail> {
+    Ok(Builder::new(&FileName::new(b"t")?, registry)?)
+}
+
+fn monitored() -> Configuration {
+    Configuration::with_suffix(&ProcessLocalMonitoring::default_suffix())
+}
+
+fn is_listed<R: Wait + Abort>(
+    rt: &R,
+    alloc: Global,
+    registry: &MonitoringRegistry,
+) -> Result<(), Fail> {
+    let listed = ProcessLocalMonitoring::list_cfg(rt, alloc, registry, &monitored())?;
+    assert_eq!(rt; listed.as_slice(), [FileName::new(b"t")?].as_slice());
+    Ok(())
+}
+
+fn lives<R: Wait + Abort>(
+    rt: &R,
+    alloc: Global,
+    registry: &MonitoringRegistry,
+) -> Result<(), Fail> {
+    let again = names(registry)?.token(rt, alloc);
+    assert_eq!(rt;
+        again.err(),
+        Some(MonitoringCreateTokenError::AlreadyExists)
+    );
+    assert_eq!(rt; names(registry)?.monitor()?.state(rt), Ok(State::Alive));
+    let early = names(registry)?.cleaner(rt);
+    assert_eq!(rt;
+        early.err(),
+        Some(MonitoringCreateCleanerError::InstanceStillAlive)
+    );
+    Ok(())
+}
+
+fn dies<R: Wait + Abort>(rt: &R, registry: &MonitoringRegistry) -> Result<(), Fail> {
+    assert_eq!(rt; names(registry)?.monitor()?.state(rt), Ok(State::Dead));
+    let cleaner = names(registry)?.cleaner(rt)?;
+    let second = names(registry)?.cleaner(rt);
+    assert_eq!(rt;
+        second.err(),
+        Some(MonitoringCreateCleanerError::AlreadyOwnedByAnotherInstance)
+    );
+    assert_eq!(rt; names(registry)?.monitor()?.state(rt), Ok(State::Dead));
+    cleaner.relinquish(rt);
+    Ok(())
+}
+
+fn goes<R: Wait + Abort>(rt: &R, registry: &MonitoringRegistry) -> Result<(), Fail> {
+    assert_eq!(rt; names(registry)?.monitor()?.state(rt), Ok(State::Dead));
+    names(registry)?.cleaner(rt)?.release(rt);
+    assert_eq!(rt;
+        names(registry)?.monitor()?.state(rt),
+        Ok(State::DoesNotExist)
+    );
+    let late = names(registry)?.cleaner(rt);
+    assert_eq!(rt;
+        late.err(),
+        Some(MonitoringCreateCleanerError::DoesNotExist)
+    );
+    Ok(())
+}
+
+#[test]
+fn a_name_lives_dies_and_goes(rt: HostRuntime) -> Result<(), Fail> {
+    let suffix = ProcessLocalMonitoring::default_suffix();
+    assert_eq!(rt; suffix, FileName::new(b".monitor")?);
+    let registry = MonitoringRegistry::new(rt.alloc())?;
+    let token = names(&registry)?.token(&rt, rt.alloc())?;
+    is_listed(&rt, rt.alloc(), &registry)?;
+    is_listed(&rt, rt.alloc(), &registry.share()?)?;
+    lives(&rt, rt.alloc(), &registry)?;
+    token.abandon(&rt);
+    dies(&rt, &registry)?;
+    goes(&rt, &registry)
+}
+
+#[test]
+fn monitored_names_are_let_go(rt: HostRuntime) -> Result<(), Fail> {
+    let registry = MonitoringRegistry::new(rt.alloc())?;
+    let token = names(&registry)?.token(&rt, rt.alloc())?;
+    let t = FileName::new(b"t")?;
+    assert_eq!(rt; *token.name(), t);
+    assert_eq!(rt; *names(&registry)?.monitor()?.name(), t);
+    let config = monitored();
+    let removed = ProcessLocalMonitoring::remove_cfg(&rt, &registry, &t, &config);
+    assert_eq!(rt; removed, Ok(true));
+    let held = ProcessLocalMonitoring::does_exist_cfg(&rt, &registry, &t, &config);
+    assert_eq!(rt; held, Ok(false));
+    token.abandon(&rt);
+    let token = names(&registry)?.token(&rt, rt.alloc())?;
+    let held = ProcessLocalMonitoring::does_exist_cfg(&rt, &registry, &t, &config);
+    assert_eq!(rt; held, Ok(true));
+    token.release(&rt);
+    let removed = ProcessLocalMonitoring::remove_cfg(&rt, &registry, &t, &config);
+    assert_eq!(rt; removed, Ok(false));
+    Ok(())
+}
+
+#[test]
+fn a_name_is_taken_when_lent(rt: HostRuntime) -> Result<(), Fail> {
+    let registry = MonitoringRegistry::new(rt.alloc())?;
+    let mut state = Monitors::new(rt.alloc());
+    let token = names(&registry)?.token_in(&mut state, rt.alloc())?;
+    let listed = ProcessLocalMonitoring::list_cfg_in(&mut state, rt.alloc(), &monitored())?;
+    assert_eq!(rt; listed.as_slice(), [FileName::new(b"t")?].as_slice());
+    token.abandon_in(&mut state);
+    names(&registry)?
+        .cleaner_in(&mut state)?
+        .relinquish_in(&mut state);
+    names(&registry)?
+        .cleaner_in(&mut state)?
+        .release_in(&mut state);
+    assert_eq!(rt; state.name_at(0), None);
+    Ok(())
+}
+
+// Code over the trait alone: a name that is taken is seen alive, until it is let go.
+fn is_taken_and_released<R: Wait + Abort, M: Monitoring>(
+    rt: &R,
+    alloc: Global,
+    registry: &M::Registry,
+    name: &FileName,
+) -> Result<(), Fail>
+where
+    M::Token: Drop,
+    M::Monitor: Drop,
+{
+    let token = M::Builder::new(name, registry)?.token(rt, alloc)?;
+    let monitor = M::Builder::new(name, registry)?.monitor()?;
+    let alive = monitor.state(rt);
+    token.release(rt);
+    assert_eq!(rt;
+        (alive, monitor.state(rt)),
+        (Ok(State::Alive), Ok(State::DoesNotExist))
+    );
+    Ok(())
+}
+
+// Code over the trait alone: a name that was left is dead, also after its cleaner gave up.
+fn is_left_dead<R: Wait + Abort, M: Monitoring>(
+    rt: &R,
+    alloc: Global,
+    registry: &M::Registry,
+    name: &FileName,
+) -> Result<(), Fail>
+where
+    M::Token: Drop,
+    M::Monitor: Drop,
+{
+    let token = M::Builder::new(name, registry)?.token(rt, alloc)?;
+    token.abandon(rt);
+    let cleaner = M::Builder::new(name, registry)?.cleaner(rt)?;
+    cleaner.relinquish(rt);
+    let monitor = M::Builder::new(name, registry)?.monitor()?;
+    assert_eq!(rt; monitor.state(rt), Ok(State::Dead));
+    Ok(())
+}
+
+// Code over the trait alone: the name of the dead is gone once it was cleaned up.
+fn is_cleaned_up<R: Wait + Abort, M: Monitoring>(
+    rt: &R,
+    registry: &M::Registry,
+    name: &FileName,
+) -> Result<(), Fail>
+where
+    M::Monitor: Drop,
+{
+    let cleaner = M::Builder::new(name, registry)?.cleaner(rt)?;
+    cleaner.release(rt);
+    let monitor = M::Builder::new(name, registry)?.monitor()?;
+    assert_eq!(rt; monitor.state(rt), Ok(State::DoesNotExist));
+    Ok(())
+}
+
+// Code over the trait alone: a name is there until it is removed, once.
+fn is_removed<R: Wait + Abort, M: Monitoring>(
+    rt: &R,
+    alloc: Global,
+    registry: &M::Registry,
+    name: &FileName,
+) -> Result<(), Fail>
+where
+    M::Token: Drop,
+{
+    let config = Configuration::with_suffix(&M::default_suffix());
+    let token = M::Builder::new(name, registry)?.token(rt, alloc)?;
+    let before = M::does_exist_cfg(rt, registry, name, &config);
+    let first = M::remove_cfg(rt, registry, name, &config);
+    let second = M::remove_cfg(rt, registry, name, &config);
+    token.abandon(rt);
+    let after = M::does_exist_cfg(rt, registry, name, &config);
+    assert_eq!(rt; (before, after), (Ok(true), Ok(false)));
+    assert_eq!(rt; (first, second), (Ok(true), Ok(false)));
+    Ok(())
+}
+
+#[test]
+fn any_monitoring_is_used_by_the_traits(rt: HostRuntime) -> Result<(), Fail> {
+    let (alloc, name) = (rt.alloc(), FileName::new(b"t")?);
+    let registry = MonitoringRegistry::new(alloc)?;
+    is_taken_and_released::<_, ProcessLocalMonitoring>(&rt, alloc, &registry, &name)?;
+    is_left_dead::<_, ProcessLocalMonitoring>(&rt, alloc, &registry, &name)?;
+    is_cleaned_up::<_, ProcessLocalMonitoring>(&rt, &registry, &name)?;
+    is_removed::<_, ProcessLocalMonitoring>(&rt, alloc, &registry, &name)
+}
+
+// A caller's proof over names that were lent, whoever took them: a removed name can be taken, want of memory aside.
+fn takes_a_removed_name(
+    state: &mut Monitors,
+    name: &FilePath,
+) -> Result<(), MonitoringCreateTokenError>
+    ensures { IsOkUnless result OutOfMemory }
+{
+    state.remove(name);
+    state.token(name)
+}
+
+// And their names ascend, so they differ.
+fn count_of_names(state: &Monitors) -> usize
+    ensures { NamesAscend state.now }
+{
+    state.name_count()
+}
+
+#[test]
+fn a_removed_name_is_taken_again(rt: HostRuntime) -> Result<(), Fail> {
+    let mut state = Monitors::new(rt.alloc());
+    let name = monitored().path_for(&FileName::new(b"t")?);
+    assert_eq!(rt; state.token(&name), Ok(()));
+    assert_eq!(rt; takes_a_removed_name(&mut state, &name), Ok(()));
+    assert_eq!(rt; count_of_names(&state), 1);
+    Ok(())
+}
+
+fn sent<T: Send>(value: T) -> T {
+    value
+}
+
+fn are_sent(token: Token, monitor: Monitor, cleaner: Cleaner) -> (Token, Monitor, Cleaner) {
+    (sent(token), sent(monitor), sent(cleaner))
+}

@@ -1,0 +1,269 @@
+//! Static storage by the typed calls, of which their clauses say little, and once by the lent forms.
+ghost use Rattle.std.specs.Prelude.{IsOkUnless};
+ghost use Rattle.board_names.specs.Table.{NamesAscend};
+ghost use Rattle.board_names.specs.declared.errors.static_storage.StaticStorageCreateError.TheVariants.{OutOfMemory};
+
+use board_names::{
+    Configuration, FileName, FilePath, NameTable, NamedConcept, NamedConceptBuilder,
+    NamedConceptConfiguration, NamedConceptDoesExistError, NamedConceptMgmt,
+    StaticStorageCreateError, StaticStorageOpenError, StaticStorageReadError,
+    StaticStorageUnlockError,
+};
+use board_store::{
+    Builder, Content, Locked, StaticRegistry, StaticStorage, StaticStorageBuilder,
+    StaticStorageLocked, Statics, Storage,
+};
+use std::alloc::Global;
+use std::process::Abort;
+use std::sync::Wait;
+use std::test::Fail;
+
+fn builder(value: &[u8], registry: &StaticRegistry) -> Result<Builder, Fail> {
+    let name = FileName::new(value)?;
+    Ok(Builder::new(&name, registry)?)
+}
+
+fn usual() -> Configuration {
+    Configuration::with_suffix(&Storage::default_suffix())
+}
+
+fn exists<R: Wait>(
+    rt: &R,
+    value: &[u8],
+    registry: &StaticRegistry,
+) -> Result<Result<bool, NamedConceptDoesExistError>, Fail> {
+    let name = FileName::new(value)?;
+    Ok(Storage::does_exist_cfg(rt, registry, &name, &usual()))
+}
+
+fn shows_its_bytes<R: Abort>(rt: &R, storage: &Storage) {
+    assert_eq!(rt; storage.len(), 3);
+    assert!(rt; !storage.is_empty());
+    let mut small = [0u8; 2];
+    assert_eq!(rt;
+        storage.read(&mut small),
+        Err(StaticStorageReadError::BufferTooSmall)
+    );
+    let mut large = [9u8; 5];
+    assert_eq!(rt; storage.read(&mut large), Ok(()));
+    assert_eq!(rt; large, [1, 2, 3, 9, 9]);
+}
+
+fn locks<R: Wait + Abort>(
+    rt: &R,
+    alloc: Global,
+    registry: &StaticRegistry,
+) -> Result<Locked, Fail> {
+    let locked = builder(b"x", registry)?.create_locked(rt, alloc)?;
+    let again = builder(b"x", registry)?.create_locked(rt, alloc);
+    assert_eq!(rt; again.err(), Some(StaticStorageCreateError::AlreadyExists));
+    Ok(locked)
+}
+
+fn early<R: Wait + Abort>(rt: &R, alloc: Global, registry: &StaticRegistry) -> Result<(), Fail> {
+    let shared = registry.share()?;
+    assert_eq!(rt;
+        exists(rt, b"x", &shared)?,
+        Err(NamedConceptDoesExistError::UnderlyingResourcesBeingSetUp)
+    );
+    let names = Storage::list_cfg(rt, alloc, registry, &usual())?;
+    assert_eq!(rt; names.as_slice(), [FileName::new(b"x")?].as_slice());
+    let early = builder(b"x", registry)?.open(rt, 2);
+    assert_eq!(rt;
+        early.err(),
+        Some(StaticStorageOpenError::InitializationNotYetFinalized)
+    );
+    Ok(())
+}
+
+fn late<R: Wait + Abort>(rt: &R, alloc: Global, registry: &StaticRegistry) -> Result<(), Fail> {
+    let gone = builder(b"x", registry)?.open(rt, 0);
+    assert_eq!(rt; gone.err(), Some(StaticStorageOpenError::DoesNotExist));
+    let empty = builder(b"x", registry)?.create(rt, alloc, &[])?;
+    assert!(rt; empty.is_empty());
+    let other = builder(b"y", registry)?.create_locked(rt, alloc)?;
+    assert_eq!(rt; *other.name(), FileName::new(b"y")?);
+    other.release(rt);
+    assert_eq!(rt; exists(rt, b"y", registry)?, Ok(false));
+    Ok(())
+}
+
+#[test]
+fn a_storage_is_filled_once(rt: HostRuntime) -> Result<(), Fail> {
+    let alloc = rt.alloc();
+    let registry = StaticRegistry::new(alloc)?;
+    let locked = locks(&rt, alloc, &registry)?;
+    early(&rt, alloc, &registry)?;
+    let storage = locked.unlock(&rt, alloc, &[1, 2, 3])?;
+    shows_its_bytes(&rt, &storage);
+    storage.release(&rt);
+    late(&rt, alloc, &registry)
+}
+
+#[test]
+fn storages_are_made_when_lent(rt: HostRuntime) -> Result<(), Fail> {
+    let alloc = rt.alloc();
+    let registry = StaticRegistry::new(alloc)?;
+    let mut state = Statics::new(alloc);
+    let locked = builder(b"x", &registry)?.create_locked_in(&mut state, alloc)?;
+    let filled = locked.unlock_in(&mut state, alloc, &[1, 2, 3])?;
+    shows_its_bytes(&rt, &filled);
+    let opened = builder(b"x", &registry)?.open_in(&mut state)?;
+    shows_its_bytes(&rt, &opened);
+    Ok(())
+}
+
+#[test]
+fn storages_are_listed_when_lent(rt: HostRuntime) -> Result<(), Fail> {
+    let alloc = rt.alloc();
+    let registry = StaticRegistry::new(alloc)?;
+    let mut state = Statics::new(alloc);
+    let made = builder(b"y", &registry)?.create_in(&mut state, alloc, &[])?;
+    assert!(rt; made.is_empty());
+    let names = Storage::list_cfg_in(&mut state, alloc, &usual())?;
+    assert_eq!(rt; names.as_slice(), [FileName::new(b"y")?].as_slice());
+    Ok(())
+}
+
+fn opened<R: Wait>(rt: &R, alloc: Global, registry: &StaticRegistry) -> Result<Storage, Fail> {
+    let _made = builder(b"x", registry)?.create(rt, alloc, &[1, 2, 3])?;
+    Ok(builder(b"x", registry)?.open(rt, 0)?)
+}
+
+#[test]
+fn a_storage_stays_where_it_is_not_owned(rt: HostRuntime) -> Result<(), Fail> {
+    let alloc = rt.alloc();
+    let registry = StaticRegistry::new(alloc)?;
+    let mut storage = opened(&rt, alloc, &registry)?;
+    shows_its_bytes(&rt, &storage);
+    assert_eq!(rt; *storage.name(), FileName::new(b"x")?);
+    storage.release_ownership();
+    storage.release(&rt);
+    assert_eq!(rt; exists(&rt, b"x", &registry)?, Ok(true));
+    let mut storage = builder(b"x", &registry)?.open(&rt, 0)?;
+    storage.acquire_ownership();
+    storage.release(&rt);
+    assert_eq!(rt; exists(&rt, b"x", &registry)?, Ok(false));
+    Ok(())
+}
+
+#[test]
+fn a_storage_goes_on_without_its_name(rt: HostRuntime) -> Result<(), Fail> {
+    let alloc = rt.alloc();
+    let registry = StaticRegistry::new(alloc)?;
+    let storage = opened(&rt, alloc, &registry)?;
+    let x = FileName::new(b"x")?;
+    assert_eq!(rt; Storage::remove_cfg(&rt, &registry, &x, &usual()), Ok(true));
+    assert_eq!(rt;
+        Storage::remove_cfg(&rt, &registry, &x, &usual()),
+        Ok(false)
+    );
+    shows_its_bytes(&rt, &storage);
+    Ok(())
+}
+
+#[test]
+fn names_and_configurations_differ(rt: HostRuntime) -> Result<(), Fail> {
+    let alloc = rt.alloc();
+    let registry = StaticRegistry::new(alloc)?;
+    let other = Configuration::with_suffix(&FileName::new(b".other")?);
+    let locked = builder(b"x", &registry)?
+        .config(&other)
+        .has_ownership(false)
+        .create_locked(&rt, alloc)?;
+    assert_eq!(rt; exists(&rt, b"x", &registry)?, Ok(false));
+    locked.release(&rt);
+    let taken = builder(b"x", &registry)?
+        .config(&other)
+        .create(&rt, alloc, &[]);
+    assert_eq!(rt; taken.err(), Some(StaticStorageCreateError::AlreadyExists));
+    Ok(())
+}
+
+#[test]
+fn what_is_gone_is_not_unlocked(rt: HostRuntime) -> Result<(), Fail> {
+    let alloc = rt.alloc();
+    let registry = StaticRegistry::new(alloc)?;
+    let locked = builder(b"x", &registry)?.create_locked(&rt, alloc)?;
+    let x = FileName::new(b"x")?;
+    assert_eq!(rt; Storage::remove_cfg(&rt, &registry, &x, &usual()), Ok(true));
+    let gone = locked.unlock(&rt, alloc, &[1]);
+    assert_eq!(rt; gone.err(), Some(StaticStorageUnlockError::InternalError));
+    Ok(())
+}
+
+fn len_when_made<R: Wait, S: StaticStorage>(
+    rt: &R,
+    alloc: Global,
+    builder: S::Builder,
+) -> Result<u64, StaticStorageCreateError>
+where
+    S::Builder: StaticStorageBuilder<Storage = S>,
+{
+    let storage = builder.has_ownership(true).create(rt, alloc, &[4, 5])?;
+    let len = storage.len();
+    storage.release(rt);
+    Ok(len)
+}
+
+#[test]
+fn any_static_storage_is_made_by_the_traits(rt: HostRuntime) -> Result<(), Fail> {
+    let alloc = rt.alloc();
+    let registry = StaticRegistry::new(alloc)?;
+    let builder = builder(b"z", &registry)?;
+    assert_eq!(rt; len_when_made::<_, Storage>(&rt, alloc, builder)?, 2);
+    Ok(())
+}
+
+fn sent<T: Send>(value: T) -> T {
+    value
+}
+
+fn are_sent(builder: Builder, locked: Locked, storage: Storage) -> (Builder, Locked, Storage) {
+    (sent(builder), sent(locked), sent(storage))
+}
+
+#[test]
+fn contents_are_shared(rt: HostRuntime) -> Result<(), Fail> {
+    let alloc = rt.alloc();
+    let mut state = Statics::new(alloc);
+    let name = usual().path_for(&FileName::new(b"x")?);
+    assert_eq!(rt; state.create_locked(&name), Ok(()));
+    let content = state.unlock(&name, &[4, 5])?;
+    assert!(rt; state.remove(&name));
+    let shared = content.share()?;
+    let mut buffer = [9u8; 3];
+    assert_eq!(rt; shared.read(&mut buffer), Ok(()));
+    assert_eq!(rt; buffer, [4, 5, 9]);
+    let copy = Content::of(alloc, shared.as_bytes())?;
+    assert_eq!(rt; copy.len(), 2);
+    Ok(())
+}
+
+// A caller's proof over storages that were lent, whoever filled them: a removed name can be taken, want of memory aside.
+fn takes_a_removed_name(
+    state: &mut Statics,
+    name: &FilePath,
+) -> Result<(), StaticStorageCreateError>
+    ensures { IsOkUnless result OutOfMemory }
+{
+    state.remove(name);
+    state.create_locked(name)
+}
+
+// And their names ascend, so they differ.
+fn count_of_names(state: &Statics) -> usize
+    ensures { NamesAscend state.now }
+{
+    state.name_count()
+}
+
+#[test]
+fn a_removed_name_is_taken_again(rt: HostRuntime) -> Result<(), Fail> {
+    let mut state = Statics::new(rt.alloc());
+    let name = usual().path_for(&FileName::new(b"x")?);
+    assert_eq!(rt; state.create_locked(&name), Ok(()));
+    assert_eq!(rt; takes_a_removed_name(&mut state, &name), Ok(()));
+    assert_eq!(rt; (count_of_names(&state), state.name_at(0)), (1, Some(name)));
+    Ok(())
+}
