@@ -1,0 +1,118 @@
+//! The calls that handles give, on an entry of four words whose cell begins with word 0: its copies begin with words 2 and 6.
+ghost use Rattle.std.specs.Prelude.{◌≡◌, ◌+◌, ◌^◌, ◌<◌};
+ghost use Rattle.board_layout.specs.Layout.{cell_end};
+
+use board_cell::{Access, run_update};
+use board_ports::{CellShape, LoanCore, ReadCore, WriteCore};
+use std::test::*;
+
+const READ: ReadCore = ReadCore {
+    shape: SHAPE,
+    entry_id: 16,
+};
+
+const WRITE: WriteCore = WriteCore {
+    shape: SHAPE,
+    entry_id: 16,
+    generation: 1,
+};
+
+const SHAPE: CellShape = CellShape {
+    first: 0,
+    head: 2,
+    words: 4,
+};
+
+fn put(loan: &mut LoanCore, index: u64, word: u64) -> Option<Access>
+    requires { cell_end loan.old.handle.shape < 2 ^ 64 }
+    ensures { loan.new.handle ≡ loan.old.handle }
+{
+    let call = loan.put(index, word)?;
+    loan.wrote(index, word);
+    Some(call.next())
+}
+
+fn publish(loan: &LoanCore) -> Option<Access>
+    requires { loan.now.handle.generation + 1 < 2 ^ 64 }
+{
+    if loan.is_filled() {
+        Some(loan.publish().next())
+    } else {
+        None
+    }
+}
+
+#[test]
+fn handles_give_the_calls_of_their_entry(rt: HostRuntime) -> Result<(), Fail> {
+    let alloc = rt.alloc();
+    let mut handle = WRITE;
+    let counter = Access::Read { word: 0 };
+    assert_eq!(rt; READ.get(vec![in alloc; 0; 4]?).next(), counter);
+    assert_eq!(rt; READ.fresh(1).next(), counter);
+    assert_eq!(rt;
+        handle.update(vec![in alloc; 9; 4]?).next(),
+        Access::Write { word: 6, value: 9 }
+    );
+    handle.published();
+    assert_eq!(rt;
+        handle.update(vec![in alloc; 9; 4]?).next(),
+        Access::Write { word: 2, value: 9 }
+    );
+    Ok(())
+}
+
+#[test]
+fn a_loan_is_published_once_each_word_was_put(rt: HostRuntime) -> Result<(), Fail> {
+    let mut loan = WRITE.loan(vec![in rt.alloc(); None; 4]?);
+    let cases = [
+        (0, 5, Some(6), false),
+        (1, 6, Some(7), false),
+        (4, 0, None, false),
+        (2, 7, Some(8), false),
+        (0, 4, Some(6), false),
+        (3, 8, Some(9), true),
+    ];
+    'cases: for (index, value, word, filled) in cases {
+        let access = word.map(|word| Access::Write { word, value });
+        assert_eq!(rt; put(&mut loan, index, value), access, "at {index}");
+        let counter = if filled {
+            Some(Access::Write { word: 0, value: 2 })
+        } else {
+            None
+        };
+        assert_eq!(rt; publish(&loan), counter, "at {index}");
+    }
+    assert_eq!(rt; loan.into_write(true).generation, 2);
+    Ok(())
+}
+
+#[test]
+fn a_discarded_loan_leaves_nothing(rt: HostRuntime) -> Result<(), Fail> {
+    let mut loan = WRITE.loan(vec![in rt.alloc(); None; 4]?);
+    'words: for index in 0..4 {
+        put(&mut loan, index, 7);
+    }
+    assert!(rt; loan.is_filled());
+    let (handle, places) = loan.into_parts(false);
+    assert_eq!(rt; handle, WRITE);
+    let loan = handle.loan(places);
+    assert!(rt; !loan.is_filled());
+    assert_eq!(rt; *loan.handle(), WRITE);
+    Ok(())
+}
+
+#[test]
+fn a_loan_is_filled_whatever_was_put(rt: HostRuntime) -> Result<(), Fail> {
+    let alloc = rt.alloc();
+    let mut loan = WRITE.loan(vec![in alloc; None; 4]?);
+    put(&mut loan, 3, 7);
+    let mut accesses = Vec::new(alloc);
+    run_update(&mut loan.fill(vec![in alloc; 5, 6, 7, 8]?), &mut accesses)?;
+    let expected = [(6, 5), (7, 6), (8, 7), (9, 8), (0, 2)];
+    assert_eq!(rt; accesses.len(), expected.len());
+    for (access, (word, value)) in accesses.iter().zip(expected) {
+        assert_eq!(rt; *access, Access::Write { word, value });
+    }
+    assert_eq!(rt; loan.into_write(true).generation, 2);
+    Ok(())
+}
