@@ -13,6 +13,3 @@ mod place;
 
 pub use cells::BoardCells;
 pub use ends::{ReadEnd, SentReceipt, WriteEnd};
-
-#[cfg(test)]
-mod tests;

@@ -16,8 +16,6 @@ mod duplex;
 mod kept_queues;
 mod locked_queue;
 mod queue;
-#[cfg(test)]
-mod tests;
 
 pub use board_names::{
     CommunicationChannelCreateError, CommunicationChannelOpenError,

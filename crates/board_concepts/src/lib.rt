@@ -29,6 +29,3 @@ pub use attribute_verifier::AttributeVerifier;
 pub use description::Description;
 pub use laws::{no_spelling_begins_another, what_is_written_reads_back};
 pub use sharing::{Policy, Shared, Single};
-
-#[cfg(test)]
-mod tests;

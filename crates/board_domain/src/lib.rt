@@ -28,6 +28,3 @@ pub use node_laws::nodes_are_told;
 pub use opener::Opener;
 pub use port_factory::PortFactory;
 pub use service_builder::ServiceBuilder;
-
-#[cfg(test)]
-mod tests;

@@ -17,8 +17,6 @@ mod held_files;
 mod laws;
 mod memory_files;
 mod stored_file;
-#[cfg(test)]
-mod tests;
 
 pub use board_names::{
     Configuration, FileName, FilePath, NamedConceptConfiguration, NamedConceptListError,

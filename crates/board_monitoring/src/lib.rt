@@ -14,8 +14,6 @@ pub mod monitoring;
 mod monitoring_builder;
 mod monitors;
 mod process_local_monitoring;
-#[cfg(test)]
-mod tests;
 mod token;
 
 pub use board_names::{

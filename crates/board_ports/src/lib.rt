@@ -15,6 +15,3 @@ pub use board_cell::{CellShape, FreshCall, GetCall, PublishCall, PutCall, Update
 pub use loan_core::{LoanCore, LoanWords};
 pub use read_core::ReadCore;
 pub use write_core::WriteCore;
-
-#[cfg(test)]
-mod tests;

@@ -11,6 +11,3 @@ mod update_error;
 
 pub use seats::{fresh, get, update};
 pub use update_error::UpdateError;
-
-#[cfg(test)]
-mod tests;

@@ -30,6 +30,3 @@ pub use ids::{NodeId, ThingId};
 pub use made::{Found, Made};
 pub use new_entry::NewEntry;
 pub use told::{DynamicConfig, StaticConfig};
-
-#[cfg(test)]
-mod tests;

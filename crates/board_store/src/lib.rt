@@ -13,8 +13,6 @@ mod locked;
 pub mod static_storage;
 mod statics;
 mod storage;
-#[cfg(test)]
-mod tests;
 
 pub use board_names::{
     Configuration, FileName, FilePath, NameTable, NamedConcept, NamedConceptBuilder,
