@@ -125,8 +125,7 @@ pub mod service {
 
         /// The type of its keys, its limits, and its entries.
         pub mod blackboard {
-            pub use board_model::Entry;
-            pub use board_service::StaticConfig;
+            pub use board_service::{EntryRow as Entry, KeptType, StaticConfig};
         }
     }
 
