@@ -121,7 +121,7 @@ impl<C: BoardWords + Drop> BoardMachine<C> {
     pub(crate) fn holds(&self, party: &Name, name: &Name) -> bool
         ensures { result ≡ holds self.now party.now name.now }
     {
-        self.domain.thing_of(party, name).is_some() || self.value_of(party, name).is_some()
+        self.domain.holds(party, name) || self.value_of(party, name).is_some()
     }
 
     // The same, where there is a name.
@@ -272,7 +272,7 @@ impl<C: BoardWords + Drop> BoardMachine<C> {
             has_id(&thing.kind, self.is_lent(party, name)),
             Reason::Unknown,
         )?;
-        Ok(Task::Table(TableTask::Id { thing: *thing }))
+        Ok(Task::Table(TableTask::Id { thing }))
     }
 
     // The handle or the loan whose entry the call writes, where the party has it.

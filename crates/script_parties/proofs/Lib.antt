@@ -9,6 +9,7 @@ pub mod Handles
 pub mod Holders
 pub mod KeyedCalls
 pub mod KeyTests
+pub mod KindParts
 pub mod NewEntries
 pub mod NodeCounts
 pub mod Openings

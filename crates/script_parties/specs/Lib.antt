@@ -1,4 +1,5 @@
 pub mod BoardNodes
+pub mod KindParts
 pub mod Named
 pub mod Numbered
 pub mod Overview

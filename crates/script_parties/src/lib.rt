@@ -13,6 +13,8 @@ mod lists;
 mod lookups;
 mod named;
 mod party_domain;
+mod short_name;
+mod short_thing;
 mod typed_calls;
 
 pub use lookups::Held;

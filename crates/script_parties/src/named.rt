@@ -1,5 +1,5 @@
 //! Things under the numbers that a domain's core has for them, found by their parties and names.
-ghost use Rattle.std.specs.Prelude.{◌≡◌, ◌<◌, ℕ, IfNone, IfSome, None, OnOk, Option, Some, true, nat_eq, option_map};
+ghost use Rattle.std.specs.Prelude.{◌≡◌, ◌<◌, ℕ, IfNone, IfSome, None, OnOk, Option, Some, true, is_some, nat_eq, option_map};
 ghost use Rattle.std.specs.HashMap.{get, keys, spare};
 ghost use Rattle.board_model.specs.Tables.{holds_at};
 ghost use Rattle.board_model.specs.Things as held;
@@ -9,7 +9,8 @@ ghost use Rattle.script_seats.specs.Seats as seats;
 ghost use Rattle.script_seats.specs.Seats.{called, is_at, nothing, put, seat_of};
 
 use crate::lookups::Held;
-use board_model::Name;
+use crate::short_thing::ShortThing;
+use board_model::{Name, ThingKind};
 use board_service::ThingId;
 use script_seats::{Seat, Seats, Sought};
 use std::alloc::{AllocError, Global};
@@ -18,19 +19,17 @@ use std::collections::HashMap;
 /// The things that parties gave names, each under the core's number for it, with an index by party and name.
 #[derive(Drop)]
 pub(crate) struct NamedThings {
-    pub(crate) things: HashMap<u64, Held>,
+    pub(crate) things: HashMap<u64, ShortThing>,
     pub(crate) seats: Seats,
 }
 
-// Whether a thing is the one that a party holds under a name.
-fn is_under(seat: &Seat, thing: &Held) -> bool
-    ensures { result ≡ is_at seat.now thing.now }
-{
-    thing.holder == seat.party && thing.name == seat.name
-}
-
 // The first of the things so far that are under a name, after one number more.
-fn earlier(first: Option<u64>, number: u64, seat: &Seat, things: &HashMap<u64, Held>) -> Option<u64>
+fn earlier(
+    first: Option<u64>,
+    number: u64,
+    seat: &Seat,
+    things: &HashMap<u64, ShortThing>,
+) -> Option<u64>
     ensures { result
         ≡ numbered.earlier (is_at seat.now) (λ n. get nat_eq things.now n) first number }
 {
@@ -41,14 +40,14 @@ fn earlier(first: Option<u64>, number: u64, seat: &Seat, things: &HashMap<u64, H
         Some(other) => number < other,
         None => true,
     };
-    if is_under(seat, thing) && is_before {
+    if thing.is_under(seat) && is_before {
         return Some(number);
     }
     first
 }
 
 // The first of all things that are under a name, where no index tells.
-fn first_number(seat: &Seat, things: &HashMap<u64, Held>) -> Option<u64>
+fn first_number(seat: &Seat, things: &HashMap<u64, ShortThing>) -> Option<u64>
     ensures { result ≡ numbered.earliest (is_at seat.now) (λ n. get nat_eq things.now n) None
         (keys things.now) }
 {
@@ -60,7 +59,7 @@ fn first_number(seat: &Seat, things: &HashMap<u64, Held>) -> Option<u64>
 }
 
 // The first of all things that are under a name, by what an index knows of it.
-fn number_in(sought: Sought, seat: &Seat, things: &HashMap<u64, Held>) -> Option<u64>
+fn number_in(sought: Sought, seat: &Seat, things: &HashMap<u64, ShortThing>) -> Option<u64>
     requires { seats.Finds (is_at seat.now) (λ n. get nat_eq things.now n) sought }
     ensures { IsFirst (is_at seat.now) (λ n. get nat_eq things.now n) result }
 {
@@ -72,33 +71,34 @@ fn number_in(sought: Sought, seat: &Seat, things: &HashMap<u64, Held>) -> Option
 }
 
 // Gives a thing another name, if it is the party's and has the old one.
-fn name_anew(party: &Name, old: &Name, new: &Name, thing: &mut Held)
-    ensures { thing.new ≡ held.named_anew party.now old.now new.now thing.old }
+fn name_anew(from: &Seat, new: &Name, thing: &mut ShortThing)
+    ensures { thing.new ≡ held.named_anew from.now.party from.now.name new.now thing.old }
 {
-    if thing.holder == *party && thing.name == *old {
-        thing.name = *new;
+    if thing.is_under(from) {
+        thing.rename(new);
     }
 }
 
 // Gives the things of the party that have the old name the new one, where no index tells which.
-fn rename_all(party: &Name, old: &Name, new: &Name, things: &mut HashMap<u64, Held>)
+fn rename_all(from: &Seat, new: &Name, things: &mut HashMap<u64, ShortThing>)
     ensures { (n : ℕ) → get nat_eq things.new n
-        ≡ option_map (held.named_anew party.now old.now new.now) (get nat_eq things.old n) }
+        ≡ option_map (held.named_anew from.now.party from.now.name new.now)
+        (get nat_eq things.old n) }
 {
     things.retain(|_, thing| {
-        name_anew(party, old, new, thing);
+        name_anew(from, new, thing);
         true
     });
 }
 
 // Gives the thing with the number another name.
-fn rename_at(number: u64, new: &Name, things: &mut HashMap<u64, Held>)
+fn rename_at(number: u64, new: &Name, things: &mut HashMap<u64, ShortThing>)
     ensures { (t : held.Held) → get nat_eq things.old number ≡ Some t → (n : ℕ)
         → get nat_eq things.new n
         ≡ put number (Some (called new.now t)) (λ k. get nat_eq things.old k) n }
 {
     if let Some(thing) = things.get_mut(&number) {
-        thing.name = *new;
+        thing.rename(new);
     }
 }
 
@@ -122,15 +122,51 @@ impl NamedThings {
         number_in(self.seats.find(seat), seat, &self.things)
     }
 
-    /// The first thing that a party holds under a name.
-    pub(crate) fn thing_of(&self, seat: &Seat) -> Option<&Held>
+    /// Whether a party holds a thing under a name.
+    pub(crate) fn holds(&self, seat: &Seat) -> bool
         requires { IsIndexed self.now }
         ensures { (first : Option ℕ) × IsFirst (is_at seat.now) (named_at self.now) first
+            × (result ≡ is_some (thing_at (named_at self.now) first)) }
+    {
+        self.number_of(seat).is_some()
+    }
+
+    // The first thing that a party holds under a name.
+    #[inline(always)]
+    fn short_of(&self, seat: &Seat) -> Option<&ShortThing>
+        requires { IsIndexed self.now }
+        ensures first { (first : Option ℕ) × IsFirst (is_at seat.now) (named_at self.now) first
             × (option_map (λ t. t.now) result ≡ thing_at (named_at self.now) first) }
+        ensures under { IfSome result (λ t. is_at seat.now t.now ≡ true) }
     {
         match self.number_of(seat) {
             Some(number) => self.things.get(&number),
             None => None,
+        }
+    }
+
+    /// The first thing that a party holds under a name.
+    pub(crate) fn thing_of(&self, seat: &Seat) -> Option<Held>
+        requires { IsIndexed self.now }
+        ensures { (first : Option ℕ) × IsFirst (is_at seat.now) (named_at self.now) first
+            × (result ≡ thing_at (named_at self.now) first) }
+    {
+        match self.short_of(seat) {
+            Some(thing) => Some(thing.held_under(seat)),
+            None => None,
+        }
+    }
+
+    /// The same, where it is of this kind.
+    #[inline(always)]
+    pub(crate) fn thing_of_kind(&self, kind: ThingKind, seat: &Seat) -> Option<Held>
+        requires { IsIndexed self.now }
+        ensures { (first : Option ℕ) × IsFirst (is_at seat.now) (named_at self.now) first
+            × (result ≡ held.of_kind kind (thing_at (named_at self.now) first)) }
+    {
+        match self.short_of(seat) {
+            Some(thing) if thing.is_of_kind(kind) => Some(thing.held_under(seat)),
+            _ => None,
         }
     }
 
@@ -158,7 +194,7 @@ impl NamedThings {
         ensures index { IsIndexed self.new }
     {
         self.seats.push(&thing, number.0);
-        let Ok(_) = self.things.insert(number.0, thing) else {
+        let Ok(_) = self.things.insert(number.0, ShortThing::of(&thing)) else {
             // There is room.
             unreachable!()
         };
@@ -199,7 +235,7 @@ impl NamedThings {
         match self.seats.rename(&from, &to) {
             Sought::Nothing => {}
             Sought::Only(number) => rename_at(number, new, &mut self.things),
-            Sought::Unknown => rename_all(party, old, new, &mut self.things),
+            Sought::Unknown => rename_all(&from, new, &mut self.things),
         }
     }
 }

@@ -96,9 +96,19 @@ impl<C: BoardWords + Drop> PartyDomain<C> {
         }
     }
 
+    /// Whether a party holds a thing under a name.
+    pub fn holds(&self, party: &Name, name: &Name) -> bool
+        ensures { result ≡ is_some (party_thing self.now party.now name.now) }
+    {
+        self.names.holds(&Seat {
+            party: *party,
+            name: *name,
+        })
+    }
+
     /// The thing that a party holds under a name.
-    pub fn thing_of(&self, party: &Name, name: &Name) -> Option<&Held>
-        ensures { option_map (λ t. t.now) result ≡ party_thing self.now party.now name.now }
+    pub fn thing_of(&self, party: &Name, name: &Name) -> Option<Held>
+        ensures { result ≡ party_thing self.now party.now name.now }
     {
         self.names.thing_of(&Seat {
             party: *party,
@@ -110,16 +120,13 @@ impl<C: BoardWords + Drop> PartyDomain<C> {
     pub fn held_of_kind(&self, kind: ThingKind, party: &Name, name: &Name) -> Option<Held>
         ensures { result ≡ of_kind kind (party_thing self.now party.now name.now) }
     {
-        match self.thing_of(party, name) {
-            Some(thing) => {
-                if thing.kind.is(kind) {
-                    Some(*thing)
-                } else {
-                    None
-                }
-            }
-            None => None,
-        }
+        self.names.thing_of_kind(
+            kind,
+            &Seat {
+                party: *party,
+                name: *name,
+            },
+        )
     }
 
     /// Gives the party's thing another name.
