@@ -20,6 +20,5 @@ pub mod Shown
 pub mod StepRefusals
 pub mod StepWants
 pub mod TableSteps
-pub mod TypeLemmas
 pub mod WriteSteps
 pub mod HeldHandles

@@ -5,6 +5,7 @@ use Rattle.board_model.specs.TypeTable.{value_type_of}
 use Rattle.board_cell_model.specs.OwedAccesses.{opening}
 use Rattle.board_cell.specs.Calls.{Getting}
 use Rattle.board_model.specs.declared.answer.Reason.TheVariants as reason
+use Rattle.board_model.specs.declared.tables.Entry.{Entry}
 use Rattle.board_model.specs.declared.tables.ThingKind.TheVariants as thing_kind
 use Rattle.board_model.specs.Tables.{entry_of}
 use Rattle.board_model.specs.Things.{Held, of_kind, thing_of}
@@ -37,7 +38,7 @@ returns g c =
     let h : of_kind thing_kind.ReadHandle (thing_of c.args.self.now.domain.tables.things c.args.party.now c.args.handle.now) ≡ a_thing c.in_ok-found.found = search rules in
     let free : holds_any c.args.self.now c.args.party.now c.args.value ≡ false = search rules in
     λ s rep sound. get_begins c.args.self.now s rep sound c.in_ok-found.found.board (entry_of c.in_ok-found.found.kind) c.entry_held-entry.result.now c.entry_held-entry.ensures c.args.party.now c.args.handle.now c.in_ok-found.found refl refl h c.args.value c.get.result c.value_type_of.result
-    (c.get.ensures ∙ ap (λ (x : CellShape). a_get x) c.read_core-core.ensures) free c.value_type_of.ensures
+    (c.get.ensures ∙ ap (λ (x : CellShape). a_get x) c.read_core-core.ensures) free (c.value_type_of.ensures ∙ ap (λ (e : Entry). value_type_of e.value) c.entry.view_is)
 
 pub entry_held-entry-requires-clause-held : goal.entry_held-entry-requires-clause-held
 entry_held-entry-requires-clause-held g c =
