@@ -123,7 +123,7 @@ pub mod service {
             pub use board_layout::{TypeDetail, TypeVariant};
         }
 
-        /// The type of its keys, its limits, and its entries.
+        /// The type of its keys, its limits, and its entries, each with the type of its values.
         pub mod blackboard {
             pub use board_service::{EntryRow as Entry, KeptType, StaticConfig};
         }

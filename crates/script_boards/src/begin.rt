@@ -52,7 +52,7 @@ fn used(found: Option<Held>) -> Result<Held, Reason>
     found.ok_or(Reason::Unknown)
 }
 
-// The type of a script's values that is kept so.
+// Which of a script's value types a board keeps here.
 fn value_type_of(kept: &KeptType) -> ValueType
     ensures { result ≡ types.value_type_of kept.now }
 {
@@ -65,7 +65,7 @@ fn value_type_of(kept: &KeptType) -> ValueType
     }
 }
 
-// Whether values of the type are of an entry's.
+// Whether an entry has values of this type.
 fn is_type_of(value_type: ValueType, entry: &EntryRow) -> bool
     ensures { result ≡ types.same_type (types.value_detail value_type) entry.now.value }
 {
