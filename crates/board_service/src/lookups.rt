@@ -57,7 +57,10 @@ fn entry_from<'a, K: BoardKey>(key: &K, entries: &'a [EntryRow]) -> Option<(u64,
     None
 }
 
-fn of_type<'a>(value: &TypeDetail, found: Option<(u64, &'a EntryRow)>) -> Option<(u64, &'a EntryRow)>
+fn of_type<'a>(
+    value: &TypeDetail,
+    found: Option<(u64, &'a EntryRow)>,
+) -> Option<(u64, &'a EntryRow)>
     ensures same { option_map (λ f. (f.0, f.1.now)) result
         ≡ tables.of_type value.now (option_map (λ f. (f.0, f.1.now)) found.entry) }
     ensures one { IfSome result (λ f. found.entry ≡ Some f) }
