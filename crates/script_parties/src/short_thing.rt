@@ -96,7 +96,7 @@ impl ShortThing {
         self.whole_kind().is(kind)
     }
 
-    /// It as a `Held`, which the party has under the name.
+    /// The thing as a `Held`, whose party and name are these.
     #[inline(always)]
     pub(crate) fn held_under(&self, seat: &Seat) -> Held
         requires { is_at seat.now self.now ≡ true }
@@ -110,7 +110,7 @@ impl ShortThing {
         }
     }
 
-    /// Whether it is the one that a party holds under a name.
+    /// Whether a party holds it under a name.
     pub(crate) fn is_under(&self, seat: &Seat) -> bool
         ensures { result ≡ is_at seat.now self.now }
     {
