@@ -34,4 +34,5 @@ returns-in-Some-cells c =
     slice_get_read c.in-Some.entries.now (length c.in-Some.entries.now) c.args.entry c.in-Some-get.found.now refl c.in-Some-get.ensures.lookup.3.0 c.in-Some-get.ensures.lookup.1 in
     let told : Some c.in-Some.entries.now ≡ option_map (λ (x : Board). x.entries) (board_at c.args.core.now.tables c.args.board) = search rules in
     let suit : SuitBoard AreFor (board_at c.args.core.now.tables c.args.board) (Some c.in-Some-cells.cells.now) = search rules in
-    c.has_cell.ensures ∙ tells_entry (board_at c.args.core.now.tables c.args.board) c.in-Some.entries.now c.in-Some-cells.cells.now c.args.entry c.in-Some-get.found.now told suit there
+    c.has_cell.ensures ∙ ap (λ (e : Entry). has_cell c.in-Some-cells.cells.now c.args.entry e.cell.words) c.found.view_is
+    ∙ tells_entry (board_at c.args.core.now.tables c.args.board) c.in-Some.entries.now c.in-Some-cells.cells.now c.args.entry c.in-Some-get.found.now told suit there

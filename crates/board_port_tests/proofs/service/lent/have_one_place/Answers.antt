@@ -1,4 +1,4 @@
-use Rattle.std.proofs.Common.{◌≡◌, ◌∙◌, ℕ, List, length, Option, Some, None, refl, ap, rules}
+use Rattle.std.proofs.Common.{◌≡◌, ◌∙◌, ℕ, List, length, Option, Some, None, refl, sym, ap, rules}
 use Rattle.std.specs.Prelude.{◌==◌, option_map, slice_get}
 use Rattle.std.proofs.lemmas.Bool.{OnTrue_from, eqb-true}
 use Rattle.std.proofs.lemmas.Option.{slice_get_read}
@@ -14,11 +14,11 @@ entry_told None es i e told is = absurd cc
 entry_told (Some b) es i e told is = let same : b.entries ≡ es = cc in ap (λ (xs : List Entry). slice_get xs i) same ∙ is
 
 pub returns : goal.returns
-returns g c = OnTrue_from (one.cell.place == other.cell.place) (c.args.i ≡ c.args.j) λ same.
+returns g c = OnTrue_from (c.one.inside.cell.place == c.other.inside.cell.place) (c.args.i ≡ c.args.j) λ same.
     one_place t c.args.core.now.last_thing c.facts.ensures.tables c.args.board c.args.i c.args.j one other
     (entry_told (board_at t c.args.board) es c.args.i one told (slice_get_read es (length es) c.args.i one refl c.in-Some-get.ensures.lookup.3.0 c.in-Some-get.ensures.lookup.1))
     (entry_told (board_at t c.args.board) es c.args.j other told (slice_get_read es (length es) c.args.j other refl c.in-Some-get-2.ensures.lookup.3.0 c.in-Some-get-2.ensures.lookup.1))
-    (eqb-true one.cell.place other.cell.place same)
+    (sym (ap place c.one.view_is) ∙ eqb-true c.one.inside.cell.place c.other.inside.cell.place same ∙ ap place c.other.view_is)
   where
     t : Tables ℕ ℕ
     t = c.args.core.now.tables
@@ -31,6 +31,9 @@ returns g c = OnTrue_from (one.cell.place == other.cell.place) (c.args.i ≡ c.a
 
     other : Entry
     other = c.in-Some-get-2.other.now
+
+    place : Entry → ℕ
+    place e = e.cell.place
 
     told : Some es ≡ option_map (λ (x : Board). x.entries) (board_at t c.args.board)
     told = search rules
