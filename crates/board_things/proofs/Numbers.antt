@@ -1,10 +1,10 @@
 -- Things under their numbers, as things come and go.
-use Rattle.std.proofs.Common.{◌≡◌, ◌≢◌, ℕ, ◌+◌, ◌-◌, ◌≤◌, ◌<◌, ◌^◌, Bool, true, false, cond, ◌==◌, List, [], ◌∷◌, ◌++◌, length, Option, Some, None, refl, sym, ap, subst, ◌∙◌, arith}
+use Rattle.std.proofs.Common.{◌≡◌, ◌≢◌, ℕ, ◌+◌, ◌-◌, ◌≤◌, ◌<◌, ◌^◌, Bool, true, false, cond, ◌==◌, [], ◌∷◌, ◌++◌, length, Option, Some, None, refl, sym, ap, subst, ◌∙◌, arith}
 use Rattle.std.specs.Prelude.{find, nat_eq, IfSome}
 use Rattle.board_model.specs.declared.tables.Thing.{Thing}
 use Rattle.board_model.specs.Tables.{without_first}
 use Rattle.board_numbered.specs.Standing.{standing}
-use Rattle.board_numbered.proofs.Standing.{Picks, few, found_standing, is_other, is_same, standing_more, without_standing}
+use Rattle.board_numbered.proofs.Standing.{Picks, few, found_standing, is_same, standing_more, without_standing}
 use Rattle.board_things.specs.Kept.{AreNumbered, IsNumbered}
 use Rattle.board_things.specs.Things.{is_thing}
 

@@ -1,20 +1,19 @@
 -- Pairs of a board and a node, in order, as one comes and one goes.
-use Rattle.std.proofs.Common.{◌≡◌, ℕ, zero, suc, ◌+◌, ◌-◌, ◌<◌, ◌≤◌, Bool, true, false, cond, List, [], ◌∷◌, length, take, drop, refl, sym, ap, ◌∙◌, subst, arith}
-use Rattle.std.specs.Prelude.{◌&&◌, ◌||◌, ◌==◌, not, nat_eq, nat_lt, slice_get, slice_index_or, if◌then◌else◌, Option, Some, None}
+use Rattle.std.proofs.Common.{◌≡◌, ℕ, zero, suc, ◌+◌, ◌<◌, ◌≤◌, Bool, true, false, cond, List, [], ◌∷◌, length, drop, refl, sym, ap, ◌∙◌, subst, arith}
+use Rattle.std.specs.Prelude.{◌&&◌, ◌||◌, ◌==◌, not, nat_eq, nat_lt, slice_get, slice_index_or, if◌then◌else◌, Option, None}
 use Rattle.std.specs.Bool.{then_some}
 use Rattle.std.specs.List.{AllByRecursion, insert, list_any, prefix_len, remove}
 use Rattle.std.specs.List.Sorted.{IsPartitionPoint, IsPartitionedBy}
 use Rattle.std.proofs.lemmas.Bool.{eqb-true, eqb-false, eq-eqb, lt-ltb, ltb-true, ltb-false, false≢true, false_from_ne_true, and_from, or_right, or_left}
-use Rattle.std.proofs.lemmas.List.{length-drop, take_all}
-use Rattle.board_things.specs.Nodes.{AreInOrder, comes_before, is_pair, nodes_in}
+use Rattle.board_things.specs.Nodes.{AreInOrder, comes_before, is_pair, node_of, nodes_in}
 
-abbrev Pair : Type 0
+abbrev pub Pair : Type 0
 Pair = ℕ × ℕ
 
 -- ---- the order of pairs
 
 -- one pair comes before another
-abbrev before : Pair → Pair → Bool
+abbrev pub before : Pair → Pair → Bool
 before p q = comes_before q.0 q.1 p
 
 -- both are one pair
@@ -67,7 +66,7 @@ turned p q h d = by (nat_lt q.0 p.0) (nat_lt p.0 q.0) (nat_lt q.1 p.1) (nat_lt p
 
 -- ---- all of a list
 
-abbrev AllAfter : Pair → List Pair → Type 0
+abbrev pub AllAfter : Pair → List Pair → Type 0
 AllAfter p qs = AllByRecursion (λ (q : Pair). before p q ≡ true) qs
 
 all_at : (p : Pair) (qs : List Pair) (k : ℕ) (d : Pair) → AllAfter p qs → k < length qs → before p (slice_index_or qs k d) ≡ true
@@ -78,6 +77,21 @@ all_at p (q ∷ qs) (suc k) d h lt = all_at p qs k d h.1 (omega (arith, lt))
 all_after : (p q : Pair) (qs : List Pair) → before p q ≡ true → AllAfter q qs → AllAfter p qs
 all_after p q [] h k = tt
 all_after p q (r ∷ rs) h k = (before_next p q r h k.0, all_after p q rs h k.1)
+
+-- ---- a place between those that pass a test and those that don't
+
+module _ {X : Type 0} (test : X → Bool) where
+  pub placed : (xs : List X) (i : ℕ) → i ≤ length xs → IsPartitionPoint (λ x. test x ≡ true) (λ x. test x ≡ false) xs i → i ≡ prefix_len test xs
+  placed [] i le h = omega (arith, le)
+  placed (x ∷ xs) zero le h = sym (ap (λ (b : Bool). cond b (1 + prefix_len test xs) 0) (h.1 0 x (omega arith) (omega arith)))
+  placed (x ∷ xs) (suc i) le h =
+      let here : test x ≡ true = h.0 0 x (omega arith) (omega arith) in
+      let rest = placed xs i (omega (arith, le)) (
+        λ k d low high. h.0 (suc k) d (omega arith) (omega (arith, high)),
+        λ k d low high. h.1 (suc k) d (omega (arith, low)) (omega (arith, high)),
+      ) in
+      let one : suc i ≡ 1 + prefix_len test xs = omega (arith, rest) in
+      one ∙ sym (ap (λ (b : Bool). cond b (1 + prefix_len test xs) 0) here)
 
 -- ---- where the pairs begin that don't come before one
 
@@ -94,18 +108,6 @@ module _ (board node : ℕ) where
   parted (p ∷ ps) up zero (suc j) d le lt h = before_next p (slice_index_or ps j d) it (all_at p ps j d up.0 (omega (arith, lt))) h
   parted (p ∷ ps) up (suc i) zero d le lt h = absurd (omega (arith, le))
   parted (p ∷ ps) up (suc i) (suc j) d le lt h = parted ps up.1 i j d (omega (arith, le)) (omega (arith, lt)) h
-
-  pub placed : (ps : List Pair) (i : ℕ) → i ≤ length ps → IsPartitionPoint (λ p. less p ≡ true) (λ p. less p ≡ false) ps i → i ≡ prefix_len less ps
-  placed [] i le h = omega (arith, le)
-  placed (p ∷ ps) zero le h = sym (ap (λ (b : Bool). cond b (1 + prefix_len less ps) 0) (h.1 0 p (omega arith) (omega arith)))
-  placed (p ∷ ps) (suc i) le h =
-      let here : less p ≡ true = h.0 0 p (omega arith) (omega arith) in
-      let rest = placed ps i (omega (arith, le)) (
-        λ k d low high. h.0 (suc k) d (omega arith) (omega (arith, high)),
-        λ k d low high. h.1 (suc k) d (omega (arith, low)) (omega (arith, high)),
-      ) in
-      let one : suc i ≡ 1 + prefix_len less ps = omega (arith, rest) in
-      one ∙ sym (ap (λ (b : Bool). cond b (1 + prefix_len less ps) 0) here)
 
   -- ---- one more
 
@@ -259,11 +261,6 @@ module _ (board node : ℕ) where
 
 -- ---- the nodes beside a board
 
--- the node of what was found, where it is of the board
-abbrev pub node_of : ℕ → Option Pair → Option ℕ
-node_of board None = None
-node_of board (Some p) = then_some (p.0 == board) p.1
-
 -- each number is less than all that follow it
 abbrev pub Ascends : List ℕ → Type 0
 Ascends [] = Unit {0}
@@ -364,32 +361,3 @@ module _ (board : ℕ) where
       by : (b : Bool) → nat_eq p.0 board ≡ b → among n (nodes ps) ≡ list_any (is_pair board n) ps → among n (if b then p.1 ∷ nodes ps else nodes ps) ≡ ((b && p.1 == n) || list_any (is_pair board n) ps)
       by true e ih = ap (λ (z : Bool). p.1 == n || z) ih
       by false e ih = ih
-
--- ---- what a slice gives at a place
-
-given : (ps : List Pair) (i : ℕ) (p : Pair) → i < length ps → p ≡ slice_index_or ps i p → slice_get ps i ≡ Some p
-given [] i p lt e = absurd (omega (arith, lt))
-given (q ∷ qs) zero p lt e = ap (λ (x : Pair). Some x) (sym e)
-given (q ∷ qs) (suc i) p lt e = given qs i p (omega (arith, lt)) e
-
-none_given : (ps : List Pair) (i : ℕ) → length ps ≤ i → slice_get ps i ≡ None
-none_given [] i le = refl
-none_given (q ∷ qs) zero le = absurd (omega (arith, le))
-none_given (q ∷ qs) (suc i) le = none_given qs i (omega (arith, le))
-
-module _ (board : ℕ) (ps : List Pair) (up : AreInOrder ps) (i : ℕ) where
-  abbrev pub rest_from : ℕ → List Pair
-  rest_from first = take (length ps - first) (drop first ps)
-
-  whole : (first : ℕ) → rest_from first ≡ drop first ps
-  whole first = take_all (length ps - first) (drop first ps) (omega (arith, length-drop first ps))
-
-  pub node_given : (first : ℕ) (p : Pair) → first ≡ prefix_len (comes_before board 0) ps → i < length (rest_from first) → p ≡ slice_index_or (rest_from first) i p → node_of board (Some p) ≡ slice_get (nodes_in board ps) i
-  node_given first p e lt s =
-      sym (ap (λ (o : Option Pair). node_of board o) (given (rest_from first) i p lt s)) ∙ ap (λ (qs : List Pair). node_of board (slice_get qs i)) (whole first)
-      ∙ ap (λ (k : ℕ). node_of board (slice_get (drop k ps) i)) e ∙ node_at board ps up i
-
-  pub node_past : (first : ℕ) → first ≡ prefix_len (comes_before board 0) ps → length (rest_from first) ≤ i → None ≡ slice_get (nodes_in board ps) i
-  node_past first e le =
-      sym (ap (λ (o : Option Pair). node_of board o) (none_given (rest_from first) i le)) ∙ ap (λ (qs : List Pair). node_of board (slice_get qs i)) (whole first)
-      ∙ ap (λ (k : ℕ). node_of board (slice_get (drop k ps) i)) e ∙ node_at board ps up i

@@ -1,6 +1,8 @@
 -- The nodes of a board, ascending, and how the nodes of all boards are kept.
-use Rattle.std.specs.Prelude.{◌≡◌, ℕ, ◌+◌, Bool, true, not, ◌&&◌, ◌||◌, ◌==◌, nat_eq, nat_lt, if◌then◌else◌, List, [], ◌∷◌, Option, Some, None}
-use Rattle.std.specs.List.{AllByRecursion, list_any}
+use Rattle.std.specs.Prelude.{◌≡◌, ℕ, ◌+◌, ◌-◌, ◌<◌, Bool, true, not, ◌&&◌, ◌||◌, ◌==◌, nat_eq, nat_lt, if◌then◌else◌, List, [], ◌∷◌, length, slice_index_or, vec_capacity, vec_len, Option, Some, None}
+use Rattle.std.specs.Bool.{then_some}
+use Rattle.std.specs.List.{AllByRecursion, flat_map, list_any}
+use Rattle.std.specs.Global.{Vec}
 use Rattle.board_model.specs.declared.tables.Thing.{Thing}
 use Rattle.board_model.specs.Tables.{is_node, is_of_board}
 
@@ -37,7 +39,55 @@ abbrev pub nodes_in : ℕ → List (ℕ × ℕ) → List ℕ
 nodes_in board [] = []
 nodes_in board (p ∷ ps) = if p.0 == board then p.1 ∷ nodes_in board ps else nodes_in board ps
 
+-- the node of a pair, where it is of the board
+abbrev pub node_of : ℕ → Option (ℕ × ℕ) → Option ℕ
+node_of board None = None
+node_of board (Some p) = then_some (p.0 == board) p.1
+
 -- the pairs are in order, and those of the nodes with things of boards
 pub record AreNodes (pairs : List (ℕ × ℕ)) (ts : List (Thing ℕ ℕ)) : Type 0 where
   pub order : AreInOrder pairs
   pub are : (board node : ℕ) → list_any (is_pair board node) pairs ≡ is_node nat_eq board node ts
+
+-- ---- in parts
+
+-- the pairs, and for how many more there is memory
+pub record Pairs : Type 0 where
+  pub pairs : List (ℕ × ℕ)
+  pub room : ℕ
+
+-- as many pairs as a part has at most
+abbrev pub most_pairs : ℕ
+most_pairs = 256
+
+-- the pairs of all parts
+abbrev pub joined : List (List (ℕ × ℕ)) → List (ℕ × ℕ)
+joined parts = flat_map (λ (part : List (ℕ × ℕ)). part) parts
+
+-- the part at a place
+abbrev pub part_at : ℕ → List (List (ℕ × ℕ)) → List (ℕ × ℕ)
+part_at place parts = slice_index_or parts place []
+
+abbrev pub HasPair : List (ℕ × ℕ) → Type 0
+HasPair part = 0 < length part
+
+-- each part has a pair, and all pairs are in order
+pub record AreParts (parts : List (List (ℕ × ℕ))) : Type 0 where
+  pub filled : AllByRecursion HasPair parts
+  pub order : AreInOrder (joined parts)
+
+-- the last pair of a part comes before that of this board and node
+abbrev pub ends_before : ℕ → ℕ → List (ℕ × ℕ) → Bool
+ends_before board node [] = true
+ends_before board node (p ∷ []) = comes_before board node p
+ends_before board node (p ∷ (q ∷ ps)) = ends_before board node (q ∷ ps)
+
+-- for how many pairs more there is memory: one, where a part stands ready and there is room for it
+abbrev pub room_of : Vec (List (ℕ × ℕ)) → Option (List (ℕ × ℕ)) → ℕ
+room_of parts None = 0
+room_of parts (Some part) = vec_capacity parts - vec_len parts
+
+-- a part stands ready, and there is room for it
+pub record HasRoom (parts : Vec (List (ℕ × ℕ))) (spare : Option (List (ℕ × ℕ))) : Type 0 where
+  pub ready : spare ≡ Some []
+  pub room : vec_len parts < vec_capacity parts

@@ -6,11 +6,13 @@
 //! its readers, its writer slots and its nodes, and by hashed pairs the things of a board and a node, those that keep a
 //! port, and the write handles of an entry. `specs/Kept` has the invariant: each thing stands under its own number, and
 //! each kept number is the count over the things.
-//! The nodes of all boards stand in one sorted list of pairs (`nodes`), in which those of a board stand together. A node that
-//! comes to a board or leaves it moves what stands behind it in the list, so that grows with the nodes.
+//! The nodes of all boards stand in one sorted list of pairs (`nodes`), in which those of a board stand together. The list is
+//! kept in parts of at most 256 pairs (`part`, `parts`): a node that comes to a board or leaves it moves no more than a part.
 #![tactic(auto)]
 
 mod nodes;
+mod part;
+mod parts;
 mod things;
 mod uses;
 

@@ -1,87 +1,91 @@
 //! Which nodes have things of a board: pairs of a board and a node, in order, so that those of a board stand together and ascend.
-ghost use Rattle.std.specs.Prelude.{ℕ, ◌≡◌, ◌<◌, ◌≤◌, ◌&&◌, ◌||◌, not, length, insert, remove, slice_get, vec_len, vec_capacity, true, false};
+ghost use Rattle.std.specs.Prelude.{ℕ, ◌≡◌, ◌<◌, ◌&&◌, ◌||◌, [], not, slice_get, false, true, OnOk};
 ghost use Rattle.std.specs.Bool.{OnTrue};
-ghost use Rattle.std.specs.List.{list_any, prefix_len};
+ghost use Rattle.std.specs.List.{list_any};
 ghost use Rattle.board_things.specs.Nodes as nodes;
 
-fn comes_before(board: u64, node: u64, pair: &(u64, u64)) -> bool
-    ensures { result ≡ nodes.comes_before board node pair.now }
-{
-    pair.0 < board || pair.0 == board && pair.1 < node
+use crate::part::Part;
+use crate::parts::{node_in, put, take};
+use std::alloc::{AllocError, Global};
+use std::marker::Model;
+
+/// Pairs of a board and a node, in order.
+#[derive(Drop)]
+pub(crate) struct Nodes {
+    /// Each with a pair at least.
+    parts: Vec<Part>,
+    /// A part without pairs, for the next that is needed.
+    spare: Option<Part>,
 }
 
-// How many pairs come before that of the board and the node.
-fn place_of(board: u64, node: u64, pairs: &[(u64, u64)]) -> usize
-    requires { nodes.AreInOrder pairs.now }
-    ensures place { result ≡ prefix_len (nodes.comes_before board node) pairs.now }
-    ensures inside { result ≤ length pairs.now }
-{
-    pairs.partition_point(|p| comes_before(board, node, p))
+impl Model for Nodes {
+    ghost use Rattle.std.specs.Prelude.{◌≡◌, [], ◌-◌, IfSome, is_some};
+    ghost use Rattle.std.specs.Vec.{vec_capacity, vec_len};
+    ghost use Rattle.board_things.specs.Nodes.{AreParts, Pairs, joined, room_of};
+
+    ghost Value = { Pairs };
+
+    ghost view = { λ d. record { pairs = joined d.parts.items; room = room_of d.parts d.spare } };
+
+    ghost invariant = { λ d. AreParts d.parts.items × IfSome d.spare (λ p. p ≡ []) };
 }
 
-/// The node at a place among those of the board.
-pub(crate) fn node_in(board: u64, index: u64, pairs: &[(u64, u64)]) -> Option<u64>
-    requires { nodes.AreInOrder pairs.now }
-    ensures { result ≡ slice_get (nodes.nodes_in board pairs.now) index }
-{
-    let first = place_of(board, 0, pairs);
-    match pairs[first..].get(index as usize) {
-        Some(p) => (p.0 == board).then_some(p.1),
-        None => None,
+impl Nodes {
+    /// No pairs. Takes no memory.
+    pub(crate) fn new(alloc: Global) -> Nodes
+        ensures { result.pairs ≡ [] }
+    {
+        Nodes {
+            parts: Vec::new(alloc),
+            spare: None,
+        }
     }
-}
 
-// Adds a pair, which is none of these. Takes no memory: there is room.
-fn put(board: u64, node: u64, pairs: &mut Vec<(u64, u64)>)
-    requires order { nodes.AreInOrder pairs.old.items }
-    requires other { list_any (nodes.is_pair board node) pairs.old.items ≡ false }
-    requires room { vec_len pairs.old < vec_capacity pairs.old }
-    ensures order { nodes.AreInOrder pairs.new.items }
-    ensures are { (b n : ℕ) → list_any (nodes.is_pair b n) pairs.new.items
-        ≡ (nodes.is_pair b n (board, node) || list_any (nodes.is_pair b n) pairs.old.items) }
-{
-    let place = place_of(board, node, pairs);
-    let Ok(()) = pairs.insert(place, (board, node)) else {
-        // There is room.
-        unreachable!()
-    };
-}
-
-// Takes a pair out, which is one of these.
-fn take(board: u64, node: u64, pairs: &mut Vec<(u64, u64)>)
-    requires order { nodes.AreInOrder pairs.old.items }
-    requires one { list_any (nodes.is_pair board node) pairs.old.items ≡ true }
-    ensures order { nodes.AreInOrder pairs.new.items }
-    ensures are { (b n : ℕ) → list_any (nodes.is_pair b n) pairs.new.items
-        ≡ (list_any (nodes.is_pair b n) pairs.old.items && not (nodes.is_pair b n (board, node))) }
-{
-    let place = place_of(board, node, pairs);
-    let _ = pairs.remove(place);
-}
-
-/// Adds the node of a board's thing, where it has no other of the board. Takes no memory: there is room.
-pub(crate) fn put_first(is_first: bool, board: u64, node: u64, pairs: &mut Vec<(u64, u64)>)
-    requires order { nodes.AreInOrder pairs.old.items }
-    requires other { OnTrue is_first (list_any (nodes.is_pair board node) pairs.old.items ≡ false) }
-    requires room { vec_len pairs.old < vec_capacity pairs.old }
-    ensures order { nodes.AreInOrder pairs.new.items }
-    ensures are { (b n : ℕ) → list_any (nodes.is_pair b n) pairs.new.items
-        ≡ (is_first && nodes.is_pair b n (board, node) || list_any (nodes.is_pair b n) pairs.old.items) }
-{
-    if is_first {
-        put(board, node, pairs);
+    /// Makes room for one pair more.
+    ///
+    /// # Errors
+    /// `AllocError` where memory is refused. The pairs stay.
+    pub(crate) fn reserve(&mut self) -> Result<(), AllocError>
+        ensures pairs { self.new.pairs ≡ self.old.pairs }
+        ensures room { OnOk result (0 < self.new.room) }
+    {
+        self.parts.reserve(1)?;
+        if self.spare.is_none() {
+            let alloc = *self.parts.allocator();
+            self.spare = Some(Part::new(alloc)?);
+        }
+        Ok(())
     }
-}
 
-/// Takes the node of a board's thing out, where it has no other of the board. Takes no memory.
-pub(crate) fn take_last(is_last: bool, board: u64, node: u64, pairs: &mut Vec<(u64, u64)>)
-    requires order { nodes.AreInOrder pairs.old.items }
-    requires one { OnTrue is_last (list_any (nodes.is_pair board node) pairs.old.items ≡ true) }
-    ensures order { nodes.AreInOrder pairs.new.items }
-    ensures are { (b n : ℕ) → list_any (nodes.is_pair b n) pairs.new.items
-        ≡ (list_any (nodes.is_pair b n) pairs.old.items && not (is_last && nodes.is_pair b n (board, node))) }
-{
-    if is_last {
-        take(board, node, pairs);
+    /// Adds the node of a board's thing, where it has no other of the board. Takes no memory: there is room.
+    pub(crate) fn put_first(&mut self, is_first: bool, board: u64, node: u64)
+        requires other { OnTrue is_first (list_any (nodes.is_pair board node) self.old.pairs ≡ false) }
+        requires room { 0 < self.old.room }
+        ensures order { nodes.AreInOrder self.new.pairs }
+        ensures are { (b n : ℕ) → list_any (nodes.is_pair b n) self.new.pairs
+            ≡ (is_first && nodes.is_pair b n (board, node) || list_any (nodes.is_pair b n) self.old.pairs) }
+    {
+        if is_first {
+            put(board, node, &mut self.parts, &mut self.spare);
+        }
+    }
+
+    /// Takes the node of a board's thing out, where it has no other of the board. Takes no memory.
+    pub(crate) fn take_last(&mut self, is_last: bool, board: u64, node: u64)
+        requires one { OnTrue is_last (list_any (nodes.is_pair board node) self.old.pairs ≡ true) }
+        ensures order { nodes.AreInOrder self.new.pairs }
+        ensures are { (b n : ℕ) → list_any (nodes.is_pair b n) self.new.pairs
+            ≡ (list_any (nodes.is_pair b n) self.old.pairs && not (is_last && nodes.is_pair b n (board, node))) }
+    {
+        if is_last {
+            take(board, node, &mut self.parts);
+        }
+    }
+
+    /// The node at a place among those of the board.
+    pub(crate) fn node_at(&self, board: u64, index: u64) -> Option<u64>
+        ensures { result ≡ slice_get (nodes.nodes_in board self.now.pairs) index }
+    {
+        node_in(board, index, &self.parts)
     }
 }

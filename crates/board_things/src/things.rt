@@ -5,7 +5,7 @@ ghost use Rattle.board_model.specs.Tables as tables;
 ghost use Rattle.board_things.specs.Things.{HasThing, is_thing, new_thing, thing_numbered};
 ghost use Rattle.board_things.specs.Nodes as nodes;
 
-use crate::nodes::{node_in, put_first, take_last};
+use crate::nodes::Nodes;
 use crate::uses::{
     Use, count_at, is_only_of_port, lower, lower_at, lower_handle, lower_port, raise, raise_at,
     raise_handle, raise_port, use_of,
@@ -33,7 +33,7 @@ pub struct Things {
     /// How many write handles an entry has, by board and entry.
     written: HashMap<(u64, u64), u64>,
     /// The nodes with a thing of a board, by board and node, in order.
-    nodes: Vec<(u64, u64)>,
+    nodes: Nodes,
 }
 
 impl Model for Things {
@@ -41,8 +41,7 @@ impl Model for Things {
     ghost use Rattle.board_numbered.specs.Standing.{standing, under};
     ghost use Rattle.board_things.specs.Kept.{AreHeld, AreNumbered, ArePorts, AreUses, AreWritten};
     ghost use Rattle.board_things.specs.Nodes.{AreNodes};
-    ghost use Rattle.std.specs.Prelude.{◌-◌, min};
-    ghost use Rattle.std.specs.Vec.{vec_capacity, vec_len};
+    ghost use Rattle.std.specs.Prelude.{min};
     ghost use Rattle.std.specs.HashMap.{spare};
 
     ghost Value = { Numbered };
@@ -51,7 +50,7 @@ impl Model for Things {
       things = standing (under d.items) d.last;
       last = d.last;
       room = min (spare d.items)
-          (min (vec_capacity d.nodes - vec_len d.nodes)
+          (min d.nodes.room
           (min (spare d.uses) (min (spare d.held) (min (spare d.ports) (spare d.written)))));
     } };
 
@@ -60,7 +59,7 @@ impl Model for Things {
         × AreHeld d.held (standing (under d.items) d.last)
         × ArePorts d.ports (standing (under d.items) d.last)
         × AreWritten d.written (standing (under d.items) d.last)
-        × AreNodes d.nodes.items (standing (under d.items) d.last) };
+        × AreNodes d.nodes.pairs (standing (under d.items) d.last) };
 }
 
 impl Things {
@@ -76,7 +75,7 @@ impl Things {
             held: HashMap::new(alloc),
             ports: HashMap::new(alloc),
             written: HashMap::new(alloc),
-            nodes: Vec::new(alloc),
+            nodes: Nodes::new(alloc),
         }
     }
 
@@ -139,7 +138,7 @@ impl Things {
         ensures { result
             ≡ nodes.node_from nat_eq nat_lt board index self.now.things self.now.things }
     {
-        node_in(board, index, &self.nodes)
+        self.nodes.node_at(board, index)
     }
 
     /// Whether a write handle of the entry stands.
@@ -165,7 +164,7 @@ impl Things {
         ensures last { self.new.last ≡ self.old.last }
         ensures room { OnOk result (0 < self.new.room) }
     {
-        self.nodes.reserve(1)?;
+        self.nodes.reserve()?;
         self.uses.reserve(1)?;
         self.held.reserve(1)?;
         self.ports.reserve(1)?;
@@ -186,7 +185,7 @@ impl Things {
         raise_at(board, holder, &mut self.held);
         raise_port(board, &kind, &mut self.ports);
         raise_handle(board, &kind, &mut self.written);
-        put_first(node, board, holder, &mut self.nodes);
+        self.nodes.put_first(node, board, holder);
         raise(board, &kind, node, port, &mut self.uses);
         self.last += 1;
         let thing = Thing {
@@ -218,7 +217,7 @@ impl Things {
         lower_handle(gone.board, &gone.kind, &mut self.written);
         let node = count_at(gone.board, gone.holder, &self.held) == 0;
         let port = is_only_of_port(gone.board, &gone.kind, &self.ports);
-        take_last(node, gone.board, gone.holder, &mut self.nodes);
+        self.nodes.take_last(node, gone.board, gone.holder);
         lower(gone.board, &gone.kind, node, port, &mut self.uses);
         gone
     }

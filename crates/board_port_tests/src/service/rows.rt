@@ -16,7 +16,7 @@ use std::process::Abort;
 use std::test::Fail;
 
 // Makes the calls on one domain, one after another.
-fn agree<C: Cells + Drop>(
+fn agree_on<C: Cells + Drop>(
     rt: &impl Abort,
     alloc: Global,
     rows: &[(Call, Told)],
@@ -26,6 +26,12 @@ fn agree<C: Cells + Drop>(
         assert_eq!(rt; ask(alloc, &mut core, *call)?, *told, "{call:?}");
     }
     Ok(())
+}
+
+// The same with each kind of cells.
+fn agree(rt: &impl Abort, alloc: Global, rows: &[(Call, Told)]) -> Result<(), Fail> {
+    agree_on::<PlainWords>(rt, alloc, rows)?;
+    agree_on::<SeatWords>(rt, alloc, rows)
 }
 
 const TWO_NODES: Limits = Limits {
@@ -72,8 +78,7 @@ fn boards_are_refused(rt: HostRuntime) -> Result<(), Fail> {
             Told::Made(2, 2),
         ),
     ];
-    agree::<PlainWords>(&rt, rt.alloc(), &rows)?;
-    agree::<SeatWords>(&rt, rt.alloc(), &rows)
+    agree(&rt, rt.alloc(), &rows)
 }
 
 #[test]
@@ -103,7 +108,7 @@ fn openers_are_refused_in_order(rt: HostRuntime) -> Result<(), Fail> {
         ),
         (Call::Open(1, "b", ANY), Told::Made(4, 1)),
     ];
-    agree::<PlainWords>(&rt, rt.alloc(), &rows)
+    agree(&rt, rt.alloc(), &rows)
 }
 
 #[test]
@@ -127,7 +132,7 @@ fn a_reader_slot_is_freed_by_its_reader(rt: HostRuntime) -> Result<(), Fail> {
         (Call::Entry(2, 1), Told::Unknown),
         (Call::Reader(1), Told::Made(4, 2)),
     ];
-    agree::<PlainWords>(&rt, rt.alloc(), &rows)
+    agree(&rt, rt.alloc(), &rows)
 }
 
 #[test]
@@ -154,7 +159,7 @@ fn the_writer_slot_is_freed_with_the_last_handle(rt: HostRuntime) -> Result<(), 
         (Call::Release(3, ThingKind::WriteHandle), Told::Gone(false)),
         (Call::Writer(1), Told::Made(4, 2)),
     ];
-    agree::<PlainWords>(&rt, rt.alloc(), &rows)
+    agree(&rt, rt.alloc(), &rows)
 }
 
 const TWO_WRITERS: NewLimits = NewLimits {
@@ -184,7 +189,7 @@ fn two_writers_of_one_board(rt: HostRuntime) -> Result<(), Fail> {
         (Call::Release(4, ThingKind::WriteHandle), Told::Gone(false)),
         (Call::Writer(1), Told::Made(6, 3)),
     ];
-    agree::<PlainWords>(&rt, rt.alloc(), &rows)
+    agree(&rt, rt.alloc(), &rows)
 }
 
 #[test]
@@ -211,8 +216,7 @@ fn a_board_goes_with_its_last_thing(rt: HostRuntime) -> Result<(), Fail> {
         ),
         (Call::Open(2, "g", ANY), Told::Made(5, 2)),
     ];
-    agree::<PlainWords>(&rt, rt.alloc(), &rows)?;
-    agree::<SeatWords>(&rt, rt.alloc(), &rows)
+    agree(&rt, rt.alloc(), &rows)
 }
 
 // Two calls that make a domain with one board, `f`, and its writer of node 2.

@@ -61,14 +61,14 @@ invariant_of-self c =
     let node = none_counted (is_held_by nat_eq c.args.board c.args.holder) ts c.count_at-node.result (c.count_at-node.ensures ∙ c.self.invariant.2 c.args.board c.args.holder) in
     let slot = c.is_only_of_port-port.ensures ∙ port_new c.self.inside.ports ts t (writer_port c.args.kind) c.self.invariant.3 in
     let are = c.in-Ok.ensures.updates.0 in
-    let kept : AreUses c.raise.new.uses (ts ++ t ∷ []) × AreHeld c.raise_at.new.counts (ts ++ t ∷ []) × ArePorts c.raise_port.new.ports (ts ++ t ∷ []) × AreWritten c.raise_handle.new.written (ts ++ t ∷ []) × AreNodes c.put_first.new.pairs.items (ts ++ t ∷ []) = (
+    let kept : AreUses c.raise.new.uses (ts ++ t ∷ []) × AreHeld c.raise_at.new.counts (ts ++ t ∷ []) × ArePorts c.raise_port.new.ports (ts ++ t ∷ []) × AreWritten c.raise_handle.new.written (ts ++ t ∷ []) × AreNodes c.put_first.new.self.pairs (ts ++ t ∷ []) = (
       all_more c.self.inside.uses c.raise.new.uses ts t (nat_eq c.count_at-node.result 0) c.is_only_of_port-port.result c.self.invariant.1 node slot c.raise.ensures,
       counts_more (is_held_by nat_eq) c.self.inside.held c.raise_at.new.counts ts t c.self.invariant.2 c.raise_at.ensures,
       counts_more is_of_port c.self.inside.ports c.raise_port.new.ports ts t c.self.invariant.3 c.raise_port.ensures,
       counts_more is_write_handle c.self.inside.written c.raise_handle.new.written ts t c.self.invariant.4 c.raise_handle.ensures,
-      nodes_more c.self.inside.nodes.items c.put_first.new.pairs.items ts t (nat_eq c.count_at-node.result 0) c.self.invariant.5 c.put_first.ensures.order node c.put_first.ensures.are,
+      nodes_more c.self.inside.nodes.pairs c.put_first.new.self.pairs ts t (nat_eq c.count_at-node.result 0) c.self.invariant.5 c.put_first.ensures.order node c.put_first.ensures.are,
     ) in
-    let all = subst (λ (xs : List (Thing ℕ ℕ)). AreUses c.raise.new.uses xs × AreHeld c.raise_at.new.counts xs × ArePorts c.raise_port.new.ports xs × AreWritten c.raise_handle.new.written xs × AreNodes c.put_first.new.pairs.items xs) (sym (pushed c.self.invariant.0 t refl are)) kept in
+    let all = subst (λ (xs : List (Thing ℕ ℕ)). AreUses c.raise.new.uses xs × AreHeld c.raise_at.new.counts xs × ArePorts c.raise_port.new.ports xs × AreWritten c.raise_handle.new.written xs × AreNodes c.put_first.new.self.pairs xs) (sym (pushed c.self.invariant.0 t refl are)) kept in
     (numbered_more c.self.invariant.0 t refl are, all.0, all.1, all.2, all.3, all.4)
 
 pub returns-clause-things : goal.returns-clause-things

@@ -17,14 +17,14 @@ invariant_of-self-2 c =
     let ts = standing (under c.self.inside.items) last in
     let h = c.self.invariant in
     let same = standing_same (under c.self.inside.items) (under c.reserve-6.new.self) last c.reserve-6.ensures.entries.2 in
-    let kept : AreUses c.reserve-2.new.self ts × AreHeld c.reserve-3.new.self ts × ArePorts c.reserve-4.new.self ts × AreWritten c.reserve-5.new.self ts × AreNodes c.reserve.new.self.items ts = (
+    let kept : AreUses c.reserve-2.new.self ts × AreHeld c.reserve-3.new.self ts × ArePorts c.reserve-4.new.self ts × AreWritten c.reserve-5.new.self ts × AreNodes c.reserve.new.self.pairs ts = (
       uses_same c.self.inside.uses c.reserve-2.new.self ts h.1 c.reserve-2.ensures.entries.2,
       counts_same (is_held_by nat_eq) c.self.inside.held c.reserve-3.new.self ts h.2 c.reserve-3.ensures.entries.2,
       counts_same is_of_port c.self.inside.ports c.reserve-4.new.self ts h.3 c.reserve-4.ensures.entries.2,
       counts_same is_write_handle c.self.inside.written c.reserve-5.new.self ts h.4 c.reserve-5.ensures.entries.2,
-      subst (λ (ps : List (ℕ × ℕ)). AreNodes ps ts) (sym c.reserve.ensures.items) h.5,
+      subst (λ (ps : List (ℕ × ℕ)). AreNodes ps ts) (sym c.reserve.ensures.pairs) h.5,
     ) in
-    let all = subst (λ (xs : List (Thing ℕ ℕ)). AreUses c.reserve-2.new.self xs × AreHeld c.reserve-3.new.self xs × ArePorts c.reserve-4.new.self xs × AreWritten c.reserve-5.new.self xs × AreNodes c.reserve.new.self.items xs) (sym same) kept in
+    let all = subst (λ (xs : List (Thing ℕ ℕ)). AreUses c.reserve-2.new.self xs × AreHeld c.reserve-3.new.self xs × ArePorts c.reserve-4.new.self xs × AreWritten c.reserve-5.new.self xs × AreNodes c.reserve.new.self.pairs xs) (sym same) kept in
     (numbered_same h.0 c.reserve-6.ensures.entries.2, all.0, all.1, all.2, all.3, all.4)
 
 pub invariant_of-self-in_err-reserve-4 : goal.invariant_of-self-in_err-reserve-4
@@ -36,7 +36,7 @@ invariant_of-self-in_err-reserve-4 c =
       counts_same (is_held_by nat_eq) c.self.inside.held c.reserve-3.new.self ts h.2 c.reserve-3.ensures.entries.2,
       counts_same is_of_port c.self.inside.ports c.reserve-4.new.self ts h.3 c.reserve-4.ensures.entries.2,
       h.4,
-      subst (λ (ps : List (ℕ × ℕ)). AreNodes ps ts) (sym c.reserve.ensures.items) h.5,
+      subst (λ (ps : List (ℕ × ℕ)). AreNodes ps ts) (sym c.reserve.ensures.pairs) h.5,
     )
 
 pub invariant_of-self-in_err-reserve-5 : goal.invariant_of-self-in_err-reserve-5
@@ -48,7 +48,7 @@ invariant_of-self-in_err-reserve-5 c =
       counts_same (is_held_by nat_eq) c.self.inside.held c.reserve-3.new.self ts h.2 c.reserve-3.ensures.entries.2,
       counts_same is_of_port c.self.inside.ports c.reserve-4.new.self ts h.3 c.reserve-4.ensures.entries.2,
       counts_same is_write_handle c.self.inside.written c.reserve-5.new.self ts h.4 c.reserve-5.ensures.entries.2,
-      subst (λ (ps : List (ℕ × ℕ)). AreNodes ps ts) (sym c.reserve.ensures.items) h.5,
+      subst (λ (ps : List (ℕ × ℕ)). AreNodes ps ts) (sym c.reserve.ensures.pairs) h.5,
     )
 
 pub returns-clause-things : goal.returns-clause-things

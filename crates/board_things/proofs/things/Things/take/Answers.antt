@@ -33,12 +33,12 @@ lower_handle-requires c = λ e.
     let p = is_thing c.args.number in
     written_used c.self.inside.written p (standing (under c.self.inside.items) c.self.inside.last) c.in-Some.gone e (found c.self.invariant.0 c.args.number ∙ sym c.remove.ensures.value ∙ c.in-Some.is) c.self.invariant.4
 
-pub take_last-requires-clause-one : goal.take_last-requires-clause-one
-take_last-requires-clause-one c =
+pub take_last-requires : goal.take_last-requires
+take_last-requires c =
     let p = is_thing c.args.number in
     let gone = c.in-Some.gone in
-    let nodes = c.self.inside.nodes.items in
-    OnTrue_from (nat_eq c.count_at-node.result 0) _ (λ _. nodes_has nodes nodes (standing (under c.self.inside.items) c.self.inside.last) gone true c.self.invariant.5 c.self.invariant.5.order p (found c.self.invariant.0 c.args.number ∙ sym c.remove.ensures.value ∙ c.in-Some.is))
+    let nodes = c.self.inside.nodes.pairs in
+    record { one = OnTrue_from (nat_eq c.count_at-node.result 0) _ (λ _. nodes_has nodes nodes (standing (under c.self.inside.items) c.self.inside.last) gone true c.self.invariant.5 c.self.invariant.5.order p (found c.self.invariant.0 c.args.number ∙ sym c.remove.ensures.value ∙ c.in-Some.is)) }
 
 pub lower-requires-clause-things : goal.lower-requires-clause-things
 lower-requires-clause-things c =
@@ -85,14 +85,14 @@ invariant_of-self c =
     let slot = c.is_only_of_port-port.ensures ∙ port_new c.lower_port.new.ports (without_first p ts) gone (writer_port gone.kind) ports in
     let are = c.remove.ensures.updates.0 in
     let rest = without_first p ts in
-    let kept : AreUses c.lower.new.uses rest × AreHeld c.lower_at.new.counts rest × ArePorts c.lower_port.new.ports rest × AreWritten c.lower_handle.new.written rest × AreNodes c.take_last.new.pairs.items rest = (
+    let kept : AreUses c.lower.new.uses rest × AreHeld c.lower_at.new.counts rest × ArePorts c.lower_port.new.ports rest × AreWritten c.lower_handle.new.written rest × AreNodes c.take_last.new.self.pairs rest = (
       all_less c.self.inside.uses c.lower.new.uses ts gone (nat_eq c.count_at-node.result 0) c.is_only_of_port-port.result c.self.invariant.1 p stood node slot c.lower.ensures.this c.lower.ensures.others,
       held,
       ports,
       written,
-      nodes_less c.self.inside.nodes.items c.take_last.new.pairs.items ts gone (nat_eq c.count_at-node.result 0) c.self.invariant.5 c.take_last.ensures.order p stood node c.take_last.ensures.are,
+      nodes_less c.self.inside.nodes.pairs c.take_last.new.self.pairs ts gone (nat_eq c.count_at-node.result 0) c.self.invariant.5 c.take_last.ensures.order p stood node c.take_last.ensures.are,
     ) in
-    let all = subst (λ (xs : List (Thing ℕ ℕ)). AreUses c.lower.new.uses xs × AreHeld c.lower_at.new.counts xs × ArePorts c.lower_port.new.ports xs × AreWritten c.lower_handle.new.written xs × AreNodes c.take_last.new.pairs.items xs) (sym (taken c.self.invariant.0 c.args.number are)) kept in
+    let all = subst (λ (xs : List (Thing ℕ ℕ)). AreUses c.lower.new.uses xs × AreHeld c.lower_at.new.counts xs × ArePorts c.lower_port.new.ports xs × AreWritten c.lower_handle.new.written xs × AreNodes c.take_last.new.self.pairs xs) (sym (taken c.self.invariant.0 c.args.number are)) kept in
     (numbered_less c.self.invariant.0 c.args.number are, all.0, all.1, all.2, all.3, all.4)
 
 pub returns-clause-taken : goal.returns-clause-taken
