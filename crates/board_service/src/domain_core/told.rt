@@ -1,5 +1,5 @@
 //! What is told of things and boards.
-ghost use Rattle.std.specs.Prelude.{◌≡◌, option_map, is_some, IsSome};
+ghost use Rattle.std.specs.Prelude.{◌≡◌, find, option_map, is_some, IsSome};
 ghost use Rattle.std.specs.Bool.{OnTrue};
 ghost use Rattle.board_layout.specs.Bytes.{details};
 ghost use Rattle.board_model.specs.Tables.{board_at};
@@ -20,8 +20,17 @@ use board_index::EntryRow;
 use board_layout::{BoardKey, KeyMemory, TypeDetail, TypeVariant};
 use board_model::ThingKind;
 use board_names::ServiceName;
+use board_things::Held;
 
 impl<C: Cells> DomainCore<C> {
+    /// The thing with the number, of the node with a number.
+    pub fn thing_at(&self, thing: ThingId) -> Option<&Held>
+        ensures { option_map (λ t. t.now) result
+            ≡ find (domain.is_thing thing) self.now.tables.things }
+    {
+        thing_at(thing, &self.things)
+    }
+
     /// The number of a thing's board, which stands.
     pub fn board_of(&self, thing: ThingId) -> u64
         requires { domain.Stands self.now thing }
