@@ -308,7 +308,10 @@ fn the_name_of_a_board_that_went_is_free(rt: HostRuntime) -> Result<(), Fail> {
     if !core.is_held::<u64>(ThingId(1), ThingKind::Factory) {
         return Err(Fail::new("no factory"));
     }
-    assert_eq!(rt; core.thing_at(ThingId(1)).map(|t| (t.holder, t.board)), Some((1, 1)));
+    assert_eq!(rt;
+        core.thing_at(ThingId(1)).map(|t| (t.holder, t.board)),
+        Some((1, 1))
+    );
     assert!(rt; core.thing_at(ThingId(2)).is_none());
     let attributes = AttributeSet::new(alloc);
     let entries = one(alloc, &5u64, 7)?;
