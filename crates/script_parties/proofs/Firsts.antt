@@ -110,7 +110,7 @@ pub there : {X : Type 0} (p : X → Bool) (o : Option X) → holds_at o p ≡ tr
 there p None e = absurd (let f : false ≡ true = e in cc)
 there p (Some x) e = (x, refl, e)
 
-some_there : {X : Type 0} (p : X → Bool) (o : Option X) → holds_at o p ≡ true → is_some o ≡ true
+pub some_there : {X : Type 0} (p : X → Bool) (o : Option X) → holds_at o p ≡ true → is_some o ≡ true
 some_there p None e = e
 some_there p (Some x) e = refl
 

@@ -9,7 +9,7 @@ pub mod Handles
 pub mod Holders
 pub mod KeyedCalls
 pub mod KeyTests
-pub mod KindParts
+pub mod NamesAndThings
 pub mod NewEntries
 pub mod NodeCounts
 pub mod Openings

@@ -1,5 +1,4 @@
 pub mod BoardNodes
-pub mod KindParts
 pub mod Named
 pub mod Numbered
 pub mod Overview

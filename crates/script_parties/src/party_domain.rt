@@ -22,8 +22,8 @@ use board_cell::Words;
 use board_layout::Text;
 use board_model::{
     AddedEntries, Attributes, Info, Key, KeyType, Keys, Kind, Limits, LongName, Name, Names,
-    NewLimits, Reply, Requirements, ThingKind, ValueType, key_detail, key_type_of, same_type,
-    type_of_key,
+    NewLimits, Reply, Requirements, Thing, ThingKind, ValueType, key_detail, key_type_of,
+    same_type, type_of_key,
 };
 use board_service::{BoardWords, DomainCore, EntryRow, ThingId};
 use indexmap::IndexSet;
@@ -37,7 +37,7 @@ pub struct PartyDomain<C: BoardWords> {
     core: DomainCore<C>,
     /// Node number n is the party at place n - 1.
     nodes: IndexSet<Name>,
-    /// The core's things by their names.
+    /// The names of the core's things.
     names: NamedThings,
     alloc: Global,
 }
@@ -45,7 +45,7 @@ pub struct PartyDomain<C: BoardWords> {
 impl<C: BoardWords> Model for PartyDomain<C> {
     ghost use Rattle.std.specs.Prelude.{map};
     ghost use Rattle.script_parties.specs.Named.{IsNamed, named_things};
-    ghost use Rattle.script_parties.specs.Numbered.{IsIndexed, named_at};
+    ghost use Rattle.script_parties.specs.Numbered.{IsNames, seat_at, things_by};
     ghost use Rattle.script_parties.specs.Parties.{Parties};
     ghost use Rattle.script_parties.specs.Shown.{named_tables};
 
@@ -53,13 +53,13 @@ impl<C: BoardWords> Model for PartyDomain<C> {
 
     ghost view = { λ d. record {
       tables = named_tables d.core.tables
-          (named_things (named_at d.names) d.core.tables.things);
+          (named_things (things_by (seat_at d.names) d.core) d.core.tables.things);
       words = map C.list d.core.cells;
       drawn = d.core.last_thing;
     } };
 
-    ghost invariant = { λ d. IsIndexed d.names
-        × IsNamed d.nodes.keys (named_at d.names) d.core };
+    ghost invariant = { λ d. IsNames d.names (things_by (seat_at d.names) d.core)
+        × IsNamed d.nodes.keys (things_by (seat_at d.names) d.core) d.core };
 }
 
 // Ends a thing of a core. The cells of a board that goes with it are dropped.
@@ -96,21 +96,42 @@ impl<C: BoardWords + Drop> PartyDomain<C> {
         }
     }
 
+    // The thing that a party holds under a name.
+    #[inline(always)]
+    fn thing_under(&self, seat: &Seat) -> Option<Held>
+        ensures { result ≡ party_thing self.now seat.now.party seat.now.name }
+    {
+        let Some(number) = self.names.number_of(seat) else {
+            return None;
+        };
+        match self.core.thing_at(ThingId(number)) {
+            Some(thing) => Some(Thing {
+                holder: seat.party,
+                name: seat.name,
+                board: thing.board,
+                kind: thing.kind,
+            }),
+            // What has a name stands.
+            None => unreachable!(),
+        }
+    }
+
     /// Whether a party holds a thing under a name.
     pub fn holds(&self, party: &Name, name: &Name) -> bool
         ensures { result ≡ is_some (party_thing self.now party.now name.now) }
     {
-        self.names.holds(&Seat {
+        let seat = Seat {
             party: *party,
             name: *name,
-        })
+        };
+        self.names.number_of(&seat).is_some()
     }
 
     /// The thing that a party holds under a name.
     pub fn thing_of(&self, party: &Name, name: &Name) -> Option<Held>
         ensures { result ≡ party_thing self.now party.now name.now }
     {
-        self.names.thing_of(&Seat {
+        self.thing_under(&Seat {
             party: *party,
             name: *name,
         })
@@ -120,13 +141,14 @@ impl<C: BoardWords + Drop> PartyDomain<C> {
     pub fn held_of_kind(&self, kind: ThingKind, party: &Name, name: &Name) -> Option<Held>
         ensures { result ≡ of_kind kind (party_thing self.now party.now name.now) }
     {
-        self.names.thing_of_kind(
-            kind,
-            &Seat {
-                party: *party,
-                name: *name,
-            },
-        )
+        let seat = Seat {
+            party: *party,
+            name: *name,
+        };
+        match self.thing_under(&seat) {
+            Some(thing) if thing.kind.is(kind) => Some(thing),
+            _ => None,
+        }
     }
 
     /// Gives the party's thing another name.

@@ -65,7 +65,7 @@ impl<C: BoardWords + Drop> PartyDomain<C> {
                     board: made.number,
                     kind: Kind::Factory,
                 };
-                self.names.push(made.thing, thing);
+                self.names.push(made.thing, &thing);
                 Ok(Reply::Number(made.number))
             }
             Err(BlackboardCreateError::OutOfMemory) => Err(AllocError),
@@ -99,7 +99,7 @@ impl<C: BoardWords + Drop> PartyDomain<C> {
                     board: made.number,
                     kind: Kind::Factory,
                 };
-                self.names.push(made.thing, thing);
+                self.names.push(made.thing, &thing);
                 Ok(Reply::Number(made.number))
             }
             Err(error) => Err(error),
@@ -123,7 +123,7 @@ impl<C: BoardWords + Drop> PartyDomain<C> {
                     board: factory.board,
                     kind: Kind::Reader { port: made.number },
                 };
-                self.names.push(made.thing, thing);
+                self.names.push(made.thing, &thing);
                 Ok(Reply::Number(made.number))
             }
             Err(ReaderCreateError::OutOfMemory) => Err(AllocError),
@@ -148,7 +148,7 @@ impl<C: BoardWords + Drop> PartyDomain<C> {
                     board: factory.board,
                     kind: Kind::Writer { port: made.number },
                 };
-                self.names.push(made.thing, thing);
+                self.names.push(made.thing, &thing);
                 Ok(Reply::Number(made.number))
             }
             Err(WriterCreateError::OutOfMemory) => Err(AllocError),
@@ -182,7 +182,7 @@ impl<C: BoardWords + Drop> PartyDomain<C> {
                     board: reader.board,
                     kind: Kind::ReadHandle { entry: found.entry },
                 };
-                self.names.push(found.thing, thing);
+                self.names.push(found.thing, &thing);
                 Ok(Reply::Number(found.place))
             }
             Err(EntryHandleError::OutOfMemory) => Err(AllocError),
@@ -219,7 +219,7 @@ impl<C: BoardWords + Drop> PartyDomain<C> {
                         port: writer.kind.port(),
                     },
                 };
-                self.names.push(found.thing, thing);
+                self.names.push(found.thing, &thing);
                 Ok(Reply::Number(found.place))
             }
             Err(EntryHandleMutError::OutOfMemory) => Err(AllocError),

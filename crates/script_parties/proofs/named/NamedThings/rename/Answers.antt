@@ -1,24 +1,24 @@
-use Rattle.std.proofs.Common.{ℕ, Option, sym, subst, ◌∙◌}
+use Rattle.std.proofs.Common.{Option, Some, subst, ap, ◌∙◌}
+use Rattle.std.specs.Prelude.{option_map}
 use Rattle.board_model.specs.Things.{Held}
-use Rattle.script_parties.specs.Numbered.{named_at}
+use Rattle.script_parties.specs.Numbered.{seat_at}
 use Rattle.script_parties.proofs.Firsts.{one_anew, there}
-use Rattle.script_seats.specs.Seats.{IsIndex, Renames, SeatOf, is_at}
+use Rattle.script_parties.proofs.NamesAndThings.{put_names}
+use Rattle.script_seats.specs.Seats.{IsIndex, Renames, SeatOf, called, is_at, seat_of}
 use Rattle.script_parties.proofs.named.NamedThings.rename.Goals as goal
 
-pub returns-in-Only-clause-things : goal.returns-in-Only-clause-things
-returns-in-Only-clause-things c =
+pub returns-in-Only : goal.returns-in-Only
+returns-in-Only c = λ things k.
     let from : SeatOf = record { party = c.args.party.now; name = c.args.old.now } in
     let to : SeatOf = record { party = c.args.party.now; name = c.args.new.now } in
-    let things : ℕ → Option Held = named_at c.args.self.now in
-    let told = subst (Renames things from to c.rename.new.self) c.in-Only.is (c.rename.ensures things c.requires) in
-    let x = there (is_at from) (things c.in-Only.number) told.only.passes in
-    λ i n. (c.rename_at.ensures x.0 x.1 n ∙ one_anew c.args.party.now c.args.old.now c.args.new.now things c.in-Only.number x.0 told.only x.1 n) i
-
-pub returns-in-Only-clause-index : goal.returns-in-Only-clause-index
-returns-in-Only-clause-index c =
-    let from : SeatOf = record { party = c.args.party.now; name = c.args.old.now } in
-    let to : SeatOf = record { party = c.args.party.now; name = c.args.new.now } in
-    let things : ℕ → Option Held = named_at c.args.self.now in
-    let told = subst (Renames things from to c.rename.new.self) c.in-Only.is (c.rename.ensures things c.requires) in
-    let x = there (is_at from) (things c.in-Only.number) told.only.passes in
-    subst (IsIndex c.rename.new.self) (λ i n. sym (c.rename_at.ensures x.0 x.1 n) i) (told.index x.0 x.1)
+    let n = c.in-Only.number in
+    let told = subst (Renames things from to c.rename.new.self) c.in-Only.is (c.rename.ensures things k.index) in
+    let x = there (is_at from) (things n) told.only.passes in
+    let anew = one_anew c.args.party.now c.args.old.now c.args.new.now things n x.0 told.only x.1 in
+    record {
+      index = subst (IsIndex c.rename.new.self) (λ i m. anew m i) (told.index x.0 x.1);
+      names = λ m.
+          c.rename_at.ensures (seat_of x.0) (k.names n ∙ ap (λ (o : Option Held). option_map seat_of o) x.1) m
+          ∙ put_names n (Some (called c.args.new.now x.0)) (seat_at c.args.self.now) things k.names m
+          ∙ ap (λ (o : Option Held). option_map seat_of o) (anew m);
+    }

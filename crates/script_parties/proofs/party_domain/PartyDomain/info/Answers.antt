@@ -2,7 +2,7 @@ use Rattle.std.proofs.Common.{ap, ◌∙◌}
 use Rattle.board_model.specs.Replies as replies
 use Rattle.board_model.specs.Tables as tables
 use Rattle.script_parties.specs.Named.{party_at, things_of}
-use Rattle.script_parties.specs.Numbered.{named_at}
+use Rattle.script_parties.specs.Numbered.{seat_at, things_by}
 use Rattle.script_parties.specs.Parties.{Parties}
 use Rattle.script_parties.proofs.Counts.{nodes-same, readers-same, writers-same}
 use Rattle.script_parties.proofs.Growth.{same_things}
@@ -13,8 +13,8 @@ pub returns : goal.returns
 returns g c =
     let d = c.self.inside in
     let h = c.self.invariant.1 in
-    let xs = things_of (named_at d.names) d.core in
-    let same = same_things d.nodes.keys (named_at d.names) d.core h in
+    let xs = things_of (things_by (seat_at d.names) d.core) d.core in
+    let same = same_things d.nodes.keys (things_by (seat_at d.names) d.core) d.core h in
     let in_all = c.in-Some-Some-Some-Some in
     let named = c.in_ok-new-in-Some-Some-Some-Some in
     let ts = d.core.tables.things in

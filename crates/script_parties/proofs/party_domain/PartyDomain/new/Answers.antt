@@ -1,8 +1,7 @@
 use Rattle.std.proofs.Common.{◌≡◌, [], arith, refl, sym, subst}
 use Rattle.board_service.specs.Domain.{Domain, empty}
 use Rattle.script_parties.specs.Named.{IsNamed}
-use Rattle.script_parties.specs.Numbered.{named_at}
-use Rattle.script_parties.proofs.Places.{named_still}
+use Rattle.script_parties.proofs.NamesAndThings.{settled}
 use Rattle.script_seats.specs.Seats.{nothing}
 use Rattle.script_parties.proofs.party_domain.PartyDomain.new.Goals as goal
 
@@ -18,7 +17,6 @@ none_named {C} d e = subst (λ (x : Domain C). IsNamed [] nothing x) (sym e) (re
 })
 
 pub invariant_of-result : goal.invariant_of-result
-invariant_of-result g c = (
-  c.new-3.ensures.index,
-  named_still [] c.new-2.result.keys nothing (named_at c.new-3.result) c.new.result c.new.result (none_named c.new.result c.new.ensures) c.new-2.ensures.empty c.new-3.ensures.things refl,
-)
+invariant_of-result g c =
+    let named = none_named c.new.result c.new.ensures in
+    settled c.new-3.result c.new-2.result.keys nothing c.new.result c.new-3.ensures (subst (λ ns. IsNamed ns nothing c.new.result) (sym c.new-2.ensures.empty) named)
