@@ -107,6 +107,19 @@ by_bytes() { local text; text=$(cat "$1"; echo .); text=${text%.}; local i; for 
 gives 'a byte at a time' 0 "$answers\n" '' "$run" < <(by_bytes "$script")
 speaks 'answers before the next line' 'gone\n' "$run"
 
+# six hundred parties come to a board, two thirds of them leave it, and half of these come back
+joins() { printf "begin p$1 open f b u64\nstep p$1\n"; }
+{
+    printf 'begin z create f b u64 nodes 700 add u64:1 u64:7\nstep z\n'
+    for i in {1000..1599}; do joins "$i"; done
+    for i in {1000..1599}; do ((i % 3 == 0)) || echo "drop p$i f"; done
+    for i in {1599..1000}; do ((i % 3 != 1)) || joins "$i"; done
+    printf 'begin z nodes f\nstep z\n'
+} > "$folder/nodes"
+"$run" < "$folder/nodes" 2> "$folder/note" | tail -n 1 > "$folder/output"
+echo "table = nodes $(for i in {1000..1599}; do ((i % 3 == 2)) || echo "p$i"; done | tr '\n' ' ')z" | cmp - "$folder/output" >&2 && good=yes || good=no
+tells 'six hundred nodes' "$good"
+
 # snapshots
 gives 'the stored snapshot' 0 "$snapshot_told\n" '' "$snapshot" < "$snapshot_script"
 gives 'a snapshot, a byte at a time' 0 "$snapshot_told\n" '' "$snapshot" < <(by_bytes "$snapshot_script")
