@@ -188,7 +188,7 @@ updates typed 4 update
 trips event bits
 trips event queue
 END
-for words in '' 'solo' 'solo 4 get' 'solo 2 get 1' 'solo 4 put 1' 'solo 4 get 01' 'typed 2 get 1' 'event set 1' 'shared 1 4 1' 'shared 1 0 1' $'\xff'; do
+for words in '' 'solo' 'solo 4 get' 'solo 2 get 1' 'solo 4 put 1' 'solo 4 get 01' 'solo 4 get 1 1' 'typed 2 get 1' 'event set 1' 'shared 1 4 1' 'shared 1 0 1' $'\xff'; do
     gives "the bench's usage: $words" 2 '' "$bench_usage" "$bench" $words
 done
 gives "the bench's usage: an empty word" 2 '' "$bench_usage" "$bench" ''
