@@ -1,5 +1,5 @@
 -- What a line reader has in hand.
-use Rattle.std.specs.Prelude.{◌≡◌, ℕ, ◌-◌, ◌<◌, ◌≤◌, Bool, false, List, length, take, drop, slice_get, IsSomeAnd, Option, Some, None, ⊤}
+use Rattle.std.specs.Prelude.{◌≡◌, ℕ, ◌-◌, ◌<◌, ◌≤◌, Bool, false, List, [], length, take, drop, slice_get, IsSomeAnd, Option, Some, None, ⊤}
 use Rattle.std.specs.Io.KnownBytes.{IsAtEnd, Keeps, prepend_known}
 use Rattle.script_loop.specs.declared.line_reader.LineReader.{LineReader}
 use Rattle.script_loop.specs.declared.line_reader.Fetched.{Fetched}
@@ -41,6 +41,11 @@ TillEnd ended holds = ended ≡ false → holds
 pub record NeedsBytes (r : LineReader) : Type 0 where
   pub lacks : IsOneLine (in_hand r)
   pub room : hand_length r ≤ 4096
+  pub unended : source_ended r ≡ false
+
+-- whether a byte is left can't be told without the source: none is in hand, and its end isn't told
+pub record NeedsByte (r : LineReader) : Type 0 where
+  pub none : in_hand r ≡ []
   pub unended : source_ended r ≡ false
 
 -- ---- what it finds

@@ -18,6 +18,11 @@ has_ended r = r.ended
 abbrev pub to_come : PairLines → Option (List ℕ) → Option (List ℕ)
 to_come r left = prepend_known (in_hand r) left
 
+-- whether a byte is left can't be told without the source: none is in hand, and its end isn't told
+pub record NeedsByte (r : PairLines) : Type 0 where
+  pub none : in_hand r ≡ []
+  pub unended : has_ended r ≡ false
+
 -- the first line has more than so many bytes
 pub record IsLonger (most : ℕ) (bytes : List ℕ) : Type 0 where
   pub line : List ℕ

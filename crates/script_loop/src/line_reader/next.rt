@@ -3,7 +3,7 @@ ghost use Rattle.std.specs.Prelude.{◌≡◌, IfOk, IsOk, IsTrue, OnErr, OnOk, 
 ghost use Rattle.std.specs.Io.KnownBytes.{IsAtEnd, Keeps};
 ghost use Rattle.board_model.specs.Lines.{HasCause};
 ghost use Rattle.script_loop.specs.Streams.{one_fault_more};
-ghost use Rattle.script_loop.specs.Reader.{HasMore, NeedsBytes, TillEnd, source_ended, in_hand, line_given, to_come};
+ghost use Rattle.script_loop.specs.Reader.{HasMore, NeedsByte, NeedsBytes, TillEnd, source_ended, in_hand, line_given, to_come};
 ghost use Rattle.script_loop.specs.Reader.{FoundFull, FoundShort, IsEnd, IsFetched, IsFull, IsShortLine, KeepsUnlessLine};
 
 use super::{Fetched, LineReader};
@@ -90,6 +90,10 @@ impl LineReader {
             (Keeps (to_come self.old (S.left source.old)) (to_come self.new (S.left source.new))) }
         ensures cut { OnErr result (IsShortLine (in_hand self.new)) }
         ensures unended { OnErr result (source_ended self.old ≡ false) }
+
+        // The source isn't read where bytes are in hand, nor behind its end.
+        ensures unread { (NeedsByte self.old → ⊥) → source.new ≡ source.old }
+
         ensures cause { HasCause (S.faults source.old) (S.faults source.new) result }
         ensures once { OnErr result (S.faults source.new ≡ one_fault_more (S.faults source.old)) }
         ensures told { OnOk result (S.faults source.new ≡ S.faults source.old) }

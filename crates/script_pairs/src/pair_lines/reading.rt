@@ -4,7 +4,7 @@ ghost use Rattle.std.specs.Io.KnownBytes.{IsAtEnd, Keeps};
 ghost use Rattle.board_model.specs.Lines.{HasCause, Rose};
 ghost use Rattle.script_loop.specs.Reader.{HasMore, TillEnd};
 ghost use Rattle.script_loop.specs.Streams.{one_fault_more};
-ghost use Rattle.script_pairs.specs.PairLines.{IsFound, TakesPart, has_ended, in_hand, to_come};
+ghost use Rattle.script_pairs.specs.PairLines.{IsFound, NeedsByte, TakesPart, has_ended, in_hand, to_come};
 
 use super::{CHUNK, Found, PairLines};
 use crate::verdict::CheckError;
@@ -197,6 +197,12 @@ impl PairLines {
         ensures left { IfOk result (λ end. IsTrue end → IsAtEnd (S.left source.new)) }
         ensures more { IfOk result (λ end. end ≡ false
             → HasMore (to_come self.old (S.left source.old))) }
+        ensures kept { OnErr result
+            (Keeps (to_come self.old (S.left source.old)) (to_come self.new (S.left source.new))) }
+
+        // The source isn't read where bytes are in hand, nor behind its end.
+        ensures unread { (NeedsByte self.old → ⊥) → source.new ≡ source.old }
+
         ensures kind { IfErr result (λ e. e ≡ CheckError.ReadFault) }
         ensures cause { HasCause (S.faults source.old) (S.faults source.new) result }
         ensures told { OnOk result (S.faults source.new ≡ S.faults source.old) }
