@@ -65,6 +65,15 @@ fn scripts_are_run_until_they_end_or_must_stop(rt: HostRuntime) -> Result<(), Fa
             ..PLAIN
         },
         Trial {
+            script: b"step a\nstep b\nx",
+            limit: 2,
+            piece: 1,
+            read_fails: 15,
+            result: Err(ScriptError::TooLong),
+            written: b"refused idle\nrefused idle\n",
+            ..PLAIN
+        },
+        Trial {
             script: b"step a\nstep b\n",
             piece: 4,
             read_fails: 2,
