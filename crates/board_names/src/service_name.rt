@@ -3,7 +3,6 @@ ghost use Rattle.std.specs.Prelude.{◌≡◌, ℕ, ◌+◌, ◌-◌, ◌<◌, �
 ghost use Rattle.board_names.specs.Names.{FitsAndBreaks, IsServiceName};
 ghost use Rattle.board_names.specs.declared.errors.concept.SemanticStringError.TheVariants.{ExceedsMaximumLength, InvalidContent};
 ghost use Rattle.std.specs.Cmp.Rules.{hashing};
-ghost use Rattle.std.specs.Hash as fed;
 ghost use Rattle.std.proofs.Common.{rules};
 
 use crate::byte_rules::is_service_name;
@@ -76,11 +75,12 @@ impl ServiceName {
 }
 
 impl Hash for ServiceName {
-    ghost hash_input = { λ s. fed.slice fed.u8 s };
+    ghost hash_input = { λ s. s ∷ [] };
 
     ghost respects_eq = { Prim.search (hashing, rules) };
 
+    // All bytes in one go.
     fn hash<H: Hasher>(&self, state: &mut H) {
-        self.as_bytes().hash(state);
+        state.write(self.as_bytes());
     }
 }
