@@ -7,10 +7,10 @@ use Rattle.std.proofs.lemmas.Bool.{eq-eqb, false≢true, false_from_ne_true, eqb
 use Rattle.std.proofs.lemmas.List.{append_assoc, length-append, length-drop, length-take-le, take-append-drop, take_all}
 use Rattle.std.proofs.lemmas.List.Edits.{insert-append_left, insert-append_right, insert_end, remove-append_left, remove-append_right}
 use Rattle.std.proofs.lemmas.List.Folds.{prefix_len-append}
-use Rattle.board_things.specs.Nodes.{AreInOrder, HasPair, comes_before, ends_before, is_pair, joined, part_at}
-use Rattle.board_things.proofs.Pairs.{AllAfter, Pair, before_next, in_it}
+use Rattle.board_things.specs.Nodes.{AreInOrder, HasPair, comes_before, ends_before, is_pair, joined, node_of, nodes_in, part_at}
+use Rattle.board_things.proofs.Pairs.{AllAfter, Pair, before_next, in_it, node_at}
 
-abbrev Parts : Type 0
+abbrev pub Parts : Type 0
 Parts = List (List Pair)
 
 -- ---- the order of what is joined
@@ -232,24 +232,6 @@ module _ (P : List Pair → Type 0) where
   all_at (p ∷ ps) zero lt h = h.0
   all_at (p ∷ ps) (suc i) lt h = all_at ps i (omega (arith, lt)) h.1
 
--- a place in a part, by the parts and the pairs
-pub joined_drop : (ps : Parts) (i k : ℕ) → i < length ps → k ≤ length (part_at i ps) → drop (ahead i ps + k) (joined ps) ≡ drop k (part_at i ps) ++ joined (drop (suc i) ps)
-joined_drop [] i k lt le = absurd (omega (arith, lt))
-joined_drop (p ∷ ps) zero k lt le = ap (λ (n : ℕ). drop n (p ++ joined ps)) (let e : 0 + k ≡ k = omega arith in e) ∙ drop_in p k le
-  where
-    drop_in : (xs : List Pair) (n : ℕ) → n ≤ length xs → drop n (xs ++ joined ps) ≡ drop n xs ++ joined ps
-    drop_in xs zero le = refl
-    drop_in [] (suc n) le = absurd (omega (arith, le))
-    drop_in (x ∷ xs) (suc n) le = drop_in xs n (omega (arith, le))
-joined_drop (p ∷ ps) (suc i) k lt le =
-    let n = length-append p (joined (take i ps)) in
-    let e : length (p ++ joined (take i ps)) + k ≡ length p + (ahead i ps + k) = omega (arith, n) in
-    ap (λ (m : ℕ). drop m (p ++ joined ps)) e ∙ past p (ahead i ps + k) ∙ joined_drop ps i k (omega (arith, lt)) le
-  where
-    past : (xs : List Pair) (n : ℕ) → drop (length xs + n) (xs ++ joined ps) ≡ drop n (joined ps)
-    past [] n = ap (λ (m : ℕ). drop m (joined ps)) (let e : 0 + n ≡ n = omega arith in e)
-    past (x ∷ xs) n = ap (λ (m : ℕ). drop m (x ∷ (xs ++ joined ps))) (let e : suc (length xs) + n ≡ suc (length xs + n) = omega arith in e) ∙ past xs n
-
 -- where all parts end before, nothing is left
 pub joined_dropped : (ps : Parts) (n : ℕ) → n ≡ length (joined ps) → drop n (joined ps) ≡ []
 joined_dropped ps n e = ap (λ (m : ℕ). drop m (joined ps)) e ∙ none (joined ps)
@@ -281,16 +263,10 @@ at_removed [] i lt = absurd (omega (arith, lt))
 at_removed (p ∷ ps) zero lt = refl
 at_removed (p ∷ ps) (suc i) lt = at_removed ps i (omega (arith, lt))
 
-pub length_removed : (ps : Parts) (i : ℕ) → i < length ps → suc (length (remove ps i)) ≡ length ps
+pub length_removed : {X : Type 0} (ps : List X) (i : ℕ) → i < length ps → suc (length (remove ps i)) ≡ length ps
 length_removed [] i lt = absurd (omega (arith, lt))
 length_removed (p ∷ ps) zero lt = refl
 length_removed (p ∷ ps) (suc i) lt = ap (λ (n : ℕ). suc n) (length_removed ps i (omega (arith, lt)))
-
--- what is dropped next
-pub drop_next : (ps : Parts) (i : ℕ) (p : List Pair) → i < length ps → p ≡ slice_index_or ps i p → drop i ps ≡ p ∷ drop (suc i) ps
-drop_next [] i p lt e = absurd (omega (arith, lt))
-drop_next (q ∷ qs) zero p lt e = ap (λ (x : List Pair). x ∷ qs) (sym e)
-drop_next (q ∷ qs) (suc i) p lt e = drop_next qs i p (omega (arith, lt)) e
 
 -- two neighbours made one, as it is done: the second taken out, and the first made longer
 module _ (ps rs : Parts) (i : ℕ) (a b both : List Pair) (next : suc i < length ps) (out : rs ≡ remove ps (suc i)) (first : a ≡ slice_index_or rs i a) where
@@ -311,13 +287,6 @@ module _ (ps rs : Parts) (i : ℕ) (a b both : List Pair) (next : suc i < length
       let here : 0 < length a = subst (λ (p : List Pair). 0 < length p) (sym first_is) (all_at HasPair ps i (omega (arith, next)) has) in
       let more : length both ≡ length a + length b = ap (λ (p : List Pair). length p) is ∙ length-append a b in
       all_set HasPair rs i both (subst (λ (qs : Parts). AllByRecursion HasPair qs) (sym out) (all_remove HasPair ps (suc i) has)) (omega (arith, here, more))
-
--- ---- what a slice gives at a place
-
-given : {X : Type 0} (xs : List X) (i : ℕ) (d : X) → i < length xs → slice_get xs i ≡ Some (slice_index_or xs i d)
-given [] i d lt = absurd (omega (arith, lt))
-given (y ∷ ys) zero d lt = refl
-given (y ∷ ys) (suc i) d lt = given ys i d (omega (arith, lt))
 
 -- the rest of a slice from a place on
 pub rest_is : {X : Type 0} (xs : List X) (i : ℕ) → take (length xs - i) (drop i xs) ≡ drop i xs
@@ -342,6 +311,11 @@ module _ (xs : List Pair) (k : ℕ) (x : Pair) (full : length xs ≡ 256) where
       sym (insert-append_right (take 128 xs) (drop 128 xs) 128 k x length_first le)
       ∙ ap (λ (ys : List Pair). insert ys k x) (take-append-drop 128 xs)
 
+pub past_parts : (ps : Parts) (i : ℕ) → length ps ≤ i → part_at i ps ≡ []
+past_parts [] i le = refl
+past_parts (p ∷ ps) zero le = absurd (omega (arith, le))
+past_parts (p ∷ ps) (suc i) le = past_parts ps i (omega (arith, le))
+
 -- ---- the place of a pair among all
 
 module _ (board node : ℕ) (ps : Parts) (up : AreInOrder (joined ps)) (i : ℕ) where
@@ -352,14 +326,9 @@ module _ (board node : ℕ) (ps : Parts) (up : AreInOrder (joined ps)) (i : ℕ)
   pub no_part_left : i ≡ prefix_len (ends_before board node) ps → length ps ≤ i → length (joined ps) ≡ prefix_len (comes_before board node) (joined ps)
   no_part_left e le =
       let all : ahead i ps ≡ length (joined ps) = ap (λ (qs : Parts). length (joined qs)) (take_all i ps le) in
-      let none : prefix_len (comes_before board node) (part_at i ps) ≡ 0 = ap (λ (p : List Pair). prefix_len (comes_before board node) p) (past ps i le) in
+      let none : prefix_len (comes_before board node) (part_at i ps) ≡ 0 = ap (λ (p : List Pair). prefix_len (comes_before board node) p) (past_parts ps i le) in
       let place = place_at (prefix_len (comes_before board node) (part_at i ps)) e refl in
       omega (arith, all, none, place)
-    where
-      past : (qs : Parts) (j : ℕ) → length qs ≤ j → part_at j qs ≡ []
-      past [] j le = refl
-      past (q ∷ qs) zero le = absurd (omega (arith, le))
-      past (q ∷ qs) (suc j) le = past qs j (omega (arith, le))
 
   -- one of these is in a part
   pub part_of_place : i ≡ prefix_len (ends_before board node) ps → list_any (is_pair board node) (joined ps) ≡ true → i < length ps
@@ -377,27 +346,18 @@ module _ (board node : ℕ) (ps : Parts) (up : AreInOrder (joined ps)) (i : ℕ)
 
 -- ---- a pair by its place
 
-pub get_here : (ps : Parts) (i k : ℕ) (p : List Pair) (d : Pair) → i < length ps → p ≡ slice_index_or ps i p → k < length p → slice_get (joined (drop i ps)) k ≡ Some (slice_index_or p k d)
-get_here ps i k p d lt e within =
-    ap (λ (qs : Parts). slice_get (joined qs) k) (drop_next ps i p lt e) ∙ get_in p (joined (drop (suc i) ps)) k within ∙ given p k d within
+pub not_less : (a b : ℕ) → (a < b → ⊥) → b ≤ a
+not_less a b h = by (nat_lt a b) refl
+  where
+    by : (t : Bool) → nat_lt a b ≡ t → b ≤ a
+    by true e = absurd (h (ltb-true a b e))
+    by false e = ltb-false a b e
 
-pub get_next : (ps : Parts) (i k : ℕ) (p : List Pair) → i < length ps → p ≡ slice_index_or ps i p → length p ≤ k → slice_get (joined (drop i ps)) k ≡ slice_get (joined (drop (suc i) ps)) (k - length p)
-get_next ps i k p lt e past = ap (λ (qs : Parts). slice_get (joined qs) k) (drop_next ps i p lt e) ∙ get_past p (joined (drop (suc i) ps)) k past
-
-pub get_dropped : (xs : List Pair) (n k : ℕ) → slice_get (drop n xs) k ≡ slice_get xs (n + k)
+get_dropped : (xs : List Pair) (n k : ℕ) → slice_get (drop n xs) k ≡ slice_get xs (n + k)
 get_dropped xs zero k = ap (λ (m : ℕ). slice_get xs m) (let e : k ≡ 0 + k = omega arith in e)
 get_dropped [] (suc n) k = refl
 get_dropped (x ∷ xs) (suc n) k = get_dropped xs n k ∙ ap (λ (m : ℕ). slice_get (x ∷ xs) m) (let e : suc (n + k) ≡ suc n + k = omega arith in e)
 
-module _ (ps : Parts) (i k n : ℕ) (lt : i < length ps) (le : k ≤ length (part_at i ps)) where
-  pub behind_here : (d : Pair) → n < length (part_at i ps) - k → slice_get (drop (ahead i ps + k) (joined ps)) n ≡ Some (slice_index_or (part_at i ps) (k + n) d)
-  behind_here d within =
-      ap (λ (xs : List Pair). slice_get xs n) (joined_drop ps i k lt le)
-      ∙ get_in (drop k (part_at i ps)) (joined (drop (suc i) ps)) n (omega (arith, length-drop k (part_at i ps), within))
-      ∙ get_dropped (part_at i ps) k n ∙ given (part_at i ps) (k + n) d (omega (arith, within))
-
-  pub behind_past : length (part_at i ps) - k ≤ n → slice_get (drop (ahead i ps + k) (joined ps)) n ≡ slice_get (joined (drop (suc i) ps)) (n - (length (part_at i ps) - k))
-  behind_past past =
-      ap (λ (xs : List Pair). slice_get xs n) (joined_drop ps i k lt le)
-      ∙ get_past (drop k (part_at i ps)) (joined (drop (suc i) ps)) n (omega (arith, length-drop k (part_at i ps), past))
-      ∙ ap (λ (m : ℕ). slice_get (joined (drop (suc i) ps)) (n - m)) (length-drop k (part_at i ps))
+-- the node so many behind the first of a board
+pub node_behind : (board : ℕ) (ps : List Pair) → AreInOrder ps → (i : ℕ) → node_of board (slice_get ps (prefix_len (comes_before board 0) ps + i)) ≡ slice_get (nodes_in board ps) i
+node_behind board ps up i = ap (λ (o : Option Pair). node_of board o) (sym (get_dropped ps (prefix_len (comes_before board 0) ps) i)) ∙ node_at board ps up i

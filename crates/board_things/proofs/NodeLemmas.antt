@@ -1,14 +1,15 @@
 -- The node at a place, among the things and among the nodes that are kept of a board.
-use Rattle.std.proofs.Common.{◌≡◌, ℕ, zero, suc, ◌+◌, ◌<◌, Bool, true, false, List, [], ◌∷◌, ◌++◌, Option, Some, None, arith, refl, sym, ap, ◌∙◌, subst}
+use Rattle.std.proofs.Common.{◌≡◌, ℕ, zero, suc, ◌+◌, ◌-◌, ◌^◌, ◌<◌, ◌≤◌, Bool, true, false, List, [], ◌∷◌, ◌++◌, length, Option, Some, None, arith, refl, sym, ap, ◌∙◌, subst}
 use Rattle.std.specs.Prelude.{◌&&◌, ◌||◌, ◌==◌, find, not, nat_eq, nat_lt, slice_get, if◌then◌else◌}
-use Rattle.std.specs.List.{AllByRecursion, list_any}
+use Rattle.std.specs.List.{AllByRecursion, list_any, prefix_len, remove}
 use Rattle.std.proofs.lemmas.Bool.{eqb-true, eq-eqb, lt-ltb, ltb-true, false≢true, false_from_ne_true, and_from, or_left, or_right}
 use Rattle.board_model.specs.declared.tables.Thing.{Thing}
 use Rattle.board_model.specs.Tables.{is_held_by, is_node, is_of_board, without_first}
 use Rattle.board_things.specs.Kept.{is_new_node}
-use Rattle.board_things.specs.Nodes.{AreInOrder, AreNodes, is_pair, node_from, nodes_below, nodes_in}
+use Rattle.board_things.specs.Nodes.{AreInOrder, AreNodes, comes_before, is_pair, node_from, nodes_below, nodes_in}
 use Rattle.board_things.proofs.Counts.{any_push, any_taken}
-use Rattle.board_things.proofs.Pairs.{Ascends, among, are_among, ascend}
+use Rattle.board_things.proofs.Joined.{length_removed}
+use Rattle.board_things.proofs.Pairs.{Ascends, among, are_among, are_out, ascend, in_it, out_in_order}
 
 abbrev Things : Type 0
 Things = List (Thing ℕ ℕ)
@@ -283,6 +284,39 @@ its b n t ts h =
     let one = eqb-true t.board b (first_of (t.board == b) (t.holder == n) h) in
     let two = eqb-true t.holder n (second_of (t.board == b) (t.holder == n) h) in
     ap (λ (m : ℕ). is_node nat_eq m n ts) (sym one) ∙ ap (λ (m : ℕ). is_node nat_eq t.board m ts) (sym two)
+
+-- no more pairs are kept than things stand
+few_pairs : (ps : List (ℕ × ℕ)) (ts : Things) → AreInOrder ps → ((b n : ℕ) → list_any (is_pair b n) ps ≡ true → is_node nat_eq b n ts ≡ true) → length ps ≤ length ts
+few_pairs [] [] up are = omega arith
+few_pairs (p ∷ ps) [] up are = absurd (false≢true (are p.0 p.1 (or_left (is_pair p.0 p.1 p) (list_any (is_pair p.0 p.1) ps) (and_from (p.0 == p.0) (p.1 == p.1) (eq-eqb p.0 p.0 refl) (eq-eqb p.1 p.1 refl)))))
+few_pairs ps (t ∷ ts) up are = by (list_any (is_pair t.board t.holder) ps) refl (λ qs. few_pairs qs ts)
+  where
+    by : (b : Bool) → list_any (is_pair t.board t.holder) ps ≡ b
+        → ((qs : List (ℕ × ℕ)) → AreInOrder qs → ((b n : ℕ) → list_any (is_pair b n) qs ≡ true → is_node nat_eq b n ts ≡ true) → length qs ≤ length ts)
+        → length ps ≤ length (t ∷ ts)
+    by true e ih =
+        let k = prefix_len (comes_before t.board t.holder) ps in
+        let rest = ih (remove ps k) (out_in_order t.board t.holder ps up) (λ b n h.
+        let both = sym (are_out t.board t.holder b n ps up e) ∙ h in
+        let other = second_of (list_any (is_pair b n) ps) (not (is_pair b n (t.board, t.holder))) both in
+        or_cases (is_node nat_eq b n ts ≡ true) (is_held_by nat_eq b n t) (is_node nat_eq b n ts)
+        (λ z. absurd (false≢true (ap (λ (w : Bool). not w) (sym z) ∙ other))) (λ z. z)
+        (are b n (first_of (list_any (is_pair b n) ps) (not (is_pair b n (t.board, t.holder))) both))) in
+        let shorter = length_removed ps k (in_it t.board t.holder ps up e) in
+        omega (arith, rest, shorter)
+    by false e ih =
+        let rest = ih ps up (λ b n h.
+        or_cases (is_node nat_eq b n ts ≡ true) (is_held_by nat_eq b n t) (is_node nat_eq b n ts)
+        (λ z. absurd (false≢true (sym e ∙ own b n z h))) (λ z. z) (are b n h)) in
+        omega (arith, rest)
+      where
+        own : (b n : ℕ) → is_held_by nat_eq b n t ≡ true → list_any (is_pair b n) ps ≡ true → list_any (is_pair t.board t.holder) ps ≡ true
+        own b n z h =
+            ap (λ (m : ℕ). list_any (is_pair m t.holder) ps) (eqb-true t.board b (first_of (t.board == b) (t.holder == n) z))
+            ∙ ap (λ (m : ℕ). list_any (is_pair b m) ps) (eqb-true t.holder n (second_of (t.board == b) (t.holder == n) z)) ∙ h
+
+pub nodes_few : (ps : List (ℕ × ℕ)) (ts : Things) → AreNodes ps ts → length ts < 2 ^ 64 - 2 → length ps + 1 < 2 ^ 64
+nodes_few ps ts kept few = let fewer = few_pairs ps ts kept.order (λ b n h. sym (kept.are b n) ∙ h) in omega (arith, fewer, few)
 
 module _ (old new : List (ℕ × ℕ)) (ts : Things) (t : Thing ℕ ℕ) (z : Bool) (kept : AreNodes old ts) (order : AreInOrder new) where
   pub nodes_more : z ≡ is_new_node ts t → ((b n : ℕ) → list_any (is_pair b n) new ≡ (z && is_pair b n (t.board, t.holder) || list_any (is_pair b n) old)) → AreNodes new (ts ++ t ∷ [])

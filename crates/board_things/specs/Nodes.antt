@@ -1,5 +1,5 @@
 -- The nodes of a board, ascending, and how the nodes of all boards are kept.
-use Rattle.std.specs.Prelude.{◌≡◌, ℕ, ◌+◌, ◌-◌, ◌<◌, Bool, true, not, ◌&&◌, ◌||◌, ◌==◌, nat_eq, nat_lt, if◌then◌else◌, List, [], ◌∷◌, length, slice_index_or, vec_capacity, vec_len, Option, Some, None}
+use Rattle.std.specs.Prelude.{◌≡◌, ℕ, ◌+◌, ◌-◌, ◌^◌, ◌<◌, ◌≤◌, Bool, true, not, ◌&&◌, ◌||◌, ◌==◌, nat_eq, nat_le, nat_lt, if◌then◌else◌, List, [], ◌∷◌, length, min, take, slice_index_or, vec_capacity, vec_len, Option, Some, None}
 use Rattle.std.specs.Bool.{then_some}
 use Rattle.std.specs.List.{AllByRecursion, flat_map, list_any}
 use Rattle.std.specs.Global.{Vec}
@@ -76,16 +76,39 @@ pub record AreParts (parts : List (List (ℕ × ℕ))) : Type 0 where
   pub filled : AllByRecursion HasPair parts
   pub order : AreInOrder (joined parts)
 
+-- where each of these parts ends, as the number of pairs up to there; so many stand ahead of them
+abbrev pub ends_from : ℕ → List (List (ℕ × ℕ)) → List ℕ
+ends_from count [] = []
+ends_from count (part ∷ parts) = (count + length part) ∷ ends_from (count + length part) parts
+
+-- these are the ends of some parts
+abbrev pub AreEnds : List ℕ → Type 0
+AreEnds ends = (parts : List (List (ℕ × ℕ))) × (ends ≡ ends_from 0 parts)
+
+-- an end is at this place or ahead of it
+abbrev pub is_by : ℕ → ℕ → Bool
+is_by place end = nat_le end place
+
+-- these are the ends of the parts, and all pairs are few enough to be counted
+pub record AreCounted (ends : List ℕ) (parts : List (List (ℕ × ℕ))) : Type 0 where
+  pub ends_are : ends ≡ ends_from 0 parts
+  pub few : length (joined parts) < 2 ^ 64
+
+-- the parts ahead of one stay, and there are so many more at most
+pub record KeepsAhead (part more : ℕ) (old new : List (List (ℕ × ℕ))) : Type 0 where
+  pub ahead : (k : ℕ) → k ≤ part → take k new ≡ take k old
+  pub most : length new ≤ length old + more
+
 -- the last pair of a part comes before that of this board and node
 abbrev pub ends_before : ℕ → ℕ → List (ℕ × ℕ) → Bool
 ends_before board node [] = true
 ends_before board node (p ∷ []) = comes_before board node p
 ends_before board node (p ∷ (q ∷ ps)) = ends_before board node (q ∷ ps)
 
--- for how many pairs more there is memory: one, where a part stands ready and there is room for it
-abbrev pub room_of : Vec (List (ℕ × ℕ)) → Option (List (ℕ × ℕ)) → ℕ
-room_of parts None = 0
-room_of parts (Some part) = vec_capacity parts - vec_len parts
+-- for how many pairs more there is memory: for one, where a part stands ready and there is room for it and its end
+abbrev pub room_of : Vec (List (ℕ × ℕ)) → Vec ℕ → Option (List (ℕ × ℕ)) → ℕ
+room_of parts ends None = 0
+room_of parts ends (Some part) = min 1 (min (vec_capacity parts - vec_len parts) (vec_capacity ends - vec_len ends))
 
 -- a part stands ready, and there is room for it
 pub record HasRoom (parts : Vec (List (ℕ × ℕ))) (spare : Option (List (ℕ × ℕ))) : Type 0 where

@@ -7,9 +7,13 @@
 //! port, and the write handles of an entry. `specs/Kept` has the invariant: each thing stands under its own number, and
 //! each kept number is the count over the things.
 //! The nodes of all boards stand in one sorted list of pairs (`nodes`), in which those of a board stand together. The list is
-//! kept in parts of at most 256 pairs (`part`, `parts`): a node that comes to a board or leaves it moves no more than a part.
+//! kept in parts of at most 256 pairs (`part`, `parts`). A node that comes to a board or leaves it moves pairs of its part and
+//! of the parts beside it alone; where a part comes or goes, those behind it move up or down in the list of parts, with their
+//! pairs where they are. Beside the parts stands how many pairs there are up to the end of each (`ends`), counted anew from
+//! the first part that changed on, so that the node at a place is found by bisection.
 #![tactic(auto)]
 
+mod ends;
 mod nodes;
 mod part;
 mod parts;

@@ -1,9 +1,10 @@
-//! Pairs of a board and a node, in order and in parts, so that a pair that comes or goes moves no more than its part's.
-ghost use Rattle.std.specs.Prelude.{ℕ, ◌≡◌, ◌+◌, ◌<◌, ◌≤◌, ◌&&◌, ◌||◌, [], not, length, take, drop, insert, remove, slice_get, slice_index_or, vec_len, vec_capacity, IfSome, Some, true, false};
+//! Pairs of a board and a node, in order and in parts, so that a pair that comes or goes moves pairs of few parts.
+ghost use Rattle.std.specs.Prelude.{ℕ, ◌≡◌, ◌+◌, ◌-◌, ◌^◌, ◌<◌, ◌≤◌, ◌&&◌, ◌||◌, [], not, length, take, drop, insert, remove, slice_get, slice_index_or, vec_len, vec_capacity, IfSome, Some, true, false};
 ghost use Rattle.std.specs.List.{AllByRecursion, list_any, prefix_len};
-ghost use Rattle.board_things.specs.Nodes.{HasPair, HasRoom, AreParts, AreInOrder, joined, part_at};
+ghost use Rattle.board_things.specs.Nodes.{HasPair, HasRoom, AreCounted, AreParts, AreInOrder, KeepsAhead, joined, part_at};
 ghost use Rattle.board_things.specs.Nodes as nodes;
 
+use crate::ends::{count_from, count_of, pair_at};
 use crate::part::{MOST_PAIRS, Part};
 
 fn comes_before(board: u64, node: u64, pair: &(u64, u64)) -> bool
@@ -40,36 +41,6 @@ fn part_of(board: u64, node: u64, parts: &[Part]) -> usize
     parts.partition_point(|p| ends_before(board, node, p))
 }
 
-// The pair at a place.
-fn pair_at(parts: &[Part], place: usize) -> Option<(u64, u64)>
-    ensures { result ≡ slice_get (joined parts.now) place }
-{
-    let mut left = place;
-    for part in parts {
-        let pairs = part.pairs();
-        if left < pairs.len() {
-            return Some(pairs[left]);
-        }
-        left -= pairs.len();
-    }
-    None
-}
-
-// The pair that stands so many behind a place of a part.
-fn pair_behind(part: usize, place: usize, index: usize, parts: &[Part]) -> Option<(u64, u64)>
-    requires part { part < length parts.now }
-    requires place { place ≤ length (part_at part parts.now) }
-    ensures { result ≡ slice_get (drop (length (joined (take part parts.now)) + place) (joined parts.now)) index }
-{
-    let pairs = parts[part].pairs();
-    let left = pairs.len() - place;
-    if index < left {
-        Some(pairs[place + index])
-    } else {
-        pair_at(&parts[part + 1..], index - left)
-    }
-}
-
 // The node of a pair, where it is of the board.
 fn node_of(board: u64, pair: Option<(u64, u64)>) -> Option<u64>
     ensures { result ≡ nodes.node_of board pair }
@@ -81,8 +52,9 @@ fn node_of(board: u64, pair: Option<(u64, u64)>) -> Option<u64>
 }
 
 /// The node at a place among those of the board.
-pub(crate) fn node_in(board: u64, index: u64, parts: &[Part]) -> Option<u64>
-    requires { AreParts parts.now }
+pub(crate) fn node_in(board: u64, index: u64, parts: &[Part], ends: &[usize]) -> Option<u64>
+    requires parts { AreParts parts.now }
+    requires counted { AreCounted ends.now parts.now }
     ensures { result ≡ slice_get (nodes.nodes_in board (joined parts.now)) index }
 {
     let part = part_of(board, 0, parts);
@@ -90,7 +62,11 @@ pub(crate) fn node_in(board: u64, index: u64, parts: &[Part]) -> Option<u64>
         return None;
     }
     let place = place_of(board, 0, parts[part].pairs());
-    node_of(board, pair_behind(part, place, index as usize, parts))
+    let first = count_of(&ends[..part]) + place;
+    match first.checked_add(index as usize) {
+        Some(place) => node_of(board, pair_at(place, parts, ends)),
+        None => None,
+    }
 }
 
 // Adds a pair at a place of a part. Takes no memory: there is room.
@@ -108,6 +84,7 @@ fn insert_at(
     ensures joined { joined parts.new.items
         ≡ insert (joined parts.old.items) (length (joined (take part parts.old.items)) + place) pair }
     ensures filled { AllByRecursion HasPair parts.new.items }
+    ensures ahead { KeepsAhead part 1 parts.old.items parts.new.items }
     ensures spare { IfSome spare.new (λ p. p ≡ []) }
 {
     if !parts[part].is_full() {
@@ -132,6 +109,7 @@ fn push(pair: (u64, u64), parts: &mut Vec<Part>, spare: &mut Option<Part>)
     ensures joined { joined parts.new.items
         ≡ insert (joined parts.old.items) (length (joined parts.old.items)) pair }
     ensures filled { AllByRecursion HasPair parts.new.items }
+    ensures ahead { KeepsAhead (length parts.old.items - 1) 1 parts.old.items parts.new.items }
     ensures spare { IfSome spare.new (λ p. p ≡ []) }
 {
     if let Some(last) = parts.len().checked_sub(1) {
@@ -153,11 +131,21 @@ fn push(pair: (u64, u64), parts: &mut Vec<Part>, spare: &mut Option<Part>)
 }
 
 /// Adds a pair, which is none of these. Takes no memory: there is room.
-pub(crate) fn put(board: u64, node: u64, parts: &mut Vec<Part>, spare: &mut Option<Part>)
+pub(crate) fn put(
+    board: u64,
+    node: u64,
+    parts: &mut Vec<Part>,
+    ends: &mut Vec<usize>,
+    spare: &mut Option<Part>,
+)
     requires parts { AreParts parts.old.items }
+    requires counted { AreCounted ends.old.items parts.old.items }
+    requires few { length (joined parts.old.items) + 1 < 2 ^ 64 }
     requires other { list_any (nodes.is_pair board node) (joined parts.old.items) ≡ false }
     requires room { HasRoom parts.old spare.old }
+    requires ends { vec_len ends.old < vec_capacity ends.old }
     ensures parts { AreParts parts.new.items }
+    ensures counted { AreCounted ends.new.items parts.new.items }
     ensures are { (b n : ℕ) → list_any (nodes.is_pair b n) (joined parts.new.items)
         ≡ (nodes.is_pair b n (board, node) || list_any (nodes.is_pair b n) (joined parts.old.items)) }
     ensures spare { IfSome spare.new (λ p. p ≡ []) }
@@ -166,8 +154,10 @@ pub(crate) fn put(board: u64, node: u64, parts: &mut Vec<Part>, spare: &mut Opti
     if part < parts.len() {
         let place = place_of(board, node, parts[part].pairs());
         insert_at(part, place, (board, node), parts, spare);
+        count_from(part, parts, ends);
     } else {
         push((board, node), parts, spare);
+        count_from(part.saturating_sub(1), parts, ends);
     }
 }
 
@@ -176,6 +166,7 @@ fn join_at(part: usize, parts: &mut Vec<Part>)
     requires filled { AllByRecursion HasPair parts.old.items }
     ensures joined { joined parts.new.items ≡ joined parts.old.items }
     ensures filled { AllByRecursion HasPair parts.new.items }
+    ensures ahead { KeepsAhead part 0 parts.old.items parts.new.items }
 {
     if part < parts.len()
         && part + 1 < parts.len()
@@ -194,6 +185,7 @@ fn remove_at(part: usize, place: usize, parts: &mut Vec<Part>)
     ensures joined { joined parts.new.items
         ≡ remove (joined parts.old.items) (length (joined (take part parts.old.items)) + place) }
     ensures filled { AllByRecursion HasPair parts.new.items }
+    ensures ahead { KeepsAhead part 0 parts.old.items parts.new.items }
 {
     if parts[part].pairs().len() == 1 {
         let _ = parts.remove(part);
@@ -203,10 +195,12 @@ fn remove_at(part: usize, place: usize, parts: &mut Vec<Part>)
 }
 
 /// Takes a pair out, which is one of these.
-pub(crate) fn take(board: u64, node: u64, parts: &mut Vec<Part>)
+pub(crate) fn take(board: u64, node: u64, parts: &mut Vec<Part>, ends: &mut Vec<usize>)
     requires parts { AreParts parts.old.items }
+    requires counted { AreCounted ends.old.items parts.old.items }
     requires one { list_any (nodes.is_pair board node) (joined parts.old.items) ≡ true }
     ensures parts { AreParts parts.new.items }
+    ensures counted { AreCounted ends.new.items parts.new.items }
     ensures are { (b n : ℕ) → list_any (nodes.is_pair b n) (joined parts.new.items)
         ≡ (list_any (nodes.is_pair b n) (joined parts.old.items) && not (nodes.is_pair b n (board, node))) }
 {
@@ -214,5 +208,7 @@ pub(crate) fn take(board: u64, node: u64, parts: &mut Vec<Part>)
     let place = place_of(board, node, parts[part].pairs());
     remove_at(part, place, parts);
     join_at(part, parts);
-    join_at(part.saturating_sub(1), parts);
+    let first = part.saturating_sub(1);
+    join_at(first, parts);
+    count_from(first, parts, ends);
 }

@@ -9,7 +9,7 @@ use Rattle.board_things.specs.Nodes.{AreNodes}
 use Rattle.board_things.specs.Things.{Numbered, new_thing}
 use Rattle.board_things.proofs.Numbers.{few_things, numbered_more, pushed}
 use Rattle.board_things.proofs.Counts.{all_more, counts_more, counts_small, none_counted, port_new, small}
-use Rattle.board_things.proofs.NodeLemmas.{is_not, nodes_more}
+use Rattle.board_things.proofs.NodeLemmas.{is_not, nodes_few, nodes_more}
 use Rattle.board_things.proofs.things.Things.push_reserved.Goals as goal
 
 pub raise-requires-clause-things : goal.raise-requires-clause-things
@@ -52,6 +52,11 @@ put_first-requires-clause-other c =
     let ts = standing (under c.self.inside.items) c.self.inside.last in
     let node = none_counted (is_held_by nat_eq c.args.board c.args.holder) ts c.count_at-node.result (c.count_at-node.ensures ∙ c.self.invariant.2 c.args.board c.args.holder) in
     OnTrue_from (nat_eq c.count_at-node.result 0) _ (λ first. c.self.invariant.5.are c.args.board c.args.holder ∙ is_not (is_node nat_eq c.args.board c.args.holder ts) true (sym node ∙ first))
+
+pub put_first-requires-clause-few : goal.put_first-requires-clause-few
+put_first-requires-clause-few c =
+    let few = few_things (under c.self.inside.items) c.self.inside.last (ap (λ (d : Numbered). d.last) c.self.view_is) c.requires.below in
+    nodes_few c.self.inside.nodes.pairs (standing (under c.self.inside.items) c.self.inside.last) c.self.invariant.5 few
 
 pub invariant_of-self : goal.invariant_of-self
 invariant_of-self c =
