@@ -126,6 +126,19 @@ module _ (place : ℕ) where
 pub ends_ahead : (ps : Parts) (es : List ℕ) (k : ℕ) → es ≡ ends_from 0 ps → take k es ≡ ends_from 0 (take k ps)
 ends_ahead ps es k are = ap (λ (xs : List ℕ). take k xs) are ∙ take_ends k 0 ps
 
+-- no fewer ends are there than the first of them tell of parts
+pub fits_ends : (k : ℕ) (ps : Parts) (es : List ℕ) → k ≤ length ps → take k es ≡ ends_from 0 (take k ps) → k ≤ length es
+fits_ends k ps es inside are =
+    let n : length (take k es) ≡ k = ap (λ (xs : List ℕ). length xs) are ∙ length_ends 0 (take k ps) ∙ length-take-le k ps inside in
+    let short = length-take k es in
+    omega (arith, n, short)
+
+pub take_resized : (k n : ℕ) (xs ys : List ℕ) → k ≤ n → k ≤ length xs → take k (take n xs ++ ys) ≡ take k xs
+take_resized zero n xs ys le inside = refl
+take_resized (suc k) zero xs ys le inside = absurd (omega (arith, le))
+take_resized (suc k) (suc n) [] ys le inside = absurd (omega (arith, inside))
+take_resized (suc k) (suc n) (x ∷ xs) ys le inside = ap (λ (zs : List ℕ). x ∷ zs) (take_resized k n xs ys (omega (arith, le)) (omega (arith, inside)))
+
 -- ---- parts of which some change
 
 pub keeps_trans : {i j : ℕ} {ps qs rs : Parts} → KeepsAhead i 0 ps qs → KeepsAhead j 0 qs rs → j ≤ i → KeepsAhead j 0 ps rs

@@ -15,22 +15,6 @@ pub(crate) fn count_of(ends: &[usize]) -> usize
     }
 }
 
-// Adds where parts end that stand behind so many pairs. Takes no memory: there is room.
-fn push_ends(count: usize, parts: &[Part], ends: &mut Vec<usize>)
-    requires few { count + length (joined parts.now) < 2 ^ 64 }
-    requires room { vec_len ends.old + length parts.now ≤ vec_capacity ends.old }
-    ensures { ends.new.items ≡ ends.old.items ++ ends_from count parts.now }
-{
-    let mut end = count;
-    for part in parts {
-        end += part.pairs().len();
-        let Ok(()) = ends.push(end) else {
-            // There is room.
-            unreachable!()
-        };
-    }
-}
-
 /// Counts anew where the parts from one on end; of those ahead of it, the ends stand. Takes no memory: there is room.
 pub(crate) fn count_from(first: usize, parts: &[Part], ends: &mut Vec<usize>)
     requires ahead { take first ends.old.items ≡ ends_from 0 (take first parts.now) }
@@ -39,8 +23,15 @@ pub(crate) fn count_from(first: usize, parts: &[Part], ends: &mut Vec<usize>)
     requires room { length parts.now ≤ vec_capacity ends.old }
     ensures { ends.new.items ≡ ends_from 0 parts.now }
 {
-    ends.truncate(first);
-    push_ends(count_of(ends), &parts[first..], ends);
+    let Ok(()) = ends.resize(parts.len(), 0) else {
+        // There is room.
+        unreachable!()
+    };
+    let mut end = count_of(&ends[..first]);
+    for i in first..parts.len() {
+        end += parts[i].pairs().len();
+        ends[i] = end;
+    }
 }
 
 // How many of the ends are at a place or ahead of it.
