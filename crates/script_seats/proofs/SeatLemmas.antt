@@ -100,6 +100,14 @@ module _ (m : SeatOf → Option ℕ) (things : ℕ → Option Held) (index : (s 
       of None e h = h
       of (Some n) e h = absurd (let f : true ≡ false = e in cc)
 
+  -- what is kept under a name stands
+  pub stands : (s : SeatOf) → is_some (m s) ≡ true → IsNowhere (is_at s) things → true ≡ false
+  stands s there none = of (m s) there (index s)
+    where
+      of : (o : Option ℕ) → is_some o ≡ true → IsNumberOf (is_at s) things o → true ≡ false
+      of None e h = sym e
+      of (Some n) e h = sym h.passes ∙ none n
+
   -- a thing more, under a name that is free
   pub pushed : (t : Held) (n : ℕ) → things n ≡ None → is_some (m (seat_of t)) ≡ false → (new : SeatOf → Option ℕ) → ((s : SeatOf) → new s ≡ cond (same_seat (seat_of t) s) (Some n) (m s))
       → (s : SeatOf) → IsNumberOf (is_at s) (put n (Some t) things) (new s)

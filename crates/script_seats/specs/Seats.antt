@@ -63,6 +63,17 @@ abbrev pub IsIndex : Seats → (ℕ → Option Held) → Type 0
 IsIndex (seats.Single m) things = (s : Seat) → IsNumberOf (is_at s) things (get same_seat m s)
 IsIndex seats.Unknown things = Unit {0}
 
+-- numbers are kept, and not given up
+abbrev pub is_kept : Seats → Bool
+is_kept (seats.Single m) = true
+is_kept seats.Unknown = false
+
+-- what is known of a name was told
+abbrev pub is_told : Sought → Bool
+is_told sought.Nothing = true
+is_told (sought.Only n) = true
+is_told sought.Unknown = false
+
 -- there is memory for one more
 abbrev pub HasRoom : Seats → Type 0
 HasRoom (seats.Single m) = 0 < spare m

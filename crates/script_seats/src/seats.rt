@@ -1,7 +1,7 @@
 //! The numbers of the things of parties, by their names.
-ghost use Rattle.std.specs.Prelude.{◌≡◌, ℕ, None, OnOk, Option, Some};
+ghost use Rattle.std.specs.Prelude.{◌≡◌, ℕ, None, OnOk, Option, Some, true};
 ghost use Rattle.board_model.specs.Things as held;
-ghost use Rattle.script_seats.specs.Seats.{Finds, HasRoom, IsIndex, Renames, Takes, is_at, nothing, put};
+ghost use Rattle.script_seats.specs.Seats.{Finds, HasRoom, IsIndex, IsNowhere, Renames, Takes, is_at, is_kept, is_told, nothing, put, seat_of};
 
 use board_model::{Name, Thing};
 use std::alloc::{AllocError, Global};
@@ -39,15 +39,17 @@ pub enum Sought {
 impl Seats {
     /// No numbers. Takes no memory.
     pub fn new(alloc: Global) -> Seats
-        ensures { IsIndex result nothing }
+        ensures index { IsIndex result nothing }
+        ensures kept { is_kept result ≡ true }
     {
         Seats::Single(HashMap::new(alloc))
     }
 
     /// What stands under a name of a party.
     pub fn find(&self, seat: &Seat) -> Sought
-        ensures { (things : ℕ → Option held.Held) → IsIndex self.now things
+        ensures found { (things : ℕ → Option held.Held) → IsIndex self.now things
             → Finds (is_at seat.now) things result }
+        ensures told { is_told result ≡ is_kept self.now }
     {
         let Seats::Single(seats) = self else {
             return Sought::Unknown;
@@ -66,6 +68,7 @@ impl Seats {
         ensures index { (things : ℕ → Option held.Held) → IsIndex self.old things
             → IsIndex self.new things }
         ensures room { OnOk result (HasRoom self.new) }
+        ensures kept { is_kept self.new ≡ is_kept self.old }
     {
         match self {
             Seats::Single(seats) => seats.reserve(1),
@@ -73,11 +76,14 @@ impl Seats {
         }
     }
 
-    /// One thing more stands, under a number that was free. Takes no memory: there is room.
+    /// One thing more stands, under a number that was free. Takes no memory: there is room. Numbers are given up only
+    /// where another thing stands under its name.
     pub fn push(&mut self, thing: &Thing<Name, Name>, number: u64)
         requires { HasRoom self.old }
-        ensures { (things : ℕ → Option held.Held) → IsIndex self.old things
+        ensures index { (things : ℕ → Option held.Held) → IsIndex self.old things
             → things number ≡ None → IsIndex self.new (put number (Some thing.now) things) }
+        ensures kept { (things : ℕ → Option held.Held) → IsIndex self.old things
+            → IsNowhere (is_at (seat_of thing.now)) things → is_kept self.new ≡ is_kept self.old }
     {
         let Seats::Single(seats) = self else {
             return;
@@ -98,8 +104,10 @@ impl Seats {
 
     /// The one thing under a name goes. Takes no memory.
     pub fn take(&mut self, seat: &Seat) -> Sought
-        ensures { (things : ℕ → Option held.Held) → IsIndex self.old things
+        ensures index { (things : ℕ → Option held.Held) → IsIndex self.old things
             → Takes (is_at seat.now) things self.new result }
+        ensures told { is_told result ≡ is_kept self.old }
+        ensures kept { is_kept self.new ≡ is_kept self.old }
     {
         let Seats::Single(seats) = self else {
             return Sought::Unknown;
@@ -114,8 +122,9 @@ impl Seats {
     /// other name, no numbers are kept any more.
     pub fn rename(&mut self, from: &Seat, to: &Seat) -> Sought
         requires { from.now.party ≡ to.now.party }
-        ensures { (things : ℕ → Option held.Held) → IsIndex self.old things
+        ensures index { (things : ℕ → Option held.Held) → IsIndex self.old things
             → Renames things from.now to.now self.new result }
+        ensures told { is_told result ≡ is_kept self.new }
     {
         let Seats::Single(seats) = self else {
             return Sought::Unknown;

@@ -5,16 +5,16 @@ use Rattle.script_seats.specs.Seats.{IsIndex, same_seat}
 use Rattle.script_seats.proofs.SeatLemmas.{found, only, taken, untouched}
 use Rattle.script_seats.proofs.seats.Seats.take.Goals as goal
 
-pub returns-in-Some : goal.returns-in-Some
-returns-in-Some c = λ things kept.
+pub returns-in-Some-clause-index : goal.returns-in-Some-clause-index
+returns-in-Some-clause-index c = λ things kept.
     let index = subst (λ (x : Seats). IsIndex x things) c.in-Single.is kept in
     let there = sym c.remove.ensures.value ∙ c.in-Some.is in (
       only (λ s. get same_seat c.in-Single.seats s) things index c.args.seat.now c.in-Some.number there,
       taken (λ s. get same_seat c.in-Single.seats s) things index c.args.seat.now c.in-Some.number there (λ s. get same_seat c.remove.new.self s) c.remove.ensures.updates.0,
     )
 
-pub returns-in-None : goal.returns-in-None
-returns-in-None c = λ things kept.
+pub returns-in-None-clause-index : goal.returns-in-None-clause-index
+returns-in-None-clause-index c = λ things kept.
     let index = subst (λ (x : Seats). IsIndex x things) c.in-Single.is kept in
     let none = sym c.remove.ensures.value ∙ c.in-None.is in (
       found (λ s. get same_seat c.in-Single.seats s) things index c.args.seat.now None none,
