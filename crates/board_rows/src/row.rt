@@ -138,7 +138,11 @@ impl Script<'_> {
             &mut sink,
         );
         assert_eq!(rt; sink.held(), output.as_slice(), "output of {}", self.name);
-        assert_eq!(rt; ran.is_ok(), self.status == 0, "end of {}", self.name);
+        let told = match ran {
+            Ok(_) => String::new(alloc),
+            Err(error) => format!(in alloc; "{error}")?,
+        };
+        assert_eq!(rt; told.as_str(), self.note, "end of {}", self.name);
         Ok(())
     }
 

@@ -12,7 +12,7 @@ returns-in-Only c = λ things k.
     let from : SeatOf = record { party = c.args.party.now; name = c.args.old.now } in
     let to : SeatOf = record { party = c.args.party.now; name = c.args.new.now } in
     let n = c.in-Only.number in
-    let told = subst (Renames things from to c.rename.new.self) c.in-Only.is (c.rename.ensures things k.index) in
+    let told = subst (Renames things from to c.rename.new.self) c.in-Only.is (c.rename.ensures.index things k.index) in
     let x = there (is_at from) (things n) told.only.passes in
     let anew = one_anew c.args.party.now c.args.old.now c.args.new.now things n x.0 told.only x.1 in
     record {

@@ -22,7 +22,7 @@ invariant_of-self-2 c =
     let number : c.len.result ≡ length places = search rules in
     let index = c.reserve-2.ensures.index (under places) c.self.invariant.0 in
     let free = subst (λ n. under places n ≡ None) (sym number) (behind places) in
-    let pushed = subst (λ n. IsIndex c.push.new.self (put n (Some c.args.thing) (under places))) number (c.push.ensures (under places) index free) in
+    let pushed = subst (λ n. IsIndex c.push.new.self (put n (Some c.args.thing) (under places))) number (c.push.ensures.index (under places) index free) in
     subst (λ (xs : List (Option Held)). IsIndex c.push.new.self (under xs) × AreTaken c.raise.new.rows (standing xs)) (sym items) (
       subst (IsIndex c.push.new.self) (under_pushed places (Some c.args.thing)) pushed,
       subst (AreTaken c.raise.new.rows) (sym (standing_pushed places c.args.thing)) (all_more c.self.inside.taken c.raise.new.rows (standing places) c.self.invariant.1 c.args.thing c.in_ok-raise.ensures.ok),

@@ -14,7 +14,7 @@ rename_at-requires c =
     let from : SeatOf = record { party = c.args.party.now; name = c.args.old.now } in
     let to : SeatOf = record { party = c.args.party.now; name = c.args.new.now } in
     let places = c.self.inside.places.items in
-    let told = subst (Renames (under places) from to c.rename.new.self) c.in-Only.is (c.rename.ensures (under places) (c.reserve.ensures.index (under places) c.self.invariant.0)) in
+    let told = subst (Renames (under places) from to c.rename.new.self) c.in-Only.is (c.rename.ensures.index (under places) (c.reserve.ensures.index (under places) c.self.invariant.0)) in
     inside (is_at from) places c.in-Only.place (first_of_only (is_at from) places c.in-Only.place (only_under (is_at from) places c.in-Only.place told.only))
 
 pub invariant_of-self-in-Only : goal.invariant_of-self-in-Only
@@ -22,7 +22,7 @@ invariant_of-self-in-Only c =
     let from : SeatOf = record { party = c.args.party.now; name = c.args.old.now } in
     let to : SeatOf = record { party = c.args.party.now; name = c.args.new.now } in
     let places = c.self.inside.places.items in
-    let told = subst (Renames (under places) from to c.rename.new.self) c.in-Only.is (c.rename.ensures (under places) (c.reserve.ensures.index (under places) c.self.invariant.0)) in
+    let told = subst (Renames (under places) from to c.rename.new.self) c.in-Only.is (c.rename.ensures.index (under places) (c.reserve.ensures.index (under places) c.self.invariant.0)) in
     let only = only_under (is_at from) places c.in-Only.place told.only in
     let x = stands_at (is_at from) places c.in-Only.place only in
     let items = c.rename_at.ensures x.thing x.got in
@@ -38,7 +38,7 @@ invariant_of-self-in-Unknown c =
     let from : SeatOf = record { party = c.args.party.now; name = c.args.old.now } in
     let to : SeatOf = record { party = c.args.party.now; name = c.args.new.now } in
     let places = c.self.inside.places.items in
-    let shared = subst (Renames (under places) from to c.rename.new.self) c.in-Unknown.is (c.rename.ensures (under places) (c.reserve.ensures.index (under places) c.self.invariant.0)) in
+    let shared = subst (Renames (under places) from to c.rename.new.self) c.in-Unknown.is (c.rename.ensures.index (under places) (c.reserve.ensures.index (under places) c.self.invariant.0)) in
     let named = ap (λ (xs : List (Option Held)). standing xs) c.rename_all.ensures ∙ standing_mapped (named_anew c.args.party.now c.args.old.now c.args.new.now) places in (
       subst (λ (s : Seats). IsIndex s (under c.rename_all.new.places.items)) (sym shared) tt,
       subst (AreTaken c.self.inside.taken) (sym named) (all_renamed c.self.inside.taken c.self.inside.taken (standing places) c.self.invariant.1 c.args.party.now c.args.old.now c.args.new.now),
@@ -49,7 +49,7 @@ returns-in-Nothing-clause-ok c =
     let from : SeatOf = record { party = c.args.party.now; name = c.args.old.now } in
     let to : SeatOf = record { party = c.args.party.now; name = c.args.new.now } in
     let places = c.self.inside.places.items in
-    let told = subst (Renames (under places) from to c.rename.new.self) c.in-Nothing.is (c.rename.ensures (under places) (c.reserve.ensures.index (under places) c.self.invariant.0)) in
+    let told = subst (Renames (under places) from to c.rename.new.self) c.in-Nothing.is (c.rename.ensures.index (under places) (c.reserve.ensures.index (under places) c.self.invariant.0)) in
     sym (none_changed (is_at from) (called c.args.new.now) places (none_under (is_at from) places told.0)) ∙ ap (λ (xs : List Held). map (named_anew c.args.party.now c.args.old.now c.args.new.now) xs) c.self.view_is
 
 pub returns-in-Only-clause-ok : goal.returns-in-Only-clause-ok
@@ -57,7 +57,7 @@ returns-in-Only-clause-ok c =
     let from : SeatOf = record { party = c.args.party.now; name = c.args.old.now } in
     let to : SeatOf = record { party = c.args.party.now; name = c.args.new.now } in
     let places = c.self.inside.places.items in
-    let told = subst (Renames (under places) from to c.rename.new.self) c.in-Only.is (c.rename.ensures (under places) (c.reserve.ensures.index (under places) c.self.invariant.0)) in
+    let told = subst (Renames (under places) from to c.rename.new.self) c.in-Only.is (c.rename.ensures.index (under places) (c.reserve.ensures.index (under places) c.self.invariant.0)) in
     let only = only_under (is_at from) places c.in-Only.place told.only in
     let x = stands_at (is_at from) places c.in-Only.place only in
     ap (λ (xs : List (Option Held)). standing xs) (c.rename_at.ensures x.thing x.got) ∙ changed_at (is_at from) (called c.args.new.now) places c.in-Only.place only x.thing x.read
