@@ -1,5 +1,5 @@
 //! The cells of a board that threads share.
-ghost use Rattle.std.specs.Prelude.{◌≡◌, ◌↔◌, [], None, IfOk, IfSome, option_map};
+ghost use Rattle.std.specs.Prelude.{◌≡◌, ◌<◌, ◌↔◌, [], length, None, IfOk, OnErr, IfSome, option_map};
 ghost use Rattle.std.specs.Arc.{arc_value};
 ghost use Rattle.board_cells.specs.Cells as cells;
 ghost use Rattle.board_cells.specs.Ends.{HasCell, IsUnread, end_seen};
@@ -56,9 +56,10 @@ impl BoardCells {
     /// A read end of the entry's cell, whose reader has read nothing. Nothing where there is no such entry.
     ///
     /// # Errors
-    /// `OutOfMemory` where one more owner of the cell is refused.
+    /// `OutOfMemory` where there is such an entry, and one more owner of its cell is refused.
     pub fn read_end(&mut self, entry: u64) -> Result<Option<ReadEnd>, CellError>
         ensures same { self.new ≡ self.old }
+        ensures memory { OnErr result (entry < length self.old) }
         ensures cell { IfOk result (λ end. HasCell end (cells.cell_at self.old entry)) }
         ensures fresh { IfOk result (λ end. IfSome end (λ e. IsUnread e.pass)) }
     {
