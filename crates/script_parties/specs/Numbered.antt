@@ -11,15 +11,15 @@ use Rattle.script_seats.specs.Seats as seats
 
 -- ---- names
 
--- it is this party's name
+-- the party and its name for a thing are these
 abbrev pub is_seat : SeatOf → SeatOf → Bool
 is_seat s r = same_seat r s
 
--- the party has this name in place of another
+-- the party has this name for the thing in place of another
 abbrev pub renamed_seat : List ℕ → SeatOf → SeatOf
 renamed_seat name s = record s { name = name }
 
--- it has, where the name is this one
+-- so where party and name are those, and as it was elsewhere
 abbrev pub seat_anew : SeatOf → List ℕ → SeatOf → SeatOf
 seat_anew from new s = if is_seat from s then renamed_seat new s else s
 

@@ -23,7 +23,7 @@ pub(crate) struct NamedThings {
     pub(crate) seats: Seats,
 }
 
-// The first of the numbers so far that have a name, after one number more.
+// The number of the first thing so far that the party holds under the name, after one number more.
 fn earlier(
     first: Option<u64>,
     number: u64,
@@ -46,7 +46,7 @@ fn earlier(
     first
 }
 
-// The first of all numbers that have a name, where no index tells.
+// The number of the first thing that the party holds under the name, looked for among all names: no index tells it.
 fn first_number(seat: &Seat, names: &HashMap<u64, ShortSeat>) -> Option<u64>
     ensures { result ≡ numbered.earliest (is_seat seat.now) (λ n. get nat_eq names.now n) None
         (keys names.now) }
@@ -58,7 +58,7 @@ fn first_number(seat: &Seat, names: &HashMap<u64, ShortSeat>) -> Option<u64>
     first
 }
 
-// The first of all numbers that have a name, by what an index knows of it.
+// The number of the first thing that the party holds under the name, by what an index knows of it.
 fn number_in(sought: Sought, seat: &Seat, names: &HashMap<u64, ShortSeat>) -> Option<u64>
     ensures { (things : ℕ → Option held.Held) → AreNames (λ n. get nat_eq names.now n) things
         → seats.Finds (is_at seat.now) things sought → IsFirst (is_at seat.now) things result }
@@ -70,7 +70,7 @@ fn number_in(sought: Sought, seat: &Seat, names: &HashMap<u64, ShortSeat>) -> Op
     }
 }
 
-// Gives a name up for another, if it is this one.
+// Gives a thing another name, if it is this party's under this one.
 fn name_anew(from: &Seat, new: &Name, name: &mut ShortSeat)
     ensures { name.new ≡ seat_anew from.now new.now name.old }
 {
@@ -79,7 +79,7 @@ fn name_anew(from: &Seat, new: &Name, name: &mut ShortSeat)
     }
 }
 
-// Gives what has a name another one, where no index tells which.
+// Gives all that the party holds under a name another one, where no index tells the number.
 fn rename_all(from: &Seat, new: &Name, names: &mut HashMap<u64, ShortSeat>)
     ensures { (n : ℕ) → get nat_eq names.new n
         ≡ option_map (seat_anew from.now new.now) (get nat_eq names.old n) }

@@ -1,4 +1,4 @@
-//! A party's name in 34 bytes, as the table of all names keeps it.
+//! A party and its name for a thing, in 34 bytes, as the table of all names keeps them.
 ghost use Rattle.std.specs.Prelude.{◌≡◌};
 ghost use Rattle.script_parties.specs.Numbered.{is_seat, renamed_seat};
 
