@@ -1,6 +1,7 @@
 //! A cell that one writer and any number of readers share, each in a thread of its own, without a lock.
 
 mod cell;
+mod first_try;
 mod gather;
 mod promise;
 mod reader;

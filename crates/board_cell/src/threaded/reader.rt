@@ -91,7 +91,7 @@ impl ThreadedCell {
     // The tries of a `try_get` after the first one, which is mostly accepted: they stay out of its way.
     #[cold]
     #[inline(never)]
-    fn try_later(
+    pub(crate) fn try_later(
         &self,
         seat: &mut Seat<(), View>,
         out: &mut Vec<u64>,
@@ -215,7 +215,7 @@ impl ThreadedCell {
     // The tries of a `get` after the first one. Apart, so that a first try that succeeds has no place in memory to clear for them.
     #[cold]
     #[inline(never)]
-    fn get_later<R: Wait>(
+    pub(crate) fn get_later<R: Wait>(
         &self,
         rt: &R,
         seat: &mut Seat<(), View>,
