@@ -15,6 +15,10 @@ use board_service::Found;
 use std::marker::{Model, PhantomData};
 use std::sync::{Arc, Wait};
 
+// Values of up to so many words are read into a local, which the compiler keeps in registers. Longer ones have no room
+// there, and take less by way of the handle's buffer.
+const FEW_WORDS: usize = 8;
+
 /// A read handle of an entry whose values are `V`s.
 ///
 /// Clauses see the thing and the entry that the tables told, the entry's cell, and what its pass knows.
@@ -23,7 +27,7 @@ pub struct EntryHandle<K, V: ZeroCopySend, P> {
     found: Found,
     cell: Arc<ThreadedCell>,
     pass: ReaderPass,
-    // What `get` reads into.
+    // What `get` reads longer values into, and the later tries of shorter ones.
     words: Vec<u64>,
     domain: Domain,
     marker: PhantomData<(K, V, P)>,
@@ -79,6 +83,12 @@ impl<K, V: ZeroCopySend, P> EntryHandle<K, V, P> {
         ensures rises { NotesRise self.new.pass.notes }
     {
         let cell = &*self.cell;
+        if V::WORDS <= FEW_WORDS {
+            let mut local = [0; FEW_WORDS];
+            let words = &mut local[..V::WORDS];
+            let generation = cell.get_into(rt, &mut self.pass, words, &mut self.words);
+            return BlackboardValue::new(V::from_words(words), generation);
+        }
         know_width::<V>(cell, &self.words);
         let generation = cell.get(rt, &mut self.pass, &mut self.words);
         BlackboardValue::new(V::from_words(self.words.as_slice()), generation)
@@ -97,6 +107,14 @@ impl<K, V: ZeroCopySend, P> EntryHandle<K, V, P> {
         ensures rises { NotesRise self.new.pass.notes }
     {
         let cell = &*self.cell;
+        if V::WORDS <= FEW_WORDS {
+            let mut local = [0; FEW_WORDS];
+            let words = &mut local[..V::WORDS];
+            return match cell.try_get_into(&mut self.pass, tries, words, &mut self.words) {
+                Ok(generation) => Ok(BlackboardValue::new(V::from_words(words), generation)),
+                Err(again) => Err(again),
+            };
+        }
         know_width::<V>(cell, &self.words);
         match cell.try_get(&mut self.pass, tries, &mut self.words) {
             Ok(generation) => Ok(BlackboardValue::new(
