@@ -152,14 +152,14 @@ cut_short d Lawful stands m count limit ended source sink left takes taken part 
 pub write_cut : {M : Type 0} (d : Drive) (Lawful : Exchanges → Type 0) (stands : M → Exchanges → Type 0) (m new : M) (count limit : ℕ) (source sink : Stream) (left rest held : Option (List ℕ)) (b text : List ℕ) (n : ℕ) → (r : HasRun d Lawful stands m count source.before left sink.before held) → count < limit → TakesLine left rest b → HasTold d Lawful stands new r.exchanges b text → Appends held sink.after (take n text) → IsWriteCut d Lawful limit source sink
 write_cut d Lawful stands m new count limit source sink left rest held b text n r lt t a w =
     let xs : Exchanges = r.exchanges in
-    let x : Exchange = (a.line, a.told) in
-    let w2 : Appends held sink.after (take n (text_of a.told)) = subst (λ (o : List ℕ). Appends held sink.after (take n o)) a.text_is w in
-    let all : Appends sink.before sink.after (output_of xs ++ take n (text_of a.told)) = Appends-trans sink.before held sink.after (output_of xs) (take n (text_of a.told)) r.output w2 in
-    let front : output_of xs ++ take n (text_of a.told) ≡ take (length (output_of xs) + n) (output_of (xs ++ x ∷ [])) =
-    sym (take-append-add (output_of xs) (text_of a.told) n) ∙ ap (take (length (output_of xs) + n)) (sym (output_more xs x)) in
+    let x : Exchange = (a.line, a.is.told) in
+    let w2 : Appends held sink.after (take n (text_of a.is.told)) = subst (λ (o : List ℕ). Appends held sink.after (take n o)) a.is.text_is w in
+    let all : Appends sink.before sink.after (output_of xs ++ take n (text_of a.is.told)) = Appends-trans sink.before held sink.after (output_of xs) (take n (text_of a.is.told)) r.output w2 in
+    let front : output_of xs ++ take n (text_of a.is.told) ≡ take (length (output_of xs) + n) (output_of (xs ++ x ∷ [])) =
+    sym (take-append-add (output_of xs) (text_of a.is.told) n) ∙ ap (take (length (output_of xs) + n)) (sym (output_more xs x)) in
     record {
       exchanges = xs ++ x ∷ [];
-      lawful = a.lawful;
+      lawful = a.is.lawful;
       lines = begins d source.before rest (xs ++ x ∷ []) (answered_more d source.before left rest xs b x r.answered t a.spelled);
       few = omega (arith, length_more xs x, r.counted, lt);
       written = length (output_of xs) + n;

@@ -108,16 +108,16 @@ output_longer xs x text told =
 pub goes_on : {M : Type 0} (d : Drive) (Lawful : Exchanges → Type 0) (stands : M → Exchanges → Type 0) (m new : M) (count : ℕ) (was ended : Bool) (input left rest before held now : Option (List ℕ)) (takes taken later : ℕ → Type 0) (b text : List ℕ) → (r : HasRunOn d Lawful stands m count was input left before held takes taken) → (ended ≡ false → was ≡ false) → LosesLine ended left rest b → IsOneLine b → HasTold d Lawful stands new r.run.exchanges b text → Appends held now text → ((n : ℕ) → taken n → length text ≤ n → later (n - length text)) → HasRunOn d Lawful stands new (count + 1) ended input rest before now takes later
 goes_on d Lawful stands m new count was ended input left rest before held now takes taken later b text r unended t one a w more =
     let xs : Exchanges = r.run.exchanges in
-    let x : Exchange = (a.line, a.told) in
-    let w2 : Appends held now (text_of a.told) = subst (Appends held now) a.text_is w in
-    let both : length (output_of (xs ++ x ∷ [])) ≡ length (output_of xs) + length text = output_longer xs x text a.text_is in
+    let x : Exchange = (a.line, a.is.told) in
+    let w2 : Appends held now (text_of a.is.told) = subst (Appends held now) a.is.text_is w in
+    let both : length (output_of (xs ++ x ∷ [])) ≡ length (output_of xs) + length text = output_longer xs x text a.is.text_is in
     let run : HasRun d Lawful stands new (count + 1) input rest before now = record {
       exchanges = xs ++ x ∷ [];
-      lawful = a.lawful;
-      state = a.state;
+      lawful = a.is.lawful;
+      state = a.is.state;
       counted = length_more xs x ∙ ap (λ k. k + 1) r.run.counted;
       answered = answered_more d input left rest xs b x r.run.answered (takes_line ended left rest b one t) a.spelled;
-      output = subst (Appends before now) (sym (output_more xs x)) (Appends-trans before held now (output_of xs) (text_of a.told) r.run.output w2);
+      output = subst (Appends before now) (sym (output_more xs x)) (Appends-trans before held now (output_of xs) (text_of a.is.told) r.run.output w2);
     } in
     record {
       run = run;
@@ -132,8 +132,8 @@ goes_on d Lawful stands m new count was ended input left rest before held now ta
 pub fits_one_more : {M : Type 0} (d : Drive) (Lawful : Exchanges → Type 0) (stands : M → Exchanges → Type 0) (m new : M) (count limit : ℕ) (input left rest before held : Option (List ℕ)) (b text : List ℕ) (room : ℕ) → (r : HasRun d Lawful stands m count input left before held) → count < limit → TakesLine left rest b → HasTold d Lawful stands new r.exchanges b text → FitsInto d Lawful room limit input → length (output_of r.exchanges) + length text ≤ room
 fits_one_more d Lawful stands m new count limit input left rest before held b text room r lt t a fits =
     let xs : Exchanges = r.exchanges in
-    let x : Exchange = (a.line, a.told) in
+    let x : Exchange = (a.line, a.is.told) in
     let first : BeginsWith d input (xs ++ x ∷ []) = begins d input rest (xs ++ x ∷ []) (answered_more d input left rest xs b x r.answered t a.spelled) in
     let most : length (xs ++ x ∷ []) ≤ limit = omega (arith, length_more xs x, r.counted, lt) in
-    let all = fits (xs ++ x ∷ []) a.lawful first most in
-    omega (arith, all, output_longer xs x text a.text_is)
+    let all = fits (xs ++ x ∷ []) a.is.lawful first most in
+    omega (arith, all, output_longer xs x text a.is.text_is)

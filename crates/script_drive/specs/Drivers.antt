@@ -12,14 +12,26 @@ pub record StandsFor {M : Type 0} (Lawful : Exchanges → Type 0) (stands : M �
   pub few : length xs < 2 ^ 32
   pub state : stands m xs
 
--- the bytes spell a line, the text is what is rightly told of it, and the driver stands for the exchanges with this one
-pub record HasTold {M : Type 0} (d : Drive) (Lawful : Exchanges → Type 0) (stands : M → Exchanges → Type 0) (new : M) (xs : Exchanges) (bytes text : List ℕ) : Type 0 where
-  pub line : DriveLine
+-- it stands for some exchanges
+abbrev pub IsAtWork : {M : Type 0} → (Exchanges → Type 0) → (M → Exchanges → Type 0) → M → Type 0
+IsAtWork Lawful stands m = (xs : Exchanges) × StandsFor Lawful stands m xs
+
+-- the text is what is rightly told of the line, and the driver stands for the exchanges with this one
+pub record IsTelling {M : Type 0} (Lawful : Exchanges → Type 0) (stands : M → Exchanges → Type 0) (new : M) (xs : Exchanges) (line : DriveLine) (text : List ℕ) : Type 0 where
   pub told : List Told
-  pub spelled : SpellsDrive d bytes line
   pub lawful : Lawful (xs ++ (line, told) ∷ [])
   pub state : stands new (xs ++ (line, told) ∷ [])
   pub text_is : text ≡ text_of told
+
+-- so it is for all exchanges that it stands for
+abbrev pub Tells : {M : Type 0} → (Exchanges → Type 0) → (M → Exchanges → Type 0) → M → M → DriveLine → List ℕ → Type 0
+Tells Lawful stands old new line text = (xs : Exchanges) → StandsFor Lawful stands old xs → IsTelling Lawful stands new xs line text
+
+-- the bytes spell a line, and the text is what is rightly told of it
+pub record HasTold {M : Type 0} (d : Drive) (Lawful : Exchanges → Type 0) (stands : M → Exchanges → Type 0) (new : M) (xs : Exchanges) (bytes text : List ℕ) : Type 0 where
+  pub line : DriveLine
+  pub spelled : SpellsDrive d bytes line
+  pub is : IsTelling Lawful stands new xs line text
 
 -- so it is for all exchanges that it stands for
 abbrev pub TellsEach : {M : Type 0} → Drive → (Exchanges → Type 0) → (M → Exchanges → Type 0) → M → M → List ℕ → List ℕ → Type 0

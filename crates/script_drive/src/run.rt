@@ -1,44 +1,11 @@
 //! Lines that are run one after another.
-ghost use Rattle.std.specs.Prelude.{◌≡◌, ◌≢◌, ◌<◌, ℕ, [], IfErr, IsErrOf, OnErr, OnOk};
+ghost use Rattle.std.specs.Prelude.{◌≡◌, ◌≢◌, ◌<◌, ℕ, [], IfErr};
 ghost use Rattle.script_loop.specs.Runs.{stream_of};
-ghost use Rattle.script_exchanges.specs.declared.line.Drive.{Drive};
-ghost use Rattle.script_exchanges.specs.DriveGrammar.{SpellsNoDrive};
 ghost use Rattle.script_drive.specs.DriveRuns.{DriveRuns, FitsInto, IsRunnable};
-ghost use Rattle.script_drive.specs.Drivers.{StandsFor, StandsStill, TellsEach};
-ghost use Rattle.script_exchanges.specs.Exchanges.{Exchanges};
 
+use crate::driver::{Drives, answer_line};
 use script_loop::{Fetched, LineError, ScriptError, Sink, Source, new_reader, write_whole};
 use std::alloc::Global;
-
-/// What answers the lines of a script whose parties can be driven.
-///
-/// Contracts see what drives the parties, which exchanges of lines and what is told of them are lawful, and for which
-/// exchanges so far the driver stands.
-pub trait Drives {
-    ghost drive: { Drive };
-
-    ghost lawful: { Exchanges → Type 0 };
-
-    ghost stands: { Self → Exchanges → Type 0 };
-
-    /// Answers a line: `told` then has all that is written of it, and nothing else.
-    ///
-    /// # Errors
-    /// `Bad` where the line is outside the grammar; `OutOfMemory`.
-    fn line(&mut self, line: &[u8], told: &mut Vec<u8>) -> Result<(), LineError>
-        // The driver stands for exchanges that are lawful, and fewer than 2^32.
-        requires { (xs : Exchanges) × StandsFor lawful stands self.old xs }
-
-        // For all exchanges that it stands for, what is told is lawful, and it stands for the exchanges with this one.
-        ensures ok { OnOk result
-            (TellsEach drive lawful stands self.old self.new line.now told.new.items) }
-
-        // A line outside the grammar is refused, no other one is, and nothing changes.
-        ensures bad { IsErrOf result LineError.Bad → SpellsNoDrive drive line.now }
-        ensures same { IsErrOf result LineError.Bad → StandsStill stands self.old self.new }
-
-        ensures err { OnErr result (told.new.items ≡ []) };
-}
 
 /// Answers the lines of the source, at most `limit` of them, and writes what is told of each before the next line is looked at.
 ///
@@ -84,7 +51,7 @@ pub fn run_driven<D: Drives, S: Source, K: Sink>(
             Err(_) => return Err(ScriptError::ReadFault),
             Ok(Fetched::End) => return Ok(()),
             Ok(Fetched::Long) => return Err(ScriptError::BadLine(n + 1)),
-            Ok(Fetched::Line) => match driver.line(reader.line(), &mut told) {
+            Ok(Fetched::Line) => match answer_line(alloc, driver, reader.line(), &mut told) {
                 Err(LineError::Bad) => return Err(ScriptError::BadLine(n + 1)),
                 Err(LineError::OutOfMemory) => return Err(ScriptError::OutOfMemory),
                 Ok(()) => match write_whole(sink, &told) {

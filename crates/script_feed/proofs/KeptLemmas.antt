@@ -1,6 +1,7 @@
 -- What is kept of parties, and what they do.
 use Rattle.std.proofs.Common.{◌≡◌, ℕ, Bool, true, false, List, refl, sym, ap, subst, ◌∙◌, Option, Some, None}
-use Rattle.std.specs.Prelude.{if◌then◌else◌, is_some}
+use Rattle.std.specs.Borrow.{Bor}
+use Rattle.std.specs.Prelude.{if◌then◌else◌, is_some, option_copied}
 use Rattle.std.specs.Str.{bytes_eq}
 use Rattle.script_exchanges.specs.DrivenParties.{if_kept, kept_with, let_go}
 use Rattle.script_feed.specs.KeptOf.{KeepsIfAny}
@@ -61,3 +62,20 @@ module _ {C A : Type 0} (Keeps : C → A → Type 0) where
   let_go_keeps of xs None refused k p = k p
   let_go_keeps of xs (Some party) true k p = k p
   let_go_keeps of xs (Some party) false k p = keeps_with of xs party None None (kept_with of party None) k tt (λ q. refl) p
+
+-- ---- what is looked up
+
+-- something is kept
+pub record IsSomeKept {T : Type 0} (kept : Option T) : Type 0 where
+  pub found : T
+  pub is : kept ≡ Some found
+
+-- what is borrowed is there where what it is copied to is
+pub found_kept : {T : Type 0} (kept : Option T) (borrowed : Option (Bor T)) → option_copied borrowed ≡ kept → is_some borrowed ≡ true → IsSomeKept kept
+found_kept None None e some = absurd cc
+found_kept (Some c) borrowed e some = record { found = c; is = refl }
+found_kept None (Some b) e some = absurd cc
+
+pub none_found : {T : Type 0} (kept : Option T) (borrowed : Option (Bor T)) → option_copied borrowed ≡ kept → is_some borrowed ≡ false → kept ≡ None
+none_found kept None e none = sym e
+none_found kept (Some b) e none = absurd cc

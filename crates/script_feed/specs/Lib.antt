@@ -2,3 +2,4 @@ pub mod AnswerLooks
 pub mod DriveReading
 pub mod Given
 pub mod KeptOf
+pub mod PlainLines

@@ -2,17 +2,19 @@
 use Rattle.std.specs.Prelude.{◌≡◌, ℕ, ◌<◌, ◌^◌, List, length}
 use Rattle.script_model.specs.ScriptTurns.{ScriptState}
 use Rattle.script_model.specs.LawsOfComposition.{state_met}
+use Rattle.script_feed.specs.declared.driven.Driven.{Driven}
 use Rattle.script_feed.specs.KeptOf.{KeepsIfAny, kept_of}
 use Rattle.script_exchanges.specs.declared.line.DriveLine.{DriveLine}
 use Rattle.script_exchanges.specs.Exchanges.{Exchanges, Told, text_of}
 use Rattle.script_snapshots.specs.SnapshotExchanges.{IsExchange, Leads, Takings, no_takings}
 use Rattle.script_shots.specs.declared.machine.SnapshotMachine.{SnapshotMachine}
+use Rattle.script_shots.specs.declared.shot.Shot.{Shot}
 use Rattle.script_shots.specs.Shots.{Keeps}
 
 -- the machine of scripts stands for the fed session, and each snapshot is kept
-pub record Represents {M : Type 0} (stands : M → ℕ → ScriptState → Type 0) (m : SnapshotMachine M) (s : Takings) : Type 0 where
+pub record Represents {M : Type 0} (stands : M → ℕ → ScriptState → Type 0) (m : Driven M Shot) (s : Takings) : Type 0 where
   pub machine : stands m.machine (length s.fed) (state_met s.fed)
-  pub shots : (party : List ℕ) → KeepsIfAny Keeps (kept_of m.shots party) (s.of party)
+  pub shots : (party : List ℕ) → KeepsIfAny Keeps (kept_of m.kept party) (s.of party)
 
 -- the exchanges led there, and are few
 pub record IsLed (xs : Exchanges) (s : Takings) : Type 0 where
@@ -20,7 +22,7 @@ pub record IsLed (xs : Exchanges) (s : Takings) : Type 0 where
   pub few : length xs < 2 ^ 32
 
 -- the machine stands for what exchanges led to
-pub record StandsNow {M : Type 0} (stands : M → ℕ → ScriptState → Type 0) (m : SnapshotMachine M) (xs : Exchanges) (s : Takings) : Type 0 where
+pub record StandsNow {M : Type 0} (stands : M → ℕ → ScriptState → Type 0) (m : Driven M Shot) (xs : Exchanges) (s : Takings) : Type 0 where
   pub led : IsLed xs s
   pub represents : Represents stands m s
 
@@ -28,20 +30,12 @@ pub record StandsNow {M : Type 0} (stands : M → ℕ → ScriptState → Type 0
 pub record StandsAfter {M : Type 0} (stands : M → ℕ → ScriptState → Type 0) (m : SnapshotMachine M) (xs : Exchanges) : Type 0 where
   pub state : Takings
   pub leads : Leads no_takings xs state
-  pub represents : Represents stands m state
-
--- some exchanges led to what the machine stands for
-abbrev pub IsAtWork : {M : Type 0} → (M → ℕ → ScriptState → Type 0) → SnapshotMachine M → Type 0
-IsAtWork stands m = (xs : Exchanges) × (s : Takings) × StandsNow stands m xs s
+  pub represents : Represents stands m.driven state
 
 -- the text is what is rightly told of the line, and the machine stands for what follows
-pub record IsTelling {M : Type 0} (stands : M → ℕ → ScriptState → Type 0) (new : SnapshotMachine M) (s : Takings) (l : DriveLine) (text : List ℕ) : Type 0 where
+pub record IsTelling {M : Type 0} (stands : M → ℕ → ScriptState → Type 0) (new : Driven M Shot) (s : Takings) (l : DriveLine) (text : List ℕ) : Type 0 where
   pub told : List Told
   pub state : Takings
   pub exchange : IsExchange s l told state
   pub represents : Represents stands new state
   pub text_is : text ≡ text_of told
-
--- so it is, whatever exchanges led there
-abbrev pub Tells : {M : Type 0} → (M → ℕ → ScriptState → Type 0) → SnapshotMachine M → SnapshotMachine M → DriveLine → List ℕ → Type 0
-Tells stands old new l text = (xs : Exchanges) (s : Takings) → StandsNow stands old xs s → IsTelling stands new s l text

@@ -1,5 +1,5 @@
 -- The lines that ask for an id.
-use Rattle.std.proofs.Common.{◌≡◌, ℕ, ◌+◌, ◌≤◌, true, List, ◌∷◌, ◌++◌, length, length-append, arith, sym, subst}
+use Rattle.std.proofs.Common.{◌≡◌, ℕ, ◌≤◌, true, List, ◌∷◌, ◌++◌, length, length-append, arith, sym, subst}
 use Rattle.std.specs.Prelude.{codes}
 use Rattle.board_model.specs.LineGrammar.{is_name}
 use Rattle.board_model.specs.declared.line.Line.TheVariants as board_line
