@@ -10,7 +10,7 @@ mod released;
 mod typed;
 
 use board_concepts::Policy;
-use board_domain::{CallbackProgression, Creator, Node, Opener, ServiceBuilder};
+use board_domain::{CallbackProgression, Creator, Node, Opener, PortFactory, ServiceBuilder};
 use board_handles::Domain;
 use board_names::{NodeName, ServiceName};
 use board_service::DynamicConfig;
@@ -52,6 +52,18 @@ fn opener<P: Policy, R: Abort>(rt: &R, alloc: Global, node: &Node) -> Opener<u64
 
 fn second_opener<P: Policy, R: Abort>(rt: &R, alloc: Global, node: &Node) -> Opener<u64, P> {
     builder(rt, node, "second").blackboard_opener::<u64, P>(alloc)
+}
+
+// The second board has the next number, and no attributes, as it was made and as it was opened.
+fn is_second<P, R: Abort>(rt: &R, made: &PortFactory<u64, P>, opened: &PortFactory<u64, P>) {
+    assert_eq!(rt;
+        (made.unique_service_id(), opened.unique_service_id()),
+        (2, 2)
+    );
+    assert_eq!(rt;
+        (made.attributes().len(), opened.attributes().len()),
+        (0, 0)
+    );
 }
 
 // One more digit, and whether a walk goes on: it does until it meets `last`.

@@ -1,6 +1,6 @@
 //! A board is opened by what is needed of its attributes.
 use super::typed::{new_board, new_node, new_reader, new_writer, read_handle};
-use super::{creator, new_domain, opener, second_creator, second_opener};
+use super::{creator, is_second, new_domain, opener, second_creator, second_opener};
 use board_concepts::{AttributeSpecifier, AttributeVerifier, Policy, Shared, Single};
 use board_domain::{Node, PortFactory};
 use board_names::{BlackboardCreateError, BlackboardOpenError};
@@ -90,14 +90,7 @@ fn two_boards<P: Policy, R: Wait + Abort>(rt: &R, alloc: Global) {
     assert_eq!(rt; (first.unique_service_id(), writer.id().0), (1, 1));
     let made = make_second::<P, R>(rt, alloc, &node);
     let opened = open_second::<P, R>(rt, alloc, &node);
-    assert_eq!(rt;
-        (made.unique_service_id(), opened.unique_service_id()),
-        (2, 2)
-    );
-    assert_eq!(rt;
-        (made.attributes().len(), opened.attributes().len()),
-        (0, 0)
-    );
+    is_second(rt, &made, &opened);
     is_read(rt, &opened);
 }
 

@@ -1,6 +1,8 @@
 //! By lent forms.
 use super::published::publish;
-use super::{creator, new_domain, node_name, note, opener, second_creator, second_opener, taken};
+use super::{
+    creator, is_second, new_domain, node_name, note, opener, second_creator, second_opener, taken,
+};
 use board_concepts::{AttributeSpecifier, AttributeVerifier, Policy, Shared, Single};
 use board_domain::{Node, PortFactory};
 use board_handles::{Domain, DomainState, EntryHandle, EntryHandleMut, Reader, Writer};
@@ -251,14 +253,7 @@ fn two_boards<P: Policy, R: Wait + Abort>(rt: &R, alloc: Global) {
     assert_eq!(rt; (first.unique_service_id(), writer.id().0), (1, 1));
     let made = make_second::<P, R>(rt, alloc, &mut state, &node);
     let opened = open_second::<P, R>(rt, alloc, &mut state, &node);
-    assert_eq!(rt;
-        (made.unique_service_id(), opened.unique_service_id()),
-        (2, 2)
-    );
-    assert_eq!(rt;
-        (made.attributes().len(), opened.attributes().len()),
-        (0, 0)
-    );
+    is_second(rt, &made, &opened);
     is_read(rt, &mut state, &opened);
 }
 
