@@ -118,6 +118,41 @@ place_lacks kind out board word value room low_board low_word so_many lacks = om
 pub value_lacks : (kind : List ℕ) (out now : Vec ℕ) (board word value room : ℕ) → board ≤ 9 → word ≤ 9 → room ≡ length kind + 4 → vec_len now ≡ vec_len out + room → vec_capacity out ≤ vec_capacity now → LacksRoomFor now (decimal value) → LacksRoomFor out (kind ++ place_text board word value)
 value_lacks kind out now board word value room low_board low_word so_many longer grows lacks = omega (arith, short_length kind board word value low_board low_word, so_many, longer, grows, lacks)
 
+-- a place of a digit and of two, with its value
+place_of_two : (board word value : ℕ) → board < 10 → 10 ≤ word → word < 100 → place_text board word value ≡ ((48 + board) ∷ 58 ∷ (48 + word / 10) ∷ (48 + word % 10) ∷ 32 ∷ []) ++ decimal value
+place_of_two board word value low_board low high =
+    ap (λ (ds : List ℕ). ds ++ (58 ∷ (decimal word ++ 32 ∷ decimal value))) (decimal_digit board low_board)
+    ∙ ap (λ (ds : List ℕ). (48 + board) ∷ 58 ∷ (ds ++ 32 ∷ decimal value)) (digits_of_two word low high)
+
+-- it stands behind its word, where that and the place were added in one go
+pub short_place_of_two : (kind o0 o1 o2 : List ℕ) (board word value d1 d2 d3 : ℕ) → board < 10 → 10 ≤ word → word < 100 → d1 ≡ 48 + board → d2 ≡ 48 + word / 10 → d3 ≡ 48 + word % 10 → o1 ≡ o0 ++ (kind ++ (d1 ∷ 58 ∷ d2 ∷ d3 ∷ 32 ∷ [])) → o2 ≡ o1 ++ decimal value → o2 ≡ o0 ++ (kind ++ place_text board word value)
+short_place_of_two kind o0 o1 o2 board word value d1 d2 d3 low_board low high is1 is2 is3 first second =
+    let front : List ℕ = d1 ∷ 58 ∷ d2 ∷ d3 ∷ 32 ∷ [] in
+    let place : front ++ decimal value ≡ place_text board word value =
+    ap (λ (d : ℕ). d ∷ 58 ∷ d2 ∷ d3 ∷ 32 ∷ decimal value) is1
+    ∙ ap (λ (d : ℕ). (48 + board) ∷ 58 ∷ d ∷ d3 ∷ 32 ∷ decimal value) is2
+    ∙ ap (λ (d : ℕ). (48 + board) ∷ 58 ∷ (48 + word / 10) ∷ d ∷ 32 ∷ decimal value) is3
+    ∙ sym (place_of_two board word value low_board low high) in
+    second
+    ∙ ap (λ (xs : List ℕ). xs ++ decimal value) first
+    ∙ append_assoc o0 (kind ++ front) (decimal value)
+    ∙ ap (λ (xs : List ℕ). o0 ++ xs) (append_assoc kind front (decimal value) ∙ ap (λ (xs : List ℕ). kind ++ xs) place)
+
+-- so many bytes
+length_of_two : (kind : List ℕ) (board word value : ℕ) → board < 10 → 10 ≤ word → word < 100 → length (kind ++ place_text board word value) ≡ length kind + (5 + length (decimal value))
+length_of_two kind board word value low_board low high =
+    let place = ap length (place_of_two board word value low_board low high) in
+    omega (arith, place, length-append kind (place_text board word value))
+
+-- where there is no room for the word and the place, there is none for all
+pub place_of_two_lacks : (kind : List ℕ) (out : Vec ℕ) (board word value room : ℕ) → board < 10 → 10 ≤ word → word < 100 → room ≡ length kind + 5 → vec_capacity out < vec_len out + room → LacksRoomFor out (kind ++ place_text board word value)
+place_of_two_lacks kind out board word value room low_board low high so_many lacks = omega (arith, length_of_two kind board word value low_board low high, so_many, lacks)
+
+-- nor where there is none for the value behind them
+pub value_of_two_lacks : (kind : List ℕ) (out now : Vec ℕ) (board word value room : ℕ) → board < 10 → 10 ≤ word → word < 100 → room ≡ length kind + 5 → vec_len now ≡ vec_len out + room → vec_capacity out ≤ vec_capacity now → LacksRoomFor now (decimal value) → LacksRoomFor out (kind ++ place_text board word value)
+value_of_two_lacks kind out now board word value room low_board low high so_many longer grows lacks =
+    omega (arith, length_of_two kind board word value low_board low high, so_many, longer, grows, lacks)
+
 -- what holds anyway
 pub on_any : {A E : Type 0} (r : Result A E) (X : Type 0) → X → OnErr r X
 on_any (Ok a) X x = tt

@@ -130,7 +130,27 @@ fn push_place(
     push_number(value, out)
 }
 
-// Adds a read. Where both numbers of its place are below ten, as most are, what stands before the value is copied in one go.
+// Adds a read of a word with a number of two digits, on one of the first boards.
+#[inline(always)]
+fn push_read_of_two(board: u64, word: u64, value: u64, out: &mut Vec<u8>) -> Result<(), AllocError>
+    requires board { board < 10 }
+    requires low { 10 ≤ word }
+    requires high { word < 100 }
+    ensures ok { OnOk result (out.new.items
+        ≡ out.old.items ++ access_text (access.Read board word value)) }
+    ensures room { OnErr result (LacksRoomFor out.old (access_text (access.Read board word value))) }
+    ensures grows { vec_capacity out.old ≤ vec_capacity out.new }
+{
+    let mut place = *b"read 0:00 ";
+    place[5] = digit(board);
+    place[7] = digit(word / 10);
+    place[8] = digit(word % 10);
+    out.extend_from_slice(&place)?;
+    push_digits(value, out)
+}
+
+// Adds a read. Where its board is one of the first and its word has few digits, as most have, what stands before the value
+// is copied in one go.
 #[inline(always)]
 fn push_read(board: u64, word: u64, value: u64, out: &mut Vec<u8>) -> Result<(), AllocError>
     ensures ok { OnOk result (out.new.items
@@ -138,12 +158,34 @@ fn push_read(board: u64, word: u64, value: u64, out: &mut Vec<u8>) -> Result<(),
     ensures room { OnErr result (LacksRoomFor out.old (access_text (access.Read board word value))) }
     ensures grows { vec_capacity out.old ≤ vec_capacity out.new }
 {
-    if board > 9 || word > 9 {
+    if board > 9 || word > 99 {
         return push_place(b"read ", board, word, value, out);
+    }
+    if word > 9 {
+        return push_read_of_two(board, word, value, out);
     }
     let mut place = *b"read 0:0 ";
     place[5] = digit(board);
     place[7] = digit(word);
+    out.extend_from_slice(&place)?;
+    push_digits(value, out)
+}
+
+// Adds a write of a word with a number of two digits, on one of the first boards.
+#[inline(always)]
+fn push_write_of_two(board: u64, word: u64, value: u64, out: &mut Vec<u8>) -> Result<(), AllocError>
+    requires board { board < 10 }
+    requires low { 10 ≤ word }
+    requires high { word < 100 }
+    ensures ok { OnOk result (out.new.items
+        ≡ out.old.items ++ access_text (access.Write board word value)) }
+    ensures room { OnErr result (LacksRoomFor out.old (access_text (access.Write board word value))) }
+    ensures grows { vec_capacity out.old ≤ vec_capacity out.new }
+{
+    let mut place = *b"write 0:00 ";
+    place[6] = digit(board);
+    place[8] = digit(word / 10);
+    place[9] = digit(word % 10);
     out.extend_from_slice(&place)?;
     push_digits(value, out)
 }
@@ -156,8 +198,11 @@ fn push_write(board: u64, word: u64, value: u64, out: &mut Vec<u8>) -> Result<()
     ensures room { OnErr result (LacksRoomFor out.old (access_text (access.Write board word value))) }
     ensures grows { vec_capacity out.old ≤ vec_capacity out.new }
 {
-    if board > 9 || word > 9 {
+    if board > 9 || word > 99 {
         return push_place(b"write ", board, word, value, out);
+    }
+    if word > 9 {
+        return push_write_of_two(board, word, value, out);
     }
     let mut place = *b"write 0:0 ";
     place[6] = digit(board);
