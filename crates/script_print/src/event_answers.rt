@@ -1,19 +1,34 @@
 //! The bytes of answers to lines of events, which are added to a buffer of the caller's.
-ghost use Rattle.std.specs.Prelude.{◌≡◌, ◌≤◌, ◌++◌, OnErr, OnOk, vec_capacity};
+ghost use Rattle.std.specs.Prelude.{◌≡◌, ◌≤◌, ◌++◌, OnErr, OnOk, codes, vec_capacity};
 ghost use Rattle.std.specs.Option.{option_map};
 ghost use Rattle.board_event_model.specs.WaitCalls.{word_in};
 ghost use Rattle.board_model.specs.AnswerGrammar.{number_text};
 ghost use Rattle.script_model.specs.ScriptAnswers.{event_access_text, event_reply_text, event_text, event_told_text, expired, found_text, of_ask, of_event, popped_text, script_answer_line};
+ghost use Rattle.script_model.specs.ScriptGrammar.{kind_text};
 ghost use Rattle.script_print.specs.Room.{LacksRoomFor};
 
 use crate::answers::{push_number, push_numbers};
-use crate::names::{event_kind_name, notify_error_path};
+use crate::names::notify_error_path;
 use crate::replies::push_counted;
 use board_event_model::{EventAccess, EventAnswer, EventKind};
 use script_model::EventReply;
 use std::alloc::AllocError;
 
-// Adds an event as an access prints it, behind the word of the access.
+// Adds the kind of an event, and the colon that parts it from the event's name.
+#[inline(always)]
+fn push_kind(kind: EventKind, out: &mut Vec<u8>) -> Result<(), AllocError>
+    ensures ok { OnOk result (out.new.items ≡ out.old.items ++ (kind_text kind ++ codes ":")) }
+    ensures room { OnErr result (LacksRoomFor out.old (kind_text kind ++ codes ":")) }
+    ensures grows { vec_capacity out.old ≤ vec_capacity out.new }
+{
+    match kind {
+        EventKind::Bits => out.extend_from_slice(b"bits:"),
+        EventKind::Queue => out.extend_from_slice(b"queue:"),
+    }
+}
+
+// Adds an event as an access prints it, behind the word of the access. Inlined, so that the word is copied as it stands there.
+#[inline(always)]
 fn push_event(
     word: &[u8],
     kind: EventKind,
@@ -26,8 +41,7 @@ fn push_event(
     ensures grows { vec_capacity out.old ≤ vec_capacity out.new }
 {
     out.extend_from_slice(word)?;
-    out.extend_from_slice(event_kind_name(kind))?;
-    out.push(b':')?;
+    push_kind(kind, out)?;
     out.extend_from_slice(name)
 }
 

@@ -4,9 +4,7 @@ ghost use Rattle.board_model.specs.declared.answer.Answer.TheVariants as answer;
 ghost use Rattle.board_model.specs.AnswerGrammar.{answer_line, create_error_text, entry_error_text, entry_mut_error_text, open_error_text, reader_error_text, writer_error_text};
 ghost use Rattle.board_model.specs.LineGrammar.{key_type_text};
 ghost use Rattle.script_model.specs.ScriptAnswers.{notify_error_text};
-ghost use Rattle.script_model.specs.ScriptGrammar.{kind_text};
 
-use board_event_model::EventKind;
 use board_model::{KeyType, Reason};
 use board_names::{
     BlackboardCreateError, BlackboardOpenError, EntryHandleError, EntryHandleMutError,
@@ -37,15 +35,6 @@ pub(crate) fn key_type_name(key_type: KeyType) -> &'static [u8]
     match key_type {
         KeyType::U64 => b"u64",
         KeyType::F8 => b"f8",
-    }
-}
-
-pub(crate) fn event_kind_name(kind: EventKind) -> &'static [u8]
-    ensures { result.now ≡ kind_text kind }
-{
-    match kind {
-        EventKind::Bits => b"bits",
-        EventKind::Queue => b"queue",
     }
 }
 
