@@ -5,6 +5,7 @@ pub mod EmptyMaps
 pub mod Listings
 pub mod LoanChecks
 pub mod LoanSteps
+pub mod LoadedCounters
 pub mod Memories
 pub mod OwedAccesses
 pub mod OwedTasks
@@ -21,4 +22,3 @@ pub mod StepRefusals
 pub mod StepWants
 pub mod TableSteps
 pub mod WriteSteps
-pub mod HeldHandles

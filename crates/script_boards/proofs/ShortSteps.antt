@@ -12,12 +12,13 @@ use Rattle.script_boards.specs.declared.machine.BoardMachine.{BoardMachine}
 use Rattle.script_boards.specs.declared.machine.Task.{Task}
 use Rattle.script_boards.specs.declared.machine.Task.TheVariants as task
 use Rattle.script_boards.specs.declared.short_steps.ShortStep.{ShortStep}
+use Rattle.script_boards.specs.declared.short_steps.ShortWay.TheVariants as way
 use Rattle.script_boards.specs.declared.step.OwedAccess.TheVariants as owed
 use Rattle.script_boards.specs.declared.step.OwedWrite.{OwedWrite}
 use Rattle.script_boards.specs.LoanCalls.{IsSettled}
 use Rattle.script_boards.specs.Loans.{lent_words}
 use Rattle.script_boards.specs.Machine.{IsKeptOf, IsLed, Represents, kept, task_of}
-use Rattle.script_boards.specs.ShortSteps.{HasOwedWords, IsAccessOf, IsReadOf, IsShortStep, IsUpdateTask, IsWriteOf, MakesAccess}
+use Rattle.script_boards.specs.ShortSteps.{HasOwedWords, IsAccessOf, IsReadOf, IsShortWay, IsUpdateTask, IsWriteOf, MakesAccess}
 use Rattle.script_boards.specs.Steps.{CanGoOn, IsOwedWrite, IsPut, IsSame, is_gone}
 use Rattle.script_boards.proofs.OwedAccesses.{last_write}
 use Rattle.script_boards.proofs.OwedTasks.{owed_runs}
@@ -53,7 +54,7 @@ module _ {C : Type 0} (m : BoardMachine C) (party : List ℕ) (own : Task) (stan
     left_with is_done = cond is_done None (Some after)
 
     written : (board word value : ℕ) (is_done : Bool) → IsWriteOf m.domain new.domain own after board word value is_done → IsPut (task_of m) (task_of new) party (left_with is_done)
-        → IsShortStep m new party (Some (record { access = access.Write board word value; is_done = is_done }))
+        → IsShortWay m new party (way.Made (record { access = access.Write board word value; is_done = is_done }))
     written board word value true h put = λ s rep reached l.
         let w : OwedWrite = record { board = board; word = word; value = value; is_last = true } in
         let stored : BoardMachine C = record m { domain = new.domain } in
@@ -79,20 +80,20 @@ module _ {C : Type 0} (m : BoardMachine C) (party : List ℕ) (own : Task) (stan
         (subst (λ (t : Task). IsPut (task_of m) (task_of new) party (Some t)) h.after_is put)
 
     was_read : (board word value : ℕ) (is_done : Bool) → IsReadOf m.domain new.domain own after board word value is_done → IsPut (task_of m) (task_of new) party (left_with is_done)
-        → IsShortStep m new party (Some (record { access = access.Read board word value; is_done = is_done }))
+        → IsShortWay m new party (way.Made (record { access = access.Read board word value; is_done = is_done }))
     was_read board word value true h put = absurd (let no : true ≡ false = h.goes_on in cc)
     was_read board word value false h put = λ s rep reached l.
         read_goes_on m s rep reached.sound party own (owed_runs m party (owed.Read (record { board = board; word = word })) (record { task = own; stands = stands; owes = h.owed }) s rep) (record { board = board; word = word }) h.owed value h.loaded
         h.numbers.0 h.numbers.1 h.numbers.2 l new (ap (λ (d : Parties). d.tables) h.same) (ap (λ (d : Parties). d.words) h.same) values loans
         (record { more = h.more; tasks = subst (λ (t : Task). IsPut (task_of m) (task_of new) party (Some t)) h.after_is put })
 
-    made_by : (a : Access) (is_done : Bool) → IsAccessOf m.domain new.domain own after a is_done → IsPut (task_of m) (task_of new) party (left_with is_done) → IsShortStep m new party (Some (record { access = a; is_done = is_done }))
+    made_by : (a : Access) (is_done : Bool) → IsAccessOf m.domain new.domain own after a is_done → IsPut (task_of m) (task_of new) party (left_with is_done) → IsShortWay m new party (way.Made (record { access = a; is_done = is_done }))
     made_by access.Table is_done h put = absurd h
     made_by (access.Read board word value) is_done h put = was_read board word value is_done h put
     made_by (access.Write board word value) is_done h put = written board word value is_done h put
 
     -- what the task made is the step's answer
-    pub some_made : (made : ShortStep) → MakesAccess m.domain new.domain own after (Some made) → IsPut (task_of m) (task_of new) party (left_with made.is_done) → IsShortStep m new party (Some made)
+    pub some_made : (made : ShortStep) → MakesAccess m.domain new.domain own after (Some made) → IsPut (task_of m) (task_of new) party (left_with made.is_done) → IsShortWay m new party (way.Made made)
     some_made made h put = made_by made.access made.is_done h put
 
 -- a task that was put and then taken out

@@ -7,6 +7,7 @@ use Rattle.board_cell_model.specs.OwedAccesses.{owed_read, owed_write, to_read, 
 use Rattle.board_model.specs.AnswerGrammar.{IsAccess}
 use Rattle.board_model.specs.declared.answer.Answer.{Answer}
 use Rattle.board_model.specs.declared.answer.Answer.TheVariants as answer
+use Rattle.board_model.specs.declared.answer.Reason.TheVariants as reason
 use Rattle.board_model.specs.declared.answer.Reply.TheVariants as reply
 use Rattle.board_model.specs.declared.line.Line.TheVariants as line
 use Rattle.script_parties.specs.Parties.{HasWord, IsLoaded, IsStored, Parties}
@@ -14,6 +15,8 @@ use Rattle.script_boards.specs.declared.machine.BoardMachine.{BoardMachine}
 use Rattle.script_boards.specs.declared.machine.Task.{Task}
 use Rattle.script_boards.specs.declared.machine.Task.TheVariants as task
 use Rattle.script_boards.specs.declared.short_steps.ShortStep.{ShortStep}
+use Rattle.script_boards.specs.declared.short_steps.ShortWay.{ShortWay}
+use Rattle.script_boards.specs.declared.short_steps.ShortWay.TheVariants as way
 use Rattle.script_boards.specs.declared.step.OwedAccess.TheVariants as owed
 use Rattle.script_boards.specs.declared.step.OwedRead.{OwedRead}
 use Rattle.script_boards.specs.declared.step.OwedWrite.{OwedWrite}
@@ -98,7 +101,8 @@ MakesAccess old new t after None = (after ≡ t) × (new ≡ old)
 abbrev pub short_answer : ShortStep → Answer
 short_answer made = answer.Step made.access (if made.is_done then Some reply.Done else None)
 
--- the step is answered so; where it wasn't made, nothing of the machine changed
-abbrev pub IsShortStep : {C : Type 0} → BoardMachine C → BoardMachine C → List ℕ → Option ShortStep → Type 0
-IsShortStep old new party (Some made) = Serves old new (line.Step party) (short_answer made)
-IsShortStep old new party None = IsSame old new
+-- the step is answered so; where the way leads nowhere, nothing of the machine changed
+abbrev pub IsShortWay : {C : Type 0} → BoardMachine C → BoardMachine C → List ℕ → ShortWay → Type 0
+IsShortWay old new party way.Idle = Serves old new (line.Step party) (answer.Refused reason.Idle)
+IsShortWay old new party (way.Made made) = Serves old new (line.Step party) (short_answer made)
+IsShortWay old new party way.Nowhere = IsSame old new

@@ -1,5 +1,5 @@
 //! Lines `begin P CALL`.
-ghost use Rattle.std.specs.Prelude.{◌≡◌, ◌+◌, ◌<◌, ◌≤◌, ◌^◌, ◌||◌, true, Some, None, IfOk, IfSome, OnErr, OnOk, find, is_some, not};
+ghost use Rattle.std.specs.Prelude.{◌≡◌, ◌+◌, ◌<◌, ◌≤◌, ◌^◌, ◌||◌, true, Some, None, IfOk, OnErr, OnOk, find, is_some, not};
 ghost use Rattle.std.specs.List.{list_all};
 ghost use Rattle.board_layout.specs.Layout.{cell_shape};
 ghost use Rattle.board_model.specs.LawfulSession.{has_key_type};
@@ -9,7 +9,7 @@ ghost use Rattle.board_model.specs.declared.answer.Reason.TheVariants as reason;
 ghost use Rattle.board_model.specs.declared.line.Call.TheVariants as call;
 ghost use Rattle.board_model.specs.declared.line.Line.TheVariants as line;
 ghost use Rattle.script_boards.specs.Machine.{IsLed, Serves, kept, tables_of};
-ghost use Rattle.script_boards.specs.Begins.{Checks, HasGeneration, HasNoTask, IsGenerationOf, IsHandle, IsRequired, IsUsed, handle_held, has_id, holds, holds_any, thing_held, written_by};
+ghost use Rattle.script_boards.specs.Begins.{Checks, HasGeneration, HasNoTask, IsHandle, IsRequired, IsUsed, handle_held, has_id, holds, holds_any, thing_held, written_by};
 ghost use Rattle.script_boards.specs.Loans.{lent_words};
 ghost use Rattle.script_boards.specs.ShortBegins.{begun_unless};
 ghost use Rattle.script_boards.specs.Wants.{MayWant};
@@ -83,7 +83,7 @@ pub(crate) fn is_value_of(value: Value, entry: &EntryRow) -> bool
     is_type_of(type_of(value), entry)
 }
 
-// What a read handle of an entry knows.
+// What a handle of an entry knows, but for what was written.
 fn read_core(entry: &EntryRow) -> ReadCore
     ensures { result.shape ≡ cell_shape entry.now.cell }
 {
@@ -447,21 +447,33 @@ impl<C: BoardWords + Drop> BoardMachine<C> {
         }
     }
 
-    // The counter of the entry of a handle that is held. 0 where none is.
+    // What an update has to do. The handle is looked for once, and so is its entry.
     #[inline(always)]
-    fn generation_of(&mut self, found: &Option<Held>) -> u64
-        requires led { IsLed self.old }
-        requires handle { IfSome found.now (λ x. IsHandle self.old x) }
-        ensures generation { IsGenerationOf self.old found.now result }
+    fn start_update(&mut self, party: &Name, handle: &Name, value: Value) -> Result<Task, NotBegun>
+        requires { IsLed self.old }
+        ensures checks { Checks self.old party.now (call.Update handle.now value) result }
         ensures same { self.new ≡ self.old }
     {
-        match found {
-            Some(found) => self.counter(found.board, found.kind.entry()),
-            None => 0,
-        }
+        let Some(found) = self.handle_held(party, handle) else {
+            return Err(NotBegun::Refused(Reason::Unknown));
+        };
+        let entry = self.entry_held(&found);
+        require(is_value_of(value, entry), Reason::Type)?;
+        let known = read_core(entry);
+        let generation = self.domain.load(found.board, known.shape.first);
+        let words = value_words(self.alloc, value)?;
+        let core = WriteCore {
+            shape: known.shape,
+            entry_id: known.entry_id,
+            generation,
+        };
+        Ok(Task::Update {
+            board: found.board,
+            call: core.update(words),
+        })
     }
 
-    // A line `begin P update M VAL` of a free party. The handle is looked for once.
+    // A line `begin P update M VAL` of a free party.
     #[inline(always)]
     fn begin_free_update(
         &mut self,
@@ -477,9 +489,7 @@ impl<C: BoardWords + Drop> BoardMachine<C> {
             (line.Begin party (call.Update handle value))) }
         ensures drawn { OnOk result (self.new.domain.drawn ≤ self.old.domain.drawn + 1) }
     {
-        let found = self.handle_held(&party, &handle);
-        let generation = self.generation_of(&found);
-        match self.check_update(&party, &handle, found, value, generation) {
+        match self.start_update(&party, &handle, value) {
             Ok(task) => {
                 put_task(party, task, &mut self.parties)?;
                 Ok(None)

@@ -6,7 +6,7 @@
 //! which states of boards it stands for. Its calls are lines of boards: `begin` (may the call begin, and what has it to
 //! do), `step` (one access: a call on the domain, a word read, a word written), `release` (a thing goes, and a board
 //! with its last thing), `abandon`, and the listing of a board's words. `step_short` is a short way for steps of updates,
-//! and for those of gets and fills that owe a word. `loans` has the calls on loans, `lookups` what stands in the maps and
+//! for those of gets and fills that owe a word, and for those of parties that run no call. `loans` has the calls on loans, `lookups` what stands in the maps and
 //! how it comes and goes, `refusals` what the machine of scripts asks where a name is that of a listener or notifier.
 #![tactic(auto)]
 
@@ -23,4 +23,4 @@ mod step;
 mod words;
 
 pub use machine::BoardMachine;
-pub use short_steps::ShortStep;
+pub use short_steps::{ShortStep, ShortWay};

@@ -115,17 +115,25 @@ impl<C: BoardWords + Drop> BoardMachine<C> {
         self.values.get(&seat)
     }
 
-    /// The words of the loan that a party holds under a name. Where nothing is lent at all, they aren't looked up.
+    // The words of the loan that a party holds under a name.
+    fn words_found(&self, party: &Name, name: &Name) -> Option<&Vec<Option<u64>>>
+        ensures { option_map (λ ws. ws.now.items) result ≡ lent_words self.now party.now name.now }
+    {
+        let seat = Seat {
+            party: *party,
+            name: *name,
+        };
+        self.loans.get(&seat)
+    }
+
+    /// The same. Where nothing is lent at all, they aren't looked up.
+    #[inline(always)]
     pub(crate) fn words_lent(&self, party: &Name, name: &Name) -> Option<&Vec<Option<u64>>>
         ensures { option_map (λ ws. ws.now.items) result ≡ lent_words self.now party.now name.now }
     {
         if self.loans.is_empty() {
             return None;
         }
-        let seat = Seat {
-            party: *party,
-            name: *name,
-        };
-        self.loans.get(&seat)
+        self.words_found(party, name)
     }
 }

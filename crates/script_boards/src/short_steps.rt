@@ -1,8 +1,9 @@
 //! The short way of a line `step P`: a word is read or written, and nothing is told, or `ok` with the last write of an update.
+//! It leads to the refusal of a party that runs no call, too.
 ghost use Rattle.std.specs.Prelude.{◌≡◌, ◌≤◌, false, length};
 ghost use Rattle.board_cell_model.specs.OwedAccesses.{is_finished};
 ghost use Rattle.script_boards.specs.Machine.{IsLed};
-ghost use Rattle.script_boards.specs.ShortSteps.{HasOwedWords, HasReadWord, HasWrittenWord, IsShortStep, IsWordRead, IsWordWritten, MakesAccess};
+ghost use Rattle.script_boards.specs.ShortSteps.{HasOwedWords, HasReadWord, HasWrittenWord, IsShortWay, IsWordRead, IsWordWritten, MakesAccess};
 ghost use Rattle.script_boards.specs.Steps as steps;
 ghost use Rattle.script_boards.specs.Steps.{CanGoOn};
 
@@ -18,6 +19,17 @@ use script_parties::PartyDomain;
 pub struct ShortStep {
     pub access: Access,
     pub is_done: bool,
+}
+
+/// Where the short way of a line `step P` leads.
+#[derive(Clone, Copy, Debug, PartialEq, Eq)]
+pub enum ShortWay {
+    /// The party runs no call, and the line is refused for it.
+    Idle,
+    /// An access was made.
+    Made(ShortStep),
+    /// Nowhere: `step` answers the line.
+    Nowhere,
 }
 
 // A get reads the word that it owes.
@@ -103,22 +115,22 @@ impl Task {
 }
 
 impl<C: BoardWords + Drop> BoardMachine<C> {
-    /// A line `step P` of an update, or of a get or a fill that owes a word: what it made. It takes no memory. Where there is
-    /// none nothing changes, and `step` answers the line.
-    pub fn step_short(&mut self, party: &Name) -> Option<ShortStep>
+    /// A line `step P` of a party that runs no call, or of an update, or of a get or a fill that owes a word. It takes no
+    /// memory. Where it leads nowhere nothing changes, and `step` answers the line.
+    pub fn step_short(&mut self, party: &Name) -> ShortWay
         requires { IsLed self.old }
-        ensures steps { IsShortStep self.old self.new party.now result }
+        ensures steps { IsShortWay self.old self.new party.now result }
         ensures drawn { self.new.domain.drawn ≡ self.old.domain.drawn }
     {
         let Some(task) = self.parties.get_mut(party) else {
-            return None;
+            return ShortWay::Idle;
         };
         let Some(made) = task.make_access(&mut self.domain) else {
-            return None;
+            return ShortWay::Nowhere;
         };
         if made.is_done {
             let _ = self.parties.remove(party);
         }
-        Some(made)
+        ShortWay::Made(made)
     }
 }

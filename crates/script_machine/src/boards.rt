@@ -20,6 +20,7 @@ use crate::machine::Machine;
 use board_cell_model::Access;
 use board_model::{Answer, Call, Name, Reason, Reply, Value};
 use board_service::BoardWords;
+use script_boards::ShortWay;
 use script_events::Stepped;
 use script_print::{
     push_access_made, push_answer, push_begun, push_event_asked, push_event_step, push_refused,
@@ -171,7 +172,7 @@ impl<C: BoardWords + Drop> Machine<C> {
         push_begin(refusal, out)
     }
 
-    /// A line `step P`. Most steps that read or write a word go a short way, and are answered with no answer built.
+    /// A line `step P`. Most steps go a short way, and are answered with no answer built.
     pub(crate) fn step(&mut self, party: &Name, out: &mut Vec<u8>) -> Result<(), AllocError>
         requires led { IsLed self.old }
         requires line { IsLine (board_line.Step party.now) }
@@ -186,8 +187,9 @@ impl<C: BoardWords + Drop> Machine<C> {
             return self.step_on_events(party, out);
         }
         match self.boards.step_short(party) {
-            Some(made) => push_access_made(made.access, made.is_done, out),
-            None => self.step_on_boards(party, out),
+            ShortWay::Made(made) => push_access_made(made.access, made.is_done, out),
+            ShortWay::Idle => push_refused(Reason::Idle, out),
+            ShortWay::Nowhere => self.step_on_boards(party, out),
         }
     }
 

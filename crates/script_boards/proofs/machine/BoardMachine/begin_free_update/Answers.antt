@@ -1,15 +1,12 @@
-use Rattle.std.proofs.Common.{◌≡◌, refl, sym, subst, Option}
+use Rattle.std.proofs.Common.{refl, sym, subst}
 use Rattle.board_model.specs.Requests.{request_of}
 use Rattle.board_model.specs.declared.answer.Answer.TheVariants as answer
 use Rattle.board_model.specs.declared.answer.Reason.{Reason}
 use Rattle.board_model.specs.declared.line.Call.TheVariants as call_of
 use Rattle.board_model.specs.declared.line.Line.TheVariants as line
-use Rattle.board_model.specs.Things.{Held}
-use Rattle.script_boards.specs.Begins.{IsGenerationOf, handle_held}
 use Rattle.board_model.specs.LawfulSession.{IsRight, call_reason}
 use Rattle.script_boards.specs.Machine.{Represents, task_of}
 use Rattle.script_boards.proofs.CallChecks.{begin_begun, begin_refused, begin_takes, reason_for, wanted_for}
-use Rattle.script_boards.proofs.HeldHandles.{held_handle}
 use Rattle.script_boards.proofs.PartyTasks.{is_free}
 use Rattle.script_boards.proofs.StepWants.{anyway}
 use Rattle.script_boards.proofs.machine.BoardMachine.begin_free_update.Goals as goal
@@ -20,10 +17,10 @@ returns-in-Err-Refused-clause-serves g c =
     let party = c.args.party in
     let call = (call_of.Update c.args.handle c.args.value) in
     λ s rep reached l.
-    let rep2 = subst (λ x. Represents x s) (sym c.generation_of-generation.ensures.same) rep in
+    let rep2 = subst (λ x. Represents x s) (sym c.start_update.ensures.same) rep in
     let reason =
     reason_for (call_reason s.standing party call (request_of s.standing s.published party call)) (request_of s.standing s.published party call) c.in-Err-Refused.field-0 c.in-Err-Refused.why c.in-Err-Refused.field-0-is
-    (c.in-Err-Refused.ensures s rep2 reached.sound) in
+    (c.in-Err-Refused.ensures.checks s rep reached.sound) in
     (subst (λ (why : Reason). IsRight s (line.Begin party call) (answer.Refused why)) (sym c.in-Err-Refused.why-is) (begin_refused s party call c.in-Err-Refused.why (is_free (task_of m) s.parties rep.parties party c.requires.free) reason l), rep2)
 
 pub returns-in_ok-put_task-in-Ok-clause-serves : goal.returns-in_ok-put_task-in-Ok-clause-serves
@@ -31,8 +28,8 @@ returns-in_ok-put_task-in-Ok-clause-serves g c =
     let m = c.args.self.now in
     let party = c.args.party in
     λ s rep reached l.
-    let rep2 = subst (λ x. Represents x s) (sym c.generation_of-generation.ensures.same) rep in
-    begin_begun c.generation_of-generation.new.self _ s rep2 party (call_of.Update c.args.handle c.args.value) c.in-Ok.task (is_free (task_of m) s.parties rep.parties party c.requires.free) (c.in-Ok.ensures s rep2 reached.sound) refl refl refl refl
+    let rep2 = subst (λ x. Represents x s) (sym c.start_update.ensures.same) rep in
+    begin_begun c.start_update.new.self _ s rep2 party (call_of.Update c.args.handle c.args.value) c.in-Ok.task (is_free (task_of m) s.parties rep.parties party c.requires.free) (c.in-Ok.ensures.checks s rep reached.sound) refl refl refl refl
     c.in_ok-put_task-in-Ok.ensures.put l
 
 pub returns-in_err-put_task-in-Ok-clause-memory : goal.returns-in_err-put_task-in-Ok-clause-memory
@@ -40,8 +37,8 @@ returns-in_err-put_task-in-Ok-clause-memory g c =
     let m = c.args.self.now in
     let party = c.args.party in
     anyway c.from_residual.result _ (λ s rep reached.
-    let rep2 = subst (λ x. Represents x s) (sym c.generation_of-generation.ensures.same) rep in
-    begin_takes s party (call_of.Update c.args.handle c.args.value) (is_free (task_of m) s.parties rep.parties party c.requires.free) (c.in-Ok.ensures s rep2 reached.sound).0)
+    let rep2 = subst (λ x. Represents x s) (sym c.start_update.ensures.same) rep in
+    begin_takes s party (call_of.Update c.args.handle c.args.value) (is_free (task_of m) s.parties rep.parties party c.requires.free) (c.in-Ok.ensures.checks s rep reached.sound).0)
 
 pub returns-in-Err-OutOfMemory-clause-memory : goal.returns-in-Err-OutOfMemory-clause-memory
 returns-in-Err-OutOfMemory-clause-memory g c =
@@ -49,18 +46,7 @@ returns-in-Err-OutOfMemory-clause-memory g c =
     let party = c.args.party in
     let call = (call_of.Update c.args.handle c.args.value) in
     λ s rep reached.
-    let rep2 = subst (λ x. Represents x s) (sym c.generation_of-generation.ensures.same) rep in
+    let rep2 = subst (λ x. Represents x s) (sym c.start_update.ensures.same) rep in
     begin_takes s party call (is_free (task_of m) s.parties rep.parties party c.requires.free)
     (wanted_for (call_reason s.standing party call (request_of s.standing s.published party call)) (request_of s.standing s.published party call) c.in-Err-OutOfMemory.field-0 c.in-Err-OutOfMemory.field-0-is
-    (c.in-Err-OutOfMemory.ensures s rep2 reached.sound))
-
-pub generation_of-generation-requires-clause-handle : goal.generation_of-generation-requires-clause-handle
-generation_of-generation-requires-clause-handle g c = held_handle c.args.self.now c.args.party c.args.handle c.handle_held-found.result c.handle_held-found.ensures
-
-pub check_update-requires-clause-found : goal.check_update-requires-clause-found
-check_update-requires-clause-found g c = subst (λ m. c.handle_held-found.result ≡ handle_held m c.args.party c.args.handle) (sym c.generation_of-generation.ensures.same) c.handle_held-found.ensures
-
-pub check_update-requires-clause-generation : goal.check_update-requires-clause-generation
-check_update-requires-clause-generation g c =
-    subst (λ m. IsGenerationOf m (handle_held m c.args.party c.args.handle) c.generation_of-generation.result) (sym c.generation_of-generation.ensures.same)
-    (subst (λ (o : Option Held). IsGenerationOf c.args.self.now o c.generation_of-generation.result) c.handle_held-found.ensures c.generation_of-generation.ensures.generation)
+    (c.in-Err-OutOfMemory.ensures.checks s rep reached.sound))

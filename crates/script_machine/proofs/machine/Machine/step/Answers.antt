@@ -1,10 +1,12 @@
-use Rattle.std.proofs.Common.{◌≡◌, Option, Some, None, false, subst, sym, ◌∙◌}
+use Rattle.std.proofs.Common.{◌≡◌, Some, None, false, subst, sym, ◌∙◌}
 use Rattle.std.specs.Prelude.{Bool, true, if◌then◌else◌, IfSome}
+use Rattle.board_model.specs.declared.answer.Answer.TheVariants as answer
+use Rattle.board_model.specs.declared.answer.Reason.TheVariants as reason
 use Rattle.board_model.specs.declared.answer.Reply.TheVariants as reply
 use Rattle.board_model.specs.declared.line.Line.TheVariants as board_line
 use Rattle.script_boards.proofs.Listings.{on_ok}
-use Rattle.script_boards.specs.declared.short_steps.ShortStep.{ShortStep}
-use Rattle.script_boards.specs.ShortSteps.{IsShortStep, short_answer}
+use Rattle.script_boards.specs.declared.short_steps.ShortWay.{ShortWay}
+use Rattle.script_boards.specs.ShortSteps.{IsShortWay, short_answer}
 use Rattle.script_lengths.specs.ShortAnswers.{IsShortReply}
 use Rattle.script_model.specs.declared.line.ScriptLine.TheVariants as line
 use Rattle.script_model.specs.ScriptEvents.{runs_on_events}
@@ -22,40 +24,60 @@ told_short : (b : Bool) → IfSome (if b then Some reply.Done else None) IsShort
 told_short true = tt
 told_short false = tt
 
-pub returns-in-Some-clause-tells : goal.returns-in-Some-clause-tells
-returns-in-Some-clause-tells g c = on_ok (λ e s count rep reached.
+pub returns-in-Made-clause-tells : goal.returns-in-Made-clause-tells
+returns-in-Made-clause-tells g c = on_ok (λ e s count rep reached.
     let runs : runs_on_events s.events c.args.party.now ≡ false = sym (c.runs.ensures s.events count reached.few reached.sound.events rep.events) ∙ c.if-runs.false in
-    let steps = subst (λ (o : Option ShortStep). IsShortStep c.args.self.now.boards c.step_short.new.self c.args.party.now o) c.in-Some.is c.step_short.ensures.steps in
+    let steps = subst (λ (o : ShortWay). IsShortWay c.args.self.now.boards c.step_short.new.self c.args.party.now o) c.in-Made.is c.step_short.ensures.steps in
     let served = steps s.boards rep.boards reached.boards c.requires.line in
-    told_alone _ s (board_line.Step c.args.party.now) (short_answer c.in-Some.made) _ (step_alone s c.args.party.now runs) c.requires.line served.0
+    told_alone _ s (board_line.Step c.args.party.now) (short_answer c.in-Made.made) _ (step_alone s c.args.party.now runs) c.requires.line served.0
     (record { alive = rep.alive; boards = served.1; events = rep.events }) (from_nothing _ _ _ c.requires.empty e)) c.push_access_made.result c.push_access_made.ensures.ok
 
-pub returns-in-Some-clause-memory : goal.returns-in-Some-clause-memory
-returns-in-Some-clause-memory g c =
-    let steps = subst (λ (o : Option ShortStep). IsShortStep c.args.self.now.boards c.step_short.new.self c.args.party.now o) c.in-Some.is c.step_short.ensures.steps in
-    answered_wants c.push_access_made.result c.args.self.now (board_line.Step c.args.party.now) c.args.out.now (short_answer c.in-Some.made) c.push_access_made.ensures.room
+pub returns-in-Made-clause-memory : goal.returns-in-Made-clause-memory
+returns-in-Made-clause-memory g c =
+    let steps = subst (λ (o : ShortWay). IsShortWay c.args.self.now.boards c.step_short.new.self c.args.party.now o) c.in-Made.is c.step_short.ensures.steps in
+    answered_wants c.push_access_made.result c.args.self.now (board_line.Step c.args.party.now) c.args.out.now (short_answer c.in-Made.made) c.push_access_made.ensures.room
     (λ s count rep reached.
     let runs : runs_on_events s.events c.args.party.now ≡ false = sym (c.runs.ensures s.events count reached.few reached.sound.events rep.events) ∙ c.if-runs.false in
     step_alone s c.args.party.now runs)
     (λ s count rep reached. (steps s.boards rep.boards reached.boards c.requires.line).0)
-    (λ s count rep reached no. absurd (no (told_short c.in-Some.made.is_done)))
+    (λ s count rep reached no. absurd (no (told_short c.in-Made.made.is_done)))
+
+-- ---- a party that runs no call
+
+pub returns-in-Idle-clause-tells : goal.returns-in-Idle-clause-tells
+returns-in-Idle-clause-tells g c = on_ok (λ e s count rep reached.
+    let runs : runs_on_events s.events c.args.party.now ≡ false = sym (c.runs.ensures s.events count reached.few reached.sound.events rep.events) ∙ c.if-runs.false in
+    let idle = subst (λ (o : ShortWay). IsShortWay c.args.self.now.boards c.step_short.new.self c.args.party.now o) c.in-Idle.is c.step_short.ensures.steps in
+    let served = idle s.boards rep.boards reached.boards c.requires.line in
+    told_alone _ s (board_line.Step c.args.party.now) (answer.Refused reason.Idle) _ (step_alone s c.args.party.now runs) c.requires.line served.0
+    (record { alive = rep.alive; boards = served.1; events = rep.events }) (from_nothing _ _ _ c.requires.empty e)) c.push_refused.result c.push_refused.ensures.ok
+
+pub returns-in-Idle-clause-memory : goal.returns-in-Idle-clause-memory
+returns-in-Idle-clause-memory g c =
+    let idle = subst (λ (o : ShortWay). IsShortWay c.args.self.now.boards c.step_short.new.self c.args.party.now o) c.in-Idle.is c.step_short.ensures.steps in
+    answered_wants c.push_refused.result c.args.self.now (board_line.Step c.args.party.now) c.args.out.now (answer.Refused reason.Idle) c.push_refused.ensures.room
+    (λ s count rep reached.
+    let runs : runs_on_events s.events c.args.party.now ≡ false = sym (c.runs.ensures s.events count reached.few reached.sound.events rep.events) ∙ c.if-runs.false in
+    step_alone s c.args.party.now runs)
+    (λ s count rep reached. (idle s.boards rep.boards reached.boards c.requires.line).0)
+    (λ s count rep reached no. absurd (no tt))
 
 -- ---- another one, of the same machine
 
 pub step_on_boards-requires-clause-led : goal.step_on_boards-requires-clause-led
 step_on_boards-requires-clause-led g c =
-    let same = subst (λ (o : Option ShortStep). IsShortStep c.args.self.now.boards c.step_short.new.self c.args.party.now o) c.in-None.is c.step_short.ensures.steps in
+    let same = subst (λ (o : ShortWay). IsShortWay c.args.self.now.boards c.step_short.new.self c.args.party.now o) c.in-Nowhere.is c.step_short.ensures.steps in
     led_same c.args.self.now c.step_short.new.self same c.requires.led
 
 pub step_on_boards-requires-clause-runs : goal.step_on_boards-requires-clause-runs
 step_on_boards-requires-clause-runs g c = λ x count few sound rep. sym (c.runs.ensures x count few sound rep) ∙ c.if-runs.false
 
-pub returns-in-None-clause-tells : goal.returns-in-None-clause-tells
-returns-in-None-clause-tells g c =
-    let same = subst (λ (o : Option ShortStep). IsShortStep c.args.self.now.boards c.step_short.new.self c.args.party.now o) c.in-None.is c.step_short.ensures.steps in
+pub returns-in-Nowhere-clause-tells : goal.returns-in-Nowhere-clause-tells
+returns-in-Nowhere-clause-tells g c =
+    let same = subst (λ (o : ShortWay). IsShortWay c.args.self.now.boards c.step_short.new.self c.args.party.now o) c.in-Nowhere.is c.step_short.ensures.steps in
     on_ok (tells_same c.args.self.now c.step_short.new.self same _ (line.Board (board_line.Step c.args.party.now)) _) c.step_on_boards.result c.step_on_boards.ensures.tells
 
-pub returns-in-None-clause-memory : goal.returns-in-None-clause-memory
-returns-in-None-clause-memory g c =
-    let same = subst (λ (o : Option ShortStep). IsShortStep c.args.self.now.boards c.step_short.new.self c.args.party.now o) c.in-None.is c.step_short.ensures.steps in
+pub returns-in-Nowhere-clause-memory : goal.returns-in-Nowhere-clause-memory
+returns-in-Nowhere-clause-memory g c =
+    let same = subst (λ (o : ShortWay). IsShortWay c.args.self.now.boards c.step_short.new.self c.args.party.now o) c.in-Nowhere.is c.step_short.ensures.steps in
     err_then c.step_on_boards.result c.step_on_boards.ensures.memory (wants_same c.args.self.now c.step_short.new.self same (line.Board (board_line.Step c.args.party.now)) c.args.out.now)
