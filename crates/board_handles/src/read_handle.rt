@@ -15,9 +15,9 @@ use board_service::Found;
 use std::marker::{Model, PhantomData};
 use std::sync::{Arc, Wait};
 
-// Values of up to so many words are read into a local, which the compiler keeps in registers. Longer ones have no room
-// there, and take less by way of the handle's buffer.
-const FEW_WORDS: usize = 8;
+// Values of up to so many words are read into a local, so that each word that is used stands in a register, or goes from
+// one to where it is kept. For longer ones the cell's call has a loop, which needs their words in memory.
+const FEW_WORDS: usize = 32;
 
 /// A read handle of an entry whose values are `V`s.
 ///

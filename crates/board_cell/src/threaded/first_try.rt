@@ -1,5 +1,5 @@
 //! Gets whose first try needs no call core, and so no buffer of its own.
-ghost use Rattle.std.specs.Prelude.{◌≡◌, ◌≢◌, ◌+◌, ◌<◌, ◌≤◌, [], max, length, IfOk, IfErr};
+ghost use Rattle.std.specs.Prelude.{◌≡◌, ◌≢◌, ◌+◌, ◌^◌, ◌<◌, ◌≤◌, [], max, length, take, IfOk, IfErr};
 ghost use Rattle.board_cell_model.specs.OwedAccesses.{current_at};
 ghost use Rattle.board_cell.specs.Passes.{threaded_shape, NotesRise, Gets, GetsWithin, GivesUp};
 ghost use Rattle.board_cell.specs.Views.{reader_of, with_open, with_found, with_words, with_close, with_note, AfterTriesWithin, AfterFailures};
@@ -69,7 +69,65 @@ impl ThreadedCell {
         table.shared.load::<Close>(seat, 0)
     }
 
-    // All words of the open try. Their number is that of the slice, so where the compiler knows it, no test of the width is left.
+    // The open try's word with this index, into its place.
+    #[inline(always)]
+    fn load_word(&self, seat: &mut Seat<(), View>, copy: u64, words: &mut [u64], at: usize)
+        requires cell { seat.old.table_id ≡ self.now.cell }
+        requires seat { seat.old.me.0 ≡ Reader (reader_of seat.old.me.0) }
+        requires copy { copy ≡ current_at (threaded_shape self.now.width) (reader_of seat.old.me.0).opened }
+        requires fits { copy + self.now.width < 2 ^ 64 }
+        requires width { length words.old ≡ self.now.width }
+        requires found { (reader_of seat.old.me.0).found ≡ take at words.old }
+        requires more { at + 1 ≤ self.now.width }
+        ensures cell { seat.new.table_id ≡ seat.old.table_id }
+        ensures seat { seat.new.me ≡ (Reader (with_words (reader_of seat.old.me.0) (take (at + 1) words.new)), seat.old.me.1) }
+        ensures width { length words.new ≡ self.now.width }
+    {
+        words[at] = self.load_next(seat, copy + at as u64);
+    }
+
+    // Four words of the open try, from this index on.
+    #[inline(always)]
+    fn load_four(&self, seat: &mut Seat<(), View>, copy: u64, words: &mut [u64], at: usize)
+        requires cell { seat.old.table_id ≡ self.now.cell }
+        requires seat { seat.old.me.0 ≡ Reader (reader_of seat.old.me.0) }
+        requires copy { copy ≡ current_at (threaded_shape self.now.width) (reader_of seat.old.me.0).opened }
+        requires fits { copy + self.now.width < 2 ^ 64 }
+        requires width { length words.old ≡ self.now.width }
+        requires found { (reader_of seat.old.me.0).found ≡ take at words.old }
+        requires more { at + 4 ≤ self.now.width }
+        ensures cell { seat.new.table_id ≡ seat.old.table_id }
+        ensures seat { seat.new.me ≡ (Reader (with_words (reader_of seat.old.me.0) (take (at + 4) words.new)), seat.old.me.1) }
+        ensures width { length words.new ≡ self.now.width }
+    {
+        self.load_word(seat, copy, words, at);
+        self.load_word(seat, copy, words, at + 1);
+        self.load_word(seat, copy, words, at + 2);
+        self.load_word(seat, copy, words, at + 3);
+    }
+
+    // Sixteen words of the open try, from this index on.
+    #[inline(always)]
+    fn load_sixteen(&self, seat: &mut Seat<(), View>, copy: u64, words: &mut [u64], at: usize)
+        requires cell { seat.old.table_id ≡ self.now.cell }
+        requires seat { seat.old.me.0 ≡ Reader (reader_of seat.old.me.0) }
+        requires copy { copy ≡ current_at (threaded_shape self.now.width) (reader_of seat.old.me.0).opened }
+        requires fits { copy + self.now.width < 2 ^ 64 }
+        requires width { length words.old ≡ self.now.width }
+        requires found { (reader_of seat.old.me.0).found ≡ take at words.old }
+        requires more { at + 16 ≤ self.now.width }
+        ensures cell { seat.new.table_id ≡ seat.old.table_id }
+        ensures seat { seat.new.me ≡ (Reader (with_words (reader_of seat.old.me.0) (take (at + 16) words.new)), seat.old.me.1) }
+        ensures width { length words.new ≡ self.now.width }
+    {
+        self.load_four(seat, copy, words, at);
+        self.load_four(seat, copy, words, at + 4);
+        self.load_four(seat, copy, words, at + 8);
+        self.load_four(seat, copy, words, at + 12);
+    }
+
+    // All words of the open try. Their number is that of the slice: where the compiler knows it, no test of the width is
+    // left, and of up to 32 words no loop.
     #[inline(always)]
     fn load_words(&self, seat: &mut Seat<(), View>, opened: u64, words: &mut [u64])
         requires cell { seat.old.table_id ≡ self.now.cell }
@@ -86,8 +144,17 @@ impl ThreadedCell {
             words: words.len() as u64,
         };
         let copy = current_copy(shape, opened);
-        for i in 0..words.len() {
-            words[i] = self.load_next(seat, copy + i as u64);
+        let mut at = 0;
+        if words.len() >= 16 {
+            self.load_sixteen(seat, copy, words, 0);
+            at = 16;
+        }
+        if words.len() >= 32 {
+            self.load_sixteen(seat, copy, words, 16);
+            at = 32;
+        }
+        for i in at..words.len() {
+            self.load_word(seat, copy, words, i);
         }
     }
 
