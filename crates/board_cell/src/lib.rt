@@ -8,8 +8,8 @@
 //! (generation and words), the counters that it loaded, and the generation that it knows to be reached. `specs/Rule`
 //! has the one record of facts that holds of the words and all views at every moment, `specs/Views` what a step does to
 //! the view that takes it, `specs/Passes` what callers see of a pass, and `specs/History` the legal history of all
-//! publications and notes, which `gather` gives. `threaded/steps` has the atomic steps. `OfCell` is the promise of a
-//! thread that what it gives back is of a cell.
+//! publications and notes, which `gather` gives. `threaded/steps` has the atomic steps, and `threaded/first_try` those
+//! of a get that has no core in its first try. `OfCell` is the promise of a thread that what it gives back is of a cell.
 //!
 //! A thread that has the words alone calls `get_on`, `fresh_on` and `update_on`, which make all accesses of a call.
 #![tactic(auto)]
