@@ -1,7 +1,6 @@
 -- What a get owes, word by word.
-use Rattle.std.proofs.Common.{◌≡◌, ◌≢◌, ℕ, ◌+◌, ◌<◌, ◌≤◌, true, false, List, [], ◌∷◌, ◌++◌, length, drop, get_or, refl, sym, ap, ◌∙◌, arith, append_assoc}
-use Rattle.std.proofs.lemmas.Grind.{common_steps}
-use Rattle.std.proofs.lemmas.List.{append-nil, drop_more}
+use Rattle.std.proofs.Common.{◌≡◌, ℕ, ◌+◌, ◌<◌, true, false, List, [], ◌∷◌, ◌++◌, length, drop, get_or, refl, sym, ap, ◌∙◌}
+use Rattle.std.proofs.lemmas.List.{drop_more}
 use Rattle.board_layout.specs.declared.shape.CellShape.{CellShape}
 use Rattle.board_cell_model.specs.OwedAccesses.{Owed, Reading, opening, trying, finished, hear, reading_from, is_finished, owed_read}
 use Rattle.board_cell_model.proofs.Hearing.{reading_from_last}
