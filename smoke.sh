@@ -213,6 +213,9 @@ shared 1 1 1000000000
 END
 gets=$("$bench" shared 1 2 1000) && [[ $gets =~ ^gets\ [1-9][0-9]*$ ]] && good=yes || good=no
 tells 'readers beside a writer' "$good"
+# A reader that only began after the last of so many updates would make one get.
+gets=$("$bench" shared 1 2 5000000) && [[ $gets =~ ^gets\ [1-9][0-9]*$ ]] && [ "${gets#gets }" -gt 2 ] && good=yes || good=no
+tells 'readers that get while a writer updates' "$good"
 
 # the first program of the library's use, whose run the gate compares, is the README's
 sed -n '/^```rust$/,/^```$/p' README.md | sed '1d;$d' > "$folder/typed"

@@ -14,25 +14,9 @@ mod trips;
 mod typed;
 mod widths;
 
+use script_process::words;
 use std::process::ExitCode;
-use std::{env, io};
 use top::run_program;
-
-// The words of the command line without the program's name. One that isn't text makes all of them one empty word.
-fn words(rt: &HostRuntime) -> anyhow::Result<Vec<String>> {
-    let alloc = rt.alloc();
-    match env::args(rt) {
-        Ok(args) => Ok(args.skip(1).collect(alloc)?),
-        Err(error) => {
-            if error.kind() != io::ErrorKind::InvalidData {
-                return Err(error.into());
-            }
-            let mut words = Vec::new(alloc);
-            words.push(String::new(alloc))?;
-            Ok(words)
-        }
-    }
-}
 
 fn main(rt: HostRuntime) -> anyhow::Result<ExitCode> {
     let words = words(&rt)?;

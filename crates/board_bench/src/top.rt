@@ -1,5 +1,5 @@
 //! The program's top call.
-ghost use Rattle.std.specs.Prelude.{◌≡◌, map, Err, IfOk, IfSome, IsSome, None, OnOk, string_bytes};
+ghost use Rattle.std.specs.Prelude.{◌≡◌, ◌⊎◌, map, Err, IfOk, IfSome, IsSome, None, OnOk, string_bytes};
 ghost use Rattle.std.specs.Io.KnownBytes.{Appends};
 ghost use Rattle.std.specs.Process.{exit_status};
 ghost use Rattle.board_bench.specs.Done.{EndsOneBy, HasDoneOne};
@@ -98,6 +98,9 @@ pub fn run_program<R: Threads + Wait + Sync, W: Write, N: Write>(
         → EndsOneBy (map string_bytes words.now) e }
     ensures err_unwritten { (e : BenchError) → result ≡ Err (top_error.NotDone e) → out.new ≡ out.old }
     ensures err_silent { (e : BenchError) → result ≡ Err (top_error.NotDone e) → notes.new ≡ notes.old }
+
+    // Whatever comes of it, at most one of the two was written to.
+    ensures one { (out.new ≡ out.old) ⊎ (notes.new ≡ notes.old) }
 {
     match measure(rt, alloc, words) {
         Ok(Some(done)) => {
