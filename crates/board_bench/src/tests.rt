@@ -176,6 +176,15 @@ fn each_round_trip_sends_an_id_and_takes_one(rt: HostRuntime) -> Result<(), Fail
 }
 
 #[test]
+fn another_id_that_comes_back_is_told(rt: HostRuntime) -> Result<(), Fail> {
+    let (_there, to_there) = ends_of::<QueueOfIds, HostRuntime>(&rt, rt.alloc())?;
+    let (back, to_back) = ends_of::<QueueOfIds, HostRuntime>(&rt, rt.alloc())?;
+    to_back.notify(&rt, id_of(1))?;
+    assert!(rt; send(&rt, &to_there, &back, 1).is_err());
+    Ok(())
+}
+
+#[test]
 fn each_id_is_sent_back(rt: HostRuntime) -> Result<(), Fail> {
     let (there, to_there) = ends_of::<QueueOfIds, HostRuntime>(&rt, rt.alloc())?;
     let (back, to_back) = ends_of::<QueueOfIds, HostRuntime>(&rt, rt.alloc())?;
