@@ -42,16 +42,20 @@ breaks() {
 
 # speaks NAME ANSWER PROGRAM: each answer, which is this one of the party %s, comes before the next line is sent
 speaks() {
-    local good=yes party wanted answer process to
+    local good=yes party wanted answer process from end to
     coproc talk { timeout 60 "$3" 2>&1; }
-    # (bash forgets the number of a process that has ended)
-    process=$talk_PID
-    exec {to}>&"${talk[1]}"
-    eval "exec ${talk[1]}>&-"
+    # (bash forgets the number of a process that has ended, and its ends: then there is nothing to say to it)
+    process=$talk_PID from=${talk[0]} end=${talk[1]}
+    if [ -z "$process" ] || [ -z "$from" ] || [ -z "$end" ]; then
+        tells "$1" no
+        return
+    fi
+    exec {to}>&"$end"
+    eval "exec $end>&-"
     for party in a b c; do
         (echo "abandon $party") >&"$to"
         while read -r wanted; do
-            read -r -t 20 answer <&"${talk[0]}" && [ "$answer" = "$wanted" ] || good=no
+            read -r -t 20 answer <&"$from" && [ "$answer" = "$wanted" ] || good=no
         done < <(printf "$2" "$party")
     done
     exec {to}>&-

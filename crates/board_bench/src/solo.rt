@@ -30,7 +30,9 @@ fn gets<R: Wait>(
 ///
 /// # Errors
 /// `GetAgain` where a try met an update.
+// In the body of its caller, as `gets` is.
 #[tactic(auto, using(crate::proofs::Tries::no_older, crate::proofs::Tries::gave_up))]
+#[inline(always)]
 pub fn tries(
     cell: &ThreadedCell,
     reader: &mut ReaderPass,
@@ -107,11 +109,13 @@ pub fn run_tries(alloc: Global, width: u64, count: u64) -> Result<ReaderPass, Ce
 {
     let words = vec![in alloc; 7; width as usize]?;
     let mut out = vec![in alloc; 0; width as usize]?;
-    let (cell, mut writer, mut reader) = ThreadedCell::new(alloc, &words)?;
+    let (cell, writer, mut reader) = ThreadedCell::new(alloc, &words)?;
     match tries(&cell, &mut reader, &mut out, count) {
         Ok(()) => Ok(reader),
         Err(_) => {
-            // The reader would know of a second value, and the writer published the opening one alone.
+            // The reader would know of a second value, and the writer published the opening one alone. Cell and passes are moved,
+            // so that behind the loop no reference to what it reads is taken.
+            let (cell, mut writer, mut reader) = (cell, writer, reader);
             cell.meet(&mut writer, &mut reader);
             unreachable!()
         }

@@ -1,8 +1,8 @@
 -- How the steps of a cell change the views, and what each step tells.
-use Rattle.std.specs.Prelude.{◌≡◌, ℕ, ◌+◌, ◌<◌, ◌≤◌, max, Bool, true, false, eqb, List, [], ◌∷◌, ◌++◌, length}
+use Rattle.std.specs.Prelude.{◌≡◌, ℕ, ◌+◌, ◌^◌, ◌<◌, ◌≤◌, max, Bool, true, false, eqb, List, [], ◌∷◌, ◌++◌, length, take}
 use Rattle.std.specs.List.{All}
 use Rattle.atomic_table.specs.Table.{Me, Step}
-use Rattle.board_cell_model.specs.OwedAccesses.{trying}
+use Rattle.board_cell_model.specs.OwedAccesses.{current_at, trying}
 use Rattle.board_cell.specs.Calls.{Getting, Updating}
 use Rattle.board_cell.specs.Passes.{threaded_shape, note, Stands, NotesRise, ClimbsFrom, last_from}
 use Rattle.board_cell.specs.declared.threaded.view.Note.{Note}
@@ -88,6 +88,19 @@ pub record IsReceiptOf (generation : ℕ) (v : View) : Type 0 where
   pub notes : (reader_of v).notes ≡ []
   pub loads : (reader_of v).loads ≡ []
   pub reached : (reader_of v).reached ≡ generation
+
+-- a reader's view, with a try open at this counter of which no word was found
+abbrev pub HasOpened : View → ℕ → Type 0
+HasOpened v opened = (v ≡ Reader (reader_of v)) × ((reader_of v).found ≡ []) × ((reader_of v).opened ≡ opened)
+
+-- the reader's open try lies in this copy, its words found so far are the slice's first ones, and it has so many more
+pub record HasMoreWords (width : ℕ) (v : View) (copy : ℕ) (words : List ℕ) (at count : ℕ) : Type 0 where
+  pub reader : v ≡ Reader (reader_of v)
+  pub place : copy ≡ current_at (threaded_shape width) (reader_of v).opened
+  pub fits : copy + width < 2 ^ 64
+  pub size : length words ≡ width
+  pub found : (reader_of v).found ≡ take at words
+  pub more : at + count ≤ width
 
 -- the call is in the reader's open try
 abbrev pub IsTrying : ℕ → Getting → ReaderView → Type 0

@@ -58,8 +58,8 @@ impl LockedQueue {
         ensures { MaySend (overflows self.now) result }
     {
         match self {
-            LockedQueue::Overflowing(queue) => queue.lock(rt).send(end, value),
-            LockedQueue::Refusing(queue) => queue.lock(rt).send(end, value),
+            LockedQueue::Overflowing(queue) => end.send_in(&mut queue.lock(rt).queue, value),
+            LockedQueue::Refusing(queue) => end.send_in(&mut queue.lock(rt).queue, value),
         }
     }
 
@@ -72,8 +72,8 @@ impl LockedQueue {
         ensures { IsOk result }
     {
         match self {
-            LockedQueue::Overflowing(queue) => queue.lock(rt).receive(end),
-            LockedQueue::Refusing(queue) => queue.lock(rt).receive(end),
+            LockedQueue::Overflowing(queue) => end.receive_in(&mut queue.lock(rt).queue),
+            LockedQueue::Refusing(queue) => end.receive_in(&mut queue.lock(rt).queue),
         }
     }
 }

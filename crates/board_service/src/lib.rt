@@ -24,6 +24,7 @@ mod told;
 pub use add_error::AddError;
 pub use board_index::{EntryRow, KeptType};
 pub use board_model::{Limits, ThingKind, same_type};
+pub use board_things::Held;
 pub use cells::{BoardWords, Cells};
 pub use domain_core::DomainCore;
 pub use ids::{NodeId, ThingId};

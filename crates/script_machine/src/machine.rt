@@ -9,14 +9,15 @@ ghost use Rattle.script_boards.specs.Machine.{drawn_by};
 ghost use Rattle.script_machine.specs.Bytes.{BytesMayWant, LeavesUnknown, TellsOfBytes};
 ghost use Rattle.script_machine.specs.ScriptMachine.{IsLed, StandsAfter, Tells};
 ghost use Rattle.script_machine.specs.Wants.{MayWant, SpellsSome, SpellsTaking, SpellsWanting};
+ghost use Rattle.script_parse.specs.Short.{IsCut};
 
 use board_model::Line;
 use board_service::BoardWords;
 use script_boards::BoardMachine;
 use script_events::PartyEvents;
 use script_loop::{LineError, RunsLines};
-use script_model::ScriptLine;
-use script_parse::{get_of, line_or_unkept, step_of, update_of};
+use script_model::{EventRequest, ScriptLine};
+use script_parse::{cut_at_call, get_at, line_or_unkept, notify_at, step_of, update_at, wait_at};
 use std::alloc::{AllocError, Global};
 
 /// Runs the lines of one script, one after another. The words of its boards are held by `C`.
@@ -106,7 +107,43 @@ impl<C: BoardWords + Drop> Machine<C> {
         Ok(true)
     }
 
-    // The same, with short ways for gets and updates that begin.
+    // The same for a line that begins a call, with short ways for notifies and waits. Apart, so that an update or a get
+    // doesn't pay for them.
+    #[inline(never)]
+    fn answer_call(
+        &mut self,
+        bytes: &[u8],
+        front: &[u8],
+        asked: &[u8],
+        out: &mut Vec<u8>,
+    ) -> Result<bool, AllocError>
+        requires led { IsLed self.old }
+        requires cut { IsCut bytes.now front.now asked.now }
+        requires empty { out.old.items ≡ [] }
+        ensures tells { IfOk result (λ spelled.
+            TellsOfBytes self.old self.new spelled bytes.now out.new.items) }
+        ensures unknown { IfOk result (λ spelled.
+            LeavesUnknown self.old self.new spelled bytes.now out.new.items) }
+        ensures memory { OnErr result (BytesMayWant self.old bytes.now out.old) }
+        ensures room { vec_capacity out.old ≤ vec_capacity out.new }
+    {
+        if let Some((party, notifier, id)) = notify_at(bytes, front, asked) {
+            self.event_call(party, EventRequest::Notify { notifier, id }, out)?;
+            return Ok(true);
+        }
+        if let Some((party, listener, many, mode)) = wait_at(bytes, front, asked) {
+            let request = EventRequest::Wait {
+                listener,
+                many,
+                mode,
+            };
+            self.event_call(party, request, out)?;
+            return Ok(true);
+        }
+        self.answer_parsed(bytes, out)
+    }
+
+    // The same for any line, with short ways for gets and updates that begin too.
     #[inline(never)]
     fn answer_begun(&mut self, bytes: &[u8], out: &mut Vec<u8>) -> Result<bool, AllocError>
         requires led { IsLed self.old }
@@ -118,15 +155,18 @@ impl<C: BoardWords + Drop> Machine<C> {
         ensures memory { OnErr result (BytesMayWant self.old bytes.now out.old) }
         ensures room { vec_capacity out.old ≤ vec_capacity out.new }
     {
-        if let Some((party, handle, value)) = update_of(bytes) {
+        let Some((front, asked)) = cut_at_call(bytes) else {
+            return self.answer_parsed(bytes, out);
+        };
+        if let Some((party, handle, value)) = update_at(bytes, front, asked) {
             self.begin_update(party, handle, value, out)?;
             return Ok(true);
         }
-        if let Some((party, handle)) = get_of(bytes) {
+        if let Some((party, handle)) = get_at(bytes, front, asked) {
             self.begin_get(party, handle, out)?;
             return Ok(true);
         }
-        self.answer_parsed(bytes, out)
+        self.answer_call(bytes, front, asked, out)
     }
 
     // The same, with a short way for steps. The other lines are apart, so that a step doesn't pay for them.

@@ -1,5 +1,5 @@
 //! Names, numbers, types and keys, each from one token.
-ghost use Rattle.std.specs.Prelude.{◌≡◌, Some};
+ghost use Rattle.std.specs.Prelude.{◌≡◌, ◌∷◌, [], Some};
 ghost use Rattle.std.specs.List.{list_all};
 ghost use Rattle.board_model.specs.LineGrammar.{is_name, is_name_byte, is_visible, is_visible_byte};
 ghost use Rattle.script_grammar.specs.TokenReading.{guard, is_plain_numeral, read_digits, read_key, read_key_type, read_name, read_number, read_value_type};
@@ -14,7 +14,7 @@ const MOST_BEFORE_DIGIT: u64 = 1844674407370955160;
 fn has_name_bytes(text: &[u8]) -> bool
     ensures { result ≡ list_all is_name_byte text.now }
 {
-    text.iter().all(|b| (*b >= b'a' && *b <= b'z') || (*b >= b'0' && *b <= b'9'))
+    text.iter().all(|b| is_name_byte(*b))
 }
 
 fn has_visible_bytes(text: &[u8]) -> bool
@@ -42,14 +42,55 @@ pub(crate) fn is_visible(text: &[u8], most: usize) -> bool
     has_visible_bytes(text)
 }
 
+fn is_name_byte(b: u8) -> bool
+    ensures { result ≡ is_name_byte b }
+{
+    (b >= b'a' && b <= b'z') || (b >= b'0' && b <= b'9')
+}
+
+// A name of any length.
 #[tactic(auto, unfolding(script_grammar::specs::TokenReading::read_name))]
-pub(crate) fn name_of(text: &[u8]) -> Option<Name>
+fn name_by_bytes(text: &[u8]) -> Option<Name>
     ensures { result ≡ read_name text.now }
 {
     if !is_name(text) {
         return None;
     }
     Some(Text::of(text))
+}
+
+#[inline(always)]
+#[tactic(auto, unfolding(script_grammar::specs::TokenReading::read_name))]
+fn name_of_one(a: u8) -> Option<Name>
+    ensures { result ≡ read_name (a ∷ []) }
+{
+    if is_name_byte(a) {
+        return Some(Text::of(&[a]));
+    }
+    None
+}
+
+#[inline(always)]
+#[tactic(auto, unfolding(script_grammar::specs::TokenReading::read_name))]
+fn name_of_two(a: u8, b: u8) -> Option<Name>
+    ensures { result ≡ read_name (a ∷ b ∷ []) }
+{
+    if is_name_byte(a) && is_name_byte(b) {
+        return Some(Text::of(&[a, b]));
+    }
+    None
+}
+
+// A name, where it is one. Those of one or two bytes, as most are, are looked at and copied without a loop.
+#[inline(always)]
+pub(crate) fn name_of(text: &[u8]) -> Option<Name>
+    ensures { result ≡ read_name text.now }
+{
+    match text {
+        [a] => name_of_one(*a),
+        [a, b] => name_of_two(*a, *b),
+        _ => name_by_bytes(text),
+    }
 }
 
 // The text, where it is 1 to so many visible bytes.

@@ -56,7 +56,7 @@ fn kind_of(text: &[u8]) -> Option<EventKind>
 }
 
 #[tactic(auto, unfolding(script_grammar::specs::EventReading::read_mode))]
-fn mode_of(text: &[u8]) -> Option<WaitMode>
+pub(crate) fn mode_of(text: &[u8]) -> Option<WaitMode>
     ensures { result ≡ read_mode text.now }
 {
     beside(
@@ -71,7 +71,7 @@ fn mode_of(text: &[u8]) -> Option<WaitMode>
 
 // Whether a wait is for all ids.
 #[tactic(auto, unfolding(script_grammar::specs::EventReading::read_count))]
-fn count_of(text: &[u8]) -> Option<bool>
+pub(crate) fn count_of(text: &[u8]) -> Option<bool>
     ensures { result ≡ read_count text.now }
 {
     beside(text, &[(b"all", true), (b"one", false)])

@@ -19,5 +19,5 @@ mod values;
 pub use atoms::number_of;
 pub use bytes::place_of;
 pub use parse::{line_or_unkept, parse_line};
-pub use short::{get_of, step_of, update_of};
+pub use short::{cut_at_call, get_at, get_of, notify_at, step_of, update_at, update_of, wait_at};
 pub use unkept::{Made, Unkept};

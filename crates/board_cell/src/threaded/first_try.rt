@@ -1,8 +1,8 @@
 //! Gets whose first try needs no call core, and so no buffer of its own.
-ghost use Rattle.std.specs.Prelude.{◌≡◌, ◌≢◌, ◌+◌, ◌^◌, ◌<◌, ◌≤◌, [], max, length, take, IfOk, IfErr};
+ghost use Rattle.std.specs.Prelude.{◌≡◌, ◌≢◌, ◌+◌, ◌<◌, ◌≤◌, max, length, take, IfOk, IfErr};
 ghost use Rattle.board_cell_model.specs.OwedAccesses.{current_at};
 ghost use Rattle.board_cell.specs.Passes.{threaded_shape, NotesRise, Gets, GetsWithin, GivesUp};
-ghost use Rattle.board_cell.specs.Views.{reader_of, with_open, with_found, with_words, with_close, with_note, AfterTriesWithin, AfterFailures};
+ghost use Rattle.board_cell.specs.Views.{reader_of, with_open, with_found, with_words, with_close, with_note, AfterTriesWithin, AfterFailures, HasMoreWords, HasOpened};
 ghost use Rattle.board_cell.specs.declared.threaded.view.View.TheVariants.{Reader};
 
 use crate::copies::current_copy;
@@ -73,12 +73,7 @@ impl ThreadedCell {
     #[inline(always)]
     fn load_word(&self, seat: &mut Seat<(), View>, copy: u64, words: &mut [u64], at: usize)
         requires cell { seat.old.table_id ≡ self.now.cell }
-        requires seat { seat.old.me.0 ≡ Reader (reader_of seat.old.me.0) }
-        requires copy { copy ≡ current_at (threaded_shape self.now.width) (reader_of seat.old.me.0).opened }
-        requires fits { copy + self.now.width < 2 ^ 64 }
-        requires width { length words.old ≡ self.now.width }
-        requires found { (reader_of seat.old.me.0).found ≡ take at words.old }
-        requires more { at + 1 ≤ self.now.width }
+        requires more { HasMoreWords self.now.width seat.old.me.0 copy words.old at 1 }
         ensures cell { seat.new.table_id ≡ seat.old.table_id }
         ensures seat { seat.new.me ≡ (Reader (with_words (reader_of seat.old.me.0) (take (at + 1) words.new)), seat.old.me.1) }
         ensures width { length words.new ≡ self.now.width }
@@ -90,12 +85,7 @@ impl ThreadedCell {
     #[inline(always)]
     fn load_four(&self, seat: &mut Seat<(), View>, copy: u64, words: &mut [u64], at: usize)
         requires cell { seat.old.table_id ≡ self.now.cell }
-        requires seat { seat.old.me.0 ≡ Reader (reader_of seat.old.me.0) }
-        requires copy { copy ≡ current_at (threaded_shape self.now.width) (reader_of seat.old.me.0).opened }
-        requires fits { copy + self.now.width < 2 ^ 64 }
-        requires width { length words.old ≡ self.now.width }
-        requires found { (reader_of seat.old.me.0).found ≡ take at words.old }
-        requires more { at + 4 ≤ self.now.width }
+        requires more { HasMoreWords self.now.width seat.old.me.0 copy words.old at 4 }
         ensures cell { seat.new.table_id ≡ seat.old.table_id }
         ensures seat { seat.new.me ≡ (Reader (with_words (reader_of seat.old.me.0) (take (at + 4) words.new)), seat.old.me.1) }
         ensures width { length words.new ≡ self.now.width }
@@ -110,12 +100,7 @@ impl ThreadedCell {
     #[inline(always)]
     fn load_sixteen(&self, seat: &mut Seat<(), View>, copy: u64, words: &mut [u64], at: usize)
         requires cell { seat.old.table_id ≡ self.now.cell }
-        requires seat { seat.old.me.0 ≡ Reader (reader_of seat.old.me.0) }
-        requires copy { copy ≡ current_at (threaded_shape self.now.width) (reader_of seat.old.me.0).opened }
-        requires fits { copy + self.now.width < 2 ^ 64 }
-        requires width { length words.old ≡ self.now.width }
-        requires found { (reader_of seat.old.me.0).found ≡ take at words.old }
-        requires more { at + 16 ≤ self.now.width }
+        requires more { HasMoreWords self.now.width seat.old.me.0 copy words.old at 16 }
         ensures cell { seat.new.table_id ≡ seat.old.table_id }
         ensures seat { seat.new.me ≡ (Reader (with_words (reader_of seat.old.me.0) (take (at + 16) words.new)), seat.old.me.1) }
         ensures width { length words.new ≡ self.now.width }
@@ -131,8 +116,7 @@ impl ThreadedCell {
     #[inline(always)]
     fn load_words(&self, seat: &mut Seat<(), View>, opened: u64, words: &mut [u64])
         requires cell { seat.old.table_id ≡ self.now.cell }
-        requires seat { (seat.old.me.0 ≡ Reader (reader_of seat.old.me.0)) × ((reader_of seat.old.me.0).found ≡ [])
-            × ((reader_of seat.old.me.0).opened ≡ opened) }
+        requires seat { HasOpened seat.old.me.0 opened }
         requires width { length words.old ≡ self.now.width }
         ensures cell { seat.new.table_id ≡ seat.old.table_id }
         ensures seat { seat.new.me ≡ (Reader (with_words (reader_of seat.old.me.0) words.new), seat.old.me.1) }
@@ -162,8 +146,7 @@ impl ThreadedCell {
     #[inline(always)]
     fn first_try(&self, seat: &mut Seat<(), View>, opened: u64, words: &mut [u64]) -> u64
         requires cell { seat.old.table_id ≡ self.now.cell }
-        requires seat { (seat.old.me.0 ≡ Reader (reader_of seat.old.me.0)) × ((reader_of seat.old.me.0).found ≡ [])
-            × ((reader_of seat.old.me.0).opened ≡ opened) }
+        requires seat { HasOpened seat.old.me.0 opened }
         requires width { length words.old ≡ self.now.width }
         ensures cell { seat.new.table_id ≡ seat.old.table_id }
         ensures width { length words.new ≡ self.now.width }
@@ -215,8 +198,7 @@ impl ThreadedCell {
         tries: u32,
     ) -> Result<u64, GetAgain>
         requires cell { seat.old.table_id ≡ self.now.cell }
-        requires seat { (seat.old.me.0 ≡ Reader (reader_of seat.old.me.0)) × ((reader_of seat.old.me.0).found ≡ [])
-            × ((reader_of seat.old.me.0).opened ≡ opened) }
+        requires seat { HasOpened seat.old.me.0 opened }
         requires width { (length words.old ≡ self.now.width) × (length later.old.items ≡ self.now.width) }
         requires some { 0 < tries }
         ensures cell { (seat.new.table_id ≡ seat.old.table_id) × (seat.new.me.1 ≡ seat.old.me.1) }

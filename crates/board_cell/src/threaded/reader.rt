@@ -1,9 +1,9 @@
 //! The pass of a reader, and its gets.
-ghost use Rattle.std.specs.Prelude.{◌≡◌, ◌<◌, [], max, length, IfOk, IfErr};
+ghost use Rattle.std.specs.Prelude.{◌≡◌, ◌<◌, max, length, IfOk, IfErr};
 ghost use Rattle.board_cell_model.specs.OwedAccesses.{finished};
 ghost use Rattle.board_cell.specs.Calls.{words_of};
 ghost use Rattle.board_cell.specs.Passes.{threaded_shape, new_reader, reaching, NotesRise, Gets, GetsWithin, GivesUp, LooksAt};
-ghost use Rattle.board_cell.specs.Views.{reader_of, IsTrying, AfterTries, AfterTriesWithin, AfterFailures};
+ghost use Rattle.board_cell.specs.Views.{reader_of, HasOpened, IsTrying, AfterTries, AfterTriesWithin, AfterFailures};
 ghost use Rattle.board_cell.specs.declared.threaded.view.View.TheVariants.{Reader};
 
 use crate::get_call::GetCall;
@@ -61,8 +61,7 @@ impl ThreadedCell {
         tries: u32,
     ) -> Result<u64, GetAgain>
         requires cell { seat.old.table_id ≡ self.now.cell }
-        requires seat { (seat.old.me.0 ≡ Reader (reader_of seat.old.me.0)) × ((reader_of seat.old.me.0).found ≡ [])
-            × ((reader_of seat.old.me.0).opened ≡ opened) }
+        requires seat { HasOpened seat.old.me.0 opened }
         requires call { IsTrying self.now.width call.old (reader_of seat.old.me.0) }
         requires some { 0 < tries }
         ensures cell { (seat.new.table_id ≡ seat.old.table_id) × (seat.new.me.1 ≡ seat.old.me.1)
@@ -99,8 +98,7 @@ impl ThreadedCell {
         tries: u32,
     ) -> Result<u64, GetAgain>
         requires cell { seat.old.table_id ≡ self.now.cell }
-        requires seat { (seat.old.me.0 ≡ Reader (reader_of seat.old.me.0)) × ((reader_of seat.old.me.0).found ≡ [])
-            × ((reader_of seat.old.me.0).opened ≡ opened) }
+        requires seat { HasOpened seat.old.me.0 opened }
         requires width { length out.old.items ≡ self.now.width }
         requires some { 0 < tries }
         ensures cell { (seat.new.table_id ≡ seat.old.table_id) × (seat.new.me.1 ≡ seat.old.me.1) }
@@ -128,8 +126,7 @@ impl ThreadedCell {
         tries: u32,
     ) -> Result<u64, GetAgain>
         requires cell { seat.old.table_id ≡ self.now.cell }
-        requires seat { (seat.old.me.0 ≡ Reader (reader_of seat.old.me.0)) × ((reader_of seat.old.me.0).found ≡ [])
-            × ((reader_of seat.old.me.0).opened ≡ opened) }
+        requires seat { HasOpened seat.old.me.0 opened }
         requires call { IsTrying self.now.width call (reader_of seat.old.me.0) }
         requires some { 0 < tries }
         ensures cell { (seat.new.table_id ≡ seat.old.table_id) × (seat.new.me.1 ≡ seat.old.me.1) }
@@ -191,8 +188,7 @@ impl ThreadedCell {
         opened: u64,
     ) -> u64
         requires cell { seat.old.table_id ≡ self.now.cell }
-        requires seat { (seat.old.me.0 ≡ Reader (reader_of seat.old.me.0)) × ((reader_of seat.old.me.0).found ≡ [])
-            × ((reader_of seat.old.me.0).opened ≡ opened) }
+        requires seat { HasOpened seat.old.me.0 opened }
         requires call { IsTrying self.now.width call.old (reader_of seat.old.me.0) }
         ensures cell { (seat.new.table_id ≡ seat.old.table_id) × (seat.new.me.1 ≡ seat.old.me.1)
             × (call.new.shape ≡ call.old.shape) }
@@ -223,8 +219,7 @@ impl ThreadedCell {
         opened: u64,
     ) -> u64
         requires cell { seat.old.table_id ≡ self.now.cell }
-        requires seat { (seat.old.me.0 ≡ Reader (reader_of seat.old.me.0)) × ((reader_of seat.old.me.0).found ≡ [])
-            × ((reader_of seat.old.me.0).opened ≡ opened) }
+        requires seat { HasOpened seat.old.me.0 opened }
         requires width { length out.old.items ≡ self.now.width }
         ensures cell { (seat.new.table_id ≡ seat.old.table_id) × (seat.new.me.1 ≡ seat.old.me.1) }
         ensures width { length out.new.items ≡ self.now.width }
