@@ -1,5 +1,5 @@
 -- The program of the checker: its verdicts as text, its statuses and its notes.
-use Rattle.std.specs.Prelude.{◌≡◌, ◌≢◌, ◌⊎◌, ℕ, ◌≤◌, List, [], ◌++◌, length, codes, decimal, take, IfOk, IsErrOf, IsSomeAnd, Option, Some, None, ⊤, Result, Ok, Err}
+use Rattle.std.specs.Prelude.{◌≡◌, ◌≢◌, ◌⊎◌, ℕ, ◌<◌, ◌≤◌, List, [], ◌++◌, length, codes, decimal, take, IfOk, IsErrOf, IsSomeAnd, Option, Some, None, ⊤, Result, Ok, Err}
 use Rattle.std.specs.Io.KnownBytes.{IsAtEnd}
 use Rattle.board_model.specs.Lines.{lines_of}
 use Rattle.script_model.specs.ScriptOutput.{IsOutputOf}
@@ -84,9 +84,10 @@ pub record IsWritten (v : Verdict) (status : ℕ) (sink : Stream) : Type 0 where
   pub output : Gains sink (verdict_text v)
   pub is : status ≡ status_told v
 
--- the sink failed, and a front of the verdict was written
+-- the sink failed, and a front of the verdict was written, and not all
 pub record IsCut (v : Verdict) (status : ℕ) (sink notes : Stream) : Type 0 where
   pub written : ℕ
+  pub cut : written < length (verdict_text v)
   pub output : Gains sink (take written (verdict_text v))
   pub failed : HasFailedOnce sink
   pub is : status ≡ 4

@@ -90,6 +90,9 @@ pub fn run_words<S: Source, K: Sink, N: Sink>(
     ensures usage_note { IsUsage (map string_bytes words.now.items)
         → IsNoted (stream_of N.held N.faults notes.old notes.new) usage_note }
     ensures unwritten { IsUsage (map string_bytes words.now.items) → sink.new ≡ sink.old }
+
+    // With status 0 nothing is noted.
+    ensures silent { result ≡ 0 → notes.new ≡ notes.old }
 {
     if words.is_empty() {
         return end_with(run_script(alloc, source, sink), notes);
@@ -134,6 +137,9 @@ pub fn run_program<S: Source, K: Sink, N: Sink>(
     // With any words nothing is read, and with those that ask for the usage nothing is written.
     ensures unread { 0 < length words.now.items → source.new ≡ source.old }
     ensures unwritten { IsUsage (map string_bytes words.now.items) → sink.new ≡ sink.old }
+
+    // With status 0 nothing is noted.
+    ensures silent { exit_status result ≡ 0 → notes.new ≡ notes.old }
 {
     ExitCode::from(run_words(alloc, words, source, sink, notes))
 }

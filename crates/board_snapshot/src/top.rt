@@ -69,6 +69,9 @@ pub fn snapshot_words<S: Source, K: Sink, N: Sink>(
         → IsNoted (stream_of N.held N.faults notes.old notes.new) usage_note }
     ensures unread { 0 < length words.now.items → source.new ≡ source.old }
     ensures unwritten { 0 < length words.now.items → sink.new ≡ sink.old }
+
+    // With status 0 nothing is noted.
+    ensures silent { result ≡ 0 → notes.new ≡ notes.old }
 {
     if !words.is_empty() {
         return refuse_words(b"usage: board_snapshot_run\n", notes);
@@ -111,6 +114,9 @@ pub fn run_program<S: Source, K: Sink, N: Sink>(
     // With words nothing is read or written.
     ensures unread { 0 < length words.now.items → source.new ≡ source.old }
     ensures unwritten { 0 < length words.now.items → sink.new ≡ sink.old }
+
+    // With status 0 nothing is noted.
+    ensures silent { exit_status result ≡ 0 → notes.new ≡ notes.old }
 {
     ExitCode::from(snapshot_words(alloc, words, source, sink, notes))
 }

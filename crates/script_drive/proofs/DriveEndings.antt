@@ -15,8 +15,8 @@ use Rattle.script_loop.proofs.CompleteLemmas.{has_failed}
 use Rattle.script_exchanges.specs.declared.line.Drive.{Drive}
 use Rattle.script_exchanges.specs.declared.line.DriveLine.{DriveLine}
 use Rattle.script_exchanges.specs.DriveGrammar.{SpellsDrive, SpellsNoDrive}
-use Rattle.script_drive.specs.DriveRuns.{DriveRuns, IsBadAt, IsPast, IsReadCut, IsRunOf, IsSpent, IsWriteCut}
-use Rattle.script_drive.specs.Drivers.{HasRun, HasTold}
+use Rattle.script_drive.specs.DriveRuns.{DriveRuns, HasNextLine, IsBadAt, IsPast, IsReadCut, IsRunOf, IsSpent, IsWanting, IsWriteCut, StopsForMemory}
+use Rattle.script_drive.specs.Drivers.{HasRun, HasTold, SpellsSomeDrive}
 use Rattle.script_exchanges.specs.Exchanges.{Answered, AreLinesOf, BeginsWith, Exchange, Exchanges, FollowedBy, GoesOnAfter, IsDriveScript, LeavesGrammarAfter, SpellsAll, output_of, text_of}
 use Rattle.script_drive.proofs.DriveSteps.{HasRunOn, answered_more, begins, length_more, output_more, whole_kept}
 
@@ -41,6 +41,12 @@ leaves d None left rest xs b f t none = tt
 leaves d (Some i) None rest xs b f t none = absurd f
 leaves d (Some i) (Some l) None xs b f t none = absurd t
 leaves d (Some i) (Some l) (Some r) xs b f t none = (b, lines_of r, subst (FollowedBy d i xs) t f, none)
+
+next_line : (d : Drive) (input left rest : Option (List ℕ)) (xs : Exchanges) (b : List ℕ) → Answered d input left xs → TakesLine left rest b → HasNextLine d input xs b
+next_line d None left rest xs b f t = tt
+next_line d (Some i) None rest xs b f t = absurd f
+next_line d (Some i) (Some l) None xs b f t = absurd t
+next_line d (Some i) (Some l) (Some r) xs b f t = (lines_of r, subst (FollowedBy d i xs) t f)
 
 -- a first line that is too long
 
@@ -96,6 +102,17 @@ module _ {M : Type 0} (d : Drive) (Lawful : Exchanges → Type 0) (stands : M �
   pub bad_at : (rest : Option (List ℕ)) (b : List ℕ) → count < limit → TakesLine left rest b → SpellsNoDrive d b → IsBadAt d Lawful (count + 1) limit source sink
   bad_at rest b lt t none = bad_so lt (leaves d source.before left rest r.exchanges b r.answered t none)
 
+  pub wanting : (rest : Option (List ℕ)) (b : List ℕ) → count < limit → TakesLine left rest b → SpellsSomeDrive d b → IsWanting d Lawful limit source sink
+  wanting rest b lt t some = record {
+    exchanges = r.exchanges;
+    lawful = r.lawful;
+    few = omega (arith, r.counted, lt);
+    output = r.output;
+    line = b;
+    next = next_line d source.before left rest r.exchanges b r.answered t;
+    spelled = some;
+  }
+
   pub long_at : count < limit → HasLongLine left → IsBadAt d Lawful (count + 1) limit source sink
   long_at lt h = bad_so lt (leaves_long d source.before left r.exchanges r.answered h)
 
@@ -149,8 +166,8 @@ cut_short d Lawful stands m count limit ended source sink left takes taken part 
   output = r.run.output;
 }
 
-pub write_cut : {M : Type 0} (d : Drive) (Lawful : Exchanges → Type 0) (stands : M → Exchanges → Type 0) (m new : M) (count limit : ℕ) (source sink : Stream) (left rest held : Option (List ℕ)) (b text : List ℕ) (n : ℕ) → (r : HasRun d Lawful stands m count source.before left sink.before held) → count < limit → TakesLine left rest b → HasTold d Lawful stands new r.exchanges b text → Appends held sink.after (take n text) → IsWriteCut d Lawful limit source sink
-write_cut d Lawful stands m new count limit source sink left rest held b text n r lt t a w =
+pub write_cut : {M : Type 0} (d : Drive) (Lawful : Exchanges → Type 0) (stands : M → Exchanges → Type 0) (m new : M) (count limit : ℕ) (source sink : Stream) (left rest held : Option (List ℕ)) (b text : List ℕ) (n : ℕ) → (r : HasRun d Lawful stands m count source.before left sink.before held) → count < limit → TakesLine left rest b → HasTold d Lawful stands new r.exchanges b text → n < length text → Appends held sink.after (take n text) → IsWriteCut d Lawful limit source sink
+write_cut d Lawful stands m new count limit source sink left rest held b text n r lt t a short w =
     let xs : Exchanges = r.exchanges in
     let x : Exchange = (a.line, a.is.told) in
     let w2 : Appends held sink.after (take n (text_of a.is.told)) = subst (λ (o : List ℕ). Appends held sink.after (take n o)) a.is.text_is w in
@@ -163,6 +180,7 @@ write_cut d Lawful stands m new count limit source sink left rest held b text n 
       lines = begins d source.before rest (xs ++ x ∷ []) (answered_more d source.before left rest xs b x r.answered t a.spelled);
       few = omega (arith, length_more xs x, r.counted, lt);
       written = length (output_of xs) + n;
+      cut = omega (arith, short, ap length a.is.text_is, ap length (output_more xs x), length-append (output_of xs) (text_of a.is.told));
       output = subst (Appends sink.before sink.after) front all;
     }
 
@@ -199,22 +217,22 @@ not_more d limit (Some i) xs l full s =
 
 module _ (d : Drive) (Lawful : Exchanges → Type 0) (limit : ℕ) (source sink : Stream) where
   pub ran : CountStays source → CountStays sink → IsRunOf d Lawful limit source sink → IsAtEnd source.after → DriveRuns d Lawful limit source sink (Ok tt)
-  ran reads writes run end = record { ok = run; end = end; err = tt; complete = λ u. tt; read = λ e. absurd cc; write = λ e. absurd cc; read_told = λ n. reads; write_told = λ n. writes; read_later = omega (arith, reads); write_later = omega (arith, writes) }
+  ran reads writes run end = record { ok = run; end = end; err = tt; memory = λ e. absurd cc; complete = λ u. tt; read = λ e. absurd cc; write = λ e. absurd cc; read_told = λ n. reads; write_told = λ n. writes; read_later = omega (arith, reads); write_later = omega (arith, writes) }
 
   pub unread : CountsOn source → CountStays sink → IsReadCut d Lawful limit source sink → HasFailedOnce source → DriveRuns d Lawful limit source sink (Err ReadFault)
-  unread reads writes cut fault = record { ok = tt; end = tt; err = cut; complete = λ u. absurd (u.read (has_failed source fault)); read = λ e. fault; write = λ e. absurd cc; read_told = λ n. absurd (n refl); write_told = λ n. writes; read_later = reads; write_later = omega (arith, writes) }
+  unread reads writes cut fault = record { ok = tt; end = tt; err = cut; memory = λ e. absurd cc; complete = λ u. absurd (u.read (has_failed source fault)); read = λ e. fault; write = λ e. absurd cc; read_told = λ n. absurd (n refl); write_told = λ n. writes; read_later = reads; write_later = omega (arith, writes) }
 
   pub unwritten : CountStays source → CountsOn sink → IsWriteCut d Lawful limit source sink → HasFailedOnce sink → DriveRuns d Lawful limit source sink (Err WriteFault)
-  unwritten reads writes cut fault = record { ok = tt; end = tt; err = cut; complete = λ u. absurd (u.written (has_failed sink fault)); read = λ e. absurd cc; write = λ e. fault; read_told = λ n. reads; write_told = λ n. absurd (n refl); read_later = omega (arith, reads); write_later = writes }
+  unwritten reads writes cut fault = record { ok = tt; end = tt; err = cut; memory = λ e. absurd cc; complete = λ u. absurd (u.written (has_failed sink fault)); read = λ e. absurd cc; write = λ e. fault; read_told = λ n. reads; write_told = λ n. absurd (n refl); read_later = omega (arith, reads); write_later = writes }
 
   pub left_grammar : CountStays source → CountStays sink → (n : ℕ) → IsBadAt d Lawful n limit source sink → DriveRuns d Lawful limit source sink (Err (BadLine n))
-  left_grammar reads writes n bad = record { ok = tt; end = tt; err = bad; complete = λ u. absurd (not_outside d limit source.before bad.exchanges bad.lines u.script); read = λ e. absurd cc; write = λ e. absurd cc; read_told = λ n. reads; write_told = λ n. writes; read_later = omega (arith, reads); write_later = omega (arith, writes) }
+  left_grammar reads writes n bad = record { ok = tt; end = tt; err = bad; memory = λ e. absurd cc; complete = λ u. absurd (not_outside d limit source.before bad.exchanges bad.lines u.script); read = λ e. absurd cc; write = λ e. absurd cc; read_told = λ n. reads; write_told = λ n. writes; read_later = omega (arith, reads); write_later = omega (arith, writes) }
 
   pub was_long : CountStays source → CountStays sink → IsPast d Lawful limit source sink → DriveRuns d Lawful limit source sink (Err TooLong)
-  was_long reads writes past = record { ok = tt; end = tt; err = past; complete = λ u. absurd (not_more d limit source.before past.exchanges past.lines past.full u.script); read = λ e. absurd cc; write = λ e. absurd cc; read_told = λ n. reads; write_told = λ n. writes; read_later = omega (arith, reads); write_later = omega (arith, writes) }
+  was_long reads writes past = record { ok = tt; end = tt; err = past; memory = λ e. absurd cc; complete = λ u. absurd (not_more d limit source.before past.exchanges past.lines past.full u.script); read = λ e. absurd cc; write = λ e. absurd cc; read_told = λ n. reads; write_told = λ n. writes; read_later = omega (arith, reads); write_later = omega (arith, writes) }
 
-  pub gave_up : CountStays source → CountStays sink → IsSpent d Lawful limit source sink → DriveRuns d Lawful limit source sink (Err OutOfMemory)
-  gave_up reads writes spent = record { ok = tt; end = tt; err = spent; complete = λ u. refl; read = λ e. absurd cc; write = λ e. absurd cc; read_told = λ n. reads; write_told = λ n. writes; read_later = omega (arith, reads); write_later = omega (arith, writes) }
+  pub gave_up : CountStays source → CountStays sink → IsSpent d Lawful limit source sink → StopsForMemory d Lawful limit source sink → DriveRuns d Lawful limit source sink (Err OutOfMemory)
+  gave_up reads writes spent wants = record { ok = tt; end = tt; err = spent; memory = λ e. wants; complete = λ u. refl; read = λ e. absurd cc; write = λ e. absurd cc; read_told = λ n. reads; write_told = λ n. writes; read_later = omega (arith, reads); write_later = omega (arith, writes) }
 
   -- a known script is run to its end where neither a read nor a write failed
   pub complete : (result : Result (Unit {0}) ScriptError) → DriveRuns d Lawful limit source sink result → result ≢ Err ReadFault → result ≢ Err WriteFault → IsSomeAnd source.before (IsDriveScript d limit) → IfErr result (λ e. e ≡ OutOfMemory)

@@ -1,15 +1,16 @@
 -- What a run of a script whose parties can be driven comes to, from its source to its sink: as with plain scripts, over its own lines.
-use Rattle.std.specs.Prelude.{◌≡◌, ◌≢◌, ℕ, ◌+◌, ◌≤◌, List, ◌++◌, length, take, IsSomeAnd, Option, Some, None, ⊤, Result, Err, IfErr, IsErrOf, OnOk}
+use Rattle.std.specs.Prelude.{◌≡◌, ◌≢◌, ◌⊎◌, ℕ, ◌+◌, ◌<◌, ◌≤◌, List, ◌∷◌, ◌++◌, length, take, IsSomeAnd, Option, Some, None, ⊤, Result, Err, IfErr, IsErrOf, OnOk}
 use Rattle.std.specs.List.{AllByRecursion}
 use Rattle.std.specs.Io.KnownBytes.{IsAtEnd, prepend_known}
 use Rattle.board_model.specs.Lines.{IsOneLine}
 use Rattle.script_loop.specs.Reader.{IsShortLine}
 use Rattle.script_loop.specs.declared.error.ScriptError.{ScriptError}
 use Rattle.script_loop.specs.declared.error.ScriptError.TheVariants.{ReadFault, WriteFault, BadLine, TooLong, OutOfMemory}
-use Rattle.script_loop.specs.Runs.{CountStays, CountsOn, Gains, HasFailed, HasFailedOnce, Stream}
+use Rattle.script_loop.specs.Runs.{CountStays, CountsOn, Gains, HasFailed, HasFailedOnce, IsUnstarted, Stream}
 use Rattle.script_loop.specs.WholeLines.{with_newlines}
 use Rattle.script_exchanges.specs.declared.line.Drive.{Drive}
-use Rattle.script_exchanges.specs.Exchanges.{AreLinesOf, BeginsWith, Exchanges, GoesOnAfter, IsDriveScript, LeavesGrammarAfter, SpellsAll, output_of}
+use Rattle.script_drive.specs.Drivers.{SpellsSomeDrive}
+use Rattle.script_exchanges.specs.Exchanges.{AreLinesOf, BeginsWith, Exchanges, FollowedBy, GoesOnAfter, IsDriveScript, LeavesGrammarAfter, SpellsAll, output_of}
 
 -- ---- lines that were whole when they were read
 
@@ -46,13 +47,14 @@ pub record IsReadCut (d : Drive) (Lawful : Exchanges → Type 0) (limit : ℕ) (
   pub few : length exchanges ≤ limit
   pub output : Gains sink (output_of exchanges)
 
--- the sink failed: of what is told of the first lines a front was written
+-- the sink failed: of what is told of the first lines a front was written, and not all
 pub record IsWriteCut (d : Drive) (Lawful : Exchanges → Type 0) (limit : ℕ) (source sink : Stream) : Type 0 where
   pub exchanges : Exchanges
   pub lawful : Lawful exchanges
   pub lines : BeginsWith d source.before exchanges
   pub few : length exchanges ≤ limit
   pub written : ℕ
+  pub cut : written < length (output_of exchanges)
   pub output : Gains sink (take written (output_of exchanges))
 
 -- line n is the first outside the grammar, and the lines before it were answered
@@ -88,6 +90,27 @@ IsStopped (BadLine n) d Lawful limit source sink = IsBadAt d Lawful n limit sour
 IsStopped TooLong d Lawful limit source sink = IsPast d Lawful limit source sink
 IsStopped OutOfMemory d Lawful limit source sink = IsSpent d Lawful limit source sink
 
+-- ---- where a run may stop for memory
+
+-- where the input is known, its first lines are those of the exchanges, and this one is the next
+abbrev pub HasNextLine : Drive → Option (List ℕ) → Exchanges → List ℕ → Type 0
+HasNextLine d None xs line = ⊤
+HasNextLine d (Some input) xs line = (more : List (List ℕ)) × FollowedBy d input xs (line ∷ more)
+
+-- what is told of the lines before was written, and the next one is of the grammar
+pub record IsWanting (d : Drive) (Lawful : Exchanges → Type 0) (limit : ℕ) (source sink : Stream) : Type 0 where
+  pub exchanges : Exchanges
+  pub lawful : Lawful exchanges
+  pub few : length exchanges < limit
+  pub output : Gains sink (output_of exchanges)
+  pub line : List ℕ
+  pub next : HasNextLine d source.before exchanges line
+  pub spelled : SpellsSomeDrive d line
+
+-- a run stops for memory before its first line, or at a line of the grammar
+abbrev pub StopsForMemory : Drive → (Exchanges → Type 0) → ℕ → Stream → Stream → Type 0
+StopsForMemory d Lawful limit source sink = IsUnstarted source sink ⊎ IsWanting d Lawful limit source sink
+
 -- ---- runs that are run to their end
 
 -- what is rightly told of the first lines of the input, at most so many, has at most so many bytes
@@ -112,6 +135,8 @@ pub record DriveRuns (d : Drive) (Lawful : Exchanges → Type 0) (limit : ℕ) (
   pub end : OnOk result (IsAtEnd source.after)
   -- each error comes where this says, and leaves what it says
   pub err : IfErr result (λ e. IsStopped e d Lawful limit source sink)
+  -- memory is wanted for no other line
+  pub memory : IsErrOf result OutOfMemory → StopsForMemory d Lawful limit source sink
   -- a known script is run to its end where nothing fails
   pub complete : IsUndisturbed d limit source sink → IfErr result (λ e. e ≡ OutOfMemory)
   -- the faults are those of the source and of the sink, and one call failed, not a second

@@ -37,6 +37,10 @@ pub record HasTold {M : Type 0} (d : Drive) (Lawful : Exchanges → Type 0) (sta
 abbrev pub TellsEach : {M : Type 0} → Drive → (Exchanges → Type 0) → (M → Exchanges → Type 0) → M → M → List ℕ → List ℕ → Type 0
 TellsEach d Lawful stands old new bytes text = (xs : Exchanges) → StandsFor Lawful stands old xs → HasTold d Lawful stands new xs bytes text
 
+-- a line of the grammar has these bytes
+abbrev pub SpellsSomeDrive : Drive → List ℕ → Type 0
+SpellsSomeDrive d bytes = (line : DriveLine) × SpellsDrive d bytes line
+
 -- it stands for what it stood for
 abbrev pub StandsStill : {M : Type 0} → (M → Exchanges → Type 0) → M → M → Type 0
 StandsStill stands old new = (xs : Exchanges) → stands old xs → stands new xs

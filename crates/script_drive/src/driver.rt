@@ -5,7 +5,7 @@ ghost use Rattle.script_exchanges.specs.declared.line.DriveLine.TheVariants as d
 ghost use Rattle.script_exchanges.specs.DriveGrammar.{IsDriveLine, SpellsDrive, SpellsNoDrive};
 ghost use Rattle.script_exchanges.specs.Exchanges.{Exchanges};
 ghost use Rattle.script_model.specs.ScriptGrammar.{SpellsLine};
-ghost use Rattle.script_drive.specs.Drivers.{IsAtWork, StandsStill, Tells, TellsEach};
+ghost use Rattle.script_drive.specs.Drivers.{IsAtWork, SpellsSomeDrive, StandsStill, Tells, TellsEach};
 
 use board_model::{Name, Names};
 use script_exchanges::{Drive, DriveLine};
@@ -108,6 +108,9 @@ pub fn answer_line<D: Drives>(
     // A line outside the grammar is refused, no other one is, and nothing changes.
     ensures bad { IsErrOf result LineError.Bad → SpellsNoDrive D.drive line.now }
     ensures same { IsErrOf result LineError.Bad → StandsStill D.stands driver.old driver.new }
+
+    // Memory is wanted for a line of the grammar alone.
+    ensures memory { IsErrOf result LineError.OutOfMemory → SpellsSomeDrive D.drive line.now }
 
     ensures err { OnErr result (told.new.items ≡ []) }
 {

@@ -1,6 +1,6 @@
 -- Statuses of runs, and the words of a command line.
 use Rattle.std.proofs.Common.{◌≡◌, ℕ, ◌≤◌, List, [], ◌∷◌, length, map, arith, refl, ap, ◌∙◌, inl, inr}
-use Rattle.std.specs.Prelude.{◌≢◌, ◌⊎◌, IfErr, Result, Ok, Err}
+use Rattle.std.specs.Prelude.{◌≢◌, ◌⊎◌, IfErr, IsOk, Result, Ok, Err}
 use Rattle.script_loop.specs.declared.error.ScriptError.{ScriptError}
 use Rattle.script_loop.specs.declared.error.ScriptError.TheVariants as error
 use Rattle.script_endings.specs.Endings.{status_of}
@@ -14,6 +14,15 @@ no_words f (w ∷ ws) e = absurd cc
 pub run_through : (answer : Result (Unit {0}) ScriptError) (status : ℕ) → status ≡ status_of answer → IfErr answer (λ e. e ≡ error.OutOfMemory) → (status ≡ 0) ⊎ (status ≡ 7)
 run_through (Ok x) status is h = inl is
 run_through (Err e) status is h = inr (is ∙ ap (λ (w : ScriptError). status_of (Err w)) h)
+
+-- status 0 is that of no error
+pub went_well : (answer : Result (Unit {0}) ScriptError) (status : ℕ) → status ≡ status_of answer → status ≡ 0 → IsOk answer
+went_well (Ok x) status is none = refl
+went_well (Err error.ReadFault) status is none = absurd (omega (arith, is, none))
+went_well (Err error.WriteFault) status is none = absurd (omega (arith, is, none))
+went_well (Err (error.BadLine line)) status is none = absurd (omega (arith, is, none))
+went_well (Err error.TooLong) status is none = absurd (omega (arith, is, none))
+went_well (Err error.OutOfMemory) status is none = absurd (omega (arith, is, none))
 
 -- each error has a status above 2
 pub bad_status : (e : ScriptError) (n : ℕ) → n ≤ 2 → status_of (Err e) ≡ n → ⊥

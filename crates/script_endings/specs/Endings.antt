@@ -1,5 +1,5 @@
 -- How programs over scripts end: statuses and notes.
-use Rattle.std.specs.Prelude.{ℕ, ◌<◌, ◌⊎◌, ◌++◌, List, [], length, take, codes, decimal, Result, Ok, Err}
+use Rattle.std.specs.Prelude.{ℕ, ◌<◌, ◌≤◌, ◌⊎◌, ◌++◌, List, [], length, take, codes, decimal, Result, Ok, Err}
 use Rattle.script_loop.specs.declared.error.ScriptError.{ScriptError}
 use Rattle.script_loop.specs.declared.error.ScriptError.TheVariants.{ReadFault, WriteFault, BadLine, TooLong, OutOfMemory}
 use Rattle.script_loop.specs.Runs.{CountStays, CountsOn, Gains, HasFailed, HasFailedOnce, Stream}
@@ -22,10 +22,10 @@ note_of (Err (BadLine n)) = codes "line " ++ decimal n ++ codes ": not in the gr
 note_of (Err TooLong) = codes "too long\n"
 note_of (Err OutOfMemory) = codes "out of memory\n"
 
--- a front of the text was written, and all of it where the count of faults didn't rise; a write that failed wasn't tried once more
+-- a front of the text was written: all of it where no write failed, and else not all, and the write that failed wasn't tried once more
 pub record IsNoted (notes : Stream) (text : List ℕ) : Type 0 where
   pub written : ℕ
   pub bytes : Gains notes (take written text)
   pub cause : written < length text → HasFailed notes
   pub later : CountsOn notes
-  pub once : CountStays notes ⊎ HasFailedOnce notes
+  pub once : (CountStays notes × (length text ≤ written)) ⊎ (HasFailedOnce notes × (written < length text))

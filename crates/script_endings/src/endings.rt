@@ -1,5 +1,5 @@
 //! Statuses and notes.
-ghost use Rattle.std.specs.Prelude.{◌≡◌, Err};
+ghost use Rattle.std.specs.Prelude.{◌≡◌, Err, IsOk};
 ghost use Rattle.std.specs.Process.{exit_status};
 ghost use Rattle.script_loop.specs.Runs.{stream_of};
 ghost use Rattle.script_endings.specs.Endings.{IsNoted, note_of, status_of};
@@ -45,6 +45,9 @@ fn ending_of(error: ScriptError) -> (u8, Text<80>)
 pub fn end_with<N: Sink>(answer: Result<(), ScriptError>, notes: &mut N) -> u8
     ensures is { result ≡ status_of answer }
     ensures noted { IsNoted (stream_of N.held N.faults notes.old notes.new) (note_of answer) }
+
+    // Of a run that went well nothing is noted, and nothing is written.
+    ensures silent { IsOk answer → notes.new ≡ notes.old }
 {
     match answer {
         Ok(()) => 0,

@@ -1,5 +1,5 @@
 -- What a session comes to: how many lines, refusals, steps, finished updates and gets, and the generations of the first board.
-use Rattle.std.specs.Prelude.{◌≡◌, ◌≢◌, ℕ, ◌+◌, ◌≤◌, Bool, true, false, if◌then◌else◌, List, [], ◌∷◌, ◌++◌, length, map, take, codes, decimal, Option, Some, None, Result, Err, IfErr, IsErrOf, OnOk}
+use Rattle.std.specs.Prelude.{◌≡◌, ◌≢◌, ℕ, ◌+◌, ◌<◌, ◌≤◌, Bool, true, false, if◌then◌else◌, List, [], ◌∷◌, ◌++◌, length, map, take, codes, decimal, Option, Some, None, Result, Err, IfErr, IsErrOf, OnOk}
 use Rattle.board_model.specs.declared.answer.Answer.{Answer}
 use Rattle.board_model.specs.declared.answer.Answer.TheVariants as answer
 use Rattle.board_model.specs.declared.line.Line.TheVariants as line
@@ -91,12 +91,13 @@ pub record IsSummed (n : ℕ) (sink : Stream) : Type 0 where
   pub lines : asked_lines session ≡ map script_line.Board (generated n)
   pub output : Gains sink (summary session)
 
--- the sink gained a front of it
+-- the sink gained a front of it, and not all
 pub record IsCut (n : ℕ) (sink : Stream) : Type 0 where
   pub session : Session
   pub lawful : IsLawful session
   pub lines : asked_lines session ≡ map script_line.Board (generated n)
   pub written : ℕ
+  pub cut : written < length (summary session)
   pub output : Gains sink (take written (summary session))
 
 -- what stands after each error; no others come

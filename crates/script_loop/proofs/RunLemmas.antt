@@ -214,8 +214,8 @@ spent_at_once limit source sink same = record {
 fronts : (all text : List ℕ) (n : ℕ) → all ++ take n text ≡ take (length all + n) (all ++ text)
 fronts all text n = sym (take-append-add all text n)
 
-pub write_cut : {M : Type 0} (stands : M → ℕ → ScriptState → Type 0) (m new : M) (count limit : ℕ) (source sink : Stream) (left rest held : Option (List ℕ)) (b text : List ℕ) (n : ℕ) → (r : HasRun stands m count source.before left sink.before held) → count < limit → TakesLine left rest b → HasAnswered stands new r.session b text → Appends held sink.after (take n text) → IsWriteCut limit source sink
-write_cut stands m new count limit source sink left rest held b text n r lt t a w =
+pub write_cut : {M : Type 0} (stands : M → ℕ → ScriptState → Type 0) (m new : M) (count limit : ℕ) (source sink : Stream) (left rest held : Option (List ℕ)) (b text : List ℕ) (n : ℕ) → (r : HasRun stands m count source.before left sink.before held) → count < limit → TakesLine left rest b → HasAnswered stands new r.session b text → n < length text → Appends held sink.after (take n text) → IsWriteCut limit source sink
+write_cut stands m new count limit source sink left rest held b text n r lt t a short w =
     let p : ScriptLine × ScriptAnswer = (a.line, a.answer) in
     let w2 : Appends held sink.after (take n (script_answer_line a.answer)) = subst (λ (x : List ℕ). Appends held sink.after (take n x)) a.told w in
     let all : Appends sink.before sink.after (output_of r.session ++ take n (script_answer_line a.answer)) = Appends-trans sink.before held sink.after (output_of r.session) (take n (script_answer_line a.answer)) r.output w2 in
@@ -225,5 +225,6 @@ write_cut stands m new count limit source sink left rest held b text n r lt t a 
       lines = fed_begins source.before rest (r.session ++ p ∷ []) (fed_more source.before left rest r.session b p r.fed t a.spelled);
       few = omega (arith, length_more r.session p, r.counted, lt);
       written = length (output_of r.session) + n;
+      cut = omega (arith, short, ap length a.told, ap length (output_more r.session p), length-append (output_of r.session) (script_answer_line a.answer));
       output = subst (λ (x : List ℕ). Appends sink.before sink.after (take (length (output_of r.session) + n) x)) (sym (output_more r.session p)) (subst (Appends sink.before sink.after) (fronts (output_of r.session) (script_answer_line a.answer) n) all);
     }

@@ -64,13 +64,14 @@ pub record IsReadCut (limit : ℕ) (source sink : Stream) : Type 0 where
   pub few : length session ≤ limit
   pub output : Gains sink (output_of session)
 
--- the sink failed: of the answers to the first lines a front was written
+-- the sink failed: of the answers to the first lines a front was written, and not all
 pub record IsWriteCut (limit : ℕ) (source sink : Stream) : Type 0 where
   pub session : Session
   pub lawful : IsLawful session
   pub lines : BeginsWith source.before session
   pub few : length session ≤ limit
   pub written : ℕ
+  pub cut : written < length (output_of session)
   pub output : Gains sink (take written (output_of session))
 
 -- line n is the first outside the grammar, and the lines before it were answered

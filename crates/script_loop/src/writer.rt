@@ -1,5 +1,5 @@
 //! Whole lines to a sink.
-ghost use Rattle.std.specs.Prelude.{◌≡◌, ◌-◌, ◌≤◌, IsOk, OnOk, OnErr, ℕ, length, take};
+ghost use Rattle.std.specs.Prelude.{◌≡◌, ◌-◌, ◌<◌, ◌≤◌, IsOk, OnOk, OnErr, ℕ, length, take};
 ghost use Rattle.std.specs.Io.KnownBytes.{Appends};
 ghost use Rattle.board_model.specs.Lines.{HasCause};
 ghost use Rattle.script_loop.specs.Streams.{one_fault_more};
@@ -9,12 +9,13 @@ use crate::stream::{Failed, Sink};
 /// Writes all of the bytes. They are offered in one `write`, and their rest again until all is taken.
 ///
 /// # Errors
-/// `Failed` where the sink failed; then a front of the bytes was written.
+/// `Failed` where the sink failed; then a front of the bytes was written, and not all.
 pub fn write_whole<K: Sink>(sink: &mut K, bytes: &[u8]) -> Result<(), Failed>
     ensures ok { OnOk result (Appends (K.held sink.old) (K.held sink.new) bytes.now) }
 
-    // A front of the bytes was written before a fault, and after it no write was tried.
-    ensures err { OnErr result ((n : ℕ)
+    // Before a fault a front of the bytes was written, and not all of them: after the last byte, and after a fault, no
+    // write is tried.
+    ensures err { OnErr result ((n : ℕ) × (n < length bytes.now)
         × Appends (K.held sink.old) (K.held sink.new) (take n bytes.now)) }
     ensures most { K.most sink.new ≡ K.most sink.old }
     ensures cause { HasCause (K.faults sink.old) (K.faults sink.new) result }

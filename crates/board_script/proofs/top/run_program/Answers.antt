@@ -24,3 +24,6 @@ returns-clause-written g c = rw c.from.ensures c.run_words.ensures.written
 
 pub returns-clause-complete : goal.returns-clause-complete
 returns-clause-complete g c = rw c.from.ensures c.run_words.ensures.complete
+
+pub returns-clause-silent : goal.returns-clause-silent
+returns-clause-silent g c = rw c.from.ensures c.run_words.ensures.silent

@@ -1,5 +1,5 @@
 use Rattle.std.proofs.Common.{ℕ, sym, subst}
-use Rattle.script_endings.proofs.StatusLemmas.{not_four, not_three, run_through}
+use Rattle.script_endings.proofs.StatusLemmas.{not_four, not_three, run_through, went_well}
 use Rattle.script_generator.specs.Summary.{SummaryFits}
 use Rattle.board_script.proofs.Words.{no_read_fault, one_number, summed, summed_up}
 use Rattle.board_script.proofs.top.run_words.Goals as goal
@@ -42,3 +42,11 @@ pub returns-clause-written : goal.returns-clause-written
 returns-clause-written g c = λ n h room takes fits.
     let same = one_number _ c.in-Some.n n (rw c.deref.ensures.value at c.in-Some.ensures.some) h in
     not_four c.run_generated.result c.end_with-2.result c.end_with-2.ensures.is (c.run_generated.ensures.run.written room takes (subst (λ (k : ℕ). SummaryFits room k) (sym same) fits))
+
+pub returns-then-is_empty-clause-silent : goal.returns-then-is_empty-clause-silent
+returns-then-is_empty-clause-silent g c = λ none.
+    c.end_with.ensures.silent (went_well c.run_script.result c.end_with.result c.end_with.ensures.is none)
+
+pub returns-clause-silent : goal.returns-clause-silent
+returns-clause-silent g c = λ none.
+    c.end_with-2.ensures.silent (went_well c.run_generated.result c.end_with-2.result c.end_with-2.ensures.is none)

@@ -1,4 +1,4 @@
-use Rattle.script_endings.proofs.StatusLemmas.{not_four, not_three, run_through}
+use Rattle.script_endings.proofs.StatusLemmas.{not_four, not_three, run_through, went_well}
 use Rattle.board_snapshot.proofs.TopLemmas.{no_words_status, none_lawful, run_ends, run_is}
 use Rattle.board_snapshot.proofs.top.snapshot_words.Goals as goal
 
@@ -32,3 +32,7 @@ returns-clause-before_end g c = λ sure.
 pub returns-clause-writes : goal.returns-clause-writes
 returns-clause-writes g c = λ none room takes fits.
     not_four c.run_driven.result c.end_with.result c.end_with.ensures.is (c.run_driven.ensures.writes room takes fits)
+
+pub returns-clause-silent : goal.returns-clause-silent
+returns-clause-silent g c = λ none.
+    c.end_with.ensures.silent (went_well c.run_driven.result c.end_with.result c.end_with.ensures.is none)

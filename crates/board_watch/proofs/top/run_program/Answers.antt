@@ -23,3 +23,6 @@ returns-clause-before_end g c = rw c.from.ensures c.watch_words.ensures.before_e
 
 pub returns-clause-writes : goal.returns-clause-writes
 returns-clause-writes g c = rw c.from.ensures c.watch_words.ensures.writes
+
+pub returns-clause-silent : goal.returns-clause-silent
+returns-clause-silent g c = rw c.from.ensures c.watch_words.ensures.silent

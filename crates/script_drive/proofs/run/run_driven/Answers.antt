@@ -1,9 +1,10 @@
-use Rattle.std.proofs.Common.{◌-◌, length, ap, refl, subst, rules, arith}
+use Rattle.std.proofs.Common.{◌-◌, length, ap, inl, inr, refl, subst, rules, arith}
 use Rattle.script_loop.specs.Reader.{line_given}
 use Rattle.script_loop.proofs.LineLemmas.{takes_line}
 use Rattle.script_exchanges.specs.DriveGrammar.{SpellsNoDrive}
 use Rattle.script_exchanges.specs.Exchanges.{output_of}
-use Rattle.script_drive.proofs.DriveEndings.{bad_at, complete, gave_up, is_long_past, is_past, is_spent, left_grammar, long_at, spent_at_once, unwritten, was_long, write_cut}
+use Rattle.script_drive.specs.Drivers.{SpellsSomeDrive}
+use Rattle.script_drive.proofs.DriveEndings.{bad_at, complete, gave_up, is_long_past, is_past, is_spent, left_grammar, long_at, spent_at_once, unwritten, wanting, was_long, write_cut}
 use Rattle.script_drive.proofs.DriveSteps.{fits_one_more, goes_on, stands_for, starts_on}
 use Rattle.script_drive.proofs.run.run_driven.Goals as goal
 
@@ -18,7 +19,8 @@ loop-n-init g c = record {
 }
 
 pub returns-in_default-clause-runs : goal.returns-in_default-clause-runs
-returns-in_default-clause-runs g c = gave_up _ _ _ _ _ refl refl (spent_at_once _ _ _ _ _ c.requires.lawful refl)
+returns-in_default-clause-runs g c =
+    gave_up _ _ _ _ _ refl refl (spent_at_once _ _ _ _ _ c.requires.lawful refl) (inl (record { unread = refl; unwritten = refl }))
 
 pub returns-in-Ok-Long-clause-runs : goal.returns-in-Ok-Long-clause-runs
 returns-in-Ok-Long-clause-runs g c =
@@ -33,7 +35,12 @@ returns-in-Err-Bad-clause-runs g c =
     left_grammar _ _ _ _ _ (search rules) (search rules) _ (bad_at _ _ _ _ _ _ _ _ _ c.loop-n.invariant.on.run _ (line_given c.next.new.self) c.loop-n-test.true (takes_line _ _ _ _ one.0 f) (subst (SpellsNoDrive g.D.Drives.drive) c.line.ensures none))
 
 pub returns-in-Err-OutOfMemory-clause-runs : goal.returns-in-Err-OutOfMemory-clause-runs
-returns-in-Err-OutOfMemory-clause-runs g c = gave_up _ _ _ _ _ (search rules) (search rules) (is_spent _ _ _ _ _ c.args.limit _ _ _ c.loop-n.invariant.on.run (omega arith))
+returns-in-Err-OutOfMemory-clause-runs g c =
+    let f = rw c.in-Ok-Line.field-0-is at c.in-Ok-Line.ensures.fetched in
+    let one = rw c.in-Ok-Line.field-0-is at c.in-Ok-Line.ensures.short in
+    let some = c.in-Err-OutOfMemory.ensures.memory (cc c.in-Err-OutOfMemory.field-0-is) in
+    gave_up _ _ _ _ _ (search rules) (search rules) (is_spent _ _ _ _ _ c.args.limit _ _ _ c.loop-n.invariant.on.run (omega arith))
+    (inr (wanting _ _ _ _ _ _ _ _ _ c.loop-n.invariant.on.run _ (line_given c.next.new.self) c.loop-n-test.true (takes_line _ _ _ _ one.0 f) (subst (SpellsSomeDrive g.D.Drives.drive) c.line.ensures some)))
 
 pub returns-in-Err-write_whole-clause-runs : goal.returns-in-Err-write_whole-clause-runs
 returns-in-Err-write_whole-clause-runs g c =
@@ -43,7 +50,7 @@ returns-in-Err-write_whole-clause-runs g c =
     let s = stands_for _ _ _ _ _ c.args.limit _ _ _ _ c.loop-n-test.true c.requires.limit r in
     let a = c.in-Ok.ensures.ok r.exchanges s in
     let w = c.in-Err-write_whole.ensures.err in
-    unwritten _ _ _ _ _ (search rules) (search rules) (write_cut _ _ _ _ _ _ c.args.limit _ _ _ _ _ _ _ w.0 r c.loop-n-test.true (takes_line _ _ _ _ one.0 f) (rw c.line.ensures at a) (rw c.deref.ensures.value at w.1)) (search rules)
+    unwritten _ _ _ _ _ (search rules) (search rules) (write_cut _ _ _ _ _ _ c.args.limit _ _ _ _ _ _ _ w.0 r c.loop-n-test.true (takes_line _ _ _ _ one.0 f) (rw c.line.ensures at a) (rw c.deref.ensures.value at w.1) (rw c.deref.ensures.value at w.2)) (search rules)
 
 pub returns-in-Err-write_whole-clause-writes : goal.returns-in-Err-write_whole-clause-writes
 returns-in-Err-write_whole-clause-writes g c = λ room takes fits same.

@@ -62,7 +62,7 @@ returns-in-Err-write_whole-clause-runs g c =
     let s = stands_for _ _ _ c.args.limit _ _ _ _ c.loop-n-test.true c.requires.limit r in
     let a = c.in-Ok-line.ensures.ok r.session s in
     let w = c.in-Err-write_whole.ensures.err in
-    unwritten _ _ _ (search rules) (search rules) (write_cut _ _ _ _ c.args.limit _ _ _ _ _ _ _ w.0 r c.loop-n-test.true (takes_line _ _ _ _ one.0 f) (rw c.line.ensures at a) (rw c.deref.ensures.value at w.1)) (search rules)
+    unwritten _ _ _ (search rules) (search rules) (write_cut _ _ _ _ c.args.limit _ _ _ _ _ _ _ w.0 r c.loop-n-test.true (takes_line _ _ _ _ one.0 f) (rw c.line.ensures at a) (rw c.deref.ensures.value at w.1) (rw c.deref.ensures.value at w.2)) (search rules)
 
 pub returns-in-Err-write_whole-clause-writes : goal.returns-in-Err-write_whole-clause-writes
 returns-in-Err-write_whole-clause-writes g c = λ room takes fits same.
