@@ -1,6 +1,6 @@
-//! Calls on cells, cells that are lent, worked rows, cells shared between threads, and words in memory.
+//! Calls on cells, passes that are lent, worked rows, cells shared between threads, and what an error prints.
 mod calls;
+mod errors;
 mod lent;
 mod row;
 mod shared;
-mod words;

@@ -1,10 +1,9 @@
-//! Tasks from their words, each task done once, what it writes, words that are no task, and the ids of round trips.
+//! Each task done once, what it writes, words that are no task, and the ids of round trips.
 use crate::done::measure;
 use crate::shared::run_shared;
-use crate::task::{Call, Calls, Task, task_of};
 use crate::top::{USAGE, run_program};
-use crate::trips::{echo, ends_of, send};
-use board_event::{EventKind, Listener, Notifier, QueueOfIds, TriggerId};
+use crate::trips::{ends_of, send};
+use board_event::{Listener, Notifier, QueueOfIds, TriggerId};
 use std::alloc::{AllocError, Global};
 use std::process::ExitCode;
 use std::test::*;
@@ -15,76 +14,6 @@ fn words_of(alloc: Global, text: &str) -> Result<Vec<String>, AllocError> {
         words.push(String::from_str(alloc, word)?)?;
     }
     Ok(words)
-}
-
-#[test]
-fn a_task_is_read_from_its_words(rt: HostRuntime) -> Result<(), Fail> {
-    let (width, count) = (4, 1000);
-    let cases = [
-        (
-            "solo 4 get 1000",
-            Task::Solo(Calls {
-                width,
-                call: Call::Get,
-                count,
-            }),
-        ),
-        (
-            "typed 4 try_get 1000",
-            Task::Typed(Calls {
-                width,
-                call: Call::TryGet,
-                count,
-            }),
-        ),
-        (
-            "event queue 1000",
-            Task::Event {
-                kind: EventKind::Queue,
-                count,
-            },
-        ),
-        (
-            "shared 1 3 7",
-            Task::Shared {
-                width: 1,
-                readers: 3,
-                updates: 7,
-            },
-        ),
-    ];
-    for (text, task) in cases {
-        let words = words_of(rt.alloc(), text)?;
-        assert_eq!(rt;
-            task_of(rt.alloc(), words.as_slice())?,
-            Some(task),
-            "{text}"
-        );
-    }
-    Ok(())
-}
-
-#[test]
-fn other_words_are_no_task(rt: HostRuntime) -> Result<(), Fail> {
-    let cases = [
-        "solo 2 get 1000",
-        "solo 4 put 1000",
-        "typed 33 get 1",
-        "shared 1 4 7",
-        "shared 1 0 7",
-        "solo 4 get 01",
-        "solo 4 get +1",
-        "solo 4 get",
-        "solo 4 get 1 2",
-        "event set 7",
-        "event bits 1 2",
-        "event bits 1099511627776",
-    ];
-    for text in cases {
-        let words = words_of(rt.alloc(), text)?;
-        assert_eq!(rt; task_of(rt.alloc(), words.as_slice())?, None, "{text}");
-    }
-    Ok(())
 }
 
 #[test]
@@ -181,21 +110,5 @@ fn another_id_that_comes_back_is_told(rt: HostRuntime) -> Result<(), Fail> {
     let (back, to_back) = ends_of::<QueueOfIds, HostRuntime>(&rt, rt.alloc())?;
     to_back.notify(&rt, id_of(1))?;
     assert!(rt; send(&rt, &to_there, &back, 1).is_err());
-    Ok(())
-}
-
-#[test]
-fn each_id_is_sent_back(rt: HostRuntime) -> Result<(), Fail> {
-    let (there, to_there) = ends_of::<QueueOfIds, HostRuntime>(&rt, rt.alloc())?;
-    let (back, to_back) = ends_of::<QueueOfIds, HostRuntime>(&rt, rt.alloc())?;
-    for i in 0..200 {
-        to_there.notify(&rt, id_of(i))?;
-    }
-    echo(&rt, &there, &to_back, 200)?;
-    assert_eq!(rt; there.try_wait_one(&rt)?, None);
-    for i in 0..200 {
-        assert_eq!(rt; back.try_wait_one(&rt)?, Some(id_of(i)), "{i}");
-    }
-    assert_eq!(rt; back.try_wait_one(&rt)?, None);
     Ok(())
 }

@@ -1,4 +1,4 @@
-//! What becomes of the ends of a new board's cells, and what is known of those of any board.
+//! The ends of a new board's cells in two threads, and what is known of the cells of any board.
 mod ends;
 mod lent;
 mod post;

@@ -3,13 +3,8 @@ ghost use Rattle.std.specs.Prelude.{◌≡◌, ◌+◌, ◌^◌, ◌<◌};
 ghost use Rattle.board_layout.specs.Layout.{cell_end};
 
 use board_cell::{Access, run_update};
-use board_ports::{CellShape, LoanCore, ReadCore, WriteCore};
+use board_ports::{CellShape, LoanCore, WriteCore};
 use std::test::*;
-
-const READ: ReadCore = ReadCore {
-    shape: SHAPE,
-    entry_id: 16,
-};
 
 const WRITE: WriteCore = WriteCore {
     shape: SHAPE,
@@ -43,25 +38,6 @@ fn publish(loan: &LoanCore) -> Option<Access>
 }
 
 #[test]
-fn handles_give_the_calls_of_their_entry(rt: HostRuntime) -> Result<(), Fail> {
-    let alloc = rt.alloc();
-    let mut handle = WRITE;
-    let counter = Access::Read { word: 0 };
-    assert_eq!(rt; READ.get(vec![in alloc; 0; 4]?).next(), counter);
-    assert_eq!(rt; READ.fresh(1).next(), counter);
-    assert_eq!(rt;
-        handle.update(vec![in alloc; 9; 4]?).next(),
-        Access::Write { word: 6, value: 9 }
-    );
-    handle.published();
-    assert_eq!(rt;
-        handle.update(vec![in alloc; 9; 4]?).next(),
-        Access::Write { word: 2, value: 9 }
-    );
-    Ok(())
-}
-
-#[test]
 fn a_loan_is_published_once_each_word_was_put(rt: HostRuntime) -> Result<(), Fail> {
     let mut loan = WRITE.loan(vec![in rt.alloc(); None; 4]?);
     let cases = [
@@ -87,21 +63,6 @@ fn a_loan_is_published_once_each_word_was_put(rt: HostRuntime) -> Result<(), Fai
 }
 
 #[test]
-fn a_discarded_loan_leaves_nothing(rt: HostRuntime) -> Result<(), Fail> {
-    let mut loan = WRITE.loan(vec![in rt.alloc(); None; 4]?);
-    'words: for index in 0..4 {
-        put(&mut loan, index, 7);
-    }
-    assert!(rt; loan.is_filled());
-    let (handle, places) = loan.into_parts(false);
-    assert_eq!(rt; handle, WRITE);
-    let loan = handle.loan(places);
-    assert!(rt; !loan.is_filled());
-    assert_eq!(rt; *loan.handle(), WRITE);
-    Ok(())
-}
-
-#[test]
 fn a_loan_is_filled_whatever_was_put(rt: HostRuntime) -> Result<(), Fail> {
     let alloc = rt.alloc();
     let mut loan = WRITE.loan(vec![in alloc; None; 4]?);
@@ -113,6 +74,6 @@ fn a_loan_is_filled_whatever_was_put(rt: HostRuntime) -> Result<(), Fail> {
     for (access, (word, value)) in accesses.iter().zip(expected) {
         assert_eq!(rt; *access, Access::Write { word, value });
     }
-    assert_eq!(rt; loan.into_write(true).generation, 2);
+    assert_eq!(rt; *loan.handle(), WRITE);
     Ok(())
 }

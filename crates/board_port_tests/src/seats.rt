@@ -73,15 +73,3 @@ fn a_get_reads_what_was_published_last(rt: HostRuntime) -> Result<(), Fail> {
     assert_eq!(rt; fresh::<u64>(&mut domain, &read, 2), Some(true));
     Ok(())
 }
-
-#[test]
-fn a_handle_is_asked_for_by_its_kind(rt: HostRuntime) -> Result<(), Fail> {
-    let alloc = rt.alloc();
-    let mut domain: Words = DomainCore::new(alloc);
-    let (read, write) = new_board(alloc, &mut domain)?;
-    let unknown = Err(UpdateError::HandleUnknown);
-    assert_eq!(rt; last_word(alloc, &mut domain, &write)?, None);
-    assert_eq!(rt; publish(alloc, &mut domain, &read, 9)?, unknown);
-    assert_eq!(rt; last_word(alloc, &mut domain, &read)?, Some((1, 8)));
-    Ok(())
-}

@@ -1,4 +1,3 @@
-//! Calls on a domain, one after another, and what each is told.
-mod calls;
+//! A domain as plain data: what is told of a board, and what a caller knows of a domain that it is lent.
 mod lent;
 mod rows;

@@ -16,23 +16,6 @@ fn eight(alloc: Global) -> Result<AttributeSpecifier, AttributeError> {
 }
 
 #[test]
-fn a_copy_has_the_same_eight_pairs(rt: HostRuntime) -> Result<(), Fail> {
-    let set = eight(rt.alloc())?.into_set();
-    let copy = set.copy()?;
-    assert_eq!(rt; copy.len(), 8);
-    for (index, key) in KEYS.iter().enumerate() {
-        assert_eq!(rt;
-            copy.pair_at(index),
-            Some((key.as_bytes(), b"1".as_slice())),
-            "at {index}"
-        );
-    }
-    assert_eq!(rt; copy.pair_at(8), None);
-    assert_eq!(rt; copy.as_slice(), set.as_slice());
-    Ok(())
-}
-
-#[test]
 fn requirements_are_met_or_not(rt: HostRuntime) -> Result<(), Fail> {
     let set = eight(rt.alloc())?.into_set();
     let verifier = AttributeVerifier::new(rt.alloc())

@@ -2,8 +2,8 @@
 ghost use Rattle.std.specs.Prelude.{◌≡◌, [], IsOk};
 
 use board_files::{
-    Configuration, FileLocked, FileName, FilePath, FileStorage, Files, FilesError, LifeError,
-    MemoryFiles, NamedConceptConfiguration, NamedConceptListError, NamedConceptRemoveError,
+    Configuration, FileName, FilePath, FileStorage, Files, FilesError, LifeError, MemoryFiles,
+    NamedConceptConfiguration, NamedConceptListError, NamedConceptRemoveError,
     StaticStorageCreateError, StaticStorageOpenError, StaticStorageReadError,
     StaticStorageUnlockError, StoreError, store_and_read, store_whole,
 };
@@ -32,48 +32,6 @@ fn opened(files: &mut MemoryFiles) -> Result<Result<u64, StaticStorageOpenError>
     let name = FileName::new(b"x")?;
     let opened = FileStorage::open(files, &usual(), &name, 0);
     Ok(opened.map(|storage| storage.len))
-}
-
-#[test]
-fn a_storage_is_stored_and_read(rt: HostRuntime) -> Result<(), Fail> {
-    let alloc = rt.alloc();
-    let (mut files, stored) = store(alloc, Vec::new(alloc), Vec::new(alloc))?;
-    let storage = stored?;
-    assert_eq!(rt; opened(&mut files)?, Ok(3));
-    let mut small = [0; 2];
-    let small = storage.read(&mut files, &usual(), &mut small);
-    assert_eq!(rt; small, Err(StaticStorageReadError::BufferTooSmall));
-    let mut large = [9; 5];
-    assert_eq!(rt; storage.read(&mut files, &usual(), &mut large), Ok(()));
-    assert_eq!(rt; large, [1, 2, 3, 9, 9]);
-    Ok(())
-}
-
-#[test]
-fn a_file_that_was_changed_is_told(rt: HostRuntime) -> Result<(), Fail> {
-    let alloc = rt.alloc();
-    let (mut files, stored) = store(alloc, Vec::new(alloc), Vec::new(alloc))?;
-    let storage = stored?;
-    let path = usual().path_for(&storage.name);
-    assert_eq!(rt; files.write(&path, &[4]), Ok(1));
-    let mut buffer = [0; 5];
-    assert_eq!(rt;
-        storage.read(&mut files, &usual(), &mut buffer),
-        Err(StaticStorageReadError::StaticStorageWasModified {
-            expected: 3,
-            found: 4
-        })
-    );
-    assert_eq!(rt;
-        FileStorage::remove(&mut files, &usual(), &storage.name),
-        Ok(true)
-    );
-    assert_eq!(rt;
-        FileStorage::remove(&mut files, &usual(), &storage.name),
-        Ok(false)
-    );
-    assert_eq!(rt; files.size(&path), Err(FilesError::Failed));
-    Ok(())
 }
 
 fn listed(files: &mut MemoryFiles, alloc: Global) -> Result<Vec<FileName>, NamedConceptListError> {
@@ -109,28 +67,6 @@ fn each_short_write_is_told(rt: HostRuntime) -> Result<(), Fail> {
     for taken in [0, 1, 2] {
         is_written_short(&rt, rt.alloc(), taken)?;
     }
-    Ok(())
-}
-
-// Stores no bytes under a name that the files don't hold.
-fn is_stored_beside(files: &mut MemoryFiles, name: &FileName) -> Result<(), Fail> {
-    let config = usual();
-    let locked = FileLocked::create(files, &config, name)?;
-    let _storage = locked.unlock(files, &config, &[])?;
-    Ok(())
-}
-
-#[test]
-fn storages_are_listed(rt: HostRuntime) -> Result<(), Fail> {
-    let alloc = rt.alloc();
-    let (mut files, stored) = store(alloc, Vec::new(alloc), Vec::new(alloc))?;
-    let x = stored?.name;
-    let (a, z) = (FileName::new(b"a")?, FileName::new(b"z")?);
-    let _unfinished = FileLocked::create(&mut files, &usual(), &z)?;
-    is_stored_beside(&mut files, &a)?;
-    assert_eq!(rt; listed(&mut files, alloc)?.as_slice(), [a, x].as_slice());
-    let other = Configuration::with_suffix(&FileName::new(b".other")?);
-    assert!(rt; FileStorage::list(alloc, &mut files, &other)?.is_empty());
     Ok(())
 }
 
@@ -223,35 +159,6 @@ fn each_later_call_that_fails_is_told(rt: HostRuntime) -> Result<(), Fail> {
     }
     is_read_after_a_fault(&rt, rt.alloc())?;
     is_removed_after_a_fault(&rt, rt.alloc())
-}
-
-// What opening a storage that was locked answers, where a call is to fail. Call 0 locked it, and each look is one call.
-fn looks_at_locked(
-    alloc: Global,
-    polls: u32,
-    call: u64,
-) -> Result<Result<FileStorage, StaticStorageOpenError>, Fail> {
-    let name = FileName::new(b"x")?;
-    let mut fails = Vec::new(alloc);
-    fails.push(call)?;
-    let mut files = MemoryFiles::new(alloc, fails, Vec::new(alloc));
-    let _locked = FileLocked::create(&mut files, &usual(), &name)?;
-    Ok(FileStorage::open(&mut files, &usual(), &name, polls))
-}
-
-#[test]
-fn open_looks_once_more_than_it_polls(rt: HostRuntime) -> Result<(), Fail> {
-    let early = StaticStorageOpenError::InitializationNotYetFinalized;
-    let rows = [
-        (0, 1, StaticStorageOpenError::Read),
-        (0, 2, early),
-        (2, 3, StaticStorageOpenError::Read),
-        (2, 4, early),
-    ];
-    for (polls, call, refusal) in rows {
-        assert_eq!(rt; looks_at_locked(rt.alloc(), polls, call)?, Err(refusal));
-    }
-    Ok(())
 }
 
 // What the whole life of a storage with 1 2 3 answers, read into this buffer.

@@ -1,6 +1,5 @@
 //! Monitoring by the typed calls, of which their clauses say little, and once by the lent forms.
 ghost use Rattle.std.specs.Prelude.{IsOkUnless};
-ghost use Rattle.board_names.specs.Table.{NamesAscend};
 ghost use Rattle.board_names.specs.declared.errors.monitoring.MonitoringCreateTokenError.TheVariants.{OutOfMemory};
 
 use board_monitoring::{
@@ -44,7 +43,6 @@ fn lives<R: Wait + Abort>(
         again.err(),
         Some(MonitoringCreateTokenError::AlreadyExists)
     );
-    assert_eq!(rt; names(registry)?.monitor()?.state(rt), Ok(State::Alive));
     let early = names(registry)?.cleaner(rt);
     assert_eq!(rt;
         early.err(),
@@ -54,7 +52,8 @@ fn lives<R: Wait + Abort>(
 }
 
 fn dies<R: Wait + Abort>(rt: &R, registry: &MonitoringRegistry) -> Result<(), Fail> {
-    assert_eq!(rt; names(registry)?.monitor()?.state(rt), Ok(State::Dead));
+    let t = FileName::new(b"t")?;
+    assert_eq!(rt; *names(registry)?.monitor()?.name(), t);
     let cleaner = names(registry)?.cleaner(rt)?;
     let second = names(registry)?.cleaner(rt);
     assert_eq!(rt;
@@ -67,12 +66,7 @@ fn dies<R: Wait + Abort>(rt: &R, registry: &MonitoringRegistry) -> Result<(), Fa
 }
 
 fn goes<R: Wait + Abort>(rt: &R, registry: &MonitoringRegistry) -> Result<(), Fail> {
-    assert_eq!(rt; names(registry)?.monitor()?.state(rt), Ok(State::Dead));
     names(registry)?.cleaner(rt)?.release(rt);
-    assert_eq!(rt;
-        names(registry)?.monitor()?.state(rt),
-        Ok(State::DoesNotExist)
-    );
     let late = names(registry)?.cleaner(rt);
     assert_eq!(rt;
         late.err(),
@@ -83,38 +77,15 @@ fn goes<R: Wait + Abort>(rt: &R, registry: &MonitoringRegistry) -> Result<(), Fa
 
 #[test]
 fn a_name_lives_dies_and_goes(rt: HostRuntime) -> Result<(), Fail> {
-    let suffix = ProcessLocalMonitoring::default_suffix();
-    assert_eq!(rt; suffix, FileName::new(b".monitor")?);
     let registry = MonitoringRegistry::new(rt.alloc())?;
     let token = names(&registry)?.token(&rt, rt.alloc())?;
+    assert_eq!(rt; *token.name(), FileName::new(b"t")?);
     is_listed(&rt, rt.alloc(), &registry)?;
     is_listed(&rt, rt.alloc(), &registry.share()?)?;
     lives(&rt, rt.alloc(), &registry)?;
     token.abandon(&rt);
     dies(&rt, &registry)?;
     goes(&rt, &registry)
-}
-
-#[test]
-fn monitored_names_are_let_go(rt: HostRuntime) -> Result<(), Fail> {
-    let registry = MonitoringRegistry::new(rt.alloc())?;
-    let token = names(&registry)?.token(&rt, rt.alloc())?;
-    let t = FileName::new(b"t")?;
-    assert_eq!(rt; *token.name(), t);
-    assert_eq!(rt; *names(&registry)?.monitor()?.name(), t);
-    let config = monitored();
-    let removed = ProcessLocalMonitoring::remove_cfg(&rt, &registry, &t, &config);
-    assert_eq!(rt; removed, Ok(true));
-    let held = ProcessLocalMonitoring::does_exist_cfg(&rt, &registry, &t, &config);
-    assert_eq!(rt; held, Ok(false));
-    token.abandon(&rt);
-    let token = names(&registry)?.token(&rt, rt.alloc())?;
-    let held = ProcessLocalMonitoring::does_exist_cfg(&rt, &registry, &t, &config);
-    assert_eq!(rt; held, Ok(true));
-    token.release(&rt);
-    let removed = ProcessLocalMonitoring::remove_cfg(&rt, &registry, &t, &config);
-    assert_eq!(rt; removed, Ok(false));
-    Ok(())
 }
 
 #[test]
@@ -234,23 +205,6 @@ fn takes_a_removed_name(
 {
     state.remove(name);
     state.token(name)
-}
-
-// And their names ascend, so they differ.
-fn count_of_names(state: &Monitors) -> usize
-    ensures { NamesAscend state.now }
-{
-    state.name_count()
-}
-
-#[test]
-fn a_removed_name_is_taken_again(rt: HostRuntime) -> Result<(), Fail> {
-    let mut state = Monitors::new(rt.alloc());
-    let name = monitored().path_for(&FileName::new(b"t")?);
-    assert_eq!(rt; state.token(&name), Ok(()));
-    assert_eq!(rt; takes_a_removed_name(&mut state, &name), Ok(()));
-    assert_eq!(rt; count_of_names(&state), 1);
-    Ok(())
 }
 
 fn sent<T: Send>(value: T) -> T {

@@ -1,7 +1,6 @@
 //! Policies and hashes.
 use board_concepts::arc_sync_policy::{ArcSyncPolicy, MutexProtected, SingleThreaded};
 use board_concepts::hash::{Hash, HashValue, Recommended, Sha1};
-use board_concepts::{Policy, Shared, Single};
 use board_names::ArcSyncPolicyCreationError;
 use std::alloc::Global;
 use std::process::Abort;
@@ -27,16 +26,6 @@ fn policies_show_their_value(rt: HostRuntime) -> Result<(), Fail> {
     let single = one_more::<HostRuntime, SingleThreaded<u32>>(&rt, rt.alloc())?;
     assert_eq!(rt; single, (8, 8));
     Ok(())
-}
-
-// Ports of a policy.
-fn named<P: Policy + Drop>(_policy: P) -> bool {
-    true
-}
-
-#[test]
-fn both_policies_are_policies(rt: HostRuntime) {
-    assert!(rt; named(Shared) && named(Single));
 }
 
 // A hash, through its trait.

@@ -10,8 +10,8 @@ use board_names::{
     StaticStorageUnlockError,
 };
 use board_store::{
-    Builder, Content, Locked, StaticRegistry, StaticStorage, StaticStorageBuilder,
-    StaticStorageLocked, Statics, Storage,
+    Builder, Locked, StaticRegistry, StaticStorage, StaticStorageBuilder, StaticStorageLocked,
+    Statics, Storage,
 };
 use std::alloc::Global;
 use std::process::Abort;
@@ -106,8 +106,7 @@ fn storages_are_made_when_lent(rt: HostRuntime) -> Result<(), Fail> {
     let registry = StaticRegistry::new(alloc)?;
     let mut state = Statics::new(alloc);
     let locked = builder(b"x", &registry)?.create_locked_in(&mut state, alloc)?;
-    let filled = locked.unlock_in(&mut state, alloc, &[1, 2, 3])?;
-    shows_its_bytes(&rt, &filled);
+    let _filled = locked.unlock_in(&mut state, alloc, &[1, 2, 3])?;
     let opened = builder(b"x", &registry)?.open_in(&mut state)?;
     shows_its_bytes(&rt, &opened);
     Ok(())
@@ -135,30 +134,10 @@ fn a_storage_stays_where_it_is_not_owned(rt: HostRuntime) -> Result<(), Fail> {
     let alloc = rt.alloc();
     let registry = StaticRegistry::new(alloc)?;
     let mut storage = opened(&rt, alloc, &registry)?;
-    shows_its_bytes(&rt, &storage);
     assert_eq!(rt; *storage.name(), FileName::new(b"x")?);
     storage.release_ownership();
     storage.release(&rt);
     assert_eq!(rt; exists(&rt, b"x", &registry)?, Ok(true));
-    let mut storage = builder(b"x", &registry)?.open(&rt, 0)?;
-    storage.acquire_ownership();
-    storage.release(&rt);
-    assert_eq!(rt; exists(&rt, b"x", &registry)?, Ok(false));
-    Ok(())
-}
-
-#[test]
-fn a_storage_goes_on_without_its_name(rt: HostRuntime) -> Result<(), Fail> {
-    let alloc = rt.alloc();
-    let registry = StaticRegistry::new(alloc)?;
-    let storage = opened(&rt, alloc, &registry)?;
-    let x = FileName::new(b"x")?;
-    assert_eq!(rt; Storage::remove_cfg(&rt, &registry, &x, &usual()), Ok(true));
-    assert_eq!(rt;
-        Storage::remove_cfg(&rt, &registry, &x, &usual()),
-        Ok(false)
-    );
-    shows_its_bytes(&rt, &storage);
     Ok(())
 }
 
@@ -192,52 +171,12 @@ fn what_is_gone_is_not_unlocked(rt: HostRuntime) -> Result<(), Fail> {
     Ok(())
 }
 
-fn len_when_made<R: Wait, S: StaticStorage>(
-    rt: &R,
-    alloc: Global,
-    builder: S::Builder,
-) -> Result<u64, StaticStorageCreateError>
-where
-    S::Builder: StaticStorageBuilder<Storage = S>,
-{
-    let storage = builder.has_ownership(true).create(rt, alloc, &[4, 5])?;
-    let len = storage.len();
-    storage.release(rt);
-    Ok(len)
-}
-
-#[test]
-fn any_static_storage_is_made_by_the_traits(rt: HostRuntime) -> Result<(), Fail> {
-    let alloc = rt.alloc();
-    let registry = StaticRegistry::new(alloc)?;
-    let builder = builder(b"z", &registry)?;
-    assert_eq!(rt; len_when_made::<_, Storage>(&rt, alloc, builder)?, 2);
-    Ok(())
-}
-
 fn sent<T: Send>(value: T) -> T {
     value
 }
 
 fn are_sent(builder: Builder, locked: Locked, storage: Storage) -> (Builder, Locked, Storage) {
     (sent(builder), sent(locked), sent(storage))
-}
-
-#[test]
-fn contents_are_shared(rt: HostRuntime) -> Result<(), Fail> {
-    let alloc = rt.alloc();
-    let mut state = Statics::new(alloc);
-    let name = usual().path_for(&FileName::new(b"x")?);
-    assert_eq!(rt; state.create_locked(&name), Ok(()));
-    let content = state.unlock(&name, &[4, 5])?;
-    assert!(rt; state.remove(&name));
-    let shared = content.share()?;
-    let mut buffer = [9u8; 3];
-    assert_eq!(rt; shared.read(&mut buffer), Ok(()));
-    assert_eq!(rt; buffer, [4, 5, 9]);
-    let copy = Content::of(alloc, shared.as_bytes())?;
-    assert_eq!(rt; copy.len(), 2);
-    Ok(())
 }
 
 // A caller's proof over storages that were lent, whoever filled them: a removed name can be taken, want of memory aside.

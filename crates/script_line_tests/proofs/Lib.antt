@@ -1,2 +1,1 @@
 mod IdleLemmas
-mod NoCalls

@@ -1,9 +1,5 @@
-//! Texts that are answers and texts that are none, and the first rule that a differing answer breaks.
-use board_layout::Text;
-use board_model::Line;
-use script_answers::{broken_rule_of, is_answer};
-use script_model::ScriptLine;
-use script_rules::Rule;
+//! Texts that are answers and texts that are none.
+use script_answers::is_answer;
 use std::test::Fail;
 
 #[test]
@@ -80,44 +76,6 @@ fn texts_that_are_none(rt: HostRuntime) -> Result<(), Fail> {
     ];
     for text in cases {
         assert!(rt; !is_answer(1, text));
-    }
-    Ok(())
-}
-
-#[test]
-fn rules_of_an_answer_that_differs(rt: HostRuntime) -> Result<(), Fail> {
-    let step = ScriptLine::Board(Line::Step {
-        party: Text::of(b"a"),
-    });
-    let words = ScriptLine::Board(Line::Words { board: 1 });
-    let cases: [(&ScriptLine, &[u8], &[u8], Option<Rule>); 9] = [
-        (&step, b"refused idle", b"refused busy", Some(Rule::Reason)),
-        (&step, b"table = ok 1", b"refused idle", Some(Rule::Reason)),
-        (&step, b"write 1:3 9", b"write 1:2 9", Some(Rule::Owed)),
-        (&step, b"read 1:0 2", b"read 1:0 3", Some(Rule::Word)),
-        (
-            &words,
-            b"words 1 0 7 0",
-            b"words 1 0 7 0 0",
-            Some(Rule::Word),
-        ),
-        (
-            &step,
-            b"swap bits:ev 0 1 = ids 0",
-            b"swap bits:ev 0 2 = ids 1",
-            Some(Rule::Event),
-        ),
-        (
-            &step,
-            b"read 1:0 1",
-            b"read 1:0 1 = u64:7 gen 1",
-            Some(Rule::Reply),
-        ),
-        (&words, b"words 1 0 7 0", b"gone", Some(Rule::Owed)),
-        (&step, b"pop queue:q none", b"pop queue:q none", None),
-    ];
-    for (line, right, text, rule) in cases {
-        assert!(rt; broken_rule_of(line, right, text) == rule);
     }
     Ok(())
 }

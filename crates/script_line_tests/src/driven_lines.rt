@@ -1,10 +1,6 @@
-//! Lines of driven scripts: which are the driver's, which are held back, which are given, and what answers tell.
-use board_layout::Text;
-use board_model::Name;
+//! Lines of driven scripts: which are the driver's, and which are of a plain script.
 use script_exchanges::{Drive, DriveLine};
-use script_feed::{
-    Parties, abandoned_by, got_of, held_back, is_refusal, parse_drive, say, write_get, write_step,
-};
+use script_feed::parse_drive;
 use std::alloc::Global;
 use std::process::Abort;
 use std::test::Fail;
@@ -74,89 +70,4 @@ fn lines_of_snapshots_and_of_watchers(rt: HostRuntime) -> Result<(), Fail> {
     ];
     all_are(&rt, rt.alloc(), Drive::Snapshots, &snapshots)?;
     all_are(&rt, rt.alloc(), Drive::Watchers, &watchers)
-}
-
-fn bytes_of(name: &Option<Name>) -> &[u8] {
-    match name {
-        Some(name) => name.as_bytes(),
-        None => b"",
-    }
-}
-
-#[test]
-fn lines_that_are_held_back(rt: HostRuntime) -> Result<(), Fail> {
-    let cases = [
-        ("begin b get h", "b", ""),
-        ("step b", "b", ""),
-        ("drop b h", "b", ""),
-        ("abandon b", "", "b"),
-        ("words 1", "", ""),
-        ("begin b wait e one try", "b", ""),
-        ("expire b", "b", ""),
-    ];
-    for (text, held, abandoned) in cases {
-        if let Some(DriveLine::Script(line)) = parse_drive(
-            rt.alloc(),
-            Drive::Snapshots,
-            text.as_bytes(),
-        )? {
-            assert_eq!(rt; bytes_of(&held_back(&line)), held.as_bytes(), "{text}");
-            assert_eq!(rt;
-                bytes_of(&abandoned_by(&line)),
-                abandoned.as_bytes(),
-                "{text}"
-            );
-        } else {
-            assert!(rt; false, "{text}");
-        }
-    }
-    Ok(())
-}
-
-#[test]
-fn lines_that_are_given(rt: HostRuntime) -> Result<(), Fail> {
-    let mut line = Vec::from_slice(rt.alloc(), b"before")?;
-    write_step(&Text::of(b"b"), &mut line)?;
-    assert_eq!(rt; line.as_slice(), b"step b".as_slice());
-    write_get(&Text::of(b"b"), &Text::of(b"h"), &mut line)?;
-    assert_eq!(rt; line.as_slice(), b"begin b get h".as_slice());
-    say(b"snapping", &Text::of(b"b"), &mut line)?;
-    assert_eq!(rt; line.as_slice(), b"begin b get hsnapping b\n".as_slice());
-    Ok(())
-}
-
-#[test]
-fn looks_at_answers(rt: HostRuntime) -> Result<(), Fail> {
-    let cases = [
-        ("refused busy\n", true, "", 0),
-        ("ok\n", false, "", 0),
-        ("read 1:0 1\n", false, "", 0),
-        ("read 1:0 1 = u64:7 gen 1\n", false, "u64:7 gen 1", 1),
-        (
-            "read 12:4 30 = q4:1,2,3,4 gen 30\n",
-            false,
-            "q4:1,2,3,4 gen 30",
-            30,
-        ),
-    ];
-    for (answer, refused, text, generation) in cases {
-        assert_eq!(rt; is_refusal(answer.as_bytes()), refused, "{answer}");
-        let (told, number) = got_of(answer.as_bytes()).unwrap_or((b"", 0));
-        assert_eq!(rt; told, text.as_bytes(), "{answer}");
-        assert_eq!(rt; number, generation, "{answer}");
-    }
-    Ok(())
-}
-
-#[test]
-fn things_are_kept_of_parties(rt: HostRuntime) -> Result<(), Fail> {
-    let mut parties = Parties::new(rt.alloc());
-    parties.keep(Text::of(b"a"), 1)?;
-    parties.keep(Text::of(b"b"), 2)?;
-    parties.keep(Text::of(b"a"), 3)?;
-    assert_eq!(rt; parties.of(&Text::of(b"a")), Some(&3));
-    assert_eq!(rt; parties.take(&Text::of(b"b")), Some(2));
-    assert_eq!(rt; parties.take(&Text::of(b"b")), None);
-    assert_eq!(rt; parties.of(&Text::of(b"a")), Some(&3));
-    Ok(())
 }

@@ -1,5 +1,5 @@
-//! Lines, answers and pairs of both, used from outside: read, run, printed, judged and driven, with the streams and the endings
-//! of programs.
+//! Lines, answers and pairs of both, used from outside: read, run, judged and driven, with the streams and the endings of
+//! programs.
 #![tactic(auto)]
 
 #[cfg(test)]
@@ -12,10 +12,6 @@ mod endings;
 mod idle;
 #[cfg(test)]
 mod lines;
-#[cfg(test)]
-mod pairs;
-#[cfg(test)]
-mod printed;
 #[cfg(test)]
 mod reading;
 #[cfg(test)]

@@ -6,18 +6,6 @@ use std::io::{Cursor, Read, Write};
 use std::test::Fail;
 
 #[test]
-fn a_source_gives_what_its_reader_gives(rt: HostRuntime) -> Result<(), Fail> {
-    let mut source = InSource::new(b"gone\n".as_slice());
-    let mut buffer = [0u8; 3];
-    assert_eq!(rt; source.read(&mut buffer), Ok(3));
-    assert_eq!(rt; buffer, *b"gon");
-    assert_eq!(rt; source.read(&mut buffer), Ok(2));
-    assert_eq!(rt; buffer, *b"e\nn");
-    assert_eq!(rt; source.read(&mut buffer), Ok(0));
-    Ok(())
-}
-
-#[test]
 fn a_sink_fails_where_its_writer_takes_nothing(rt: HostRuntime) -> Result<(), Fail> {
     let mut room = [0u8; 4];
     let mut sink = OutSink::new(Cursor::new(room.as_mut_slice()));

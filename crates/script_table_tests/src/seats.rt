@@ -1,4 +1,4 @@
-//! Names that come, go and are given anew.
+//! Names that are given anew.
 use board_layout::Text;
 use board_model::{Kind, Name, Thing};
 use script_seats::{Seat, Seats, Sought};
@@ -10,13 +10,6 @@ fn name(text: &[u8]) -> Name {
         Text::of(text)
     } else {
         Text::of(b"long")
-    }
-}
-
-fn seat(party: &[u8], called: &[u8]) -> Seat {
-    Seat {
-        party: name(party),
-        name: name(called),
     }
 }
 
@@ -42,20 +35,6 @@ fn number(sought: Sought) -> u64 {
 }
 
 #[test]
-fn names_of_parties(rt: HostRuntime) -> Result<(), Fail> {
-    let mut seats = Seats::new(rt.alloc());
-    add(&mut seats, b"a", b"f", 1)?;
-    add(&mut seats, b"b", b"f", 2)?;
-    assert!(rt; number(seats.find(&seat(b"a", b"f"))) == 1);
-    assert!(rt; number(seats.find(&seat(b"b", b"f"))) == 2);
-    assert!(rt; number(seats.find(&seat(b"f", b"a"))) == 0);
-    assert!(rt; number(seats.take(&seat(b"a", b"f"))) == 1);
-    assert!(rt; number(seats.find(&seat(b"a", b"f"))) == 0);
-    assert!(rt; number(seats.find(&seat(b"b", b"f"))) == 2);
-    Ok(())
-}
-
-#[test]
 fn another_name(rt: HostRuntime) -> Result<(), Fail> {
     let mut seats = Seats::new(rt.alloc());
     add(&mut seats, b"a", b"m", 1)?;
@@ -71,15 +50,5 @@ fn another_name(rt: HostRuntime) -> Result<(), Fail> {
     assert!(rt; number(seats.rename(&handle, &loan)) == 1);
     assert!(rt; number(seats.find(&handle)) == 0 && number(seats.find(&loan)) == 1);
     assert!(rt; number(seats.rename(&handle, &loan)) == 0);
-    Ok(())
-}
-
-// No session has these.
-#[test]
-fn two_under_one_name(rt: HostRuntime) -> Result<(), Fail> {
-    let mut seats = Seats::new(rt.alloc());
-    add(&mut seats, b"a", b"f", 1)?;
-    add(&mut seats, b"a", b"f", 2)?;
-    assert!(rt; number(seats.find(&seat(b"a", b"f"))) == 99);
     Ok(())
 }

@@ -1,6 +1,6 @@
-//! Things of a session: what is taken of a board, and things by other names.
+//! Things of a session: what is taken of a board.
 use board_layout::Text;
-use board_model::{Attributes, Board, Entries, KeyType, Kind, Name, ThingKind, key_detail};
+use board_model::{Attributes, Board, Entries, KeyType, Kind, Name, key_detail};
 use script_things::{Held, NamedThings, info_of};
 use std::alloc::Global;
 use std::test::Fail;
@@ -85,38 +85,5 @@ fn what_is_taken_of_a_board(rt: HostRuntime) -> Result<(), Fail> {
         assert!(rt; things.take(&name(party), &name(called)).is_some() && taken(&things) == after);
     }
     assert!(rt; !things.has_thing(1) && things.has_thing(2) && !things.has_write_handle(1, 0));
-    Ok(())
-}
-
-#[test]
-fn a_thing_by_another_name(rt: HostRuntime) -> Result<(), Fail> {
-    let mut things = NamedThings::new(rt.alloc());
-    let (party, handle, loan) = (name(b"b"), name(b"m"), name(b"l"));
-    things.push(held(b"b", b"f", 1, Kind::Factory))?;
-    things.push(held(b"b", b"m", 1, Kind::WriteHandle { entry: 0, port: 2 }))?;
-    things.rename(&party, &handle, &loan)?;
-    assert!(rt; things.at(&party, &handle).is_none() && taken(&things) == (0, 1, 1));
-    let as_loan = things.of_kind(ThingKind::WriteHandle, &party, &loan);
-    let as_factory = things.of_kind(ThingKind::Factory, &party, &loan);
-    assert!(rt; as_loan.is_some() && as_factory.is_none());
-    assert!(rt; things.take(&party, &loan).is_some() && things.at(&party, &loan).is_none());
-    assert!(rt; things.take(&party, &loan).is_none());
-    Ok(())
-}
-
-// No session has these, and the first one counts.
-#[test]
-fn two_things_under_one_name(rt: HostRuntime) -> Result<(), Fail> {
-    let mut things = NamedThings::new(rt.alloc());
-    let (party, one, other) = (name(b"b"), name(b"x"), name(b"y"));
-    things.push(held(b"b", b"x", 1, Kind::Factory))?;
-    things.push(held(b"b", b"y", 2, Kind::Factory))?;
-    things.push(held(b"b", b"x", 3, Kind::Factory))?;
-    things.rename(&party, &one, &other)?;
-    for board in [1, 2, 3] {
-        let gone = things.take(&party, &other).map(|thing| thing.board);
-        assert!(rt; gone == Some(board));
-    }
-    assert!(rt; things.take(&party, &other).is_none());
     Ok(())
 }

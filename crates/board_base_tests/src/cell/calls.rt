@@ -1,7 +1,7 @@
 //! The calls, each through its accesses, in a cell of two words that begins with word 4: its copies begin with words 6 and 8.
 use board_cell::{
-    Access, CellShape, FreshCall, GetCall, PublishCall, PutCall, UpdateCall, run_fresh, run_get,
-    run_publish, run_put, run_update,
+    Access, CellShape, FreshCall, GetCall, PublishCall, PutCall, run_fresh, run_get, run_publish,
+    run_put,
 };
 use std::test::*;
 
@@ -10,22 +10,6 @@ const SHAPE: CellShape = CellShape {
     head: 2,
     words: 2,
 };
-
-#[test]
-fn an_update_fills_the_spare_copy_and_then_raises_the_counter(rt: HostRuntime) -> Result<(), Fail> {
-    let alloc = rt.alloc();
-    let mut call = UpdateCall::new(SHAPE, 1, vec![in alloc; 7, 9]?);
-    let mut accesses = Vec::new(alloc);
-    run_update(&mut call, &mut accesses)?;
-    let expected = [
-        Access::Write { word: 8, value: 7 },
-        Access::Write { word: 9, value: 9 },
-        Access::Write { word: 4, value: 2 },
-    ];
-    assert_eq!(rt; accesses.as_slice(), expected.as_slice());
-    assert_eq!(rt; call.into_buffer().as_slice(), [7, 9].as_slice());
-    Ok(())
-}
 
 #[test]
 fn a_get_that_meets_one_update_tries_again(rt: HostRuntime) -> Result<(), Fail> {

@@ -4,7 +4,7 @@ ghost use Rattle.std.specs.Prelude.{◌≡◌, ◌+◌, ◌^◌, ◌<◌, ◌∷
 
 use board_cell::{OfCell, ReaderPass, Receipt, ThreadedCell, WriterPass};
 use std::alloc::AllocError;
-use std::sync::{Arc, Wait};
+use std::sync::Wait;
 use std::test::*;
 use std::thread;
 use std::thread::Threads;
@@ -210,22 +210,5 @@ fn passes_and_receipts_come_back_alone(rt: HostRuntime) -> Result<(), Fail> {
     let mut reader = give_back(&rt, &cell, writer, reader, updated, words)?;
     assert_eq!(rt; cell.get(&rt, &mut reader, &mut out), 2);
     assert!(rt; out.iter().all(|word| *word == 9));
-    Ok(())
-}
-
-fn is_send<T: Send>(x: T) -> T
-    ensures { result ≡ x }
-{
-    x
-}
-
-#[test]
-fn receipts_and_cells_are_sent(rt: HostRuntime) -> Result<(), Fail> {
-    let words = vec![in rt.alloc(); 5u64]?;
-    let (cell, mut writer, mut reader) = ThreadedCell::new(rt.alloc(), &words)?;
-    let receipt = is_send(cell.receipt(&mut writer));
-    cell.learn(&mut reader, receipt);
-    let cell = is_send(Arc::new(rt.alloc(), cell)?);
-    assert_eq!(rt; cell.words(), 1);
     Ok(())
 }

@@ -105,23 +105,6 @@ fn queues_by_lent_forms(rt: HostRuntime) {
     row_is(&rt, &mut lent, &row_of_names(&rt));
 }
 
-/// The ids that a lent callback is called on.
-fn taken<K: KindOfEvents + Drop>(lent: &mut Lent<K>) -> usize {
-    let mut seen = 0usize;
-    let listener = &lent.listener;
-    listener.take_all_in(&mut lent.state, &mut |id| seen = with_id(seen, id));
-    seen
-}
-
-#[test]
-fn a_lent_callback_is_called_on_what_waits(rt: HostRuntime) {
-    let mut lent: Lent<QueueOfIds> = make_lent(&rt, rt.alloc());
-    row_is(&rt, &mut lent, &[(Deed::Notify(8), Told::Notified(Ok(())))]);
-    row_is(&rt, &mut lent, &[(Deed::Notify(2), Told::Notified(Ok(())))]);
-    assert_eq!(rt; taken(&mut lent), 8002);
-    assert_eq!(rt; taken(&mut lent), 0);
-}
-
 /// The listener goes, and then the notifier. Tells what a notify between them was answered.
 fn released<K: KindOfEvents + Drop>(
     state: &mut EventsOf<K>,
@@ -164,14 +147,4 @@ fn first_wait<K: KindOfEvents + Drop>(
         Ok(one) => one,
         Err(_) => None,
     }
-}
-
-#[test]
-fn a_new_event_gives_nothing(rt: HostRuntime) {
-    let mut sets: Lent<SetOfIds> = make_lent(&rt, rt.alloc());
-    let builder = listens(&rt, b"new", &sets.registry);
-    assert_eq!(rt; first_wait(&mut sets.state, builder, rt.alloc()), None);
-    let mut queues: Lent<QueueOfIds> = make_lent(&rt, rt.alloc());
-    let builder = listens(&rt, b"new", &queues.registry);
-    assert_eq!(rt; first_wait(&mut queues.state, builder, rt.alloc()), None);
 }

@@ -2,23 +2,15 @@
 use super::typed::{Ends, make_ends, row_is};
 use super::{Deed, Told, file_name, listens, opens};
 use board_event::{
-    BitEvent, BitRegistry, BitSet, Event, EventRegistry, IdTracker, KindOfEvents, Listener,
-    ListenerBuilder, Notifier, NotifierBuilder, NotifierNotifyError, QUEUE_CAPACITY, QueueEvent,
-    QueueOfIds, SetOfIds, TriggerId,
+    BitEvent, BitRegistry, Event, EventRegistry, KindOfEvents, Listener, ListenerBuilder, Notifier,
+    NotifierBuilder, NotifierNotifyError, QUEUE_CAPACITY, QueueEvent, QueueOfIds, SetOfIds,
+    TriggerId,
 };
 use board_names::NamedConcept;
 use std::alloc::Global;
 use std::process::Abort;
 use std::sync::Wait;
 use std::time::Duration;
-
-#[test]
-fn a_bit_set_gives_what_was_added(rt: HostRuntime) {
-    let mut set = BitSet::new(rt.alloc(), TriggerId::new(63)).expect(&rt, "memory");
-    assert_eq!(rt; set.add(TriggerId::new(3)), Ok(()));
-    assert_eq!(rt; set.acquire(), Some(TriggerId::new(3)));
-    assert_eq!(rt; set.acquire(), None);
-}
 
 #[test]
 fn the_kinds_differ_in_their_greatest_id(rt: HostRuntime) {

@@ -186,33 +186,3 @@ fn full_and_gone<R: Abort>(rt: &R, events: &mut Events) {
     let mut notify = NotifyCall::queue(9);
     notify_is(rt, events, 1, &mut notify, &[(A::Push(9), B::Gone, gone)]);
 }
-
-#[test]
-fn accesses_that_an_event_cannot_take(rt: HostRuntime) {
-    let mut events = Events::new(rt.alloc());
-    assert_eq!(rt;
-        listened(&rt, &mut events, EventKind::Bits),
-        Told::Number(1)
-    );
-    assert_eq!(rt;
-        listened(&rt, &mut events, EventKind::Queue),
-        Told::Number(2)
-    );
-    let rows = [
-        (1, A::Set(127), true),
-        (1, A::Set(128), false),
-        (1, A::Clear(5), false),
-        (1, A::Scan(1), true),
-        (1, A::Swap(2), false),
-        (1, A::Push(1), false),
-        (1, A::Pop, false),
-        (2, A::Push(1), true),
-        (2, A::Pop, true),
-        (2, A::Listener, false),
-        (2, A::Signal, false),
-        (3, A::Listener, false),
-    ];
-    for (event, access, allowed) in rows {
-        assert_eq!(rt; events.allows(event, access), allowed);
-    }
-}

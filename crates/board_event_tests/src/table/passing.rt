@@ -23,32 +23,6 @@ fn made<R: Abort>(rt: &R, events: &mut Events) {
     notify_is(rt, events, 1, &mut notify, &rows);
 }
 
-/// The word that a look at this one may go on to, where the event has such a word.
-fn next_of(events: &Events, word: u64) -> Option<u64> {
-    if !events.allows(1, A::Scan(word)) {
-        return None;
-    }
-    let next = events.next_word(1, word);
-    prove!(events.allows(1, A::Scan(next)));
-    Some(next)
-}
-
-#[test]
-fn the_next_word_has_ids_or_is_the_last(rt: HostRuntime) {
-    let mut events = Events::new(rt.alloc());
-    made(&rt, &mut events);
-    let rows = [
-        (0, Some(2)),
-        (1, Some(2)),
-        (2, Some(2)),
-        (3, Some(3)),
-        (4, None),
-    ];
-    for (word, next) in rows {
-        assert_eq!(rt; next_of(&events, word), next, "word {word}");
-    }
-}
-
 #[test]
 fn a_wait_passes_over_empty_words(rt: HostRuntime) {
     let mut events = Events::new(rt.alloc());

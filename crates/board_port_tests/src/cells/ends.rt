@@ -4,13 +4,12 @@ ghost use Rattle.board_layout.specs.Layout.{IsShape};
 ghost use Rattle.board_model.specs.Tables.{shapes_of};
 ghost use Rattle.board_service.specs.Entries.{as_added};
 
-use board_cells::{BoardCells, ReadEnd, WriteEnd};
+use board_cells::BoardCells;
 use board_concepts::AttributeSet;
 use board_model::Limits;
 use board_names::ServiceName;
 use board_service::{DomainCore, Made, NewEntry, NodeId, ThingKind};
 use std::alloc::Global;
-use std::process::Abort;
 use std::test::*;
 
 const ANY: Limits = Limits {
@@ -26,8 +25,8 @@ fn one_number(alloc: Global, value: u64) -> Result<Vec<NewEntry>, Fail>
     Ok(vec![in alloc; entry]?)
 }
 
-/// A domain with one board of one number, and the board's factory and number.
-pub(super) fn one_board(alloc: Global, value: u64) -> Result<(DomainCore<BoardCells>, Made), Fail> {
+// A domain with one board of one number, and the board's factory and number.
+fn one_board(alloc: Global, value: u64) -> Result<(DomainCore<BoardCells>, Made), Fail> {
     let mut core: DomainCore<BoardCells> = DomainCore::new(alloc);
     let entries = one_number(alloc, value)?;
     let name = ServiceName::new("board")?;
@@ -44,47 +43,4 @@ pub(super) fn one_cell(alloc: Global, value: u64) -> Result<BoardCells, Fail> {
     }
     let cells = core.release(made.thing);
     Ok(cells.ok_or("the board had no other thing")?)
-}
-
-fn park(rt: &impl Abort, cells: &mut BoardCells, end: WriteEnd) -> Result<(), Fail> {
-    let back = cells.park(1, end);
-    let end = back.ok_or("there is no second entry")?;
-    assert!(rt; cells.park(0, end).is_none(), "the place is free");
-    assert!(rt; cells.has_parked(0, 1), "one is parked");
-    Ok(())
-}
-
-fn take_and_park(rt: &impl Abort, cells: &mut BoardCells) -> Result<(), Fail> {
-    let end = cells.take_write(0).ok_or("the end is parked")?;
-    assert!(rt; cells.take_write(0).is_none(), "it was taken");
-    assert!(rt; !cells.has_parked(0, 1), "none is parked");
-    park(rt, cells, end)
-}
-
-#[test]
-fn an_end_is_taken_once_and_parked_once(rt: HostRuntime) -> Result<(), Fail> {
-    let mut cells = one_cell(rt.alloc(), 7)?;
-    assert!(rt; cells.has_cell(0, 1) && !cells.has_cell(0, 2), "one word");
-    take_and_park(&rt, &mut cells)
-}
-
-// What a read end of the entry reads, and whether a second entry has one.
-fn read_beside(alloc: Global, cells: &mut BoardCells) -> Result<(Option<u64>, bool), Fail> {
-    let mut out = vec![in alloc; 0u64; 1]?;
-    let second = cells.read_end(1)?.is_some();
-    let Some(ReadEnd { cell, mut pass }) = cells.read_end(0)? else {
-        return Ok((None, second));
-    };
-    if cell.words() == 1 && cell.try_get(&mut pass, 1, &mut out).is_ok() {
-        return Ok((Some(out[0]), second));
-    }
-    Ok((None, second))
-}
-
-#[test]
-fn a_read_end_reads_the_first_value(rt: HostRuntime) -> Result<(), Fail> {
-    let alloc = rt.alloc();
-    let mut cells = one_cell(alloc, 7)?;
-    assert_eq!(rt; read_beside(alloc, &mut cells)?, (Some(7), false));
-    Ok(())
 }

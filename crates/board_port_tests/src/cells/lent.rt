@@ -2,10 +2,8 @@
 ghost use Rattle.std.specs.Prelude.{◌≡◌, is_some, slice_get};
 ghost use Rattle.board_model.specs.Tables.{entry_at};
 
-use super::ends::one_board;
 use board_cells::BoardCells;
 use board_service::DomainCore;
-use std::test::*;
 
 // Whether the board has an entry at this place. It asks the board's cells: the entry's is there, and as wide as its values.
 fn has_entry(core: &DomainCore<BoardCells>, board: u64, entry: u64) -> bool
@@ -21,13 +19,4 @@ fn has_entry(core: &DomainCore<BoardCells>, board: u64, entry: u64) -> bool
         Some(cells) => cells.has_cell(entry, found.cell.words),
         None => false,
     }
-}
-
-#[test]
-fn a_lent_boards_entries_have_their_cells(rt: HostRuntime) -> Result<(), Fail> {
-    let (core, made) = one_board(rt.alloc(), 7)?;
-    let board = made.number;
-    assert!(rt; has_entry(&core, board, 0) && !has_entry(&core, board, 1));
-    assert!(rt; !has_entry(&core, 2, 0));
-    Ok(())
 }

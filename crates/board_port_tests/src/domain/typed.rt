@@ -1,16 +1,14 @@
 //! By typed calls.
 use super::loans::drop_loan;
 use super::published::publish;
-use super::{builder, creator, new_domain, node_name, note, opener, taken};
+use super::{creator, new_domain, node_name, note, opener, taken};
 use board_concepts::{Policy, Shared, Single};
-use board_domain::{Creator, MessagingPattern, Node, PortFactory};
+use board_domain::{MessagingPattern, Node, PortFactory};
 use board_handles::{
-    Domain, EntryHandle, EntryHandleMut, PortFactoryReader, PortFactoryWriter, Reader, Writer,
+    Domain, EntryHandle, EntryHandleMut, EntryValueUninit, PortFactoryReader, PortFactoryWriter,
+    Reader, Writer,
 };
-use board_names::{
-    BlackboardCreateError, EntryHandleError, EntryHandleMutError, ReaderCreateError,
-    WriterCreateError,
-};
+use board_names::{EntryHandleError, EntryHandleMutError, ReaderCreateError, WriterCreateError};
 use board_service::ThingId;
 use std::alloc::Global;
 use std::process::Abort;
@@ -215,22 +213,25 @@ fn values_are_published_under_both_policies(rt: HostRuntime) {
     published::<Single, HostRuntime>(&rt, rt.alloc());
 }
 
-// What may go to another thread.
-fn is_send<T: Send>(value: T) -> T {
+fn sent<T: Send>(value: T) -> T {
     value
 }
 
-#[test]
-fn ports_and_handles_go_to_other_threads(rt: HostRuntime) {
-    let Boards { made, opened } = make_boards::<Shared, HostRuntime>(&rt, rt.alloc());
-    let writer = is_send(new_writer(&rt, &made));
-    let reader = is_send(new_reader(&rt, &opened));
-    let write = is_send(write_handle(&rt, &writer));
-    is_send(read_handle(&rt, &reader)).release(&rt);
-    if write.generation() < u64::MAX {
-        is_send(write.loan_uninit()).release(&rt);
-    }
-    is_send(made).release(&rt);
+// What may go to another thread, besides the handles that a test of two threads hands over.
+fn are_sent(
+    factory: PortFactory<u64, Shared>,
+    reader: Reader<u64, Shared>,
+    writer: Writer<u64, Shared>,
+) -> (
+    PortFactory<u64, Shared>,
+    Reader<u64, Shared>,
+    Writer<u64, Shared>,
+) {
+    (sent(factory), sent(reader), sent(writer))
+}
+
+fn is_sent(loan: EntryValueUninit<u64, u64, Shared>) -> EntryValueUninit<u64, u64, Shared> {
+    sent(loan)
 }
 
 // A builder that a factory gave borrows it. One that was made by a number asks whether its factory is held.
@@ -244,26 +245,6 @@ fn a_builder_by_number_asks_for_its_factory(rt: HostRuntime) {
     let writer = PortFactoryWriter::<u64, Shared>::new(rt.alloc(), ThingId(1), domain);
     let no_writer = writer.create(&rt).err();
     assert_eq!(rt; no_writer, Some(WriterCreateError::ThingUnknown(1)));
-}
-
-// What makes a board of sixteen numbers, under the keys 0 to 14 and this one.
-fn many<R: Abort>(rt: &R, alloc: Global, node: &Node, last: u64) -> Creator<u64, Shared> {
-    let mut creator = builder(rt, node, "many").blackboard_creator::<u64, Shared>(alloc);
-    for key in 0..15 {
-        creator = creator.add(key, 7u64).expect(rt, "memory");
-    }
-    creator.add(last, 7u64).expect(rt, "memory")
-}
-
-#[test]
-fn equal_keys_are_found_among_many(rt: HostRuntime) {
-    let domain = new_domain(&rt, rt.alloc());
-    let node = new_node(&rt, &domain, "first");
-    let refused = many(&rt, rt.alloc(), &node, 3).create(&rt).err();
-    let corrupted = BlackboardCreateError::ServiceInCorruptedState;
-    assert_eq!(rt; refused, Some(corrupted));
-    let made = many(&rt, rt.alloc(), &node, 15).create(&rt);
-    made.expect(&rt, "sixteen keys").release(&rt);
 }
 
 #[test]

@@ -7,12 +7,17 @@ ghost use Rattle.board_service.specs.Domain.{Stands, is_thing, stands_as};
 ghost use Rattle.board_service.specs.Entries.{HaveShapes};
 ghost use Rattle.board_service.specs.Facts.{IsHeldAs};
 
-use super::calls::ANY;
 use board_concepts::AttributeSet;
 use board_layout::{BoardKey, TypeDetail};
-use board_model::ThingKind;
+use board_model::{Limits, ThingKind};
 use board_names::BlackboardCreateError;
 use board_service::{Cells, DomainCore, Found, Made, NewEntry, NodeId, ThingId};
+
+/// Limits that ask nothing.
+pub(super) const ANY: Limits = Limits {
+    max_readers: None,
+    max_nodes: None,
+};
 
 /// The cells of a thing's board. They are there where the thing is held.
 pub(super) fn cells_of<K: BoardKey, C: Cells>(

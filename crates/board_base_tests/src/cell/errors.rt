@@ -1,0 +1,11 @@
+//! What an error of cells prints.
+use board_cell::CellError;
+use std::test::*;
+
+#[test]
+fn an_error_prints_its_name(rt: HostRuntime) -> Result<(), Fail> {
+    let error = CellError::OutOfMemory;
+    let printed = format!(in rt.alloc(); "{error}")?;
+    assert_eq!(rt; printed.as_str(), "CellError::OutOfMemory");
+    Ok(())
+}
