@@ -186,14 +186,27 @@ where
     Ok(())
 }
 
+// The token of another name is left alone.
+fn stays_alive<R: Wait + Abort>(rt: &R, registry: &MonitoringRegistry) -> Result<(), Fail> {
+    let monitor = Builder::new(&FileName::new(b"u")?, registry)?.monitor()?;
+    assert_eq!(rt; monitor.state(rt), Ok(State::Alive));
+    Ok(())
+}
+
 #[test]
 fn any_monitoring_is_used_by_the_traits(rt: HostRuntime) -> Result<(), Fail> {
     let (alloc, name) = (rt.alloc(), FileName::new(b"t")?);
     let registry = MonitoringRegistry::new(alloc)?;
+    let stranger = Builder::new(&FileName::new(b"u")?, &registry)?.token(&rt, alloc)?;
     is_taken_and_released::<_, ProcessLocalMonitoring>(&rt, alloc, &registry, &name)?;
+    stays_alive(&rt, &registry)?;
     is_left_dead::<_, ProcessLocalMonitoring>(&rt, alloc, &registry, &name)?;
     is_cleaned_up::<_, ProcessLocalMonitoring>(&rt, &registry, &name)?;
-    is_removed::<_, ProcessLocalMonitoring>(&rt, alloc, &registry, &name)
+    stays_alive(&rt, &registry)?;
+    is_removed::<_, ProcessLocalMonitoring>(&rt, alloc, &registry, &name)?;
+    stays_alive(&rt, &registry)?;
+    stranger.release(&rt);
+    Ok(())
 }
 
 // A caller's proof over names that were lent, whoever took them: a removed name can be taken, want of memory aside.
