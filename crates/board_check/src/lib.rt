@@ -7,8 +7,6 @@
 #![tactic(auto)]
 
 mod checking;
-#[cfg(test)]
-mod tests;
 mod top;
 
 pub use checking::check;

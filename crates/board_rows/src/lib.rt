@@ -15,6 +15,8 @@ mod events;
 #[cfg(test)]
 mod faults;
 #[cfg(test)]
+mod in_memory;
+#[cfg(test)]
 mod limits;
 #[cfg(test)]
 mod loans;
@@ -28,6 +30,8 @@ mod programs;
 mod readers;
 #[cfg(test)]
 mod row;
+#[cfg(test)]
+mod sessions;
 #[cfg(test)]
 mod tables;
 #[cfg(test)]

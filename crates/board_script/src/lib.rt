@@ -11,8 +11,6 @@
 #![tactic(auto)]
 
 mod script;
-#[cfg(test)]
-mod tests;
 mod top;
 
 pub use board_model::worked_updates::{an_update_at_once_is_wrong, an_update_writes_a_word_a_step};

@@ -1,6 +1,6 @@
 //! Sessions of few pairs, sessions with a wrong pair, and faults of source and sink.
-use crate::{CheckError, Rule, Verdict, check, check_words};
-use script_loop::{MemorySink, MemorySource};
+use board_check::{CheckError, Rule, Verdict, check, check_words};
+use board_script::{MemorySink, MemorySource};
 use std::alloc::Global;
 use std::test::Fail;
 

@@ -1,5 +1,5 @@
 //! A script is run in memory, from its words to its status.
-use crate::{ScriptError, run_in_memory};
+use board_script::{ScriptError, run_in_memory};
 use std::test::Fail;
 
 #[test]
