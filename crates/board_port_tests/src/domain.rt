@@ -45,6 +45,12 @@ fn second_creator<P: Policy, R: Abort>(rt: &R, alloc: Global, node: &Node) -> Cr
     creator.add(1, 3u64).expect(rt, "memory")
 }
 
+// What would make the second board with a key twice.
+fn twice_creator<P: Policy, R: Abort>(rt: &R, alloc: Global, node: &Node) -> Creator<u64, P> {
+    let creator = second_creator::<P, R>(rt, alloc, node);
+    creator.add(1, 4u64).expect(rt, "memory")
+}
+
 fn opener<P: Policy, R: Abort>(rt: &R, alloc: Global, node: &Node) -> Opener<u64, P> {
     let opener = builder(rt, node, "board").blackboard_opener::<u64, P>(alloc);
     opener.max_readers(1).max_nodes(2)

@@ -1,4 +1,4 @@
-//! The calls that handles give, on an entry of four words whose cell begins with word 0: its copies begin with words 2 and 6.
+//! The calls that loans give one after another, on an entry of four words whose cell begins with word 0: its copies begin with words 2 and 6.
 ghost use Rattle.std.specs.Prelude.{◌≡◌, ◌+◌, ◌^◌, ◌<◌};
 ghost use Rattle.board_layout.specs.Layout.{cell_end};
 

@@ -129,10 +129,12 @@ fn a_lent_queue_overflows(rt: HostRuntime) -> Result<(), Fail> {
 #[test]
 fn channels_are_listed(rt: HostRuntime) -> Result<(), Fail> {
     let registry = ChannelRegistry::new(rt.alloc())?;
+    let _d = creator(b"d", &registry)?.create_receiver(&rt, rt.alloc())?;
     let receiver = creator(b"c", &registry)?.create_receiver(&rt, rt.alloc())?;
     assert_eq!(rt; receiver.buffer_size(), 8);
+    let names = [FileName::new(b"c")?, FileName::new(b"d")?];
     let listed = Channel::list_cfg(&rt, rt.alloc(), &registry, &channels())?;
-    assert_eq!(rt; listed.as_slice(), [FileName::new(b"c")?].as_slice());
+    assert_eq!(rt; listed.as_slice(), names.as_slice());
     Ok(())
 }
 

@@ -89,6 +89,17 @@ fn a_name_lives_dies_and_goes(rt: HostRuntime) -> Result<(), Fail> {
 }
 
 #[test]
+fn names_are_listed(rt: HostRuntime) -> Result<(), Fail> {
+    let registry = MonitoringRegistry::new(rt.alloc())?;
+    let _t = names(&registry)?.token(&rt, rt.alloc())?;
+    let _s = Builder::new(&FileName::new(b"s")?, &registry)?.token(&rt, rt.alloc())?;
+    let both = [FileName::new(b"s")?, FileName::new(b"t")?];
+    let listed = ProcessLocalMonitoring::list_cfg(&rt, rt.alloc(), &registry, &monitored())?;
+    assert_eq!(rt; listed.as_slice(), both.as_slice());
+    Ok(())
+}
+
+#[test]
 fn a_name_is_taken_when_lent(rt: HostRuntime) -> Result<(), Fail> {
     let registry = MonitoringRegistry::new(rt.alloc())?;
     let mut state = Monitors::new(rt.alloc());

@@ -89,6 +89,17 @@ fn late<R: Wait + Abort>(rt: &R, alloc: Global, registry: &StaticRegistry) -> Re
 }
 
 #[test]
+fn storages_are_listed(rt: HostRuntime) -> Result<(), Fail> {
+    let registry = StaticRegistry::new(rt.alloc())?;
+    let _y = builder(b"y", &registry)?.create_locked(&rt, rt.alloc())?;
+    let _x = builder(b"x", &registry)?.create_locked(&rt, rt.alloc())?;
+    let both = [FileName::new(b"x")?, FileName::new(b"y")?];
+    let listed = Storage::list_cfg(&rt, rt.alloc(), &registry, &usual())?;
+    assert_eq!(rt; listed.as_slice(), both.as_slice());
+    Ok(())
+}
+
+#[test]
 fn a_storage_is_filled_once(rt: HostRuntime) -> Result<(), Fail> {
     let alloc = rt.alloc();
     let registry = StaticRegistry::new(alloc)?;

@@ -1,4 +1,4 @@
-//! Names that are given anew.
+//! A thing that is found under another name.
 use board_layout::Text;
 use board_model::{Kind, Name, Thing};
 use script_seats::{Seat, Seats, Sought};

@@ -1,7 +1,7 @@
 //! A board goes with the last value that was made of it, and its name is free again.
 use super::loans::drop_loan;
 use super::typed::{new_board, new_node, new_reader, new_writer, read_handle, write_handle};
-use super::{creator, lent, new_domain, second_creator, second_opener};
+use super::{creator, lent, new_domain, second_creator, second_opener, twice_creator};
 use board_concepts::{Policy, Shared, Single};
 use board_domain::Node;
 use board_handles::{DomainState, EntryHandle, EntryHandleMut};
@@ -47,6 +47,12 @@ fn a_name_is_free_once_all_are_released(rt: HostRuntime) {
     given_back::<Single, HostRuntime>(&rt, rt.alloc());
 }
 
+// A key that is added twice is refused, also where the name is free.
+fn is_corrupted<P: Policy, R: Wait + Abort>(rt: &R, alloc: Global, node: &Node) {
+    let twice = twice_creator::<P, R>(rt, alloc, node).create(rt).err();
+    assert_eq!(rt; twice, Some(BlackboardCreateError::ServiceInCorruptedState));
+}
+
 // A board without any port, made and opened, as a reader and a writer of it were given up.
 fn made_and_opened<P: Policy, R: Wait + Abort>(rt: &R, alloc: Global, node: &Node) {
     let made = second_creator::<P, R>(rt, alloc, node).create(rt);
@@ -62,6 +68,7 @@ fn made_and_opened<P: Policy, R: Wait + Abort>(rt: &R, alloc: Global, node: &Nod
 fn made_again<P: Policy, R: Wait + Abort>(rt: &R, alloc: Global) {
     let domain = new_domain(rt, alloc);
     let node = new_node(rt, &domain, "one");
+    is_corrupted::<P, R>(rt, alloc, &node);
     made_and_opened::<P, R>(rt, alloc, &node);
     let again = second_creator::<P, R>(rt, alloc, &node).create(rt);
     let again = again.expect(rt, "a name that nothing keeps");
@@ -96,10 +103,23 @@ fn is_taken_in<P: Policy, R: Abort>(rt: &R, alloc: Global, state: &mut DomainSta
     assert_eq!(rt; taken, Some(BlackboardCreateError::AlreadyExists));
 }
 
+fn is_corrupted_in<P: Policy, R: Abort>(
+    rt: &R,
+    alloc: Global,
+    state: &mut DomainState,
+    node: &Node,
+) {
+    let twice = twice_creator::<P, R>(rt, alloc, node)
+        .create_in(state)
+        .err();
+    assert_eq!(rt; twice, Some(BlackboardCreateError::ServiceInCorruptedState));
+}
+
 fn given_back_in<P: Policy, R: Abort>(rt: &R, alloc: Global) {
     let mut state = DomainState::new(alloc);
     let domain = new_domain(rt, alloc);
     let node = lent::new_node(rt, &mut state, &domain, "one");
+    is_corrupted_in::<P, R>(rt, alloc, &mut state, &node);
     let (read, write) = handles_alone_in::<P, R>(rt, alloc, &mut state, &node);
     is_taken_in::<P, R>(rt, alloc, &mut state, &node);
     lent::drop_loan(&mut state, write);
