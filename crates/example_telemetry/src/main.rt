@@ -38,16 +38,20 @@ fn make_board<R: Wait>(rt: &R, alloc: Global) -> anyhow::Result<Board> {
     Ok(creator.add(CAR, [0u64; 4])?.create(rt)?)
 }
 
-// What the car writes by, and what each display reads by. The ports aren't wanted any more.
+// What a display reads by, of a reader of its own. The port isn't wanted any more.
+fn take_display<R: Wait>(rt: &R, board: &Board) -> anyhow::Result<Display> {
+    let reader = board.reader_builder()?.create(rt)?;
+    let display = reader.entry::<Wheels, R>(rt, &CAR)?;
+    reader.release(rt);
+    Ok(display)
+}
+
+// What the car writes by, and what each display reads by.
 fn take_handles<R: Wait>(rt: &R, board: &Board) -> anyhow::Result<(Car, Display, Display)> {
     let writer = board.writer_builder()?.create(rt)?;
-    let reader = board.reader_builder()?.create(rt)?;
     let car = writer.entry::<Wheels, R>(rt, &CAR)?;
-    let first = reader.entry::<Wheels, R>(rt, &CAR)?;
-    let second = reader.entry::<Wheels, R>(rt, &CAR)?;
     writer.release(rt);
-    reader.release(rt);
-    Ok((car, first, second))
+    Ok((car, take_display(rt, board)?, take_display(rt, board)?))
 }
 
 // The car goes faster and faster. It tells how many values were published in all.
