@@ -23,6 +23,3 @@ fn main(rt: HostRuntime) -> anyhow::Result<ExitCode> {
     let (mut out, mut notes) = (rt.stdout(), rt.stderr());
     Ok(run_program(&rt, rt.alloc(), &words, &mut out, &mut notes)?.code)
 }
-
-#[cfg(test)]
-mod tests;
