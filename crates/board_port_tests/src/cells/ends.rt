@@ -4,7 +4,7 @@ ghost use Rattle.board_layout.specs.Layout.{IsShape};
 ghost use Rattle.board_model.specs.Tables.{shapes_of};
 ghost use Rattle.board_service.specs.Entries.{as_added};
 
-use board_cells::{BoardCells, ReadEnd};
+use board_cells::BoardCells;
 use board_concepts::AttributeSet;
 use board_model::Limits;
 use board_names::ServiceName;
@@ -43,25 +43,4 @@ pub(super) fn one_cell(alloc: Global, value: u64) -> Result<BoardCells, Fail> {
     }
     let cells = core.release(made.thing);
     Ok(cells.ok_or("the board had no other thing")?)
-}
-
-// What a read end of the entry reads, and whether a second entry has one.
-fn read_beside(alloc: Global, cells: &mut BoardCells) -> Result<(Option<u64>, bool), Fail> {
-    let mut out = vec![in alloc; 0u64; 1]?;
-    let second = cells.read_end(1)?.is_some();
-    let Some(ReadEnd { cell, mut pass }) = cells.read_end(0)? else {
-        return Ok((None, second));
-    };
-    if cell.words() == 1 && cell.try_get(&mut pass, 1, &mut out).is_ok() {
-        return Ok((Some(out[0]), second));
-    }
-    Ok((None, second))
-}
-
-#[test]
-fn a_read_end_reads_the_first_value(rt: HostRuntime) -> Result<(), Fail> {
-    let alloc = rt.alloc();
-    let mut cells = one_cell(alloc, 7)?;
-    assert_eq!(rt; read_beside(alloc, &mut cells)?, (Some(7), false));
-    Ok(())
 }
