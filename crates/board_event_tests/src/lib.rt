@@ -1,8 +1,5 @@
-//! The tests of events by their public names alone: the calls on a table of events as rows of steps, and the ends of events,
-//! by typed calls, by lent forms, and in two threads.
+//! The tests of the table of events by its public names alone: the calls on it as rows of steps.
 #![tactic(auto)]
 
-#[cfg(test)]
-mod ends;
 #[cfg(test)]
 mod table;

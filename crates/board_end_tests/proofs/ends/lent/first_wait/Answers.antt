@@ -4,7 +4,7 @@ use Rattle.board_names.specs.Concept.{path_of}
 use Rattle.board_event_core.specs.EventTable.{answer_to_listen}
 use Rattle.board_event.specs.Ends.{create_answer}
 use Rattle.board_event.proofs.CallerLemmas.{first_gives_none, max_of}
-use Rattle.board_event_tests.proofs.ends.lent.first_wait.Goals as goal
+use Rattle.board_end_tests.proofs.ends.lent.first_wait.Goals as goal
 
 pub returns-in-Ok-try_wait_one_in : goal.returns-in-Ok-try_wait_one_in
 returns-in-Ok-try_wait_one_in g c =
