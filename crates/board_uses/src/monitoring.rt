@@ -88,14 +88,31 @@ fn a_name_lives_dies_and_goes(rt: HostRuntime) -> Result<(), Fail> {
     goes(&rt, &registry)
 }
 
+// Two names that are held, the second first.
+fn two_names<R: Wait>(
+    rt: &R,
+    alloc: Global,
+    registry: &MonitoringRegistry,
+) -> Result<(Token, Token), Fail> {
+    let second = names(registry)?.token(rt, alloc)?;
+    let first = Builder::new(&FileName::new(b"s")?, registry)?.token(rt, alloc)?;
+    Ok((first, second))
+}
+
+fn lists_both<R: Wait>(rt: &R, alloc: Global, registry: &MonitoringRegistry) -> Result<bool, Fail> {
+    let listed = ProcessLocalMonitoring::list_cfg(rt, alloc, registry, &monitored())?;
+    Ok(
+        listed.len() == 2
+            && listed[0].as_bytes() == b"s".as_slice()
+            && listed[1].as_bytes() == b"t".as_slice(),
+    )
+}
+
 #[test]
 fn names_are_listed(rt: HostRuntime) -> Result<(), Fail> {
     let registry = MonitoringRegistry::new(rt.alloc())?;
-    let _t = names(&registry)?.token(&rt, rt.alloc())?;
-    let _s = Builder::new(&FileName::new(b"s")?, &registry)?.token(&rt, rt.alloc())?;
-    let both = [FileName::new(b"s")?, FileName::new(b"t")?];
-    let listed = ProcessLocalMonitoring::list_cfg(&rt, rt.alloc(), &registry, &monitored())?;
-    assert_eq!(rt; listed.as_slice(), both.as_slice());
+    let _both = two_names(&rt, rt.alloc(), &registry)?;
+    assert!(rt; lists_both(&rt, rt.alloc(), &registry)?);
     Ok(())
 }
 
