@@ -1,11 +1,11 @@
 //! What is listed of a board.
-ghost use Rattle.std.specs.Prelude.{◌≡◌, ◌||◌, ℕ, List, IfOk, OnOk, map};
+ghost use Rattle.std.specs.Prelude.{◌≡◌, ◌||◌, true, ℕ, List, IfOk, OnErr, OnOk, is_some, map};
 ghost use Rattle.std.specs.BTreeSet as set;
 ghost use Rattle.std.specs.Cmp.Lexicographic.{slice_cmp};
 ghost use Rattle.std.specs.Ordering.{nat_cmp};
 ghost use Rattle.std.specs.Str.{bytes_eq};
-ghost use Rattle.board_model.specs.Tables.{holds_at};
-ghost use Rattle.script_parties.specs.BoardNodes.{AreHolders, is_told, node_count, node_party};
+ghost use Rattle.board_model.specs.Tables.{board_at, holds_at};
+ghost use Rattle.script_parties.specs.BoardNodes.{AreHolders, is_told, node_party};
 ghost use Rattle.script_parties.specs.Overview.{key_shown};
 
 use board_model::{KeyType, Keys, Name, Names, key_of};
@@ -27,16 +27,6 @@ pub(crate) fn keys_of(
         keys.push(key_of(key_type, &entry.key))?;
     }
     Ok(Keys::from_vec(keys))
-}
-
-// How many nodes a board has.
-fn node_count<C: BoardWords>(board: u64, core: &DomainCore<C>) -> u64
-    ensures { result ≡ node_count core.now board }
-{
-    match core.use_of(board) {
-        Some(taken) => taken.nodes,
-        None => 0,
-    }
 }
 
 // The party of a node, if there is one.
@@ -66,17 +56,17 @@ fn add_party(party: Option<Name>, parties: &mut BTreeSet<Name>) -> Result<(), Al
     }
 }
 
-// The parties that are nodes of the board.
+// The parties that are the first so many nodes of the board.
 fn parties_of<C: BoardWords>(
     alloc: Global,
     board: u64,
+    count: u64,
     nodes: &IndexSet<Name>,
     core: &DomainCore<C>,
 ) -> Result<BTreeSet<Name>, AllocError>
     ensures { IfOk result (λ parties. (p : List ℕ) → set.contains (slice_cmp nat_cmp) parties p
-        ≡ is_told nodes.now.keys core.now board p (node_count core.now board)) }
+        ≡ is_told nodes.now.keys core.now board p count) }
 {
-    let count = node_count(board, core);
     let mut parties = BTreeSet::new(alloc);
     for index in 0..count {
         add_party(party_of(core.node_at(board, index), nodes), &mut parties)?;
@@ -85,14 +75,21 @@ fn parties_of<C: BoardWords>(
 }
 
 /// The parties that are nodes of the board, in the order of their bytes.
+///
+/// # Errors
+/// `AllocError` where memory is refused, which is taken only for a board that stands.
 pub(crate) fn nodes_at<C: BoardWords>(
     alloc: Global,
     board: u64,
     nodes: &IndexSet<Name>,
     core: &DomainCore<C>,
 ) -> Result<Names, AllocError>
-    ensures { IfOk result (AreHolders nodes.now.keys core.now board) }
+    ensures holders { IfOk result (AreHolders nodes.now.keys core.now board) }
+    ensures memory { OnErr result (is_some (board_at core.now.tables board) ≡ true) }
 {
-    let parties = parties_of(alloc, board, nodes, core)?;
+    let Some(taken) = core.use_of(board) else {
+        return Ok(Names::from_vec(Vec::new(alloc)));
+    };
+    let parties = parties_of(alloc, board, taken.nodes, nodes, core)?;
     Ok(Names::from_vec(parties.iter().copied().collect(alloc)?))
 }

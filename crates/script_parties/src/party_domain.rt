@@ -406,9 +406,11 @@ impl<C: BoardWords + Drop> PartyDomain<C> {
     /// The keys of a board, in the order of adding.
     ///
     /// # Errors
-    /// `AllocError` where memory is refused.
+    /// `AllocError` where memory is refused, which is taken only for a board that stands.
     pub fn keys(&self, board: u64) -> Result<Keys, AllocError>
-        ensures { IfOk result (λ keys. keys ≡ keys_shown (tables.board_at self.now.tables board)) }
+        ensures shown { IfOk result (λ keys. keys ≡ keys_shown
+            (tables.board_at self.now.tables board)) }
+        ensures memory { OnErr result (is_some (tables.board_at self.now.tables board) ≡ true) }
     {
         match (self.core.config_of(board), self.core.entries_of(board)) {
             (Some(config), Some(entries)) => {
@@ -421,9 +423,11 @@ impl<C: BoardWords + Drop> PartyDomain<C> {
     /// The parties with a thing of the board, in the order of their bytes.
     ///
     /// # Errors
-    /// `AllocError` where memory is refused.
+    /// `AllocError` where memory is refused, which is taken only for a board that stands.
     pub fn nodes(&self, board: u64) -> Result<Names, AllocError>
-        ensures { IfOk result (λ names. names ≡ replies.nodes_of board self.now.tables.things) }
+        ensures shown { IfOk result (λ names. names ≡ replies.nodes_of board
+            self.now.tables.things) }
+        ensures memory { OnErr result (is_some (tables.board_at self.now.tables board) ≡ true) }
     {
         self.core.facts();
         nodes_at(self.alloc, board, &self.nodes, &self.core)
