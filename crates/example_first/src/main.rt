@@ -1,15 +1,22 @@
 //! The program of the README, as a newcomer types it in: a writer publishes a value, and a reader sees whether the one that it has is still the last.
 #![tactic(auto)]
 
+use anyhow::Result;
 use gullinsu::prelude::{Domain, Node, NodeName, ServiceName, Shared};
+use gullinsu::service::port_factory::blackboard::PortFactory;
+use std::alloc::Global;
+use std::sync::Wait;
 
-fn main(rt: HostRuntime) -> anyhow::Result<()> {
-    let alloc = rt.alloc();
+fn make_board(rt: &impl Wait, alloc: Global) -> Result<PortFactory<u64, Shared>> {
     let domain = Domain::new(alloc)?;
-    let node = Node::new(&rt, &domain, NodeName::new("car")?)?;
+    let node = Node::new(rt, &domain, NodeName::new("car")?)?;
     let service = node.service_builder(&ServiceName::new("telemetry")?)?;
     let creator = service.blackboard_creator::<u64, Shared>(alloc);
-    let board = creator.add(1, 0u64)?.add(2, true)?.create(&rt)?;
+    Ok(creator.add(1, 0u64)?.add(2, true)?.create(rt)?)
+}
+
+fn main(rt: HostRuntime) -> Result<()> {
+    let board = make_board(&rt, rt.alloc())?;
     let writer = board.writer_builder()?.create(&rt)?;
     let reader = board.reader_builder()?.create(&rt)?;
     let mut speed = writer.entry::<u64, _>(&rt, &1)?;

@@ -1,8 +1,6 @@
-//! A parameter server: a board of three parameters of three types, which a server sets and a client reads.
-//!
-//! The board has the attribute `unit`. A client that needs another unit is refused, and so is one that asks for a
-//! parameter as another type than its own. In iceoryx2 server and client would be processes; they would see the same
-//! answers, and `list_keys` would tell the same keys.
+//! A parameter server: a board of three parameters of three types, which a server sets and a client reads. The board has
+//! the attribute `unit`: a client that needs another is refused, as is one that asks for a parameter as another type. In
+//! iceoryx2 server and client would be processes, with the same answers and keys.
 #![tactic(auto)]
 
 use anyhow::Result;
@@ -91,6 +89,21 @@ fn show<R: Wait + Print>(rt: &R, reader: &Reader<F8, Shared>) -> Result<()> {
     Ok(())
 }
 
+fn exchange<R: Wait + Print>(rt: &R, served: &Board, opened: &Board) -> Result<()> {
+    let reader = opened.reader_builder()?.create(rt)?;
+    let writer = served.writer_builder()?.create(rt)?;
+    show(rt, &reader)?;
+    set(rt, &writer, RATE, 100u64)?;
+    set(rt, &writer, FILTER, true)?;
+    show(rt, &reader)?;
+    if let Err(why) = get::<u32, R>(rt, &reader, RATE) {
+        println!(rt; "rate as u32: {why}")?;
+    }
+    writer.release(rt);
+    reader.release(rt);
+    Ok(())
+}
+
 fn main(rt: HostRuntime) -> Result<()> {
     let domain = Domain::new(rt.alloc())?;
     let served = serve(&rt, rt.alloc(), &domain)?;
@@ -99,17 +112,7 @@ fn main(rt: HostRuntime) -> Result<()> {
     }
     let opened = connect(&rt, rt.alloc(), &domain, "si")?;
     tell_keys(&rt, rt.alloc(), &opened)?;
-    let reader = opened.reader_builder()?.create(&rt)?;
-    let writer = served.writer_builder()?.create(&rt)?;
-    show(&rt, &reader)?;
-    set(&rt, &writer, RATE, 100u64)?;
-    set(&rt, &writer, FILTER, true)?;
-    show(&rt, &reader)?;
-    if let Err(why) = get::<u32, HostRuntime>(&rt, &reader, RATE) {
-        println!(rt; "rate as u32: {why}")?;
-    }
-    writer.release(&rt);
-    reader.release(&rt);
+    exchange(&rt, &served, &opened)?;
     opened.release(&rt);
     served.release(&rt);
     Ok(())
