@@ -5,12 +5,10 @@
 mod bench_error;
 mod block;
 mod done;
-mod rounds;
 mod shared;
 mod solo;
 mod task;
 mod top;
-mod trips;
 mod typed;
 mod widths;
 

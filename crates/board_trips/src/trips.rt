@@ -2,11 +2,12 @@
 ghost use Rattle.std.specs.Prelude.{◌≡◌, IfOk};
 ghost use denote.Param.Send.{IsSync};
 
+use crate::echoes::Echoes;
 use crate::rounds::Rounds;
-use anyhow::{Result, bail};
+use anyhow::Result;
 use board_event::{
     EventListener, EventListenerBuilder, EventNotifier, EventNotifierBuilder, EventRegistry,
-    KindOfEvents, Listener, ListenerBuilder, Notifier, NotifierBuilder, TriggerId,
+    KindOfEvents, ListenerBuilder, NotifierBuilder, TriggerId,
 };
 use board_names::{FileName, NamedConceptBuilder};
 use std::alloc::Global;
@@ -30,10 +31,12 @@ pub struct Trips<K> {
 ///
 /// # Errors
 /// Where a call that makes the event or opens it is refused.
-pub fn ends_of<K: KindOfEvents + Drop, R: Wait>(
+pub(crate) fn ends_of<K: KindOfEvents + Drop, R: Wait>(
     rt: &R,
     alloc: Global,
-) -> Result<(EventListener<K>, EventNotifier<K>)> {
+) -> Result<(EventListener<K>, EventNotifier<K>)>
+    ensures name { IfOk result (λ ends. ends.0.place ≡ ends.1.place) }
+{
     let name = FileName::new(b"bench")?;
     let registry = EventRegistry::<K>::new(alloc)?;
     let listener = EventListenerBuilder::<K>::new(&name, &registry)?.create(rt, alloc)?;
@@ -45,7 +48,7 @@ pub fn ends_of<K: KindOfEvents + Drop, R: Wait>(
 ///
 /// # Errors
 /// Where a notify is refused, or what comes back is no id, or another.
-pub fn send<K: KindOfEvents + Drop, R: Wait>(
+pub(crate) fn send<K: KindOfEvents + Drop, R: Wait>(
     rt: &R,
     there: &EventNotifier<K>,
     back: &EventListener<K>,
@@ -60,29 +63,30 @@ pub fn send<K: KindOfEvents + Drop, R: Wait>(
     Ok(made)
 }
 
-/// Sends back each of so many ids that come.
+/// Sends back each of so many ids that come, and tells how many it sent.
 ///
 /// # Errors
 /// Where a notify is refused, or what comes is no id.
-pub fn echo<K: KindOfEvents + Drop, R: Wait>(
+pub(crate) fn echo<K: KindOfEvents + Drop, R: Wait>(
     rt: &R,
     there: &EventListener<K>,
     back: &EventNotifier<K>,
     count: u64,
-) -> Result<()> {
+) -> Result<Echoes>
+    ensures { IfOk result (λ echoes. echoes ≡ count) }
+{
+    let mut echoes = Echoes::none();
     for _ in 0..count {
-        match there.blocking_wait_one(rt)? {
-            Some(id) => back.notify(rt, id)?,
-            None => bail!("no id came"),
-        }
+        echoes.send_back(rt, there, back)?;
     }
-    Ok(())
+    Ok(echoes)
 }
 
 /// This many round trips of an id between two threads, over two events.
 ///
 /// # Errors
-/// Where a call that makes an event or opens it is refused, or one of the threads is.
+/// Where a call that makes an event or opens it is refused, or one of the threads is. A thread whose other one was refused
+/// between two trips goes on waiting for its id, and then no answer comes.
 pub fn run_trips<K: KindOfEvents + Drop + Send + Sync + 'static, R: Threads + Wait + Sync>(
     rt: &R,
     alloc: Global,
@@ -101,7 +105,7 @@ pub fn run_trips<K: KindOfEvents + Drop + Send + Sync + 'static, R: Threads + Wa
             let made = send(rt, &to_there, &back, count)?;
             Ok(Trips { back, made })
         },
-        move || -> Result<()>
+        move || -> Result<Echoes>
             requires { IsSync R.row }
         { echo(rt, &there, &to_back, count) },
     );

@@ -22,7 +22,7 @@ impl Model for Rounds {
 
 impl Rounds {
     /// No round trip was made.
-    pub fn none() -> Rounds
+    pub(crate) fn none() -> Rounds
         ensures { result ≡ 0 }
     {
         Rounds { made: 0 }
@@ -39,7 +39,7 @@ impl Rounds {
     ///
     /// # Errors
     /// Where the notify is refused, or what comes back is no id, or another.
-    pub fn make<K: KindOfEvents + Drop, R: Wait>(
+    pub(crate) fn make<K: KindOfEvents + Drop, R: Wait>(
         &mut self,
         rt: &R,
         there: &EventNotifier<K>,
