@@ -1,9 +1,9 @@
 //! Round trips of ids between two threads, over two typed events: one thread sends an id and waits until it came back, the
 //! other sends back each that comes. `board_bench` measures them.
 //!
-//! What comes out of a typed event no clause says. So each way is counted where it is made, by a type to which one call
-//! alone adds (`Rounds` there, `Echoes` back), and what these calls send and take is shown by tests. They stand in a crate
-//! of their own, since a crate that has tests is proved twice.
+//! What comes out of a typed event no clause says. So trips are counted where they are made, by a type to which one call
+//! alone adds (`Rounds`, and `Echoes` in the thread that sends back), and what these calls send and take is shown by tests.
+//! The trips have a crate of their own for them, since the functions of a crate that has tests are proved twice.
 #![tactic(auto)]
 
 mod echoes;
