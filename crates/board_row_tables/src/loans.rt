@@ -1,9 +1,8 @@
 //! Loans.
 use crate::openings::{A_LOAN, FOUR_WORDS, FOURTH_WORD_PUT, THREE_WORDS_PUT};
-use crate::row::{PLAIN, Row, all_hold};
-use std::test::Fail;
+use crate::row::{PLAIN, Row};
 
-pub(crate) const ROWS: [Row; 3] = [
+pub const LOANS: &[Row] = &[
     Row {
         name: "a loan forgets its words",
         opening: &[FOUR_WORDS, A_LOAN, THREE_WORDS_PUT],
@@ -73,8 +72,3 @@ pub(crate) const ROWS: [Row; 3] = [
         ..PLAIN
     },
 ];
-
-#[test]
-fn loans_of_a_writer(rt: HostRuntime) -> Result<(), Fail> {
-    all_hold(&rt, rt.alloc(), &ROWS)
-}

@@ -1,16 +1,8 @@
 //! Watchers that open, wait, get and report, and that end.
-use crate::driven::{BOARD, Lines, ONE_ENTRY, Scene};
-use crate::programs::Program;
-use std::alloc::Global;
-use std::process::Abort;
-use std::test::Fail;
-
-fn tells(rt: &impl Abort, alloc: Global, name: &'static str, scenes: &[Scene]) -> Result<(), Fail> {
-    crate::driven::tells(rt, alloc, Program::Watchers, name, scenes)
-}
+use crate::driven::{Lines, Scene};
 
 /// b listens on a set of ids, and a notifies it.
-pub(super) const BITS: Scene = &[Lines::Given(&[
+pub const BITS: Scene = &[Lines::Given(&[
     ("begin b listen e bits ev 63", "ok"),
     ("step b", "table = ok"),
     ("begin a notifier n bits ev", "ok"),
@@ -18,7 +10,7 @@ pub(super) const BITS: Scene = &[Lines::Given(&[
 ])];
 
 /// b listens on a queue of ids whose name is an equals sign, and a notifies it.
-const QUEUE: Scene = &[Lines::Given(&[
+pub const QUEUE: Scene = &[Lines::Given(&[
     ("begin b listen e queue =", "ok"),
     ("step b", "table = ok"),
     ("begin a notifier n queue =", "ok"),
@@ -68,7 +60,7 @@ const GOT: &[(&str, &str)] = &[("step b", "read 1:0 2 = u64:9 gen 2")];
 const SAID: Lines = Lines::Line("turn b", GOT, "report b h u64:9 gen 2");
 
 /// A value that was notified is reported; notified anew it is not.
-pub(super) const REPORTED: Scene = &[
+pub const REPORTED: Scene = &[
     WATCHED,
     UPDATED,
     NOTIFIED,
@@ -82,7 +74,7 @@ pub(super) const REPORTED: Scene = &[
 ];
 
 /// The same value published anew has a generation of its own, and is reported again.
-const SAME_VALUE: Scene = &[
+pub const SAME_VALUE: Scene = &[
     Lines::Given(&[
         ("begin a update m u64:9", "ok"),
         ("step a", "write 1:2 9"),
@@ -106,7 +98,7 @@ const SAME_VALUE: Scene = &[
 ];
 
 /// Lines of a watched party are held back; its abandonment ends its watcher.
-const HELD_BACK: Scene = &[
+pub const HELD_BACK: Scene = &[
     WATCHED,
     Lines::Line("step b", &[], "watched b"),
     Lines::Line("begin b get h", &[], "watched b"),
@@ -127,7 +119,7 @@ const HELD_BACK: Scene = &[
 ];
 
 /// A watched party is left to its watcher until it is abandoned.
-const ENDED: Scene = &[
+pub const ENDED: Scene = &[
     WATCHED,
     Lines::Line("step b", &[], "watched b"),
     Lines::Line("turn c", &[], "unwatched c"),
@@ -136,14 +128,14 @@ const ENDED: Scene = &[
 ];
 
 /// A watcher over a handle that isn't there doesn't begin.
-const NO_HANDLE: Scene = &[Lines::Line(
+pub const NO_HANDLE: Scene = &[Lines::Line(
     "watch b e z",
     &[("begin b id z", "refused unknown")],
     "unwatched b",
 )];
 
 /// A begin that is refused ends the opening.
-const TURNED_DOWN: Scene = &[
+pub const TURNED_DOWN: Scene = &[
     Lines::Line(
         "watch b e h z k",
         &[
@@ -165,7 +157,7 @@ const TURNED_DOWN: Scene = &[
 ];
 
 /// A watcher is abandoned in the midst of a get.
-const CUT: Scene = &[
+pub const CUT: Scene = &[
     WATCHED,
     UPDATED,
     NOTIFIED,
@@ -181,7 +173,7 @@ const CUT: Scene = &[
 ];
 
 /// A wait that takes no id is followed by the next one.
-const NOTHING: Scene = &[
+pub const NOTHING: Scene = &[
     WATCHED,
     Lines::Turns(
         "turn b",
@@ -195,7 +187,7 @@ const NOTHING: Scene = &[
 ];
 
 /// A listener that is none is looked at in the first turn.
-const NO_LISTENER: Scene = &[
+pub const NO_LISTENER: Scene = &[
     Lines::Line("watch b x h", H_IS_0, "watching b"),
     Lines::Line(
         "turn b",
@@ -206,7 +198,7 @@ const NO_LISTENER: Scene = &[
 ];
 
 /// Two handles, one named twice: each is got once, in the line's order, and an id of none is passed over.
-const TWO_HANDLES: Scene = &[
+pub const TWO_HANDLES: Scene = &[
     Lines::Line(
         "watch b e h k h",
         &[
@@ -272,7 +264,7 @@ const TWO_HANDLES: Scene = &[
 ];
 
 /// A reader has an id too, and a get through it is refused.
-const A_READER: Scene = &[
+pub const A_READER: Scene = &[
     Lines::Line(
         "watch b e r",
         &[("begin b id r", "ok"), ("step b", "table = id 2")],
@@ -296,35 +288,3 @@ const A_READER: Scene = &[
         "unwatched b",
     ),
 ];
-
-#[test]
-fn what_was_notified_is_reported(rt: HostRuntime) -> Result<(), Fail> {
-    let alloc = rt.alloc();
-    tells(&rt, alloc, "reported", &[BOARD, BITS, REPORTED])?;
-    tells(&rt, alloc, "anew", &[BOARD, BITS, REPORTED, SAME_VALUE])?;
-    tells(&rt, alloc, "nothing", &[BOARD, BITS, NOTHING])?;
-    tells(&rt, alloc, "two handles", &[BOARD, QUEUE, TWO_HANDLES])
-}
-
-#[test]
-fn one_entry_is_watched(rt: HostRuntime) -> Result<(), Fail> {
-    let alloc = rt.alloc();
-    tells(&rt, alloc, "one entry", &[ONE_ENTRY, BITS, REPORTED])?;
-    tells(&rt, alloc, "ended", &[ONE_ENTRY, BITS, ENDED])?;
-    tells(&rt, alloc, "no handle", &[ONE_ENTRY, BITS, NO_HANDLE])
-}
-
-#[test]
-fn watchers_end(rt: HostRuntime) -> Result<(), Fail> {
-    let alloc = rt.alloc();
-    tells(&rt, alloc, "held back", &[BOARD, BITS, HELD_BACK])?;
-    tells(
-        &rt,
-        alloc,
-        "turned down",
-        &[BOARD, BITS, NO_HANDLE, TURNED_DOWN],
-    )?;
-    tells(&rt, alloc, "cut", &[BOARD, BITS, CUT])?;
-    tells(&rt, alloc, "no listener", &[BOARD, BITS, NO_LISTENER])?;
-    tells(&rt, alloc, "a reader", &[BOARD, QUEUE, A_READER])
-}

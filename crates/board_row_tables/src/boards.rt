@@ -1,9 +1,8 @@
 //! Boards, and a writer without readers.
-use crate::row::{PLAIN, Row, all_hold};
-use std::test::Fail;
+use crate::row::{PLAIN, Row};
 
 /// `a` makes a board, updates its second entry, and is told how far that one is.
-pub(crate) const FIRST_RUN: Row = Row {
+pub const FIRST_RUN: Row = Row {
     name: "the first run",
     lines: &[
         (
@@ -27,7 +26,7 @@ pub(crate) const FIRST_RUN: Row = Row {
     ..PLAIN
 };
 
-const ROWS: [Row; 4] = [
+pub const BOARDS: &[Row] = &[
     FIRST_RUN,
     Row {
         name: "the empty script",
@@ -57,8 +56,3 @@ const ROWS: [Row; 4] = [
         ..PLAIN
     },
 ];
-
-#[test]
-fn boards_without_readers(rt: HostRuntime) -> Result<(), Fail> {
-    all_hold(&rt, rt.alloc(), &ROWS)
-}

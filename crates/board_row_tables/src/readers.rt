@@ -3,8 +3,7 @@ use crate::openings::{
     FOUR_WORDS, FOUR_WORDS_GOT, IT_IS_THE_WRITER, IT_WRITES, ONE_NUMBER, ONE_PARTY_READS,
     WRITTEN_AND_READ,
 };
-use crate::row::{PLAIN, Part, Row, all_hold};
-use std::test::Fail;
+use crate::row::{PLAIN, Part, Row};
 
 // `a` is abandoned when it has written half of an update.
 const AN_UPDATE_LEFT: Part = &[
@@ -14,7 +13,7 @@ const AN_UPDATE_LEFT: Part = &[
     ("abandon a", "gone"),
 ];
 
-pub(crate) const ROWS: [Row; 8] = [
+pub const READERS: &[Row] = &[
     Row {
         name: "a board of a bool and a number",
         lines: &[
@@ -133,8 +132,3 @@ pub(crate) const ROWS: [Row; 8] = [
         ..PLAIN
     },
 ];
-
-#[test]
-fn readers_beside_a_writer(rt: HostRuntime) -> Result<(), Fail> {
-    all_hold(&rt, rt.alloc(), &ROWS)
-}

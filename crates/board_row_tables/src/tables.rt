@@ -1,7 +1,6 @@
 //! The tables of boards: who may make, open and hold what, and how long it stands.
 use crate::openings::{ONE_NUMBER, WRITTEN_AND_READ};
-use crate::row::{PLAIN, Part, Row, all_hold};
-use std::test::Fail;
+use crate::row::{PLAIN, Part, Row};
 
 // A board with two keys that differ only in case isn't made.
 const KEYS_UP_TO_CASE: Part = &[
@@ -64,7 +63,7 @@ const TWO_SLOTS: Part = &[
     ("step a", "table = ok 1"),
 ];
 
-const ROWS: [Row; 13] = [
+pub const TABLES: &[Row] = &[
     Row {
         name: "a name that stands",
         opening: &[ONE_NUMBER, WRITTEN_AND_READ],
@@ -315,8 +314,3 @@ const ROWS: [Row; 13] = [
         ..PLAIN
     },
 ];
-
-#[test]
-fn tables_of_boards(rt: HostRuntime) -> Result<(), Fail> {
-    all_hold(&rt, rt.alloc(), &ROWS)
-}
