@@ -2,6 +2,7 @@
 ghost use Rattle.std.specs.Prelude.{IsOkUnless, IsTrue};
 ghost use Rattle.board_names.specs.declared.errors.communication_channel.CommunicationChannelCreateError.TheVariants.{OutOfMemory};
 
+use crate::same::same;
 use board_channel::{
     Channel, ChannelRegistry, Channels, CommunicationChannel, CommunicationChannelConnector,
     CommunicationChannelCreator, CommunicationChannelParticipant, CommunicationChannelReceiver,
@@ -30,8 +31,20 @@ fn channels() -> Configuration {
 }
 
 fn fills<R: Wait + Abort>(rt: &R, sender: &Duplex) {
-    assert_eq!(rt; sender.send(rt, &1), Ok(None));
-    assert_eq!(rt; sender.try_send(rt, &2), Ok(None));
+    same(rt, &sender.send(rt, &1), &Ok(None));
+    same(rt, &sender.try_send(rt, &2), &Ok(None));
+}
+
+// It has two numbers and no room for a third.
+fn is_full<R: Wait + Abort>(rt: &R, sender: &Duplex, receiver: &Duplex) {
+    same(
+        rt,
+        &sender.send(rt, &3),
+        &Err(CommunicationChannelSendError::ReceiverCacheIsFull),
+    );
+    same(rt, &receiver.receive(rt), &Ok(Some(1)));
+    same(rt, &receiver.receive(rt), &Ok(Some(2)));
+    same(rt, &receiver.receive(rt), &Ok(None));
 }
 
 fn refuses<R: Wait + Abort>(rt: &R, alloc: Global, registry: &ChannelRegistry) -> Result<(), Fail> {
@@ -40,14 +53,31 @@ fn refuses<R: Wait + Abort>(rt: &R, alloc: Global, registry: &ChannelRegistry) -
     assert!(rt; !receiver.does_enable_safe_overflow());
     let sender = connector(b"c", registry)?.open_sender(rt)?;
     fills(rt, &sender);
-    assert_eq!(rt;
-        sender.send(rt, &3),
-        Err(CommunicationChannelSendError::ReceiverCacheIsFull)
-    );
-    assert_eq!(rt; receiver.receive(rt), Ok(Some(1)));
-    assert_eq!(rt; receiver.receive(rt), Ok(Some(2)));
-    assert_eq!(rt; receiver.receive(rt), Ok(None));
+    is_full(rt, &sender, &receiver);
     Ok(())
+}
+
+// Nothing is opened under the name.
+fn is_not_opened<R: Wait + Abort>(
+    rt: &R,
+    value: &[u8],
+    registry: &ChannelRegistry,
+) -> Result<(), Fail> {
+    let opened = connector(value, registry)?.open_sender(rt);
+    same(
+        rt,
+        &opened.err(),
+        &Some(CommunicationChannelOpenError::DoesNotExist),
+    );
+    Ok(())
+}
+
+// It has two numbers, and a third takes the place of the first.
+fn takes_more<R: Wait + Abort>(rt: &R, sender: &Duplex) {
+    assert!(rt; sender.does_enable_safe_overflow());
+    fills(rt, sender);
+    same(rt, &sender.send(rt, &3), &Ok(Some(1)));
+    assert!(rt; is_taken(rt, sender, 4));
 }
 
 fn overflows<R: Wait + Abort>(
@@ -58,19 +88,11 @@ fn overflows<R: Wait + Abort>(
     let creator = creator(b"d", registry)?.buffer_size(2);
     let receiver = creator.enable_safe_overflow().create_receiver(rt, alloc)?;
     let sender = connector(b"d", registry)?.try_open_sender(rt)?;
-    assert!(rt; sender.does_enable_safe_overflow());
-    fills(rt, &sender);
-    assert_eq!(rt; sender.send(rt, &3), Ok(Some(1)));
-    assert!(rt; is_taken(rt, &sender, 4));
+    takes_more(rt, &sender);
     // Both ends go on without the name.
     receiver.release(rt);
-    assert_eq!(rt; sender.receive(rt), Ok(Some(3)));
-    let late = connector(b"d", registry)?.open_sender(rt);
-    assert_eq!(rt;
-        late.err(),
-        Some(CommunicationChannelOpenError::DoesNotExist)
-    );
-    Ok(())
+    same(rt, &sender.receive(rt), &Ok(Some(3)));
+    is_not_opened(rt, b"d", registry)
 }
 
 // A caller's proof over the trait alone: a channel that overflows takes each number.
@@ -80,6 +102,21 @@ fn is_taken<R: Wait, S: CommunicationChannelSender>(rt: &R, sender: &S, value: u
     sender.send(rt, &value).is_ok()
 }
 
+fn is_not_made<R: Wait + Abort>(
+    rt: &R,
+    alloc: Global,
+    value: &[u8],
+    registry: &ChannelRegistry,
+) -> Result<(), Fail> {
+    let again = creator(value, registry)?.create_receiver(rt, alloc);
+    same(
+        rt,
+        &again.err(),
+        &Some(CommunicationChannelCreateError::AlreadyExists),
+    );
+    Ok(())
+}
+
 fn is_made_once<R: Wait + Abort>(
     rt: &R,
     alloc: Global,
@@ -87,19 +124,10 @@ fn is_made_once<R: Wait + Abort>(
 ) -> Result<(), Fail> {
     let creator_of_one = creator(b"e", registry)?.buffer_size(0);
     let receiver = creator_of_one.create_receiver(rt, alloc)?;
-    assert_eq!(rt; receiver.buffer_size(), 1);
+    same(rt, &receiver.buffer_size(), &1);
     let shared = registry.share()?;
-    let again = creator(b"e", &shared)?.create_receiver(rt, alloc);
-    assert_eq!(rt;
-        again.err(),
-        Some(CommunicationChannelCreateError::AlreadyExists)
-    );
-    let absent = connector(b"f", &shared)?.open_sender(rt);
-    assert_eq!(rt;
-        absent.err(),
-        Some(CommunicationChannelOpenError::DoesNotExist)
-    );
-    Ok(())
+    is_not_made(rt, alloc, b"e", &shared)?;
+    is_not_opened(rt, b"f", &shared)
 }
 
 #[test]
@@ -119,20 +147,22 @@ fn a_lent_queue_overflows(rt: HostRuntime) -> Result<(), Fail> {
     let end = creator(b"c", &registry)?.create_receiver_in(&mut state, rt.alloc())?;
     let mut queue = Queue::new(rt.alloc(), 1, true)?;
     assert!(rt; queue.overflows());
-    assert_eq!(rt; end.send_in(&mut queue, &1), Ok(None));
-    assert_eq!(rt; end.try_send_in(&mut queue, &2), Ok(Some(1)));
-    assert_eq!(rt; end.receive_in(&mut queue), Ok(Some(2)));
+    same(&rt, &end.send_in(&mut queue, &1), &Ok(None));
+    same(&rt, &end.try_send_in(&mut queue, &2), &Ok(Some(1)));
+    same(&rt, &end.receive_in(&mut queue), &Ok(Some(2)));
     end.release_in(&mut state);
     Ok(())
 }
 
-fn lists_both<R: Wait>(rt: &R, alloc: Global, registry: &ChannelRegistry) -> Result<bool, Fail> {
+fn lists_both<R: Wait + Abort>(
+    rt: &R,
+    alloc: Global,
+    registry: &ChannelRegistry,
+) -> Result<(), Fail> {
+    let both = [FileName::new(b"c")?, FileName::new(b"d")?];
     let names = Channel::list_cfg(rt, alloc, registry, &channels())?;
-    Ok(
-        names.len() == 2
-            && names[0].as_bytes() == b"c".as_slice()
-            && names[1].as_bytes() == b"d".as_slice(),
-    )
+    same(rt, &names.as_slice(), &both.as_slice());
+    Ok(())
 }
 
 #[test]
@@ -140,9 +170,8 @@ fn channels_are_listed(rt: HostRuntime) -> Result<(), Fail> {
     let registry = ChannelRegistry::new(rt.alloc())?;
     let _second = creator(b"d", &registry)?.create_receiver(&rt, rt.alloc())?;
     let first = creator(b"c", &registry)?.create_receiver(&rt, rt.alloc())?;
-    assert_eq!(rt; first.buffer_size(), 8);
-    assert!(rt; lists_both(&rt, rt.alloc(), &registry)?);
-    Ok(())
+    same(&rt, &first.buffer_size(), &8);
+    lists_both(&rt, rt.alloc(), &registry)
 }
 
 // A caller's proof over channels that were lent, whoever made them: a removed name can be taken, want of memory aside.

@@ -1,4 +1,5 @@
 //! Channels: what is sent to one is received from it, and a name that only pretends to be gone is found.
+use crate::same::same;
 use board_channel::{
     Channel, ChannelRegistry, Channels, CommunicationChannel, CommunicationChannelConnector,
     CommunicationChannelCreator, CommunicationChannelParticipant, CommunicationChannelReceiver,
@@ -20,16 +21,17 @@ fn carries<R: Wait + Abort, T: CommunicationChannelReceiver, S: CommunicationCha
     sender: &S,
     other: &S,
 ) {
-    assert_eq!(rt;
-        (sender.send(rt, &7), other.send(rt, &8)),
-        (Ok(None), Ok(None))
+    same(
+        rt,
+        &(sender.send(rt, &7), other.send(rt, &8)),
+        &(Ok(None), Ok(None)),
     );
     let tried = (sender.try_send(rt, &9), other.try_send(rt, &10));
-    assert_eq!(rt; tried, (Ok(None), Ok(None)));
+    same(rt, &tried, &(Ok(None), Ok(None)));
     for sent in [7, 8, 9, 10] {
-        assert_eq!(rt; receiver.receive(rt), Ok(Some(sent)));
+        same(rt, &receiver.receive(rt), &Ok(Some(sent)));
     }
-    assert_eq!(rt; receiver.receive(rt), Ok(None));
+    same(rt, &receiver.receive(rt), &Ok(None));
 }
 
 // What senders of the name send goes to its receiver, and not to the stranger.
@@ -45,7 +47,7 @@ where
     let sender = C::Connector::new(name, registry)?.open_sender(rt)?;
     let other = C::Connector::new(name, registry)?.try_open_sender(rt)?;
     carries(rt, receiver, &sender, &other);
-    assert_eq!(rt; stranger.receive(rt), Ok(None));
+    same(rt, &stranger.receive(rt), &Ok(None));
     Ok(())
 }
 
@@ -66,33 +68,43 @@ where
     leads_to_its_channel::<_, C>(rt, registry, d, (&at_d, &at_c))
 }
 
-// A name is there until it is removed, once, and then nobody opens it. Another name stays.
+// A name is there until it is removed, once. Another name stays.
 fn is_removed<R: Wait + Abort, C: CommunicationChannel>(
     rt: &R,
     registry: &C::Registry,
     (name, stranger): (&FileName, &FileName),
-) -> Result<(), Fail>
-where
-    C::Sender: Drop,
-{
+) {
     let config = Configuration::with_suffix(&C::default_suffix());
     let before = C::does_exist_cfg(rt, registry, name, &config);
     let first = C::remove_cfg(rt, registry, name, &config);
     let second = C::remove_cfg(rt, registry, name, &config);
     let after = C::does_exist_cfg(rt, registry, name, &config);
-    assert_eq!(rt; (before, after), (Ok(true), Ok(false)));
-    assert_eq!(rt; (first, second), (Ok(true), Ok(false)));
+    same(rt, &(before, after), &(Ok(true), Ok(false)));
+    same(rt, &(first, second), &(Ok(true), Ok(false)));
     let held = C::does_exist_cfg(rt, registry, stranger, &config);
-    assert_eq!(rt; held, Ok(true));
+    same(rt, &held, &Ok(true));
+}
+
+// No sender of the name is opened, in either way.
+fn is_not_opened<R: Wait + Abort, C: CommunicationChannel>(
+    rt: &R,
+    registry: &C::Registry,
+    name: &FileName,
+) -> Result<(), Fail>
+where
+    C::Sender: Drop,
+{
     let opened = C::Connector::new(name, registry)?.open_sender(rt);
-    assert_eq!(rt;
-        opened.err(),
-        Some(CommunicationChannelOpenError::DoesNotExist)
+    same(
+        rt,
+        &opened.err(),
+        &Some(CommunicationChannelOpenError::DoesNotExist),
     );
     let tried = C::Connector::new(name, registry)?.try_open_sender(rt);
-    assert_eq!(rt;
-        tried.err(),
-        Some(CommunicationChannelOpenError::DoesNotExist)
+    same(
+        rt,
+        &tried.err(),
+        &Some(CommunicationChannelOpenError::DoesNotExist),
     );
     Ok(())
 }
@@ -102,7 +114,8 @@ fn any_channel_is_used_by_the_traits(rt: HostRuntime) -> Result<(), Fail> {
     let registry = ChannelRegistry::new(rt.alloc())?;
     let (c, d) = (FileName::new(b"c")?, FileName::new(b"d")?);
     lead_to_their_channels::<_, Channel>(&rt, rt.alloc(), &registry, (&c, &d))?;
-    is_removed::<_, Channel>(&rt, &registry, (&c, &d))
+    is_removed::<_, Channel>(&rt, &registry, (&c, &d));
+    is_not_opened::<_, Channel>(&rt, &registry, &c)
 }
 
 // Which of the two names are there.
@@ -115,19 +128,25 @@ fn held<R: Wait>(
     [name, stranger].map(|one| Channel::does_exist_cfg(rt, registry, one, &config))
 }
 
+// A sender is opened in each way, and both are let go.
+fn senders_go<R: Wait>(rt: &R, registry: &ChannelRegistry, name: &FileName) -> Result<(), Fail> {
+    let sender = Connector::new(name, registry)?.open_sender(rt)?;
+    let other = Connector::new(name, registry)?.try_open_sender(rt)?;
+    sender.release(rt);
+    other.release(rt);
+    Ok(())
+}
+
 #[test]
 fn a_name_goes_with_its_receiver_alone(rt: HostRuntime) -> Result<(), Fail> {
     let registry = ChannelRegistry::new(rt.alloc())?;
     let (c, d) = (FileName::new(b"c")?, FileName::new(b"d")?);
     let receiver = Creator::new(&c, &registry)?.create_receiver(&rt, rt.alloc())?;
     let _stranger = Creator::new(&d, &registry)?.create_receiver(&rt, rt.alloc())?;
-    let sender = Connector::new(&c, &registry)?.open_sender(&rt)?;
-    let other = Connector::new(&c, &registry)?.try_open_sender(&rt)?;
-    sender.release(&rt);
-    other.release(&rt);
-    assert_eq!(rt; held(&rt, &registry, (&c, &d)), [Ok(true), Ok(true)]);
+    senders_go(&rt, &registry, &c)?;
+    same(&rt, &held(&rt, &registry, (&c, &d)), &[Ok(true), Ok(true)]);
     receiver.release(&rt);
-    assert_eq!(rt; held(&rt, &registry, (&c, &d)), [Ok(false), Ok(true)]);
+    same(&rt, &held(&rt, &registry, (&c, &d)), &[Ok(false), Ok(true)]);
     Ok(())
 }
 

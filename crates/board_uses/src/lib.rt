@@ -8,3 +8,5 @@ mod channel;
 mod channels;
 #[cfg(test)]
 mod monitoring;
+#[cfg(test)]
+mod same;

@@ -2,6 +2,7 @@
 ghost use Rattle.std.specs.Prelude.{IsOkUnless};
 ghost use Rattle.board_names.specs.declared.errors.monitoring.MonitoringCreateTokenError.TheVariants.{OutOfMemory};
 
+use crate::same::same;
 use board_monitoring::{
     Builder, Cleaner, Monitor, Monitoring, MonitoringBuilder, MonitoringCleaner, MonitoringMonitor,
     MonitoringRegistry, MonitoringToken, Monitors, ProcessLocalMonitoring, State, Token,
@@ -29,7 +30,7 @@ fn is_listed<R: Wait + Abort>(
     registry: &MonitoringRegistry,
 ) -> Result<(), Fail> {
     let listed = ProcessLocalMonitoring::list_cfg(rt, alloc, registry, &monitored())?;
-    assert_eq!(rt; listed.as_slice(), [FileName::new(b"t")?].as_slice());
+    same(rt, &listed.as_slice(), &[FileName::new(b"t")?].as_slice());
     Ok(())
 }
 
@@ -39,28 +40,42 @@ fn lives<R: Wait + Abort>(
     registry: &MonitoringRegistry,
 ) -> Result<(), Fail> {
     let again = names(registry)?.token(rt, alloc);
-    assert_eq!(rt;
-        again.err(),
-        Some(MonitoringCreateTokenError::AlreadyExists)
+    same(
+        rt,
+        &again.err(),
+        &Some(MonitoringCreateTokenError::AlreadyExists),
     );
     let early = names(registry)?.cleaner(rt);
-    assert_eq!(rt;
-        early.err(),
-        Some(MonitoringCreateCleanerError::InstanceStillAlive)
+    same(
+        rt,
+        &early.err(),
+        &Some(MonitoringCreateCleanerError::InstanceStillAlive),
     );
+    Ok(())
+}
+
+// The name has a cleaner, and gets no second one.
+fn is_owned<R: Wait + Abort>(rt: &R, registry: &MonitoringRegistry) -> Result<(), Fail> {
+    let second = names(registry)?.cleaner(rt);
+    same(
+        rt,
+        &second.err(),
+        &Some(MonitoringCreateCleanerError::AlreadyOwnedByAnotherInstance),
+    );
+    Ok(())
+}
+
+fn is_dead<R: Wait + Abort>(rt: &R, registry: &MonitoringRegistry) -> Result<(), Fail> {
+    same(rt, &names(registry)?.monitor()?.state(rt), &Ok(State::Dead));
     Ok(())
 }
 
 fn dies<R: Wait + Abort>(rt: &R, registry: &MonitoringRegistry) -> Result<(), Fail> {
     let t = FileName::new(b"t")?;
-    assert_eq!(rt; *names(registry)?.monitor()?.name(), t);
+    same(rt, names(registry)?.monitor()?.name(), &t);
     let cleaner = names(registry)?.cleaner(rt)?;
-    let second = names(registry)?.cleaner(rt);
-    assert_eq!(rt;
-        second.err(),
-        Some(MonitoringCreateCleanerError::AlreadyOwnedByAnotherInstance)
-    );
-    assert_eq!(rt; names(registry)?.monitor()?.state(rt), Ok(State::Dead));
+    is_owned(rt, registry)?;
+    is_dead(rt, registry)?;
     cleaner.relinquish(rt);
     Ok(())
 }
@@ -68,9 +83,10 @@ fn dies<R: Wait + Abort>(rt: &R, registry: &MonitoringRegistry) -> Result<(), Fa
 fn goes<R: Wait + Abort>(rt: &R, registry: &MonitoringRegistry) -> Result<(), Fail> {
     names(registry)?.cleaner(rt)?.release(rt);
     let late = names(registry)?.cleaner(rt);
-    assert_eq!(rt;
-        late.err(),
-        Some(MonitoringCreateCleanerError::DoesNotExist)
+    same(
+        rt,
+        &late.err(),
+        &Some(MonitoringCreateCleanerError::DoesNotExist),
     );
     Ok(())
 }
@@ -79,7 +95,7 @@ fn goes<R: Wait + Abort>(rt: &R, registry: &MonitoringRegistry) -> Result<(), Fa
 fn a_name_lives_dies_and_goes(rt: HostRuntime) -> Result<(), Fail> {
     let registry = MonitoringRegistry::new(rt.alloc())?;
     let token = names(&registry)?.token(&rt, rt.alloc())?;
-    assert_eq!(rt; *token.name(), FileName::new(b"t")?);
+    same(&rt, token.name(), &FileName::new(b"t")?);
     is_listed(&rt, rt.alloc(), &registry)?;
     is_listed(&rt, rt.alloc(), &registry.share()?)?;
     lives(&rt, rt.alloc(), &registry)?;
@@ -99,20 +115,35 @@ fn two_names<R: Wait>(
     Ok((first, second))
 }
 
-fn lists_both<R: Wait>(rt: &R, alloc: Global, registry: &MonitoringRegistry) -> Result<bool, Fail> {
+fn lists_both<R: Wait + Abort>(
+    rt: &R,
+    alloc: Global,
+    registry: &MonitoringRegistry,
+) -> Result<(), Fail> {
+    let both = [FileName::new(b"s")?, FileName::new(b"t")?];
     let listed = ProcessLocalMonitoring::list_cfg(rt, alloc, registry, &monitored())?;
-    Ok(
-        listed.len() == 2
-            && listed[0].as_bytes() == b"s".as_slice()
-            && listed[1].as_bytes() == b"t".as_slice(),
-    )
+    same(rt, &listed.as_slice(), &both.as_slice());
+    Ok(())
 }
 
 #[test]
 fn names_are_listed(rt: HostRuntime) -> Result<(), Fail> {
     let registry = MonitoringRegistry::new(rt.alloc())?;
     let _both = two_names(&rt, rt.alloc(), &registry)?;
-    assert!(rt; lists_both(&rt, rt.alloc(), &registry)?);
+    lists_both(&rt, rt.alloc(), &registry)
+}
+
+// The one name of a lent table is listed, and then it is left.
+fn is_left<R: Abort>(
+    rt: &R,
+    alloc: Global,
+    registry: &MonitoringRegistry,
+    state: &mut Monitors,
+) -> Result<(), Fail> {
+    let token = names(registry)?.token_in(state, alloc)?;
+    let listed = ProcessLocalMonitoring::list_cfg_in(state, alloc, &monitored())?;
+    same(rt, &listed.as_slice(), &[FileName::new(b"t")?].as_slice());
+    token.abandon_in(state);
     Ok(())
 }
 
@@ -120,17 +151,14 @@ fn names_are_listed(rt: HostRuntime) -> Result<(), Fail> {
 fn a_name_is_taken_when_lent(rt: HostRuntime) -> Result<(), Fail> {
     let registry = MonitoringRegistry::new(rt.alloc())?;
     let mut state = Monitors::new(rt.alloc());
-    let token = names(&registry)?.token_in(&mut state, rt.alloc())?;
-    let listed = ProcessLocalMonitoring::list_cfg_in(&mut state, rt.alloc(), &monitored())?;
-    assert_eq!(rt; listed.as_slice(), [FileName::new(b"t")?].as_slice());
-    token.abandon_in(&mut state);
+    is_left(&rt, rt.alloc(), &registry, &mut state)?;
     names(&registry)?
         .cleaner_in(&mut state)?
         .relinquish_in(&mut state);
     names(&registry)?
         .cleaner_in(&mut state)?
         .release_in(&mut state);
-    assert_eq!(rt; state.name_at(0), None);
+    same(&rt, &state.name_at(0), &None);
     Ok(())
 }
 
@@ -149,9 +177,10 @@ where
     let monitor = M::Builder::new(name, registry)?.monitor()?;
     let alive = monitor.state(rt);
     token.release(rt);
-    assert_eq!(rt;
-        (alive, monitor.state(rt)),
-        (Ok(State::Alive), Ok(State::DoesNotExist))
+    same(
+        rt,
+        &(alive, monitor.state(rt)),
+        &(Ok(State::Alive), Ok(State::DoesNotExist)),
     );
     Ok(())
 }
@@ -172,7 +201,7 @@ where
     let cleaner = M::Builder::new(name, registry)?.cleaner(rt)?;
     cleaner.relinquish(rt);
     let monitor = M::Builder::new(name, registry)?.monitor()?;
-    assert_eq!(rt; monitor.state(rt), Ok(State::Dead));
+    same(rt, &monitor.state(rt), &Ok(State::Dead));
     Ok(())
 }
 
@@ -188,7 +217,7 @@ where
     let cleaner = M::Builder::new(name, registry)?.cleaner(rt)?;
     cleaner.release(rt);
     let monitor = M::Builder::new(name, registry)?.monitor()?;
-    assert_eq!(rt; monitor.state(rt), Ok(State::DoesNotExist));
+    same(rt, &monitor.state(rt), &Ok(State::DoesNotExist));
     Ok(())
 }
 
@@ -209,15 +238,15 @@ where
     let second = M::remove_cfg(rt, registry, name, &config);
     token.abandon(rt);
     let after = M::does_exist_cfg(rt, registry, name, &config);
-    assert_eq!(rt; (before, after), (Ok(true), Ok(false)));
-    assert_eq!(rt; (first, second), (Ok(true), Ok(false)));
+    same(rt, &(before, after), &(Ok(true), Ok(false)));
+    same(rt, &(first, second), &(Ok(true), Ok(false)));
     Ok(())
 }
 
 // The token of another name is left alone.
 fn stays_alive<R: Wait + Abort>(rt: &R, registry: &MonitoringRegistry) -> Result<(), Fail> {
     let monitor = Builder::new(&FileName::new(b"u")?, registry)?.monitor()?;
-    assert_eq!(rt; monitor.state(rt), Ok(State::Alive));
+    same(rt, &monitor.state(rt), &Ok(State::Alive));
     Ok(())
 }
 
