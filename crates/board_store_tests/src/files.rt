@@ -1,6 +1,7 @@
 //! Storages over files in memory: each failing call and short write in turn, and stopped after each change.
 ghost use Rattle.std.specs.Prelude.{◌≡◌, [], IsOk};
 
+use crate::same::same;
 use board_files::{
     Configuration, FileName, FilePath, FileStorage, Files, FilesError, LifeError, MemoryFiles,
     NamedConceptConfiguration, NamedConceptListError, NamedConceptRemoveError,
@@ -43,6 +44,22 @@ fn removed(files: &mut MemoryFiles) -> Result<Result<bool, NamedConceptRemoveErr
     Ok(FileStorage::remove(files, &usual(), &name))
 }
 
+fn is_not_final<R: Abort>(rt: &R, files: &mut MemoryFiles) -> Result<(), Fail> {
+    let early = Err(StaticStorageOpenError::InitializationNotYetFinalized);
+    same(rt, &opened(files)?, &early);
+    Ok(())
+}
+
+fn is_removed_unlisted<R: Abort>(
+    rt: &R,
+    alloc: Global,
+    files: &mut MemoryFiles,
+) -> Result<(), Fail> {
+    assert!(rt; listed(files, alloc)?.is_empty());
+    same(rt, &removed(files)?, &Ok(true));
+    Ok(())
+}
+
 // The write of the three bytes takes this many. The file isn't final then, wherever it is stopped.
 fn is_written_short<R: Abort>(rt: &R, alloc: Global, taken: usize) -> Result<(), Fail> {
     let mut short = Vec::new(alloc);
@@ -52,14 +69,10 @@ fn is_written_short<R: Abort>(rt: &R, alloc: Global, taken: usize) -> Result<(),
         taken: taken as u64,
         given: 3,
     };
-    assert_eq!(rt; stored, Err(StoreError::Unlock(full)));
-    let early = Err(StaticStorageOpenError::InitializationNotYetFinalized);
-    assert_eq!(rt; opened(&mut files)?, early);
-    let mut stopped = files.stopped(alloc, 1)?;
-    assert_eq!(rt; opened(&mut stopped)?, early);
-    assert!(rt; listed(&mut files, alloc)?.is_empty());
-    assert_eq!(rt; removed(&mut files)?, Ok(true));
-    Ok(())
+    same(rt, &stored, &Err(StoreError::Unlock(full)));
+    is_not_final(rt, &mut files)?;
+    is_not_final(rt, &mut files.stopped(alloc, 1)?)?;
+    is_removed_unlisted(rt, alloc, &mut files)
 }
 
 #[test]
@@ -80,8 +93,8 @@ fn fails_so<R: Abort>(
     let mut fails = Vec::new(alloc);
     fails.push(call)?;
     let (mut files, stored) = store(alloc, fails, Vec::new(alloc))?;
-    assert_eq!(rt; stored, Err(refusal));
-    assert_eq!(rt; opened(&mut files)?, later);
+    same(rt, &stored, &Err(refusal));
+    same(rt, &opened(&mut files)?, &later);
     Ok(())
 }
 
@@ -108,18 +121,23 @@ fn stored_before(alloc: Global, call: u64) -> Result<(MemoryFiles, FileStorage),
 
 fn is_opened_after_a_fault<R: Abort>(rt: &R, alloc: Global, call: u64) -> Result<(), Fail> {
     let (mut files, _storage) = stored_before(alloc, call)?;
-    assert_eq!(rt; opened(&mut files)?, Err(StaticStorageOpenError::Read));
-    assert_eq!(rt; opened(&mut files)?, Ok(3));
+    same(rt, &opened(&mut files)?, &Err(StaticStorageOpenError::Read));
+    same(rt, &opened(&mut files)?, &Ok(3));
     Ok(())
 }
 
 fn is_listed_after_a_fault<R: Abort>(rt: &R, alloc: Global, call: u64) -> Result<(), Fail> {
     let (mut files, storage) = stored_before(alloc, call)?;
     let failed = listed(&mut files, alloc);
-    assert_eq!(rt; failed.err(), Some(NamedConceptListError::InternalError));
-    assert_eq!(rt;
-        listed(&mut files, alloc)?.as_slice(),
-        [storage.name].as_slice()
+    same(
+        rt,
+        &failed.err(),
+        &Some(NamedConceptListError::InternalError),
+    );
+    same(
+        rt,
+        &listed(&mut files, alloc)?.as_slice(),
+        &[storage.name].as_slice(),
     );
     Ok(())
 }
@@ -127,23 +145,29 @@ fn is_listed_after_a_fault<R: Abort>(rt: &R, alloc: Global, call: u64) -> Result
 fn is_read_after_a_fault<R: Abort>(rt: &R, alloc: Global) -> Result<(), Fail> {
     let (mut files, storage) = stored_before(alloc, 3)?;
     let mut buffer = [0; 3];
-    assert_eq!(rt;
-        storage.read(&mut files, &usual(), &mut buffer),
-        Err(StaticStorageReadError::ReadError)
+    same(
+        rt,
+        &storage.read(&mut files, &usual(), &mut buffer),
+        &Err(StaticStorageReadError::ReadError),
     );
-    assert_eq!(rt; storage.read(&mut files, &usual(), &mut buffer), Ok(()));
-    assert_eq!(rt; buffer, [1, 2, 3]);
+    same(
+        rt,
+        &storage.read(&mut files, &usual(), &mut buffer),
+        &Ok(()),
+    );
+    same(rt, &buffer, &[1, 2, 3]);
     Ok(())
 }
 
 fn is_removed_after_a_fault<R: Abort>(rt: &R, alloc: Global) -> Result<(), Fail> {
     let (mut files, _storage) = stored_before(alloc, 3)?;
-    assert_eq!(rt;
-        removed(&mut files)?,
-        Err(NamedConceptRemoveError::InternalError)
+    same(
+        rt,
+        &removed(&mut files)?,
+        &Err(NamedConceptRemoveError::InternalError),
     );
-    assert_eq!(rt; removed(&mut files)?, Ok(true));
-    assert_eq!(rt; removed(&mut files)?, Ok(false));
+    same(rt, &removed(&mut files)?, &Ok(true));
+    same(rt, &removed(&mut files)?, &Ok(false));
     Ok(())
 }
 
@@ -171,12 +195,12 @@ fn lives(alloc: Global, buffer: &mut [u8]) -> Result<Result<(), LifeError>, Fail
 #[test]
 fn a_whole_life_ends_with_the_bytes(rt: HostRuntime) -> Result<(), Fail> {
     let mut large = [9; 5];
-    assert_eq!(rt; lives(rt.alloc(), &mut large)?, Ok(()));
-    assert_eq!(rt; large, [1, 2, 3, 9, 9]);
+    same(&rt, &lives(rt.alloc(), &mut large)?, &Ok(()));
+    same(&rt, &large, &[1, 2, 3, 9, 9]);
     let mut small = [9; 2];
     let short = LifeError::Read(StaticStorageReadError::BufferTooSmall);
-    assert_eq!(rt; lives(rt.alloc(), &mut small)?, Err(short));
-    assert_eq!(rt; small, [9, 9]);
+    same(&rt, &lives(rt.alloc(), &mut small)?, &Err(short));
+    same(&rt, &small, &[9, 9]);
     Ok(())
 }
 
@@ -194,7 +218,7 @@ fn looks_that_are_not_listed_succeed(rt: HostRuntime) -> Result<(), Fail> {
     let alloc = rt.alloc();
     let mut files = MemoryFiles::new(alloc, Vec::new(alloc), Vec::new(alloc));
     let path = usual().path_for(&FileName::new(b"x")?);
-    assert_eq!(rt; looks_twice(&mut files, &path), Ok(None));
+    same(&rt, &looks_twice(&mut files, &path), &Ok(None));
     Ok(())
 }
 
@@ -212,7 +236,7 @@ fn a_storage_stopped_anywhere_is_whole_or_not_there(rt: HostRuntime) -> Result<(
     ];
     for (changes, found) in rows {
         let mut stopped = files.stopped(alloc, changes)?;
-        assert_eq!(rt; opened(&mut stopped)?, found);
+        same(&rt, &opened(&mut stopped)?, &found);
     }
     Ok(())
 }

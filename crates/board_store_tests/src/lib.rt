@@ -5,6 +5,8 @@
 #[cfg(test)]
 mod files;
 #[cfg(test)]
+mod same;
+#[cfg(test)]
 mod storages;
 #[cfg(test)]
 mod store;

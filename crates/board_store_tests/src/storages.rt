@@ -1,4 +1,5 @@
 //! Static storages: filled, opened, released and removed by name, and opened while another thread fills one.
+use crate::same::same;
 use board_names::{
     Configuration, FileName, NamedConceptBuilder, NamedConceptConfiguration,
     NamedConceptDoesExistError, NamedConceptMgmt, StaticStorageOpenError, StaticStorageUnlockError,
@@ -33,10 +34,11 @@ fn is_filled<R: Wait + Abort, S: StaticStorage + Drop>(
     let early = S::does_exist_cfg(rt, registry, name, config);
     let _storage = locked.unlock(rt, alloc, &[4, 5])?;
     let late = S::does_exist_cfg(rt, registry, name, config);
-    assert_eq!(rt; (absent, late), (Ok(false), Ok(true)));
-    assert_eq!(rt;
-        early,
-        Err(NamedConceptDoesExistError::UnderlyingResourcesBeingSetUp)
+    same(rt, &(absent, late), &(Ok(false), Ok(true)));
+    same(
+        rt,
+        &early,
+        &Err(NamedConceptDoesExistError::UnderlyingResourcesBeingSetUp),
     );
     Ok(())
 }
@@ -50,8 +52,12 @@ fn has_bytes<R: Wait + Abort, S: StaticStorage + Drop>(
 ) -> Result<S, Fail> {
     let storage = S::Builder::new(name, registry)?.open(rt, 0)?;
     let mut bytes = [0u8; 3];
-    assert_eq!(rt; (storage.len(), storage.read(&mut bytes)), (len, Ok(())));
-    assert_eq!(rt; bytes, wanted);
+    same(
+        rt,
+        &(storage.len(), storage.read(&mut bytes)),
+        &(len, Ok(())),
+    );
+    same(rt, &bytes, &wanted);
     Ok(storage)
 }
 
@@ -65,7 +71,7 @@ fn is_opened_and_released<R: Wait + Abort, S: StaticStorage + Drop>(
     storage.acquire_ownership();
     storage.release(rt);
     let held = S::does_exist_cfg(rt, registry, name, config);
-    assert_eq!(rt; held, Ok(false));
+    same(rt, &held, &Ok(false));
     Ok(())
 }
 
@@ -79,9 +85,20 @@ fn is_removed<R: Wait + Abort, S: StaticStorage + Drop>(
     let _made = S::Builder::new(name, registry)?.create(rt, alloc, &[6])?;
     let first = S::remove_cfg(rt, registry, name, config);
     let second = S::remove_cfg(rt, registry, name, config);
-    assert_eq!(rt; (first, second), (Ok(true), Ok(false)));
+    same(rt, &(first, second), &(Ok(true), Ok(false)));
     let gone = S::Builder::new(name, registry)?.open(rt, 0);
-    assert_eq!(rt; gone.err(), Some(StaticStorageOpenError::DoesNotExist));
+    same(rt, &gone.err(), &Some(StaticStorageOpenError::DoesNotExist));
+    Ok(())
+}
+
+// The storages before and behind it are as they were.
+fn stand_beside<R: Wait + Abort>(
+    rt: &R,
+    registry: &StaticRegistry,
+    (before, behind): (&FileName, &FileName),
+) -> Result<(), Fail> {
+    let _first: Storage = has_bytes(rt, registry, before, (1, [1, 0, 0]))?;
+    let _last: Storage = has_bytes(rt, registry, behind, (3, [2, 3, 6]))?;
     Ok(())
 }
 
@@ -96,10 +113,7 @@ fn any_static_storage_is_used_by_the_traits(rt: HostRuntime) -> Result<(), Fail>
     is_filled::<_, Storage>(&rt, alloc, &registry, (&name, &config))?;
     is_opened_and_released::<_, Storage>(&rt, &registry, (&name, &config))?;
     is_removed::<_, Storage>(&rt, alloc, &registry, (&name, &config))?;
-    // The storages before and behind it are as they were.
-    let _first: Storage = has_bytes(&rt, &registry, &before, (1, [1, 0, 0]))?;
-    let _last: Storage = has_bytes(&rt, &registry, &behind, (3, [2, 3, 6]))?;
-    Ok(())
+    stand_beside(&rt, &registry, (&before, &behind))
 }
 
 fn unlock_late<R: Wait + Clock>(
@@ -135,7 +149,7 @@ fn open_looks_until_it_is_filled(rt: HostRuntime) -> Result<(), Fail> {
     let opener = Builder::new(&name, &registry)?;
     let storage = opens_while_it_is_filled(&rt, alloc, opener, locked)?;
     let mut bytes = [9u8; 4];
-    assert_eq!(rt; storage.read(&mut bytes), Ok(()));
-    assert_eq!(rt; bytes, [1, 2, 3, 9]);
+    same(&rt, &storage.read(&mut bytes), &Ok(()));
+    same(&rt, &bytes, &[1, 2, 3, 9]);
     Ok(())
 }

@@ -3,6 +3,7 @@ ghost use Rattle.std.specs.Prelude.{IsOkUnless};
 ghost use Rattle.board_names.specs.Table.{NamesAscend};
 ghost use Rattle.board_names.specs.declared.errors.static_storage.StaticStorageCreateError.TheVariants.{OutOfMemory};
 
+use crate::same::same;
 use board_names::{
     Configuration, FileName, FilePath, NameTable, NamedConcept, NamedConceptBuilder,
     NamedConceptConfiguration, NamedConceptDoesExistError, NamedConceptMgmt,
@@ -37,16 +38,17 @@ fn exists<R: Wait>(
 }
 
 fn shows_its_bytes<R: Abort>(rt: &R, storage: &Storage) {
-    assert_eq!(rt; storage.len(), 3);
+    same(rt, &storage.len(), &3);
     assert!(rt; !storage.is_empty());
     let mut small = [0u8; 2];
-    assert_eq!(rt;
-        storage.read(&mut small),
-        Err(StaticStorageReadError::BufferTooSmall)
+    same(
+        rt,
+        &storage.read(&mut small),
+        &Err(StaticStorageReadError::BufferTooSmall),
     );
     let mut large = [9u8; 5];
-    assert_eq!(rt; storage.read(&mut large), Ok(()));
-    assert_eq!(rt; large, [1, 2, 3, 9, 9]);
+    same(rt, &storage.read(&mut large), &Ok(()));
+    same(rt, &large, &[1, 2, 3, 9, 9]);
 }
 
 fn locks<R: Wait + Abort>(
@@ -56,35 +58,59 @@ fn locks<R: Wait + Abort>(
 ) -> Result<Locked, Fail> {
     let locked = builder(b"x", registry)?.create_locked(rt, alloc)?;
     let again = builder(b"x", registry)?.create_locked(rt, alloc);
-    assert_eq!(rt; again.err(), Some(StaticStorageCreateError::AlreadyExists));
+    same(
+        rt,
+        &again.err(),
+        &Some(StaticStorageCreateError::AlreadyExists),
+    );
     Ok(locked)
 }
 
-fn early<R: Wait + Abort>(rt: &R, alloc: Global, registry: &StaticRegistry) -> Result<(), Fail> {
-    let shared = registry.share()?;
-    assert_eq!(rt;
-        exists(rt, b"x", &shared)?,
-        Err(NamedConceptDoesExistError::UnderlyingResourcesBeingSetUp)
+fn is_being_set_up<R: Wait + Abort>(rt: &R, registry: &StaticRegistry) -> Result<(), Fail> {
+    same(
+        rt,
+        &exists(rt, b"x", registry)?,
+        &Err(NamedConceptDoesExistError::UnderlyingResourcesBeingSetUp),
     );
+    Ok(())
+}
+
+fn is_listed<R: Wait + Abort>(
+    rt: &R,
+    alloc: Global,
+    registry: &StaticRegistry,
+) -> Result<(), Fail> {
     let names = Storage::list_cfg(rt, alloc, registry, &usual())?;
-    assert_eq!(rt; names.as_slice(), [FileName::new(b"x")?].as_slice());
+    same(rt, &names.as_slice(), &[FileName::new(b"x")?].as_slice());
+    Ok(())
+}
+
+fn early<R: Wait + Abort>(rt: &R, alloc: Global, registry: &StaticRegistry) -> Result<(), Fail> {
+    is_being_set_up(rt, &registry.share()?)?;
+    is_listed(rt, alloc, registry)?;
     let early = builder(b"x", registry)?.open(rt, 2);
-    assert_eq!(rt;
-        early.err(),
-        Some(StaticStorageOpenError::InitializationNotYetFinalized)
+    same(
+        rt,
+        &early.err(),
+        &Some(StaticStorageOpenError::InitializationNotYetFinalized),
     );
     Ok(())
 }
 
 fn late<R: Wait + Abort>(rt: &R, alloc: Global, registry: &StaticRegistry) -> Result<(), Fail> {
     let gone = builder(b"x", registry)?.open(rt, 0);
-    assert_eq!(rt; gone.err(), Some(StaticStorageOpenError::DoesNotExist));
+    same(rt, &gone.err(), &Some(StaticStorageOpenError::DoesNotExist));
     let empty = builder(b"x", registry)?.create(rt, alloc, &[])?;
     assert!(rt; empty.is_empty());
+    lets_go(rt, alloc, registry)
+}
+
+// A storage that was never filled is let go with its name.
+fn lets_go<R: Wait + Abort>(rt: &R, alloc: Global, registry: &StaticRegistry) -> Result<(), Fail> {
     let other = builder(b"y", registry)?.create_locked(rt, alloc)?;
-    assert_eq!(rt; *other.name(), FileName::new(b"y")?);
+    same(rt, other.name(), &FileName::new(b"y")?);
     other.release(rt);
-    assert_eq!(rt; exists(rt, b"y", registry)?, Ok(false));
+    same(rt, &exists(rt, b"y", registry)?, &Ok(false));
     Ok(())
 }
 
@@ -99,21 +125,22 @@ fn two_names<R: Wait>(
     Ok((first, second))
 }
 
-fn lists_both<R: Wait>(rt: &R, alloc: Global, registry: &StaticRegistry) -> Result<bool, Fail> {
+fn lists_both<R: Wait + Abort>(
+    rt: &R,
+    alloc: Global,
+    registry: &StaticRegistry,
+) -> Result<(), Fail> {
+    let both = [FileName::new(b"x")?, FileName::new(b"y")?];
     let names = Storage::list_cfg(rt, alloc, registry, &usual())?;
-    Ok(
-        names.len() == 2
-            && names[0].as_bytes() == b"x".as_slice()
-            && names[1].as_bytes() == b"y".as_slice(),
-    )
+    same(rt, &names.as_slice(), &both.as_slice());
+    Ok(())
 }
 
 #[test]
 fn storages_are_listed(rt: HostRuntime) -> Result<(), Fail> {
     let registry = StaticRegistry::new(rt.alloc())?;
     let _both = two_names(&rt, rt.alloc(), &registry)?;
-    assert!(rt; lists_both(&rt, rt.alloc(), &registry)?);
-    Ok(())
+    lists_both(&rt, rt.alloc(), &registry)
 }
 
 #[test]
@@ -148,7 +175,7 @@ fn storages_are_listed_when_lent(rt: HostRuntime) -> Result<(), Fail> {
     let made = builder(b"y", &registry)?.create_in(&mut state, alloc, &[])?;
     assert!(rt; made.is_empty());
     let names = Storage::list_cfg_in(&mut state, alloc, &usual())?;
-    assert_eq!(rt; names.as_slice(), [FileName::new(b"y")?].as_slice());
+    same(&rt, &names.as_slice(), &[FileName::new(b"y")?].as_slice());
     Ok(())
 }
 
@@ -162,10 +189,26 @@ fn a_storage_stays_where_it_is_not_owned(rt: HostRuntime) -> Result<(), Fail> {
     let alloc = rt.alloc();
     let registry = StaticRegistry::new(alloc)?;
     let mut storage = opened(&rt, alloc, &registry)?;
-    assert_eq!(rt; *storage.name(), FileName::new(b"x")?);
+    same(&rt, storage.name(), &FileName::new(b"x")?);
     storage.release_ownership();
     storage.release(&rt);
-    assert_eq!(rt; exists(&rt, b"x", &registry)?, Ok(true));
+    same(&rt, &exists(&rt, b"x", &registry)?, &Ok(true));
+    Ok(())
+}
+
+// A storage of this configuration isn't there under the usual one, and keeps its name, which it doesn't own.
+fn is_apart<R: Wait + Abort>(
+    rt: &R,
+    alloc: Global,
+    registry: &StaticRegistry,
+    other: &Configuration,
+) -> Result<(), Fail> {
+    let locked = builder(b"x", registry)?
+        .config(other)
+        .has_ownership(false)
+        .create_locked(rt, alloc)?;
+    same(rt, &exists(rt, b"x", registry)?, &Ok(false));
+    locked.release(rt);
     Ok(())
 }
 
@@ -174,16 +217,15 @@ fn names_and_configurations_differ(rt: HostRuntime) -> Result<(), Fail> {
     let alloc = rt.alloc();
     let registry = StaticRegistry::new(alloc)?;
     let other = Configuration::with_suffix(&FileName::new(b".other")?);
-    let locked = builder(b"x", &registry)?
-        .config(&other)
-        .has_ownership(false)
-        .create_locked(&rt, alloc)?;
-    assert_eq!(rt; exists(&rt, b"x", &registry)?, Ok(false));
-    locked.release(&rt);
+    is_apart(&rt, alloc, &registry, &other)?;
     let taken = builder(b"x", &registry)?
         .config(&other)
         .create(&rt, alloc, &[]);
-    assert_eq!(rt; taken.err(), Some(StaticStorageCreateError::AlreadyExists));
+    same(
+        &rt,
+        &taken.err(),
+        &Some(StaticStorageCreateError::AlreadyExists),
+    );
     Ok(())
 }
 
@@ -193,9 +235,17 @@ fn what_is_gone_is_not_unlocked(rt: HostRuntime) -> Result<(), Fail> {
     let registry = StaticRegistry::new(alloc)?;
     let locked = builder(b"x", &registry)?.create_locked(&rt, alloc)?;
     let x = FileName::new(b"x")?;
-    assert_eq!(rt; Storage::remove_cfg(&rt, &registry, &x, &usual()), Ok(true));
+    same(
+        &rt,
+        &Storage::remove_cfg(&rt, &registry, &x, &usual()),
+        &Ok(true),
+    );
     let gone = locked.unlock(&rt, alloc, &[1]);
-    assert_eq!(rt; gone.err(), Some(StaticStorageUnlockError::InternalError));
+    same(
+        &rt,
+        &gone.err(),
+        &Some(StaticStorageUnlockError::InternalError),
+    );
     Ok(())
 }
 
@@ -229,8 +279,12 @@ fn count_of_names(state: &Statics) -> usize
 fn a_removed_name_is_taken_again(rt: HostRuntime) -> Result<(), Fail> {
     let mut state = Statics::new(rt.alloc());
     let name = usual().path_for(&FileName::new(b"x")?);
-    assert_eq!(rt; state.create_locked(&name), Ok(()));
-    assert_eq!(rt; takes_a_removed_name(&mut state, &name), Ok(()));
-    assert_eq!(rt; (count_of_names(&state), state.name_at(0)), (1, Some(name)));
+    same(&rt, &state.create_locked(&name), &Ok(()));
+    same(&rt, &takes_a_removed_name(&mut state, &name), &Ok(()));
+    same(
+        &rt,
+        &(count_of_names(&state), state.name_at(0)),
+        &(1, Some(name)),
+    );
     Ok(())
 }
