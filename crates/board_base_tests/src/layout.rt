@@ -2,6 +2,7 @@
 ghost use Rattle.std.specs.Prelude.{◌≡◌, ◌<◌, ◌≤◌, length, All, IfOk};
 ghost use Rattle.board_layout.specs.Layout.{IsShape};
 
+use crate::same::same;
 use board_layout::{
     BoardKey, CellPlace, F8, KeyMemory, KeyMemoryError, MAX_BLACKBOARD_KEY_ALIGNMENT,
     MAX_BLACKBOARD_KEY_SIZE, MAX_TYPE_NAME_LENGTH, PlanError, Shape, Text, TypeDetail, TypeVariant,
@@ -40,10 +41,14 @@ fn shapes(alloc: Global, words: u64, twice: bool) -> Result<Vec<Shape>, AllocErr
 fn plans_up_to_the_limit(rt: HostRuntime) -> Result<(), Fail> {
     let large = shapes(rt.alloc(), 268435454, false)?;
     let planned = plan(rt.alloc(), &large)?;
-    assert_eq!(rt; planned.payload, 4294967287);
-    assert_eq!(rt; planned.end, 536870910);
+    same(&rt, &planned.payload, &4294967287);
+    same(&rt, &planned.end, &536870910);
     let larger = shapes(rt.alloc(), 268435455, false)?;
-    assert_eq!(rt; plan(rt.alloc(), &larger).err(), Some(PlanError::TooLarge));
+    same(
+        &rt,
+        &plan(rt.alloc(), &larger).err(),
+        &Some(PlanError::TooLarge),
+    );
     Ok(())
 }
 
@@ -65,8 +70,8 @@ fn plans_two_cells(rt: HostRuntime) -> Result<(), Fail> {
             words: 1,
         },
     ];
-    assert_eq!(rt; planned.cells.as_slice(), wanted.as_slice());
-    assert_eq!(rt; (planned.end, planned.payload), (8, 78));
+    same(&rt, &planned.cells.as_slice(), &wanted.as_slice());
+    same(&rt, &(planned.end, planned.payload), &(8, 78));
     Ok(())
 }
 
@@ -77,7 +82,7 @@ fn comes_back<R: Abort, T: ZeroCopySend + PartialEq>(rt: &R, value: T, first: u6
     let mut words = [7; 4];
     let front = &mut words[..T::WORDS];
     value.to_words(front);
-    assert_eq!(rt; front.first().copied(), Some(first));
+    same(rt, &front.first().copied(), &Some(first));
     assert!(rt; T::from_words(front) == value);
 }
 
@@ -115,8 +120,8 @@ fn types_are_told(rt: HostRuntime) {
         (TypeDetail::new::<F8>(fixed), b"f8".as_slice(), 8, 1),
     ];
     for (told, name, size, alignment) in rows {
-        assert_eq!(rt; told.type_name.as_bytes(), name);
-        assert_eq!(rt; (told.size, told.alignment), (size, alignment));
+        same(&rt, &told.type_name.as_bytes(), &name);
+        same(&rt, &(told.size, told.alignment), &(size, alignment));
     }
     assert!(rt; TypeDetail::new::<i64>(fixed) != TypeDetail::new::<i64>(TypeVariant::Dynamic));
 }
@@ -140,7 +145,7 @@ fn keys_are_compared_by_their_type(rt: HostRuntime) -> Result<(), Fail> {
             &upper
         )
     );
-    assert_eq!(rt; key_of::<F8>(&upper).bytes, *b"Temp\0\0\0\0");
+    same(&rt, &key_of::<F8>(&upper).bytes, b"Temp\0\0\0\0");
     let yes = KeyMemory::<64>::try_from(&true)?;
     let no = KeyMemory::<64>::try_from(&false)?;
     assert!(rt; same_keys::<bool>(&yes, &yes) && !same_keys::<bool>(&yes, &no));
@@ -159,7 +164,7 @@ pub(crate) fn prints<R: Abort, E: Display>(
     text: &str,
 ) -> Result<(), Fail> {
     let printed = format!(in alloc; "{error}")?;
-    assert_eq!(rt; printed.as_str(), text);
+    same(rt, &printed.as_str(), &text);
     Ok(())
 }
 
@@ -174,9 +179,10 @@ fn errors_print_their_names(rt: HostRuntime) -> Result<(), Fail> {
 
 #[test]
 fn limits_are_as_published(rt: HostRuntime) {
-    assert_eq!(rt; MAX_TYPE_NAME_LENGTH, 256);
-    assert_eq!(rt;
-        (MAX_BLACKBOARD_KEY_SIZE, MAX_BLACKBOARD_KEY_ALIGNMENT),
-        (64, 8)
+    same(&rt, &MAX_TYPE_NAME_LENGTH, &256);
+    same(
+        &rt,
+        &(MAX_BLACKBOARD_KEY_SIZE, MAX_BLACKBOARD_KEY_ALIGNMENT),
+        &(64, 8),
     );
 }

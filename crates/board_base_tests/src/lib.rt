@@ -8,3 +8,5 @@ mod cell;
 mod layout;
 #[cfg(test)]
 mod names;
+#[cfg(test)]
+mod same;

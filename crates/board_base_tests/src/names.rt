@@ -1,5 +1,6 @@
 //! What is refused, how names are spelled, and what the errors print.
 use crate::layout::prints;
+use crate::same::same;
 use board_names::{
     ArcSyncPolicyCreationError, AttributeError, Base64Url, BlackboardCreateError,
     BlackboardOpenError, CommunicationChannelCreateError, CommunicationChannelOpenError,
@@ -38,7 +39,7 @@ fn file_names_follow_their_rule(rt: HostRuntime) -> Result<(), Fail> {
         (&slashes, TOO_LONG),
     ];
     for (text, refusal) in cases {
-        assert_eq!(rt; FileName::new(text).err(), refusal);
+        same(&rt, &FileName::new(text).err(), &refusal);
     }
     Ok(())
 }
@@ -56,7 +57,7 @@ fn paths_follow_their_rule(rt: HostRuntime) -> Result<(), Fail> {
         (&slashes, TOO_LONG),
     ];
     for (text, refusal) in cases {
-        assert_eq!(rt; Path::new(text).err(), refusal);
+        same(&rt, &Path::new(text).err(), &refusal);
     }
     Ok(())
 }
@@ -73,7 +74,7 @@ fn hashes_in_letters_follow_their_rule(rt: HostRuntime) -> Result<(), Fail> {
         (&pluses, TOO_LONG),
     ];
     for (text, refusal) in cases {
-        assert_eq!(rt; Base64Url::new(text).err(), refusal);
+        same(&rt, &Base64Url::new(text).err(), &refusal);
     }
     Ok(())
 }
@@ -91,8 +92,8 @@ fn services_and_nodes_follow_their_rules(rt: HostRuntime) -> Result<(), Fail> {
         ("\u{e4}", INVALID, INVALID),
     ];
     for (text, of_service, of_node) in cases {
-        assert_eq!(rt; ServiceName::new(text).err(), of_service);
-        assert_eq!(rt; NodeName::new(text).err(), of_node);
+        same(&rt, &ServiceName::new(text).err(), &of_service);
+        same(&rt, &NodeName::new(text).err(), &of_node);
     }
     Ok(())
 }
@@ -103,15 +104,16 @@ fn names_are_spelled_and_read_back(rt: HostRuntime) -> Result<(), Fail> {
     let config = Configuration::with_suffix(&suffix);
     let name = FileName::new(b"abc")?;
     let path = config.path_for(&name);
-    assert_eq!(rt;
-        path.as_bytes(),
-        b"/tmp/iceoryx2/iox2_abc.static_storage".as_slice()
+    same(
+        &rt,
+        &path.as_bytes(),
+        &b"/tmp/iceoryx2/iox2_abc.static_storage".as_slice(),
     );
-    assert_eq!(rt; config.extract_name_from_path(&path), Some(name));
-    assert_eq!(rt; path_and_back(&config, &name), Some(name));
+    same(&rt, &config.extract_name_from_path(&path), &Some(name));
+    same(&rt, &path_and_back(&config, &name), &Some(name));
     let file = FileName::new(b"iox2_abc.static_storage")?;
-    assert_eq!(rt; config.extract_name_from_file(&file), Some(name));
-    assert_eq!(rt; config.extract_name_from_file(&name), None);
+    same(&rt, &config.extract_name_from_file(&file), &Some(name));
+    same(&rt, &config.extract_name_from_file(&name), &None);
     Ok(())
 }
 
@@ -121,22 +123,23 @@ fn parts_are_replaced(rt: HostRuntime) -> Result<(), Fail> {
     let two = FileName::new(b"two")?;
     let folder = Path::new(b"/run")?;
     let config = Configuration::with_suffix(&one);
-    assert_eq!(rt;
-        config.get_path_hint().as_bytes(),
-        b"/tmp/iceoryx2".as_slice()
+    same(
+        &rt,
+        &config.get_path_hint().as_bytes(),
+        &b"/tmp/iceoryx2".as_slice(),
     );
     let config = config.prefix(&one).suffix(&two).path_hint(&folder);
-    assert_eq!(rt; *config.get_prefix(), one);
-    assert_eq!(rt; *config.get_suffix(), two);
-    assert_eq!(rt; *config.get_path_hint(), folder);
+    same(&rt, config.get_prefix(), &one);
+    same(&rt, config.get_suffix(), &two);
+    same(&rt, config.get_path_hint(), &folder);
     Ok(())
 }
 
 #[test]
 fn trigger_ids_are_numbers(rt: HostRuntime) -> Result<(), Fail> {
     let id: EventId = TriggerId::new(64);
-    assert_eq!(rt; id.as_value(), 64);
-    assert_eq!(rt; TriggerId::default().as_value(), 0);
+    same(&rt, &id.as_value(), &64);
+    same(&rt, &TriggerId::default().as_value(), &0);
     assert!(rt; TriggerId::default() < id);
     Ok(())
 }
@@ -145,8 +148,12 @@ fn trigger_ids_are_numbers(rt: HostRuntime) -> Result<(), Fail> {
 fn services_are_looked_up_by_name(rt: HostRuntime) -> Result<(), Fail> {
     let mut ports = HashMap::new(rt.alloc());
     ports.insert(ServiceName::new("door")?, 7)?;
-    assert_eq!(rt; ports.get(&ServiceName::new("door")?).copied(), Some(7));
-    assert_eq!(rt; ports.get(&ServiceName::new("wall")?).copied(), None);
+    same(
+        &rt,
+        &ports.get(&ServiceName::new("door")?).copied(),
+        &Some(7),
+    );
+    same(&rt, &ports.get(&ServiceName::new("wall")?).copied(), &None);
     Ok(())
 }
 
@@ -270,13 +277,17 @@ fn errors_of_boards_print_their_names(rt: HostRuntime) -> Result<(), Fail> {
 
 #[test]
 fn refusals_of_texts_have_their_numbers(rt: HostRuntime) {
-    assert_eq!(rt; SemanticStringError::InvalidContent as u8, 1);
-    assert_eq!(rt; SemanticStringError::ExceedsMaximumLength as u8, 2);
+    same(&rt, &(SemanticStringError::InvalidContent as u8), &1);
+    same(&rt, &(SemanticStringError::ExceedsMaximumLength as u8), &2);
 }
 
 #[test]
 fn limits_are_as_published(rt: HostRuntime) {
-    assert_eq!(rt; (MAX_SERVICE_NAME_LENGTH, MAX_NODE_NAME_LENGTH), (255, 128));
-    assert_eq!(rt; (MAX_ATTRIBUTES, MAX_ATTRIBUTE_KEY_LENGTH), (8, 64));
-    assert_eq!(rt; MAX_ATTRIBUTE_VALUE_LENGTH, 256);
+    same(
+        &rt,
+        &(MAX_SERVICE_NAME_LENGTH, MAX_NODE_NAME_LENGTH),
+        &(255, 128),
+    );
+    same(&rt, &(MAX_ATTRIBUTES, MAX_ATTRIBUTE_KEY_LENGTH), &(8, 64));
+    same(&rt, &MAX_ATTRIBUTE_VALUE_LENGTH, &256);
 }

@@ -1,4 +1,5 @@
 //! What an error of cells prints.
+use crate::same::same;
 use board_cell::CellError;
 use std::test::*;
 
@@ -6,6 +7,6 @@ use std::test::*;
 fn an_error_prints_its_name(rt: HostRuntime) -> Result<(), Fail> {
     let error = CellError::OutOfMemory;
     let printed = format!(in rt.alloc(); "{error}")?;
-    assert_eq!(rt; printed.as_str(), "CellError::OutOfMemory");
+    same(&rt, &printed.as_str(), &"CellError::OutOfMemory");
     Ok(())
 }

@@ -1,6 +1,7 @@
 //! One thread.
 ghost use Rattle.std.specs.Prelude.{◌≡◌, ◌+◌, ◌^◌, ◌<◌, length, IfOk};
 
+use crate::same::same;
 use board_cell::{GetAgain, ReaderPass, ThreadedCell, WriterPass};
 use std::alloc::{AllocError, Global};
 use std::test::*;
@@ -43,15 +44,19 @@ fn a_reader_follows_the_updates(rt: HostRuntime) -> Result<(), Fail> {
     let seven = vec![in alloc; 7]?;
     let mut out = vec![in alloc; 0]?;
     let (cell, mut writer, mut reader) = ThreadedCell::new(alloc, &seven)?;
-    assert_eq!(rt; tried(&cell, &mut reader, &mut out), Some((1, 7)));
+    same(&rt, &tried(&cell, &mut reader, &mut out), &Some((1, 7)));
     update(alloc, &cell, &mut writer, 9)?;
     assert!(rt; !cell.fresh(&mut reader, 1));
-    assert_eq!(rt; (cell.get(&rt, &mut reader, &mut out), out[0]), (2, 9));
+    same(
+        &rt,
+        &(cell.get(&rt, &mut reader, &mut out), out[0]),
+        &(2, 9),
+    );
     update(alloc, &cell, &mut writer, 11)?;
-    assert_eq!(rt; tried(&cell, &mut reader, &mut out), Some((3, 11)));
-    assert_eq!(rt; (cell.words(), writer.generation()), (1, 3));
+    same(&rt, &tried(&cell, &mut reader, &mut out), &Some((3, 11)));
+    same(&rt, &(cell.words(), writer.generation()), &(1, 3));
     let readers = &mut vec![in alloc; reader]?;
-    assert_eq!(rt; cell.gather(&mut writer, readers).generation, 3);
+    same(&rt, &cell.gather(&mut writer, readers).generation, &3);
     Ok(())
 }
 
@@ -63,10 +68,10 @@ fn a_receipt_and_another_pass_let_a_reader_know(rt: HostRuntime) -> Result<(), F
     let (cell, mut writer, mut reader) = ThreadedCell::new(alloc, &seven)?;
     update(alloc, &cell, &mut writer, 9)?;
     let receipt = cell.receipt(&mut writer);
-    assert_eq!(rt; receipt.generation(), 2);
+    same(&rt, &receipt.generation(), &2);
     cell.learn(&mut reader, receipt);
     let mut other = cell.split(&mut reader);
-    assert_eq!(rt; tried(&cell, &mut other, &mut out), Some((2, 9)));
+    same(&rt, &tried(&cell, &mut other, &mut out), &Some((2, 9)));
     cell.join(&mut reader, other);
     assert!(rt; cell.fresh(&mut reader, 2));
     cell.meet(&mut writer, &mut reader);

@@ -2,6 +2,7 @@
 //! of which a reader then learns.
 ghost use Rattle.std.specs.Prelude.{◌≡◌, ◌+◌, ◌^◌, ◌<◌, ◌∷◌, [], length, IfOk};
 
+use crate::same::same;
 use board_cell::{OfCell, ReaderPass, Receipt, ThreadedCell, WriterPass};
 use std::alloc::AllocError;
 use std::sync::Wait;
@@ -114,13 +115,13 @@ fn each_value_that_a_reader_gets_is_whole(rt: HostRuntime) -> Result<(), Fail> {
         &rt, &cell, writer, first, second, words, one, two,
     )?;
     assert!(rt; right);
-    assert_eq!(rt; cell.get(&rt, &mut first, &mut out), 1001);
+    same(&rt, &cell.get(&rt, &mut first, &mut out), &1001);
     cell.meet(&mut writer, &mut second);
     let mut readers = Vec::new(rt.alloc());
     readers.push(first)?;
     readers.push(second)?;
     let all = cell.gather(&mut writer, &mut readers);
-    assert_eq!(rt; all.generation, 1001);
+    same(&rt, &all.generation, &1001);
     Ok(())
 }
 
@@ -208,7 +209,7 @@ fn passes_and_receipts_come_back_alone(rt: HostRuntime) -> Result<(), Fail> {
     let (cell, writer, reader) = ThreadedCell::new(rt.alloc(), &words)?;
     let (mut out, updated) = (words.clone()?, vec![in rt.alloc(); 9u64; 4]?);
     let mut reader = give_back(&rt, &cell, writer, reader, updated, words)?;
-    assert_eq!(rt; cell.get(&rt, &mut reader, &mut out), 2);
+    same(&rt, &cell.get(&rt, &mut reader, &mut out), &2);
     assert!(rt; out.iter().all(|word| *word == 9));
     Ok(())
 }
