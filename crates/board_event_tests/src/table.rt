@@ -1,4 +1,5 @@
 //! Each call on events abandoned at each step, and the corners. Every step of a call is one row of a table.
+use crate::same::same;
 use board_event_core::{
     EventAccess, EventAnswer, EventKind, EventProgress, EventStep, Events, ListenerCreateError,
     NotifierCreateError, NotifyCall, WaitCall, notify_step, wait_step,
@@ -98,7 +99,7 @@ fn step((access, answer, progress): Row) -> Option<EventStep> {
 
 fn wait_is<R: Abort>(rt: &R, events: &mut Events, event: u64, call: &mut WaitCall, rows: &[Row]) {
     for row in rows {
-        assert_eq!(rt; waits(events, event, call), step(*row));
+        same(rt, &waits(events, event, call), &step(*row));
     }
 }
 
@@ -110,12 +111,12 @@ fn notify_is<R: Abort>(
     rows: &[Row],
 ) {
     for row in rows {
-        assert_eq!(rt; notifies(events, event, call), step(*row));
+        same(rt, &notifies(events, event, call), &step(*row));
     }
 }
 
 fn deeds_are<R: Abort>(rt: &R, events: &mut Events, name: &FilePath, rows: &[(Deed, Told)]) {
     for (deed, told) in rows {
-        assert_eq!(rt; tell(events, name, *deed), *told);
+        same(rt, &tell(events, name, *deed), told);
     }
 }

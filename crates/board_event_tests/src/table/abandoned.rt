@@ -1,5 +1,6 @@
 //! Each call abandoned at each step: what a later wait for all still finds.
 use super::{full_name, notifies, waits};
+use crate::same::same;
 use board_event_core::{
     EventKind, EventProgress, Events, ListenerCreateError, NotifyCall, WaitCall, WaitMode,
 };
@@ -124,7 +125,7 @@ fn each_call_abandoned_at_each_step(rt: HostRuntime) {
     for (cut, left) in bits {
         for (steps, (low, high)) in left.into_iter().enumerate() {
             let mut events = Events::new(rt.alloc());
-            assert_eq!(rt; made(&rt, &mut events, EventKind::Bits), Ok(1));
+            same(&rt, &made(&rt, &mut events, EventKind::Bits), &Ok(1));
             let found = cut_bits(&mut events, 1, cut, steps as u64);
             assert_eq!(rt; found, Left::Words(low, high), "{cut:?} {steps}");
         }
@@ -137,7 +138,7 @@ fn each_call_abandoned_at_each_step(rt: HostRuntime) {
     for (cut, left) in queues {
         for (steps, count) in left.into_iter().enumerate() {
             let mut events = Events::new(rt.alloc());
-            assert_eq!(rt; made(&rt, &mut events, EventKind::Queue), Ok(1));
+            same(&rt, &made(&rt, &mut events, EventKind::Queue), &Ok(1));
             let found = cut_queue(&mut events, 1, cut, steps as u64);
             assert_eq!(rt; found, Left::Ids(count), "{cut:?} {steps}");
         }

@@ -1,5 +1,6 @@
 //! Corners: names that stand side by side, names that are freed, and waits for all.
 use super::{Deed, Told, deeds_are, full_name, notify_is, tell, wait_is};
+use crate::same::same;
 use board_event_core::{
     EventAccess as A, EventAnswer as B, EventKind, EventProgress as P, Events, ListenerCreateError,
     NotifierCreateError, NotifierNotifyError, NotifyCall, WaitCall, WaitMode, table_stands,
@@ -57,13 +58,13 @@ fn names_and_their_holders(rt: HostRuntime) {
 fn names_are_listed_in_order(rt: HostRuntime) {
     let (a, b) = (full_name(&rt, b"a"), full_name(&rt, b"b"));
     let mut events = Events::new(rt.alloc());
-    assert_eq!(rt; events.listen(EventKind::Queue, &b, 0), Ok(1));
-    assert_eq!(rt; events.listen(EventKind::Queue, &a, 0), Ok(2));
+    same(&rt, &events.listen(EventKind::Queue, &b, 0), &Ok(1));
+    same(&rt, &events.listen(EventKind::Queue, &a, 0), &Ok(2));
     table_stands(&events);
-    assert_eq!(rt; events.name_at(EventKind::Queue, 0), Some(a));
-    assert_eq!(rt; events.name_at(EventKind::Queue, 1), Some(b));
-    assert_eq!(rt; events.name_at(EventKind::Queue, 2), None);
-    assert_eq!(rt; events.name_at(EventKind::Bits, 0), None);
+    same(&rt, &events.name_at(EventKind::Queue, 0), &Some(a));
+    same(&rt, &events.name_at(EventKind::Queue, 1), &Some(b));
+    same(&rt, &events.name_at(EventKind::Queue, 2), &None);
+    same(&rt, &events.name_at(EventKind::Bits, 0), &None);
 }
 
 fn listened<R: Abort>(rt: &R, events: &mut Events, kind: EventKind) -> Told {
@@ -73,9 +74,10 @@ fn listened<R: Abort>(rt: &R, events: &mut Events, kind: EventKind) -> Told {
 #[test]
 fn waits_for_all_of_a_set(rt: HostRuntime) {
     let mut events = Events::new(rt.alloc());
-    assert_eq!(rt;
-        listened(&rt, &mut events, EventKind::Bits),
-        Told::Number(1)
+    same(
+        &rt,
+        &listened(&rt, &mut events, EventKind::Bits),
+        &Told::Number(1),
     );
     let mut empty = WaitCall::bits(2, true, WaitMode::Try);
     let none = [
@@ -125,9 +127,10 @@ fn waits_for_all_of_a_set(rt: HostRuntime) {
 #[test]
 fn waits_on_a_queue(rt: HostRuntime) {
     let mut events = Events::new(rt.alloc());
-    assert_eq!(rt;
-        listened(&rt, &mut events, EventKind::Queue),
-        Told::Number(1)
+    same(
+        &rt,
+        &listened(&rt, &mut events, EventKind::Queue),
+        &Told::Number(1),
     );
     let mut once = WaitCall::queue(false, WaitMode::Try);
     wait_is(

@@ -3,6 +3,7 @@ ghost use Rattle.std.specs.Prelude.{◌≡◌, ◌≢◌, IsFalse, IsSome, IsTru
 ghost use Rattle.board_event_core.specs.EventTable.{CanPerformAt, event_at};
 
 use super::{Deed, full_name, tell};
+use crate::same::same;
 use board_event_core::{EventAccess, EventAnswer, EventKind, Events, table_stands};
 
 /// Whether nobody holds an event under this number. Then none stands there.
@@ -56,9 +57,13 @@ fn a_popped_id_makes_room(rt: HostRuntime) {
     let name = full_name(&rt, b"ev");
     let _ = tell(&mut events, &name, Deed::Listen(EventKind::Queue, 65535));
     if events.allows(1, EventAccess::Pop) {
-        assert_eq!(rt; pops_and_pushes(&mut events, 1, 7), EventAnswer::Done);
+        same(&rt, &pops_and_pushes(&mut events, 1, 7), &EventAnswer::Done);
     }
     if events.allows(1, EventAccess::Pop) {
-        assert_eq!(rt; events.perform(1, EventAccess::Pop), EventAnswer::Id(7));
+        same(
+            &rt,
+            &events.perform(1, EventAccess::Pop),
+            &EventAnswer::Id(7),
+        );
     }
 }

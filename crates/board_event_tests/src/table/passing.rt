@@ -1,5 +1,6 @@
 //! Words without ids, which a wait passes over.
 use super::{Deed, Told, full_name, notify_is, tell, wait_is};
+use crate::same::same;
 use board_event_core::{
     EventAccess as A, EventAnswer as B, EventKind, EventProgress as P, Events, NotifyCall,
     WaitCall, WaitMode, pass_empty_words,
@@ -13,7 +14,7 @@ fn made<R: Abort>(rt: &R, events: &mut Events) {
         &full_name(rt, b"ev"),
         Deed::Listen(EventKind::Bits, 255),
     );
-    assert_eq!(rt; listened, Told::Number(1));
+    same(rt, &listened, &Told::Number(1));
     let mut notify = NotifyCall::bits(130, 255);
     let rows = [
         (A::Listener, B::Yes, P::More),
@@ -32,7 +33,7 @@ fn a_wait_passes_over_empty_words(rt: HostRuntime) {
     pass_empty_words(&events, 1, &mut wait);
     let drained = [(A::Signal, B::Yes, P::More), (A::Signal, B::No, P::More)];
     wait_is(&rt, &mut events, 1, &mut wait, &drained);
-    assert_eq!(rt; wait.word(), Some(0));
+    same(&rt, &wait.word(), &Some(0));
     pass_empty_words(&events, 1, &mut wait);
     let (third, end) = (
         P::Took {
@@ -65,7 +66,7 @@ fn a_wait_passes_over_empty_words(rt: HostRuntime) {
 fn a_wait_of_an_empty_set_looks_at_its_last_word_alone(rt: HostRuntime) {
     let mut events = Events::new(rt.alloc());
     let name = full_name(&rt, b"ev");
-    assert_eq!(rt; events.listen(EventKind::Bits, &name, 255), Ok(1));
+    same(&rt, &events.listen(EventKind::Bits, &name, 255), &Ok(1));
     let mut wait = WaitCall::bits(4, false, WaitMode::Try);
     wait_is(
         &rt,

@@ -1,4 +1,5 @@
 //! A set of ids and a count of signals, by their traits.
+use crate::same::same;
 use board_event_core::{
     BitSet, IdTracker, NotifierNotifyError, Semaphore, SignalMechanism, TriggerId,
 };
@@ -12,17 +13,17 @@ fn adds<R: Abort, T: IdTracker>(rt: &R, ids: &mut T, rows: &[(usize, bool)]) {
         } else {
             Err(NotifierNotifyError::TriggerIdOutOfBounds)
         };
-        assert_eq!(rt; answer, expected);
+        same(rt, &answer, &expected);
     }
 }
 
 #[test]
 fn ids_are_taken_the_least_first(rt: HostRuntime) {
     let mut set = BitSet::new(rt.alloc(), TriggerId::new(63)).expect(&rt, "memory");
-    assert_eq!(rt; set.trigger_id_max(), TriggerId::new(63));
+    same(&rt, &set.trigger_id_max(), &TriggerId::new(63));
     adds(&rt, &mut set, &[(3, true), (64, false)]);
-    assert_eq!(rt; set.acquire(), Some(TriggerId::new(3)));
-    assert_eq!(rt; set.acquire(), None);
+    same(&rt, &set.acquire(), &Some(TriggerId::new(3)));
+    same(&rt, &set.acquire(), &None);
     let mut wide = BitSet::new(rt.alloc(), TriggerId::new(130)).expect(&rt, "memory");
     adds(
         &rt,
@@ -31,17 +32,17 @@ fn ids_are_taken_the_least_first(rt: HostRuntime) {
     );
     let mut seen = 0usize;
     wide.acquire_all(|id| seen = seen.wrapping_mul(1000).wrapping_add(id.as_value()));
-    assert_eq!(rt; seen, 3064130);
-    assert_eq!(rt; wide.acquire(), None);
+    same(&rt, &seen, &3064130);
+    same(&rt, &wide.acquire(), &None);
 }
 
 #[test]
 fn signals_are_counted(rt: HostRuntime) {
     let mut signals = Semaphore::new();
-    assert_eq!(rt; signals.init(), Ok(()));
-    assert_eq!(rt; signals.notify(), Ok(()));
-    assert_eq!(rt; signals.notify(), Ok(()));
+    same(&rt, &signals.init(), &Ok(()));
+    same(&rt, &signals.notify(), &Ok(()));
+    same(&rt, &signals.notify(), &Ok(()));
     for expected in [true, true, false] {
-        assert_eq!(rt; signals.try_wait(), Ok(expected));
+        same(&rt, &signals.try_wait(), &Ok(expected));
     }
 }
