@@ -1,5 +1,6 @@
 //! One text over both kinds, which knows the traits alone.
 use super::{configuration, file_name, with_id};
+use crate::same::same;
 use board_event::{
     BitEvent, BitRegistry, Event, Listener, ListenerBuilder, Notifier, NotifierBuilder,
     NotifierNotifyError, QueueEvent, QueueRegistry, TriggerId,
@@ -38,11 +39,11 @@ fn all<R: Wait, L: Listener>(rt: &R, listener: &L) -> usize {
 /// Three ids are handed over, one is taken, and then all.
 fn takes_three<R: Wait + Abort, L: Listener, N: Notifier>(rt: &R, listener: &L, notifier: &N) {
     for id in [3, 5, 7] {
-        assert_eq!(rt; notifier.notify(rt, TriggerId::new(id)), Ok(()));
+        same(rt, &notifier.notify(rt, TriggerId::new(id)), &Ok(()));
     }
-    assert_eq!(rt; listener.try_wait_one(rt), Ok(Some(TriggerId::new(3))));
-    assert_eq!(rt; all(rt, listener), 5007);
-    assert_eq!(rt; listener.try_wait_one(rt), Ok(None));
+    same(rt, &listener.try_wait_one(rt), &Ok(Some(TriggerId::new(3))));
+    same(rt, &all(rt, listener), &5007);
+    same(rt, &listener.try_wait_one(rt), &Ok(None));
 }
 
 /// What both kinds answer alike, from the first end to the last.
@@ -53,7 +54,7 @@ fn row_of_both<E: Event, R: Wait + Abort>(rt: &R, alloc: Global, registry: &E::R
     assert!(rt; is_held::<E, R>(rt, registry));
     listener.release(rt);
     let gone = notifier.notify(rt, TriggerId::new(9));
-    assert_eq!(rt; gone, Err(NotifierNotifyError::Disconnected));
+    same(rt, &gone, &Err(NotifierNotifyError::Disconnected));
     notifier.release(rt);
     assert!(rt; !is_held::<E, R>(rt, registry));
 }

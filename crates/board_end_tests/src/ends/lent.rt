@@ -5,6 +5,7 @@ use super::{
     Deed, Told, configuration, file_name, is_told, list_told, listens, one_told, opens,
     row_of_names, row_of_queues, row_of_sets, with_id,
 };
+use crate::same::same;
 use board_event::{
     EventListener, EventListenerBuilder, EventNotifier, EventRegistry, EventsOf, KindOfEvents,
     ListenerBuilder, LocalEvent, NotifierNotifyError, QueueOfIds, SetOfIds, TriggerId,
@@ -87,7 +88,7 @@ fn tell<R: Abort, K: KindOfEvents + Drop>(rt: &R, lent: &mut Lent<K>, deed: Deed
 
 fn row_is<R: Abort, K: KindOfEvents + Drop>(rt: &R, lent: &mut Lent<K>, row: &[(Deed, Told)]) {
     for (deed, told) in row {
-        assert_eq!(rt; tell(rt, lent, *deed), *told);
+        same(rt, &tell(rt, lent, *deed), told);
     }
 }
 
@@ -126,8 +127,8 @@ fn a_lent_event_goes_with_its_last_end(rt: HostRuntime) {
         ..
     } = make_lent::<HostRuntime, SetOfIds>(&rt, rt.alloc());
     let answer = released(&mut state, listener, notifier);
-    assert_eq!(rt; answer, Err(NotifierNotifyError::Disconnected));
-    assert_eq!(rt; state.name_at(0), None);
+    same(&rt, &answer, &Err(NotifierNotifyError::Disconnected));
+    same(&rt, &state.name_at(0), &None);
     assert!(rt; !state.events().has_listener(1));
     assert!(rt; !state.events().has_notifier(1));
 }

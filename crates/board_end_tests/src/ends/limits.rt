@@ -1,6 +1,7 @@
 //! Typed calls at their limits: the greatest id, a full queue, ends that go.
 use super::typed::{Ends, make_ends, row_is};
 use super::{Deed, Told, file_name, listens, opens};
+use crate::same::same;
 use board_event::{
     BitEvent, BitRegistry, Event, EventRegistry, KindOfEvents, Listener, ListenerBuilder, Notifier,
     NotifierBuilder, NotifierNotifyError, QUEUE_CAPACITY, QueueEvent, QueueOfIds, SetOfIds,
@@ -16,16 +17,21 @@ use std::time::Duration;
 fn the_kinds_differ_in_their_greatest_id(rt: HostRuntime) {
     assert!(rt; BitEvent::has_trigger_id_limit());
     assert!(rt; !QueueEvent::has_trigger_id_limit());
-    assert_eq!(rt; BitEvent::default_suffix(), file_name(&rt, b".event"));
-    assert_eq!(rt; QueueEvent::default_suffix(), file_name(&rt, b".event"));
+    same(&rt, &BitEvent::default_suffix(), &file_name(&rt, b".event"));
+    same(
+        &rt,
+        &QueueEvent::default_suffix(),
+        &file_name(&rt, b".event"),
+    );
     let sets: Ends<SetOfIds> = make_ends(&rt, rt.alloc(), 200);
-    assert_eq!(rt; *sets.listener.name(), file_name(&rt, b"e"));
-    assert_eq!(rt; *sets.notifier.name(), file_name(&rt, b"e"));
-    assert_eq!(rt; sets.notifier.trigger_id_max(), TriggerId::new(200));
+    same(&rt, sets.listener.name(), &file_name(&rt, b"e"));
+    same(&rt, sets.notifier.name(), &file_name(&rt, b"e"));
+    same(&rt, &sets.notifier.trigger_id_max(), &TriggerId::new(200));
     let queues: Ends<QueueOfIds> = make_ends(&rt, rt.alloc(), 200);
-    assert_eq!(rt;
-        queues.notifier.trigger_id_max(),
-        TriggerId::new(usize::MAX)
+    same(
+        &rt,
+        &queues.notifier.trigger_id_max(),
+        &TriggerId::new(usize::MAX),
     );
 }
 
@@ -36,7 +42,7 @@ fn a_set_goes_up_to_65535_unless_told_otherwise(rt: HostRuntime) {
     assert!(rt; listener.is_ok());
     let builder = opens(&rt, b"d", &registry).timeout(Duration::from_millis(5));
     let notifier = builder.open(&rt).expect(&rt, "a held name");
-    assert_eq!(rt; notifier.trigger_id_max(), TriggerId::new(65535));
+    same(&rt, &notifier.trigger_id_max(), &TriggerId::new(65535));
 }
 
 #[test]
@@ -71,7 +77,7 @@ fn fills<R: Wait, N: Notifier>(rt: &R, notifier: &N) -> (usize, Result<(), Notif
 fn a_queue_holds_512_ids(rt: HostRuntime) {
     let ends: Ends<QueueOfIds> = make_ends(&rt, rt.alloc(), 0);
     let full = Err(NotifierNotifyError::FailedToDeliverSignal);
-    assert_eq!(rt; fills(&rt, &ends.notifier), (QUEUE_CAPACITY, full));
+    same(&rt, &fills(&rt, &ends.notifier), &(QUEUE_CAPACITY, full));
     row_is(&rt, &ends, &[(Deed::TakeOne, Told::One(Some(0)))]);
     row_is(&rt, &ends, &[(Deed::Notify(9), Told::Notified(Ok(())))]);
 }
@@ -111,8 +117,8 @@ fn goes<R: Wait + Abort, K: KindOfEvents + Drop>(
 fn names_are_free_with_their_holders(rt: HostRuntime) {
     let gone = Err(NotifierNotifyError::Disconnected);
     let sets: Ends<SetOfIds> = make_ends(&rt, rt.alloc(), 127);
-    assert_eq!(rt; goes(&rt, sets), (gone, false, true));
+    same(&rt, &goes(&rt, sets), &(gone, false, true));
     let queues: Ends<QueueOfIds> = make_ends(&rt, rt.alloc(), 127);
     // The listener that was made anew is dropped without a release, so its name stays held.
-    assert_eq!(rt; goes(&rt, queues), (gone, true, false));
+    same(&rt, &goes(&rt, queues), &(gone, true, false));
 }

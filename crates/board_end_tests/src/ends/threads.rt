@@ -1,5 +1,6 @@
 //! A notifier and a listener in two threads.
 use super::typed::{Ends, make_ends};
+use crate::same::same;
 use board_event::{
     KindOfEvents, Listener, Notifier, NotifierNotifyError, QueueOfIds, SetOfIds, TriggerId,
 };
@@ -53,13 +54,13 @@ fn three_ids_of_a_set_come_from_another_thread(rt: HostRuntime) {
     let ends: Ends<SetOfIds> = make_ends(&rt, rt.alloc(), 127);
     let digits = three_between(&rt, ends);
     // The least first, of those that are there: 1 comes before 2 and 3, whatever comes when.
-    assert_eq!(rt; digits, 123);
+    same(&rt, &digits, &123);
 }
 
 #[test]
 fn three_ids_of_a_queue_come_from_another_thread(rt: HostRuntime) {
     let ends: Ends<QueueOfIds> = make_ends(&rt, rt.alloc(), 0);
-    assert_eq!(rt; three_between(&rt, ends), 123);
+    same(&rt, &three_between(&rt, ends), &123);
 }
 
 /// Hands each id on to the other thread and waits until it is back. Tells how many were.
@@ -106,14 +107,14 @@ fn back_between<R: Threads + Wait + Abort + Sync, K: KindOfEvents + Drop + Send 
 fn a_hundred_ids_of_sets_come_back(rt: HostRuntime) {
     let there: Ends<SetOfIds> = make_ends(&rt, rt.alloc(), 127);
     let back: Ends<SetOfIds> = make_ends(&rt, rt.alloc(), 127);
-    assert_eq!(rt; back_between(&rt, there, back, 100), 100);
+    same(&rt, &back_between(&rt, there, back, 100), &100);
 }
 
 #[test]
 fn a_hundred_ids_of_queues_come_back(rt: HostRuntime) {
     let there: Ends<QueueOfIds> = make_ends(&rt, rt.alloc(), 0);
     let back: Ends<QueueOfIds> = make_ends(&rt, rt.alloc(), 0);
-    assert_eq!(rt; back_between(&rt, there, back, 100), 100);
+    same(&rt, &back_between(&rt, there, back, 100), &100);
 }
 
 /// How many ids came in their order, until as many came as were sent. It stops where a wait comes back without an id.
@@ -154,16 +155,16 @@ fn right_between<R: Threads + Wait + Abort + Sync, K: KindOfEvents + Drop + Send
 #[test]
 fn a_thousand_ids_come_once_each(rt: HostRuntime) {
     let ends: Ends<QueueOfIds> = make_ends(&rt, rt.alloc(), 0);
-    assert_eq!(rt; right_between(&rt, &ends, 1000), 1000);
-    assert_eq!(rt; ends.listener.try_wait_one(&rt), Ok(None));
+    same(&rt, &right_between(&rt, &ends, 1000), &1000);
+    same(&rt, &ends.listener.try_wait_one(&rt), &Ok(None));
 }
 
 #[test]
 fn sixty_ids_of_a_set_come_once_each(rt: HostRuntime) {
     // Of one word, so that a wait for all takes them in the order in which they were set.
     let ends: Ends<SetOfIds> = make_ends(&rt, rt.alloc(), 63);
-    assert_eq!(rt; right_between(&rt, &ends, 60), 60);
-    assert_eq!(rt; ends.listener.try_wait_one(&rt), Ok(None));
+    same(&rt, &right_between(&rt, &ends, 60), &60);
+    same(&rt, &ends.listener.try_wait_one(&rt), &Ok(None));
 }
 
 /// Notifies until the listener is gone, and tells the last answer.
@@ -206,6 +207,6 @@ fn leaves_between<R: Threads + Wait + Abort + Sync>(
 fn a_notifier_finds_its_listener_gone(rt: HostRuntime) {
     let ends: Ends<QueueOfIds> = make_ends(&rt, rt.alloc(), 0);
     let (answer, id) = leaves_between(&rt, ends);
-    assert_eq!(rt; answer, Err(NotifierNotifyError::Disconnected));
-    assert_eq!(rt; id, Some(TriggerId::new(1)));
+    same(&rt, &answer, &Err(NotifierNotifyError::Disconnected));
+    same(&rt, &id, &Some(TriggerId::new(1)));
 }

@@ -1,6 +1,7 @@
 //! Waits that end when their time is up.
 use super::typed::{Ends, make_ends};
 use super::with_id;
+use crate::same::same;
 use board_event::{KindOfEvents, Listener, Notifier, QueueOfIds, SetOfIds, TriggerId};
 use std::process::Abort;
 use std::sync::Wait;
@@ -40,9 +41,9 @@ fn is_past<R: Clock>(rt: &R, start: Option<Instant>, time: Duration) -> bool {
 // Nothing is notified, so both waits end with their time.
 fn ends_with_its_time<R: Wait + Abort + Clock, L: Listener>(rt: &R, listener: &L) {
     let start = Instant::now(rt).ok();
-    assert_eq!(rt; one(rt, listener, short()), None);
+    same(rt, &one(rt, listener, short()), &None);
     assert!(rt; is_past(rt, start, short()));
-    assert_eq!(rt; all(rt, listener, short()), 0);
+    same(rt, &all(rt, listener, short()), &0);
     assert!(rt; is_past(rt, start, Duration::from_millis(40)));
 }
 
@@ -50,10 +51,10 @@ fn ends_with_its_time<R: Wait + Abort + Clock, L: Listener>(rt: &R, listener: &L
 fn takes_what_waits<R: Wait + Abort + Clock, K: KindOfEvents + Drop>(rt: &R, ends: &Ends<K>) {
     let start = Instant::now(rt).ok();
     for id in [5, 7, 8] {
-        assert_eq!(rt; ends.notifier.notify(rt, TriggerId::new(id)), Ok(()));
+        same(rt, &ends.notifier.notify(rt, TriggerId::new(id)), &Ok(()));
     }
-    assert_eq!(rt; one(rt, &ends.listener, long()), Some(5));
-    assert_eq!(rt; all(rt, &ends.listener, long()), 7008);
+    same(rt, &one(rt, &ends.listener, long()), &Some(5));
+    same(rt, &all(rt, &ends.listener, long()), &7008);
     assert!(rt; !is_past(rt, start, long()));
 }
 

@@ -3,6 +3,7 @@ use super::{
     Deed, Told, configuration, file_name, is_told, list_told, listens, one_told, opens,
     row_of_names, row_of_queues, row_of_sets, with_id,
 };
+use crate::same::same;
 use board_event::{
     EventListener, EventNotifier, EventRegistry, KindOfEvents, Listener, ListenerBuilder,
     LocalEvent, Notifier, NotifierBuilder, QueueOfIds, SetOfIds, TriggerId,
@@ -105,7 +106,7 @@ pub(super) fn row_is<R: Wait + Abort, K: KindOfEvents + Drop>(
     row: &[(Deed, Told)],
 ) {
     for (deed, told) in row {
-        assert_eq!(rt; tell(rt, ends, *deed), *told);
+        same(rt, &tell(rt, ends, *deed), told);
     }
 }
 
@@ -117,7 +118,7 @@ fn a_callback_that_is_lent_is_called_on_what_waits(rt: HostRuntime) {
     let mut seen = 0usize;
     ends.listener
         .take_all(&rt, &mut |id| seen = with_id(seen, id));
-    assert_eq!(rt; seen, 2008);
+    same(&rt, &seen, &2008);
 }
 
 #[test]

@@ -1,6 +1,7 @@
 //! Two events of one registry: ids of the one aren't the other's, and a notify wakes who waits for it, whoever else sleeps.
 use super::threads::leaves;
 use super::{listens, opens};
+use crate::same::same;
 use board_event::{
     EventListener, EventNotifier, EventRegistry, KindOfEvents, Listener, ListenerBuilder, Notifier,
     NotifierBuilder, NotifierNotifyError, QueueOfIds, SetOfIds, TriggerId,
@@ -49,12 +50,12 @@ fn make_pair<R: Wait + Abort, K: KindOfEvents + Drop>(rt: &R, alloc: Global) -> 
 }
 
 fn stay_apart<R: Wait + Abort, K: KindOfEvents + Drop>(rt: &R, pair: &Pair<K>) {
-    assert_eq!(rt; pair.to_y.notify(rt, TriggerId::new(5)), Ok(()));
-    assert_eq!(rt; pair.x.try_wait_one(rt), Ok(None));
-    assert_eq!(rt; pair.to_x.notify(rt, TriggerId::new(6)), Ok(()));
-    assert_eq!(rt; pair.y.try_wait_one(rt), Ok(Some(TriggerId::new(5))));
-    assert_eq!(rt; pair.y.try_wait_one(rt), Ok(None));
-    assert_eq!(rt; pair.x.try_wait_one(rt), Ok(Some(TriggerId::new(6))));
+    same(rt, &pair.to_y.notify(rt, TriggerId::new(5)), &Ok(()));
+    same(rt, &pair.x.try_wait_one(rt), &Ok(None));
+    same(rt, &pair.to_x.notify(rt, TriggerId::new(6)), &Ok(()));
+    same(rt, &pair.y.try_wait_one(rt), &Ok(Some(TriggerId::new(5))));
+    same(rt, &pair.y.try_wait_one(rt), &Ok(None));
+    same(rt, &pair.x.try_wait_one(rt), &Ok(Some(TriggerId::new(6))));
 }
 
 #[test]
@@ -111,8 +112,8 @@ fn both_come_back<
 
 /// Whether `x` came back with the one id and `y` with the other.
 fn are<R: Abort>(rt: &R, came: (Option<TriggerId>, Option<TriggerId>), x: usize, y: usize) {
-    assert_eq!(rt; came.0, Some(TriggerId::new(x)));
-    assert_eq!(rt; came.1, Some(TriggerId::new(y)));
+    same(rt, &came.0, &Some(TriggerId::new(x)));
+    same(rt, &came.1, &Some(TriggerId::new(y)));
 }
 
 #[test]
@@ -157,11 +158,11 @@ fn comes_of_lent<
 #[test]
 fn a_lent_notify_wakes_who_sleeps(rt: HostRuntime) {
     let (id, answer) = comes_of_lent::<HostRuntime, SetOfIds>(&rt, rt.alloc());
-    assert_eq!(rt; id, Some(TriggerId::new(5)));
-    assert_eq!(rt; answer, Ok(()));
+    same(&rt, &id, &Some(TriggerId::new(5)));
+    same(&rt, &answer, &Ok(()));
     let (id, answer) = comes_of_lent::<HostRuntime, QueueOfIds>(&rt, rt.alloc());
-    assert_eq!(rt; id, Some(TriggerId::new(5)));
-    assert_eq!(rt; answer, Ok(()));
+    same(&rt, &id, &Some(TriggerId::new(5)));
+    same(&rt, &answer, &Ok(()));
 }
 
 /// A listener that is made over the events behind the registry's lock.
@@ -207,9 +208,9 @@ fn comes_to_lent<
 #[test]
 fn a_listener_of_lent_events_is_woken(rt: HostRuntime) {
     let (id, answer) = comes_to_lent::<HostRuntime, SetOfIds>(&rt, rt.alloc());
-    assert_eq!(rt; id, Some(TriggerId::new(5)));
-    assert_eq!(rt; answer, Ok(()));
+    same(&rt, &id, &Some(TriggerId::new(5)));
+    same(&rt, &answer, &Ok(()));
     let (id, answer) = comes_to_lent::<HostRuntime, QueueOfIds>(&rt, rt.alloc());
-    assert_eq!(rt; id, Some(TriggerId::new(5)));
-    assert_eq!(rt; answer, Ok(()));
+    same(&rt, &id, &Some(TriggerId::new(5)));
+    same(&rt, &answer, &Ok(()));
 }
