@@ -1,4 +1,5 @@
 //! Each concept stands in a module of its own.
+use crate::same::same;
 use board_concepts::communication_channel::{self, CommunicationChannel};
 use board_concepts::monitoring::{self, Monitoring};
 use board_concepts::static_storage::{self, StaticStorage};
@@ -18,7 +19,7 @@ fn each_concept_has_its_suffix(rt: HostRuntime) -> Result<(), Fail> {
         ),
     ];
     for (suffix, wanted) in suffixes {
-        assert_eq!(rt; suffix.as_bytes(), wanted);
+        same(&rt, &suffix.as_bytes(), &wanted);
     }
     Ok(())
 }

@@ -2,6 +2,7 @@
 ghost use Rattle.std.specs.Prelude.{IfOk};
 ghost use Rattle.board_concepts.specs.DescriptionSpelling.{IsWritable};
 
+use crate::same::same;
 use board_concepts::serialize::{Postcard, Recommended, Serialize};
 use board_concepts::{
     AttributeSet, AttributeSpecifier, Description, no_spelling_begins_another,
@@ -38,19 +39,20 @@ fn a_description_is_thirteen_bytes(rt: HostRuntime) -> Result<(), Fail> {
     what_is_written_reads_back();
     let description = described(8, AttributeSet::new(rt.alloc()))?;
     let bytes = Postcard::serialize(rt.alloc(), &description)?;
-    assert_eq!(rt; bytes.as_slice(), BYTES.as_slice());
+    same(&rt, &bytes.as_slice(), &BYTES.as_slice());
     let read = Recommended::deserialize(rt.alloc(), &bytes)?;
-    assert_eq!(rt;
-        (
+    same(
+        &rt,
+        &(
             read.version,
             read.max_readers,
             read.max_nodes,
-            read.max_writers
+            read.max_writers,
         ),
-        (1, 8, 20, 1)
+        &(1, 8, 20, 1),
     );
     assert!(rt; read.name == description.name && read.key == description.key);
-    assert_eq!(rt; read.attributes.len(), 0);
+    same(&rt, &read.attributes.len(), &0);
     Ok(())
 }
 
@@ -64,15 +66,15 @@ fn version_two_spells_the_writers(rt: HostRuntime) -> Result<(), Fail> {
     let old = Postcard::deserialize(alloc, &BYTES)?;
     let one = old.upgraded();
     let bytes = Postcard::serialize(alloc, &one)?;
-    assert_eq!(rt; bytes.as_slice(), OF_VERSION_TWO.as_slice());
+    same(&rt, &bytes.as_slice(), &OF_VERSION_TWO.as_slice());
     let three = Description {
         max_writers: 3,
         ..one
     };
     let bytes = Postcard::serialize(alloc, &three)?;
-    assert_eq!(rt; bytes.get(12..), Some([0x03, 0x00].as_slice()));
+    same(&rt, &bytes.get(12..), &Some([0x03, 0x00].as_slice()));
     let read = Postcard::deserialize(alloc, &bytes)?;
-    assert_eq!(rt; (read.version, read.max_writers), (2, 3));
+    same(&rt, &(read.version, read.max_writers), &(2, 3));
     for end in 0..14 {
         let (front, _) = OF_VERSION_TWO.split_at(end);
         assert!(rt; is_refused::<Postcard>(alloc, front), "{end} bytes");
@@ -86,11 +88,12 @@ fn three_hundred_readers_are_two_bytes(rt: HostRuntime) -> Result<(), Fail> {
     let description = described(300, attributes.into_set())?;
     let bytes = Postcard::serialize(rt.alloc(), &description)?;
     let wanted = [0xAC, 0x02, 0x14, 0x01, 0x01, b'k', 0x03, b'v', b'a', b'l'];
-    assert_eq!(rt; bytes.get(10..), Some(wanted.as_slice()));
+    same(&rt, &bytes.get(10..), &Some(wanted.as_slice()));
     let read = Postcard::deserialize(rt.alloc(), &bytes)?;
-    assert_eq!(rt;
-        read.attributes.pair_at(0),
-        Some((b"k".as_slice(), b"val".as_slice()))
+    same(
+        &rt,
+        &read.attributes.pair_at(0),
+        &Some((b"k".as_slice(), b"val".as_slice())),
     );
     Ok(())
 }

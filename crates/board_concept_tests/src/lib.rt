@@ -10,3 +10,5 @@ mod concepts;
 mod descriptions;
 #[cfg(test)]
 mod policies;
+#[cfg(test)]
+mod same;

@@ -1,4 +1,5 @@
 //! Policies and hashes.
+use crate::same::same;
 use board_concepts::arc_sync_policy::{ArcSyncPolicy, MutexProtected, SingleThreaded};
 use board_concepts::hash::{Hash, HashValue, Recommended, Sha1};
 use board_names::ArcSyncPolicyCreationError;
@@ -22,9 +23,9 @@ fn one_more<W: Wait, P: ArcSyncPolicy<u32> + Drop>(
 #[test]
 fn policies_show_their_value(rt: HostRuntime) -> Result<(), Fail> {
     let locked = one_more::<HostRuntime, MutexProtected<u32>>(&rt, rt.alloc())?;
-    assert_eq!(rt; locked, (8, 8));
+    same(&rt, &locked, &(8, 8));
     let single = one_more::<HostRuntime, SingleThreaded<u32>>(&rt, rt.alloc())?;
-    assert_eq!(rt; single, (8, 8));
+    same(&rt, &single, &(8, 8));
     Ok(())
 }
 
@@ -38,7 +39,7 @@ fn hashed<H: Hash + Drop>(bytes: &[u8]) -> HashValue {
 fn abc_is_hashed_as_the_standard_says(rt: HostRuntime) {
     let wanted = b"a9993e364706816aba3e25717850c26c9cd0d89d";
     let value = hashed::<Sha1>(b"abc");
-    assert_eq!(rt; value.as_base64url().as_bytes(), wanted.as_slice());
+    same(&rt, &value.as_base64url().as_bytes(), &wanted.as_slice());
     assert!(rt; hashed::<Recommended>(b"abc") == value);
     assert!(rt; hashed::<Recommended>(b"abd") != value);
 }
