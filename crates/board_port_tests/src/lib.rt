@@ -7,6 +7,8 @@ mod cells;
 #[cfg(test)]
 mod ports;
 #[cfg(test)]
+mod same;
+#[cfg(test)]
 mod seats;
 #[cfg(test)]
 mod service;

@@ -2,6 +2,7 @@
 ghost use Rattle.std.specs.Prelude.{◌≡◌, ◌+◌, ◌^◌, ◌<◌};
 ghost use Rattle.board_layout.specs.Layout.{cell_end};
 
+use crate::same::same;
 use board_cell::{Access, run_update};
 use board_ports::{CellShape, LoanCore, WriteCore};
 use std::test::*;
@@ -70,10 +71,10 @@ fn a_loan_is_filled_whatever_was_put(rt: HostRuntime) -> Result<(), Fail> {
     let mut accesses = Vec::new(alloc);
     run_update(&mut loan.fill(vec![in alloc; 5, 6, 7, 8]?), &mut accesses)?;
     let expected = [(6, 5), (7, 6), (8, 7), (9, 8), (0, 2)];
-    assert_eq!(rt; accesses.len(), expected.len());
+    same(&rt, &accesses.len(), &expected.len());
     for (access, (word, value)) in accesses.iter().zip(expected) {
-        assert_eq!(rt; *access, Access::Write { word, value });
+        same(&rt, access, &Access::Write { word, value });
     }
-    assert_eq!(rt; *loan.handle(), WRITE);
+    same(&rt, loan.handle(), &WRITE);
     Ok(())
 }

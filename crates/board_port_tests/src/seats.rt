@@ -2,6 +2,7 @@
 ghost use Rattle.std.specs.Prelude.{IfOk};
 ghost use Rattle.board_service.specs.Entries.{HaveShapes};
 
+use crate::same::same;
 use board_cell::SeatWords;
 use board_concepts::AttributeSet;
 use board_layout::{TypeDetail, TypeVariant};
@@ -66,10 +67,10 @@ fn a_get_reads_what_was_published_last(rt: HostRuntime) -> Result<(), Fail> {
     let alloc = rt.alloc();
     let mut domain: Words = DomainCore::new(alloc);
     let (read, write) = new_board(alloc, &mut domain)?;
-    assert_eq!(rt; last_word(alloc, &mut domain, &read)?, Some((1, 8)));
-    assert_eq!(rt; publish(alloc, &mut domain, &write, 9)?, Ok(2));
-    assert_eq!(rt; last_word(alloc, &mut domain, &read)?, Some((2, 9)));
-    assert_eq!(rt; fresh::<u64>(&mut domain, &read, 1), Some(false));
-    assert_eq!(rt; fresh::<u64>(&mut domain, &read, 2), Some(true));
+    same(&rt, &last_word(alloc, &mut domain, &read)?, &Some((1, 8)));
+    same(&rt, &publish(alloc, &mut domain, &write, 9)?, &Ok(2));
+    same(&rt, &last_word(alloc, &mut domain, &read)?, &Some((2, 9)));
+    same(&rt, &fresh::<u64>(&mut domain, &read, 1), &Some(false));
+    same(&rt, &fresh::<u64>(&mut domain, &read, 2), &Some(true));
     Ok(())
 }

@@ -2,6 +2,7 @@
 ghost use Rattle.std.specs.Prelude.{◌≤◌, IfSome};
 
 use super::ends::one_cell;
+use crate::same::same;
 use board_cell::a_get_is_no_older;
 use board_cells::{ReadEnd, SentReceipt, WriteEnd};
 use std::collections::VecDeque;
@@ -88,6 +89,6 @@ fn a_hundred_receipts_are_of_what_was_read(rt: HostRuntime) -> Result<(), Fail> 
         || publish_all(&rt, end, words, &post),
         || read_all(&rt, out, &post),
     );
-    assert_eq!(rt; right, 100);
+    same(&rt, &right, &100);
     Ok(())
 }

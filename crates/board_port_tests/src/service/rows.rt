@@ -6,6 +6,7 @@ use super::lent::{
     ANY, both_handles, cells_of, free_readers, have_one_place, new_reader, replaced,
     spare_key_bytes,
 };
+use crate::same::same;
 use board_cell::PlainWords;
 use board_concepts::{AttributeSet, AttributeVerifier};
 use board_layout::{TypeDetail, TypeVariant};
@@ -40,10 +41,11 @@ fn a_board_is_opened(rt: HostRuntime) -> Result<(), Fail> {
     let name = ServiceName::new("f")?;
     let needs = AttributeVerifier::new(rt.alloc());
     let opened = core.open::<u64>(NodeId(2), &name, ANY, &needs)?;
-    assert_eq!(rt; (opened.thing.0, opened.number), (2, 1));
-    assert_eq!(rt;
-        [core.node_at(1, 0), core.node_at(1, 1), core.node_at(1, 2)],
-        [Some(NodeId(2)), Some(NodeId(9)), None]
+    same(&rt, &(opened.thing.0, opened.number), &(2, 1));
+    same(
+        &rt,
+        &[core.node_at(1, 0), core.node_at(1, 1), core.node_at(1, 2)],
+        &[Some(NodeId(2)), Some(NodeId(9)), None],
     );
     Ok(())
 }
@@ -52,17 +54,17 @@ fn a_board_is_opened(rt: HostRuntime) -> Result<(), Fail> {
 fn handles_are_made_by_who_holds_a_factory(rt: HostRuntime) -> Result<(), Fail> {
     let number = TypeDetail::new::<u64>(TypeVariant::FixedSize);
     let mut core = one_board(rt.alloc())?;
-    assert_eq!(rt; free_readers(&mut core, 1), 8);
+    same(&rt, &free_readers(&mut core, 1), &8);
     if !core.is_held::<u64>(ThingId(1), ThingKind::Factory) {
         return Err(Fail::new("no factory"));
     }
-    assert_eq!(rt; new_reader(&mut core, ThingId(1)), Some(ThingId(2)));
+    same(&rt, &new_reader(&mut core, ThingId(1)), &Some(ThingId(2)));
     if !core.is_held::<u64>(ThingId(1), ThingKind::Factory) {
         return Err(Fail::new("no factory any more"));
     }
     let made = both_handles::<u64, PlainWords>(&mut core, ThingId(1), &7, &number);
-    assert_eq!(rt; made.map(|m| (m.0.entry, m.1.entry)), Some((1, 1)));
-    assert_eq!(rt; free_readers(&mut core, 1), 6);
+    same(&rt, &made.map(|m| (m.0.entry, m.1.entry)), &Some((1, 1)));
+    same(&rt, &free_readers(&mut core, 1), &6);
     Ok(())
 }
 
@@ -76,7 +78,7 @@ fn the_name_of_a_board_that_went_is_free(rt: HostRuntime) -> Result<(), Fail> {
     let attributes = AttributeSet::new(alloc);
     let entries = two_entries(alloc)?;
     match replaced::<u64, PlainWords>(&mut core, ThingId(1), NodeId(2), attributes, entries) {
-        Some(Ok(made)) => assert_eq!(rt; (made.thing.0, made.number), (2, 2)),
+        Some(Ok(made)) => same(&rt, &(made.thing.0, made.number), &(2, 2)),
         _ => return Err(Fail::new("no second board")),
     }
     Ok(())
@@ -86,13 +88,13 @@ fn the_name_of_a_board_that_went_is_free(rt: HostRuntime) -> Result<(), Fail> {
 fn a_board_is_told(rt: HostRuntime) -> Result<(), Fail> {
     let core = one_board(rt.alloc())?;
     assert!(rt; core.stands(1) && !core.stands(2));
-    assert_eq!(rt; spare_key_bytes(&core, 1), 56);
+    same(&rt, &spare_key_bytes(&core, 1), &56);
     assert!(rt; have_one_place(&core, 1, 1, 1));
     assert!(rt; !have_one_place(&core, 1, 0, 1) && !have_one_place(&core, 1, 2, 2));
     assert!(rt; cells_of::<u64, PlainWords>(&core, ThingId(1), ThingKind::Factory).is_some());
     assert!(rt; cells_of::<u64, PlainWords>(&core, ThingId(1), ThingKind::Reader).is_none());
-    assert_eq!(rt; core.key_at(1, 1).map(|k| k.bytes[0]), Some(7));
-    assert_eq!(rt; core.key_at(1, 2).is_none(), true);
+    same(&rt, &core.key_at(1, 1).map(|k| k.bytes[0]), &Some(7));
+    same(&rt, &core.key_at(1, 2).is_none(), &true);
     Ok(())
 }
 
@@ -102,7 +104,7 @@ fn a_description_is_fourteen_bytes(rt: HostRuntime) -> Result<(), Fail> {
     let bytes = [
         0x02, 0x01, 0x66, 0x00, 0x03, 0x75, 0x36, 0x34, 0x08, 0x08, 0x08, 0x14, 0x01, 0x00,
     ];
-    assert_eq!(rt; core.description_of(1), Some(bytes.as_slice()));
-    assert_eq!(rt; core.description_of(2), None);
+    same(&rt, &core.description_of(1), &Some(bytes.as_slice()));
+    same(&rt, &core.description_of(2), &None);
     Ok(())
 }
