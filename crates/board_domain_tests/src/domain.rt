@@ -9,6 +9,7 @@ mod receipts;
 mod released;
 mod typed;
 
+use crate::same::same;
 use board_concepts::Policy;
 use board_domain::{CallbackProgression, Creator, Node, Opener, PortFactory, ServiceBuilder};
 use board_handles::Domain;
@@ -62,13 +63,15 @@ fn second_opener<P: Policy, R: Abort>(rt: &R, alloc: Global, node: &Node) -> Ope
 
 // The second board has the next number, and no attributes, as it was made and as it was opened.
 fn is_second<P, R: Abort>(rt: &R, made: &PortFactory<u64, P>, opened: &PortFactory<u64, P>) {
-    assert_eq!(rt;
-        (made.unique_service_id(), opened.unique_service_id()),
-        (2, 2)
+    same(
+        rt,
+        &(made.unique_service_id(), opened.unique_service_id()),
+        &(2, 2),
     );
-    assert_eq!(rt;
-        (made.attributes().len(), opened.attributes().len()),
-        (0, 0)
+    same(
+        rt,
+        &(made.attributes().len(), opened.attributes().len()),
+        &(0, 0),
     );
 }
 

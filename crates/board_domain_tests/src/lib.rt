@@ -3,3 +3,5 @@
 
 #[cfg(test)]
 mod domain;
+#[cfg(test)]
+mod same;

@@ -1,6 +1,7 @@
 //! A board is opened by what is needed of its attributes.
 use super::typed::{new_board, new_node, new_reader, new_writer, read_handle};
 use super::{creator, is_second, new_domain, opener, second_creator, second_opener};
+use crate::same::same;
 use board_concepts::{AttributeSpecifier, AttributeVerifier, Policy, Shared, Single};
 use board_domain::{Node, PortFactory};
 use board_names::{BlackboardCreateError, BlackboardOpenError};
@@ -38,12 +39,16 @@ fn looked_at<P: Policy, R: Wait + Abort>(rt: &R, alloc: Global) {
     let node = new_node(rt, &domain, "one");
     let made = make::<P, R>(rt, alloc, &node, "si");
     let refused = open::<P, R>(rt, alloc, &node, "miles").err();
-    assert_eq!(rt; refused, Some(BlackboardOpenError::IncompatibleAttributes));
+    same(
+        rt,
+        &refused,
+        &Some(BlackboardOpenError::IncompatibleAttributes),
+    );
     let opened = open::<P, R>(rt, alloc, &node, "si").expect(rt, "its unit");
-    assert_eq!(rt; opened.attributes().len(), 1);
-    assert_eq!(rt; made.attributes().len(), 1);
+    same(rt, &opened.attributes().len(), &1);
+    same(rt, &made.attributes().len(), &1);
     let again = creator::<P, R>(rt, alloc, &node).create(rt).err();
-    assert_eq!(rt; again, Some(BlackboardCreateError::AlreadyExists));
+    same(rt, &again, &Some(BlackboardCreateError::AlreadyExists));
 }
 
 #[test]
@@ -77,9 +82,9 @@ fn open_second<P: Policy, R: Wait + Abort>(
 // A reader of the second board has the next number of all ports, and reads that board's value.
 fn is_read<P, R: Wait + Abort>(rt: &R, board: &PortFactory<u64, P>) {
     let reader = new_reader(rt, board);
-    assert_eq!(rt; reader.id().0, 2);
+    same(rt, &reader.id().0, &2);
     let value = read_handle(rt, &reader).get(rt);
-    assert_eq!(rt; (*value.get_ref(), value.generation()), (3, 1));
+    same(rt, &(*value.get_ref(), value.generation()), &(3, 1));
 }
 
 fn two_boards<P: Policy, R: Wait + Abort>(rt: &R, alloc: Global) {
@@ -87,7 +92,7 @@ fn two_boards<P: Policy, R: Wait + Abort>(rt: &R, alloc: Global) {
     let node = new_node(rt, &domain, "one");
     let first = new_board::<P, R>(rt, alloc, &node);
     let writer = new_writer(rt, &first);
-    assert_eq!(rt; (first.unique_service_id(), writer.id().0), (1, 1));
+    same(rt, &(first.unique_service_id(), writer.id().0), &(1, 1));
     let made = make_second::<P, R>(rt, alloc, &node);
     let opened = open_second::<P, R>(rt, alloc, &node);
     is_second(rt, &made, &opened);

@@ -3,6 +3,7 @@ use super::published::publish;
 use super::{
     creator, is_second, new_domain, node_name, note, opener, second_creator, second_opener, taken,
 };
+use crate::same::same;
 use board_concepts::{AttributeSpecifier, AttributeVerifier, Policy, Shared, Single};
 use board_domain::{Node, PortFactory};
 use board_handles::{Domain, DomainState, EntryHandle, EntryHandleMut, Reader, Writer};
@@ -89,17 +90,17 @@ fn is_counted<P, R: Abort>(
     board: &PortFactory<u64, P>,
     reader: Reader<u64, P>,
 ) {
-    assert_eq!(rt; walks(state, board, 9), (12, 12));
-    assert_eq!(rt; walks(state, board, 1), (1, 1));
-    assert_eq!(rt; board.dynamic_config_in(state), taken(1, 1, 2));
+    same(rt, &walks(state, board, 9), &(12, 12));
+    same(rt, &walks(state, board, 1), &(1, 1));
+    same(rt, &board.dynamic_config_in(state), &taken(1, 1, 2));
     reader.release_in(state);
-    assert_eq!(rt; board.dynamic_config_in(state), taken(0, 1, 2));
+    same(rt, &board.dynamic_config_in(state), &taken(0, 1, 2));
 }
 
 fn ports_are_counted<P, R: Abort>(rt: &R, state: &mut DomainState, boards: &Boards<P>) {
     let writer = new_writer(rt, state, &boards.made);
     let reader = new_reader(rt, state, &boards.opened);
-    assert_eq!(rt; (writer.id().0, reader.id().0), (1, 2));
+    same(rt, &(writer.id().0, reader.id().0), &(1, 2));
     is_counted(rt, state, &boards.made, reader);
     writer.release_in(state);
 }
@@ -107,14 +108,18 @@ fn ports_are_counted<P, R: Abort>(rt: &R, state: &mut DomainState, boards: &Boar
 fn told<P: Policy, R: Abort>(rt: &R, alloc: Global) {
     let mut state = DomainState::new(alloc);
     let boards = make_boards::<P, R>(rt, alloc, &mut state);
-    assert_eq!(rt; lent_walks(&state, &boards.opened, 9), (12, 12));
-    assert_eq!(rt; lent_walks(&state, &boards.opened, 1), (1, 1));
+    same(rt, &lent_walks(&state, &boards.opened, 9), &(12, 12));
+    same(rt, &lent_walks(&state, &boards.opened, 1), &(1, 1));
     // In another state the factory isn't held.
-    assert_eq!(rt; walks(&DomainState::new(alloc), &boards.opened, 9), (0, 0));
+    same(
+        rt,
+        &walks(&DomainState::new(alloc), &boards.opened, 9),
+        &(0, 0),
+    );
     ports_are_counted(rt, &mut state, &boards);
     let Boards { made, opened } = boards;
     made.release_in(&mut state);
-    assert_eq!(rt; opened.dynamic_config_in(&state), taken(0, 0, 1));
+    same(rt, &opened.dynamic_config_in(&state), &taken(0, 0, 1));
     opened.release_in(&mut state);
 }
 
@@ -132,11 +137,11 @@ fn refusals<P, R: Abort>(
     writer: &Writer<u64, P>,
 ) {
     let second = writer.entry_in::<u64>(state, &1).err();
-    assert_eq!(rt; second, Some(EntryHandleMutError::HandleAlreadyExists));
+    same(rt, &second, &Some(EntryHandleMutError::HandleAlreadyExists));
     let missing = reader.entry_in::<u64>(state, &3).err();
-    assert_eq!(rt; missing, Some(EntryHandleError::EntryDoesNotExist));
+    same(rt, &missing, &Some(EntryHandleError::EntryDoesNotExist));
     let other_type = reader.entry_in::<u32>(state, &1).err();
-    assert_eq!(rt; other_type, Some(EntryHandleError::EntryDoesNotExist));
+    same(rt, &other_type, &Some(EntryHandleError::EntryDoesNotExist));
 }
 
 pub(super) fn write_handle<P, R: Abort>(
@@ -166,13 +171,13 @@ fn places<P, R: Abort>(
     write: &EntryHandleMut<u64, u64, P>,
 ) {
     let number = read_handle(rt, state, reader);
-    assert_eq!(rt; number.entry_id().as_value(), 0);
-    assert_eq!(rt; write.entry_id().as_value(), 0);
+    same(rt, &number.entry_id().as_value(), &0);
+    same(rt, &write.entry_id().as_value(), &0);
     let truth = reader.entry_in::<bool>(state, &2).expect(rt, "an entry");
-    assert_eq!(rt; truth.entry_id().as_value(), 32);
+    same(rt, &truth.entry_id().as_value(), &32);
     let truth = writer.entry_in::<bool>(state, &2);
     let truth = truth.expect(rt, "a free entry");
-    assert_eq!(rt; truth.entry_id().as_value(), 32);
+    same(rt, &truth.entry_id().as_value(), &32);
 }
 
 pub(super) fn drop_loan<P>(state: &mut DomainState, write: EntryHandleMut<u64, u64, P>) {
@@ -239,9 +244,9 @@ fn open_second<P: Policy, R: Abort>(
 // A reader of the second board has the next number of all ports, and reads that board's value.
 fn is_read<P, R: Wait + Abort>(rt: &R, state: &mut DomainState, board: &PortFactory<u64, P>) {
     let reader = new_reader(rt, state, board);
-    assert_eq!(rt; reader.id().0, 2);
+    same(rt, &reader.id().0, &2);
     let value = read_handle(rt, state, &reader).get(rt);
-    assert_eq!(rt; (*value.get_ref(), value.generation()), (3, 1));
+    same(rt, &(*value.get_ref(), value.generation()), &(3, 1));
 }
 
 fn two_boards<P: Policy, R: Wait + Abort>(rt: &R, alloc: Global) {
@@ -250,7 +255,7 @@ fn two_boards<P: Policy, R: Wait + Abort>(rt: &R, alloc: Global) {
     let node = new_node(rt, &mut state, &domain, "one");
     let first = new_board::<P, R>(rt, alloc, &mut state, &node);
     let writer = new_writer(rt, &mut state, &first);
-    assert_eq!(rt; (first.unique_service_id(), writer.id().0), (1, 1));
+    same(rt, &(first.unique_service_id(), writer.id().0), &(1, 1));
     let made = make_second::<P, R>(rt, alloc, &mut state, &node);
     let opened = open_second::<P, R>(rt, alloc, &mut state, &node);
     is_second(rt, &made, &opened);
@@ -286,7 +291,7 @@ fn one_at_a_time<P: Policy, R: Abort>(rt: &R, alloc: Global) {
     let writer = new_writer(rt, &mut state, &board);
     let write = write_handle(rt, &mut state, &writer);
     let second = asked_beside(&mut state, &writer, write);
-    assert_eq!(rt; second, Some(EntryHandleMutError::HandleAlreadyExists));
+    same(rt, &second, &Some(EntryHandleMutError::HandleAlreadyExists));
     write_handle(rt, &mut state, &writer).release_in(&mut state);
 }
 

@@ -2,6 +2,7 @@
 use super::new_domain;
 use super::published::publish_word;
 use super::typed::{new_board, new_node, new_reader, new_writer, read_handle, write_handle};
+use crate::same::same;
 use board_concepts::{Policy, Shared, Single};
 use board_handles::{EntryHandle, EntryHandleMut, Writer};
 use board_names::EntryHandleMutError;
@@ -60,8 +61,8 @@ fn lent<P: Policy, R: Wait + Abort>(rt: &R, alloc: Global) {
     let write = discard_word(write, 12);
     let mut write = publish_other(write, 12, 13);
     let value = read.try_get(1).ok().expect(rt, "no one writes");
-    assert_eq!(rt; (*value.get_ref(), value.generation()), (13, 3));
-    assert_eq!(rt; write.receipt().generation(), 3);
+    same(rt, &(*value.get_ref(), value.generation()), &(13, 3));
+    same(rt, &write.receipt().generation(), &3);
     drop_loan(rt, write);
     assert_eq!(rt; read.get(rt).generation(), 3, "nothing was published");
 }
@@ -94,7 +95,7 @@ fn one_at_a_time<P: Policy, R: Wait + Abort>(rt: &R, alloc: Global) {
     let writer = new_writer(rt, &board);
     let write = write_handle(rt, &writer);
     let second = asked_beside(rt, &writer, write);
-    assert_eq!(rt; second, Some(EntryHandleMutError::HandleAlreadyExists));
+    same(rt, &second, &Some(EntryHandleMutError::HandleAlreadyExists));
     write_handle(rt, &writer).release(rt);
 }
 

@@ -1,4 +1,5 @@
 //! Values are published and read, by handles whichever call made them.
+use crate::same::same;
 use board_handles::{BlackboardValue, EntryHandle, EntryHandleMut};
 use std::alloc::Global;
 use std::process::Abort;
@@ -31,7 +32,7 @@ pub(super) fn publish_word<P>(
 fn is_printed<R: Abort>(rt: &R, alloc: Global, value: &BlackboardValue<u64>, expected: &str) {
     let mut text = String::new(alloc);
     write!(text, "{value}").expect(rt, "memory");
-    assert_eq!(rt; text.as_str(), expected);
+    same(rt, &text.as_str(), &expected);
 }
 
 // Publishes 9 in the place of 7, which a reader sees at once.
@@ -41,7 +42,7 @@ fn update<P, R: Wait + Abort>(
     read: &mut EntryHandle<u64, u64, P>,
 ) {
     let before = read.get(rt);
-    assert_eq!(rt; (*before.get_ref(), before.generation()), (7, 1));
+    same(rt, &(*before.get_ref(), before.generation()), &(7, 1));
     assert!(rt; read.is_up_to_date(&before), "nothing was published");
     publish_copy(write, 9);
     assert!(rt; !read.is_up_to_date(&before), "it was published");
@@ -57,10 +58,10 @@ pub(super) fn publish<P, R: Wait + Abort>(
     let mut write = write;
     update(rt, &mut write, read);
     let copied = read.get(rt);
-    assert_eq!(rt; (*copied.get_ref(), copied.generation()), (9, 2));
+    same(rt, &(*copied.get_ref(), copied.generation()), &(9, 2));
     is_printed(rt, alloc, &copied, "9");
     let write = publish_word(write, 11);
     let lent = read.get(rt);
-    assert_eq!(rt; (*lent.get_ref(), lent.generation()), (11, 3));
+    same(rt, &(*lent.get_ref(), lent.generation()), &(11, 3));
     write
 }

@@ -1,6 +1,7 @@
 //! A writer tells a reader of each of its publications.
 use super::loans::{Handles, make_handles};
 use super::published::publish_copy;
+use crate::same::same;
 use board_cell::Receipt;
 use board_concepts::{Policy, Shared, Single};
 use board_handles::{EntryHandle, EntryHandleMut};
@@ -80,7 +81,7 @@ fn a_hundred_receipts_are_of_what_was_read(rt: HostRuntime) {
         || publish_all(&rt, write, &post),
         || read_all(&rt, read, &post),
     );
-    assert_eq!(rt; counts, (100, 100));
+    same(&rt, &counts, &(100, 100));
 }
 
 fn sent<P: Policy, R: Wait + Abort>(rt: &R, alloc: Global) {
@@ -88,7 +89,7 @@ fn sent<P: Policy, R: Wait + Abort>(rt: &R, alloc: Global) {
     let mut write = write;
     publish_copy(&mut write, 9);
     let sent = write.sent_receipt().expect(rt, "memory");
-    assert_eq!(rt; sent.generation(), 2);
+    same(rt, &sent.generation(), &2);
     read.release(rt);
 }
 

@@ -2,6 +2,7 @@
 use super::loans::drop_loan;
 use super::typed::{new_board, new_node, new_reader, new_writer, read_handle, write_handle};
 use super::{creator, lent, new_domain, second_creator, second_opener, twice_creator};
+use crate::same::same;
 use board_concepts::{Policy, Shared, Single};
 use board_domain::Node;
 use board_handles::{DomainState, EntryHandle, EntryHandleMut};
@@ -26,7 +27,7 @@ fn handles_alone<P: Policy, R: Wait + Abort>(rt: &R, alloc: Global, node: &Node)
 
 fn is_taken<P: Policy, R: Wait + Abort>(rt: &R, alloc: Global, node: &Node) {
     let taken = creator::<P, R>(rt, alloc, node).create(rt).err();
-    assert_eq!(rt; taken, Some(BlackboardCreateError::AlreadyExists));
+    same(rt, &taken, &Some(BlackboardCreateError::AlreadyExists));
 }
 
 fn given_back<P: Policy, R: Wait + Abort>(rt: &R, alloc: Global) {
@@ -38,7 +39,7 @@ fn given_back<P: Policy, R: Wait + Abort>(rt: &R, alloc: Global) {
     is_taken::<P, R>(rt, alloc, &node);
     read.release(rt);
     let again = new_board::<P, R>(rt, alloc, &node);
-    assert_eq!(rt; again.unique_service_id(), 2);
+    same(rt, &again.unique_service_id(), &2);
 }
 
 #[test]
@@ -50,7 +51,11 @@ fn a_name_is_free_once_all_are_released(rt: HostRuntime) {
 // A key that is added twice is refused, also where the name is free.
 fn is_corrupted<P: Policy, R: Wait + Abort>(rt: &R, alloc: Global, node: &Node) {
     let twice = twice_creator::<P, R>(rt, alloc, node).create(rt).err();
-    assert_eq!(rt; twice, Some(BlackboardCreateError::ServiceInCorruptedState));
+    same(
+        rt,
+        &twice,
+        &Some(BlackboardCreateError::ServiceInCorruptedState),
+    );
 }
 
 // A board without any port, made and opened, as a reader and a writer of it were given up.
@@ -72,7 +77,7 @@ fn made_again<P: Policy, R: Wait + Abort>(rt: &R, alloc: Global) {
     made_and_opened::<P, R>(rt, alloc, &node);
     let again = second_creator::<P, R>(rt, alloc, &node).create(rt);
     let again = again.expect(rt, "a name that nothing keeps");
-    assert_eq!(rt; again.unique_service_id(), 2);
+    same(rt, &again.unique_service_id(), &2);
 }
 
 #[test]
@@ -100,7 +105,7 @@ fn handles_alone_in<P: Policy, R: Abort>(
 
 fn is_taken_in<P: Policy, R: Abort>(rt: &R, alloc: Global, state: &mut DomainState, node: &Node) {
     let taken = creator::<P, R>(rt, alloc, node).create_in(state).err();
-    assert_eq!(rt; taken, Some(BlackboardCreateError::AlreadyExists));
+    same(rt, &taken, &Some(BlackboardCreateError::AlreadyExists));
 }
 
 fn is_corrupted_in<P: Policy, R: Abort>(
@@ -112,7 +117,11 @@ fn is_corrupted_in<P: Policy, R: Abort>(
     let twice = twice_creator::<P, R>(rt, alloc, node)
         .create_in(state)
         .err();
-    assert_eq!(rt; twice, Some(BlackboardCreateError::ServiceInCorruptedState));
+    same(
+        rt,
+        &twice,
+        &Some(BlackboardCreateError::ServiceInCorruptedState),
+    );
 }
 
 fn given_back_in<P: Policy, R: Abort>(rt: &R, alloc: Global) {
@@ -126,7 +135,7 @@ fn given_back_in<P: Policy, R: Abort>(rt: &R, alloc: Global) {
     is_taken_in::<P, R>(rt, alloc, &mut state, &node);
     read.release_in(&mut state);
     let again = lent::new_board::<P, R>(rt, alloc, &mut state, &node);
-    assert_eq!(rt; again.unique_service_id(), 2);
+    same(rt, &again.unique_service_id(), &2);
 }
 
 #[test]

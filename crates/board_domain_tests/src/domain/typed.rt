@@ -2,6 +2,7 @@
 use super::loans::drop_loan;
 use super::published::publish;
 use super::{creator, new_domain, node_name, note, opener, taken};
+use crate::same::same;
 use board_concepts::{Policy, Shared, Single};
 use board_domain::{MessagingPattern, Node, PortFactory};
 use board_handles::{
@@ -103,29 +104,29 @@ const HASH: &[u8; 40] = b"081dc64409fb18fc57b4c36aa849ea376ffb7f25";
 
 // What is fixed of a board, both factories tell alike.
 fn are_of_one_board<P, R: Abort>(rt: &R, made: &PortFactory<u64, P>, opened: &PortFactory<u64, P>) {
-    assert_eq!(rt; made.unique_service_id(), 1);
-    assert_eq!(rt; opened.unique_service_id(), 1);
-    assert_eq!(rt; opened.name(), made.name());
-    assert_eq!(rt; opened.static_config(), made.static_config());
+    same(rt, &made.unique_service_id(), &1);
+    same(rt, &opened.unique_service_id(), &1);
+    same(rt, &opened.name(), &made.name());
+    same(rt, &opened.static_config(), &made.static_config());
     let hash = made.service_hash().as_base64url();
-    assert_eq!(rt; hash.as_bytes(), HASH.as_slice());
+    same(rt, &hash.as_bytes(), &HASH.as_slice());
 }
 
 fn limits_are_told<P, R: Abort>(rt: &R, board: &PortFactory<u64, P>) {
     let config = *board.static_config();
-    assert_eq!(rt; config.entries, 2);
-    assert_eq!(rt; (config.max_readers, config.max_writers), (1, 1));
+    same(rt, &config.entries, &2);
+    same(rt, &(config.max_readers, config.max_writers), &(1, 1));
     let pattern = MessagingPattern::Blackboard(config);
     assert!(rt; pattern.is_same_pattern(&MessagingPattern::Blackboard(config)));
 }
 
 // What is told of a board with a reader, a writer and two nodes, and after the reader's release.
 fn is_counted<P, R: Wait + Abort>(rt: &R, board: &PortFactory<u64, P>, reader: Reader<u64, P>) {
-    assert_eq!(rt; walks(rt, board, 9), (12, 12));
-    assert_eq!(rt; walks(rt, board, 1), (1, 1));
-    assert_eq!(rt; board.dynamic_config(rt), taken(1, 1, 2));
+    same(rt, &walks(rt, board, 9), &(12, 12));
+    same(rt, &walks(rt, board, 1), &(1, 1));
+    same(rt, &board.dynamic_config(rt), &taken(1, 1, 2));
     reader.release(rt);
-    assert_eq!(rt; board.dynamic_config(rt), taken(0, 1, 2));
+    same(rt, &board.dynamic_config(rt), &taken(0, 1, 2));
 }
 
 fn ports_are_counted<P, R: Wait + Abort>(
@@ -135,7 +136,7 @@ fn ports_are_counted<P, R: Wait + Abort>(
 ) {
     let writer = new_writer(rt, made);
     let reader = new_reader(rt, opened);
-    assert_eq!(rt; (writer.id().0, reader.id().0), (1, 2));
+    same(rt, &(writer.id().0, reader.id().0), &(1, 2));
     is_counted(rt, made, reader);
     writer.release(rt);
 }
@@ -144,11 +145,11 @@ fn told<P: Policy, R: Wait + Abort>(rt: &R, alloc: Global) {
     let Boards { made, opened } = make_boards::<P, R>(rt, alloc);
     are_of_one_board(rt, &made, &opened);
     limits_are_told(rt, &opened);
-    assert_eq!(rt; lent_walks(rt, &opened, 9), (12, 12));
-    assert_eq!(rt; lent_walks(rt, &opened, 1), (1, 1));
+    same(rt, &lent_walks(rt, &opened, 9), &(12, 12));
+    same(rt, &lent_walks(rt, &opened, 1), &(1, 1));
     ports_are_counted(rt, &made, &opened);
     made.release(rt);
-    assert_eq!(rt; opened.dynamic_config(rt), taken(0, 0, 1));
+    same(rt, &opened.dynamic_config(rt), &taken(0, 0, 1));
     opened.release(rt);
 }
 
@@ -161,11 +162,11 @@ fn a_board_is_told_under_both_policies(rt: HostRuntime) {
 // Asks for what there is not.
 fn refusals<P, R: Wait + Abort>(rt: &R, reader: &Reader<u64, P>, writer: &Writer<u64, P>) {
     let second = writer.entry::<u64, R>(rt, &1).err();
-    assert_eq!(rt; second, Some(EntryHandleMutError::HandleAlreadyExists));
+    same(rt, &second, &Some(EntryHandleMutError::HandleAlreadyExists));
     let missing = reader.entry::<u64, R>(rt, &3).err();
-    assert_eq!(rt; missing, Some(EntryHandleError::EntryDoesNotExist));
+    same(rt, &missing, &Some(EntryHandleError::EntryDoesNotExist));
     let other_type = reader.entry::<u32, R>(rt, &1).err();
-    assert_eq!(rt; other_type, Some(EntryHandleError::EntryDoesNotExist));
+    same(rt, &other_type, &Some(EntryHandleError::EntryDoesNotExist));
 }
 
 // A number's entry begins the board's cells, and the truth value's comes after it.
@@ -176,12 +177,12 @@ fn places<P, R: Wait + Abort>(
     write: &EntryHandleMut<u64, u64, P>,
 ) {
     let number = read_handle(rt, reader);
-    assert_eq!(rt; number.entry_id().as_value(), 0);
-    assert_eq!(rt; write.entry_id().as_value(), 0);
+    same(rt, &number.entry_id().as_value(), &0);
+    same(rt, &write.entry_id().as_value(), &0);
     let truth = reader.entry::<bool, R>(rt, &2).expect(rt, "an entry");
-    assert_eq!(rt; truth.entry_id().as_value(), 32);
+    same(rt, &truth.entry_id().as_value(), &32);
     let truth = writer.entry::<bool, R>(rt, &2).expect(rt, "a free entry");
-    assert_eq!(rt; truth.entry_id().as_value(), 32);
+    same(rt, &truth.entry_id().as_value(), &32);
 }
 
 // The end of a handle that was given up is parked, and comes again. So does that of a loan.
@@ -241,10 +242,10 @@ fn a_builder_by_number_asks_for_its_factory(rt: HostRuntime) {
     let shared = domain.share().expect(&rt, "memory");
     let reader = PortFactoryReader::<u64, Shared>::new(rt.alloc(), ThingId(1), shared);
     let no_reader = reader.create(&rt).err();
-    assert_eq!(rt; no_reader, Some(ReaderCreateError::ThingUnknown(1)));
+    same(&rt, &no_reader, &Some(ReaderCreateError::ThingUnknown(1)));
     let writer = PortFactoryWriter::<u64, Shared>::new(rt.alloc(), ThingId(1), domain);
     let no_writer = writer.create(&rt).err();
-    assert_eq!(rt; no_writer, Some(WriterCreateError::ThingUnknown(1)));
+    same(&rt, &no_writer, &Some(WriterCreateError::ThingUnknown(1)));
 }
 
 #[test]
@@ -253,7 +254,7 @@ fn nodes_are_numbered(rt: HostRuntime) {
     let first = new_node(&rt, &domain, "first");
     let shared = domain.share().expect(&rt, "memory");
     let second = new_node(&rt, &shared, "second");
-    assert_eq!(rt; (first.id().0, second.id().0), (1, 2));
-    assert_eq!(rt; second.name().as_bytes(), b"second".as_slice());
-    assert_eq!(rt; domain.lock(&rt).nodes, 2);
+    same(&rt, &(first.id().0, second.id().0), &(1, 2));
+    same(&rt, &second.name().as_bytes(), &b"second".as_slice());
+    same(&rt, &domain.lock(&rt).nodes, &2);
 }
