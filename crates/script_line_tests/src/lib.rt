@@ -17,6 +17,8 @@ mod reading;
 #[cfg(test)]
 mod running;
 #[cfg(test)]
+mod same;
+#[cfg(test)]
 mod streams;
 #[cfg(test)]
 mod verdicts;

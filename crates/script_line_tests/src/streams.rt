@@ -1,4 +1,5 @@
 //! The adapters of a process's streams.
+use crate::same::same;
 use script_loop::{Failed, Sink, Source};
 use script_process::{InSource, OutSink};
 use std::io;
@@ -9,10 +10,10 @@ use std::test::Fail;
 fn a_sink_fails_where_its_writer_takes_nothing(rt: HostRuntime) -> Result<(), Fail> {
     let mut room = [0u8; 4];
     let mut sink = OutSink::new(Cursor::new(room.as_mut_slice()));
-    assert_eq!(rt; sink.write(b"ok\n"), Ok(3));
-    assert_eq!(rt; sink.write(b""), Ok(0));
-    assert_eq!(rt; sink.write(b"gone\n"), Ok(1));
-    assert_eq!(rt; sink.write(b"one\n"), Err(Failed));
+    same(&rt, &sink.write(b"ok\n"), &Ok(3));
+    same(&rt, &sink.write(b""), &Ok(0));
+    same(&rt, &sink.write(b"gone\n"), &Ok(1));
+    same(&rt, &sink.write(b"one\n"), &Err(Failed));
     Ok(())
 }
 
@@ -66,13 +67,13 @@ impl Write for FailsAtFirst {
 fn a_failed_call_is_not_made_once_more(rt: HostRuntime) -> Result<(), Fail> {
     let mut source = InSource::new(FailsAtFirst { calls: 0 });
     let mut buffer = [0u8; 3];
-    assert_eq!(rt; source.read(&mut buffer), Err(Failed));
-    assert_eq!(rt; source.read(&mut buffer), Err(Failed));
-    assert_eq!(rt; source.read(&mut buffer), Ok(1));
+    same(&rt, &source.read(&mut buffer), &Err(Failed));
+    same(&rt, &source.read(&mut buffer), &Err(Failed));
+    same(&rt, &source.read(&mut buffer), &Ok(1));
     let mut sink = OutSink::new(FailsAtFirst { calls: 0 });
-    assert_eq!(rt; sink.write(b"ok\n"), Err(Failed));
-    assert_eq!(rt; sink.write(b"ok\n"), Err(Failed));
-    assert_eq!(rt; sink.write(b"ok\n"), Err(Failed));
-    assert_eq!(rt; sink.write(b"ok\n"), Ok(3));
+    same(&rt, &sink.write(b"ok\n"), &Err(Failed));
+    same(&rt, &sink.write(b"ok\n"), &Err(Failed));
+    same(&rt, &sink.write(b"ok\n"), &Err(Failed));
+    same(&rt, &sink.write(b"ok\n"), &Ok(3));
     Ok(())
 }
