@@ -104,7 +104,7 @@ fn a_description_is_fourteen_bytes(rt: HostRuntime) -> Result<(), Fail> {
     let bytes = [
         0x02, 0x01, 0x66, 0x00, 0x03, 0x75, 0x36, 0x34, 0x08, 0x08, 0x08, 0x14, 0x01, 0x00,
     ];
-    same(&rt, &core.description_of(1), &Some(bytes.as_slice()));
-    same(&rt, &core.description_of(2), &None);
+    assert_eq!(rt; core.description_of(1), Some(bytes.as_slice()));
+    assert_eq!(rt; core.description_of(2), None);
     Ok(())
 }
