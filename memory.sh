@@ -19,7 +19,7 @@ bad=0 runs=0
 
 # The tables of worked scripts: of each its lines, its answers, and its status with its note.
 mkdir "$folder/rows"
-(cd crates/board_row_tables/src && cat openings.rt abandoned/loans.rt abandoned/boards.rt boards.rt readers.rt tables.rt loans.rt limits.rt events.rt) | awk -v folder="$folder/rows" '
+(cd crates/board_rows/src && cat openings.rt abandoned/loans.rt abandoned/boards.rt boards.rt readers.rt tables.rt loans.rt limits.rt events.rt) | awk -v folder="$folder/rows" '
     function write(line, answer) {
         print line > (row ".script")
         if (answer != "") print answer > (row ".answers")
@@ -58,7 +58,7 @@ mkdir "$folder/rows"
         else if (state == "name") { name = value; type = ""; state = "type" }
         else if (state == "type") { if (value == "=") state = "value"; else if (value != ":") type = type value }
         else if (value == ";" && depth == 0) { end_row(); state = field = ""; is_answer = 0 }
-        else if (type != "Part" && type !~ /^(Row|&\[Row\])$/) return
+        else if (type != "Part" && type !~ /^(Row|\[Row;[0-9]+\])$/) return
         else if (value ~ /^"/) text(substr(value, 2, length(value) - 2))
         else if (value ~ /^[0-9]/ && field == "status") status = value
         else if (value ~ /^[a-z]/) field = value

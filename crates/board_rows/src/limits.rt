@@ -1,9 +1,25 @@
 //! Lines outside the grammar, and how long a line and a script may be.
-use crate::row::{Script, all_hold};
-use board_row_tables::LIMITS;
+use crate::row::{PLAIN, Row, Script, all_hold};
 use board_script::{MemorySink, MemorySource, ScriptError, run_script, run_script_within};
 use std::alloc::{AllocError, Global};
 use std::test::Fail;
+
+pub(crate) const ROWS: [Row; 2] = [
+    Row {
+        name: "an empty line",
+        lines: &[("abandon a", "gone"), ("", ""), ("abandon b", "")],
+        status: 5,
+        note: "line 2: not in the grammar",
+        ..PLAIN
+    },
+    Row {
+        name: "an empty line after a refusal",
+        lines: &[("words 1", "refused noboard"), ("", "")],
+        status: 5,
+        note: "line 2: not in the grammar",
+        ..PLAIN
+    },
+];
 
 const BAD_LINES: [&str; 16] = [
     "step a\r",
@@ -26,7 +42,7 @@ const BAD_LINES: [&str; 16] = [
 
 #[test]
 fn lines_outside_the_grammar(rt: HostRuntime) -> Result<(), Fail> {
-    all_hold(&rt, rt.alloc(), LIMITS)?;
+    all_hold(&rt, rt.alloc(), &ROWS)?;
     for line in BAD_LINES {
         Script {
             name: line,

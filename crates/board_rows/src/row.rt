@@ -1,16 +1,38 @@
 //! A worked script, and the ways in which it is run.
 ghost use Rattle.script_model.specs.ScriptSession.{start};
 
+use crate::programs::Program;
+use crate::whole::Whole;
 use board_cell::{PlainWords, SeatWords};
 use board_check::{Verdict, check};
-use board_row_tables::{Part, Row};
-use board_script::{
-    LineError, Machine, MemorySink, MemorySource, RunsLines, run_script_on, run_words,
-};
+use board_script::{LineError, Machine, MemorySink, MemorySource, RunsLines, run_script_on};
 use board_service::BoardWords;
 use std::alloc::{AllocError, Global};
 use std::process::Abort;
 use std::test::Fail;
+
+/// Lines, each with its answer. It is empty at a line outside the grammar and at those behind it, which have none.
+pub(crate) type Part = &'static [(&'static str, &'static str)];
+
+/// A worked script, with the status and the note that a run of it ends with.
+#[derive(Clone, Copy)]
+pub(crate) struct Row {
+    pub(crate) name: &'static str,
+    /// The lines with which other rows begin too.
+    pub(crate) opening: &'static [Part],
+    pub(crate) lines: Part,
+    pub(crate) status: u8,
+    pub(crate) note: &'static str,
+}
+
+/// What a row leaves out.
+pub(crate) const PLAIN: Row = Row {
+    name: "",
+    opening: &[],
+    lines: &[],
+    status: 0,
+    note: "",
+};
 
 /// The lines of the parts, one after another.
 pub(crate) fn joined(
@@ -24,37 +46,39 @@ pub(crate) fn joined(
     Ok(lines)
 }
 
-/// All lines of a row with their answers.
-pub(crate) fn all_lines(
-    alloc: Global,
-    row: &Row,
-) -> Result<Vec<(&'static str, &'static str)>, AllocError> {
-    let mut lines = joined(alloc, row.opening)?;
-    lines.extend_from_slice(row.lines)?;
-    Ok(lines)
-}
+impl Row {
+    /// All its lines with their answers.
+    pub(crate) fn all_lines(
+        &self,
+        alloc: Global,
+    ) -> Result<Vec<(&'static str, &'static str)>, AllocError> {
+        let mut lines = joined(alloc, self.opening)?;
+        lines.extend_from_slice(self.lines)?;
+        Ok(lines)
+    }
 
-// Runs a row in each way.
-fn holds(rt: &impl Abort, alloc: Global, row: &Row) -> Result<(), Fail> {
-    let lines = all_lines(alloc, row)?;
-    let script = Script {
-        name: row.name,
-        lines: &lines,
-        status: row.status,
-        note: row.note,
-    };
-    script.holds(rt, alloc)
+    /// Runs the row in each way.
+    pub(crate) fn holds(&self, rt: &impl Abort, alloc: Global) -> Result<(), Fail> {
+        let lines = self.all_lines(alloc)?;
+        let script = Script {
+            name: self.name,
+            lines: &lines,
+            status: self.status,
+            note: self.note,
+        };
+        script.holds(rt, alloc)
+    }
 }
 
 /// Runs each row in each way.
 pub(crate) fn all_hold(rt: &impl Abort, alloc: Global, rows: &[Row]) -> Result<(), Fail> {
     for row in rows {
-        holds(rt, alloc, row)?;
+        row.holds(rt, alloc)?;
     }
     Ok(())
 }
 
-/// A worked script whose lines may be put together by code.
+/// The same, of lines that are put together by code.
 #[derive(Clone, Copy)]
 pub(crate) struct Script<'a> {
     pub(crate) name: &'a str,
@@ -124,56 +148,34 @@ impl Script<'_> {
 
     // Runs it as the program does. Source and sink give and take so many bytes a call, or any number where that is 0.
     fn runs_in_pieces(&self, rt: &impl Abort, alloc: Global, piece: usize) -> Result<(), Fail> {
-        let (script, output) = bytes_of(alloc, self.lines)?;
-        let ended = Ended::of(alloc, script, output.len(), piece)?;
-        let mut note = Vec::new(alloc);
-        push_told(self.note, &mut note)?;
-        let told = (ended.status, ended.output.as_slice(), ended.note.as_slice());
-        let wanted = (self.status, output.as_slice(), note.as_slice());
-        assert_eq!(rt; told, wanted, "{}", self.name);
-        Ok(())
+        let mut whole = Whole::new(alloc, Program::Scripts, self.name);
+        for (line, answer) in self.lines {
+            whole.push(line, answer)?;
+        }
+        whole.ends_with(self.status, self.note)?;
+        whole.runs_in_pieces(rt, alloc, piece)
     }
 }
 
-/// How a run of the program ended.
-#[derive(Drop)]
-struct Ended {
-    status: u8,
-    output: Vec<u8>,
-    note: Vec<u8>,
-}
-
-impl Ended {
-    // The run of a script, without words, to a sink with so much room.
-    fn of(alloc: Global, script: Vec<u8>, room: usize, piece: usize) -> Result<Ended, Fail> {
-        let mut source = MemorySource::new(script, piece, Vec::new(alloc));
-        let mut sink = MemorySink::new(alloc, room, piece, Vec::new(alloc))?;
-        let mut notes = MemorySink::new(alloc, 100, 0, Vec::new(alloc))?;
-        let status = run_words(alloc, &Vec::new(alloc), &mut source, &mut sink, &mut notes);
-        Ok(Ended {
-            status,
-            output: sink.held().to_vec(alloc)?,
-            note: notes.held().to_vec(alloc)?,
-        })
-    }
-}
-
-// Adds a text with its newline.
-fn push_line(text: &str, out: &mut Vec<u8>) -> Result<(), AllocError> {
+/// Adds a text with its newline.
+pub(crate) fn push_line(text: &str, out: &mut Vec<u8>) -> Result<(), AllocError> {
     out.extend_from_slice(text.as_bytes())?;
     out.extend_from_slice(b"\n")
 }
 
-// Adds what is told with its newline, or nothing where nothing is told.
-fn push_told(text: &str, out: &mut Vec<u8>) -> Result<(), AllocError> {
+/// Adds what is told with its newline, or nothing where nothing is told.
+pub(crate) fn push_told(text: &str, out: &mut Vec<u8>) -> Result<(), AllocError> {
     if text.is_empty() {
         return Ok(());
     }
     push_line(text, out)
 }
 
-// The bytes of a script, and those of its output.
-fn bytes_of(alloc: Global, lines: &[(&str, &str)]) -> Result<(Vec<u8>, Vec<u8>), AllocError> {
+/// The bytes of a script, and those of its output.
+pub(crate) fn bytes_of(
+    alloc: Global,
+    lines: &[(&str, &str)],
+) -> Result<(Vec<u8>, Vec<u8>), AllocError> {
     let mut script = Vec::new(alloc);
     let mut output = Vec::new(alloc);
     for (line, answer) in lines {

@@ -1,7 +1,11 @@
-//! What stands after calls on boards were abandoned, and what a single thing of an abandoned party holds.
+//! What stands after calls on boards were abandoned; what a single thing of an abandoned party holds; and whole scripts, abandoned at each line.
 use super::loans::STILL_HELD;
 use crate::openings::{A_LOAN, FOUR_WORDS};
-use crate::row::{PLAIN, Part, Row};
+use crate::readers;
+use crate::row::{PLAIN, Part, Row, Script, all_hold};
+use std::alloc::Global;
+use std::process::Abort;
+use std::test::Fail;
 
 /// Its call runs no more, and its things stand.
 pub(super) const B_LEFT: Part = &[
@@ -250,8 +254,7 @@ pub(super) const UPDATED: Part = &[("words 1", "words 2 0 5 6")];
 // `a` drops its writer, and is abandoned.
 const THE_WRITER_LEFT: Part = &[("drop a w", "table = ok"), ("abandon a", "gone")];
 
-/// Scripts that end when a single thing of an abandoned party holds what it holds.
-pub const LEFT: &[Row] = &[
+const ROWS: [Row; 2] = [
     Row {
         name: "an abandoned loan holds the place of the writer",
         opening: &[FOUR_WORDS, A_LOAN, THE_WRITER_LEFT, STILL_HELD],
@@ -280,3 +283,53 @@ pub const LEFT: &[Row] = &[
         ..PLAIN
     },
 ];
+
+#[test]
+fn a_single_thing_of_an_abandoned_party_holds(rt: HostRuntime) -> Result<(), Fail> {
+    all_hold(&rt, rt.alloc(), &ROWS)
+}
+
+// After these lines both parties are abandoned, and do nothing more.
+fn leaves_both(
+    rt: &impl Abort,
+    alloc: Global,
+    name: &str,
+    begun: &[(&str, &str)],
+) -> Result<(), Fail> {
+    let was_left = begun.contains(&("abandon a", "gone"));
+    let first = if was_left {
+        "refused abandoned"
+    } else {
+        "gone"
+    };
+    let mut lines = begun.to_vec(alloc)?;
+    lines.push(("abandon a", first))?;
+    lines.extend_from_slice(&[
+        ("abandon b", "gone"),
+        ("step a", "refused abandoned"),
+        ("step b", "refused abandoned"),
+        ("begin a reader z f", "refused abandoned"),
+        ("abandon b", "refused abandoned"),
+    ])?;
+    Script {
+        name,
+        lines: &lines,
+        status: 0,
+        note: "",
+    }
+    .holds(rt, alloc)
+}
+
+#[test]
+fn each_row_of_readers_is_abandoned_at_every_line(rt: HostRuntime) -> Result<(), Fail> {
+    let alloc = rt.alloc();
+    for row in &readers::ROWS {
+        let mut begun = Vec::new(alloc);
+        leaves_both(&rt, alloc, row.name, &begun)?;
+        for line in &row.all_lines(alloc)? {
+            begun.push(*line)?;
+            leaves_both(&rt, alloc, row.name, &begun)?;
+        }
+    }
+    Ok(())
+}

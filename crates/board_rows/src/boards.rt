@@ -1,8 +1,9 @@
 //! Boards, and a writer without readers.
-use crate::row::{PLAIN, Row};
+use crate::row::{PLAIN, Row, all_hold};
+use std::test::Fail;
 
 /// `a` makes a board, updates its second entry, and is told how far that one is.
-pub const FIRST_RUN: Row = Row {
+pub(crate) const FIRST_RUN: Row = Row {
     name: "the first run",
     lines: &[
         (
@@ -26,7 +27,7 @@ pub const FIRST_RUN: Row = Row {
     ..PLAIN
 };
 
-pub const BOARDS: &[Row] = &[
+const ROWS: [Row; 4] = [
     FIRST_RUN,
     Row {
         name: "the empty script",
@@ -56,3 +57,8 @@ pub const BOARDS: &[Row] = &[
         ..PLAIN
     },
 ];
+
+#[test]
+fn boards_without_readers(rt: HostRuntime) -> Result<(), Fail> {
+    all_hold(&rt, rt.alloc(), &ROWS)
+}

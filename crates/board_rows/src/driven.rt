@@ -5,12 +5,45 @@ mod places;
 mod snapshots;
 mod watchers;
 
+use crate::openings::{ONE_NUMBER, SECOND_READ, SECOND_WRITTEN, TWO_NUMBERS, WRITTEN_AND_READ};
 use crate::programs::Program;
-use crate::whole::{Whole, push_line, push_told};
-use board_row_tables::driven::{Lines, Scene};
+use crate::row::{Part, push_line, push_told};
+use crate::whole::Whole;
 use std::alloc::{AllocError, Global};
 use std::process::Abort;
 use std::test::Fail;
+
+/// Lines of a script. Those that are given to the machine stand each with its answer.
+#[derive(Clone, Copy)]
+enum Lines {
+    /// They are given as they are.
+    Given(Part),
+    /// This line gives each of them.
+    Turns(&'static str, Part),
+    /// One line, those that it gives, and what is said behind them.
+    Line(&'static str, Part, &'static str),
+}
+
+/// Lines, one after another.
+type Scene = &'static [Lines];
+
+/// The one entry of a board is written and read.
+const ONE_ENTRY: Scene = &[Lines::Given(ONE_NUMBER), Lines::Given(WRITTEN_AND_READ)];
+
+/// The same, with a second entry, which `b` reads.
+const BOARD: Scene = &[
+    Lines::Given(TWO_NUMBERS),
+    Lines::Given(WRITTEN_AND_READ),
+    Lines::Given(SECOND_READ),
+];
+
+/// Two entries are written and read.
+const TWO_ENTRIES: Scene = &[
+    Lines::Given(TWO_NUMBERS),
+    Lines::Given(WRITTEN_AND_READ),
+    Lines::Given(SECOND_READ),
+    Lines::Given(SECOND_WRITTEN),
+];
 
 impl Whole<'_> {
     // Adds a line, those that it gives, and what is said behind them.

@@ -1,5 +1,5 @@
 //! A letter for each line that comes often, as the entries of 1 and 2 have a word each, in the cells from words 0 and 4 on.
-use board_row_tables::driven::Lines;
+use crate::driven::Lines;
 
 /// The lines for which a letter stands: for a blank none.
 ///

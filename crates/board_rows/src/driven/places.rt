@@ -1,10 +1,18 @@
-//! Publications at each place of a snapshot, a letter for each line.
+//! Publications at each place of a snapshot.
+use crate::driven::letters::lines_of;
+use crate::driven::{TWO_ENTRIES, script_of};
+use crate::programs::Program;
+use crate::row::push_told;
+use crate::whole::Whole;
+use std::alloc::{AllocError, Global};
+use std::process::Abort;
+use std::test::Fail;
 
 /// The letters of a snapshot's lines, turn by turn, and what is written behind the last.
-pub type Place = (&'static str, &'static str);
+type Row = (&'static str, &'static str);
 
 /// Nothing, or the entry of 1 is published after each number of turns.
-pub const FIRST_ENTRY: &[Place] = &[
+const FIRST_ENTRY: [Row; 17] = [
     (
         "bcwe pqrs bcwe pqrs",
         "snapshot b h u64:7 gen 1 k u64:8 gen 1",
@@ -76,7 +84,7 @@ pub const FIRST_ENTRY: &[Place] = &[
 ];
 
 /// The entry of 2 is.
-pub const SECOND_ENTRY: &[Place] = &[
+const SECOND_ENTRY: [Row; 16] = [
     (
         "v bcwe pQRS bcwe pQRS",
         "snapshot b h u64:7 gen 1 k u64:9 gen 2",
@@ -144,7 +152,7 @@ pub const SECOND_ENTRY: &[Place] = &[
 ];
 
 /// Both are, or one is with the value that it has.
-pub const BOTH_ENTRIES: &[Place] = &[
+const BOTH_ENTRIES: [Row; 4] = [
     (
         "bcwe uv pQRS bCWE pQRS bCWE pQRS",
         "snapshot b h u64:9 gen 2 k u64:9 gen 2",
@@ -164,7 +172,7 @@ pub const BOTH_ENTRIES: &[Place] = &[
 ];
 
 /// A handle is named twice.
-pub const ONE_TWICE: &[Place] = &[
+const ONE_TWICE: [Row; 4] = [
     (
         "bcwe bcwe bcwe bcwe",
         "snapshot b h u64:7 gen 1 h u64:7 gen 1",
@@ -182,3 +190,48 @@ pub const ONE_TWICE: &[Place] = &[
         "snapshot b h u64:9 gen 2 h u64:9 gen 2",
     ),
 ];
+
+// The script of a row. A turn behind it finds no snapshot.
+fn script_of_row(
+    alloc: Global,
+    snap: &'static str,
+    row: Row,
+) -> Result<Whole<'static>, AllocError> {
+    let mut whole = script_of(alloc, Program::Snapshots, row.0, &[TWO_ENTRIES])?;
+    whole.push_driven(snap, &[], "snapping b")?;
+    for letter in row.0.as_bytes() {
+        whole.push_lines(&lines_of(*letter))?;
+    }
+    push_told(row.1, &mut whole.output)?;
+    whole.push_driven("turn b", &[], "unsnapped b")?;
+    Ok(whole)
+}
+
+// Each row tells what is written of it.
+fn all_tell(rt: &impl Abort, alloc: Global, snap: &'static str, rows: &[Row]) -> Result<(), Fail> {
+    for row in rows {
+        let whole = script_of_row(alloc, snap, *row)?;
+        whole.runs_in_pieces(rt, alloc, 0)?;
+    }
+    Ok(())
+}
+
+#[test]
+fn the_first_entry_is_published_at_each_place(rt: HostRuntime) -> Result<(), Fail> {
+    all_tell(&rt, rt.alloc(), "snap b h k", &FIRST_ENTRY)
+}
+
+#[test]
+fn the_second_entry_is_published_at_each_place(rt: HostRuntime) -> Result<(), Fail> {
+    all_tell(&rt, rt.alloc(), "snap b h k", &SECOND_ENTRY)
+}
+
+#[test]
+fn both_entries_are_published(rt: HostRuntime) -> Result<(), Fail> {
+    all_tell(&rt, rt.alloc(), "snap b h k", &BOTH_ENTRIES)
+}
+
+#[test]
+fn a_handle_is_named_twice(rt: HostRuntime) -> Result<(), Fail> {
+    all_tell(&rt, rt.alloc(), "snap b h h", &ONE_TWICE)
+}

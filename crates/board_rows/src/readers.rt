@@ -3,7 +3,8 @@ use crate::openings::{
     FOUR_WORDS, FOUR_WORDS_GOT, IT_IS_THE_WRITER, IT_WRITES, ONE_NUMBER, ONE_PARTY_READS,
     WRITTEN_AND_READ,
 };
-use crate::row::{PLAIN, Part, Row};
+use crate::row::{PLAIN, Part, Row, all_hold};
+use std::test::Fail;
 
 // `a` is abandoned when it has written half of an update.
 const AN_UPDATE_LEFT: Part = &[
@@ -13,7 +14,7 @@ const AN_UPDATE_LEFT: Part = &[
     ("abandon a", "gone"),
 ];
 
-pub const READERS: &[Row] = &[
+pub(crate) const ROWS: [Row; 8] = [
     Row {
         name: "a board of a bool and a number",
         lines: &[
@@ -132,3 +133,8 @@ pub const READERS: &[Row] = &[
         ..PLAIN
     },
 ];
+
+#[test]
+fn readers_beside_a_writer(rt: HostRuntime) -> Result<(), Fail> {
+    all_hold(&rt, rt.alloc(), &ROWS)
+}

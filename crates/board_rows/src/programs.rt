@@ -84,15 +84,6 @@ impl Ended {
         })
     }
 
-    /// Its status, output and note.
-    pub(crate) fn told(&self) -> (u8, Option<&[u8]>, &[u8]) {
-        (
-            self.status,
-            Some(self.output.as_slice()),
-            self.note.as_slice(),
-        )
-    }
-
     /// The program without words.
     pub(crate) fn of(
         alloc: Global,

@@ -1,8 +1,9 @@
 //! Loans.
 use crate::openings::{A_LOAN, FOUR_WORDS, FOURTH_WORD_PUT, THREE_WORDS_PUT};
-use crate::row::{PLAIN, Row};
+use crate::row::{PLAIN, Row, all_hold};
+use std::test::Fail;
 
-pub const LOANS: &[Row] = &[
+pub(crate) const ROWS: [Row; 3] = [
     Row {
         name: "a loan forgets its words",
         opening: &[FOUR_WORDS, A_LOAN, THREE_WORDS_PUT],
@@ -72,3 +73,8 @@ pub const LOANS: &[Row] = &[
         ..PLAIN
     },
 ];
+
+#[test]
+fn loans_of_a_writer(rt: HostRuntime) -> Result<(), Fail> {
+    all_hold(&rt, rt.alloc(), &ROWS)
+}

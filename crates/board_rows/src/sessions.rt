@@ -38,29 +38,27 @@ const PLAIN: Trial = Trial {
 // A board with an entry of one word, and its first pairs.
 const MADE: &[u8] = b"begin a create f b u64 add u64:1 u64:7\nok\nstep a\ntable = ok 1\n";
 
-// A read that fails, and a sink that is full.
-const FAULTS: &[Trial] = &[
-    Trial {
-        lines: b"abandon a\ngone\n",
-        fails: 2,
-        status: 3,
-        output: b"",
-        note: b"read fault\n",
-        ..PLAIN
-    },
-    Trial {
-        lines: b"abandon a\ngone\n",
-        room: 4,
-        status: 4,
-        output: b"lawf",
-        note: b"write fault\n",
-        ..PLAIN
-    },
-];
-
 #[test]
 fn faults_are_noted(rt: HostRuntime) -> Result<(), Fail> {
-    for trial in FAULTS {
+    let trials = [
+        Trial {
+            lines: b"abandon a\ngone\n",
+            fails: 2,
+            status: 3,
+            output: b"",
+            note: b"read fault\n",
+            ..PLAIN
+        },
+        Trial {
+            lines: b"abandon a\ngone\n",
+            room: 4,
+            status: 4,
+            output: b"lawf",
+            note: b"write fault\n",
+            ..PLAIN
+        },
+    ];
+    for trial in &trials {
         assert!(rt; is_so(rt.alloc(), trial)?);
     }
     Ok(())
@@ -75,42 +73,40 @@ fn no_verdict_is_reached_where_a_read_fails(rt: HostRuntime) -> Result<(), Fail>
     Ok(())
 }
 
-// No pair, one or two, and lines without a right answer.
-const FEW_PAIRS: &[Trial] = &[
-    PLAIN,
-    Trial {
-        lines: b"abandon a\ngone\n",
-        output: b"lawful 1\n",
-        ..PLAIN
-    },
-    Trial {
-        lines: b"abandon a\ngone\nstep a\nrefused idle\n",
-        status: 1,
-        output: b"line 2: reason\n",
-        ..PLAIN
-    },
-    Trial {
-        lines: b"abandon a\n",
-        status: 1,
-        output: b"line 1: answer\n",
-        ..PLAIN
-    },
-    Trial {
-        lines: b"abandon\ngone\n",
-        status: 1,
-        output: b"line 1: line\n",
-        ..PLAIN
-    },
-    Trial {
-        lines: MADE,
-        output: b"lawful 2\n",
-        ..PLAIN
-    },
-];
-
 #[test]
 fn sessions_of_few_pairs(rt: HostRuntime) -> Result<(), Fail> {
-    for trial in FEW_PAIRS {
+    let trials = [
+        PLAIN,
+        Trial {
+            lines: b"abandon a\ngone\n",
+            output: b"lawful 1\n",
+            ..PLAIN
+        },
+        Trial {
+            lines: b"abandon a\ngone\nstep a\nrefused idle\n",
+            status: 1,
+            output: b"line 2: reason\n",
+            ..PLAIN
+        },
+        Trial {
+            lines: b"abandon a\n",
+            status: 1,
+            output: b"line 1: answer\n",
+            ..PLAIN
+        },
+        Trial {
+            lines: b"abandon\ngone\n",
+            status: 1,
+            output: b"line 1: line\n",
+            ..PLAIN
+        },
+        Trial {
+            lines: MADE,
+            output: b"lawful 2\n",
+            ..PLAIN
+        },
+    ];
+    for trial in &trials {
         assert!(rt; is_so(rt.alloc(), trial)?);
     }
     Ok(())

@@ -81,7 +81,7 @@ const WORD_BY_WORD: &[&[Part]] = &[
 ];
 
 /// Calls that make boards of one number, and their ports and handles.
-pub const ON_BOARDS: &[Abandoned] = &[
+pub(super) const ON_BOARDS: [Abandoned; 8] = [
     // The board stands with the step, since `b` still holds its factory.
     Abandoned {
         call: &[
@@ -151,7 +151,7 @@ pub const ON_BOARDS: &[Abandoned] = &[
 ];
 
 /// Calls that ask of such boards.
-pub const ON_INFO: &[Abandoned] = &[
+pub(super) const ON_INFO: [Abandoned; 5] = [
     Abandoned {
         call: &[("begin b gen m", "ok"), ("step b", "table = gen 1")],
         ..OF_ONE_NUMBER
@@ -181,7 +181,7 @@ pub const ON_INFO: &[Abandoned] = &[
 ];
 
 /// Calls on their numbers.
-pub const ON_ONE_NUMBER: &[Abandoned] = &[
+pub(super) const ON_ONE_NUMBER: [Abandoned; 4] = [
     Abandoned {
         call: &[("begin b fresh h v", "ok"), ("step b", "read 1:0 1 = true")],
         ..OF_ONE_NUMBER
@@ -226,7 +226,7 @@ pub const ON_ONE_NUMBER: &[Abandoned] = &[
 ];
 
 /// Calls on an entry of four words, those on its loans among them.
-pub const ON_FOUR_WORDS: &[Abandoned] = &[
+pub(super) const ON_FOUR_WORDS: [Abandoned; 8] = [
     // Gets of four words, one of them met by an update: nothing of a get stays.
     Abandoned {
         call: FOUR_WORDS_GOT,
@@ -313,7 +313,7 @@ pub const ON_FOUR_WORDS: &[Abandoned] = &[
 ];
 
 /// Calls on sets of ids.
-pub const ON_SETS: &[Abandoned] = &[
+pub(super) const ON_SETS: [Abandoned; 8] = [
     // The id is pending with the set, and signalled with the post.
     Abandoned {
         call: &[
@@ -379,7 +379,7 @@ pub const ON_SETS: &[Abandoned] = &[
 ];
 
 /// Calls on queues of ids.
-pub const ON_QUEUES: &[Abandoned] = &[
+pub(super) const ON_QUEUES: [Abandoned; 8] = [
     // The id is pending with the push.
     Abandoned {
         call: &[
@@ -457,7 +457,7 @@ pub const ON_QUEUES: &[Abandoned] = &[
 ];
 
 /// Calls that make events, and their notifiers.
-pub const ON_EVENTS: &[Abandoned] = &[
+pub(super) const ON_EVENTS: [Abandoned; 4] = [
     // The event and its name stand with the step.
     Abandoned {
         call: &[

@@ -1,8 +1,10 @@
 //! Snapshots that are taken, lines that are held back, and turns that end a snapshot.
-use crate::driven::{Lines, Scene};
+use crate::driven::{Lines, Scene, TWO_ENTRIES, tells};
+use crate::programs::Program;
+use std::test::Fail;
 
 /// While b takes a snapshot, its own lines are held back, and others aren't. Once it has gone, it can't be abandoned anew.
-pub const HELD_BACK: Scene = &[
+const HELD_BACK: Scene = &[
     Lines::Line("turn b", &[], "unsnapped b"),
     Lines::Line("snap b h k", &[], "snapping b"),
     Lines::Line("snap b k", &[], "snapping b"),
@@ -30,7 +32,7 @@ pub const HELD_BACK: Scene = &[
 ];
 
 /// A turn that is refused ends a snapshot: nothing is held under the name, or something else, or a call runs.
-pub const REFUSED: Scene = &[
+const REFUSED: Scene = &[
     Lines::Line("snap a x", &[], "snapping a"),
     Lines::Line(
         "turn a",
@@ -56,7 +58,7 @@ pub const REFUSED: Scene = &[
 ];
 
 /// Values of one word and of four; and a handle that is unknown ends a snapshot in the midst of its round.
-pub const VALUES: Scene = &[
+const VALUES: Scene = &[
     Lines::Given(&[
         (
             "begin a create f b u64 add u64:1 bool:true add u64:2 q4:1,2,3,4",
@@ -112,24 +114,22 @@ pub const VALUES: Scene = &[
     ),
 ];
 
-/// A whole snapshot of one entry.
-pub const ONE_SNAPSHOT: Scene = &[
-    Lines::Line("snap b h", &[], "snapping b"),
-    Lines::Turns(
-        "turn b",
-        &[
-            ("begin b get h", "ok"),
-            ("step b", "read 1:0 1"),
-            ("step b", "read 1:2 7"),
-            ("step b", "read 1:0 1 = u64:7 gen 1"),
-            ("begin b get h", "ok"),
-            ("step b", "read 1:0 1"),
-            ("step b", "read 1:2 7"),
-        ],
-    ),
-    Lines::Line(
-        "turn b",
-        &[("step b", "read 1:0 1 = u64:7 gen 1")],
-        "snapshot b h u64:7 gen 1",
-    ),
-];
+#[test]
+fn lines_are_held_back(rt: HostRuntime) -> Result<(), Fail> {
+    let alloc = rt.alloc();
+    tells(
+        &rt,
+        alloc,
+        Program::Snapshots,
+        "held back",
+        &[TWO_ENTRIES, HELD_BACK],
+    )?;
+    tells(
+        &rt,
+        alloc,
+        Program::Snapshots,
+        "refused",
+        &[TWO_ENTRIES, REFUSED],
+    )?;
+    tells(&rt, alloc, Program::Snapshots, "values", &[VALUES])
+}

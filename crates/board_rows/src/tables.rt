@@ -1,6 +1,7 @@
 //! The tables of boards: who may make, open and hold what, and how long it stands.
 use crate::openings::{ONE_NUMBER, WRITTEN_AND_READ};
-use crate::row::{PLAIN, Part, Row};
+use crate::row::{PLAIN, Part, Row, all_hold};
+use std::test::Fail;
 
 // A board with two keys that differ only in case isn't made.
 const KEYS_UP_TO_CASE: Part = &[
@@ -63,7 +64,7 @@ const TWO_SLOTS: Part = &[
     ("step a", "table = ok 1"),
 ];
 
-pub const TABLES: &[Row] = &[
+const ROWS: [Row; 13] = [
     Row {
         name: "a name that stands",
         opening: &[ONE_NUMBER, WRITTEN_AND_READ],
@@ -314,3 +315,8 @@ pub const TABLES: &[Row] = &[
         ..PLAIN
     },
 ];
+
+#[test]
+fn tables_of_boards(rt: HostRuntime) -> Result<(), Fail> {
+    all_hold(&rt, rt.alloc(), &ROWS)
+}

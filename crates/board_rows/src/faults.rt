@@ -1,8 +1,10 @@
 //! Sources that give a byte a call and sinks that take one, of which each call fails in turn.
+use crate::boards::FIRST_RUN;
+use crate::openings::{ONE_NUMBER, WRITTEN_AND_READ};
 use crate::programs::{Ended, Program};
+use crate::row::{Row, joined};
 use crate::whole::Whole;
-use board_row_tables::openings::{ONE_NUMBER, WRITTEN_AND_READ};
-use board_row_tables::{EVENTS, FIRST_RUN, LIMITS, LOANS, Row};
+use crate::{events, limits, loans};
 use board_script::{MemorySink, MemorySource};
 use std::alloc::{AllocError, Global};
 use std::process::Abort;
@@ -11,10 +13,9 @@ use std::test::Fail;
 // A row in bytes.
 fn whole_of(alloc: Global, row: &Row) -> Result<Whole<'static>, AllocError> {
     let mut whole = Whole::new(alloc, Program::Scripts, row.name);
-    for part in row.opening {
-        whole.push_part(part)?;
+    for (line, answer) in &row.all_lines(alloc)? {
+        whole.push(line, answer)?;
     }
-    whole.push_part(row.lines)?;
     whole.ends_with(row.status, row.note)?;
     Ok(whole)
 }
@@ -30,16 +31,17 @@ fn rows_hold(rt: &impl Abort, alloc: Global, rows: &[Row]) -> Result<(), Fail> {
 fn each_call_of_a_stream_may_fail(rt: HostRuntime) -> Result<(), Fail> {
     let alloc = rt.alloc();
     rows_hold(&rt, alloc, &[FIRST_RUN])?;
-    rows_hold(&rt, alloc, LIMITS)?;
-    rows_hold(&rt, alloc, LOANS)?;
-    rows_hold(&rt, alloc, EVENTS)
+    rows_hold(&rt, alloc, &limits::ROWS)?;
+    rows_hold(&rt, alloc, &loans::ROWS)?;
+    rows_hold(&rt, alloc, &events::ROWS)
 }
 
 // 300 lines: an entry, and 96 updates of it.
 fn many_updates(alloc: Global) -> Result<Whole<'static>, AllocError> {
     let mut whole = Whole::new(alloc, Program::Scripts, "many updates");
-    whole.push_part(ONE_NUMBER)?;
-    whole.push_part(WRITTEN_AND_READ)?;
+    for (line, answer) in &joined(alloc, &[ONE_NUMBER, WRITTEN_AND_READ])? {
+        whole.push(line, answer)?;
+    }
     for n in 0u64..96 {
         let begin = format!(in alloc; "begin a update m u64:{n}")?;
         whole.push(&begin, "ok")?;
@@ -78,7 +80,7 @@ struct Fault {
     note: &'static str,
 }
 
-const FAULTS: &[Fault] = &[
+const FAULTS: [Fault; 5] = [
     // The second answer isn't written.
     Fault {
         script: "abandon a\nabandon b\n",
@@ -132,18 +134,25 @@ const FAULTS: &[Fault] = &[
 #[test]
 fn what_stands_written_after_a_fault(rt: HostRuntime) -> Result<(), Fail> {
     let alloc = rt.alloc();
-    for fault in FAULTS {
+    for fault in &FAULTS {
         let script = fault.script.as_bytes().to_vec(alloc)?;
         let source = MemorySource::new(script, fault.piece, fault.failed_reads.to_vec(alloc)?);
         let writes = fault.failed_writes.to_vec(alloc)?;
         let sink = MemorySink::new(alloc, 100, fault.piece, writes)?;
         let ended = Ended::of(alloc, Program::Scripts, source, sink)?;
-        let wanted = (
-            fault.status,
-            Some(fault.output.as_bytes()),
-            fault.note.as_bytes(),
+        assert_eq!(rt; ended.status, fault.status, "{}", fault.script);
+        assert_eq!(rt;
+            ended.output.as_slice(),
+            fault.output.as_bytes(),
+            "{}",
+            fault.script
         );
-        assert_eq!(rt; ended.told(), wanted, "{}", fault.script);
+        assert_eq!(rt;
+            ended.note.as_slice(),
+            fault.note.as_bytes(),
+            "{}",
+            fault.script
+        );
     }
     Ok(())
 }

@@ -1,9 +1,7 @@
 //! Lines outside the grammar, and calls of source and sink that fail.
-use crate::driven::script_of;
+use crate::driven::watchers::{BITS, REPORTED};
+use crate::driven::{BOARD, Lines, ONE_ENTRY, Scene, script_of};
 use crate::programs::Program;
-use board_row_tables::driven::snapshots::ONE_SNAPSHOT;
-use board_row_tables::driven::watchers::{BITS, REPORTED};
-use board_row_tables::driven::{BOARD, Lines, ONE_ENTRY};
 use std::alloc::Global;
 use std::process::Abort;
 use std::test::Fail;
@@ -87,6 +85,28 @@ fn lines_are_outside_the_grammar(rt: HostRuntime) -> Result<(), Fail> {
         &OUTSIDE_WATCHERS,
     )
 }
+
+/// A whole snapshot of one entry.
+const ONE_SNAPSHOT: Scene = &[
+    Lines::Line("snap b h", &[], "snapping b"),
+    Lines::Turns(
+        "turn b",
+        &[
+            ("begin b get h", "ok"),
+            ("step b", "read 1:0 1"),
+            ("step b", "read 1:2 7"),
+            ("step b", "read 1:0 1 = u64:7 gen 1"),
+            ("begin b get h", "ok"),
+            ("step b", "read 1:0 1"),
+            ("step b", "read 1:2 7"),
+        ],
+    ),
+    Lines::Line(
+        "turn b",
+        &[("step b", "read 1:0 1 = u64:7 gen 1")],
+        "snapshot b h u64:7 gen 1",
+    ),
+];
 
 #[test]
 fn each_call_of_a_stream_may_fail_in_a_snapshot(rt: HostRuntime) -> Result<(), Fail> {

@@ -1,9 +1,9 @@
 //! The programs: their words, faults, statuses and notes.
+use crate::boards::FIRST_RUN;
 use crate::programs::{Ended, Program, words_of};
-use crate::whole::Whole;
-use board_row_tables::FIRST_RUN;
+use crate::row::bytes_of;
 use board_script::{MemorySink, MemorySource};
-use std::alloc::{AllocError, Global};
+use std::alloc::Global;
 use std::process::{Abort, ExitCode};
 use std::test::Fail;
 
@@ -46,7 +46,7 @@ const USAGE: Run = Run {
     ..PLAIN
 };
 
-const RUNS: &[Run] = &[
+const RUNS: [Run; 15] = [
     Run {
         failed_reads: &[1],
         status: 3,
@@ -132,25 +132,24 @@ const RUNS: &[Run] = &[
     },
 ];
 
-// The bytes of the first run.
-fn first_run(alloc: Global) -> Result<Vec<u8>, AllocError> {
-    let mut whole = Whole::new(alloc, Program::Scripts, FIRST_RUN.name);
-    whole.push_part(FIRST_RUN.lines)?;
-    Ok(whole.input)
-}
-
 impl Run {
     fn holds(&self, rt: &impl Abort, alloc: Global) -> Result<(), Fail> {
         let words = words_of(alloc, self.words)?;
-        let source = MemorySource::new(first_run(alloc)?, 60, self.failed_reads.to_vec(alloc)?);
+        let (script, _) = bytes_of(alloc, FIRST_RUN.lines)?;
+        let source = MemorySource::new(script, 60, self.failed_reads.to_vec(alloc)?);
         let sink = MemorySink::new(alloc, self.room, 0, self.failed_writes.to_vec(alloc)?)?;
         let ended = Ended::with_words(alloc, self.program, &words, source, sink)?;
-        let wanted = (
-            self.status,
-            Some(self.output.as_bytes()),
-            self.note.as_bytes(),
+        assert_eq!(rt; ended.status, self.status, "status of {words:?}");
+        assert_eq!(rt;
+            ended.output.as_slice(),
+            self.output.as_bytes(),
+            "output of {words:?}"
         );
-        assert_eq!(rt; ended.told(), wanted, "{words:?}");
+        assert_eq!(rt;
+            ended.note.as_slice(),
+            self.note.as_bytes(),
+            "note of {words:?}"
+        );
         Ok(())
     }
 }
@@ -158,9 +157,10 @@ impl Run {
 #[test]
 fn a_process_has_the_status_of_its_program(rt: HostRuntime) -> Result<(), Fail> {
     let alloc = rt.alloc();
-    for run in RUNS {
+    for run in &RUNS {
         let words = words_of(alloc, run.words)?;
-        let mut source = MemorySource::new(first_run(alloc)?, 60, run.failed_reads.to_vec(alloc)?);
+        let (script, _) = bytes_of(alloc, FIRST_RUN.lines)?;
+        let mut source = MemorySource::new(script, 60, run.failed_reads.to_vec(alloc)?);
         let mut sink = MemorySink::new(alloc, run.room, 0, run.failed_writes.to_vec(alloc)?)?;
         let mut notes = MemorySink::new(alloc, 100, 0, Vec::new(alloc))?;
         let program = run.program;
@@ -172,7 +172,7 @@ fn a_process_has_the_status_of_its_program(rt: HostRuntime) -> Result<(), Fail> 
 
 #[test]
 fn each_program_ends_as_it_is_called(rt: HostRuntime) -> Result<(), Fail> {
-    for run in RUNS {
+    for run in &RUNS {
         run.holds(&rt, rt.alloc())?;
     }
     Ok(())

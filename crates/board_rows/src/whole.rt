@@ -1,5 +1,6 @@
 //! A script in bytes with all that a program tells of it, and the ways in which it is run.
 use crate::programs::{Ended, Program};
+use crate::row::{push_line, push_told};
 use board_script::{MemorySink, MemorySource};
 use std::alloc::{AllocError, Global};
 use std::process::Abort;
@@ -42,14 +43,6 @@ impl<'a> Whole<'a> {
         push_line(line, &mut self.input)?;
         push_line(answer, &mut self.output)?;
         self.push_ends()
-    }
-
-    /// Adds lines, each with its answer.
-    pub(crate) fn push_part(&mut self, part: &[(&str, &str)]) -> Result<(), AllocError> {
-        for (line, answer) in part {
-            self.push(line, answer)?;
-        }
-        Ok(())
     }
 
     /// Adds a line outside the grammar, or one behind it.
@@ -105,9 +98,16 @@ impl<'a> Whole<'a> {
     pub(crate) fn ends_at_each_read(&self, rt: &impl Abort, alloc: Global) -> Result<(), Fail> {
         for call in 0..self.reads() {
             let ended = self.run(alloc, call, self.output.len())?;
+            assert_eq!(rt; ended.status, 3, "{}, read {call}", self.name);
             assert_eq!(rt;
-                ended.told(),
-                (3, self.answers_after(call), b"read fault\n".as_slice()),
+                Some(ended.output.as_slice()),
+                self.answers_after(call),
+                "{}, read {call}",
+                self.name
+            );
+            assert_eq!(rt;
+                ended.note.as_slice(),
+                b"read fault\n".as_slice(),
                 "{}, read {call}",
                 self.name
             );
@@ -119,9 +119,16 @@ impl<'a> Whole<'a> {
     pub(crate) fn ends_at_each_write(&self, rt: &impl Abort, alloc: Global) -> Result<(), Fail> {
         for call in 0..self.output.len() {
             let ended = self.run(alloc, self.reads(), call)?;
+            assert_eq!(rt; ended.status, 4, "{}, write {call}", self.name);
             assert_eq!(rt;
-                ended.told(),
-                (4, self.output.get(..call), b"write fault\n".as_slice()),
+                Some(ended.output.as_slice()),
+                self.output.get(..call),
+                "{}, write {call}",
+                self.name
+            );
+            assert_eq!(rt;
+                ended.note.as_slice(),
+                b"write fault\n".as_slice(),
                 "{}, write {call}",
                 self.name
             );
@@ -131,12 +138,9 @@ impl<'a> Whole<'a> {
 
     // How a run is to end.
     fn has_ended(&self, rt: &impl Abort, ended: &Ended) -> Result<(), Fail> {
-        let wanted = (
-            self.status,
-            Some(self.output.as_slice()),
-            self.note.as_slice(),
-        );
-        assert_eq!(rt; ended.told(), wanted, "{}", self.name);
+        assert_eq!(rt; ended.output, self.output, "output of {}", self.name);
+        assert_eq!(rt; ended.status, self.status, "status of {}", self.name);
+        assert_eq!(rt; ended.note, self.note, "note of {}", self.name);
         Ok(())
     }
 
@@ -165,18 +169,4 @@ impl<'a> Whole<'a> {
         self.ends_at_each_read(rt, alloc)?;
         self.ends_at_each_write(rt, alloc)
     }
-}
-
-/// Adds a text with its newline.
-pub(crate) fn push_line(text: &str, out: &mut Vec<u8>) -> Result<(), AllocError> {
-    out.extend_from_slice(text.as_bytes())?;
-    out.extend_from_slice(b"\n")
-}
-
-/// Adds what is told with its newline, or nothing where nothing is told.
-pub(crate) fn push_told(text: &str, out: &mut Vec<u8>) -> Result<(), AllocError> {
-    if text.is_empty() {
-        return Ok(());
-    }
-    push_line(text, out)
 }

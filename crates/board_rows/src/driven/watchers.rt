@@ -1,8 +1,16 @@
 //! Watchers that open, wait, get and report, and that end.
-use crate::driven::{Lines, Scene};
+use crate::driven::{BOARD, Lines, ONE_ENTRY, Scene};
+use crate::programs::Program;
+use std::alloc::Global;
+use std::process::Abort;
+use std::test::Fail;
+
+fn tells(rt: &impl Abort, alloc: Global, name: &'static str, scenes: &[Scene]) -> Result<(), Fail> {
+    crate::driven::tells(rt, alloc, Program::Watchers, name, scenes)
+}
 
 /// b listens on a set of ids, and a notifies it.
-pub const BITS: Scene = &[Lines::Given(&[
+pub(super) const BITS: Scene = &[Lines::Given(&[
     ("begin b listen e bits ev 63", "ok"),
     ("step b", "table = ok"),
     ("begin a notifier n bits ev", "ok"),
@@ -10,7 +18,7 @@ pub const BITS: Scene = &[Lines::Given(&[
 ])];
 
 /// b listens on a queue of ids whose name is an equals sign, and a notifies it.
-pub const QUEUE: Scene = &[Lines::Given(&[
+const QUEUE: Scene = &[Lines::Given(&[
     ("begin b listen e queue =", "ok"),
     ("step b", "table = ok"),
     ("begin a notifier n queue =", "ok"),
@@ -60,7 +68,7 @@ const GOT: &[(&str, &str)] = &[("step b", "read 1:0 2 = u64:9 gen 2")];
 const SAID: Lines = Lines::Line("turn b", GOT, "report b h u64:9 gen 2");
 
 /// A value that was notified is reported; notified anew it is not.
-pub const REPORTED: Scene = &[
+pub(super) const REPORTED: Scene = &[
     WATCHED,
     UPDATED,
     NOTIFIED,
@@ -74,7 +82,7 @@ pub const REPORTED: Scene = &[
 ];
 
 /// The same value published anew has a generation of its own, and is reported again.
-pub const SAME_VALUE: Scene = &[
+const SAME_VALUE: Scene = &[
     Lines::Given(&[
         ("begin a update m u64:9", "ok"),
         ("step a", "write 1:2 9"),
@@ -98,7 +106,7 @@ pub const SAME_VALUE: Scene = &[
 ];
 
 /// Lines of a watched party are held back; its abandonment ends its watcher.
-pub const HELD_BACK: Scene = &[
+const HELD_BACK: Scene = &[
     WATCHED,
     Lines::Line("step b", &[], "watched b"),
     Lines::Line("begin b get h", &[], "watched b"),
@@ -119,7 +127,7 @@ pub const HELD_BACK: Scene = &[
 ];
 
 /// A watched party is left to its watcher until it is abandoned.
-pub const ENDED: Scene = &[
+const ENDED: Scene = &[
     WATCHED,
     Lines::Line("step b", &[], "watched b"),
     Lines::Line("turn c", &[], "unwatched c"),
@@ -128,14 +136,14 @@ pub const ENDED: Scene = &[
 ];
 
 /// A watcher over a handle that isn't there doesn't begin.
-pub const NO_HANDLE: Scene = &[Lines::Line(
+const NO_HANDLE: Scene = &[Lines::Line(
     "watch b e z",
     &[("begin b id z", "refused unknown")],
     "unwatched b",
 )];
 
 /// A begin that is refused ends the opening.
-pub const TURNED_DOWN: Scene = &[
+const TURNED_DOWN: Scene = &[
     Lines::Line(
         "watch b e h z k",
         &[
@@ -157,7 +165,7 @@ pub const TURNED_DOWN: Scene = &[
 ];
 
 /// A watcher is abandoned in the midst of a get.
-pub const CUT: Scene = &[
+const CUT: Scene = &[
     WATCHED,
     UPDATED,
     NOTIFIED,
@@ -173,7 +181,7 @@ pub const CUT: Scene = &[
 ];
 
 /// A wait that takes no id is followed by the next one.
-pub const NOTHING: Scene = &[
+const NOTHING: Scene = &[
     WATCHED,
     Lines::Turns(
         "turn b",
@@ -187,7 +195,7 @@ pub const NOTHING: Scene = &[
 ];
 
 /// A listener that is none is looked at in the first turn.
-pub const NO_LISTENER: Scene = &[
+const NO_LISTENER: Scene = &[
     Lines::Line("watch b x h", H_IS_0, "watching b"),
     Lines::Line(
         "turn b",
@@ -198,7 +206,7 @@ pub const NO_LISTENER: Scene = &[
 ];
 
 /// Two handles, one named twice: each is got once, in the line's order, and an id of none is passed over.
-pub const TWO_HANDLES: Scene = &[
+const TWO_HANDLES: Scene = &[
     Lines::Line(
         "watch b e h k h",
         &[
@@ -264,7 +272,7 @@ pub const TWO_HANDLES: Scene = &[
 ];
 
 /// A reader has an id too, and a get through it is refused.
-pub const A_READER: Scene = &[
+const A_READER: Scene = &[
     Lines::Line(
         "watch b e r",
         &[("begin b id r", "ok"), ("step b", "table = id 2")],
@@ -288,3 +296,35 @@ pub const A_READER: Scene = &[
         "unwatched b",
     ),
 ];
+
+#[test]
+fn what_was_notified_is_reported(rt: HostRuntime) -> Result<(), Fail> {
+    let alloc = rt.alloc();
+    tells(&rt, alloc, "reported", &[BOARD, BITS, REPORTED])?;
+    tells(&rt, alloc, "anew", &[BOARD, BITS, REPORTED, SAME_VALUE])?;
+    tells(&rt, alloc, "nothing", &[BOARD, BITS, NOTHING])?;
+    tells(&rt, alloc, "two handles", &[BOARD, QUEUE, TWO_HANDLES])
+}
+
+#[test]
+fn one_entry_is_watched(rt: HostRuntime) -> Result<(), Fail> {
+    let alloc = rt.alloc();
+    tells(&rt, alloc, "one entry", &[ONE_ENTRY, BITS, REPORTED])?;
+    tells(&rt, alloc, "ended", &[ONE_ENTRY, BITS, ENDED])?;
+    tells(&rt, alloc, "no handle", &[ONE_ENTRY, BITS, NO_HANDLE])
+}
+
+#[test]
+fn watchers_end(rt: HostRuntime) -> Result<(), Fail> {
+    let alloc = rt.alloc();
+    tells(&rt, alloc, "held back", &[BOARD, BITS, HELD_BACK])?;
+    tells(
+        &rt,
+        alloc,
+        "turned down",
+        &[BOARD, BITS, NO_HANDLE, TURNED_DOWN],
+    )?;
+    tells(&rt, alloc, "cut", &[BOARD, BITS, CUT])?;
+    tells(&rt, alloc, "no listener", &[BOARD, BITS, NO_LISTENER])?;
+    tells(&rt, alloc, "a reader", &[BOARD, QUEUE, A_READER])
+}
