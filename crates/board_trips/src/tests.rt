@@ -1,8 +1,9 @@
-//! Which ids a round trip sends and takes, and that another one is told; and the trips of two threads.
-use crate::trips::{ends_of, run_trips, send};
+//! Which ids a round trip sends, takes and sends back, and that another one is told; and the trips of two threads.
+use crate::trips::{echo, ends_of, run_trips, send};
 use board_event::{
     EventListener, EventNotifier, Listener, Notifier, QueueOfIds, SetOfIds, TriggerId,
 };
+use std::alloc::Global;
 use std::fmt::Debug;
 use std::process::Abort;
 use std::sync::Wait;
@@ -47,13 +48,39 @@ fn each_round_trip_sends_an_id_and_takes_one(rt: HostRuntime) -> Result<(), Fail
     takes_all(&rt, &there, 200)
 }
 
+fn notify_each<R: Wait>(rt: &R, to: &EventNotifier<QueueOfIds>, ids: &[usize]) -> Result<(), Fail> {
+    for id in ids {
+        to.notify(rt, TriggerId::new(*id))?;
+    }
+    Ok(())
+}
+
+// The ids that come back are those of the trips, but for the last one.
+fn is_told<R: Wait + Abort>(rt: &R, alloc: Global, ids: &[usize]) -> Result<(), Fail> {
+    let (_there, to_there) = ends_of::<QueueOfIds, R>(rt, alloc)?;
+    let (back, to_back) = ends_of::<QueueOfIds, R>(rt, alloc)?;
+    notify_each(rt, &to_back, ids)?;
+    assert!(rt; send(rt, &to_there, &back, ids.len() as u64).is_err());
+    Ok(())
+}
+
 #[test]
 fn another_id_that_comes_back_is_told(rt: HostRuntime) -> Result<(), Fail> {
-    let (_there, to_there) = ends_of::<QueueOfIds, HostRuntime>(&rt, rt.alloc())?;
+    is_told(&rt, rt.alloc(), &[1])?;
+    is_told(&rt, rt.alloc(), &[0, 0])
+}
+
+#[test]
+fn the_ids_that_came_are_sent_back(rt: HostRuntime) -> Result<(), Fail> {
+    let (there, to_there) = ends_of::<QueueOfIds, HostRuntime>(&rt, rt.alloc())?;
     let (back, to_back) = ends_of::<QueueOfIds, HostRuntime>(&rt, rt.alloc())?;
-    to_back.notify(&rt, id_of(1))?;
-    assert!(rt; send(&rt, &to_there, &back, 1).is_err());
-    Ok(())
+    notify_each(&rt, &to_there, &[7, 3, 3])?;
+    echo(&rt, &there, &to_back, 3)?;
+    for id in [7, 3, 3] {
+        same(&rt, &back.try_wait_one(&rt)?, &Some(TriggerId::new(id)));
+    }
+    takes_all(&rt, &back, 0)?;
+    takes_all(&rt, &there, 0)
 }
 
 #[test]
