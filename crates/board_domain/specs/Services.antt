@@ -1,6 +1,7 @@
 -- What callers see of nodes, builders and factories.
 use Rattle.std.specs.Prelude.{◌≡◌, ℕ, ◌+◌, if◌then◌else◌, List, [], ◌∷◌, ◌++◌, Some, None, Result, Ok, Err}
 use Rattle.board_layout.specs.Answer.{Answers, Refuses}
+use Rattle.board_model.specs.TableCalls.{no_limits}
 use Rattle.board_model.specs.declared.attributes.Attribute.{Attribute}
 use Rattle.board_model.specs.declared.attributes.Requirements.{Requirements}
 use Rattle.board_model.specs.declared.tables.Limits.{Limits}
@@ -55,10 +56,6 @@ pub record FactorySeen : Type 0 where
 
 abbrev pub factory_made : FactorySeen → Made
 factory_made f = f.made
-
--- no limits are asked for
-abbrev pub no_limits : Limits
-no_limits = record { max_readers = None; max_nodes = None }
 
 -- so many readers are asked for
 abbrev pub with_readers : Limits → ℕ → Limits

@@ -2,11 +2,12 @@
 ghost use Rattle.std.specs.Prelude.{◌≡◌, [], Some, IfOk, OnOk, OnErr};
 ghost use Rattle.board_layout.specs.Answer.{Answers, Refuses, with_value};
 ghost use Rattle.board_layout.specs.Bytes.{details};
+ghost use Rattle.board_model.specs.TableCalls.{no_limits};
 ghost use Rattle.board_service.specs.Domain as calls;
 ghost use Rattle.board_service.specs.Facts.{IsHeldAs};
 ghost use Rattle.board_domain.specs.Asked.{IsAsAsked};
 ghost use Rattle.board_domain.specs.LentForms as lent;
-ghost use Rattle.board_domain.specs.Services.{no_limits, with_readers, with_nodes, factory_made, no_requirements};
+ghost use Rattle.board_domain.specs.Services.{with_readers, with_nodes, factory_made, no_requirements};
 ghost use Rattle.board_domain.specs.Factories.{KeepsBoard};
 
 use crate::kept::open_board;

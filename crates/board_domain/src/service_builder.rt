@@ -1,6 +1,7 @@
 //! What makes or opens a board.
 ghost use Rattle.std.specs.Prelude.{◌≡◌};
-ghost use Rattle.board_domain.specs.Services.{no_limits, new_creator};
+ghost use Rattle.board_domain.specs.Services.{new_creator};
+ghost use Rattle.board_model.specs.TableCalls.{no_limits};
 
 use crate::creator::Creator;
 use crate::opener::Opener;

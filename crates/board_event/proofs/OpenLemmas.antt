@@ -4,8 +4,8 @@ use Rattle.std.proofs.Common.{sym, ◌∙◌}
 use Rattle.board_names.specs.declared.errors.event.NotifierCreateError.{NotifierCreateError}
 use Rattle.board_event_model.specs.declared.kind.EventKind.{EventKind}
 use Rattle.board_event_model.specs.declared.kind.EventKind.TheVariants as kind
-use Rattle.board_event_model.specs.EventMemory.{Event}
-use Rattle.board_event_core.specs.EventTable.{EventTable, IsNotifierAnswer, changed, event_at, notifier_of, with_notifier}
+use Rattle.board_event_model.specs.EventMemory.{Event, with_notifier}
+use Rattle.board_event_core.specs.EventTable.{EventTable, IsNotifierAnswer, changed, event_at, notifier_of}
 use Rattle.board_names.specs.Concept.{Named, Placed, placed}
 use Rattle.board_event.specs.Ends.{End, IsNotifierOf, greatest_of}
 use Rattle.board_event.proofs.TableLemmas.{Became-first, Became-next}

@@ -6,14 +6,14 @@ use Rattle.std.proofs.lemmas.Bool.Decides.{Decides-eqb}
 use Rattle.std.proofs.lemmas.Nat.Bits.{bit_at-lt, bit_at-trailing_zeros}
 use Rattle.std.specs.Int.{bit_at, trailing_zeros}
 use Rattle.std.specs.List.{FoldsTo, list_any}
-use Rattle.board_event_model.specs.Ids.{Ids, IsWord, has, ids_where}
+use Rattle.board_event_model.specs.Ids.{Ids, IsWord, has, ids_of_bits, ids_where}
 use Rattle.board_event_model.proofs.SetLemmas.{either, is_false, or_split, or_left, or_right}
 use Rattle.board_event_model.proofs.QuietLemmas.{bit_one, word_empty}
 use Rattle.board_event_core.specs.IdSets.{IsAscending, IsLeast, IsListOf}
 use Rattle.board_event_model.specs.declared.call.EventProgress.{EventProgress}
 use Rattle.board_event_model.specs.declared.call.EventProgress.TheVariants as progress
 use Rattle.board_event_model.specs.EventCalls.{reported}
-use Rattle.board_event.specs.Accesses.{IsInRange, ids_of_bits}
+use Rattle.board_event.specs.Accesses.{IsInRange}
 use Rattle.board_event.specs.LentForms.{CallsOn}
 use Rattle.board_event.specs.Taking.{NoneBelow}
 

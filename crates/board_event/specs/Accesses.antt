@@ -76,10 +76,6 @@ IsHoldBehind n call next p =
 
 -- ---- the ids of a step
 
--- the ids of the first bits of a word, of which the least is this one
-abbrev pub ids_of_bits : ℕ → ℕ → ℕ → List ℕ
-ids_of_bits base bits count = ids_where (λ i. bit_at bits (i - base) == 1) base count
-
 -- the ids of a step are numbers of 64 bits
 abbrev pub IsInRange : EventProgress → Type 0
 IsInRange (progress.Took base bits last) = base + 64 ≤ 2 ^ 64

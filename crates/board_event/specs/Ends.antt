@@ -7,8 +7,8 @@ use Rattle.board_names.specs.declared.errors.event.ListenerCreateError.{Listener
 use Rattle.board_names.specs.declared.errors.event.NotifierCreateError.{NotifierCreateError}
 use Rattle.board_event_model.specs.declared.kind.EventKind.{EventKind}
 use Rattle.board_event_model.specs.declared.kind.EventKind.TheVariants as kind
-use Rattle.board_event_model.specs.EventMemory.{Event, new_event}
-use Rattle.board_event_core.specs.EventTable.{DropsEventOf, EventTable, FreesNameOf, IsNotifierAnswer, answer_to_listen, changed, event_at, names_of, settled, table_listened, without_listener, without_notifier}
+use Rattle.board_event_model.specs.EventMemory.{Event, new_event, without_listener, without_notifier}
+use Rattle.board_event_core.specs.EventTable.{DropsEventOf, EventTable, FreesNameOf, IsNotifierAnswer, answer_to_listen, changed, event_at, names_of, settled, table_listened}
 
 -- an end of an event: its name, the number of its event, and the greatest id
 pub record End : Type 0 where

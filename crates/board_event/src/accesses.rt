@@ -3,7 +3,8 @@ ghost use Rattle.std.specs.Prelude.{◌≡◌, ◌≢◌, ◌≤◌, ◌<◌, �
 ghost use Rattle.std.specs.Int.{bit_at};
 ghost use Rattle.board_event_model.specs.EventCalls.{reported};
 ghost use Rattle.board_event.specs.LentForms.{CallsOn};
-ghost use Rattle.board_event.specs.Accesses.{IsInRange, IsNotifyAccess, IsWaitAccess, ids_of_bits};
+ghost use Rattle.board_event.specs.Accesses.{IsInRange, IsNotifyAccess, IsWaitAccess};
+ghost use Rattle.board_event_model.specs.Ids.{ids_of_bits};
 
 use board_event_core::{
     EventAccess, EventProgress, Events, NotifierNotifyError, NotifyCall, NotifyStage, TriggerId,

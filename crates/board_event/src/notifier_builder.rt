@@ -1,7 +1,8 @@
 //! How a notifier is opened.
 ghost use Rattle.std.specs.Prelude.{◌≡◌, ℕ, List, codes, IfOk, IsSome, IsSomeAnd, OnErr};
+ghost use Rattle.board_event_model.specs.EventMemory.{with_notifier};
 ghost use Rattle.board_names.specs.Concept.{starting};
-ghost use Rattle.board_event_core.specs.EventTable.{changed, event_at, with_notifier};
+ghost use Rattle.board_event_core.specs.EventTable.{changed, event_at};
 ghost use Rattle.board_event.specs.Ends.{HasNotifier, IsNotifierOf, IsOpened, greatest_of};
 ghost use Rattle.board_event.specs.TypedCalls.{IsOpenedAs, MayOpen, TakesAnyOfQueue};
 

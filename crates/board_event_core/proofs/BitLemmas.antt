@@ -11,9 +11,9 @@ use Rattle.std.specs.Int.{bit_at, trailing_zeros}
 use Rattle.std.specs.Cmp.{nat_cmp_total}
 use Rattle.std.specs.FinMap.{nat_cmp-IsAntisymmetric}
 use Rattle.std.specs.FinSet as fin
-use Rattle.board_event_model.specs.Ids.{Ids, has, ids_where, IsWord, in_word}
+use Rattle.board_event_model.specs.Ids.{Ids, IsWord, has, ids_where, in_word, is_set}
 use Rattle.board_event_model.proofs.SetLemmas.{either, or_split, or_left, or_right, is_false, not_true, has_inserted, has_itself, has_kept, has_removed, has_left, has_retained, has_retain, has_empty}
-use Rattle.board_event_core.specs.IdSets.{is_set, ids_of, IdSet, IsLeast, IsLeastIn, IsListOf}
+use Rattle.board_event_core.specs.IdSets.{ids_of, IdSet, IsLeast, IsLeastIn, IsListOf}
 
 same_bool : (a b : Bool) → (a ≡ true → b ≡ true) → (b ≡ true → a ≡ true) → a ≡ b
 same_bool true b f g = sym (f refl)

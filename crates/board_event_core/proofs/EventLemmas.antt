@@ -7,10 +7,10 @@ use Rattle.board_event_model.specs.declared.kind.EventKind.TheVariants as kind
 use Rattle.board_event_model.specs.declared.access.EventAccess.{EventAccess}
 use Rattle.board_event_model.specs.declared.access.EventAccess.TheVariants as access
 use Rattle.board_event_model.specs.Ids.{Ids, has}
-use Rattle.board_event_model.specs.EventMemory.{CanPerform, Event, after, new_event}
+use Rattle.board_event_model.specs.EventMemory.{CanPerform, Event, after, new_event, with_notifier, without_listener, without_notifier}
 use Rattle.board_event_model.proofs.QuietLemmas.{ltb_true}
 use Rattle.board_event_model.proofs.SetLemmas.{has_empty, has_inserted, has_removed, has_retained}
-use Rattle.board_event_core.specs.EventTable.{IsAttended, IsEvent, with_gone, with_notifier, without_listener, without_notifier}
+use Rattle.board_event_core.specs.EventTable.{IsAttended, IsEvent, with_gone}
 
 -- a kind is one of the two
 not_both : (k : EventKind) → k ≡ kind.Bits → k ≡ kind.Queue → ⊥

@@ -19,8 +19,8 @@ use Rattle.board_event_model.specs.declared.kind.EventKind.{EventKind}
 use Rattle.board_event_model.specs.declared.kind.EventKind.TheVariants as kind
 use Rattle.board_event_model.specs.declared.access.EventAccess.{EventAccess}
 use Rattle.board_event_model.specs.declared.access.EventAccess.TheVariants as access
-use Rattle.board_event_model.specs.EventMemory.{Event, after, holds_name, has_holder, new_event}
-use Rattle.board_event_core.specs.EventTable.{AreLeft, DropsEvent, DropsEventOf, EventTable, FreesName, FreesNameOf, freed, HoldsName, IsAttended, IsEvent, IsKept, LosesName, changed, event_at, table_listened, named_with, names_of, settled, settled_with, with_event, with_gone, with_names, with_notifier, without_event, without_name}
+use Rattle.board_event_model.specs.EventMemory.{Event, after, has_holder, holds_name, new_event, with_notifier}
+use Rattle.board_event_core.specs.EventTable.{AreLeft, DropsEvent, DropsEventOf, EventTable, FreesName, FreesNameOf, freed, HoldsName, IsAttended, IsEvent, IsKept, LosesName, changed, event_at, table_listened, named_with, names_of, settled, settled_with, with_event, with_gone, with_names, without_event, without_name}
 use Rattle.board_event_core.proofs.EventLemmas.{IsAttended-new_event, IsEvent-new_event}
 
 -- ---- equal keys

@@ -144,18 +144,6 @@ pub record IsEventTable (t : EventTable) : Type 0 where
   pub numbers : IsStrictlySortedBy nat_cmp (keys_of t.events)
   pub names : (k : EventKind) → NamesAscend (names_of k t)
 
--- one notifier more
-abbrev pub with_notifier : Event → Event
-with_notifier e = record e { notifiers = e.notifiers + 1 }
-
--- one fewer
-abbrev pub without_notifier : Event → Event
-without_notifier e = record e { notifiers = e.notifiers - 1 }
-
--- its listener was let go
-abbrev pub without_listener : Event → Event
-without_listener e = record e { held = false }
-
 -- its listener counts as gone
 abbrev pub with_gone : Event → Event
 with_gone e = record e { gone = true }

@@ -4,7 +4,7 @@ use Rattle.std.specs.Int.{bit_at}
 use Rattle.std.specs.List.{FoldsTo, list_any}
 use Rattle.std.specs.Coded.{Coded, code_by, coded×, coded_ℕ}
 use Rattle.std.specs.FinSet as set
-use Rattle.board_event_model.specs.Ids.{Ids, has, in_word, ids_where}
+use Rattle.board_event_model.specs.Ids.{Ids, has, ids_where, in_word, is_set}
 
 -- a bit set: its greatest id, and the ids in it
 pub record IdSet : Type 0 where
@@ -48,10 +48,6 @@ abbrev pub IsCalledOnEach : {F : Type 0} → (F → ℕ → F → Type 0) → F 
 IsCalledOnEach {F} step callback all = (ids : List ℕ) × IsListOf ids all × (last : F) × FoldsTo step callback ids last
 
 -- ---- the words of a bit set. No clause of a public call cites what follows.
-
--- whether an id is in: id i is bit i mod 64 of word i / 64
-abbrev pub is_set : List ℕ → ℕ → Bool
-is_set words i = bit_at (slice_index words (i / 64)) (i % 64) == 1
 
 -- the ids of a list of words
 abbrev pub ids_of : List ℕ → Ids

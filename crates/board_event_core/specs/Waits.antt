@@ -5,10 +5,6 @@ use Rattle.board_event_model.specs.declared.call.WaitStage.TheVariants as wait
 use Rattle.board_event_model.specs.declared.call.WaitMode.{WaitMode}
 use Rattle.board_event_model.specs.WaitCalls.{Wait}
 
--- a wait of these parts
-abbrev pub wait_of : ℕ → Bool → WaitMode → WaitStage → Wait
-wait_of words many mode stage = record { words = words; many = many; mode = mode; stage = stage }
-
 -- a stage's word is one of the set's, and fewer than 513 ids were taken before a pop
 abbrev pub IsStage : ℕ → WaitStage → Type 0
 IsStage words wait.Drain = ⊤

@@ -1,9 +1,9 @@
 //! The memory of one event.
 ghost use Rattle.std.specs.Prelude.{◌≡◌, ◌≤◌, ◌<◌, ◌+◌, ◌-◌, ◌^◌, ◌/◌, ℕ, IfOk, [], true, false, IsTrue, ◌↔◌};
 ghost use Rattle.std.specs.FinSet as set;
-ghost use Rattle.board_event_model.specs.EventMemory.{CanPerform, Event, IsRight, after, holds_name, has_holder, new_event, pop_answer, push_answer, yes_or_no};
+ghost use Rattle.board_event_model.specs.EventMemory.{CanPerform, Event, IsRight, after, has_holder, holds_name, new_event, pop_answer, push_answer, with_notifier, without_listener, without_notifier, yes_or_no};
 ghost use Rattle.board_event_core.specs.Passing.{NoneBetween};
-ghost use Rattle.board_event_core.specs.EventTable.{with_gone, with_notifier, without_listener, without_notifier};
+ghost use Rattle.board_event_core.specs.EventTable.{with_gone};
 
 use crate::bit_set::BitSet;
 use crate::semaphore::Semaphore;

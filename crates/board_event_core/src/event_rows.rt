@@ -5,8 +5,8 @@ ghost use Rattle.std.specs.List.Sorted.{IsStrictlySortedBy};
 ghost use Rattle.std.specs.Map.{keys_of};
 ghost use Rattle.std.specs.Ordering.{nat_cmp};
 ghost use Rattle.board_event_model.specs.declared.kind.EventKind.{EventKind as Kind};
-ghost use Rattle.board_event_model.specs.EventMemory.{Event, IsRight, after};
-ghost use Rattle.board_event_core.specs.EventTable.{AreLeft, CanPerformAt, DropsEvent, LosesName, NamesAreLeft, SettlesName, changed, event_at, freed, table_listened, names_of, empty_table, settled, with_gone, with_name, with_name_freed, with_new_event, with_notifier, without_event, without_listener, without_name, without_notifier};
+ghost use Rattle.board_event_model.specs.EventMemory.{Event, IsRight, after, with_notifier, without_listener, without_notifier};
+ghost use Rattle.board_event_core.specs.EventTable.{AreLeft, CanPerformAt, DropsEvent, LosesName, NamesAreLeft, SettlesName, changed, event_at, freed, table_listened, names_of, empty_table, settled, with_gone, with_name, with_name_freed, with_new_event, without_event, without_name};
 
 use crate::event_memory::EventMemory;
 use board_event_model::{EventAccess, EventAnswer, EventKind};

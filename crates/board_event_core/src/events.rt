@@ -3,9 +3,9 @@ ghost use Rattle.std.specs.Prelude.{◌≡◌, ◌≤◌, ◌<◌, ◌^◌, ◌�
 ghost use Rattle.board_layout.specs.Answer.{Answers, Refuses};
 ghost use Rattle.board_names.specs.Table.{NamesAscend, at, name_at};
 ghost use Rattle.board_names.specs.declared.errors.event.ListenerCreateError.TheVariants.{OutOfMemory};
-ghost use Rattle.board_event_model.specs.EventMemory.{Event, IsRight, after, new_event};
+ghost use Rattle.board_event_model.specs.EventMemory.{Event, IsRight, after, new_event, with_notifier, without_listener, without_notifier};
 ghost use Rattle.board_event_core.specs.Passing.{NoneBetween, ids_at};
-ghost use Rattle.board_event_core.specs.EventTable.{CanPerformAt, DropsEventOf, FreesNameOf, HasRoomAt, HoldsNameAt, IsEventTable, IsNotifierAnswer, NameStands, answer_to_listen, changed, event_at, table_listened, names_of, empty_table, notifier_of, settled, with_gone, with_notifier, without_listener, without_name, without_notifier};
+ghost use Rattle.board_event_core.specs.EventTable.{CanPerformAt, DropsEventOf, FreesNameOf, HasRoomAt, HoldsNameAt, IsEventTable, IsNotifierAnswer, NameStands, answer_to_listen, changed, event_at, table_listened, names_of, empty_table, notifier_of, settled, with_gone, without_name};
 
 use crate::event_rows::EventRows;
 use board_event_model::{EventAccess, EventAnswer, EventKind};

@@ -23,6 +23,18 @@ pub record Event : Type 0 where
   pub gone : Bool
   pub notifiers : ℕ
 
+-- with one notifier more
+abbrev pub with_notifier : Event → Event
+with_notifier e = record e { notifiers = e.notifiers + 1 }
+
+-- with one fewer
+abbrev pub without_notifier : Event → Event
+without_notifier e = record e { notifiers = e.notifiers - 1 }
+
+-- its listener was released
+abbrev pub without_listener : Event → Event
+without_listener e = record e { held = false }
+
 -- the event that a listen makes
 abbrev pub new_event : EventKind → List ℕ → ℕ → Event
 new_event k name max = record { kind = k; name = name; max = max; pending = set.empty; queue = []; signals = 0; held = true; gone = false; notifiers = 0 }

@@ -20,6 +20,10 @@ pub record Wait : Type 0 where
   pub mode : WaitMode
   pub stage : WaitStage
 
+-- a wait at a stage
+abbrev pub wait_of : ℕ → Bool → WaitMode → WaitStage → Wait
+wait_of words many mode stage = record { words = words; many = many; mode = mode; stage = stage }
+
 -- on bits it begins with the drain
 abbrev pub wait_bits : ℕ → Bool → WaitMode → Wait
 wait_bits words many mode = record { words = words; many = many; mode = mode; stage = wait.Drain }

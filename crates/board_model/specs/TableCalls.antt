@@ -26,6 +26,10 @@ use Rattle.board_names.specs.declared.errors.boards.EntryHandleMutError.TheVaria
 use Rattle.board_model.specs.TypeTable.{same_type}
 use Rattle.board_model.specs.Tables.{Tables, Added, holds_at, without_first, is_numbered, has_name, board_at, board_named, is_of_board, reader_slots, writer_slots, is_write_handle, is_node, nodes_taken, shapes_of, has_equal_keys, new_board, meets, port_of}
 
+-- neither limit is set
+abbrev pub no_limits : Limits
+no_limits = record { max_readers = None; max_nodes = None }
+
 -- ---- refusals
 
 -- the first refusal whose test holds

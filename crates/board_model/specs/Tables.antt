@@ -31,6 +31,10 @@ pub record Added : Type 0 where
   pub value : TypeDetail
   pub words : List ℕ
 
+-- one where it holds, and else none
+abbrev pub number_if : Bool → ℕ
+number_if b = if b then 1 else 0
+
 -- ---- lists
 
 -- the test holds of what is there

@@ -6,6 +6,7 @@ use Rattle.board_layout.specs.declared.type_detail.TypeDetail.{TypeDetail}
 use Rattle.board_layout.specs.declared.type_detail.TypeVariant.{TypeVariant}
 use Rattle.board_layout.specs.declared.type_detail.TypeVariant.TheVariants.{FixedSize, Dynamic}
 use Rattle.board_layout.specs.Bytes.{byte_of, padded, details, little}
+use Rattle.board_model.specs.declared.tables.Entry.{Entry}
 use Rattle.board_model.specs.declared.value.KeyType.{KeyType}
 use Rattle.board_model.specs.declared.value.KeyType.TheVariants as key_type
 use Rattle.board_model.specs.declared.value.ValueType.{ValueType}
@@ -104,3 +105,7 @@ up_to_zero (b ∷ bytes) = if b == 0 then [] else b ∷ up_to_zero bytes
 abbrev pub key_of : KeyType → List ℕ → Key
 key_of key_type.U64 bytes = key.U64 (little (take 8 bytes))
 key_of key_type.F8 bytes = key.F8 (up_to_zero bytes)
+
+-- the key of an entry. A script's keys have no more than eight bytes
+abbrev pub key_shown : KeyType → Entry → Key
+key_shown k e = key_of k (take 8 e.key.bytes)

@@ -2,6 +2,7 @@
 use Rattle.std.specs.Prelude.{ℕ, List, [], ◌∷◌, ◌++◌, codes, Some, None, true}
 use Rattle.board_cell_model.specs.declared.access.Access.{Access}
 use Rattle.board_cell_model.specs.declared.access.Access.TheVariants as access
+use Rattle.board_model.specs.TableCalls.{no_limits}
 use Rattle.board_model.specs.declared.answer.Answer.{Answer}
 use Rattle.board_model.specs.declared.answer.Answer.TheVariants as answer
 use Rattle.board_model.specs.declared.answer.Reason.{Reason}
@@ -51,10 +52,6 @@ listed board words = (line.Words board, answer.Words words)
 -- a line that changes nothing, with the reason
 abbrev pub refused : Line → Reason → Line × Answer
 refused l why = (l, answer.Refused why)
-
--- neither limit is set
-abbrev pub no_limits : Limits
-no_limits = record { max_readers = None; max_nodes = None }
 
 -- a new board that is limited as boards are where nothing is asked for
 abbrev pub unlimited : NewLimits

@@ -7,7 +7,7 @@ use Rattle.board_model.specs.declared.answer.Reply.TheVariants as reply
 use Rattle.board_model.proofs.ListLemmas.{same_bytes}
 use Rattle.script_model.specs.declared.line.ScriptLine.{ScriptLine}
 use Rattle.script_model.specs.LawsOfComposition.{state_met}
-use Rattle.script_model.specs.ScriptAnswers.{ScriptAnswer}
+use Rattle.script_model.specs.ScriptAnswers.{ScriptAnswer, is_refused}
 use Rattle.script_model.specs.ScriptGrammar.{script_spell}
 use Rattle.script_model.specs.ScriptSession.{IsRight, Session}
 use Rattle.script_grammar.proofs.SplitLemmas.{IsFree, free_append}
@@ -16,7 +16,7 @@ use Rattle.script_moments.specs.Moments.{Moment}
 use Rattle.script_exchanges.specs.declared.line.Drive.TheVariants.{Snapshots}
 use Rattle.script_exchanges.specs.declared.line.DriveLine.{DriveLine}
 use Rattle.script_exchanges.specs.declared.line.DriveLine.TheVariants.{Script, Start, Turn}
-use Rattle.script_exchanges.specs.DrivenParties.{Got, abandoned_by, got_by, held_back, if_kept, is_refused, kept_with, let_go, party_text}
+use Rattle.script_exchanges.specs.DrivenParties.{Got, abandoned_by, got_by, held_back, if_kept, kept_with, let_go, party_text}
 use Rattle.script_exchanges.specs.Exchanges.{AreLinesOf, Exchanges, Told, given}
 use Rattle.script_snapshots.specs.Takings.{Outcome, Taking, after_get, after_round, ended, get_text, gets_text, goes_on, is_alike, moment_of, next_handle, next_line, snapshot_text, stepped_get, taken, taken_on, whole}
 use Rattle.script_snapshots.specs.SnapshotExchanges.{IsExchange, IsLawful, Leads, OfScript, OfTurn, Takings, kept_of, no_takings, said_of, started}

@@ -6,10 +6,10 @@ use Rattle.std.specs.HashMap.{HashMap, get}
 use Rattle.std.proofs.lemmas.List.Sums.{count_by-le-length}
 use Rattle.std.proofs.lemmas.Bool.Decides.{nat_tests}
 use Rattle.board_model.specs.declared.tables.Thing.{Thing}
-use Rattle.board_model.specs.Tables.{holds_at, is_of_board, is_of_port, is_last_of_port, is_reader, is_reader_of, is_held_by, is_node, is_write_handle, writes_entry, nodes_taken, writer_port, writer_slots, without_first}
+use Rattle.board_model.specs.Tables.{holds_at, is_held_by, is_last_of_port, is_node, is_of_board, is_of_port, is_reader, is_reader_of, is_write_handle, nodes_taken, number_if, without_first, writer_port, writer_slots, writes_entry}
 use Rattle.board_model.proofs.ListLemmas.{any_counts, count_none, count_push, count_without}
 use Rattle.board_things.specs.declared.uses.Use.{Use}
-use Rattle.board_things.specs.Kept.{AreCounts, AreUses, IsUse, is_new_node, is_new_slot, kept_at, more, number_if, number_or_none, pair_eq, use_at, use_or_none}
+use Rattle.board_things.specs.Kept.{AreCounts, AreUses, IsUse, is_new_node, is_new_slot, kept_at, more, number_or_none, pair_eq, use_at, use_or_none}
 
 -- a test that asks for the board first counts what the rest of the test counts
 here : (b : ℕ) (t : Thing ℕ ℕ) (z : Bool) → t.board ≡ b → number_if (is_of_board b t && z) ≡ number_if z

@@ -3,7 +3,7 @@ use Rattle.std.specs.Prelude.{◌≡◌, ℕ, ◌+◌, ◌<◌, ◌≤◌, ◌==
 use Rattle.std.specs.HashMap.{HashMap, get}
 use Rattle.board_model.specs.declared.tables.Kind.{Kind}
 use Rattle.board_model.specs.declared.tables.Thing.{Thing}
-use Rattle.board_model.specs.Tables.{holds_at, is_held_by, is_node, is_of_board, is_of_port, is_reader, is_write_handle, nodes_taken, reader_slots, writer_port, writer_slots}
+use Rattle.board_model.specs.Tables.{holds_at, is_held_by, is_node, is_of_board, is_of_port, is_reader, is_write_handle, nodes_taken, number_if, reader_slots, writer_port, writer_slots}
 use Rattle.std.specs.List.{list_any}
 use Rattle.board_things.specs.declared.uses.Use.{Use}
 
@@ -20,9 +20,6 @@ pub record AreNumbered (things : ℕ → Option (Thing ℕ ℕ)) (last : ℕ) : 
   pub each : (number : ℕ) → IfSome (things number) (IsNumbered last number)
 
 -- ---- by board
-
-abbrev pub number_if : Bool → ℕ
-number_if b = if b then 1 else 0
 
 abbrev pub nothing_used : Use
 nothing_used = record { things = 0; readers = 0; writers = 0; nodes = 0 }

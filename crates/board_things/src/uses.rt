@@ -18,7 +18,7 @@ pub(crate) struct Use {
 }
 
 fn number_if(test: bool) -> u64
-    ensures { result ≡ kept.number_if test }
+    ensures { result ≡ tables.number_if test }
 {
     if test { 1 } else { 0 }
 }
@@ -64,10 +64,10 @@ pub(crate) fn raise(board: u64, kind: &Kind, node: bool, port: bool, uses: &mut 
 /// One thing less of the board; `node` where its node has no other, `port` where no other is of its port.
 pub(crate) fn lower(board: u64, kind: &Kind, node: bool, port: bool, uses: &mut HashMap<u64, Use>)
     requires things { 1 ≤ (kept.use_at uses.old board).things }
-    requires readers { kept.number_if (tables.is_reader kind.now)
+    requires readers { tables.number_if (tables.is_reader kind.now)
         ≤ (kept.use_at uses.old board).readers }
-    requires writers { kept.number_if port ≤ (kept.use_at uses.old board).writers }
-    requires nodes { kept.number_if node ≤ (kept.use_at uses.old board).nodes }
+    requires writers { tables.number_if port ≤ (kept.use_at uses.old board).writers }
+    requires nodes { tables.number_if node ≤ (kept.use_at uses.old board).nodes }
     ensures others { (b : ℕ) → (board == b) ≡ false
         → kept.use_at uses.new b ≡ kept.use_at uses.old b }
     ensures this { kept.more kind.now node port (kept.use_at uses.new board)
@@ -109,7 +109,7 @@ pub(crate) fn raise_at(board: u64, number: u64, counts: &mut HashMap<(u64, u64),
     requires small { kept.kept_at counts.old board number < 2 ^ 64 - 2 }
     requires room { 0 < spare counts.old }
     ensures { (b n : ℕ) → kept.kept_at counts.new b n
-        ≡ kept.kept_at counts.old b n + kept.number_if ((board == b) && (number == n)) }
+        ≡ kept.kept_at counts.old b n + tables.number_if ((board == b) && (number == n)) }
 {
     let n = count_at(board, number, counts);
     let Ok(_) = counts.insert((board, number), n + 1) else {
@@ -121,7 +121,7 @@ pub(crate) fn raise_at(board: u64, number: u64, counts: &mut HashMap<(u64, u64),
 pub(crate) fn lower_at(board: u64, number: u64, counts: &mut HashMap<(u64, u64), u64>)
     requires { 1 ≤ kept.kept_at counts.old board number }
     ensures { (b n : ℕ) → kept.kept_at counts.new b n
-        + kept.number_if ((board == b) && (number == n)) ≡ kept.kept_at counts.old b n }
+        + tables.number_if ((board == b) && (number == n)) ≡ kept.kept_at counts.old b n }
 {
     let n = count_at(board, number, counts);
     if n == 1 {
@@ -149,7 +149,7 @@ pub(crate) fn raise_port(board: u64, kind: &Kind, ports: &mut HashMap<(u64, u64)
     requires small { (p : ℕ) → kept.kept_at ports.old board p < 2 ^ 64 - 2 }
     requires room { 0 < spare ports.old }
     ensures { (b p : ℕ) → kept.kept_at ports.new b p ≡ kept.kept_at ports.old b p
-        + kept.number_if ((board == b) && tables.holds_at (tables.writer_port kind.now) (λ q. q == p)) }
+        + tables.number_if ((board == b) && tables.holds_at (tables.writer_port kind.now) (λ q. q == p)) }
 {
     if let Some(port) = kind.writer_port() {
         raise_at(board, port, ports);
@@ -158,10 +158,10 @@ pub(crate) fn raise_port(board: u64, kind: &Kind, ports: &mut HashMap<(u64, u64)
 
 /// One thing less of its port, where the kind keeps one.
 pub(crate) fn lower_port(board: u64, kind: &Kind, ports: &mut HashMap<(u64, u64), u64>)
-    requires { (p : ℕ) → kept.number_if (tables.holds_at (tables.writer_port kind.now) (λ q. q == p))
+    requires { (p : ℕ) → tables.number_if (tables.holds_at (tables.writer_port kind.now) (λ q. q == p))
         ≤ kept.kept_at ports.old board p }
     ensures { (b p : ℕ) → kept.kept_at ports.new b p
-        + kept.number_if ((board == b) && tables.holds_at (tables.writer_port kind.now) (λ q. q == p))
+        + tables.number_if ((board == b) && tables.holds_at (tables.writer_port kind.now) (λ q. q == p))
         ≡ kept.kept_at ports.old b p }
 {
     if let Some(port) = kind.writer_port() {
@@ -174,7 +174,7 @@ pub(crate) fn raise_handle(board: u64, kind: &Kind, written: &mut HashMap<(u64, 
     requires small { (e : ℕ) → kept.kept_at written.old board e < 2 ^ 64 - 2 }
     requires room { 0 < spare written.old }
     ensures { (b e : ℕ) → kept.kept_at written.new b e ≡ kept.kept_at written.old b e
-        + kept.number_if ((board == b) && tables.writes_entry e kind.now) }
+        + tables.number_if ((board == b) && tables.writes_entry e kind.now) }
 {
     if let Some(entry) = kind.written_entry() {
         raise_at(board, entry, written);
@@ -183,10 +183,10 @@ pub(crate) fn raise_handle(board: u64, kind: &Kind, written: &mut HashMap<(u64, 
 
 /// One write handle less of its entry, where the kind is one.
 pub(crate) fn lower_handle(board: u64, kind: &Kind, written: &mut HashMap<(u64, u64), u64>)
-    requires { (e : ℕ) → kept.number_if (tables.writes_entry e kind.now)
+    requires { (e : ℕ) → tables.number_if (tables.writes_entry e kind.now)
         ≤ kept.kept_at written.old board e }
     ensures { (b e : ℕ) → kept.kept_at written.new b e
-        + kept.number_if ((board == b) && tables.writes_entry e kind.now)
+        + tables.number_if ((board == b) && tables.writes_entry e kind.now)
         ≡ kept.kept_at written.old b e }
 {
     if let Some(entry) = kind.written_entry() {

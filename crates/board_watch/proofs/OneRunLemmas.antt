@@ -8,7 +8,7 @@ use Rattle.board_model.specs.declared.answer.Answer.TheVariants as answer
 use Rattle.board_model.specs.declared.answer.Reply.TheVariants as reply
 use Rattle.script_model.specs.declared.line.ScriptLine.{ScriptLine}
 use Rattle.script_model.specs.LawsOfComposition.{Pair, state_met}
-use Rattle.script_model.specs.ScriptAnswers.{ScriptAnswer, of_boards}
+use Rattle.script_model.specs.ScriptAnswers.{ScriptAnswer, is_refused, of_boards}
 use Rattle.script_model.specs.ScriptSession.{IsRight, Session}
 use Rattle.script_model.specs.ScriptTurns.{ScriptState}
 use Rattle.script_model.proofs.AnswerLaws.{one_answer}
@@ -17,7 +17,7 @@ use Rattle.script_moments.specs.Watchers.{AskedId}
 use Rattle.script_exchanges.specs.declared.line.Drive.TheVariants.{Watchers}
 use Rattle.script_exchanges.specs.declared.line.DriveLine.{DriveLine}
 use Rattle.script_exchanges.specs.declared.line.DriveLine.TheVariants.{Script, Start, Turn}
-use Rattle.script_exchanges.specs.DrivenParties.{abandoned_by, held_back, if_kept, is_refused, kept_with, let_go, party_text}
+use Rattle.script_exchanges.specs.DrivenParties.{abandoned_by, held_back, if_kept, kept_with, let_go, party_text}
 use Rattle.script_exchanges.specs.Exchanges.{Exchanges, SpellsAll, Told, given, said}
 use Rattle.script_feed.proofs.DriveLines.{head_is, rest_is}
 use Rattle.script_written.proofs.OneLineLemmas.{one_drive_line}

@@ -4,12 +4,12 @@ use Rattle.std.specs.Prelude.{◌==◌, nat_lt, if◌then◌else◌}
 use Rattle.std.specs.Str.{bytes_eq}
 use Rattle.std.proofs.lemmas.List.{append-nil}
 use Rattle.board_model.proofs.ListLemmas.{same_bytes}
-use Rattle.script_model.specs.ScriptAnswers.{ScriptAnswer}
+use Rattle.script_model.specs.ScriptAnswers.{ScriptAnswer, is_refused}
 use Rattle.script_model.specs.ScriptSession.{Session}
 use Rattle.script_moments.specs.Gets.{Round}
 use Rattle.script_moments.specs.Moments.{Moment}
 use Rattle.script_moments.specs.Watchers.{OpenTurn, Waited, getting, idle, waiting}
-use Rattle.script_exchanges.specs.DrivenParties.{Got, got_by, is_refused, kept_with, let_go}
+use Rattle.script_exchanges.specs.DrivenParties.{Got, got_by, kept_with, let_go}
 use Rattle.script_watches.specs.Watchings.{Outcome, Report, Watching, after_get, after_gets, called_by, ended, goes_on, highest_of, ids_by, moment_of, next_handle, reports, stepped_get, stepped_wait, taken, taken_on, turn_ended, turn_so}
 
 -- ---- one watcher

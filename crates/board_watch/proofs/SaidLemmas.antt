@@ -7,10 +7,11 @@ use Rattle.std.proofs.lemmas.Grind.{flat_map-append}
 use Rattle.std.proofs.lemmas.List.{append-nil, map-append}
 use Rattle.std.proofs.lemmas.Slice.Eq.{bytes_eq-Decides}
 use Rattle.board_model.proofs.ListLemmas.{same_bytes}
+use Rattle.script_model.specs.ScriptAnswers.{is_refused}
 use Rattle.script_model.specs.declared.line.ScriptLine.{ScriptLine}
 use Rattle.script_exchanges.specs.declared.line.DriveLine.{DriveLine}
 use Rattle.script_exchanges.specs.declared.line.DriveLine.TheVariants.{Script, Start, Turn}
-use Rattle.script_exchanges.specs.DrivenParties.{abandoned_by, held_back, if_kept, is_refused}
+use Rattle.script_exchanges.specs.DrivenParties.{abandoned_by, held_back, if_kept}
 use Rattle.script_exchanges.specs.Exchanges.{Exchange, Exchanges, Told, fed_session}
 use Rattle.script_watches.specs.Watchings.{Outcome, Report, Watching, ended, goes_on, new_watching, report_text, reports, taken}
 use Rattle.script_watches.specs.WatchExchanges.{IsExchange, Leads, OfScript, OfStart, OfTurn, Watchings, kept_of, no_watchings, said_of}

@@ -4,6 +4,7 @@ use Rattle.std.specs.Prelude.{◌==◌, if◌then◌else◌, codes, filter, is_s
 use Rattle.std.specs.List.{list_any, AllByRecursion}
 use Rattle.board_model.specs.AnswerGrammar.{reply_text}
 use Rattle.board_model.specs.declared.answer.Reply.TheVariants as reply
+use Rattle.script_model.specs.ScriptAnswers.{is_refused}
 use Rattle.script_model.specs.declared.line.ScriptLine.{ScriptLine}
 use Rattle.script_model.specs.LawsOfComposition.{Pair}
 use Rattle.script_model.specs.ScriptGrammar.{script_spell}
@@ -15,7 +16,7 @@ use Rattle.script_moments.specs.Watchers.{AskedId, OpenTurn, Waited, called, eac
 use Rattle.script_exchanges.specs.declared.line.Drive.TheVariants.{Watchers}
 use Rattle.script_exchanges.specs.declared.line.DriveLine.{DriveLine}
 use Rattle.script_exchanges.specs.declared.line.DriveLine.TheVariants.{Script, Start, Turn}
-use Rattle.script_exchanges.specs.DrivenParties.{abandoned_by, held_back, if_kept, is_refused, kept_with, party_text}
+use Rattle.script_exchanges.specs.DrivenParties.{abandoned_by, held_back, if_kept, kept_with, party_text}
 use Rattle.script_exchanges.specs.Exchanges.{AreLinesOf, Exchanges, Told, given, said}
 use Rattle.script_snapshots.proofs.FedLemmas.{fed_lawful}
 use Rattle.script_written.specs.GivenLines.{AllIsClear, AreClear, IsClear}

@@ -12,10 +12,10 @@ use Rattle.board_model.specs.LineGrammar.{IsKey, is_visible, is_visible_byte}
 use Rattle.board_model.specs.LawsOfForms.{IsFormedBoard, IsFormedEntry}
 use Rattle.board_model.specs.Replies.{keys_in, keys_of}
 use Rattle.board_model.specs.Tables.{is_numbered}
-use Rattle.board_model.specs.TypeTable.{key_bytes, key_of, key_type_of, type_of_key, up_to_zero}
+use Rattle.board_model.specs.TypeTable.{key_bytes, key_of, key_shown, key_type_of, type_of_key, up_to_zero}
 use Rattle.board_model.proofs.KeptKeyLemmas.{told_as_added}
 use Rattle.board_model.proofs.ThingLemmas.{all_found}
-use Rattle.script_parties.specs.Overview.{key_shown, keys_shown}
+use Rattle.script_parties.specs.Overview.{keys_shown}
 
 none_left : (xs : List ℕ) → length xs ≤ 0 → [] ≡ xs
 none_left [] h = refl

@@ -8,9 +8,9 @@ use Rattle.std.proofs.lemmas.Bool.Decides.{Decides-eqb}
 use Rattle.std.proofs.lemmas.Nat.Bits.{bit_at-zero, bit_at-lt, bit_at_set_same, bit_at_set_other, bit_at_clear_same, bit_at_clear_other}
 use Rattle.std.specs.Int.{bit_at}
 use Rattle.std.specs.FinSet as fin
-use Rattle.board_event_model.specs.Ids.{Ids, has, IsWord, in_word}
+use Rattle.board_event_model.specs.Ids.{Ids, IsWord, has, in_word, is_set}
 use Rattle.board_event_model.proofs.SetLemmas.{either, is_false, not_true, has_inserted, has_itself, has_kept, has_removed, has_left, has_retained, has_retain, has_empty}
-use Rattle.script_event_rows.specs.IdWords.{Become, HaveIds, is_set}
+use Rattle.script_event_rows.specs.IdWords.{Become, HaveIds}
 
 same_bool : (a b : Bool) → (a ≡ true → b ≡ true) → (b ≡ true → a ≡ true) → a ≡ b
 same_bool true b f g = sym (f refl)

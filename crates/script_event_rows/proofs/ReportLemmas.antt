@@ -2,9 +2,8 @@
 use Rattle.std.proofs.Common.{◌≡◌, ℕ, zero, suc, ◌+◌, Bool, List, [], ◌∷◌, ◌++◌, append_assoc, arith, refl, sym, ap, ◌∙◌, inl, inr}
 use Rattle.std.specs.Prelude.{if◌then◌else◌, ◌==◌, ◌-◌}
 use Rattle.std.specs.Int.{bit_at}
-use Rattle.board_event_model.specs.Ids.{ids_where}
+use Rattle.board_event_model.specs.Ids.{id_of_bit, ids_of_bits, ids_where}
 use Rattle.board_event_model.proofs.SetLemmas.{either}
-use Rattle.script_event_rows.specs.EventCalls.{id_of_bit, ids_of_bits}
 
 ids_where-more : (p : ℕ → Bool) (at n : ℕ) → ids_where p at (suc n) ≡ ids_where p at n ++ (if p (at + n) then (at + n) ∷ [] else [])
 ids_where-more p at zero = (let e : at + 0 ≡ at = omega arith in rw e refl)

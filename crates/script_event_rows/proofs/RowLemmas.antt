@@ -5,14 +5,14 @@ use Rattle.std.proofs.lemmas.Bool.{false≢true}
 use Rattle.std.proofs.lemmas.Nat.Bits.{bit_at-zero}
 use Rattle.std.specs.Global.{Vec}
 use Rattle.std.specs.Int.{bit_at}
-use Rattle.board_event_model.specs.Ids.{Ids, IsWord}
+use Rattle.board_event_model.specs.Ids.{Ids, IsWord, is_set}
 use Rattle.board_event_model.specs.declared.access.EventAccess.{EventAccess}
 use Rattle.board_event_model.specs.declared.access.EventAccess.TheVariants as access
 use Rattle.board_event_model.specs.declared.access.EventAnswer.TheVariants as answer
 use Rattle.board_event_model.specs.EventMemory.{CanPerform, Event, after, push_answer}
 use Rattle.script_event_rows.specs.declared.event_row.EventRow.{EventRow}
 use Rattle.script_event_rows.specs.EventRows.{AnswersRight, Becomes, OfSome, StandsFor}
-use Rattle.script_event_rows.specs.IdWords.{Become, HaveIds, is_set}
+use Rattle.script_event_rows.specs.IdWords.{Become, HaveIds}
 
 -- ---- the words that an access needs are there
 

@@ -47,14 +47,6 @@ abbrev pub HasTaken : EventAnswer → RunningCall → Took → Type 0
 HasTaken answer r (GoesOn c) = (told_with answer r ≡ None) × ((e : Event) (a : EventAccess) → IsSomeAnd (went_on r e a answer) (IsKeptOf c))
 HasTaken answer r (Ended told) = (told_with answer r ≡ Some told) × ((e : Event) (a : EventAccess) → went_on r e a answer ≡ None)
 
--- the id of a bit, where it is set
-abbrev pub id_of_bit : ℕ → ℕ → ℕ → List ℕ
-id_of_bit base bits i = if bit_at bits i == 1 then (base + i) ∷ [] else []
-
--- the ids of so many bits from the first on, those that are set
-abbrev pub ids_of_bits : ℕ → ℕ → ℕ → List ℕ
-ids_of_bits base bits count = ids_where (λ i. bit_at bits (i - base) == 1) base count
-
 -- the call is told so, where these are the ids that it has reported with its last access
 abbrev pub IsToldAtEnd : Bool → EventProgress → List ℕ → EventReply → Type 0
 IsToldAtEnd many p ids told = (before : List ℕ) → ids ≡ before ++ calls.reported p → told ≡ end_told many before p

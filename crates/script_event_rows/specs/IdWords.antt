@@ -1,11 +1,7 @@
 -- The ids of a set as words of 64 bits.
 use Rattle.std.specs.Prelude.{◌≡◌, ℕ, ◌/◌, ◌%◌, Bool, ◌==◌, List, length, slice_index}
 use Rattle.std.specs.Int.{bit_at}
-use Rattle.board_event_model.specs.Ids.{Ids, has}
-
--- whether an id is in: id i is bit i mod 64 of word i / 64
-abbrev pub is_set : List ℕ → ℕ → Bool
-is_set words i = bit_at (slice_index words (i / 64)) (i % 64) == 1
+use Rattle.board_event_model.specs.Ids.{Ids, has, is_set}
 
 -- the words have exactly the ids of the set
 abbrev pub HaveIds : List ℕ → Ids → Type 0

@@ -17,10 +17,6 @@ notify_went_on n a = record n { stage = (notify_turn n n.stage a).1 }
 abbrev pub wait_went_on : Wait → EventAnswer → Wait
 wait_went_on w a = record w { stage = (wait_turn w w.stage a).1 }
 
--- a wait of these parts
-abbrev pub wait_of : ℕ → Bool → WaitMode → WaitStage → Wait
-wait_of words many mode stage = record { words = words; many = many; mode = mode; stage = stage }
-
 -- a stage's word is one of the set's, and fewer than 513 ids were taken before a pop
 abbrev pub IsStageIn : ℕ → WaitStage → Type 0
 IsStageIn words (Scan k) = k < words

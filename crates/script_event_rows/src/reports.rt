@@ -1,8 +1,9 @@
 //! What a step of a call reports, and what a call is told at its end.
 ghost use Rattle.std.specs.Prelude.{◌≡◌, ◌++◌, ◌≤◌, ◌^◌, ◌+◌, ◌<◌, OnOk};
 ghost use Rattle.board_event_model.specs.EventCalls as calls;
+ghost use Rattle.board_event_model.specs.Ids.{id_of_bit, ids_of_bits};
 ghost use Rattle.script_model.specs.ScriptEvents as script;
-ghost use Rattle.script_event_rows.specs.EventCalls.{IsToldAtEnd, id_of_bit, ids_of_bits};
+ghost use Rattle.script_event_rows.specs.EventCalls.{IsToldAtEnd};
 ghost use Rattle.script_event_rows.specs.Tasks.{StartsWord};
 
 use board_event_model::EventProgress;

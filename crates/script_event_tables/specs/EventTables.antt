@@ -4,7 +4,7 @@ use Rattle.std.specs.Str.{bytes_eq}
 use Rattle.std.specs.HashMap.{get, spare}
 use Rattle.board_event_model.specs.declared.kind.EventKind.{EventKind}
 use Rattle.board_event_model.specs.declared.kind.EventKind.TheVariants as event_kind
-use Rattle.board_event_model.specs.EventMemory.{Event, new_event}
+use Rattle.board_event_model.specs.EventMemory.{Event, new_event, with_notifier}
 use Rattle.board_event_model.specs.EventSessions.{StandingEvent, all_gone, change_at, event_of, gone_with}
 use Rattle.script_model.specs.ScriptEvents.{name_held, names_left}
 use Rattle.board_model.specs.Requests.{and_then}
@@ -113,23 +113,11 @@ abbrev pub IsUnlistened : Option Event → Type 0
 IsUnlistened None = ⊤
 IsUnlistened (Some e) = e.held ≡ false
 
--- one more notifier
-abbrev pub one_notifier_more : Event → Event
-one_notifier_more e = record e { notifiers = e.notifiers + 1 }
-
--- and one less
-abbrev pub one_notifier_less : Event → Event
-one_notifier_less e = record e { notifiers = e.notifiers - 1 }
-
--- the listener was released
-abbrev pub without_listener : Event → Event
-without_listener e = record e { held = false }
-
 -- a notifier of the event of a name was asked for: it has no listener, or it has this number and one notifier more
 abbrev pub HasNotified : EventTable → EventTable → EventKind → List ℕ → Option ℕ → Type 0
 HasNotified old new k name None = (s : EventsThatStand) → AreEvents old s → IsUnlistened (and_then (s.names k name) (event_of s.stands)) × AreEvents new s
 HasNotified old new k name (Some n) = (s : EventsThatStand) → AreEvents old s
-    → (s.names k name ≡ Some n) × IsSomeAnd (event_of s.stands n) (λ e. e.held ≡ true) × AreEvents new (with_changed n one_notifier_more s)
+    → (s.names k name ≡ Some n) × IsSomeAnd (event_of s.stands n) (λ e. e.held ≡ true) × AreEvents new (with_changed n with_notifier s)
 
 -- the names, where the event that was found is held by nobody by its name
 abbrev pub names_settled : Names → ℕ → Option Event → Names

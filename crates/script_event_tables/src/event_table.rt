@@ -1,9 +1,9 @@
 //! The events that were made, by number, and who holds their names.
 ghost use Rattle.std.specs.Prelude.{◌≡◌, ◌<◌, ◌+◌, ◌-◌, ◌^◌, [], IfOk, OnErr, OnOk, length, slice_index_or};
 ghost use Rattle.board_event_model.specs.EventMemory as event;
-ghost use Rattle.board_event_model.specs.EventMemory.{CanPerform, IsRight};
+ghost use Rattle.board_event_model.specs.EventMemory.{CanPerform, IsRight, with_notifier, without_listener, without_notifier};
 ghost use Rattle.script_event_rows.specs.EventRows.{StandsFor};
-ghost use Rattle.script_event_tables.specs.EventTables.{AreEvents, EventsBecome, EventsThatStand, HasListened, HasNotified, IsMade, IsPartGone, IsSoundTable, OfEvent, OfSomeEvent, nothing_stands, one_notifier_less, one_notifier_more, with_abandoned, with_changed, with_released, with_settled, without_listener};
+ghost use Rattle.script_event_tables.specs.EventTables.{AreEvents, EventsBecome, EventsThatStand, HasListened, HasNotified, IsMade, IsPartGone, IsSoundTable, OfEvent, OfSomeEvent, nothing_stands, with_abandoned, with_changed, with_released, with_settled};
 
 use crate::event_names::EventNames;
 use crate::listeners::Listeners;
@@ -94,7 +94,7 @@ impl EventTable {
     fn count_notifier(&mut self, number: u64)
         requires made { IsMade self.old number }
         requires few { OfSomeEvent self.old number (λ e. e.notifiers < 2 ^ 64 - 1) }
-        ensures { EventsBecome self.old self.new (with_changed number one_notifier_more) }
+        ensures { EventsBecome self.old self.new (with_changed number with_notifier) }
     {
         let row = &mut self.rows[(number - 1) as usize];
         row.add_notifier();
@@ -147,7 +147,7 @@ impl EventTable {
     fn let_notifier_go(&mut self, number: u64)
         requires { IsMade self.old number }
         ensures events { EventsBecome self.old self.new
-            (with_changed number one_notifier_less) }
+            (with_changed number without_notifier) }
         ensures count { length self.new.rows.items ≡ length self.old.rows.items }
     {
         let row = &mut self.rows[(number - 1) as usize];
@@ -166,7 +166,7 @@ impl EventTable {
     /// A notifier of an event goes.
     pub fn release_notifier(&mut self, number: u64)
         requires { IsMade self.old number }
-        ensures { EventsBecome self.old self.new (with_released number one_notifier_less) }
+        ensures { EventsBecome self.old self.new (with_released number without_notifier) }
     {
         self.let_notifier_go(number);
         self.settle(number);

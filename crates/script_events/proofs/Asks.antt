@@ -5,10 +5,10 @@ use Rattle.board_layout.specs.Answer.{Refuses}
 use Rattle.board_model.specs.Things.{with_at}
 use Rattle.board_names.specs.Table.{at}
 use Rattle.board_event_model.specs.declared.kind.EventKind.{EventKind}
-use Rattle.board_event_model.specs.EventMemory.{Event, has_holder, new_event}
+use Rattle.board_event_model.specs.EventMemory.{Event, has_holder, new_event, with_notifier}
 use Rattle.board_event_model.specs.EventSessions.{EventSession, StandingEvent, event_of, listen, next_session}
 use Rattle.board_event_model.proofs.SoundLemmas.{some_same}
-use Rattle.board_event_core.specs.EventTable.{EventTable, IsNotifierAnswer, changed, event_at, listen_answer, table_listened, names_of, notifier_of, with_notifier}
+use Rattle.board_event_core.specs.EventTable.{EventTable, IsNotifierAnswer, changed, event_at, listen_answer, table_listened, names_of, notifier_of}
 use Rattle.board_names.specs.declared.errors.event.ListenerCreateError.{ListenerCreateError}
 use Rattle.board_names.specs.declared.errors.event.ListenerCreateError.TheVariants as listener_error
 use Rattle.board_names.specs.declared.errors.event.NotifierCreateError.{NotifierCreateError}

@@ -2,10 +2,10 @@
 use Rattle.std.proofs.Common.{◌≡◌, ℕ, ◌<◌, true, false, List, refl, sym, ap, ◌∙◌, Option, Some, None, inl, inr}
 use Rattle.std.specs.Prelude.{if◌then◌else◌, ◌==◌, ◌-◌, option_map, IsSomeAnd}
 use Rattle.board_names.specs.Table.{at}
-use Rattle.board_event_model.specs.EventMemory.{Event, has_holder}
+use Rattle.board_event_model.specs.EventMemory.{Event, has_holder, without_listener, without_notifier}
 use Rattle.board_event_model.specs.EventSessions.{change_at, event_of}
 use Rattle.board_event_model.proofs.QuietLemmas.{eqb_self}
-use Rattle.board_event_core.specs.EventTable.{EventTable, changed, event_at, settled, without_listener, without_notifier}
+use Rattle.board_event_core.specs.EventTable.{EventTable, changed, event_at, settled}
 use Rattle.script_model.specs.ScriptEvents.{EventThing, ScriptEvents, event_let_go, let_go_from, listener, names_left, notifier, event_number}
 use Rattle.script_model.specs.SoundEvents.{AreSoundEvents}
 use Rattle.script_events.specs.declared.rows.CallTask.{CallTask}

@@ -86,14 +86,6 @@ pub record IsActStep (old new : EventTable) (event : ℕ) (call next : EventCall
   pub progress : s.progress ≡ (turn call s.answer).0
   pub goes_on : next ≡ (turn call s.answer).1
 
--- the id of a bit, where it is set
-abbrev pub id_of_bit : ℕ → ℕ → ℕ → List ℕ
-id_of_bit base bits i = if bit_at bits i == 1 then (base + i) ∷ [] else []
-
--- the ids of so many bits from the first on, those that are set
-abbrev pub ids_of_bits : ℕ → ℕ → ℕ → List ℕ
-ids_of_bits base bits count = ids_where (λ i. bit_at bits (i - base) == 1) base count
-
 -- the first id of a word is a multiple of 64
 abbrev pub StartsWord : EventProgress → Type 0
 StartsWord progress.More = ⊤

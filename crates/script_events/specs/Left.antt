@@ -5,8 +5,8 @@ use Rattle.board_names.specs.Table.{at}
 use Rattle.board_event_model.specs.declared.access.EventAccess.{EventAccess}
 use Rattle.board_event_model.specs.declared.kind.EventKind.{EventKind}
 use Rattle.board_event_model.specs.EventCalls.{owed}
-use Rattle.board_event_model.specs.EventMemory.{after}
-use Rattle.board_event_core.specs.EventTable.{EventTable, changed, names_of, table_listened, with_notifier}
+use Rattle.board_event_model.specs.EventMemory.{after, with_notifier}
+use Rattle.board_event_core.specs.EventTable.{EventTable, changed, names_of, table_listened}
 use Rattle.script_events.specs.declared.party_events.PartyEvents.{PartyEvents}
 use Rattle.script_events.specs.declared.rows.CallTask.{CallTask}
 use Rattle.script_events.specs.declared.rows.CallTask.TheVariants as task

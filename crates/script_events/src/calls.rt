@@ -2,8 +2,9 @@
 ghost use Rattle.std.specs.Prelude.{◌≡◌, ◌++◌, ◌≤◌, ◌^◌, ◌+◌, ◌<◌, length, OnErr, OnOk};
 ghost use Rattle.board_event_model.specs.EventCalls as calls;
 ghost use Rattle.board_event_core.specs.EventTable.{CanPerformAt};
+ghost use Rattle.board_event_model.specs.Ids.{id_of_bit, ids_of_bits};
 ghost use Rattle.script_model.specs.ScriptEvents as model;
-ghost use Rattle.script_events.specs.Calls.{GoesOn, IsActStep, IsEndTold, StartsWord, id_of_bit, ids_of_bits, may_end};
+ghost use Rattle.script_events.specs.Calls.{GoesOn, IsActStep, IsEndTold, StartsWord, may_end};
 ghost use Rattle.script_events.specs.PartyEvents.{event_call};
 
 use crate::rows::{ActiveCall, CallTask};

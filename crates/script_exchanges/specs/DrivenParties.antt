@@ -28,11 +28,6 @@ abandoned_by l = None
 
 -- ---- answers
 
--- the line was refused
-abbrev pub is_refused : ScriptAnswer → Bool
-is_refused (of_boards (answer.Refused why)) = true
-is_refused a = false
-
 -- a value that was read, and its generation
 pub record Got : Type 0 where
   pub type : ValueType

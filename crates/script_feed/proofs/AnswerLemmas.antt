@@ -19,11 +19,11 @@ use Rattle.board_model.specs.declared.value.ValueType.TheVariants as type
 use Rattle.board_model.specs.AnswerGrammar.{IsAccess, access_text, place_text, reply_text, words_text}
 use Rattle.board_model.specs.LineGrammar.{IsNumber}
 use Rattle.script_model.specs.declared.reply.EventReply.{EventReply}
-use Rattle.script_model.specs.ScriptAnswers.{ScriptAnswer, expired, of_ask, of_boards, of_event, script_answer_line}
+use Rattle.script_model.specs.ScriptAnswers.{ScriptAnswer, expired, is_refused, of_ask, of_boards, of_event, script_answer_line}
 use Rattle.script_grammar.specs.TokenReading.{read_number}
 use Rattle.script_grammar.proofs.NumeralLemmas.{number_again}
 use Rattle.script_grammar.proofs.SplitLemmas.{IsFree, free_append, free_joined, free_lacks, free_number}
-use Rattle.script_exchanges.specs.DrivenParties.{Got, is_refused}
+use Rattle.script_exchanges.specs.DrivenParties.{Got}
 use Rattle.script_feed.specs.AnswerLooks.{EndsGet, GoesOnGet, lacks}
 
 -- ---- refusals

@@ -1,10 +1,10 @@
 -- What becomes of the lines of a plain script while parties are driven.
 use Rattle.std.specs.Prelude.{◌≡◌, ℕ, List, ◌++◌, Option, Some, None}
 use Rattle.script_model.specs.declared.line.ScriptLine.{ScriptLine}
-use Rattle.script_model.specs.ScriptAnswers.{ScriptAnswer}
+use Rattle.script_model.specs.ScriptAnswers.{ScriptAnswer, is_refused}
 use Rattle.script_model.specs.ScriptTurns.{ScriptState}
 use Rattle.script_loop.specs.Machines.{AnswersEach}
-use Rattle.script_exchanges.specs.DrivenParties.{abandoned_by, held_back, if_kept, is_refused, let_go, party_text}
+use Rattle.script_exchanges.specs.DrivenParties.{abandoned_by, held_back, if_kept, let_go, party_text}
 use Rattle.script_exchanges.specs.Exchanges.{said, told_text}
 use Rattle.script_feed.specs.declared.driven.Driven.{Driven}
 use Rattle.script_feed.specs.AnswerLooks.{IsAnswerOf}

@@ -1,8 +1,8 @@
 //! What is looked at in answers.
 ghost use Rattle.std.specs.Prelude.{◌≡◌, ◌+◌, ◌++◌, ◌∷◌, [], ℕ, List, true, IsNone, IsSomeAnd, length};
-ghost use Rattle.script_exchanges.specs.DrivenParties.{Got, is_refused};
+ghost use Rattle.script_exchanges.specs.DrivenParties.{Got};
 ghost use Rattle.script_feed.specs.AnswerLooks.{EndsGet, GoesOnGet, HasGot, IsAnswerOf, lacks};
-ghost use Rattle.script_model.specs.ScriptAnswers.{ScriptAnswer};
+ghost use Rattle.script_model.specs.ScriptAnswers.{ScriptAnswer, is_refused};
 
 use script_parse::{number_of, place_of};
 

@@ -4,7 +4,7 @@ ghost use Rattle.std.specs.Str.{bytes_eq};
 ghost use Rattle.script_exchanges.specs.DrivenParties as driven;
 ghost use Rattle.script_feed.specs.AnswerLooks.{IsAnswerOf};
 ghost use Rattle.script_feed.specs.KeptOf.{kept_of};
-ghost use Rattle.script_model.specs.ScriptAnswers.{ScriptAnswer};
+ghost use Rattle.script_model.specs.ScriptAnswers.{ScriptAnswer, is_refused};
 
 use crate::answers::is_refusal;
 use crate::lines::{abandoned_by, held_back};
@@ -78,7 +78,7 @@ impl<T: Drop> Parties<T> {
         ensures { (a : ScriptAnswer) → IsAnswerOf answer.now a → (p : List ℕ)
             → kept_of self.new p
             ≡ driven.let_go (kept_of self.old) (driven.abandoned_by line.now)
-            (driven.is_refused a) p }
+            (is_refused a) p }
     {
         let Some(party) = abandoned_by(line) else {
             return;

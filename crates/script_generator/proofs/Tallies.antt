@@ -7,12 +7,12 @@ use Rattle.board_model.specs.declared.line.Line.{Line}
 use Rattle.board_model.specs.LawfulSession as boards
 use Rattle.script_model.specs.declared.line.ScriptLine.{ScriptLine}
 use Rattle.script_model.specs.declared.line.ScriptLine.TheVariants as script_line
-use Rattle.script_model.specs.ScriptAnswers.{ScriptAnswer, of_boards}
+use Rattle.script_model.specs.ScriptAnswers.{ScriptAnswer, is_refused, of_boards}
 use Rattle.script_model.specs.ScriptSession.{Session, after, start, state_after}
 use Rattle.script_model.specs.ScriptTurns.{ScriptState}
 use Rattle.script_generator.specs.declared.summary.Counts.{Counts}
 use Rattle.script_generator.specs.Counting.{AreLow, RunsPlain, counted_with, is_plain_line, one_more}
-use Rattle.script_generator.specs.Summary.{count_from, counts_of, call_ended, is_get, is_refused, is_step, is_update}
+use Rattle.script_generator.specs.Summary.{count_from, counts_of, call_ended, is_get, is_step, is_update}
 use Rattle.script_generator.proofs.PlainCalls.{ends_told}
 
 count_more : (is : ScriptState → ScriptLine → ScriptAnswer → Bool) (s : ScriptState) (ps : Session) (p : ScriptLine × ScriptAnswer) → count_from is s (ps ++ p ∷ []) ≡ one_more (count_from is s ps) (is (state_after s ps) p.0 p.1)

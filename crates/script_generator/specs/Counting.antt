@@ -12,7 +12,7 @@ use Rattle.board_model.specs.LawfulSession.{State}
 use Rattle.board_model.specs.Parties.{Running, running}
 use Rattle.board_model.specs.Requests.{Request, get, table, update}
 use Rattle.script_model.specs.declared.line.ScriptLine.TheVariants as script_line
-use Rattle.script_model.specs.ScriptAnswers.{of_boards}
+use Rattle.script_model.specs.ScriptAnswers.{is_refused, of_boards}
 use Rattle.script_model.specs.ScriptEvents.{no_events}
 use Rattle.script_model.specs.ScriptGrammar.{SpellsLine}
 use Rattle.script_model.specs.ScriptSession.{IsLawful, Session, asked_lines, start, state_after}
@@ -21,7 +21,7 @@ use Rattle.script_machine.specs.Counters.{EntryStands}
 use Rattle.script_machine.specs.ScriptMachine.{StandsAfter}
 use Rattle.script_generator.specs.declared.generator.Generator.{Generator}
 use Rattle.script_generator.specs.declared.summary.Counts.{Counts}
-use Rattle.script_generator.specs.Summary.{counts_of, is_refused, is_step, summary}
+use Rattle.script_generator.specs.Summary.{counts_of, is_step, summary}
 
 -- ---- counts
 

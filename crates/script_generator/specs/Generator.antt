@@ -1,6 +1,7 @@
 -- The script that the words `gen N` make.
 use Rattle.std.specs.Prelude.{ℕ, zero, suc, ◌+◌, ◌*◌, ◌/◌, ◌%◌, ◌^◌, ◌==◌, nat_le, if◌then◌else◌, List, [], ◌∷◌, ◌++◌, codes, decimal, None}
 use Rattle.std.specs.List.{flat_map, join_with_byte}
+use Rattle.board_model.specs.TableCalls.{no_limits}
 use Rattle.board_model.specs.declared.line.Call.{Call}
 use Rattle.board_model.specs.declared.line.Call.TheVariants as call
 use Rattle.board_model.specs.declared.line.Line.{Line}
@@ -9,7 +10,7 @@ use Rattle.board_model.specs.declared.value.Key.TheVariants as key
 use Rattle.board_model.specs.declared.value.KeyType.TheVariants as key_type
 use Rattle.board_model.specs.declared.value.Value.TheVariants as value
 use Rattle.board_model.specs.declared.value.ValueType.TheVariants as type
-use Rattle.board_model.specs.WorkedSessions.{added, no_limits, no_needs, unlimited}
+use Rattle.board_model.specs.WorkedSessions.{added, no_needs, unlimited}
 
 -- ---- the opening: a board of two entries, with one writer and two readers
 

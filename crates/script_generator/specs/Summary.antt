@@ -7,7 +7,7 @@ use Rattle.board_model.specs.Parties.{Party, running}
 use Rattle.board_model.specs.Requests.{Request, get, update}
 use Rattle.script_model.specs.declared.line.ScriptLine.{ScriptLine}
 use Rattle.script_model.specs.declared.line.ScriptLine.TheVariants as script_line
-use Rattle.script_model.specs.ScriptAnswers.{ScriptAnswer, of_ask, of_boards, of_event}
+use Rattle.script_model.specs.ScriptAnswers.{ScriptAnswer, is_refused, of_ask, of_boards, of_event}
 use Rattle.script_model.specs.ScriptSession.{IsLawful, Session, after, asked_lines, start, state_after}
 use Rattle.script_model.specs.ScriptTurns.{ScriptState}
 use Rattle.script_loop.specs.declared.error.ScriptError.{ScriptError}
@@ -17,11 +17,6 @@ use Rattle.script_generator.specs.declared.summary.Counts.{Counts}
 use Rattle.script_generator.specs.Generator.{generated}
 
 -- ---- what is counted
-
--- the answer refuses its line
-abbrev pub is_refused : ScriptAnswer → Bool
-is_refused (of_boards (answer.Refused why)) = true
-is_refused a = false
 
 -- the answer tells an access
 abbrev pub is_step : ScriptAnswer → Bool

@@ -4,13 +4,13 @@ use Rattle.std.specs.Prelude.{◌==◌, IsSome, IsSomeAnd}
 use Rattle.std.proofs.lemmas.Bool.Decides.{Decides-eqb}
 use Rattle.board_event_model.specs.declared.access.EventAccess.{EventAccess}
 use Rattle.board_event_model.specs.declared.access.EventAnswer.{EventAnswer}
-use Rattle.board_event_model.specs.EventMemory.{Event}
+use Rattle.board_event_model.specs.EventMemory.{Event, with_notifier, without_listener, without_notifier}
 use Rattle.board_event_model.specs.EventSessions.{EventLine, EventSession, PartyCall, StandingEvent, abandon_of, all_gone, begin_on, change_at, event_of, expire_of, listen, next_session, notifiers_of, release_of, session_of, step_of, stepped_on, took_step}
 use Rattle.script_model.specs.ScriptEvents as events
 use Rattle.script_model.specs.ScriptEvents.{ScriptEvents, let_go_from, notifier_more, notifier, listener}
 use Rattle.script_model.specs.SoundEvents.{AreSoundEvents, IsFormedEvent, IsNamed}
 use Rattle.script_event_tables.specs.declared.event_table.EventTable.{EventTable}
-use Rattle.script_event_tables.specs.EventTables.{AreEvents, EventsThatStand, FitTogether, IsMade, names_settled, one_notifier_less, one_notifier_more, with_changed, with_released, without_listener}
+use Rattle.script_event_tables.specs.EventTables.{AreEvents, EventsThatStand, FitTogether, IsMade, names_settled, with_changed, with_released}
 
 -- the events of the definitions that a table keeps
 abbrev pub kept_of : ScriptEvents → EventsThatStand
@@ -172,12 +172,12 @@ module _ (new : EventTable) (x : ScriptEvents) (party name : List ℕ) (n : ℕ)
   pub listener_went : AreEvents new (with_released n without_listener (kept_of x)) → AreEvents new (kept_of (let_go_from x party name (listener n) (Some e)))
   listener_went are = settled without_listener are
 
-  pub notifier_went : AreEvents new (with_released n one_notifier_less (kept_of x)) → AreEvents new (kept_of (let_go_from x party name (notifier n) (Some e)))
+  pub notifier_went : AreEvents new (with_released n without_notifier (kept_of x)) → AreEvents new (kept_of (let_go_from x party name (notifier n) (Some e)))
   notifier_went are =
-      subst (λ (stands : ℕ → Option StandingEvent). AreEvents new (record { stands = stands; count = x.session.count; names = names_settled x.names n (Some (one_notifier_less e)) }))
-      (change_alike x.session.stands n e one_notifier_less (λ y. record y { notifiers = e.notifiers - 1 }) found refl) (settled one_notifier_less are)
+      subst (λ (stands : ℕ → Option StandingEvent). AreEvents new (record { stands = stands; count = x.session.count; names = names_settled x.names n (Some (without_notifier e)) }))
+      (change_alike x.session.stands n e without_notifier (λ y. record y { notifiers = e.notifiers - 1 }) found refl) (settled without_notifier are)
 
-  pub notifier_came : AreEvents new (with_changed n one_notifier_more (kept_of x)) → AreEvents new (kept_of (notifier_more x party name n e))
+  pub notifier_came : AreEvents new (with_changed n with_notifier (kept_of x)) → AreEvents new (kept_of (notifier_more x party name n e))
   notifier_came are =
       subst (λ (stands : ℕ → Option StandingEvent). AreEvents new (record { stands = stands; count = x.session.count; names = x.names }))
-      (change_alike x.session.stands n e one_notifier_more (λ y. record y { notifiers = e.notifiers + 1 }) found refl) are
+      (change_alike x.session.stands n e with_notifier (λ y. record y { notifiers = e.notifiers + 1 }) found refl) are

@@ -7,7 +7,7 @@ use Rattle.board_event_model.specs.declared.access.EventAnswer.{EventAnswer}
 use Rattle.board_event_model.specs.declared.kind.EventKind.{EventKind}
 use Rattle.board_event_model.specs.EventCalls as calls
 use Rattle.board_event_model.specs.EventCalls.{RunningCall, call_of, new_call, owed, turn, went_on}
-use Rattle.board_event_model.specs.EventMemory.{CanPerform, Event, IsRight}
+use Rattle.board_event_model.specs.EventMemory.{CanPerform, Event, IsRight, without_listener, without_notifier}
 use Rattle.board_event_model.specs.EventMemory as memory
 use Rattle.board_event_model.specs.EventSessions.{EventSession, PartyCall, StandingEvent, change_at, doing_on, event_of, next_session, step_of, stepped_on, took_step}
 use Rattle.board_model.specs.declared.answer.Reason.{Reason}
@@ -37,7 +37,7 @@ use Rattle.script_event_rows.specs.declared.event_row.EventRow.{EventRow}
 use Rattle.script_event_rows.specs.EventCalls.{HasTaken, IsKeptOf}
 use Rattle.script_event_rows.specs.EventRows.{IsOf, StandsFor}
 use Rattle.script_event_tables.specs.declared.event_table.EventTable.{EventTable}
-use Rattle.script_event_tables.specs.EventTables.{AreEvents, EventsThatStand, HasListened, HasNotified, IsMade, IsSoundTable, IsUnlistened, OfEvent, OfSomeEvent, with_changed, with_released, without_listener, one_notifier_less}
+use Rattle.script_event_tables.specs.EventTables.{AreEvents, EventsThatStand, HasListened, HasNotified, IsMade, IsSoundTable, IsUnlistened, OfEvent, OfSomeEvent, with_changed, with_released}
 use Rattle.script_judge.specs.declared.judge.Judge.{Judge}
 use Rattle.script_judge.specs.declared.task.Ask.{Ask}
 use Rattle.script_judge.specs.declared.task.Ask.TheVariants as ask_is
@@ -136,7 +136,7 @@ module _ (old mid new : Judge) (party name : List ℕ) (s : ScriptState) (count 
       (subst (λ (t : EventTable). AreEvents t (kept_of x)) (sym put.events) (listener_went mid.events s.events party name n h.st.event there (are (kept_of s.events) rep.events)))
       gone_things (gone_tasks x refl refl))
 
-  pub notifier_goes : (n : ℕ) → thing_at old party name ≡ Some (thing.Notifier n) → ((x : EventsThatStand) → AreEvents old.events x → AreEvents mid.events (with_released n one_notifier_less x)) → Represents new (record s { events = event_let_go s.events party name (s.events.things party name) })
+  pub notifier_goes : (n : ℕ) → thing_at old party name ≡ Some (thing.Notifier n) → ((x : EventsThatStand) → AreEvents old.events x → AreEvents mid.events (with_released n without_notifier x)) → Represents new (record s { events = event_let_go s.events party name (s.events.things party name) })
   notifier_goes n is are =
       let h = held_thing old s count party name (thing.Notifier n) rep reached is in
       let there : event_of s.events.session.stands n ≡ Some h.st.event = found_event s.events.session.stands n h.st h.stands in

@@ -1,5 +1,5 @@
 -- The answers to the lines of a script and their bytes, those of events included, and which of them some line may be given.
-use Rattle.std.specs.Prelude.{◌≡◌, ℕ, true, List, [], ◌∷◌, ◌++◌, codes, IfSome, Option, Some, None}
+use Rattle.std.specs.Prelude.{◌≡◌, ℕ, Bool, true, false, List, [], ◌∷◌, ◌++◌, codes, IfSome, Option, Some, None}
 use Rattle.std.specs.List.{AllByRecursion, flat_map}
 use Rattle.board_event_model.specs.declared.access.EventAccess.{EventAccess}
 use Rattle.board_event_model.specs.declared.access.EventAccess.TheVariants as access
@@ -11,6 +11,7 @@ use Rattle.board_event_model.specs.declared.kind.EventKind.{EventKind}
 use Rattle.board_event_model.specs.EventMemory.{kind_of_access}
 use Rattle.board_event_model.specs.WaitCalls.{word_in}
 use Rattle.board_model.specs.declared.answer.Answer.{Answer}
+use Rattle.board_model.specs.declared.answer.Answer.TheVariants as answer
 use Rattle.board_model.specs.AnswerGrammar.{IsAnswer, answer_text, number_text}
 use Rattle.board_model.specs.LineGrammar.{IsNumber}
 use Rattle.script_model.specs.declared.reply.EventReply.{EventReply}
@@ -23,6 +24,11 @@ pub data ScriptAnswer : Type 0 where
   of_ask : EventReply → ScriptAnswer
   of_event : (kind : EventKind) (name : List ℕ) (access : EventAccess) (answer : EventAnswer) (told : Option EventReply) → ScriptAnswer
   expired : ScriptAnswer
+
+-- the answer refuses its line
+abbrev pub is_refused : ScriptAnswer → Bool
+is_refused (of_boards (answer.Refused why)) = true
+is_refused a = false
 
 -- ---- texts
 

@@ -17,9 +17,10 @@ use Rattle.script_model.specs.ScriptSession.{IsLawful}
 use Rattle.script_model.specs.LawsOfComposition.{EndsPublication, IsIdOf, Notifies, TakesId, state_met}
 use Rattle.script_model.proofs.WorkedScript.{found, runs}
 use Rattle.script_moments.specs.Gets.{IsGet}
+use Rattle.script_moments.specs.OneRound.{b}
 use Rattle.script_moments.specs.Reports.{IsAnsweredTake, to_begun, to_notified, to_taken}
 use Rattle.script_moments.specs.Watchers.{IsAskedId, IsTurn}
-use Rattle.script_moments.specs.WorkedWatchers.{b, before_it, since_it, the_get, the_id, the_take, the_turn}
+use Rattle.script_moments.specs.WorkedWatchers.{before_it, since_it, the_get, the_id, the_take, the_turn}
 
 pub lawful : IsLawful (before_it ++ since_it)
 lawful = search rules

@@ -7,6 +7,7 @@ use Rattle.board_model.specs.declared.value.Key.TheVariants as key
 use Rattle.board_model.specs.declared.value.KeyType.TheVariants as key_type
 use Rattle.board_model.specs.declared.value.Value.TheVariants as value
 use Rattle.board_model.specs.declared.value.ValueType.TheVariants as type
+use Rattle.board_model.specs.TableCalls.{no_limits}
 use Rattle.board_model.specs.WorkedSessions as boards
 use Rattle.script_model.specs.ScriptSession.{Session}
 use Rattle.script_model.specs.LawsOfComposition.{Pair, of_pair}
@@ -30,7 +31,7 @@ two_entries = map of_pair (
     ∷ boards.last_step a access.Table (reply.Number 0)
     ∷ boards.accepted a (call.EntryMut (codes "n") (codes "w") (key.U64 2) type.U64)
     ∷ boards.last_step a access.Table (reply.Number 32)
-    ∷ boards.accepted b (call.Open (codes "f") (codes "b") key_type.U64 boards.no_limits boards.no_needs)
+    ∷ boards.accepted b (call.Open (codes "f") (codes "b") key_type.U64 no_limits boards.no_needs)
     ∷ boards.last_step b access.Table (reply.Number 1)
     ∷ boards.accepted b (call.Reader (codes "r") (codes "f"))
     ∷ boards.last_step b access.Table (reply.Number 2)

@@ -10,6 +10,7 @@ use Rattle.script_model.specs.ScriptSession.{Session}
 use Rattle.script_model.specs.LawsOfComposition.{Pair, state_met, of_pair}
 use Rattle.script_moments.specs.Moments.{moments, next_moment}
 use Rattle.script_moments.specs.Gets.{Get, named_entry}
+use Rattle.script_moments.specs.OneRound.{b, word_read}
 use Rattle.script_moments.specs.Snapshots.{Snapshot, steps_of_snapshot}
 use Rattle.script_moments.specs.LawsOfSnapshots.{published_of, steps_again, steps_alone}
 
@@ -17,18 +18,12 @@ use Rattle.script_moments.specs.LawsOfSnapshots.{published_of, steps_again, step
 abbrev pub before_it : Session
 before_it = map of_pair (boards.set_up type.U64 (value.U64 7))
 
-abbrev pub b : List ℕ
-b = codes "b"
-
 -- the pairs of a get of one word, at this counter and place
 abbrev pub get_begins : Pair
 get_begins = of_pair (boards.accepted b (call.Get (codes "h") None))
 
 abbrev pub first_read : ℕ → Pair
 first_read g = of_pair (boards.one_step b (access.Read 1 0 g))
-
-abbrev pub word_read : ℕ → ℕ → Pair
-word_read place word = of_pair (boards.one_step b (access.Read 1 place word))
 
 abbrev pub last_read : ℕ → ℕ → Pair
 last_read g word = of_pair (boards.last_step b (access.Read 1 0 g) (reply.Got type.U64 (word ∷ []) g))

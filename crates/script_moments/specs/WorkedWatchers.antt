@@ -20,15 +20,14 @@ use Rattle.script_model.specs.LawsOfComposition.{Pair, of_pair}
 use Rattle.script_model.specs.WorkedScripts.{a_queue, asks, queued}
 use Rattle.script_moments.specs.Moments.{next_moment}
 use Rattle.script_moments.specs.Gets.{Get}
+use Rattle.script_moments.specs.OneRound.{b}
 use Rattle.script_moments.specs.Reports.{Take}
 use Rattle.script_moments.specs.Watchers.{AskedId, Opening, Turn, Watcher, idle}
+use Rattle.script_moments.specs.WorkedSnapshots.{get_begins}
 
 -- b has the read handle "h" of an entry and listens on a queue, and a has a notifier of it
 abbrev pub before_it : Session
 before_it = map of_pair (boards.set_up type.U64 (value.U64 7)) ++ a_queue
-
-abbrev pub b : List ℕ
-b = codes "b"
 
 -- b asks for the id of the handle's entry
 abbrev pub id_begins : Pair
@@ -60,10 +59,6 @@ id_popped = (line.Board (board_line.Step b), of_event kind.Queue (codes "q") eve
 
 abbrev pub none_popped : Pair
 none_popped = queued b event_access.Pop event_answer.Empty (event_reply.Ids (0 ∷ []))
-
--- and gets the entry
-abbrev pub get_begins : Pair
-get_begins = of_pair (boards.accepted b (call.Get (codes "h") None))
 
 abbrev pub counter_read : Pair
 counter_read = of_pair (boards.one_step b (access.Read 1 0 2))

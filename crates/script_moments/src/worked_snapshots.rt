@@ -5,9 +5,9 @@ ghost use Rattle.script_model.specs.ScriptSession.{IsLawful};
 ghost use Rattle.script_moments.specs.Gets.{IsRound, moments_of};
 ghost use Rattle.script_moments.specs.LawsOfSnapshots.{AreLastValues};
 ghost use Rattle.script_moments.specs.Moments.{moments, own};
-ghost use Rattle.script_moments.specs.OneRound.{both, hasty, one_round, to_second, two_entries};
+ghost use Rattle.script_moments.specs.OneRound.{b, both, hasty, one_round, to_second, two_entries};
 ghost use Rattle.script_moments.specs.Snapshots.{IsWritten};
-ghost use Rattle.script_moments.specs.WorkedSnapshots.{WorkedCounts, a_snapshot, b, before_it, since_it};
+ghost use Rattle.script_moments.specs.WorkedSnapshots.{WorkedCounts, a_snapshot, before_it, since_it};
 
 /// A snapshot of one entry, which is updated after the first round.
 pub fn a_snapshot_may_be_written()

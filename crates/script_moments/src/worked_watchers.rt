@@ -1,9 +1,10 @@
 //! A watcher that was worked out by hand: the premises of the laws on watchers can be met.
 ghost use Rattle.std.specs.Prelude.{◌≡◌, [], ◌∷◌, codes};
 ghost use Rattle.script_moments.specs.LawsOfWatchers.{IsGetOf, IsTakenIn};
+ghost use Rattle.script_moments.specs.OneRound.{b};
 ghost use Rattle.script_moments.specs.Reports.{IsAnsweredTake, IsOfEntry, reports};
 ghost use Rattle.script_moments.specs.Watchers.{IsOpening, IsWatcher, reports_of};
-ghost use Rattle.script_moments.specs.WorkedWatchers.{a_watcher, an_opening, b, before_it, behind_it, id_begins, id_told, since_it, the_get, the_take, the_turn};
+ghost use Rattle.script_moments.specs.WorkedWatchers.{a_watcher, an_opening, before_it, behind_it, id_begins, id_told, since_it, the_get, the_take, the_turn};
 
 /// A watcher of one entry, whose id it has asked for.
 pub fn a_watcher_may_open()

@@ -6,11 +6,7 @@ use Rattle.board_model.specs.declared.value.Key.{Key}
 use Rattle.board_model.specs.declared.value.KeyType.{KeyType}
 use Rattle.board_model.specs.Tables.{Tables}
 use Rattle.board_model.specs.Things.{Standing}
-use Rattle.board_model.specs.TypeTable.{key_of, key_type_of}
-
--- a script's keys have no more than eight bytes
-abbrev pub key_shown : KeyType → Entry → Key
-key_shown k e = key_of k (take 8 e.key.bytes)
+use Rattle.board_model.specs.TypeTable.{key_of, key_shown, key_type_of}
 
 -- the keys of a board, each from the first bytes that its entry keeps
 abbrev pub keys_shown : Option Board → List Key

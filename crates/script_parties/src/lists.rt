@@ -5,8 +5,8 @@ ghost use Rattle.std.specs.Cmp.Lexicographic.{slice_cmp};
 ghost use Rattle.std.specs.Ordering.{nat_cmp};
 ghost use Rattle.std.specs.Str.{bytes_eq};
 ghost use Rattle.board_model.specs.Tables.{board_at, holds_at};
+ghost use Rattle.board_model.specs.TypeTable.{key_shown};
 ghost use Rattle.script_parties.specs.BoardNodes.{AreHolders, is_told, node_party};
-ghost use Rattle.script_parties.specs.Overview.{key_shown};
 
 use board_model::{KeyType, Keys, Name, Names, key_of};
 use board_service::{BoardWords, DomainCore, EntryRow, NodeId};

@@ -8,12 +8,12 @@ use Rattle.std.proofs.lemmas.List.{append-nil, length-append, length-map, map-ap
 use Rattle.board_model.specs.declared.line.Call.TheVariants as call
 use Rattle.board_model.specs.declared.line.Line.TheVariants as board_line
 use Rattle.board_model.specs.LineGrammar.{is_name, spell}
-use Rattle.script_model.specs.ScriptAnswers.{ScriptAnswer, script_answer_line}
+use Rattle.script_model.specs.ScriptAnswers.{ScriptAnswer, is_refused, script_answer_line}
 use Rattle.script_model.specs.ScriptGrammar.{script_spell}
 use Rattle.script_model.specs.ScriptSession.{Session}
 use Rattle.script_moments.specs.Moments.{Moment}
 use Rattle.script_moments.specs.Gets.{Get, Round, ended_get, generations}
-use Rattle.script_exchanges.specs.DrivenParties.{Got, got_by, is_refused}
+use Rattle.script_exchanges.specs.DrivenParties.{Got, got_by}
 use Rattle.script_feed.specs.AnswerLooks.{EndsGet, GoesOnGet, HasGot}
 use Rattle.script_snapshots.specs.Takings.{Taking, after_round, begun_get, ended, get_text, gets_text, goes_on, is_alike, moment_of, new_taking, next_handle, next_line, next_of, shot_so, stepped_get, taken, taken_on}
 use Rattle.script_shots.specs.declared.shot.Progress.{Progress}

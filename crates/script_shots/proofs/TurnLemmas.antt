@@ -4,7 +4,7 @@ use Rattle.std.specs.Prelude.{◌⊎◌, codes}
 use Rattle.board_model.specs.declared.answer.Answer.TheVariants as answer
 use Rattle.board_model.specs.declared.answer.Reply.TheVariants as reply
 use Rattle.board_model.specs.LineGrammar.{is_name}
-use Rattle.script_model.specs.ScriptAnswers.{IsScriptAnswer, ScriptAnswer, of_boards}
+use Rattle.script_model.specs.ScriptAnswers.{IsScriptAnswer, ScriptAnswer, is_refused, of_boards}
 use Rattle.script_model.specs.ScriptGrammar.{IsScriptLine, SpellsLine, script_spell}
 use Rattle.script_model.specs.ScriptSession.{IsRight, Session}
 use Rattle.script_model.specs.LawsOfComposition.{Pair, state_met}
@@ -12,7 +12,7 @@ use Rattle.script_moments.specs.Moments.{Moment}
 use Rattle.script_moments.specs.LawsOfTurns.{StepsOn}
 use Rattle.script_feed.specs.KeptOf.{KeepsIfAny}
 use Rattle.script_feed.proofs.GivenLemmas.{named_at, short_name}
-use Rattle.script_exchanges.specs.DrivenParties.{Got, is_refused, party_text}
+use Rattle.script_exchanges.specs.DrivenParties.{Got, party_text}
 use Rattle.script_exchanges.specs.Exchanges.{said}
 use Rattle.script_snapshots.specs.Takings.{Outcome, Taking, ended, goes_on, moment_of, next_handle, next_line, next_of, snapshot_text, whole}
 use Rattle.script_snapshots.specs.SnapshotExchanges.{kept_of, said_of}

@@ -6,11 +6,11 @@ use Rattle.board_model.specs.declared.answer.Answer.TheVariants as answer
 use Rattle.board_model.specs.declared.answer.Reply.TheVariants as reply
 use Rattle.board_model.specs.AnswerGrammar.{IsAnswer}
 use Rattle.board_model.specs.LineGrammar.{is_name}
-use Rattle.script_model.specs.ScriptAnswers.{ScriptAnswer, of_boards, script_answer_line}
+use Rattle.script_model.specs.ScriptAnswers.{ScriptAnswer, is_refused, of_boards, script_answer_line}
 use Rattle.script_model.specs.ScriptSession.{Session}
 use Rattle.script_moments.specs.Moments.{Moment}
 use Rattle.script_moments.specs.Gets.{Round, generations}
-use Rattle.script_exchanges.specs.DrivenParties.{Got, is_refused}
+use Rattle.script_exchanges.specs.DrivenParties.{Got}
 use Rattle.script_exchanges.specs.Exchanges.{said, told_text}
 use Rattle.script_snapshots.specs.Takings.{Outcome, Taking, ended, gets_text, goes_on, snapshot_text, stepped_get, taken, whole}
 use Rattle.script_shots.specs.declared.shot.Progress.{Progress}

@@ -12,7 +12,7 @@ use Rattle.board_model.specs.Parties.{Party, Running, begun, free, gone, notice,
 use Rattle.board_model.specs.Requests.{Request, request_of}
 use Rattle.board_model.proofs.KeptLemmas.{party_here}
 use Rattle.script_model.specs.declared.line.ScriptLine.TheVariants as line
-use Rattle.script_model.specs.ScriptAnswers.{ScriptAnswer, of_boards}
+use Rattle.script_model.specs.ScriptAnswers.{ScriptAnswer, is_refused, of_boards}
 use Rattle.script_model.specs.ScriptTurns.{ScriptState}
 use Rattle.script_model.specs.ScriptSession.{IsLawful, IsRight, Session, after}
 use Rattle.script_model.specs.LawsOfComposition.{Pair, of_pair, state_met}
@@ -23,7 +23,6 @@ use Rattle.script_model.proofs.RuleLemmas.{ruled}
 use Rattle.script_moments.specs.Moments.{Moment, left}
 use Rattle.script_moments.proofs.GetWalks.{own_begin, own_step}
 use Rattle.script_moments.proofs.RoundLemmas.{sound_at}
-use Rattle.script_exchanges.specs.DrivenParties.{is_refused}
 use Rattle.script_snapshots.proofs.FedLemmas.{met_more}
 
 -- the party isn't gone

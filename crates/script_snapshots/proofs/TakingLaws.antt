@@ -7,7 +7,7 @@ use Rattle.board_model.specs.declared.line.Line.TheVariants as board_line
 use Rattle.board_model.proofs.ListLemmas.{same_bytes}
 use Rattle.script_model.specs.declared.line.ScriptLine.{ScriptLine}
 use Rattle.script_model.specs.declared.line.ScriptLine.TheVariants as line
-use Rattle.script_model.specs.ScriptAnswers.{ScriptAnswer}
+use Rattle.script_model.specs.ScriptAnswers.{ScriptAnswer, is_refused}
 use Rattle.script_model.specs.ScriptSession.{IsLawful, IsRight, Session}
 use Rattle.script_model.specs.LawsOfComposition.{state_met}
 use Rattle.script_model.specs.LawsOfLines.{names}
@@ -17,7 +17,7 @@ use Rattle.script_moments.proofs.CountLemmas.{alone_two, are_short}
 use Rattle.script_moments.proofs.RoundLemmas.{of_one_moment}
 use Rattle.script_exchanges.specs.declared.line.DriveLine.{DriveLine}
 use Rattle.script_exchanges.specs.declared.line.DriveLine.TheVariants.{Script, Start, Turn}
-use Rattle.script_exchanges.specs.DrivenParties.{abandoned_by, held_back, if_kept, is_refused, kept_with, let_go}
+use Rattle.script_exchanges.specs.DrivenParties.{abandoned_by, held_back, if_kept, kept_with, let_go}
 use Rattle.script_exchanges.specs.Exchanges.{Exchanges, Told, fed_by, fed_session, given, said}
 use Rattle.script_snapshots.specs.Takings.{Outcome, Taking, ended, goes_on, new_taking, next_line, next_of, next_handle, taken, whole}
 use Rattle.script_snapshots.specs.LawsOfTakings.{FedSessionsAreLawful, IsShortTaking, TakingsAreShort, WrittenSnapshotsAreOfOneMoment}

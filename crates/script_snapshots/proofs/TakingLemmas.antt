@@ -14,7 +14,7 @@ use Rattle.board_model.proofs.ThingLemmas.{same_to_itself}
 use Rattle.board_model.proofs.ListLemmas.{same_bytes}
 use Rattle.script_model.specs.declared.line.ScriptLine.{ScriptLine}
 use Rattle.script_model.specs.declared.line.ScriptLine.TheVariants as line
-use Rattle.script_model.specs.ScriptAnswers.{ScriptAnswer, of_boards}
+use Rattle.script_model.specs.ScriptAnswers.{ScriptAnswer, is_refused, of_boards}
 use Rattle.script_model.specs.ScriptTurns.{ScriptState}
 use Rattle.script_model.specs.ScriptSession.{IsLawful, IsRight, Session, after}
 use Rattle.script_model.specs.LawsOfComposition.{Pair, state_met}
@@ -25,7 +25,7 @@ use Rattle.script_moments.specs.Snapshots.{AreUnlike, IsSnapshot, IsWritten, Sna
 use Rattle.script_moments.specs.SnapshotLines.{snapshot_at}
 use Rattle.script_moments.proofs.LineLemmas.{go_on}
 use Rattle.script_moments.proofs.TurnLemmas.{begun_or_refused, pair_is, snapshots_step}
-use Rattle.script_exchanges.specs.DrivenParties.{Got, got_by, is_refused}
+use Rattle.script_exchanges.specs.DrivenParties.{Got, got_by}
 use Rattle.script_moments.specs.LawsOfTurns.{StepsOn}
 use Rattle.script_snapshots.specs.Takings.{Outcome, Taking, after_round, ended, goes_on, is_alike, moment_of, new_taking, next_handle, next_line, next_of, shot_so, stepped_get, taken, taken_on, whole}
 use Rattle.script_snapshots.proofs.AliveLemmas.{IsAlive, IsThere, abandon_accepted, begin_alive, others_leave_alive, step_alive}

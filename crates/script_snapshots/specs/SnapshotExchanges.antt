@@ -1,14 +1,14 @@
 -- Scripts whose parties can take snapshots: what is told of each line, and what stands afterwards.
 use Rattle.std.specs.Prelude.{◌≡◌, ℕ, List, [], ◌∷◌, ◌++◌, codes, Option, Some, None}
 use Rattle.script_model.specs.declared.line.ScriptLine.{ScriptLine}
-use Rattle.script_model.specs.ScriptAnswers.{ScriptAnswer}
+use Rattle.script_model.specs.ScriptAnswers.{ScriptAnswer, is_refused}
 use Rattle.script_model.specs.ScriptSession.{IsRight, Session}
 use Rattle.script_model.specs.LawsOfComposition.{state_met}
 use Rattle.script_exchanges.specs.declared.line.Drive.TheVariants.{Snapshots}
 use Rattle.script_exchanges.specs.declared.line.DriveLine.{DriveLine}
 use Rattle.script_exchanges.specs.declared.line.DriveLine.TheVariants.{Script, Start, Turn}
 use Rattle.script_exchanges.specs.DriveGrammar.{IsDriveLine}
-use Rattle.script_exchanges.specs.DrivenParties.{abandoned_by, held_back, if_kept, is_refused, kept_with, let_go, party_text}
+use Rattle.script_exchanges.specs.DrivenParties.{abandoned_by, held_back, if_kept, kept_with, let_go, party_text}
 use Rattle.script_exchanges.specs.Exchanges.{Exchanges, Told, given, said}
 use Rattle.script_snapshots.specs.Takings.{Outcome, Taking, ended, goes_on, new_taking, next_line, snapshot_text, taken, whole}
 

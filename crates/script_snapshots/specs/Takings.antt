@@ -7,14 +7,14 @@ use Rattle.board_model.specs.declared.line.Call.TheVariants as call
 use Rattle.board_model.specs.declared.line.Line.TheVariants as board_line
 use Rattle.script_model.specs.declared.line.ScriptLine.{ScriptLine}
 use Rattle.script_model.specs.declared.line.ScriptLine.TheVariants as line
-use Rattle.script_model.specs.ScriptAnswers.{ScriptAnswer}
+use Rattle.script_model.specs.ScriptAnswers.{ScriptAnswer, is_refused}
 use Rattle.script_model.specs.ScriptSession.{Session}
 use Rattle.script_model.specs.LawsOfComposition.{state_met}
 use Rattle.script_moments.specs.Moments.{Moment}
 use Rattle.script_moments.specs.Gets.{Get, Round, ended_get, generations}
 use Rattle.script_moments.specs.Snapshots.{Snapshot}
 use Rattle.script_moments.specs.SnapshotLines.{snapshot_at}
-use Rattle.script_exchanges.specs.DrivenParties.{Got, got_by, is_refused, party_text}
+use Rattle.script_exchanges.specs.DrivenParties.{Got, got_by, party_text}
 
 -- its handles; the session before its first get, once that has begun; and the snapshot so far
 pub record Taking : Type 0 where

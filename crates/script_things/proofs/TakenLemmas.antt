@@ -12,12 +12,12 @@ use Rattle.std.proofs.lemmas.Map.Text.{is_eq-slice_cmp}
 use Rattle.std.proofs.lemmas.Bool.Decides.{nat_tests}
 use Rattle.std.proofs.lemmas.List.Sums.{count_by-le-length}
 use Rattle.std.proofs.lemmas.Slice.Eq.{bytes_eq-Decides}
-use Rattle.board_model.specs.Tables.{holds_at, is_held_by, is_of_board, is_of_port, is_reader, is_reader_of, is_write_handle, without_first, writer_port, writes_entry}
+use Rattle.board_model.specs.Tables.{holds_at, is_held_by, is_of_board, is_of_port, is_reader, is_reader_of, is_write_handle, number_if, without_first, writer_port, writes_entry}
 use Rattle.board_model.specs.Things.{Held, is_held_as, named_anew}
 use Rattle.board_model.proofs.ListLemmas.{any_counts, count_agree, count_map, count_none, count_push, count_without}
 use Rattle.script_things.specs.declared.taken.Taken.{Taken}
 use Rattle.script_seats.specs.Seats.{called}
-use Rattle.script_things.specs.Taken.{AreLowered, AreRaised, AreSame, AreTaken, HasOne, IsLowered, IsRaised, IsSame, IsSmall, IsTaken, counted, handles_in, nodes_in, number_if, number_in, one_less, one_more, ports_in}
+use Rattle.script_things.specs.Taken.{AreLowered, AreRaised, AreSame, AreTaken, HasOne, IsLowered, IsRaised, IsSame, IsSmall, IsTaken, counted, handles_in, nodes_in, number_in, one_less, one_more, ports_in}
 
 -- ---- counts as they are kept
 

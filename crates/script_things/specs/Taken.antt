@@ -6,7 +6,7 @@ use Rattle.std.specs.Cmp.Lexicographic.{slice_cmp}
 use Rattle.std.specs.Ordering.{nat_cmp}
 use Rattle.std.specs.Str.{bytes_eq}
 use Rattle.board_model.specs.declared.tables.Kind.{Kind}
-use Rattle.board_model.specs.Tables.{holds_at, is_held_by, is_of_port, is_reader, is_write_handle, reader_slots, writer_port, writes_entry}
+use Rattle.board_model.specs.Tables.{holds_at, is_held_by, is_of_port, is_reader, is_write_handle, number_if, reader_slots, writer_port, writes_entry}
 use Rattle.board_model.specs.Things.{Held}
 use Rattle.script_things.specs.declared.taken.Taken.{Taken}
 
@@ -19,9 +19,6 @@ counted n = if n == 0 then None else Some n
 abbrev pub number_in : Option ℕ → ℕ
 number_in None = 0
 number_in (Some n) = n
-
-abbrev pub number_if : Bool → ℕ
-number_if b = if b then 1 else 0
 
 -- one more, where it is asked for
 abbrev pub one_more : Bool → Option ℕ → Option ℕ

@@ -1,7 +1,7 @@
 //! What is listed of a board.
 ghost use Rattle.std.specs.Prelude.{◌≡◌, IfOk, Some, map};
 ghost use Rattle.board_model.specs.Replies as replies;
-ghost use Rattle.script_things.specs.Listings.{key_shown};
+ghost use Rattle.board_model.specs.TypeTable.{key_shown};
 
 use crate::named::NamedThings;
 use board_model::{Board, Entry, Info, KeyType, Keys, LongName, key_of, key_type_of};

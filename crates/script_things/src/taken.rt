@@ -5,8 +5,9 @@ ghost use Rattle.std.specs.Cmp.Lexicographic.{slice_cmp};
 ghost use Rattle.std.specs.HashMap.{get, spare};
 ghost use Rattle.std.specs.Ordering.{nat_cmp};
 ghost use Rattle.std.specs.Str.{bytes_eq};
+ghost use Rattle.board_model.specs.Tables.{number_if};
 ghost use Rattle.board_model.specs.Tables as tables;
-ghost use Rattle.script_things.specs.Taken.{AreLowered, AreRaised, AreSame, HasOne, IsLowered, IsRaised, IsSame, IsSmall, number_if, number_in, one_less, one_more};
+ghost use Rattle.script_things.specs.Taken.{AreLowered, AreRaised, AreSame, HasOne, IsLowered, IsRaised, IsSame, IsSmall, number_in, one_less, one_more};
 
 use crate::lookups::Held;
 use board_model::{Kind, Name};

@@ -7,7 +7,7 @@ use Rattle.board_cell_model.specs.declared.access.Access.TheVariants as access
 use Rattle.board_model.specs.declared.answer.Answer.TheVariants as answer
 use Rattle.board_model.specs.declared.answer.Reply.TheVariants as reply
 use Rattle.board_model.specs.declared.line.Call.TheVariants as call
-use Rattle.script_model.specs.ScriptAnswers.{IsScriptAnswer, ScriptAnswer, of_boards, script_answer_text}
+use Rattle.script_model.specs.ScriptAnswers.{IsScriptAnswer, ScriptAnswer, is_refused, of_boards, script_answer_text}
 use Rattle.script_model.specs.ScriptSession.{IsLawful, IsRight, Session}
 use Rattle.script_model.specs.ScriptTurns.{ScriptState}
 use Rattle.script_model.specs.LawsOfComposition.{Pair, state_met}
@@ -17,7 +17,6 @@ use Rattle.script_moments.specs.WatcherLines.{opening_at}
 use Rattle.script_moments.proofs.TurnLemmas.{begun_or_refused, ids_told}
 use Rattle.script_moments.proofs.WatcherLineLemmas.{watchers_open}
 use Rattle.script_loop.specs.Machines.{StandsFor}
-use Rattle.script_exchanges.specs.DrivenParties.{is_refused}
 use Rattle.script_exchanges.specs.Exchanges.{given, text_of, told_text}
 use Rattle.script_snapshots.proofs.FedLemmas.{fed_lawful}
 use Rattle.script_watches.specs.WatchExchanges.{AreToldIds, id_line, pairs_of_id, pairs_of_ids}

@@ -7,7 +7,7 @@ use Rattle.board_model.specs.declared.answer.Answer.TheVariants as answer
 use Rattle.board_model.specs.declared.answer.Reply.TheVariants as reply
 use Rattle.board_model.specs.LineGrammar.{is_name}
 use Rattle.script_model.specs.declared.reply.EventReply.{EventReply}
-use Rattle.script_model.specs.ScriptAnswers.{IsScriptAnswer, ScriptAnswer, of_boards, of_event, script_answer_line, script_answer_text}
+use Rattle.script_model.specs.ScriptAnswers.{IsScriptAnswer, ScriptAnswer, is_refused, of_boards, of_event, script_answer_line, script_answer_text}
 use Rattle.script_model.specs.ScriptGrammar.{IsScriptLine, SpellsLine, script_spell}
 use Rattle.script_model.specs.ScriptSession.{IsRight, Session}
 use Rattle.script_model.specs.LawsOfComposition.{Pair, state_met}
@@ -18,7 +18,7 @@ use Rattle.script_moments.specs.Watchers.{AskedId, IsWatcher, OpenTurn, StepsOnE
 use Rattle.script_moments.specs.WatcherLines.{watcher_at}
 use Rattle.script_moments.proofs.TurnLemmas.{watchers_step}
 use Rattle.script_moments.proofs.WaitLemmas.{waits_step}
-use Rattle.script_exchanges.specs.DrivenParties.{Got, got_by, is_refused}
+use Rattle.script_exchanges.specs.DrivenParties.{Got, got_by}
 use Rattle.script_watches.specs.Watchings.{Watching, called_by, ids_by, line_at, next_handle, next_line}
 use Rattle.script_watches.proofs.WatchingLemmas.{HasRoom, IsSound, next_pair}
 use Rattle.script_watchers.specs.declared.watch.Phase.{Phase}

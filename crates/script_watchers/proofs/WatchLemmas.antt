@@ -10,13 +10,13 @@ use Rattle.board_model.specs.declared.line.Call.TheVariants as call
 use Rattle.board_model.specs.declared.line.Line.TheVariants as board_line
 use Rattle.script_model.specs.declared.line.EventRequest.TheVariants as request
 use Rattle.script_model.specs.declared.line.ScriptLine.TheVariants as line
-use Rattle.script_model.specs.ScriptAnswers.{ScriptAnswer, script_answer_line, script_answer_text}
+use Rattle.script_model.specs.ScriptAnswers.{ScriptAnswer, is_refused, script_answer_line, script_answer_text}
 use Rattle.script_model.specs.ScriptGrammar.{script_spell}
 use Rattle.script_model.specs.ScriptSession.{Session}
 use Rattle.script_moments.specs.Moments.{Moment}
 use Rattle.script_moments.specs.Gets.{Get, Round, ended_get}
 use Rattle.script_moments.specs.Watchers.{AskedId, OpenTurn, Waited, getting, idle, waiting}
-use Rattle.script_exchanges.specs.DrivenParties.{Got, got_by, is_refused}
+use Rattle.script_exchanges.specs.DrivenParties.{Got, got_by}
 use Rattle.script_feed.specs.AnswerLooks.{EndsGet, GoesOnGet, HasGot}
 use Rattle.script_feed.specs.KeptOf.{kept_of}
 use Rattle.script_watches.specs.Watchings.{Report, Watching, after_gets, called_by, ended, goes_on, highest_of, ids_by, last_generation, line_at, moment_of, new_watching, next_handle, next_line, reports, reports_through, stepped_get, stepped_wait, taken, taken_on, turn_ended, turn_so}

@@ -1,12 +1,11 @@
 -- The opening of a watcher, id by id.
 use Rattle.std.specs.Prelude.{◌≡◌, ℕ, ◌+◌, ◌<◌, ◌^◌, Bool, true, false, List, [], ◌∷◌, ◌++◌, length, map, Option, Some, None}
-use Rattle.script_model.specs.ScriptAnswers.{ScriptAnswer}
+use Rattle.script_model.specs.ScriptAnswers.{ScriptAnswer, is_refused}
 use Rattle.script_model.specs.ScriptSession.{IsRight, Session}
 use Rattle.script_model.specs.ScriptTurns.{ScriptState}
 use Rattle.script_model.specs.LawsOfComposition.{state_met}
 use Rattle.script_moments.specs.Watchers.{AskedId}
 use Rattle.script_loop.specs.Machines.{StandsFor}
-use Rattle.script_exchanges.specs.DrivenParties.{is_refused}
 use Rattle.script_exchanges.specs.Exchanges.{given, text_of}
 use Rattle.script_watches.specs.WatchExchanges.{AreToldIds, IsToldId, id_line, pairs_of_id, pairs_of_ids}
 use Rattle.script_watchers.specs.declared.calls.Asked.{Asked}

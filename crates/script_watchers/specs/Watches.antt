@@ -4,12 +4,12 @@ use Rattle.std.specs.List.{AllByRecursion}
 use Rattle.board_model.specs.AnswerGrammar.{reply_text}
 use Rattle.board_model.specs.declared.answer.Reply.TheVariants as reply
 use Rattle.board_model.specs.LineGrammar.{is_name}
-use Rattle.script_model.specs.ScriptAnswers.{ScriptAnswer, script_answer_line, script_answer_text}
+use Rattle.script_model.specs.ScriptAnswers.{ScriptAnswer, is_refused, script_answer_line, script_answer_text}
 use Rattle.script_model.specs.ScriptSession.{Session}
 use Rattle.script_moments.specs.Moments.{Moment}
 use Rattle.script_moments.specs.Gets.{Round}
 use Rattle.script_moments.specs.Watchers.{OpenTurn, Waited, getting, idle, waiting}
-use Rattle.script_exchanges.specs.DrivenParties.{Got, got_by, is_refused}
+use Rattle.script_exchanges.specs.DrivenParties.{Got, got_by}
 use Rattle.script_feed.specs.AnswerLooks.{EndsGet, GoesOnGet, HasGot}
 use Rattle.script_feed.specs.KeptOf.{kept_of}
 use Rattle.script_watches.specs.Watchings.{Outcome, Report, Watching, called_by, ended, goes_on, highest_of, ids_by, reports, stepped_get, stepped_wait, taken}

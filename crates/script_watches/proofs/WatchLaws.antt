@@ -9,7 +9,7 @@ use Rattle.board_model.specs.declared.line.Line.TheVariants as board_line
 use Rattle.board_model.proofs.ListLemmas.{same_bytes}
 use Rattle.script_model.specs.declared.line.ScriptLine.{ScriptLine}
 use Rattle.script_model.specs.declared.line.ScriptLine.TheVariants as line
-use Rattle.script_model.specs.ScriptAnswers.{ScriptAnswer}
+use Rattle.script_model.specs.ScriptAnswers.{ScriptAnswer, is_refused}
 use Rattle.script_model.specs.ScriptSession.{IsLawful, IsRight, Session}
 use Rattle.script_model.specs.LawsOfComposition.{Pair, state_met}
 use Rattle.script_model.specs.LawsOfLines.{names}
@@ -22,7 +22,7 @@ use Rattle.script_moments.proofs.KeptEntryLemmas.{entries_kept}
 use Rattle.script_moments.proofs.WatchLemmas.{all_reports, fresh, report_items}
 use Rattle.script_exchanges.specs.declared.line.DriveLine.{DriveLine}
 use Rattle.script_exchanges.specs.declared.line.DriveLine.TheVariants.{Script, Start, Turn}
-use Rattle.script_exchanges.specs.DrivenParties.{Got, abandoned_by, held_back, if_kept, is_refused, kept_with, let_go, party_text}
+use Rattle.script_exchanges.specs.DrivenParties.{Got, abandoned_by, held_back, if_kept, kept_with, let_go, party_text}
 use Rattle.script_exchanges.specs.Exchanges.{Exchanges, Told, fed_by, fed_session, given, said}
 use Rattle.script_snapshots.proofs.FedLemmas.{fed_lawful}
 use Rattle.script_watches.specs.Watchings.{Outcome, Watching, ended, goes_on, last_generation, line_at, new_watching, next_line, reports, reports_through, taken}

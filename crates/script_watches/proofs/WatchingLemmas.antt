@@ -16,7 +16,7 @@ use Rattle.script_model.specs.declared.line.ScriptLine.{ScriptLine}
 use Rattle.script_model.specs.declared.line.ScriptLine.TheVariants as line
 use Rattle.script_model.specs.declared.reply.EventReply.{EventReply}
 use Rattle.script_model.specs.declared.reply.EventReply.TheVariants as event_reply
-use Rattle.script_model.specs.ScriptAnswers.{ScriptAnswer, of_boards}
+use Rattle.script_model.specs.ScriptAnswers.{ScriptAnswer, is_refused, of_boards}
 use Rattle.script_model.specs.ScriptTurns.{ScriptState}
 use Rattle.script_model.specs.ScriptSession.{IsLawful, IsRight, Session}
 use Rattle.script_model.specs.LawsOfComposition.{Pair, state_met}
@@ -30,7 +30,7 @@ use Rattle.script_moments.specs.WatcherLines.{watcher_at}
 use Rattle.script_moments.proofs.TurnLemmas.{begun_or_refused, pair_is, watchers_step}
 use Rattle.script_moments.proofs.WaitLemmas.{events_begun_or_refused, waits_step}
 use Rattle.script_moments.proofs.WatcherLineLemmas.{watchers_go_on}
-use Rattle.script_exchanges.specs.DrivenParties.{Got, got_by, is_refused}
+use Rattle.script_exchanges.specs.DrivenParties.{Got, got_by}
 use Rattle.script_snapshots.proofs.AliveLemmas.{IsAlive, IsThere, abandon_accepted, begin_alive, others_leave_alive, step_alive}
 use Rattle.script_snapshots.proofs.FedLemmas.{met_more}
 use Rattle.script_watches.specs.Watchings.{Outcome, Report, Watching, after_get, after_gets, called_by, ended, goes_on, highest_of, ids_by, line_at, moment_of, next_handle, next_line, reports, stepped_get, stepped_wait, taken, taken_on, turn_ended, turn_so}

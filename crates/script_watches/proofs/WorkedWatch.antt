@@ -6,16 +6,18 @@ use Rattle.std.proofs.lemmas.List.{append-nil}
 use Rattle.board_model.specs.LineGrammar.{is_name}
 use Rattle.script_model.specs.declared.line.ScriptLine.{ScriptLine}
 use Rattle.script_model.specs.ScriptGrammar.{IsScriptLine}
-use Rattle.script_model.specs.ScriptAnswers.{ScriptAnswer}
+use Rattle.script_model.specs.ScriptAnswers.{ScriptAnswer, is_refused}
 use Rattle.script_model.specs.ScriptTurns.{ScriptState}
 use Rattle.script_model.specs.ScriptSession.{IsLawful, IsLawfulFrom, IsRight, Session, start}
 use Rattle.script_model.specs.LawsOfComposition.{Pair, state_met}
 use Rattle.script_model.proofs.CompositionLemmas.{lawful_split}
 use Rattle.script_moments.specs.Moments.{next_moment}
-use Rattle.script_moments.specs.WorkedWatchers.{b, before_it, behind_it, counter_read, get_begins, id_begins, id_popped, id_pushed, id_told, none_popped, notify_begun, since_it, the_get, the_id, the_take, the_turn, to_wait, update_begun, update_ended, value_got, wait_begins, word_read}
+use Rattle.script_moments.specs.OneRound.{b}
+use Rattle.script_moments.specs.WorkedSnapshots.{get_begins}
+use Rattle.script_moments.specs.WorkedWatchers.{before_it, behind_it, counter_read, id_begins, id_popped, id_pushed, id_told, none_popped, notify_begun, since_it, the_get, the_id, the_take, the_turn, to_wait, update_begun, update_ended, value_got, wait_begins, word_read}
 use Rattle.script_moments.proofs.WorkedWatcher.{a_get, an_id, answered, lawful}
 use Rattle.script_exchanges.specs.declared.line.DriveLine.TheVariants.{Script, Start, Turn}
-use Rattle.script_exchanges.specs.DrivenParties.{abandoned_by, held_back, if_kept, is_refused, kept_with, let_go}
+use Rattle.script_exchanges.specs.DrivenParties.{abandoned_by, held_back, if_kept, kept_with, let_go}
 use Rattle.script_exchanges.specs.Exchanges.{Exchanges, given, said}
 use Rattle.script_snapshots.proofs.FedLemmas.{met_more}
 use Rattle.script_watches.specs.LawsOfWatches.{IsCalledGet}

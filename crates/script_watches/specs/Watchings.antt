@@ -9,14 +9,14 @@ use Rattle.script_model.specs.declared.line.EventRequest.TheVariants as request
 use Rattle.script_model.specs.declared.line.ScriptLine.{ScriptLine}
 use Rattle.script_model.specs.declared.line.ScriptLine.TheVariants as line
 use Rattle.script_model.specs.declared.reply.EventReply.TheVariants as event_reply
-use Rattle.script_model.specs.ScriptAnswers.{ScriptAnswer, of_event}
+use Rattle.script_model.specs.ScriptAnswers.{ScriptAnswer, is_refused, of_event}
 use Rattle.script_model.specs.ScriptSession.{Session}
 use Rattle.script_model.specs.LawsOfComposition.{state_met}
 use Rattle.script_moments.specs.Moments.{Moment}
 use Rattle.script_moments.specs.Gets.{Round, ended_get}
 use Rattle.script_moments.specs.Watchers.{AskedId, OpenTurn, Turn, Waited, Watcher, calls, getting, idle, waiting}
 use Rattle.script_moments.specs.WatcherLines.{watcher_at}
-use Rattle.script_exchanges.specs.DrivenParties.{Got, got_by, is_refused, party_text}
+use Rattle.script_exchanges.specs.DrivenParties.{Got, got_by, party_text}
 use Rattle.script_snapshots.specs.Takings.{next_of}
 
 -- ---- what is reported

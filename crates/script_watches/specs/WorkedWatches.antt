@@ -2,7 +2,9 @@
 use Rattle.std.specs.Prelude.{◌≡◌, [], ◌∷◌, ◌++◌, codes, map, Some}
 use Rattle.board_model.specs.declared.value.ValueType.TheVariants as type
 use Rattle.script_model.specs.LawsOfComposition.{Pair}
-use Rattle.script_moments.specs.WorkedWatchers.{b, before_it, counter_read, get_begins, id_begins, id_popped, id_pushed, id_told, none_popped, notify_begun, since_it, the_take, update_begun, update_ended, value_got, wait_begins, word_read}
+use Rattle.script_moments.specs.OneRound.{b}
+use Rattle.script_moments.specs.WorkedSnapshots.{get_begins}
+use Rattle.script_moments.specs.WorkedWatchers.{before_it, counter_read, id_begins, id_popped, id_pushed, id_told, none_popped, notify_begun, since_it, the_take, update_begun, update_ended, value_got, wait_begins, word_read}
 use Rattle.script_exchanges.specs.declared.line.DriveLine.TheVariants.{Script, Start, Turn}
 use Rattle.script_exchanges.specs.Exchanges.{Exchange, Exchanges, given, said}
 use Rattle.script_watches.specs.LawsOfWatches.{IsCalledGet}

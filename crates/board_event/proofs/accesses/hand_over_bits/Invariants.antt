@@ -1,9 +1,8 @@
 use Rattle.std.proofs.Common.{◌≤◌, ◌+◌, ◌-◌, ◌^◌}
 use Rattle.std.specs.Prelude.{◌==◌}
 use Rattle.std.specs.Int.{bit_at}
-use Rattle.board_event_model.specs.Ids.{ids_where}
+use Rattle.board_event_model.specs.Ids.{ids_of_bits, ids_where}
 use Rattle.board_event.specs.LentForms.{CallsOn}
-use Rattle.board_event.specs.Accesses.{ids_of_bits}
 use Rattle.board_event.proofs.accesses.hand_over_bits.Given as goal
 
 abbrev pub invariant-loop-bit : goal.invariant-loop-bit

@@ -1,5 +1,5 @@
 use Rattle.std.proofs.Common.{◌≡◌, ◌++◌}
-use Rattle.script_event_rows.specs.EventCalls.{ids_of_bits}
+use Rattle.board_event_model.specs.Ids.{ids_of_bits}
 use Rattle.script_event_rows.proofs.reports.report_bits.Given as goal
 
 -- the ids of the bits so far were reported

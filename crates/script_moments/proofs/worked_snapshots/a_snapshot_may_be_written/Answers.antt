@@ -5,8 +5,9 @@ use Rattle.script_model.specs.ScriptSession.{IsLawful, Session}
 use Rattle.script_model.specs.LawsOfComposition.{state_met}
 use Rattle.script_moments.specs.Moments.{moments, own}
 use Rattle.script_moments.specs.Gets.{IsGet}
+use Rattle.script_moments.specs.OneRound.{b}
 use Rattle.script_moments.specs.Snapshots.{moments_of_snapshot}
-use Rattle.script_moments.specs.WorkedSnapshots.{a_snapshot, b, before_it, since_it, the_get, to_three, to_two}
+use Rattle.script_moments.specs.WorkedSnapshots.{a_snapshot, before_it, since_it, the_get, to_three, to_two}
 use Rattle.script_moments.proofs.worked_snapshots.a_snapshot_may_be_written.Goals as goal
 
 lawful : IsLawful (before_it ++ since_it)

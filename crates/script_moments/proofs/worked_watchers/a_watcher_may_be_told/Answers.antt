@@ -1,8 +1,9 @@
 use Rattle.std.proofs.Common.{◌≡◌, refl}
 use Rattle.script_model.specs.LawsOfComposition.{state_met}
 use Rattle.script_moments.specs.Moments.{moments, own}
+use Rattle.script_moments.specs.OneRound.{b}
 use Rattle.script_moments.specs.Watchers.{moments_of_watcher}
-use Rattle.script_moments.specs.WorkedWatchers.{a_watcher, b, before_it, since_it}
+use Rattle.script_moments.specs.WorkedWatchers.{a_watcher, before_it, since_it}
 use Rattle.script_moments.proofs.WorkedWatcher.{a_turn, an_id, lawful}
 use Rattle.script_moments.proofs.worked_watchers.a_watcher_may_be_told.Goals as goal
 

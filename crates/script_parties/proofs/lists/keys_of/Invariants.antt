@@ -1,5 +1,5 @@
 use Rattle.std.proofs.Common.{◌≡◌, ◌++◌, drop, map}
-use Rattle.script_parties.specs.Overview.{key_shown}
+use Rattle.board_model.specs.TypeTable.{key_shown}
 use Rattle.script_parties.proofs.lists.keys_of.Given as goal
 
 abbrev pub invariant-loop-entry : goal.invariant-loop-entry

@@ -1,5 +1,5 @@
 use Rattle.std.proofs.Common.{◌≡◌, ◌++◌, drop, map}
-use Rattle.script_things.specs.Listings.{key_shown}
+use Rattle.board_model.specs.TypeTable.{key_shown}
 use Rattle.script_things.proofs.listings.keys_of.Given as goal
 
 abbrev pub invariant-loop-entry : goal.invariant-loop-entry

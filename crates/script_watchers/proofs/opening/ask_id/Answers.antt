@@ -1,6 +1,5 @@
 use Rattle.std.proofs.Common.{◌≡◌, ℕ, false, List, [], ◌∷◌, ◌++◌, sym, ap, ◌∙◌, Some, None}
-use Rattle.script_model.specs.ScriptAnswers.{script_answer_text}
-use Rattle.script_exchanges.specs.DrivenParties.{is_refused}
+use Rattle.script_model.specs.ScriptAnswers.{is_refused, script_answer_text}
 use Rattle.script_exchanges.specs.Exchanges.{given, told_text}
 use Rattle.script_watches.specs.WatchExchanges.{id_line}
 use Rattle.script_watchers.proofs.AskLemmas.{asked_so, down_so, is_told, place_more}

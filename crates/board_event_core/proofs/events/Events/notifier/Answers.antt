@@ -1,6 +1,6 @@
 use Rattle.std.specs.Prelude.{◌≡◌, ◌<◌, ◌-◌, ◌^◌, Some}
-use Rattle.board_event_model.specs.EventMemory.{Event}
-use Rattle.board_event_core.specs.EventTable.{HasRoomAt, event_at, with_notifier}
+use Rattle.board_event_model.specs.EventMemory.{Event, with_notifier}
+use Rattle.board_event_core.specs.EventTable.{HasRoomAt, event_at}
 use Rattle.board_event_core.proofs.EventLemmas.{IsAttended-with_notifier, IsEvent-with_notifier}
 use Rattle.board_event_core.proofs.StandingLemmas.{Keeps-notifier, kept_changed, notified_stands, stands_in}
 use Rattle.board_event_core.proofs.events.Events.notifier.Goals as goal

@@ -1,9 +1,9 @@
 use Rattle.std.proofs.Common.{sym}
 use Rattle.std.specs.Prelude.{◌<◌, refl}
-use Rattle.board_event_core.specs.EventTable.{without_notifier}
 use Rattle.board_event_core.proofs.EventLemmas.{IsEvent-without_notifier, counted-without_notifier}
 use Rattle.board_event_core.proofs.StandingLemmas.{changed_stands, drops_event, frees_name, kept_settled, stands_in}
 use Rattle.board_event_core.proofs.events.Events.release_notifier.Goals as goal
+use Rattle.board_event_model.specs.EventMemory.{without_notifier}
 
 pub settle-requires : goal.settle-requires
 settle-requires c = changed_stands c.self.inside.rows c.drop_notifier.new.self c.args.event without_notifier

@@ -1,8 +1,8 @@
 use Rattle.std.proofs.Common.{arith, ◌≤◌, ◌<◌, subst, sym}
 use Rattle.board_event_model.specs.declared.call.WaitStage.{WaitStage}
-use Rattle.board_event_model.specs.WaitCalls.{Wait}
+use Rattle.board_event_model.specs.WaitCalls.{Wait, wait_of}
 use Rattle.board_event_core.specs.Passing.{word_at}
-use Rattle.board_event_core.specs.Waits.{IsStage, wait_of}
+use Rattle.board_event_core.specs.Waits.{IsStage}
 use Rattle.board_event_core.proofs.PassLemmas.{goes_to_scan, goes_to_swap}
 use Rattle.board_event_core.proofs.wait_call.WaitCall.go_on_to.Goals as goal
 

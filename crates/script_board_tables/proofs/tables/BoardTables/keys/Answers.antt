@@ -2,8 +2,7 @@ use Rattle.std.proofs.Common.{◌≡◌, Option, Some, map, ◌∙◌, rules}
 use Rattle.std.specs.Prelude.{find}
 use Rattle.board_model.specs.declared.tables.Board.{Board}
 use Rattle.board_model.specs.Tables.{is_numbered}
-use Rattle.board_model.specs.TypeTable.{key_type_of}
-use Rattle.script_things.specs.Listings.{key_shown}
+use Rattle.board_model.specs.TypeTable.{key_shown, key_type_of}
 use Rattle.script_board_tables.proofs.Shown.{board_shown}
 use Rattle.script_board_tables.proofs.tables.BoardTables.keys.Goals as goal
 

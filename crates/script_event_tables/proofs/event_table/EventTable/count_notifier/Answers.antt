@@ -1,18 +1,18 @@
 use Rattle.std.proofs.Common.{◌∙◌, ◌-◌, ◌<◌, ◌^◌}
 use Rattle.std.proofs.lemmas.List.{length-set}
+use Rattle.board_event_model.specs.EventMemory.{with_notifier}
 use Rattle.board_event_model.specs.EventSessions.{event_of}
 use Rattle.script_event_rows.specs.EventRows.{StandsFor}
-use Rattle.script_event_tables.specs.EventTables.{one_notifier_more}
 use Rattle.script_event_tables.proofs.TableLemmas.{both, changed_owners, changed_rows, row_of}
 use Rattle.script_event_tables.proofs.event_table.EventTable.count_notifier.Goals as goal
 
 pub returns : goal.returns
 returns c = λ s are. record {
   count = length-set c.args.self.now.rows.items (c.args.number - 1) c.add_notifier.new.self ∙ are.count;
-  rows = changed_rows c.args.self.now.rows.items s.stands c.args.number c.index_mut-row.result.now c.add_notifier.new.self are.rows c.requires.made.first c.requires.made.last c.index_mut-row.ensures.value one_notifier_more c.add_notifier.ensures;
+  rows = changed_rows c.args.self.now.rows.items s.stands c.args.number c.index_mut-row.result.now c.add_notifier.new.self are.rows c.requires.made.first c.requires.made.last c.index_mut-row.ensures.value with_notifier c.add_notifier.ensures;
   names = are.names;
   each = are.each;
-  owners = changed_owners c.args.self.now.listeners s.stands c.args.number one_notifier_more are.owners;
+  owners = changed_owners c.args.self.now.listeners s.stands c.args.number with_notifier are.owners;
 }
 
 pub add_notifier-requires : goal.add_notifier-requires

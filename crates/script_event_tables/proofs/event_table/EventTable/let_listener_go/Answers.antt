@@ -1,6 +1,6 @@
 use Rattle.std.proofs.Common.{◌∙◌, ◌-◌}
 use Rattle.std.proofs.lemmas.List.{length-set}
-use Rattle.script_event_tables.specs.EventTables.{without_listener}
+use Rattle.board_event_model.specs.EventMemory.{without_listener}
 use Rattle.script_event_tables.proofs.TableLemmas.{changed_owners, changed_rows}
 use Rattle.script_event_tables.proofs.event_table.EventTable.let_listener_go.Goals as goal
 

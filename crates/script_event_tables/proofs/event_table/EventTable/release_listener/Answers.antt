@@ -1,4 +1,5 @@
-use Rattle.script_event_tables.specs.EventTables.{without_listener, with_changed}
+use Rattle.board_event_model.specs.EventMemory.{without_listener}
+use Rattle.script_event_tables.specs.EventTables.{with_changed}
 use Rattle.script_event_tables.proofs.event_table.EventTable.release_listener.Goals as goal
 
 pub returns : goal.returns
