@@ -11,7 +11,7 @@ ghost use Rattle.script_loop.specs.Runs.{stream_of};
 ghost use Rattle.script_machine.specs.Counters.{EntryStands};
 
 use crate::summary::{Counts, summary_text};
-use board_cell::PlainWords;
+use board_cell::SeatWords;
 use board_layout::Text;
 use itoa::Buffer;
 use script_loop::{LineError, ScriptError, Sink, write_whole};
@@ -21,7 +21,7 @@ use std::alloc::{AllocError, Global};
 /// A machine, the answer to the last line that it ran, and what is counted over all of them.
 #[derive(Drop)]
 pub(crate) struct Generator {
-    pub(crate) machine: Machine<PlainWords>,
+    pub(crate) machine: Machine<SeatWords>,
     pub(crate) answer: Vec<u8>,
     pub(crate) counts: Counts,
 }
