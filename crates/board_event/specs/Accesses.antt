@@ -1,13 +1,11 @@
 -- One access of a call. No clause of a public call cites it.
-use Rattle.std.specs.Prelude.{◌≡◌, ◌≤◌, ℕ, ◌+◌, ◌-◌, ◌^◌, ◌==◌, List, IsSomeAnd, Option, Some, None, ⊤, ◌⊎◌}
-use Rattle.std.specs.Int.{bit_at}
+use Rattle.std.specs.Prelude.{◌≡◌, ◌≤◌, ℕ, ◌+◌, ◌-◌, ◌^◌, IsSomeAnd, Option, Some, None, ⊤, ◌⊎◌}
 use Rattle.board_names.specs.declared.errors.event.NotifierNotifyError.TheVariants as error
 use Rattle.board_event_model.specs.declared.access.EventAnswer.{EventAnswer}
 use Rattle.board_event_model.specs.declared.call.EventProgress.{EventProgress}
 use Rattle.board_event_model.specs.declared.call.EventProgress.TheVariants as progress
 use Rattle.board_event_model.specs.declared.call.NotifyStage.{NotifyStage}
 use Rattle.board_event_model.specs.declared.call.NotifyStage.TheVariants as notify
-use Rattle.board_event_model.specs.Ids.{ids_where}
 use Rattle.board_event_model.specs.EventMemory.{IsRight, after}
 use Rattle.board_event_model.specs.NotifyCalls.{Notify, notify_owed, notify_turn}
 use Rattle.board_event_model.specs.WaitCalls.{Wait, wait_owed, wait_turn}

@@ -1,6 +1,5 @@
 -- What clauses see of a bit set: its greatest id and its ids; and the words that hold them.
-use Rattle.std.specs.Prelude.{◌≡◌, not, ℕ, ◌*◌, ◌/◌, ◌%◌, ◌<◌, ◌≤◌, Bool, true, false, Option, Some, None, [], ◌∷◌, ⊤, ◌==◌, List, length, slice_index, refl}
-use Rattle.std.specs.Int.{bit_at}
+use Rattle.std.specs.Prelude.{◌≡◌, not, ℕ, ◌*◌, ◌<◌, ◌≤◌, true, false, Option, Some, None, [], ◌∷◌, ⊤, ◌==◌, List, length, refl}
 use Rattle.std.specs.List.{FoldsTo, list_any}
 use Rattle.std.specs.Coded.{Coded, code_by, coded×, coded_ℕ}
 use Rattle.std.specs.FinSet as set

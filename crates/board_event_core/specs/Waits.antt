@@ -1,8 +1,7 @@
 -- What holds of every wait. No clause of a public call cites it.
-use Rattle.std.specs.Prelude.{ℕ, Bool, ◌<◌, ◌≤◌, ◌^◌, ⊤}
+use Rattle.std.specs.Prelude.{ℕ, ◌<◌, ◌≤◌, ◌^◌, ⊤}
 use Rattle.board_event_model.specs.declared.call.WaitStage.{WaitStage}
 use Rattle.board_event_model.specs.declared.call.WaitStage.TheVariants as wait
-use Rattle.board_event_model.specs.declared.call.WaitMode.{WaitMode}
 use Rattle.board_event_model.specs.WaitCalls.{Wait}
 
 -- a stage's word is one of the set's, and fewer than 513 ids were taken before a pop

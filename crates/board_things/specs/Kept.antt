@@ -1,5 +1,5 @@
 -- What is kept of the things: each stands under its number, and the kept numbers are the counts over them. No public clause speaks of this.
-use Rattle.std.specs.Prelude.{◌≡◌, ℕ, ◌+◌, ◌<◌, ◌≤◌, ◌==◌, ◌&&◌, Bool, not, if◌then◌else◌, nat_eq, count_by, List, Option, Some, None, IfSome}
+use Rattle.std.specs.Prelude.{◌≡◌, ℕ, ◌+◌, ◌<◌, ◌≤◌, ◌==◌, ◌&&◌, Bool, not, nat_eq, count_by, List, Option, Some, None, IfSome}
 use Rattle.std.specs.HashMap.{HashMap, get}
 use Rattle.board_model.specs.declared.tables.Kind.{Kind}
 use Rattle.board_model.specs.declared.tables.Thing.{Thing}

@@ -1,7 +1,5 @@
 -- What a checker keeps of a call on an event that runs, and which call of the definitions it stands for.
-use Rattle.std.specs.Prelude.{◌≡◌, ℕ, ◌+◌, ◌-◌, Bool, ◌==◌, if◌then◌else◌, List, [], ◌∷◌, ◌++◌, Option, Some, None, IsSomeAnd}
-use Rattle.std.specs.Int.{bit_at}
-use Rattle.board_event_model.specs.Ids.{ids_where}
+use Rattle.std.specs.Prelude.{◌≡◌, ℕ, ◌+◌, ◌-◌, Bool, List, ◌++◌, Option, Some, None, IsSomeAnd}
 use Rattle.board_event_model.specs.declared.access.EventAccess.{EventAccess}
 use Rattle.board_event_model.specs.declared.access.EventAnswer.{EventAnswer}
 use Rattle.board_event_model.specs.declared.call.EventProgress.{EventProgress}

@@ -1,6 +1,5 @@
 -- The ids of a set as words of 64 bits.
-use Rattle.std.specs.Prelude.{◌≡◌, ℕ, ◌/◌, ◌%◌, Bool, ◌==◌, List, length, slice_index}
-use Rattle.std.specs.Int.{bit_at}
+use Rattle.std.specs.Prelude.{◌≡◌, ℕ, List, length}
 use Rattle.board_event_model.specs.Ids.{Ids, has, is_set}
 
 -- the words have exactly the ids of the set

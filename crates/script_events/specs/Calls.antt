@@ -1,12 +1,10 @@
 -- What the parts of a call do. No clause of a public call cites what follows.
-use Rattle.std.specs.Prelude.{◌≡◌, ◌≢◌, ℕ, ◌+◌, ◌-◌, ◌*◌, ◌<◌, ◌^◌, Bool, false, not, ◌&&◌, ◌==◌, if◌then◌else◌, List, [], ◌∷◌, ◌++◌, Option, Some, None, is_some, IsSomeAnd, IsSome, Result, Ok, Err, ⊤}
-use Rattle.std.specs.Int.{bit_at}
+use Rattle.std.specs.Prelude.{◌≡◌, ◌≢◌, ℕ, ◌+◌, ◌-◌, ◌*◌, ◌<◌, ◌^◌, Bool, false, not, ◌&&◌, if◌then◌else◌, List, [], ◌∷◌, ◌++◌, Option, Some, None, is_some, IsSomeAnd, IsSome, Result, Ok, Err, ⊤}
 use Rattle.board_event_model.specs.declared.call.EventProgress.{EventProgress}
 use Rattle.board_event_model.specs.declared.call.EventProgress.TheVariants as progress
 use Rattle.board_event_model.specs.declared.call.NotifyStage.TheVariants as notify
 use Rattle.board_event_model.specs.declared.call.WaitStage.TheVariants as wait
 use Rattle.board_event_model.specs.EventMemory.{Event, IsRight, after}
-use Rattle.board_event_model.specs.Ids.{ids_where}
 use Rattle.board_event_model.specs.EventCalls.{EventCall, a_notify, a_wait, is_last, is_timed, is_waiting, owed, reported, turn}
 use Rattle.board_event_core.specs.EventTable.{CanPerformAt, EventTable, changed, event_at, with_gone}
 use Rattle.board_event_core.specs.declared.steps.EventStep.{EventStep}

@@ -1,5 +1,5 @@
 -- A watcher that was worked out by hand: b is told of an update by a queue of ids, and gets the new value.
-use Rattle.std.specs.Prelude.{ℕ, List, [], ◌∷◌, ◌++◌, codes, map, None, true}
+use Rattle.std.specs.Prelude.{[], ◌∷◌, ◌++◌, codes, map, None, true}
 use Rattle.board_event_model.specs.declared.access.EventAccess.TheVariants as event_access
 use Rattle.board_event_model.specs.declared.access.EventAnswer.TheVariants as event_answer
 use Rattle.board_event_model.specs.declared.call.WaitMode.TheVariants as mode

@@ -1,12 +1,10 @@
 -- What is told of a board.
-use Rattle.std.specs.Prelude.{ℕ, List, [], map, take, Option, Some, None}
+use Rattle.std.specs.Prelude.{ℕ, List, [], map, Option, Some, None}
 use Rattle.board_model.specs.declared.tables.Board.{Board}
-use Rattle.board_model.specs.declared.tables.Entry.{Entry}
 use Rattle.board_model.specs.declared.value.Key.{Key}
-use Rattle.board_model.specs.declared.value.KeyType.{KeyType}
 use Rattle.board_model.specs.Tables.{Tables}
 use Rattle.board_model.specs.Things.{Standing}
-use Rattle.board_model.specs.TypeTable.{key_of, key_shown, key_type_of}
+use Rattle.board_model.specs.TypeTable.{key_shown, key_type_of}
 
 -- the keys of a board, each from the first bytes that its entry keeps
 abbrev pub keys_shown : Option Board → List Key
