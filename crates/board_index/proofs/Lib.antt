@@ -1,3 +1,4 @@
 pub mod Beside
 mod Called
 pub mod Indexed
+pub mod KeyPlaces

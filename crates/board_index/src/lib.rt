@@ -13,6 +13,7 @@ mod board_row;
 mod boards;
 mod entry_row;
 mod kept_type;
+mod key_places;
 mod new_board;
 
 pub use board_row::{BoardParts, BoardRow};

@@ -1,5 +1,5 @@
 -- Keys as values.
-use Rattle.std.specs.Prelude.{◌≡◌, ℕ, zero, suc, ◌<◌, ◌≤◌, Bool, List, [], ◌∷◌, take, drop}
+use Rattle.std.specs.Prelude.{◌≡◌, ℕ, zero, suc, ◌<◌, ◌≤◌, Bool, true, List, [], ◌∷◌, length, slice_index, take, drop}
 use denote.Bor.{Bor}
 use Rattle.board_layout.specs.Bytes.{little}
 
@@ -31,3 +31,12 @@ same_keys eq value_of size words a b = eq (key_value value_of size words a) (key
 -- whether a key is equal to a value
 abbrev pub is_key : {K : Type 0} → (K → K → Bool) → (List ℕ → K) → ℕ → ℕ → K → List ℕ → Bool
 is_key eq value_of size words key bytes = eq (key_value value_of size words bytes) key
+
+-- the bytes of a key, with those behind them
+pub record IsKeyBytes (bytes : List ℕ) : Type 0 where
+  pub every : length bytes ≡ 64
+  pub each : (i : ℕ) → slice_index bytes i < 256
+
+-- keys that are equal by their type have the same bytes
+abbrev pub IsEqualByBytes : {K : Type 0} → (K → K → Bool) → (List ℕ → K) → ℕ → ℕ → Type 0
+IsEqualByBytes eq value_of size words = (a b : List ℕ) → IsKeyBytes a → IsKeyBytes b → same_keys eq value_of size words a b ≡ true → take size a ≡ take size b

@@ -295,14 +295,44 @@ impl ZeroCopySend for i64 {
     ghost undoes = { i64_again };
 }
 
-impl BoardKey for u8 {}
+#[tactic(auto, using(crate::proofs::EqualBytes::u8_by_bytes))]
+impl BoardKey for u8 {
+    fn is_equal_by_bytes() -> bool {
+        true
+    }
+}
 
-impl BoardKey for u16 {}
+#[tactic(auto, using(crate::proofs::EqualBytes::u16_by_bytes))]
+impl BoardKey for u16 {
+    fn is_equal_by_bytes() -> bool {
+        true
+    }
+}
 
-impl BoardKey for u32 {}
+#[tactic(auto, using(crate::proofs::EqualBytes::u32_by_bytes))]
+impl BoardKey for u32 {
+    fn is_equal_by_bytes() -> bool {
+        true
+    }
+}
 
-impl BoardKey for u64 {}
+#[tactic(auto, using(crate::proofs::EqualBytes::u64_by_bytes))]
+impl BoardKey for u64 {
+    fn is_equal_by_bytes() -> bool {
+        true
+    }
+}
 
-impl BoardKey for i32 {}
+#[tactic(auto, using(crate::proofs::EqualBytes::i32_by_bytes))]
+impl BoardKey for i32 {
+    fn is_equal_by_bytes() -> bool {
+        true
+    }
+}
 
-impl BoardKey for i64 {}
+#[tactic(auto, using(crate::proofs::EqualBytes::i64_by_bytes))]
+impl BoardKey for i64 {
+    fn is_equal_by_bytes() -> bool {
+        true
+    }
+}

@@ -106,4 +106,9 @@ impl ZeroCopySend for [u64; 4] {
 
 impl BoardKey for bool {}
 
-impl BoardKey for [u64; 4] {}
+#[tactic(auto, using(crate::proofs::EqualBytes::four_by_bytes))]
+impl BoardKey for [u64; 4] {
+    fn is_equal_by_bytes() -> bool {
+        true
+    }
+}
