@@ -61,7 +61,7 @@ module _ (p : List ℕ → Bool) where
   found_at k es e =
       let f = found_from 0 k es e in
       let q : k ≡ f.0 = omega (arith, f.1) in
-      f.2.1 ∙ ap (λ (j : ℕ). option_map (placed k) (slice_get es j)) (sym q)
+      f.2 ∙ ap (λ (j : ℕ). option_map (placed k) (slice_get es j)) (sym q)
 
 -- the first entry with the same bytes
 module _ {size : ℕ} {es : List Entry} {places : List ℕ → Option ℕ} (h : AreKeyPlaces size 0 es places) (key : List ℕ) where

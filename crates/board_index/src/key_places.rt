@@ -13,12 +13,19 @@ use std::collections::HashMap;
 // With as many entries or more, a board has an index of its keys. With fewer, they are compared one after another nearly as fast.
 const MANY: usize = 128;
 
+// A key's bytes are bytes, as callers that find one by them need to know.
+fn are_bytes(bytes: [u8; 64])
+    ensures { keys.IsKeyBytes bytes }
+{
+}
+
 // The bytes of a key of this size.
 fn bytes_of(key: &KeyMemory<64>, size: usize) -> &[u8]
     requires { size ≤ 64 }
     ensures front { result.now ≡ take size key.now.bytes }
     ensures bytes { keys.IsKeyBytes key.now.bytes }
 {
+    are_bytes(key.bytes);
     &key.bytes[..size]
 }
 

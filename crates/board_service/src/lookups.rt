@@ -106,5 +106,8 @@ fn entry_with<'a, K: BoardKey>(key: &K, board: &'a BoardRow) -> Option<(u64, &'a
         board.now.entries }
     ensures inside { IfSome result (λ f. f.0 < length board.now.entries) }
 {
-    entry_from::<K>(key, board.entries())
+    match board.entry_by_bytes::<K>(key) {
+        Some(found) => found,
+        None => entry_from::<K>(key, board.entries()),
+    }
 }
