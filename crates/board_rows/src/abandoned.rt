@@ -27,7 +27,7 @@ impl Abandoned {
     // Each run ends with the lines of another party.
     fn holds(&self, rt: &impl Abort, alloc: Global) -> Result<(), Fail> {
         let mut begun = joined(alloc, self.opening)?;
-        let mut call = self.call.to_vec(alloc)?;
+        let mut call = joined(alloc, &[self.call])?;
         call.extend_from_slice(&joined(alloc, self.steps)?)?;
         for (n, line) in call.iter().enumerate() {
             begun.push(*line)?;

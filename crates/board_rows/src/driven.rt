@@ -7,79 +7,57 @@ mod watchers;
 
 use crate::openings::{ONE_NUMBER, SECOND_READ, SECOND_WRITTEN, TWO_NUMBERS, WRITTEN_AND_READ};
 use crate::programs::Program;
-use crate::row::{Part, push_line, push_told};
+use crate::row::push_line;
 use crate::whole::Whole;
 use std::alloc::{AllocError, Global};
 use std::process::Abort;
 use std::test::Fail;
 
-/// Lines of a script. Those that are given to the machine stand each with its answer.
-#[derive(Clone, Copy)]
-enum Lines {
-    /// They are given as they are.
-    Given(Part),
-    /// This line gives each of them.
-    Turns(&'static str, Part),
-    /// One line, those that it gives, and what is said behind them.
-    Line(&'static str, Part, &'static str),
-}
+/// Lines of a script, each in a row of a text, with bars between what stands in it and blanks beside them.
+///
+/// `LINE | ANSWER` is a line that is given to the machine as it is, and so answered. `LINE | GIVEN | ANSWER` is one that gives
+/// another, and `LINE | | TOLD` one that gives none, of which this is told. A row without its line belongs to the line above.
+type Lines = &'static str;
 
 /// Lines, one after another.
 type Scene = &'static [Lines];
 
 /// The one entry of a board is written and read.
-const ONE_ENTRY: Scene = &[Lines::Given(ONE_NUMBER), Lines::Given(WRITTEN_AND_READ)];
+const ONE_ENTRY: Scene = &[ONE_NUMBER, WRITTEN_AND_READ];
 
 /// The same, with a second entry, which `b` reads.
-const BOARD: Scene = &[
-    Lines::Given(TWO_NUMBERS),
-    Lines::Given(WRITTEN_AND_READ),
-    Lines::Given(SECOND_READ),
-];
+const BOARD: Scene = &[TWO_NUMBERS, WRITTEN_AND_READ, SECOND_READ];
 
 /// Two entries are written and read.
-const TWO_ENTRIES: Scene = &[
-    Lines::Given(TWO_NUMBERS),
-    Lines::Given(WRITTEN_AND_READ),
-    Lines::Given(SECOND_READ),
-    Lines::Given(SECOND_WRITTEN),
-];
+const TWO_ENTRIES: Scene = &[TWO_NUMBERS, WRITTEN_AND_READ, SECOND_READ, SECOND_WRITTEN];
 
 impl Whole<'_> {
-    // Adds a line, those that it gives, and what is said behind them.
-    fn push_driven(
-        &mut self,
-        line: &str,
-        gives: &[(&str, &str)],
-        says: &str,
-    ) -> Result<(), AllocError> {
-        push_line(line, &mut self.input)?;
-        for (given, answer) in gives {
+    // Adds a line, or goes on with the last one where it is empty. It gives this line, if any, and that is told then.
+    fn push_driven(&mut self, line: &str, given: &str, told: &str) -> Result<(), AllocError> {
+        if line.is_empty() {
+            self.answered.pop();
+        } else {
+            push_line(line, &mut self.input)?;
+        }
+        if !given.is_empty() {
             self.output.extend_from_slice(b"> ")?;
             push_line(given, &mut self.output)?;
-            push_line(answer, &mut self.output)?;
         }
-        push_told(says, &mut self.output)?;
+        push_line(told, &mut self.output)?;
         self.push_ends()
     }
 
     // Adds lines.
-    fn push_lines(&mut self, lines: &Lines) -> Result<(), AllocError> {
-        match lines {
-            Lines::Given(given) => {
-                for pair in *given {
-                    self.push_driven(pair.0, &[*pair], "")?;
-                }
-                Ok(())
+    fn push_lines(&mut self, lines: Lines) -> Result<(), AllocError> {
+        for row in lines.lines() {
+            if row.trim().is_empty() {
+                continue;
             }
-            Lines::Turns(line, given) => {
-                for pair in *given {
-                    self.push_driven(line, &[*pair], "")?;
-                }
-                Ok(())
-            }
-            Lines::Line(line, gives, says) => self.push_driven(line, gives, says),
+            let (line, rest) = row.split_once('|').unwrap_or((row, ""));
+            let (given, told) = rest.split_once('|').unwrap_or((line, rest));
+            self.push_driven(line.trim(), given.trim(), told.trim())?;
         }
+        Ok(())
     }
 
     fn push_scene(&mut self, scene: Scene) -> Result<(), AllocError> {
@@ -113,6 +91,5 @@ fn tells(
     scenes: &[Scene],
 ) -> Result<(), Fail> {
     let whole = script_of(alloc, program, name, scenes)?;
-    whole.runs_in_pieces(rt, alloc, 0)?;
-    whole.runs_in_pieces(rt, alloc, 1)
+    whole.runs_in_both_ways(rt, alloc)
 }

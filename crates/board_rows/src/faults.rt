@@ -3,6 +3,7 @@ use crate::boards::FIRST_RUN;
 use crate::openings::{ONE_NUMBER, WRITTEN_AND_READ};
 use crate::programs::{Ended, Program};
 use crate::row::{Row, joined};
+use crate::same::same;
 use crate::whole::Whole;
 use crate::{events, limits, loans};
 use board_script::{MemorySink, MemorySource};
@@ -57,7 +58,7 @@ fn many_updates(alloc: Global) -> Result<Whole<'static>, AllocError> {
 #[test]
 fn each_read_may_fail_in_300_lines(rt: HostRuntime) -> Result<(), Fail> {
     let whole = many_updates(rt.alloc())?;
-    assert_eq!(rt; whole.answered.len(), 300);
+    same(&rt, &whole.answered.len(), &300, whole.name);
     whole.ends_as_it_is(&rt, rt.alloc())?;
     whole.ends_at_each_read(&rt, rt.alloc())
 }
@@ -140,19 +141,9 @@ fn what_stands_written_after_a_fault(rt: HostRuntime) -> Result<(), Fail> {
         let writes = fault.failed_writes.to_vec(alloc)?;
         let sink = MemorySink::new(alloc, 100, fault.piece, writes)?;
         let ended = Ended::of(alloc, Program::Scripts, source, sink)?;
-        assert_eq!(rt; ended.status, fault.status, "{}", fault.script);
-        assert_eq!(rt;
-            ended.output.as_slice(),
-            fault.output.as_bytes(),
-            "{}",
-            fault.script
-        );
-        assert_eq!(rt;
-            ended.note.as_slice(),
-            fault.note.as_bytes(),
-            "{}",
-            fault.script
-        );
+        let output = Some(fault.output.as_bytes());
+        let wanted = (fault.status, output, fault.note.as_bytes());
+        same(&rt, &ended.told(), &wanted, fault.script);
     }
     Ok(())
 }

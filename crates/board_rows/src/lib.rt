@@ -31,6 +31,8 @@ mod readers;
 #[cfg(test)]
 mod row;
 #[cfg(test)]
+mod same;
+#[cfg(test)]
 mod sessions;
 #[cfg(test)]
 mod tables;

@@ -1,5 +1,6 @@
 //! Lines outside the grammar, and how long a line and a script may be.
 use crate::row::{PLAIN, Row, Script, all_hold};
+use crate::same::same;
 use board_script::{MemorySink, MemorySource, ScriptError, run_script, run_script_within};
 use std::alloc::{AllocError, Global};
 use std::test::Fail;
@@ -7,14 +8,21 @@ use std::test::Fail;
 pub(crate) const ROWS: [Row; 2] = [
     Row {
         name: "an empty line",
-        lines: &[("abandon a", "gone"), ("", ""), ("abandon b", "")],
+        lines: "
+            abandon a | gone
+                      |
+            abandon b |
+        ",
         status: 5,
         note: "line 2: not in the grammar",
         ..PLAIN
     },
     Row {
         name: "an empty line after a refusal",
-        lines: &[("words 1", "refused noboard"), ("", "")],
+        lines: "
+            words 1 | refused noboard
+                    |
+        ",
         status: 5,
         note: "line 2: not in the grammar",
         ..PLAIN
@@ -81,7 +89,7 @@ fn a_line_has_at_most_4096_bytes(rt: HostRuntime) -> Result<(), Fail> {
     ];
     for (name, len, answer, status, note) in cases {
         let line = long_create(rt.alloc(), name)?;
-        assert_eq!(rt; line.len(), len);
+        same(&rt, &line.len(), &len, name);
         Script {
             name: "a long line",
             lines: &[(&line, answer)],
@@ -130,8 +138,8 @@ fn a_script_has_at_most_so_many_lines(rt: HostRuntime) -> Result<(), Fail> {
         let mut source = MemorySource::new(bytes, 0, Vec::new(alloc));
         let mut sink = MemorySink::new(alloc, 100, 0, Vec::new(alloc))?;
         let ran = run_script_within(alloc, u64::from(limit), &mut source, &mut sink);
-        assert_eq!(rt; ran, result, "{script}");
-        assert_eq!(rt; sink.held(), output.as_bytes(), "{script}");
+        let wanted = (result, output.as_bytes());
+        same(&rt, &(ran, sink.held()), &wanted, script);
     }
     Ok(())
 }
@@ -142,7 +150,8 @@ fn a_script_of_one_line(rt: HostRuntime) -> Result<(), Fail> {
     let alloc = rt.alloc();
     let mut source = MemorySource::new(Vec::from_slice(alloc, b"abandon a")?, 0, Vec::new(alloc));
     let mut sink = MemorySink::new(alloc, 100, 0, Vec::new(alloc))?;
-    assert_eq!(rt; run_script(alloc, &mut source, &mut sink), Ok(()));
-    assert_eq!(rt; sink.held(), b"gone\n".as_slice());
+    let ran = run_script(alloc, &mut source, &mut sink);
+    let wanted = (Ok(()), b"gone\n".as_slice());
+    same(&rt, &(ran, sink.held()), &wanted, "abandon a");
     Ok(())
 }

@@ -2,6 +2,7 @@
 use crate::boards::FIRST_RUN;
 use crate::programs::{Ended, Program, words_of};
 use crate::row::bytes_of;
+use crate::same::same;
 use board_script::{MemorySink, MemorySource};
 use std::alloc::Global;
 use std::process::{Abort, ExitCode};
@@ -135,21 +136,13 @@ const RUNS: [Run; 15] = [
 impl Run {
     fn holds(&self, rt: &impl Abort, alloc: Global) -> Result<(), Fail> {
         let words = words_of(alloc, self.words)?;
-        let (script, _) = bytes_of(alloc, FIRST_RUN.lines)?;
+        let (script, _) = bytes_of(alloc, &FIRST_RUN.all_lines(alloc)?)?;
         let source = MemorySource::new(script, 60, self.failed_reads.to_vec(alloc)?);
         let sink = MemorySink::new(alloc, self.room, 0, self.failed_writes.to_vec(alloc)?)?;
         let ended = Ended::with_words(alloc, self.program, &words, source, sink)?;
-        assert_eq!(rt; ended.status, self.status, "status of {words:?}");
-        assert_eq!(rt;
-            ended.output.as_slice(),
-            self.output.as_bytes(),
-            "output of {words:?}"
-        );
-        assert_eq!(rt;
-            ended.note.as_slice(),
-            self.note.as_bytes(),
-            "note of {words:?}"
-        );
+        let output = Some(self.output.as_bytes());
+        let wanted = (self.status, output, self.note.as_bytes());
+        same(rt, &(&words, ended.told()), &(&words, wanted), "");
         Ok(())
     }
 }
@@ -159,7 +152,7 @@ fn a_process_has_the_status_of_its_program(rt: HostRuntime) -> Result<(), Fail> 
     let alloc = rt.alloc();
     for run in &RUNS {
         let words = words_of(alloc, run.words)?;
-        let (script, _) = bytes_of(alloc, FIRST_RUN.lines)?;
+        let (script, _) = bytes_of(alloc, &FIRST_RUN.all_lines(alloc)?)?;
         let mut source = MemorySource::new(script, 60, run.failed_reads.to_vec(alloc)?);
         let mut sink = MemorySink::new(alloc, run.room, 0, run.failed_writes.to_vec(alloc)?)?;
         let mut notes = MemorySink::new(alloc, 100, 0, Vec::new(alloc))?;

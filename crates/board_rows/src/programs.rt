@@ -84,6 +84,15 @@ impl Ended {
         })
     }
 
+    /// Its status, its output and its note.
+    pub(crate) fn told(&self) -> (u8, Option<&[u8]>, &[u8]) {
+        (
+            self.status,
+            Some(self.output.as_slice()),
+            self.note.as_slice(),
+        )
+    }
+
     /// The program without words.
     pub(crate) fn of(
         alloc: Global,

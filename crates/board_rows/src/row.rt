@@ -2,6 +2,7 @@
 ghost use Rattle.script_model.specs.ScriptSession.{start};
 
 use crate::programs::Program;
+use crate::same::same;
 use crate::whole::Whole;
 use board_cell::{PlainWords, SeatWords};
 use board_check::{Verdict, check};
@@ -11,8 +12,10 @@ use std::alloc::{AllocError, Global};
 use std::process::Abort;
 use std::test::Fail;
 
-/// Lines, each with its answer. It is empty at a line outside the grammar and at those behind it, which have none.
-pub(crate) type Part = &'static [(&'static str, &'static str)];
+/// Lines, each with its answer behind a bar. There is none at a line outside the grammar and at those behind it. Blanks beside a line and an answer are no part of them.
+///
+/// It is one text, since the prover takes that as one value, and each pair of a list of pairs anew in each function that names it.
+pub(crate) type Part = &'static str;
 
 /// A worked script, with the status and the note that a run of it ends with.
 #[derive(Clone, Copy)]
@@ -29,10 +32,25 @@ pub(crate) struct Row {
 pub(crate) const PLAIN: Row = Row {
     name: "",
     opening: &[],
-    lines: &[],
+    lines: "",
     status: 0,
     note: "",
 };
+
+/// Adds the lines of a part, each with its answer.
+pub(crate) fn push_part(
+    part: Part,
+    lines: &mut Vec<(&'static str, &'static str)>,
+) -> Result<(), AllocError> {
+    for row in part.lines() {
+        if row.trim().is_empty() {
+            continue;
+        }
+        let (line, answer) = row.split_once('|').unwrap_or((row, ""));
+        lines.push((line.trim(), answer.trim()))?;
+    }
+    Ok(())
+}
 
 /// The lines of the parts, one after another.
 pub(crate) fn joined(
@@ -41,7 +59,7 @@ pub(crate) fn joined(
 ) -> Result<Vec<(&'static str, &'static str)>, AllocError> {
     let mut lines = Vec::new(alloc);
     for part in parts {
-        lines.extend_from_slice(part)?;
+        push_part(part, &mut lines)?;
     }
     Ok(lines)
 }
@@ -53,7 +71,7 @@ impl Row {
         alloc: Global,
     ) -> Result<Vec<(&'static str, &'static str)>, AllocError> {
         let mut lines = joined(alloc, self.opening)?;
-        lines.extend_from_slice(self.lines)?;
+        push_part(self.lines, &mut lines)?;
         Ok(lines)
     }
 
@@ -91,14 +109,18 @@ impl Script<'_> {
     /// Runs it line by line, over plain words and over words that threads may share, and then as the program does, in one piece and byte by byte. What it answers is checked.
     pub(crate) fn holds(&self, rt: &impl Abort, alloc: Global) -> Result<(), Fail> {
         answers_each_line(rt, alloc, &mut Machine::<PlainWords>::new(alloc), self)?;
+        self.is_answered_on_shared_words(rt, alloc)?;
+        self.runs_on::<PlainWords>(rt, alloc)?;
+        self.runs_on::<SeatWords>(rt, alloc)?;
+        self.runs_as_a_program(rt, alloc)?;
+        self.is_lawful(rt, alloc)
+    }
+
+    fn is_answered_on_shared_words(&self, rt: &impl Abort, alloc: Global) -> Result<(), Fail> {
         let mut machine = Machine::<SeatWords>::new(alloc);
         answers_each_line(rt, alloc, &mut machine, self)?;
         assert!(rt; !machine.is_spent(), "memory of {}", self.name);
-        self.runs_on::<PlainWords>(rt, alloc)?;
-        self.runs_on::<SeatWords>(rt, alloc)?;
-        self.runs_in_pieces(rt, alloc, 0)?;
-        self.runs_in_pieces(rt, alloc, 1)?;
-        self.is_lawful(rt, alloc)
+        Ok(())
     }
 
     // The lines that are answered, each with its answer behind it, are a lawful session.
@@ -115,14 +137,8 @@ impl Script<'_> {
         }
         let mut source = MemorySource::new(session, 0, Vec::new(alloc));
         let verdict = check(alloc, &mut source);
-        assert!(rt;
-            verdict
-                == Ok(Verdict::Lawful {
-                    pairs: pairs as u64
-                }),
-            "verdict on {}",
-            self.name
-        );
+        let pairs = pairs as u64;
+        same(rt, &verdict, &Ok(Verdict::Lawful { pairs }), self.name);
         Ok(())
     }
 
@@ -137,23 +153,23 @@ impl Script<'_> {
             &mut source,
             &mut sink,
         );
-        assert_eq!(rt; sink.held(), output.as_slice(), "output of {}", self.name);
         let told = match ran {
             Ok(_) => String::new(alloc),
             Err(error) => format!(in alloc; "{error}")?,
         };
-        assert_eq!(rt; told.as_str(), self.note, "end of {}", self.name);
+        let found = (sink.held(), told.as_str());
+        same(rt, &found, &(output.as_slice(), self.note), self.name);
         Ok(())
     }
 
-    // Runs it as the program does. Source and sink give and take so many bytes a call, or any number where that is 0.
-    fn runs_in_pieces(&self, rt: &impl Abort, alloc: Global, piece: usize) -> Result<(), Fail> {
+    // Runs it as the program does, in one piece and byte by byte.
+    fn runs_as_a_program(&self, rt: &impl Abort, alloc: Global) -> Result<(), Fail> {
         let mut whole = Whole::new(alloc, Program::Scripts, self.name);
         for (line, answer) in self.lines {
             whole.push(line, answer)?;
         }
         whole.ends_with(self.status, self.note)?;
-        whole.runs_in_pieces(rt, alloc, piece)
+        whole.runs_in_both_ways(rt, alloc)
     }
 }
 

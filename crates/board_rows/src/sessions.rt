@@ -1,4 +1,5 @@
 //! Sessions of few pairs, sessions with a wrong pair, and faults of source and sink.
+use crate::same::same;
 use board_check::{CheckError, Rule, Verdict, check, check_words};
 use board_script::{MemorySink, MemorySource};
 use std::alloc::Global;
@@ -69,7 +70,12 @@ fn no_verdict_is_reached_where_a_read_fails(rt: HostRuntime) -> Result<(), Fail>
     let alloc = rt.alloc();
     let fails = Vec::from_array(alloc, [1])?;
     let mut source = MemorySource::new(Vec::from_slice(alloc, MADE)?, 0, fails);
-    assert_eq!(rt; check(alloc, &mut source), Err(CheckError::ReadFault));
+    same(
+        &rt,
+        &check(alloc, &mut source),
+        &Err(CheckError::ReadFault),
+        "",
+    );
     Ok(())
 }
 
@@ -141,19 +147,25 @@ fn the_rule_is_that_of_the_first_wrong_part(rt: HostRuntime) -> Result<(), Fail>
     ];
     for (more, pair, rule) in cases {
         let mut source = MemorySource::new(with_more(alloc, more)?, 0, Vec::new(alloc));
-        assert!(rt; check(alloc, &mut source) == Ok(Verdict::No { pair, rule }));
+        same(
+            &rt,
+            &check(alloc, &mut source),
+            &Ok(Verdict::No { pair, rule }),
+            "",
+        );
     }
     let wrong = Vec::from_slice(
         alloc,
         b"begin a create f b u64 add u64:1 u64:7\nok\nstep a\ntable = ok 2\n",
     )?;
     let mut source = MemorySource::new(wrong, 0, Vec::new(alloc));
-    assert!(rt;
-        check(alloc, &mut source)
-            == Ok(Verdict::No {
-                pair: 2,
-                rule: Rule::Reply
-            })
+    let pair = 2;
+    let rule = Rule::Reply;
+    same(
+        &rt,
+        &check(alloc, &mut source),
+        &Ok(Verdict::No { pair, rule }),
+        "",
     );
     Ok(())
 }

@@ -1,6 +1,7 @@
 //! A script in bytes with all that a program tells of it, and the ways in which it is run.
 use crate::programs::{Ended, Program};
 use crate::row::{push_line, push_told};
+use crate::same::same;
 use board_script::{MemorySink, MemorySource};
 use std::alloc::{AllocError, Global};
 use std::process::Abort;
@@ -98,19 +99,8 @@ impl<'a> Whole<'a> {
     pub(crate) fn ends_at_each_read(&self, rt: &impl Abort, alloc: Global) -> Result<(), Fail> {
         for call in 0..self.reads() {
             let ended = self.run(alloc, call, self.output.len())?;
-            assert_eq!(rt; ended.status, 3, "{}, read {call}", self.name);
-            assert_eq!(rt;
-                Some(ended.output.as_slice()),
-                self.answers_after(call),
-                "{}, read {call}",
-                self.name
-            );
-            assert_eq!(rt;
-                ended.note.as_slice(),
-                b"read fault\n".as_slice(),
-                "{}, read {call}",
-                self.name
-            );
+            let wanted = (3, self.answers_after(call), b"read fault\n".as_slice());
+            same(rt, &(call, ended.told()), &(call, wanted), self.name);
         }
         Ok(())
     }
@@ -119,35 +109,24 @@ impl<'a> Whole<'a> {
     pub(crate) fn ends_at_each_write(&self, rt: &impl Abort, alloc: Global) -> Result<(), Fail> {
         for call in 0..self.output.len() {
             let ended = self.run(alloc, self.reads(), call)?;
-            assert_eq!(rt; ended.status, 4, "{}, write {call}", self.name);
-            assert_eq!(rt;
-                Some(ended.output.as_slice()),
-                self.output.get(..call),
-                "{}, write {call}",
-                self.name
-            );
-            assert_eq!(rt;
-                ended.note.as_slice(),
-                b"write fault\n".as_slice(),
-                "{}, write {call}",
-                self.name
-            );
+            let wanted = (4, self.output.get(..call), b"write fault\n".as_slice());
+            same(rt, &(call, ended.told()), &(call, wanted), self.name);
         }
         Ok(())
     }
 
     // How a run is to end.
-    fn has_ended(&self, rt: &impl Abort, ended: &Ended) -> Result<(), Fail> {
-        assert_eq!(rt; ended.output, self.output, "output of {}", self.name);
-        assert_eq!(rt; ended.status, self.status, "status of {}", self.name);
-        assert_eq!(rt; ended.note, self.note, "note of {}", self.name);
-        Ok(())
+    fn has_ended(&self, rt: &impl Abort, ended: &Ended) {
+        let output = Some(self.output.as_slice());
+        let wanted = (self.status, output, self.note.as_slice());
+        same(rt, &ended.told(), &wanted, self.name);
     }
 
     /// A call that isn't made can't fail.
     pub(crate) fn ends_as_it_is(&self, rt: &impl Abort, alloc: Global) -> Result<(), Fail> {
         let ended = self.run(alloc, self.reads(), self.output.len())?;
-        self.has_ended(rt, &ended)
+        self.has_ended(rt, &ended);
+        Ok(())
     }
 
     /// Source and sink give and take so many bytes a call, or any number where that is 0.
@@ -160,7 +139,14 @@ impl<'a> Whole<'a> {
         let source = MemorySource::new(self.input.to_vec(alloc)?, piece, Vec::new(alloc));
         let sink = MemorySink::new(alloc, self.output.len(), piece, Vec::new(alloc))?;
         let ended = Ended::of(alloc, self.program, source, sink)?;
-        self.has_ended(rt, &ended)
+        self.has_ended(rt, &ended);
+        Ok(())
+    }
+
+    /// Runs it in one piece, and byte by byte.
+    pub(crate) fn runs_in_both_ways(&self, rt: &impl Abort, alloc: Global) -> Result<(), Fail> {
+        self.runs_in_pieces(rt, alloc, 0)?;
+        self.runs_in_pieces(rt, alloc, 1)
     }
 
     /// Runs it with each call failing in turn, and with none.

@@ -7,18 +7,13 @@ use std::process::Abort;
 use std::test::Fail;
 
 /// The most handles that a snapshot may have.
-const MOST_SNAPPED: Lines = Lines::Line(
-    "snap b h k h k h k h k h k h k h k h k",
-    &[],
-    "snapping b",
-);
+const MOST_SNAPPED: Lines = "snap b h k h k h k h k h k h k h k h k |  | snapping b";
 
 /// The most handles that a watcher may have.
-const MOST_WATCHED: Lines = Lines::Line(
-    "watch b e h h h h h h h h h h h h h h h h",
-    &[("begin b id h", "refused unknown")],
-    "unwatched b",
-);
+const MOST_WATCHED: Lines = "
+    watch b e h h h h h h h h h h h h h h h h | begin b id h | refused unknown
+                                              |              | unwatched b
+";
 
 /// Lines outside the grammar of snapshots.
 const OUTSIDE_SNAPSHOTS: [&'static str; 12] = [
@@ -59,7 +54,7 @@ fn are_outside(
 ) -> Result<(), Fail> {
     for line in outside {
         let mut whole = script_of(alloc, program, line, &[])?;
-        whole.push_lines(&first)?;
+        whole.push_lines(first)?;
         whole.push_outside(line)?;
         whole.ends_with(5, "line 2: not in the grammar")?;
         whole.runs_in_pieces(rt, alloc, 0)?;
@@ -88,24 +83,18 @@ fn lines_are_outside_the_grammar(rt: HostRuntime) -> Result<(), Fail> {
 
 /// A whole snapshot of one entry.
 const ONE_SNAPSHOT: Scene = &[
-    Lines::Line("snap b h", &[], "snapping b"),
-    Lines::Turns(
-        "turn b",
-        &[
-            ("begin b get h", "ok"),
-            ("step b", "read 1:0 1"),
-            ("step b", "read 1:2 7"),
-            ("step b", "read 1:0 1 = u64:7 gen 1"),
-            ("begin b get h", "ok"),
-            ("step b", "read 1:0 1"),
-            ("step b", "read 1:2 7"),
-        ],
-    ),
-    Lines::Line(
-        "turn b",
-        &[("step b", "read 1:0 1 = u64:7 gen 1")],
-        "snapshot b h u64:7 gen 1",
-    ),
+    "
+        snap b h |               | snapping b
+        turn b   | begin b get h | ok
+        turn b   | step b        | read 1:0 1
+        turn b   | step b        | read 1:2 7
+        turn b   | step b        | read 1:0 1 = u64:7 gen 1
+        turn b   | begin b get h | ok
+        turn b   | step b        | read 1:0 1
+        turn b   | step b        | read 1:2 7
+        turn b   | step b        | read 1:0 1 = u64:7 gen 1
+                 |               | snapshot b h u64:7 gen 1
+    ",
 ];
 
 #[test]
