@@ -39,17 +39,24 @@ mkdir "$folder/rows"
         status = 0
         note = ""
     }
-    # A text of a table: one of a line and its answer, or a name or a note.
+    # A text of a table: lines with their answers behind bars, or a name or a note.
     function text(value) {
         if (value ~ /\\/) { print "an escape in " value > "/dev/stderr"; exit 1 }
-        if (type != "Part" && field == "name") begin_row(value)
-        else if (type != "Part" && field == "note") note = value
-        else if (is_answer = !is_answer) line = value
-        else if (type == "Part") { parts[name, ++length_of[name]] = line; parts[name, ++length_of[name]] = value }
-        else write(line, value)
+        if (type == "Part") parts[name] = value
+        else if (field == "name") begin_row(value)
+        else if (field == "note") note = value
+        else part(value)
     }
-    function part(name,    n) {
-        for (n = 1; n <= length_of[name]; n += 2) write(parts[name, n], parts[name, n + 1])
+    function part(value,    rows, count, n, answer) {
+        count = split(value, rows, "\n")
+        for (n = 1; n <= count; n++) {
+            if (rows[n] ~ /^ *$/) continue
+            answer = rows[n]
+            if (!sub(/^[^|]*[|] */, "", answer)) answer = ""
+            sub(/ *([|].*)?$/, "", rows[n])
+            sub(/^ */, "", rows[n])
+            write(rows[n], answer)
+        }
     }
     function token(value) {
         if (value ~ /^[[({]$/) depth++
@@ -57,16 +64,17 @@ mkdir "$folder/rows"
         if (state == "") { if (value == "const") state = "name" }
         else if (state == "name") { name = value; type = ""; state = "type" }
         else if (state == "type") { if (value == "=") state = "value"; else if (value != ":") type = type value }
-        else if (value == ";" && depth == 0) { end_row(); state = field = ""; is_answer = 0 }
+        else if (value == ";" && depth == 0) { end_row(); state = field = "" }
         else if (type != "Part" && type !~ /^(Row|\[Row;[0-9]+\])$/) return
         else if (value ~ /^"/) text(substr(value, 2, length(value) - 2))
         else if (value ~ /^[0-9]/ && field == "status") status = value
         else if (value ~ /^[a-z]/) field = value
-        else if (field == "opening" && value in length_of) part(value)
+        else if (field == "opening" && value in parts) part(parts[value])
     }
     /^ *\/\// { next }
     {
-        while (match($0, /"([^"\\]|\\.)*"|[A-Za-z_][A-Za-z_0-9]*|[0-9]+|[^ ]/)) {
+        while (gsub(/"/, "&") % 2 && (getline more) > 0) $0 = $0 "\n" more
+        while (match($0, /"([^"\\]|\\.)*"|[A-Za-z_][A-Za-z_0-9]*|[0-9]+|[^ \n]/)) {
             token(substr($0, RSTART, RLENGTH))
             $0 = substr($0, RSTART + RLENGTH)
         }
