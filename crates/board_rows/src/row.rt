@@ -12,7 +12,7 @@ use std::alloc::{AllocError, Global};
 use std::process::Abort;
 use std::test::Fail;
 
-/// Lines, each with its answer behind a bar. There is none at a line outside the grammar and at those behind it. Blanks beside a line and an answer are no part of them.
+/// Lines, each with its answer behind a bar. There is none at a line outside the grammar and at those behind it. No line has a bar, and blanks beside a line and an answer are no part of them.
 ///
 /// It is one text, since the prover takes that as one value, and each pair of a list of pairs anew in each function that names it.
 pub(crate) type Part = &'static str;

@@ -1,5 +1,5 @@
 //! Snapshots that are taken, lines that are held back, and turns that end a snapshot.
-use crate::driven::{Lines, Scene, TWO_ENTRIES, tells};
+use crate::driven::{Scene, TWO_ENTRIES, tells};
 use crate::programs::Program;
 use std::test::Fail;
 
