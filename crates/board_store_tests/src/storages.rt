@@ -1,4 +1,5 @@
 //! Static storages: filled, opened, released and removed by name, and opened while another thread fills one.
+use crate::apart::{goes_alone, others};
 use crate::same::same;
 use board_names::{
     Configuration, FileName, NamedConceptBuilder, NamedConceptConfiguration,
@@ -43,14 +44,13 @@ fn is_filled<R: Wait + Abort, S: StaticStorage + Drop>(
     Ok(())
 }
 
-// What is opened under a name has its bytes: so many, which stand in the front of these three.
+// What this builder opens has its bytes: so many, which stand in the front of these three.
 fn has_bytes<R: Wait + Abort, S: StaticStorage + Drop>(
     rt: &R,
-    registry: &S::Registry,
-    name: &FileName,
+    builder: S::Builder,
     (len, wanted): (u64, [u8; 3]),
 ) -> Result<S, Fail> {
-    let storage = S::Builder::new(name, registry)?.open(rt, 0)?;
+    let storage = builder.open(rt, 0)?;
     let mut bytes = [0u8; 3];
     same(
         rt,
@@ -67,7 +67,8 @@ fn is_opened_and_released<R: Wait + Abort, S: StaticStorage + Drop>(
     registry: &S::Registry,
     (name, config): (&FileName, &Configuration),
 ) -> Result<(), Fail> {
-    let mut storage: S = has_bytes(rt, registry, name, (2, [4, 5, 0]))?;
+    let builder = S::Builder::new(name, registry)?;
+    let mut storage = has_bytes::<_, S>(rt, builder, (2, [4, 5, 0]))?;
     storage.acquire_ownership();
     storage.release(rt);
     let held = S::does_exist_cfg(rt, registry, name, config);
@@ -97,8 +98,10 @@ fn stand_beside<R: Wait + Abort>(
     registry: &StaticRegistry,
     (before, behind): (&FileName, &FileName),
 ) -> Result<(), Fail> {
-    let _first: Storage = has_bytes(rt, registry, before, (1, [1, 0, 0]))?;
-    let _last: Storage = has_bytes(rt, registry, behind, (3, [2, 3, 6]))?;
+    let first = Builder::new(before, registry)?;
+    let _first = has_bytes::<_, Storage>(rt, first, (1, [1, 0, 0]))?;
+    let last = Builder::new(behind, registry)?;
+    let _last = has_bytes::<_, Storage>(rt, last, (3, [2, 3, 6]))?;
     Ok(())
 }
 
@@ -114,6 +117,65 @@ fn any_static_storage_is_used_by_the_traits(rt: HostRuntime) -> Result<(), Fail>
     is_opened_and_released::<_, Storage>(&rt, &registry, (&name, &config))?;
     is_removed::<_, Storage>(&rt, alloc, &registry, (&name, &config))?;
     stand_beside(&rt, &registry, (&before, &behind))
+}
+
+// What is filled under this configuration is opened under it, and let go.
+fn is_filled_apart<R: Wait + Abort, S: StaticStorage + Drop>(
+    rt: &R,
+    alloc: Global,
+    registry: &S::Registry,
+    (name, config): (&FileName, &Configuration),
+) -> Result<(), Fail> {
+    let builder = S::Builder::new(name, registry)?.config(config);
+    let _filled = builder
+        .create_locked(rt, alloc)?
+        .unlock(rt, alloc, &[4, 5])?;
+    let builder = S::Builder::new(name, registry)?.config(config);
+    let storage = has_bytes::<_, S>(rt, builder, (2, [4, 5, 0]))?;
+    storage.release(rt);
+    Ok(())
+}
+
+// And what is made at once.
+fn is_made_apart<R: Wait + Abort, S: StaticStorage + Drop>(
+    rt: &R,
+    alloc: Global,
+    registry: &S::Registry,
+    (name, config): (&FileName, &Configuration),
+) -> Result<(), Fail> {
+    let builder = S::Builder::new(name, registry)?.config(config);
+    let _made = builder.create(rt, alloc, &[6])?;
+    let builder = S::Builder::new(name, registry)?.config(config);
+    let _opened = has_bytes::<_, S>(rt, builder, (1, [6, 0, 0]))?;
+    Ok(())
+}
+
+// The name has a storage of its own under each configuration.
+fn are_apart<R: Wait + Abort, S: StaticStorage + Drop>(
+    rt: &R,
+    alloc: Global,
+    registry: &S::Registry,
+    (name, usual): (&FileName, &Configuration),
+) -> Result<(), Fail> {
+    for other in others(&S::default_suffix())? {
+        is_filled_apart::<_, S>(rt, alloc, registry, (name, &other))?;
+        is_made_apart::<_, S>(rt, alloc, registry, (name, &other))?;
+        goes_alone::<_, S>(rt, alloc, registry, name, (usual, &other))?;
+    }
+    Ok(())
+}
+
+#[test]
+fn storages_of_one_name_differ_by_their_configuration(rt: HostRuntime) -> Result<(), Fail> {
+    let alloc = rt.alloc();
+    let registry = StaticRegistry::new(alloc)?;
+    let (name, usual) = one_name::<Storage>()?;
+    let builder = Builder::new(&name, &registry)?.config(&usual);
+    let _made = builder.create(&rt, alloc, &[1, 2, 3])?;
+    are_apart::<_, Storage>(&rt, alloc, &registry, (&name, &usual))?;
+    let builder = Builder::new(&name, &registry)?.config(&usual);
+    let _opened = has_bytes::<_, Storage>(&rt, builder, (3, [1, 2, 3]))?;
+    Ok(())
 }
 
 fn unlock_late<R: Wait + Clock>(

@@ -97,20 +97,45 @@ fn early<R: Wait + Abort>(rt: &R, alloc: Global, registry: &StaticRegistry) -> R
     Ok(())
 }
 
+fn is_opened<R: Wait + Abort>(rt: &R, registry: &StaticRegistry) -> Result<(), Fail> {
+    let opened = builder(b"x", registry)?.open(rt, 0)?;
+    shows_its_bytes(rt, &opened);
+    Ok(())
+}
+
+// A storage that is filled isn't made anew, and keeps its bytes.
+fn stays<R: Wait + Abort>(rt: &R, alloc: Global, registry: &StaticRegistry) -> Result<(), Fail> {
+    let again = builder(b"x", registry)?.create(rt, alloc, &[9]);
+    same(
+        rt,
+        &again.err(),
+        &Some(StaticStorageCreateError::AlreadyExists),
+    );
+    let locked = builder(b"x", registry)?.create_locked(rt, alloc);
+    same(
+        rt,
+        &locked.err(),
+        &Some(StaticStorageCreateError::AlreadyExists),
+    );
+    is_opened(rt, registry)
+}
+
+// An absent name isn't waited for: so many looks would never end.
 fn late<R: Wait + Abort>(rt: &R, alloc: Global, registry: &StaticRegistry) -> Result<(), Fail> {
-    let gone = builder(b"x", registry)?.open(rt, 0);
+    let gone = builder(b"x", registry)?.open(rt, u32::MAX);
     same(rt, &gone.err(), &Some(StaticStorageOpenError::DoesNotExist));
     let empty = builder(b"x", registry)?.create(rt, alloc, &[])?;
     assert!(rt; empty.is_empty());
     lets_go(rt, alloc, registry)
 }
 
-// A storage that was never filled is let go with its name.
+// A storage that was never filled is let go with its name, and the other name stays.
 fn lets_go<R: Wait + Abort>(rt: &R, alloc: Global, registry: &StaticRegistry) -> Result<(), Fail> {
     let other = builder(b"y", registry)?.create_locked(rt, alloc)?;
     same(rt, other.name(), &FileName::new(b"y")?);
     other.release(rt);
     same(rt, &exists(rt, b"y", registry)?, &Ok(false));
+    same(rt, &exists(rt, b"x", registry)?, &Ok(true));
     Ok(())
 }
 
@@ -151,6 +176,7 @@ fn a_storage_is_filled_once(rt: HostRuntime) -> Result<(), Fail> {
     early(&rt, alloc, &registry)?;
     let storage = locked.unlock(&rt, alloc, &[1, 2, 3])?;
     shows_its_bytes(&rt, &storage);
+    stays(&rt, alloc, &registry)?;
     storage.release(&rt);
     late(&rt, alloc, &registry)
 }
@@ -229,24 +255,49 @@ fn names_and_configurations_differ(rt: HostRuntime) -> Result<(), Fail> {
     Ok(())
 }
 
+// A locked storage whose name is gone.
+fn removed<R: Wait + Abort>(
+    rt: &R,
+    alloc: Global,
+    registry: &StaticRegistry,
+) -> Result<Locked, Fail> {
+    let locked = builder(b"x", registry)?.create_locked(rt, alloc)?;
+    let x = FileName::new(b"x")?;
+    same(
+        rt,
+        &Storage::remove_cfg(rt, registry, &x, &usual()),
+        &Ok(true),
+    );
+    Ok(locked)
+}
+
+fn is_not_unlocked<R: Wait + Abort>(rt: &R, alloc: Global, locked: Locked) {
+    let gone = locked.unlock(rt, alloc, &[9]);
+    same(
+        rt,
+        &gone.err(),
+        &Some(StaticStorageUnlockError::InternalError),
+    );
+}
+
 #[test]
 fn what_is_gone_is_not_unlocked(rt: HostRuntime) -> Result<(), Fail> {
     let alloc = rt.alloc();
     let registry = StaticRegistry::new(alloc)?;
-    let locked = builder(b"x", &registry)?.create_locked(&rt, alloc)?;
-    let x = FileName::new(b"x")?;
-    same(
-        &rt,
-        &Storage::remove_cfg(&rt, &registry, &x, &usual()),
-        &Ok(true),
-    );
-    let gone = locked.unlock(&rt, alloc, &[1]);
-    same(
-        &rt,
-        &gone.err(),
-        &Some(StaticStorageUnlockError::InternalError),
-    );
+    let locked = removed(&rt, alloc, &registry)?;
+    is_not_unlocked(&rt, alloc, locked);
+    same(&rt, &exists(&rt, b"x", &registry)?, &Ok(false));
     Ok(())
+}
+
+#[test]
+fn what_another_made_anew_is_not_unlocked(rt: HostRuntime) -> Result<(), Fail> {
+    let alloc = rt.alloc();
+    let registry = StaticRegistry::new(alloc)?;
+    let locked = removed(&rt, alloc, &registry)?;
+    let _anew = builder(b"x", &registry)?.create(&rt, alloc, &[1, 2, 3])?;
+    is_not_unlocked(&rt, alloc, locked);
+    is_opened(&rt, &registry)
 }
 
 fn sent<T: Send>(value: T) -> T {

@@ -42,6 +42,11 @@ fn is_full<R: Wait + Abort>(rt: &R, sender: &Duplex, receiver: &Duplex) {
         &sender.send(rt, &3),
         &Err(CommunicationChannelSendError::ReceiverCacheIsFull),
     );
+    same(
+        rt,
+        &sender.try_send(rt, &3),
+        &Err(CommunicationChannelSendError::ReceiverCacheIsFull),
+    );
     same(rt, &receiver.receive(rt), &Ok(Some(1)));
     same(rt, &receiver.receive(rt), &Ok(Some(2)));
     same(rt, &receiver.receive(rt), &Ok(None));
@@ -78,6 +83,15 @@ fn takes_more<R: Wait + Abort>(rt: &R, sender: &Duplex) {
     fills(rt, sender);
     same(rt, &sender.send(rt, &3), &Ok(Some(1)));
     assert!(rt; is_taken(rt, sender, 4));
+    same(rt, &sender.try_send(rt, &5), &Ok(Some(3)));
+}
+
+// Both ends give the two numbers that it has, each once, and go on without the name.
+fn both_receive<R: Wait + Abort>(rt: &R, sender: &Duplex, receiver: Duplex) {
+    same(rt, &receiver.receive(rt), &Ok(Some(4)));
+    receiver.release(rt);
+    same(rt, &sender.receive(rt), &Ok(Some(5)));
+    same(rt, &sender.receive(rt), &Ok(None));
 }
 
 fn overflows<R: Wait + Abort>(
@@ -89,9 +103,7 @@ fn overflows<R: Wait + Abort>(
     let receiver = creator.enable_safe_overflow().create_receiver(rt, alloc)?;
     let sender = connector(b"d", registry)?.try_open_sender(rt)?;
     takes_more(rt, &sender);
-    // Both ends go on without the name.
-    receiver.release(rt);
-    same(rt, &sender.receive(rt), &Ok(Some(3)));
+    both_receive(rt, &sender, receiver);
     is_not_opened(rt, b"d", registry)
 }
 
@@ -138,6 +150,43 @@ fn channels_refuse_overflow_and_are_made_once(rt: HostRuntime) -> Result<(), Fai
     refuses(&rt, rt.alloc(), &registry)?;
     overflows(&rt, rt.alloc(), &registry)?;
     is_made_once(&rt, rt.alloc(), &registry)
+}
+
+// It takes eight numbers and answers so to a ninth. Then it gives eight, from the oldest on.
+fn holds_eight<R: Wait + Abort>(
+    rt: &R,
+    (sender, receiver): (&Duplex, &Duplex),
+    ninth: &Result<Option<u64>, CommunicationChannelSendError>,
+    oldest: u64,
+) {
+    for value in 0..8 {
+        same(rt, &sender.send(rt, &value), &Ok(None));
+    }
+    same(rt, &sender.send(rt, &8), ninth);
+    for offset in 0..8 {
+        same(rt, &receiver.receive(rt), &Ok(Some(oldest + offset)));
+    }
+    same(rt, &receiver.receive(rt), &Ok(None));
+}
+
+#[test]
+fn a_channel_holds_eight_numbers_unless_told(rt: HostRuntime) -> Result<(), Fail> {
+    let registry = ChannelRegistry::new(rt.alloc())?;
+    let receiver = creator(b"c", &registry)?.create_receiver(&rt, rt.alloc())?;
+    let sender = connector(b"c", &registry)?.open_sender(&rt)?;
+    let refused = Err(CommunicationChannelSendError::ReceiverCacheIsFull);
+    holds_eight(&rt, (&sender, &receiver), &refused, 0);
+    Ok(())
+}
+
+#[test]
+fn a_channel_that_overflows_holds_eight_numbers_too(rt: HostRuntime) -> Result<(), Fail> {
+    let registry = ChannelRegistry::new(rt.alloc())?;
+    let creator = creator(b"c", &registry)?.enable_safe_overflow();
+    let receiver = creator.create_receiver(&rt, rt.alloc())?;
+    let sender = connector(b"c", &registry)?.open_sender(&rt)?;
+    holds_eight(&rt, (&sender, &receiver), &Ok(Some(0)), 1);
+    Ok(())
 }
 
 #[test]

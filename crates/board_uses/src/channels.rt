@@ -1,9 +1,10 @@
 //! Channels: what is sent to one is received from it, and a name that only pretends to be gone is found.
+use crate::apart::{goes_alone, others};
 use crate::same::same;
 use board_channel::{
     Channel, ChannelRegistry, Channels, CommunicationChannel, CommunicationChannelConnector,
     CommunicationChannelCreator, CommunicationChannelParticipant, CommunicationChannelReceiver,
-    CommunicationChannelSender, Connector, Creator,
+    CommunicationChannelSender, Connector, Creator, Duplex,
 };
 use board_names::{
     CommunicationChannelOpenError, Configuration, FileName, NameTable, NamedConceptBuilder,
@@ -116,6 +117,54 @@ fn any_channel_is_used_by_the_traits(rt: HostRuntime) -> Result<(), Fail> {
     lead_to_their_channels::<_, Channel>(&rt, rt.alloc(), &registry, (&c, &d))?;
     is_removed::<_, Channel>(&rt, &registry, (&c, &d));
     is_not_opened::<_, Channel>(&rt, &registry, &c)
+}
+
+// What is sent under this configuration is received under it, and not by the stranger.
+fn leads_apart<R: Wait + Abort, C: CommunicationChannel>(
+    rt: &R,
+    alloc: Global,
+    registry: &C::Registry,
+    (name, config): (&FileName, &Configuration),
+    stranger: &C::Receiver,
+) -> Result<(), Fail>
+where
+    C::Receiver: Drop,
+    C::Sender: Drop,
+{
+    let creator = C::Creator::new(name, registry)?.config(config);
+    let receiver = creator.create_receiver(rt, alloc)?;
+    let connector = C::Connector::new(name, registry)?.config(config);
+    let sender = connector.open_sender(rt)?;
+    let connector = C::Connector::new(name, registry)?.config(config);
+    let other = connector.try_open_sender(rt)?;
+    carries(rt, &receiver, &sender, &other);
+    same(rt, &stranger.receive(rt), &Ok(None));
+    Ok(())
+}
+
+// The name has a channel of its own under each configuration.
+fn are_apart<R: Wait + Abort>(
+    rt: &R,
+    alloc: Global,
+    registry: &ChannelRegistry,
+    (name, usual): (&FileName, &Configuration),
+    stranger: &Duplex,
+) -> Result<(), Fail> {
+    for other in others(&Channel::default_suffix())? {
+        leads_apart::<_, Channel>(rt, alloc, registry, (name, &other), stranger)?;
+        goes_alone::<_, Channel>(rt, alloc, registry, name, (usual, &other))?;
+    }
+    Ok(())
+}
+
+#[test]
+fn channels_of_one_name_differ_by_their_configuration(rt: HostRuntime) -> Result<(), Fail> {
+    let registry = ChannelRegistry::new(rt.alloc())?;
+    let c = FileName::new(b"c")?;
+    let usual = Configuration::with_suffix(&Channel::default_suffix());
+    let creator = Creator::new(&c, &registry)?.config(&usual);
+    let receiver = creator.create_receiver(&rt, rt.alloc())?;
+    are_apart(&rt, rt.alloc(), &registry, (&c, &usual), &receiver)
 }
 
 // Which of the two names are there.

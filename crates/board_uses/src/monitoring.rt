@@ -2,6 +2,7 @@
 ghost use Rattle.std.specs.Prelude.{IsOkUnless};
 ghost use Rattle.board_names.specs.declared.errors.monitoring.MonitoringCreateTokenError.TheVariants.{OutOfMemory};
 
+use crate::apart::{goes_alone, others};
 use crate::same::same;
 use board_monitoring::{
     Builder, Cleaner, Monitor, Monitoring, MonitoringBuilder, MonitoringCleaner, MonitoringMonitor,
@@ -34,7 +35,8 @@ fn is_listed<R: Wait + Abort>(
     Ok(())
 }
 
-fn lives<R: Wait + Abort>(
+// The name is held, and gets no second token.
+fn is_not_taken<R: Wait + Abort>(
     rt: &R,
     alloc: Global,
     registry: &MonitoringRegistry,
@@ -45,6 +47,15 @@ fn lives<R: Wait + Abort>(
         &again.err(),
         &Some(MonitoringCreateTokenError::AlreadyExists),
     );
+    Ok(())
+}
+
+fn lives<R: Wait + Abort>(
+    rt: &R,
+    alloc: Global,
+    registry: &MonitoringRegistry,
+) -> Result<(), Fail> {
+    is_not_taken(rt, alloc, registry)?;
     let early = names(registry)?.cleaner(rt);
     same(
         rt,
@@ -65,19 +76,25 @@ fn is_owned<R: Wait + Abort>(rt: &R, registry: &MonitoringRegistry) -> Result<()
     Ok(())
 }
 
-fn is_dead<R: Wait + Abort>(rt: &R, registry: &MonitoringRegistry) -> Result<(), Fail> {
+// It is seen dead, and is still held.
+fn is_dead<R: Wait + Abort>(
+    rt: &R,
+    alloc: Global,
+    registry: &MonitoringRegistry,
+) -> Result<(), Fail> {
     same(rt, &names(registry)?.monitor()?.state(rt), &Ok(State::Dead));
-    Ok(())
+    is_not_taken(rt, alloc, registry)
 }
 
-fn dies<R: Wait + Abort>(rt: &R, registry: &MonitoringRegistry) -> Result<(), Fail> {
+fn dies<R: Wait + Abort>(rt: &R, alloc: Global, registry: &MonitoringRegistry) -> Result<(), Fail> {
     let t = FileName::new(b"t")?;
     same(rt, names(registry)?.monitor()?.name(), &t);
+    is_dead(rt, alloc, registry)?;
     let cleaner = names(registry)?.cleaner(rt)?;
     is_owned(rt, registry)?;
-    is_dead(rt, registry)?;
+    is_dead(rt, alloc, registry)?;
     cleaner.relinquish(rt);
-    Ok(())
+    is_dead(rt, alloc, registry)
 }
 
 fn goes<R: Wait + Abort>(rt: &R, registry: &MonitoringRegistry) -> Result<(), Fail> {
@@ -100,7 +117,7 @@ fn a_name_lives_dies_and_goes(rt: HostRuntime) -> Result<(), Fail> {
     is_listed(&rt, rt.alloc(), &registry.share()?)?;
     lives(&rt, rt.alloc(), &registry)?;
     token.abandon(&rt);
-    dies(&rt, &registry)?;
+    dies(&rt, rt.alloc(), &registry)?;
     goes(&rt, &registry)
 }
 
@@ -264,6 +281,66 @@ fn any_monitoring_is_used_by_the_traits(rt: HostRuntime) -> Result<(), Fail> {
     stays_alive(&rt, &registry)?;
     stranger.release(&rt);
     Ok(())
+}
+
+// Code over the trait alone: the name dies and goes under this configuration, and the stranger is seen alive.
+fn dies_apart<R: Wait + Abort, M: Monitoring>(
+    rt: &R,
+    alloc: Global,
+    registry: &M::Registry,
+    (name, config): (&FileName, &Configuration),
+    stranger: &M::Monitor,
+) -> Result<(), Fail>
+where
+    M::Monitor: Drop,
+{
+    let token = M::Builder::new(name, registry)?.config(config);
+    token.token(rt, alloc)?.abandon(rt);
+    let monitor = M::Builder::new(name, registry)?.config(config).monitor()?;
+    let dead = (monitor.state(rt), stranger.state(rt));
+    let cleaner = M::Builder::new(name, registry)?.config(config);
+    cleaner.cleaner(rt)?.release(rt);
+    let gone = (monitor.state(rt), stranger.state(rt));
+    same(rt, &dead, &(Ok(State::Dead), Ok(State::Alive)));
+    same(rt, &gone, &(Ok(State::DoesNotExist), Ok(State::Alive)));
+    Ok(())
+}
+
+// A name that is held under both configurations goes under the other one alone.
+fn goes_apart<R: Wait + Abort>(
+    rt: &R,
+    alloc: Global,
+    registry: &MonitoringRegistry,
+    other: &Configuration,
+) -> Result<(), Fail> {
+    let t = FileName::new(b"t")?;
+    let _token = names(registry)?.config(other).token(rt, alloc)?;
+    let both = (&monitored(), other);
+    goes_alone::<_, ProcessLocalMonitoring>(rt, alloc, registry, &t, both)
+}
+
+// The name has a life of its own under each configuration.
+fn live_apart<R: Wait + Abort>(
+    rt: &R,
+    alloc: Global,
+    registry: &MonitoringRegistry,
+    stranger: &Monitor,
+) -> Result<(), Fail> {
+    let t = FileName::new(b"t")?;
+    for other in others(&ProcessLocalMonitoring::default_suffix())? {
+        dies_apart::<_, ProcessLocalMonitoring>(rt, alloc, registry, (&t, &other), stranger)?;
+        goes_apart(rt, alloc, registry, &other)?;
+    }
+    Ok(())
+}
+
+#[test]
+fn lives_of_one_name_differ_by_their_configuration(rt: HostRuntime) -> Result<(), Fail> {
+    let registry = MonitoringRegistry::new(rt.alloc())?;
+    let usual = monitored();
+    let _token = names(&registry)?.config(&usual).token(&rt, rt.alloc())?;
+    let monitor = names(&registry)?.config(&usual).monitor()?;
+    live_apart(&rt, rt.alloc(), &registry, &monitor)
 }
 
 // A caller's proof over names that were lent, whoever took them: a removed name can be taken, want of memory aside.
