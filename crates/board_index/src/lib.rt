@@ -7,6 +7,11 @@
 //! choose many that are hashed alike, and then a name is looked up as slowly as in a list of those, and found all the same.
 //! A board's row lies on the heap, and its name is a key by as many bytes as it has, since a map has more places than rows.
 //! In the row, too, a board's name and those of its types have as many bytes as they need.
+//!
+//! A board of many entries has an index of its keys besides, by their bytes (`key_places`, `specs/KeyPlaces`), for callers
+//! whose type says that keys which are equal have the same bytes. It is made with the board, where there is memory for it,
+//! and hashes as the other maps do: whoever chooses the keys of a board can choose many that fall together, and these are
+//! found as slowly as in a list.
 #![tactic(auto)]
 
 mod board_row;

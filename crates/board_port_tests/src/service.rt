@@ -1,3 +1,4 @@
 //! A domain as plain data: what is told of a board, and what a caller knows of a domain that it is lent.
 mod lent;
+mod many;
 mod rows;
