@@ -20,10 +20,6 @@ placed_more size n at name e entries old new next named bytes turned h = record 
   each = (bytes, h.each);
 }
 
--- no entries
-pub placed_none : (size at : ℕ) (places : List ℕ → Option ℕ) → ((t : List ℕ) → places t ≡ None) → AreKeyPlaces size at [] places
-placed_none size at places none = record { first = none; each = tt }
-
 chosen : {A : Type 0} (b : Bool) (x y z : A) → cond b x y ≡ z → ((b ≡ true) × (x ≡ z)) ⊎ ((b ≡ false) × (y ≡ z))
 chosen true x y z e = inl (refl, e)
 chosen false x y z e = inr (refl, e)

@@ -51,16 +51,17 @@ fn places_of(
     Ok(places)
 }
 
-/// The places of the entries' keys, where there are many. `None` where there is no memory for them.
+/// The places of the entries' keys, where these are many and equal by their bytes. `None` where there is no memory for them.
 pub(crate) fn places_for(
     alloc: Global,
+    equal_by_bytes: bool,
     size: usize,
     entries: &[EntryRow],
 ) -> Option<HashMap<Vec<u8>, u64>>
     requires { size ≤ 64 }
     ensures { IfSome result (λ places. AreKeyPlaces size 0 entries.now (called places)) }
 {
-    if entries.len() < MANY {
+    if !equal_by_bytes || entries.len() < MANY {
         return None;
     }
     match places_of(alloc, size, entries) {

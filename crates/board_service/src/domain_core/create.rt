@@ -124,6 +124,7 @@ impl<C: Cells> DomainCore<C> {
             number,
             name: description.name,
             key: description.key,
+            equal_by_bytes: K::is_equal_by_bytes(),
             max_readers: description.max_readers,
             max_nodes: description.max_nodes,
             max_writers: description.max_writers,
