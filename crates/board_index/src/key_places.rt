@@ -16,8 +16,7 @@ const MANY: usize = 128;
 // A key's bytes are bytes, as callers that find one by them need to know.
 fn are_bytes(bytes: [u8; 64])
     ensures { keys.IsKeyBytes bytes }
-{
-}
+{}
 
 // The bytes of a key of this size.
 fn bytes_of(key: &KeyMemory<64>, size: usize) -> &[u8]

@@ -61,7 +61,16 @@ fn place_of<K: BoardKey>(
 fn word(first: u8, number: u8, last: u8) -> F8 {
     let (hundreds, tens, ones) = (number / 100, number / 10 % 10, number % 10);
     F8 {
-        bytes: [first, first, b'0' + hundreds, b'0' + tens, b'0' + ones, last, last, last],
+        bytes: [
+            first,
+            first,
+            b'0' + hundreds,
+            b'0' + tens,
+            b'0' + ones,
+            last,
+            last,
+            last,
+        ],
     }
 }
 
