@@ -294,12 +294,12 @@ fn dies_apart<R: Wait + Abort, M: Monitoring>(
 where
     M::Monitor: Drop,
 {
-    let token = M::Builder::new(name, registry)?.config(config);
-    token.token(rt, alloc)?.abandon(rt);
+    let builder = M::Builder::new(name, registry)?.config(config);
+    builder.token(rt, alloc)?.abandon(rt);
     let monitor = M::Builder::new(name, registry)?.config(config).monitor()?;
     let dead = (monitor.state(rt), stranger.state(rt));
-    let cleaner = M::Builder::new(name, registry)?.config(config);
-    cleaner.cleaner(rt)?.release(rt);
+    let builder = M::Builder::new(name, registry)?.config(config);
+    builder.cleaner(rt)?.release(rt);
     let gone = (monitor.state(rt), stranger.state(rt));
     same(rt, &dead, &(Ok(State::Dead), Ok(State::Alive)));
     same(rt, &gone, &(Ok(State::DoesNotExist), Ok(State::Alive)));
