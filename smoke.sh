@@ -213,6 +213,20 @@ event bits 10000000
 event queue 10000000
 shared 1 1 1000000000
 END
+# Each trip is two waits, and who waits sleeps. Between two sleeps the threads work little, less than a hundredth of a tick
+# of the system's clock; threads that look again and again instead of sleeping work ten times as long.
+"$bench" event queue 10000000 > /dev/null 2>&1 < /dev/null &
+process=$!
+sleep 1
+sleeps=0
+while read -r what number; do
+    [ "$what" = voluntary_ctxt_switches: ] && ((sleeps += number))
+done < <(cat "/proc/$process/task/"*/status)
+read -r -a numbers < "/proc/$process/stat"
+kill "$process"
+wait "$process" 2> /dev/null
+[ "$sleeps" -ge 1000 ] && ((sleeps >= 100 * (numbers[13] + numbers[14]))) && good=yes || good=no
+tells 'ids go between threads that sleep' "$good"
 gets=$("$bench" shared 1 2 1000) && [[ $gets =~ ^gets\ [1-9][0-9]*$ ]] && good=yes || good=no
 tells 'readers beside a writer' "$good"
 # A reader that only began after the last of so many updates would make one get.

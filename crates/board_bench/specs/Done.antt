@@ -48,10 +48,10 @@ HasCalledTyped TryGet width count (GotTyped h made) = (made ≡ count) × HasTri
 HasCalledTyped Update width count (UpdatedTyped h made) = (made ≡ count) × HasPublished width count (write_seen h)
 HasCalledTyped call width count done = ⊥
 
--- as many ids came back over events of the kind
+-- as many ids came back over events of the kind, and as many were sent back
 abbrev pub HasReturned : EventKind → ℕ → Done → Type 0
-HasReturned Bits count (BitsReturned trips) = trips.made ≡ count
-HasReturned Queue count (QueueReturned trips) = trips.made ≡ count
+HasReturned Bits count (BitsReturned trips) = (trips.made ≡ count) × (trips.echoed ≡ count)
+HasReturned Queue count (QueueReturned trips) = (trips.made ≡ count) × (trips.echoed ≡ count)
 HasReturned kind count done = ⊥
 
 -- a race of so many readers with a writer that made so many updates of so many words, 1, 2 and so on; its history is legal, and each reader's last get copied the last of them

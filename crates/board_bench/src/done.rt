@@ -46,8 +46,8 @@ impl Done {
             Done::Updated(_, count) => *count,
             Done::GotTyped(_, count) => *count,
             Done::UpdatedTyped(_, count) => *count,
-            Done::BitsReturned(trips) => trips.made.made(),
-            Done::QueueReturned(trips) => trips.made.made(),
+            Done::BitsReturned(trips) => trips.made.number(),
+            Done::QueueReturned(trips) => trips.made.number(),
             Done::Raced(outcome) => outcome.gets,
         }
     }

@@ -7,6 +7,7 @@ use board_event::{
 use board_names::{Configuration, FileName, NamedConceptBuilder};
 use std::process::Abort;
 
+mod configured;
 mod generic;
 mod lent;
 mod limits;

@@ -2,15 +2,15 @@
 //! other sends back each that comes. `board_bench` measures them.
 //!
 //! What comes out of a typed event no clause says. So trips are counted where they are made, by a type to which one call
-//! alone adds (`Rounds`, and `Echoes` in the thread that sends back), and what these calls send and take is shown by tests.
+//! alone adds (`Rounds`, and `Echoes` in the thread that sends back), over ends of the kind that the type names. What these
+//! calls send and take is shown by tests.
 //! The trips have a crate of their own for them, since the functions of a crate that has tests are proved twice.
 #![tactic(auto)]
 
-mod echoes;
-mod rounds;
+mod counts;
 mod trips;
 
-pub use rounds::Rounds;
+pub use counts::{Count, Echo, Echoes, Round, Rounds};
 pub use trips::{Trips, run_trips};
 
 #[cfg(test)]

@@ -43,7 +43,7 @@ fn each_round_trip_sends_an_id_and_takes_one(rt: HostRuntime) -> Result<(), Fail
     let (there, to_there) = ends_of::<QueueOfIds, HostRuntime>(&rt, rt.alloc())?;
     let (back, to_back) = ends_of::<QueueOfIds, HostRuntime>(&rt, rt.alloc())?;
     notify_all(&rt, &to_back, 200)?;
-    same(&rt, &send(&rt, &to_there, &back, 200)?.made(), &200);
+    same(&rt, &send(&rt, &to_there, &back, 200)?.number(), &200);
     takes_all(&rt, &back, 0)?;
     takes_all(&rt, &there, 200)
 }
@@ -84,9 +84,20 @@ fn the_ids_that_came_are_sent_back(rt: HostRuntime) -> Result<(), Fail> {
 }
 
 #[test]
+fn ends_whose_listener_is_gone_end_a_trip(rt: HostRuntime) -> Result<(), Fail> {
+    let (gone, to_gone) = ends_of::<QueueOfIds, HostRuntime>(&rt, rt.alloc())?;
+    let (here, to_here) = ends_of::<QueueOfIds, HostRuntime>(&rt, rt.alloc())?;
+    gone.release(&rt);
+    notify_each(&rt, &to_here, &[0, 0])?;
+    assert!(rt; send(&rt, &to_gone, &here, 1).is_err());
+    assert!(rt; echo(&rt, &here, &to_gone, 1).is_err());
+    Ok(())
+}
+
+#[test]
 fn ids_of_a_set_come_back_from_another_thread(rt: HostRuntime) -> Result<(), Fail> {
     let trips = run_trips::<SetOfIds, HostRuntime>(&rt, rt.alloc(), 10)?;
-    let came = trips.back.try_wait_one(&rt)?;
-    same(&rt, &(trips.made.made(), came), &(10, None));
+    let counts = (trips.made.number(), trips.echoed.number());
+    same(&rt, &counts, &(10, 10));
     Ok(())
 }

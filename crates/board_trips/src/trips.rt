@@ -2,8 +2,7 @@
 ghost use Rattle.std.specs.Prelude.{◌≡◌, IfOk};
 ghost use denote.Param.Send.{IsSync};
 
-use crate::echoes::Echoes;
-use crate::rounds::Rounds;
+use crate::counts::{Echoes, Rounds};
 use anyhow::Result;
 use board_event::{
     EventListener, EventListenerBuilder, EventNotifier, EventNotifierBuilder, EventRegistry,
@@ -18,13 +17,13 @@ use std::thread::Threads;
 // So many ids are sent in turn.
 const IDS: u64 = 64;
 
-/// The listener through which ids came back, and how many round trips were made.
+/// What two threads did: how many round trips the one made, and how many ids the other sent back.
 #[derive(Drop)]
 pub struct Trips<K> {
-    /// The listener through which ids come back.
-    pub back: EventListener<K>,
     /// How many round trips were made.
-    pub made: Rounds,
+    pub made: Rounds<K>,
+    /// How many ids were sent back.
+    pub echoed: Echoes<K>,
 }
 
 /// A new event of its own registry: its listener, and a notifier.
@@ -53,10 +52,10 @@ pub(crate) fn send<K: KindOfEvents + Drop, R: Wait>(
     there: &EventNotifier<K>,
     back: &EventListener<K>,
     count: u64,
-) -> Result<Rounds>
+) -> Result<Rounds<K>>
     ensures { IfOk result (λ made. made ≡ count) }
 {
-    let mut made = Rounds::none();
+    let mut made = Rounds::<K>::none();
     for i in 0..count {
         made.make(rt, there, back, TriggerId::new((i % IDS) as usize))?;
     }
@@ -72,10 +71,10 @@ pub(crate) fn echo<K: KindOfEvents + Drop, R: Wait>(
     there: &EventListener<K>,
     back: &EventNotifier<K>,
     count: u64,
-) -> Result<Echoes>
+) -> Result<Echoes<K>>
     ensures { IfOk result (λ echoes. echoes ≡ count) }
 {
-    let mut echoes = Echoes::none();
+    let mut echoes = Echoes::<K>::none();
     for _ in 0..count {
         echoes.send_back(rt, there, back)?;
     }
@@ -93,22 +92,24 @@ pub fn run_trips<K: KindOfEvents + Drop + Send + Sync + 'static, R: Threads + Wa
     count: u64,
 ) -> Result<Trips<K>>
     ensures made { IfOk result (λ trips. trips.made ≡ count) }
+    ensures echoed { IfOk result (λ trips. trips.echoed ≡ count) }
 {
     let (there, to_there) = ends_of::<K, R>(rt, alloc)?;
     let (back, to_back) = ends_of::<K, R>(rt, alloc)?;
-    let (sent, echoed) = thread::join(
+    let (made, echoed) = thread::join(
         rt,
-        move || -> Result<Trips<K>>
+        move || -> Result<Rounds<K>>
             requires { IsSync R.row }
-            ensures { IfOk result (λ trips. trips.made ≡ count) }
-        {
-            let made = send(rt, &to_there, &back, count)?;
-            Ok(Trips { back, made })
-        },
-        move || -> Result<Echoes>
+            ensures { IfOk result (λ made. made ≡ count) }
+        { send(rt, &to_there, &back, count) },
+        move || -> Result<Echoes<K>>
             requires { IsSync R.row }
+            ensures { IfOk result (λ echoes. echoes ≡ count) }
         { echo(rt, &there, &to_back, count) },
     );
-    echoed?;
-    sent
+    let echoed = echoed?;
+    Ok(Trips {
+        made: made?,
+        echoed,
+    })
 }

@@ -4,8 +4,8 @@ use super::{Deed, Told, file_name, listens, opens};
 use crate::same::same;
 use board_event::{
     BitEvent, BitRegistry, Event, EventRegistry, KindOfEvents, Listener, ListenerBuilder, Notifier,
-    NotifierBuilder, NotifierNotifyError, QUEUE_CAPACITY, QueueEvent, QueueOfIds, SetOfIds,
-    TriggerId,
+    NotifierBuilder, NotifierCreateError, NotifierNotifyError, QUEUE_CAPACITY, QueueEvent,
+    QueueOfIds, SetOfIds, TriggerId,
 };
 use board_names::NamedConcept;
 use std::alloc::Global;
@@ -121,4 +121,34 @@ fn names_are_free_with_their_holders(rt: HostRuntime) {
     let queues: Ends<QueueOfIds> = make_ends(&rt, rt.alloc(), 127);
     // The listener that was made anew is dropped without a release, so its name stays held.
     same(&rt, &goes(&rt, queues), &(gone, true, false));
+}
+
+/// The listener goes, and then two notifiers. Tells why none was opened between, and whether the name was free after the
+/// first went and after the second.
+fn go_in_turn<R: Wait + Abort>(
+    rt: &R,
+    ends: Ends<SetOfIds>,
+) -> (Option<NotifierCreateError>, bool, bool) {
+    let Ends {
+        registry,
+        listener,
+        notifier,
+        alloc,
+    } = ends;
+    let second = opens(rt, b"e", &registry)
+        .open(rt)
+        .expect(rt, "a held name");
+    listener.release(rt);
+    let late = opens(rt, b"e", &registry).open(rt).err();
+    notifier.release(rt);
+    let before = is_free(rt, alloc, &registry);
+    second.release(rt);
+    (late, before, is_free(rt, alloc, &registry))
+}
+
+#[test]
+fn a_set_holds_its_name_until_its_last_notifier_goes(rt: HostRuntime) {
+    let ends: Ends<SetOfIds> = make_ends(&rt, rt.alloc(), 127);
+    let late = Some(NotifierCreateError::DoesNotExist);
+    same(&rt, &go_in_turn(&rt, ends), &(late, false, true));
 }

@@ -11,7 +11,7 @@ fn short() -> Duration {
     Duration::from_millis(20)
 }
 
-fn long() -> Duration {
+pub(super) fn long() -> Duration {
     Duration::from_secs(100)
 }
 
@@ -31,7 +31,7 @@ fn all<R: Wait + Clock, L: Listener>(rt: &R, listener: &L, timeout: Duration) ->
 }
 
 // Whether a clock went on by at least this time.
-fn is_past<R: Clock>(rt: &R, start: Option<Instant>, time: Duration) -> bool {
+pub(super) fn is_past<R: Clock>(rt: &R, start: Option<Instant>, time: Duration) -> bool {
     match start.map(|start| start.elapsed(rt)) {
         Some(Ok(passed)) => passed >= time,
         _ => false,

@@ -126,6 +126,8 @@ fn sets_by_typed_calls(rt: HostRuntime) {
     let ends: Ends<SetOfIds> = make_ends(&rt, rt.alloc(), 127);
     row_is(&rt, &ends, &row_of_sets());
     row_is(&rt, &ends, &row_of_names(&rt));
+    // The ends go on without the name.
+    row_is(&rt, &ends, &row_of_sets());
 }
 
 #[test]
@@ -133,4 +135,6 @@ fn queues_by_typed_calls(rt: HostRuntime) {
     let ends: Ends<QueueOfIds> = make_ends(&rt, rt.alloc(), 127);
     row_is(&rt, &ends, &row_of_queues());
     row_is(&rt, &ends, &row_of_names(&rt));
+    // The ends go on without the name.
+    row_is(&rt, &ends, &row_of_queues());
 }

@@ -1,5 +1,6 @@
 //! Two events of one registry: ids of the one aren't the other's, and a notify wakes who waits for it, whoever else sleeps.
 use super::threads::leaves;
+use super::timed::{is_past, long};
 use super::{listens, opens};
 use crate::same::same;
 use board_event::{
@@ -11,7 +12,7 @@ use std::process::Abort;
 use std::sync::Wait;
 use std::thread;
 use std::thread::Threads;
-use std::time::{Clock, Duration};
+use std::time::{Clock, Duration, Instant};
 
 /// The events `x` and `y` of one registry. Their notifiers were opened over one more owner of it.
 #[derive(Drop)]
@@ -123,6 +124,49 @@ fn each_sleeper_of_a_registry_is_woken(rt: HostRuntime) {
         are(&rt, sets, 1, 2);
         let queues = both_come_back::<HostRuntime, QueueOfIds>(&rt, rt.alloc(), false);
         are(&rt, queues, 2, 1);
+    }
+}
+
+/// Takes an id, or all, that come before a long time is up, and goes. Tells the last one.
+fn leaves_in_time<R: Wait + Clock, L: Listener>(
+    rt: &R,
+    listener: L,
+    many: bool,
+) -> Option<TriggerId> {
+    let mut last = None;
+    if many {
+        let _ = listener.timed_wait_all(rt, |id| last = Some(id), long());
+    } else if let Ok(one) = listener.timed_wait_one(rt, long()) {
+        last = one;
+    }
+    listener.release(rt);
+    last
+}
+
+/// A thread waits for an id of `x`, or all, up to a long time, while another one notifies `y`, which wakes it too, and then
+/// `x`. Tells what came, which was before that time was up.
+fn comes_in_time<
+    R: Threads + Wait + Clock + Abort + Sync,
+    K: KindOfEvents + Drop + Send + Sync + 'static,
+>(rt: &R, alloc: Global, many: bool) -> Option<TriggerId> {
+    let Pair { x, to_x, to_y, .. } = make_pair::<R, K>(rt, alloc);
+    let start = Instant::now(rt).ok();
+    let (came, ()) = thread::join(
+        rt,
+        move || leaves_in_time(rt, x, many),
+        move || tells(rt, &to_y, &to_x),
+    );
+    assert!(rt; !is_past(rt, start, long()));
+    came
+}
+
+#[test]
+fn a_timed_wait_goes_on_until_its_id_comes(rt: HostRuntime) {
+    for many in [false, true] {
+        let set = comes_in_time::<HostRuntime, SetOfIds>(&rt, rt.alloc(), many);
+        same(&rt, &set, &Some(TriggerId::new(2)));
+        let queue = comes_in_time::<HostRuntime, QueueOfIds>(&rt, rt.alloc(), many);
+        same(&rt, &queue, &Some(TriggerId::new(2)));
     }
 }
 
