@@ -18,8 +18,8 @@ pub struct WaitCall {
 }
 
 impl Model for WaitCall {
-    ghost use Rattle.board_event_model.specs.WaitCalls.{Wait};
-    ghost use Rattle.board_event_core.specs.Waits.{IsWait, wait_of};
+    ghost use Rattle.board_event_model.specs.WaitCalls.{Wait, wait_of};
+    ghost use Rattle.board_event_core.specs.Waits.{IsWait};
 
     ghost Value = { Wait };
 

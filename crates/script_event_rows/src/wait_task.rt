@@ -21,8 +21,8 @@ pub(crate) struct WaitTask {
 }
 
 impl Model for WaitTask {
-    ghost use Rattle.board_event_model.specs.WaitCalls.{Wait};
-    ghost use Rattle.script_event_rows.specs.Tasks.{IsFormedWait, wait_of};
+    ghost use Rattle.board_event_model.specs.WaitCalls.{Wait, wait_of};
+    ghost use Rattle.script_event_rows.specs.Tasks.{IsFormedWait};
 
     ghost Value = { Wait };
 
