@@ -95,7 +95,7 @@ fn ends_whose_listener_is_gone_end_a_trip(rt: HostRuntime) -> Result<(), Fail> {
 }
 
 #[test]
-fn ids_of_a_set_come_back_from_another_thread(rt: HostRuntime) -> Result<(), Fail> {
+fn trips_over_sets_are_counted_in_both_threads(rt: HostRuntime) -> Result<(), Fail> {
     let trips = run_trips::<SetOfIds, HostRuntime>(&rt, rt.alloc(), 10)?;
     let counts = (trips.made.number(), trips.echoed.number());
     same(&rt, &counts, &(10, 10));

@@ -129,6 +129,19 @@ fn is_not_made<R: Wait + Abort>(
     Ok(())
 }
 
+// What is opened under the name leads to this receiver.
+fn leads_to<R: Wait + Abort>(
+    rt: &R,
+    value: &[u8],
+    registry: &ChannelRegistry,
+    receiver: &Duplex,
+) -> Result<(), Fail> {
+    let sender = connector(value, registry)?.open_sender(rt)?;
+    same(rt, &sender.send(rt, &6), &Ok(None));
+    same(rt, &receiver.receive(rt), &Ok(Some(6)));
+    Ok(())
+}
+
 fn is_made_once<R: Wait + Abort>(
     rt: &R,
     alloc: Global,
@@ -139,6 +152,7 @@ fn is_made_once<R: Wait + Abort>(
     same(rt, &receiver.buffer_size(), &1);
     let shared = registry.share()?;
     is_not_made(rt, alloc, b"e", &shared)?;
+    leads_to(rt, b"e", &shared, &receiver)?;
     is_not_opened(rt, b"f", &shared)
 }
 

@@ -142,6 +142,22 @@ where
     Ok(())
 }
 
+// A receiver that is released lets its name go under this configuration, and not under the usual one.
+fn lets_go_apart<R: Wait + Abort>(
+    rt: &R,
+    alloc: Global,
+    registry: &ChannelRegistry,
+    name: &FileName,
+    (usual, other): (&Configuration, &Configuration),
+) -> Result<(), Fail> {
+    let creator = Creator::new(name, registry)?.config(other);
+    creator.create_receiver(rt, alloc)?.release(rt);
+    let stays = Channel::does_exist_cfg(rt, registry, name, usual);
+    let held = Channel::does_exist_cfg(rt, registry, name, other);
+    same(rt, &(stays, held), &(Ok(true), Ok(false)));
+    Ok(())
+}
+
 // The name has a channel of its own under each configuration.
 fn are_apart<R: Wait + Abort>(
     rt: &R,
@@ -153,6 +169,7 @@ fn are_apart<R: Wait + Abort>(
     for other in others(&Channel::default_suffix())? {
         leads_apart::<_, Channel>(rt, alloc, registry, (name, &other), stranger)?;
         goes_alone::<_, Channel>(rt, alloc, registry, name, (usual, &other))?;
+        lets_go_apart(rt, alloc, registry, name, (usual, &other))?;
     }
     Ok(())
 }

@@ -62,6 +62,11 @@ fn lives<R: Wait + Abort>(
         &early.err(),
         &Some(MonitoringCreateCleanerError::InstanceStillAlive),
     );
+    same(
+        rt,
+        &names(registry)?.monitor()?.state(rt),
+        &Ok(State::Alive),
+    );
     Ok(())
 }
 
@@ -91,6 +96,7 @@ fn dies<R: Wait + Abort>(rt: &R, alloc: Global, registry: &MonitoringRegistry) -
     same(rt, names(registry)?.monitor()?.name(), &t);
     is_dead(rt, alloc, registry)?;
     let cleaner = names(registry)?.cleaner(rt)?;
+    is_owned(rt, registry)?;
     is_owned(rt, registry)?;
     is_dead(rt, alloc, registry)?;
     cleaner.relinquish(rt);

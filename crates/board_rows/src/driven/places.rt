@@ -84,9 +84,17 @@ fn script_of_row(
     Ok(whole)
 }
 
-// Each row tells what is written of it.
-fn all_tell(rt: &impl Abort, alloc: Global, snap: &'static str, rows: Part) -> Result<(), Fail> {
-    for (letters, told) in &joined(alloc, &[rows])? {
+// There are so many rows, and each tells what is written of it.
+fn all_tell(
+    rt: &impl Abort,
+    alloc: Global,
+    snap: &'static str,
+    rows: Part,
+    count: usize,
+) -> Result<(), Fail> {
+    let rows = joined(alloc, &[rows])?;
+    assert!(rt; rows.len() == count);
+    for (letters, told) in &rows {
         let whole = script_of_row(alloc, snap, letters, told)?;
         whole.runs_in_pieces(rt, alloc, 0)?;
     }
@@ -95,20 +103,20 @@ fn all_tell(rt: &impl Abort, alloc: Global, snap: &'static str, rows: Part) -> R
 
 #[test]
 fn the_first_entry_is_published_at_each_place(rt: HostRuntime) -> Result<(), Fail> {
-    all_tell(&rt, rt.alloc(), "snap b h k", FIRST_ENTRY)
+    all_tell(&rt, rt.alloc(), "snap b h k", FIRST_ENTRY, 17)
 }
 
 #[test]
 fn the_second_entry_is_published_at_each_place(rt: HostRuntime) -> Result<(), Fail> {
-    all_tell(&rt, rt.alloc(), "snap b h k", SECOND_ENTRY)
+    all_tell(&rt, rt.alloc(), "snap b h k", SECOND_ENTRY, 16)
 }
 
 #[test]
 fn both_entries_are_published(rt: HostRuntime) -> Result<(), Fail> {
-    all_tell(&rt, rt.alloc(), "snap b h k", BOTH_ENTRIES)
+    all_tell(&rt, rt.alloc(), "snap b h k", BOTH_ENTRIES, 4)
 }
 
 #[test]
 fn a_handle_is_named_twice(rt: HostRuntime) -> Result<(), Fail> {
-    all_tell(&rt, rt.alloc(), "snap b h h", ONE_TWICE)
+    all_tell(&rt, rt.alloc(), "snap b h h", ONE_TWICE, 4)
 }
