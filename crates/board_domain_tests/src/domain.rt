@@ -4,7 +4,6 @@
 mod attributes;
 mod lent;
 mod loans;
-mod many;
 mod published;
 mod receipts;
 mod released;
