@@ -11,7 +11,7 @@ use std::alloc::{AllocError, Global};
 use std::collections::HashMap;
 
 // With as many entries or more, a board has an index of its keys. With fewer, they are compared one after another nearly as fast.
-const MANY: usize = 128;
+const MANY: usize = 256;
 
 // A key's bytes are bytes, as callers that find one by them need to know.
 fn are_bytes(bytes: [u8; 64])

@@ -60,17 +60,17 @@ words_same (suc count) a b l le h k e =
     sym (take-append-drop 8 a) ∙ rw (front, behind) (take-append-drop 8 b)
 
 -- keys that make the same words have the same bytes
-keys_same : (size count : ℕ) (a b : List ℕ) → size ≤ 8 * count → IsKeyBytes a → IsKeyBytes b → words_in count (take size a) ≡ words_in count (take size b) → take size a ≡ take size b
+pub keys_same : (size count : ℕ) (a b : List ℕ) → size ≤ 8 * count → IsKeyBytes a → IsKeyBytes b → words_in count (take size a) ≡ words_in count (take size b) → take size a ≡ take size b
 keys_same size count a b fits h k e = words_same count (take size a) (take size b)
     (omega (arith, length-take size a, length-take size b, h.every, k.every))
     (omega (arith, length-take size a, fits))
     (bytes_front size a h.each) (bytes_front size b k.each) e
 
 -- the one word of a key
-abbrev word : ℕ → List ℕ → ℕ
+pub abbrev word : ℕ → List ℕ → ℕ
 word size a = little (take 8 (take size a))
 
-word_same : (size : ℕ) (a b : List ℕ) → size ≤ 8 → IsKeyBytes a → IsKeyBytes b → word size a ≡ word size b → take size a ≡ take size b
+pub word_same : (size : ℕ) (a b : List ℕ) → size ≤ 8 → IsKeyBytes a → IsKeyBytes b → word size a ≡ word size b → take size a ≡ take size b
 word_same size a b fits h k e = keys_same size 1 a b (omega (arith, fits)) h k (ap (λ (w : ℕ). w ∷ []) e)
 
 word_below : (size : ℕ) (a : List ℕ) → size ≤ 8 → IsKeyBytes a → word size a < 2 ^ (8 * size)
@@ -79,7 +79,7 @@ word_below size a fits h =
     let below : word size a < 2 ^ (8 * length (take 8 (take size a))) = little_below (take 8 (take size a)) (bytes_front 8 (take size a) (bytes_front size a h.each)) in
     rw l at below
 
-same_number : (x y : ℕ) → nat_eq x y ≡ true → x ≡ y
+pub same_number : (x y : ℕ) → nat_eq x y ≡ true → x ≡ y
 same_number x y e = grind (arith, e)
 
 -- numbers of fewer bytes than a word
