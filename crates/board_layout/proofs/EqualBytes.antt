@@ -67,7 +67,7 @@ keys_same size count a b fits h k e = words_same count (take size a) (take size 
     (bytes_front size a h.each) (bytes_front size b k.each) e
 
 -- the one word of a key
-pub abbrev word : ℕ → List ℕ → ℕ
+abbrev pub word : ℕ → List ℕ → ℕ
 word size a = little (take 8 (take size a))
 
 pub word_same : (size : ℕ) (a b : List ℕ) → size ≤ 8 → IsKeyBytes a → IsKeyBytes b → word size a ≡ word size b → take size a ≡ take size b
