@@ -4,6 +4,7 @@
 mod attributes;
 mod lent;
 mod loans;
+mod many;
 mod published;
 mod receipts;
 mod released;
