@@ -13,28 +13,9 @@ use crate::task::Task;
 use board_cell_model::Access;
 use board_model::{Call, Name, Reason, Reply};
 use script_board_tables::{BoardCall, Stepped, running_calls_can_step};
+use script_model::new_name;
 use script_print::{push_begun, push_gone, push_refused, push_step, push_words};
 use std::alloc::AllocError;
-
-// The name of the thing that a call makes.
-fn new_name(call: &Call) -> Option<Name>
-    ensures { result ≡ requests.new_name call.now }
-{
-    match call {
-        Call::Create { factory, .. } => Some(*factory),
-        Call::Open { factory, .. } => Some(*factory),
-        Call::Reader { reader, .. } => Some(*reader),
-        Call::Writer { writer, .. } => Some(*writer),
-        Call::Entry { handle, .. } => Some(*handle),
-        Call::EntryMut { handle, .. } => Some(*handle),
-        Call::Get { value, .. } => *value,
-        Call::Loan { loan, .. } => Some(*loan),
-        Call::Discard { handle, .. } => Some(*handle),
-        Call::Publish { handle, .. } => Some(*handle),
-        Call::Fill { handle, .. } => Some(*handle),
-        _ => None,
-    }
-}
 
 impl Judge {
     // The call of a free party, or why it may not begin.

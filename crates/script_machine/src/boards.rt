@@ -22,6 +22,7 @@ use board_model::{Answer, Call, Name, Reason, Reply, Value};
 use board_service::BoardWords;
 use script_boards::ShortWay;
 use script_events::Stepped;
+use script_model::new_name;
 use script_print::{
     push_access_made, push_answer, push_begun, push_event_asked, push_event_step, push_refused,
     push_words,
@@ -57,26 +58,6 @@ fn is_gone(answer: &Answer) -> bool
     ensures { result ≡ is_gone_answer answer.now }
 {
     matches!(answer, Answer::Gone)
-}
-
-// The name of the thing that a call makes.
-fn new_name(call: &Call) -> Option<Name>
-    ensures { result ≡ requests.new_name call.now }
-{
-    match call {
-        Call::Create { factory, .. } => Some(*factory),
-        Call::Open { factory, .. } => Some(*factory),
-        Call::Reader { reader, .. } => Some(*reader),
-        Call::Writer { writer, .. } => Some(*writer),
-        Call::Entry { handle, .. } => Some(*handle),
-        Call::EntryMut { handle, .. } => Some(*handle),
-        Call::Get { value, .. } => *value,
-        Call::Loan { loan, .. } => Some(*loan),
-        Call::Discard { handle, .. } => Some(*handle),
-        Call::Publish { handle, .. } => Some(*handle),
-        Call::Fill { handle, .. } => Some(*handle),
-        _ => None,
-    }
 }
 
 impl<C: BoardWords + Drop> Machine<C> {

@@ -12,6 +12,7 @@ pub mod event_laws;
 pub mod form_laws;
 mod line;
 pub mod line_laws;
+mod new_name;
 pub mod part_laws;
 mod reply;
 pub mod rule_laws;
@@ -20,4 +21,5 @@ pub mod worked_events;
 pub mod worked_scripts;
 
 pub use line::{EventName, EventRequest, ScriptLine};
+pub use new_name::new_name;
 pub use reply::EventReply;
