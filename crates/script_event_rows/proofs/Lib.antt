@@ -1,3 +1,2 @@
 mod IdWordLemmas
 mod RowLemmas
-mod ReportLemmas

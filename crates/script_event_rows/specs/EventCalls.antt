@@ -1,13 +1,12 @@
 -- What a checker keeps of a call on an event that runs, and which call of the definitions it stands for.
-use Rattle.std.specs.Prelude.{◌≡◌, ℕ, ◌+◌, ◌-◌, Bool, List, ◌++◌, Option, Some, None, IsSomeAnd}
+use Rattle.std.specs.Prelude.{◌≡◌, ℕ, Option, Some, None, IsSomeAnd}
 use Rattle.board_event_model.specs.declared.access.EventAccess.{EventAccess}
 use Rattle.board_event_model.specs.declared.access.EventAnswer.{EventAnswer}
-use Rattle.board_event_model.specs.declared.call.EventProgress.{EventProgress}
 use Rattle.board_event_model.specs.EventMemory.{Event}
 use Rattle.board_event_model.specs.EventCalls as calls
 use Rattle.board_event_model.specs.EventCalls.{RunningCall, call_of, new_call, turn, went_on}
 use Rattle.script_model.specs.declared.reply.EventReply.{EventReply}
-use Rattle.script_model.specs.ScriptEvents.{end_told, step_told}
+use Rattle.script_model.specs.ScriptEvents.{step_told}
 use Rattle.script_event_rows.specs.declared.event_call.EventTask.{EventTask}
 use Rattle.script_event_rows.specs.declared.event_call.EventTask.TheVariants as task
 use Rattle.script_event_rows.specs.declared.event_call.EventCall.{EventCall}
@@ -44,7 +43,3 @@ told_with answer r = step_told r (turn (call_of r) answer).0
 abbrev pub HasTaken : EventAnswer → RunningCall → Took → Type 0
 HasTaken answer r (GoesOn c) = (told_with answer r ≡ None) × ((e : Event) (a : EventAccess) → IsSomeAnd (went_on r e a answer) (IsKeptOf c))
 HasTaken answer r (Ended told) = (told_with answer r ≡ Some told) × ((e : Event) (a : EventAccess) → went_on r e a answer ≡ None)
-
--- the call is told so, where these are the ids that it has reported with its last access
-abbrev pub IsToldAtEnd : Bool → EventProgress → List ℕ → EventReply → Type 0
-IsToldAtEnd many p ids told = (before : List ℕ) → ids ≡ before ++ calls.reported p → told ≡ end_told many before p

@@ -1,8 +1,6 @@
 -- Notifies and waits as a checker keeps them.
-use Rattle.std.specs.Prelude.{◌≡◌, ℕ, ◌*◌, ◌<◌, ◌≤◌, ◌^◌, ⊤}
+use Rattle.std.specs.Prelude.{ℕ, ◌<◌, ◌≤◌, ◌^◌, ⊤}
 use Rattle.board_event_model.specs.declared.access.EventAnswer.{EventAnswer}
-use Rattle.board_event_model.specs.declared.call.EventProgress.{EventProgress}
-use Rattle.board_event_model.specs.declared.call.EventProgress.TheVariants.{Took}
 use Rattle.board_event_model.specs.declared.call.WaitStage.{WaitStage}
 use Rattle.board_event_model.specs.declared.call.WaitStage.TheVariants.{Scan, Swap, Pop}
 use Rattle.board_event_model.specs.NotifyCalls.{Notify, notify_turn}
@@ -28,8 +26,3 @@ pub record IsFormedWait (w : Wait) : Type 0 where
   pub some : 1 ≤ w.words
   pub few : w.words ≤ 2 ^ 58
   pub stage : IsStageIn w.words w.stage
-
--- the ids that a step took out of a word are those of one word of 2^58
-abbrev pub StartsWord : EventProgress → Type 0
-StartsWord (Took base bits last) = (k : ℕ) × (base ≡ 64 * k) × (k < 2 ^ 58)
-StartsWord p = ⊤

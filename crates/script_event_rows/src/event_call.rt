@@ -2,16 +2,15 @@
 ghost use Rattle.std.specs.Prelude.{◌≡◌, ◌&&◌, IfOk, [], false};
 ghost use Rattle.board_event_model.specs.EventCalls as calls;
 ghost use Rattle.board_event_model.specs.EventCalls.{RunningCall, call_of};
+ghost use Rattle.script_model.specs.Reports.{StartsWord};
 ghost use Rattle.script_model.specs.ScriptEvents as script;
 ghost use Rattle.script_event_rows.specs.EventCalls.{HasTaken, IsKeptOf, IsNewOn, IsOfCall, call_in};
-ghost use Rattle.script_event_rows.specs.Tasks.{StartsWord};
 
 use crate::event_row::EventRow;
 use crate::notify_task::NotifyTask;
-use crate::reports::{end_told, is_last, is_waiting, report};
 use crate::wait_task::WaitTask;
 use board_event_model::{EventAccess, EventAnswer, EventKind, EventProgress, WaitMode};
-use script_model::EventReply;
+use script_model::{EventReply, end_told, is_last, is_waiting, report};
 use std::alloc::{AllocError, Global};
 
 // What a call has still to do.

@@ -10,7 +10,6 @@ mod event_call;
 mod event_row;
 mod id_words;
 mod notify_task;
-mod reports;
 mod wait_task;
 
 pub use event_call::{EventCall, Took};

@@ -3,7 +3,8 @@ ghost use Rattle.std.specs.Prelude.{◌≡◌, ◌≤◌, ◌<◌, ◌^◌};
 ghost use Rattle.board_event_model.specs.EventCalls as calls;
 ghost use Rattle.board_event_model.specs.NotifyCalls.{is_yes};
 ghost use Rattle.board_event_model.specs.WaitCalls as wait;
-ghost use Rattle.script_event_rows.specs.Tasks.{StartsWord, wait_went_on};
+ghost use Rattle.script_model.specs.Reports.{StartsWord};
+ghost use Rattle.script_event_rows.specs.Tasks.{wait_went_on};
 
 use board_event_model::{EventAccess, EventAnswer, EventProgress, WaitMode, WaitStage};
 use std::marker::Model;

@@ -1,5 +1,4 @@
 mod Options
-mod Ids
 mod Tables
 mod TableCalls
 mod Tasks

@@ -23,7 +23,8 @@ use Rattle.board_event_model.proofs.SoundLemmas.{gone_on, none_some, some_same}
 use Rattle.board_event_model.proofs.ViewLemmas.{session_reached}
 use Rattle.script_model.specs.ScriptEvents.{ScriptEvents, is_for_all}
 use Rattle.script_model.specs.SoundEvents.{AreSoundEvents}
-use Rattle.script_events.specs.Calls.{GoesOn, StartsWord}
+use Rattle.script_model.specs.Reports.{StartsWord}
+use Rattle.script_events.specs.Calls.{GoesOn}
 use Rattle.script_events.proofs.Options.{either}
 
 -- ---- stages

@@ -1,7 +1,5 @@
 -- What the parts of a call do. No clause of a public call cites what follows.
-use Rattle.std.specs.Prelude.{◌≡◌, ◌≢◌, ℕ, ◌+◌, ◌-◌, ◌*◌, ◌<◌, ◌^◌, Bool, false, not, ◌&&◌, if◌then◌else◌, List, [], ◌∷◌, ◌++◌, Option, Some, None, is_some, IsSomeAnd, IsSome, Result, Ok, Err, ⊤}
-use Rattle.board_event_model.specs.declared.call.EventProgress.{EventProgress}
-use Rattle.board_event_model.specs.declared.call.EventProgress.TheVariants as progress
+use Rattle.std.specs.Prelude.{◌≡◌, ◌≢◌, ℕ, ◌+◌, ◌-◌, ◌<◌, ◌^◌, Bool, false, not, ◌&&◌, if◌then◌else◌, List, [], ◌∷◌, ◌++◌, Option, Some, None, is_some, IsSomeAnd, IsSome, Result, Ok, Err, ⊤}
 use Rattle.board_event_model.specs.declared.call.NotifyStage.TheVariants as notify
 use Rattle.board_event_model.specs.declared.call.WaitStage.TheVariants as wait
 use Rattle.board_event_model.specs.EventMemory.{Event, IsRight, after}
@@ -83,20 +81,6 @@ pub record IsActStep (old new : EventTable) (event : ℕ) (call next : EventCall
   pub memory : new ≡ changed old event (λ e. after e s.access)
   pub progress : s.progress ≡ (turn call s.answer).0
   pub goes_on : next ≡ (turn call s.answer).1
-
--- the first id of a word is a multiple of 64
-abbrev pub StartsWord : EventProgress → Type 0
-StartsWord progress.More = ⊤
-StartsWord progress.Waiting = ⊤
-StartsWord (progress.Took base bits last) = (k : ℕ) × (base ≡ 64 * k)
-StartsWord (progress.Id id last) = ⊤
-StartsWord progress.Notified = ⊤
-StartsWord (progress.Refused why) = ⊤
-StartsWord progress.Nothing = ⊤
-
--- the call is told so, where the ids that it has reported with its last access are these
-abbrev pub IsEndTold : Bool → EventProgress → List ℕ → EventReply → Type 0
-IsEndTold many p ids told = (before : List ℕ) → ids ≡ before ++ reported p → told ≡ end_told many before p
 
 -- a call that goes on, with the ids that it has reported
 pub record IsLeft (a : Act) (event : ℕ) (next : EventCall) (told : List ℕ) (waited : Bool) : Type 0 where

@@ -8,14 +8,13 @@ ghost use Rattle.script_events.specs.Left.{IsCutAt, IsCutShort, IsPerformed};
 ghost use Rattle.script_events.specs.PartyEvents.{Gives, IsLed, OfEach, StepMayWant, Steps, event_call, held_in};
 
 use crate::asking::{add_notifier, listen};
-use crate::calls::{end_told, is_last, is_waiting, tell};
 use crate::party_events::PartyEvents;
 use crate::rows::{Act, CallTask};
 use crate::things::Things;
 use board_event_core::Events;
 use board_event_model::{EventAccess, EventAnswer};
 use board_model::Name;
-use script_model::EventReply;
+use script_model::{EventReply, end_told, is_last, is_waiting, report};
 use std::alloc::{AllocError, Global};
 use std::mem;
 
@@ -134,7 +133,7 @@ impl Act {
     {
         let event = self.event;
         let step = self.call.step(events, event);
-        tell(step.progress, &mut self.told)?;
+        report(step.progress, &mut self.told)?;
         if is_last(step.progress) {
             let ids = mem::replace(&mut self.told, Vec::new(alloc));
             let told = end_told(self.call.is_for_all(), step.progress, ids);

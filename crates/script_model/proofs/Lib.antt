@@ -16,6 +16,7 @@ pub mod OneLemmas
 pub mod OwedLemmas
 pub mod PartLemmas
 pub mod ReplyLaws
+pub mod ReportLemmas
 pub mod RuleLemmas
 pub mod ScriptSoundLemmas
 pub mod TaskLemmas

@@ -1,6 +1,7 @@
 pub mod ScriptGrammar
 pub mod ScriptAnswers
 pub mod ScriptEvents
+pub mod Reports
 pub mod ScriptTurns
 pub mod ScriptRules
 pub mod ScriptSession

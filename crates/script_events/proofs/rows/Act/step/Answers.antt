@@ -7,15 +7,15 @@ use Rattle.board_event_model.specs.EventMemory.{after}
 use Rattle.script_model.specs.declared.reply.EventReply.{EventReply}
 use Rattle.script_model.specs.ScriptEvents.{end_told, is_for_all}
 use Rattle.script_events.specs.declared.step.Stepped.TheVariants as stepped
-use Rattle.script_events.specs.Calls.{StartsWord}
+use Rattle.script_model.specs.Reports.{StartsWord}
 use Rattle.script_events.specs.PartyEvents.{event_call}
 use Rattle.script_events.proofs.Options.{anyway}
 use Rattle.script_events.proofs.Running.{same_many, turn_words}
 use Rattle.script_events.proofs.Steps.{gives_at}
 use Rattle.script_events.proofs.rows.Act.step.Goals as goal
 
-pub tell-requires : goal.tell-requires
-tell-requires c = subst StartsWord (sym c.step-step.ensures.progress) (turn_words (event_call c.args.self.now.call) c.step-step.result.answer)
+pub report-requires : goal.report-requires
+report-requires c = subst StartsWord (sym c.step-step.ensures.progress) (turn_words (event_call c.args.self.now.call) c.step-step.result.answer)
 
 pub returns-then-is_last-clause-told : goal.returns-then-is_last-clause-told
 returns-then-is_last-clause-told c =
@@ -33,13 +33,13 @@ returns-then-is_last-clause-told c =
       left = λ more. absurd (let no : true ≡ false = sym last ∙ more in cc);
     }
 
-pub returns-in_err-tell-clause-memory : goal.returns-in_err-tell-clause-memory
-returns-in_err-tell-clause-memory c =
+pub returns-in_err-report-clause-memory : goal.returns-in_err-report-clause-memory
+returns-in_err-report-clause-memory c =
     let step = c.step-step.ensures in
     anyway c.from_residual.result _ (gives_at c.args.events.now c.args.self.now.event (event_call c.args.self.now.call) c.step-step.result.access c.step-step.result.answer step.right step.owes
-    (subst (λ (p : EventProgress). 0 < length (reported p)) step.progress c.in_err-tell.ensures.memory))
+    (subst (λ (p : EventProgress). 0 < length (reported p)) step.progress c.in_err-report.ensures.memory))
 
-pub returns-in_err-tell-clause-events : goal.returns-in_err-tell-clause-events
-returns-in_err-tell-clause-events c =
+pub returns-in_err-report-clause-events : goal.returns-in_err-report-clause-events
+returns-in_err-report-clause-events c =
     let step = c.step-step.ensures in
     anyway c.from_residual.result _ (step.memory ∙ ap (λ (a : EventAccess). changed c.args.events.now c.args.self.now.event (λ e. after e a)) step.owes)

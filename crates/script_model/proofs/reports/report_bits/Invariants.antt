@@ -2,7 +2,7 @@ use Rattle.std.proofs.Common.{◌≡◌, ◌++◌}
 use Rattle.std.specs.Prelude.{◌-◌, ◌==◌}
 use Rattle.std.specs.Int.{bit_at}
 use Rattle.board_event_model.specs.Ids.{ids_where}
-use Rattle.script_events.proofs.calls.tell_bits.Given as goal
+use Rattle.script_model.proofs.reports.report_bits.Given as goal
 
 -- the ids of the bits so far were told
 abbrev pub invariant-loop-i : goal.invariant-loop-i

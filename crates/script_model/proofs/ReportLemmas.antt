@@ -1,11 +1,11 @@
 -- The ids of one bit more.
 use Rattle.std.proofs.Common.{◌≡◌, ℕ, zero, suc, ◌+◌, ◌<◌, Bool, true, List, [], ◌∷◌, ◌++◌, length, append_assoc, arith, refl, sym, ap, subst, ◌∙◌, inl, inr}
-use Rattle.std.specs.Prelude.{if◌then◌else◌, ◌==◌, ◌-◌}
+use Rattle.std.specs.Prelude.{if◌then◌else◌, ◌==◌, ◌-◌, Result, Ok, Err, OnErr}
 use Rattle.std.specs.Int.{bit_at}
 use Rattle.board_event_model.specs.Ids.{ids_where}
-use Rattle.script_events.proofs.Options.{either}
+use Rattle.board_event_model.proofs.SetLemmas.{either}
 
-pub ids_where-more : (p : ℕ → Bool) (at n : ℕ) → ids_where p at (suc n) ≡ ids_where p at n ++ (if p (at + n) then (at + n) ∷ [] else [])
+ids_where-more : (p : ℕ → Bool) (at n : ℕ) → ids_where p at (suc n) ≡ ids_where p at n ++ (if p (at + n) then (at + n) ∷ [] else [])
 ids_where-more p at zero = (let e : at + 0 ≡ at = omega arith in rw e refl)
 ids_where-more p at (suc n) =
     let more = ids_where-more p (at + 1) n in
@@ -16,9 +16,9 @@ ids_where-more p at (suc n) =
     ]
 
 -- the ids of the bits of a word, with one bit more
-pub told_more : (bits base i : ℕ) (old mid new : List ℕ) → mid ≡ old ++ ids_where (λ j. bit_at bits (j - base) == 1) base i → new ≡ mid ++ (if bit_at bits i == 1 then (base + i) ∷ [] else [])
+pub reported_more : (bits base i : ℕ) (old mid new : List ℕ) → mid ≡ old ++ ids_where (λ j. bit_at bits (j - base) == 1) base i → new ≡ mid ++ (if bit_at bits i == 1 then (base + i) ∷ [] else [])
     → new ≡ old ++ ids_where (λ j. bit_at bits (j - base) == 1) base (i + 1)
-told_more bits base i old mid new e f =
+reported_more bits base i old mid new e f =
     let p : ℕ → Bool = λ j. bit_at bits (j - base) == 1 in
     let same : base + i - base ≡ i = omega arith in
     let next : i + 1 ≡ suc i = omega arith in
@@ -45,3 +45,8 @@ some_ids bits base i count below some =
       | inl f ↦ some_where (λ j. bit_at bits (j - base) == 1) base i count below (rw same f)
       | inr f ↦ absurd (let none = subst (λ (b : Bool). 0 < length (if b then (base + i) ∷ [] else [])) f some in omega (arith, none))
     ]
+
+-- what holds anyway
+pub anyway : {T E : Type 0} (r : Result T E) (X : Type 0) → X → OnErr r X
+anyway (Ok a) X x = tt
+anyway (Err e) X x = x

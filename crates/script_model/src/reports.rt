@@ -1,18 +1,17 @@
-//! What a step of a call reports, and what a call is told at its end.
-ghost use Rattle.std.specs.Prelude.{◌≡◌, ◌++◌, ◌≤◌, ◌^◌, ◌+◌, ◌<◌, OnOk};
+//! What the steps of a call on an event report, and what the call is told at its end.
+ghost use Rattle.std.specs.Prelude.{◌≡◌, ◌++◌, ◌≤◌, ◌^◌, ◌+◌, ◌<◌, length, OnErr, OnOk};
 ghost use Rattle.board_event_model.specs.EventCalls as calls;
 ghost use Rattle.board_event_model.specs.Ids.{id_of_bit, ids_of_bits};
-ghost use Rattle.script_model.specs.ScriptEvents as script;
-ghost use Rattle.script_event_rows.specs.EventCalls.{IsToldAtEnd};
-ghost use Rattle.script_event_rows.specs.Tasks.{StartsWord};
+ghost use Rattle.script_model.specs.Reports.{IsToldAtEnd, StartsWord};
+ghost use Rattle.script_model.specs.ScriptEvents as model;
 
+use crate::reply::EventReply;
 use board_event_model::EventProgress;
 use board_model::Words;
-use script_model::EventReply;
 use std::alloc::AllocError;
 
-// Whether the step ends the call.
-pub(crate) fn is_last(progress: EventProgress) -> bool
+/// Whether this step ends its call.
+pub fn is_last(progress: EventProgress) -> bool
     ensures { result ≡ calls.is_last progress }
 {
     match progress {
@@ -30,18 +29,19 @@ pub(crate) fn is_last(progress: EventProgress) -> bool
     }
 }
 
-// Whether it was a waiting look that found nothing.
-pub(crate) fn is_waiting(progress: EventProgress) -> bool
+/// Whether it was a waiting look that found nothing.
+pub fn is_waiting(progress: EventProgress) -> bool
     ensures { result ≡ calls.is_waiting progress }
 {
     matches!(progress, EventProgress::Waiting)
 }
 
-// Adds the bit's id, if it is set.
+// Appends the bit's id to the ids taken so far, if it is set.
 fn report_bit(base: u64, bits: u64, i: u64, told: &mut Vec<u64>) -> Result<(), AllocError>
     requires word { i < 64 }
     requires room { base + i < 2 ^ 64 }
-    ensures { OnOk result (told.new.items ≡ told.old.items ++ id_of_bit base bits i) }
+    ensures ok { OnOk result (told.new.items ≡ told.old.items ++ id_of_bit base bits i) }
+    ensures memory { OnErr result (0 < length (id_of_bit base bits i)) }
 {
     if (bits >> i) & 1 == 1 {
         told.push(base + i)?;
@@ -49,11 +49,12 @@ fn report_bit(base: u64, bits: u64, i: u64, told: &mut Vec<u64>) -> Result<(), A
     Ok(())
 }
 
-// Adds the ids of the first `count` bits: `base + i` for each bit i that is set.
+// Appends the ids of the first `count` bits to the ids taken so far: `base + i` for each bit i that is set.
 fn report_bits(base: u64, bits: u64, count: u64, told: &mut Vec<u64>) -> Result<(), AllocError>
     requires word { count ≤ 64 }
     requires room { base + count ≤ 2 ^ 64 }
-    ensures { OnOk result (told.new.items ≡ told.old.items ++ ids_of_bits base bits count) }
+    ensures ok { OnOk result (told.new.items ≡ told.old.items ++ ids_of_bits base bits count) }
+    ensures memory { OnErr result (0 < length (ids_of_bits base bits count)) }
 {
     for i in 0..count {
         report_bit(base, bits, i, told)?;
@@ -61,10 +62,14 @@ fn report_bits(base: u64, bits: u64, count: u64, told: &mut Vec<u64>) -> Result<
     Ok(())
 }
 
-// Adds the ids that a step reports.
-pub(crate) fn report(progress: EventProgress, told: &mut Vec<u64>) -> Result<(), AllocError>
+/// Appends the ids that a step reports to the ids taken so far.
+///
+/// # Errors
+/// `AllocError` where memory is refused. There is none of it without an id to append.
+pub fn report(progress: EventProgress, told: &mut Vec<u64>) -> Result<(), AllocError>
     requires { StartsWord progress }
-    ensures { OnOk result (told.new.items ≡ told.old.items ++ calls.reported progress) }
+    ensures ok { OnOk result (told.new.items ≡ told.old.items ++ calls.reported progress) }
+    ensures memory { OnErr result (0 < length (calls.reported progress)) }
 {
     match progress {
         EventProgress::Took {
@@ -82,7 +87,7 @@ pub(crate) fn report(progress: EventProgress, told: &mut Vec<u64>) -> Result<(),
 
 // The ids that a wait took.
 fn ids_told(many: bool, told: Vec<u64>) -> EventReply
-    ensures { result ≡ script.ids_told many told.items }
+    ensures { result ≡ model.ids_told many told.items }
 {
     if many {
         return EventReply::Ids(Words::from_vec(told));
@@ -93,8 +98,8 @@ fn ids_told(many: bool, told: Vec<u64>) -> EventReply
     }
 }
 
-// What a call is told that ended so, where these are all ids that it has reported.
-pub(crate) fn end_told(many: bool, progress: EventProgress, told: Vec<u64>) -> EventReply
+/// What a call is told that ended so, where these are all ids that it has taken.
+pub fn end_told(many: bool, progress: EventProgress, told: Vec<u64>) -> EventReply
     ensures { IsToldAtEnd many progress told.items result }
 {
     match progress {
