@@ -18,21 +18,9 @@ use board_layout::Text;
 use board_model::{Name, Reason};
 use script_board_tables::Seat;
 use script_event_rows::{EventCall, Took};
-use script_model::{EventReply, EventRequest};
+use script_model::{EventReply, EventRequest, name_made};
 use script_print::{push_begun, push_event_asked, push_event_step, push_expired, push_refused};
 use std::alloc::AllocError;
-
-// The name of the listener or notifier that a call makes.
-fn name_made(request: &EventRequest) -> Option<Name>
-    ensures { result ≡ events.name_made request.now }
-{
-    match request {
-        EventRequest::ListenBits { listener, .. } => Some(*listener),
-        EventRequest::ListenQueue { listener, .. } => Some(*listener),
-        EventRequest::Notifier { notifier, .. } => Some(*notifier),
-        _ => None,
-    }
-}
 
 impl Judge {
     // A notify, where the party holds the notifier.

@@ -1,7 +1,6 @@
 //! Lines of events.
 ghost use Rattle.std.specs.Prelude.{◌≡◌, ◌+◌, ◌≤◌, [], OnErr, OnOk, vec_capacity};
 ghost use Rattle.script_model.specs.declared.line.ScriptLine.TheVariants as line;
-ghost use Rattle.script_model.specs.ScriptEvents.{name_made};
 ghost use Rattle.script_model.specs.ScriptGrammar.{IsScriptLine};
 ghost use Rattle.script_boards.specs.Machine.{drawn_by};
 ghost use Rattle.script_events.specs.PartyEvents.{TellsTaken};
@@ -11,21 +10,9 @@ ghost use Rattle.script_machine.specs.Wants.{MayWant};
 use crate::machine::Machine;
 use board_model::{Answer, Name, Reason};
 use board_service::BoardWords;
-use script_model::EventRequest;
+use script_model::{EventRequest, name_made};
 use script_print::{push_answer, push_expired, push_refused};
 use std::alloc::AllocError;
-
-// The name of the listener or notifier that a call makes.
-fn name_made(request: &EventRequest) -> Option<Name>
-    ensures { result ≡ name_made request.now }
-{
-    match request {
-        EventRequest::ListenBits { listener, .. } => Some(*listener),
-        EventRequest::ListenQueue { listener, .. } => Some(*listener),
-        EventRequest::Notifier { notifier, .. } => Some(*notifier),
-        _ => None,
-    }
-}
 
 // Why an expiry is refused of a party that isn't free: a call on boards is no timed wait.
 fn no_wait(why: Reason) -> Reason

@@ -3,7 +3,7 @@
 //! Begin with `specs/ScriptSession`: right answers, the state after a line, and the lawful sessions. The rules of an answer
 //! stand in `ScriptRules`. `ScriptTurns` says what a line is on account of events; a line that is none of that is answered
 //! by the rules of boards. `ScriptOutput` has the sessions whose lines are those of an input, and their output. The laws are
-//! public functions without a body. `new_name` and `reports` are what code that runs lines and code that judges them both ask.
+//! public functions without a body. `made_names` and `reports` are what code that runs lines and code that judges them both ask.
 #![tactic(auto)]
 
 pub mod answer_laws;
@@ -12,7 +12,7 @@ pub mod event_laws;
 pub mod form_laws;
 mod line;
 pub mod line_laws;
-mod new_name;
+mod made_names;
 pub mod part_laws;
 mod reply;
 mod reports;
@@ -22,6 +22,6 @@ pub mod worked_events;
 pub mod worked_scripts;
 
 pub use line::{EventName, EventRequest, ScriptLine};
-pub use new_name::new_name;
+pub use made_names::{name_made, new_name};
 pub use reply::EventReply;
 pub use reports::{end_told, is_last, is_waiting, report};

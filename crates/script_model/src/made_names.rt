@@ -1,7 +1,9 @@
-//! What a line of boards has in common with those of events: the names of a party's things.
+//! The names of the things that calls make. A party gives no name twice, be it to a thing of a board or of an event.
 ghost use Rattle.std.specs.Prelude.{◌≡◌};
 ghost use Rattle.board_model.specs.Requests as requests;
+ghost use Rattle.script_model.specs.ScriptEvents as events;
 
+use crate::line::EventRequest;
 use board_model::{Call, Name};
 
 /// The name of the thing that a call on boards makes, or turns another one into, where there is one.
@@ -20,6 +22,18 @@ pub fn new_name(call: &Call) -> Option<Name>
         Call::Discard { handle, .. } => Some(*handle),
         Call::Publish { handle, .. } => Some(*handle),
         Call::Fill { handle, .. } => Some(*handle),
+        _ => None,
+    }
+}
+
+/// The name of the listener or notifier that a call on events makes, where it makes one.
+pub fn name_made(request: &EventRequest) -> Option<Name>
+    ensures { result ≡ events.name_made request.now }
+{
+    match request {
+        EventRequest::ListenBits { listener, .. } => Some(*listener),
+        EventRequest::ListenQueue { listener, .. } => Some(*listener),
+        EventRequest::Notifier { notifier, .. } => Some(*notifier),
         _ => None,
     }
 }
