@@ -4,12 +4,11 @@ ghost use Rattle.std.specs.Bool.{OnTrue};
 ghost use Rattle.std.specs.List.{slice_split};
 ghost use Rattle.script_grammar.specs.LineReading.{begins_with};
 ghost use Rattle.script_grammar.specs.TokenReading.{is_end};
-ghost use Rattle.script_parse.specs.Tokens.{parts_left};
 ghost use Rattle.script_rules.specs.AnswerGroups.{before_reply, same_tokens};
 ghost use Rattle.script_answers.specs.AnswerReading.{first_is, is_number, labelled};
 
 use crate::bytes::{is_number, is_word};
-use script_parse::place_of;
+use script_parse::cut;
 use std::marker::Model;
 
 // The parts that are left of a text, up to so many.
@@ -27,17 +26,6 @@ impl<'a> Model for Tokens<'a> {
     ghost Value = { List (List ℕ) };
 
     ghost view = { λ t. take t.most (parts_left t.separator t.rest) };
-}
-
-// The text up to the separator, and the text behind it.
-fn cut<'a>(text: &'a [u8], separator: u8) -> (&'a [u8], Option<&'a [u8]>)
-    ensures { slice_split (λ b. b == separator) text.now
-        ≡ result.0.now ∷ parts_left separator result.1 }
-{
-    match place_of(text, separator) {
-        None => (text, None),
-        Some(at) => (&text[..at], Some(&text[at + 1..])),
-    }
 }
 
 impl<'a> Tokens<'a> {

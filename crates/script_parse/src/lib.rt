@@ -20,4 +20,5 @@ pub use atoms::number_of;
 pub use bytes::place_of;
 pub use parse::{line_or_unkept, parse_line};
 pub use short::{cut_at_call, get_at, get_of, notify_at, step_of, update_at, update_of, wait_at};
+pub use tokens::cut;
 pub use unkept::{Made, Unkept};

@@ -28,8 +28,8 @@ impl<'a> Model for Tokens<'a> {
     ghost view = { λ t. parts_left t.separator t.rest };
 }
 
-// The text up to the separator, and the text behind it.
-fn cut<'a>(text: &'a [u8], separator: u8) -> (&'a [u8], Option<&'a [u8]>)
+/// The text up to the first separator, and the text behind it, if there is one.
+pub fn cut<'a>(text: &'a [u8], separator: u8) -> (&'a [u8], Option<&'a [u8]>)
     ensures { slice_split (λ b. b == separator) text.now
         ≡ result.0.now ∷ parts_left separator result.1 }
 {
