@@ -1,15 +1,14 @@
 //! Words, published lists, loans and kept values.
-ghost use Rattle.std.specs.Prelude.{◌≡◌, ◌<◌, ◌&&◌, ◌==◌, ◌++◌, ◌∷◌, [], OnOk, Some, None, if◌then◌else◌, ℕ, List, Option, length, nat_eq, option_map, slice_get, slice_set};
+ghost use Rattle.std.specs.Prelude.{◌≡◌, ◌<◌, ◌&&◌, ◌==◌, ◌++◌, ◌∷◌, [], OnOk, Some, None, if◌then◌else◌, ℕ, List, length, nat_eq, option_map, slice_get, slice_set};
 ghost use Rattle.std.specs.HashMap.{get};
 ghost use Rattle.board_model.specs.Memory.{store};
 ghost use Rattle.board_model.specs.Replies.{published_at};
 ghost use Rattle.board_model.specs.Things.{with_at, with_name};
 ghost use Rattle.script_board_tables.specs.Tables.{Has, kept_at, kept_in, lists_in, loan_at, memory_of, published_of, standing_of, tables_of, words_in};
-ghost use Rattle.script_seats.specs.Seats.{SeatOf, same_seat};
 
 use crate::tables::{BoardRow, BoardTables, KeptValue, LoanWords};
 use board_model::{Name, Words};
-use script_seats::Seat;
+use script_seats::{Seat, forget, put};
 use std::alloc::AllocError;
 use std::collections::HashMap;
 
@@ -51,23 +50,6 @@ fn add_value(
     let list = &mut row.published[entry as usize];
     list.push(words)?;
     Ok(())
-}
-
-// What is under the seat is this.
-fn put<T: Drop>(map: &mut HashMap<Seat, T>, seat: Seat, value: T) -> Result<(), AllocError>
-    ensures { OnOk result ((s : SeatOf) → get same_seat map.new s
-        ≡ (if same_seat seat s then Some value else get same_seat map.old s)) }
-{
-    let _ = map.insert(seat, value)?;
-    Ok(())
-}
-
-// Nothing is under the seat.
-fn take<T: Drop>(map: &mut HashMap<Seat, T>, seat: &Seat)
-    ensures { (s : SeatOf) → get same_seat map.new s
-        ≡ (if same_seat seat.now s then None else get same_seat map.old s) }
-{
-    let _ = map.remove(seat);
 }
 
 impl BoardTables {
@@ -118,7 +100,7 @@ impl BoardTables {
             party: *party,
             name,
         };
-        put(&mut self.values, seat, value)?;
+        put(seat, value, &mut self.values)?;
         Ok(())
     }
 
@@ -157,7 +139,7 @@ impl BoardTables {
             party: *party,
             name: *loan,
         };
-        put(&mut self.loans, seat, words)?;
+        put(seat, words, &mut self.loans)?;
         Ok(())
     }
 
@@ -172,7 +154,7 @@ impl BoardTables {
             party: *party,
             name: *loan,
         };
-        take(&mut self.loans, &seat);
+        forget(&seat, &mut self.loans);
     }
 
     // The value is forgotten.
@@ -186,7 +168,7 @@ impl BoardTables {
             party: *party,
             name: *name,
         };
-        take(&mut self.values, &seat);
+        forget(&seat, &mut self.values);
     }
 
     // The loan becomes a write handle, and its words are forgotten.

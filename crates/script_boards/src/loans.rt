@@ -7,14 +7,14 @@ ghost use Rattle.script_boards.specs.LoanCalls.{CanSettle, HasLoanWord, IsGivenB
 ghost use Rattle.script_boards.specs.Machine.{IsLed};
 
 use crate::begin::{is_value_of, require, write_core};
-use crate::lookups::{forget, put, set_word};
+use crate::lookups::set_word;
 use crate::machine::{BoardMachine, TableTask, Task};
 use crate::not_begun::NotBegun;
 use board_model::{Name, Reason, Reply, ThingKind, Value, value_words};
 use board_ports::LoanCore;
 use board_service::BoardWords;
 use script_parties::Held;
-use script_seats::Seat;
+use script_seats::{Seat, forget, put};
 use std::alloc::AllocError;
 
 impl<C: BoardWords + Drop> BoardMachine<C> {

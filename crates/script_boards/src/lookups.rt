@@ -61,27 +61,6 @@ pub(crate) fn go_on(party: &Name, tasks: &mut HashMap<Name, Task>)
     let _ = task.took(0);
 }
 
-/// This is under the seat from now on.
-pub(crate) fn put<T: Drop>(
-    seat: Seat,
-    value: T,
-    map: &mut HashMap<Seat, T>,
-) -> Result<(), AllocError>
-    ensures { OnOk result ((s : SeatOf) → get same_seat map.new s
-        ≡ (if same_seat seat s then Some value else get same_seat map.old s)) }
-{
-    let _ = map.insert(seat, value)?;
-    Ok(())
-}
-
-/// Nothing is under the seat from now on.
-pub(crate) fn forget<T: Drop>(seat: &Seat, map: &mut HashMap<Seat, T>)
-    ensures { (s : SeatOf) → get same_seat map.new s
-        ≡ (if same_seat seat.now s then None else get same_seat map.old s) }
-{
-    let _ = map.remove(seat);
-}
-
 /// Sets a word of what is under the seat.
 pub(crate) fn set_word(
     seat: &Seat,

@@ -4,12 +4,11 @@ ghost use Rattle.board_model.specs.declared.line.Line.TheVariants as line;
 ghost use Rattle.script_boards.specs.Machine.{IsLed, Serves};
 ghost use Rattle.script_boards.specs.Steps.{IsLetGo};
 
-use crate::lookups::forget;
 use crate::machine::BoardMachine;
 use board_cell_model::Access;
 use board_model::{Answer, Name, Reason, Reply};
 use board_service::BoardWords;
-use script_seats::Seat;
+use script_seats::{Seat, forget};
 
 impl<C: BoardWords + Drop> BoardMachine<C> {
     // Takes away what a party holds under a name, and the board with its last thing.

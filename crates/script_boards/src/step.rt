@@ -11,13 +11,13 @@ ghost use Rattle.script_boards.specs.TaskWants.{TaskMayWant, keeps_value};
 ghost use Rattle.script_boards.specs.Wants.{MayWant};
 ghost use Rattle.script_boards.specs.declared.step.OwedAccess.TheVariants as owed;
 
-use crate::lookups::{go_on, hear, put};
+use crate::lookups::{go_on, hear};
 use crate::machine::{BoardMachine, KeptValue, TableTask, Task};
 use board_cell::{Access as CellAccess, Progress};
 use board_cell_model::Access;
 use board_model::{Answer, Name, Reason, Reply, Words};
 use board_service::BoardWords;
-use script_seats::Seat;
+use script_seats::{Seat, put};
 use std::alloc::AllocError;
 
 /// The read that a call owes.
