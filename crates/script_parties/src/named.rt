@@ -188,18 +188,16 @@ impl NamedThings {
         ensures { (things : ℕ → Option held.Held) → IsNames self.old things → IsNames self.new
             (λ n. option_map (held.named_anew party.now old.now new.now) (things n)) }
     {
-        let from = Seat {
-            party: *party,
-            name: *old,
-        };
-        let to = Seat {
-            party: *party,
-            name: *new,
-        };
-        match self.seats.rename(&from, &to) {
+        match self.seats.rename(party, old, new) {
             Sought::Nothing => {}
             Sought::Only(number) => rename_at(number, new, &mut self.names),
-            Sought::Unknown => rename_all(&from, new, &mut self.names),
+            Sought::Unknown => {
+                let from = Seat {
+                    party: *party,
+                    name: *old,
+                };
+                rename_all(&from, new, &mut self.names);
+            }
         }
     }
 }

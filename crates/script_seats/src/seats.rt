@@ -120,23 +120,31 @@ impl Seats {
 
     /// What a party has under the one name it has under the other from now on. Where there is no memory to keep the
     /// other name, no numbers are kept any more.
-    pub fn rename(&mut self, from: &Seat, to: &Seat) -> Sought
-        requires { from.now.party ≡ to.now.party }
+    pub fn rename(&mut self, party: &Name, old: &Name, new: &Name) -> Sought
         ensures index { (things : ℕ → Option held.Held) → IsIndex self.old things
-            → Renames things from.now to.now self.new result }
+            → Renames things (record { party = party.now; name = old.now })
+            (record { party = party.now; name = new.now }) self.new result }
         ensures told { is_told result ≡ is_kept self.new }
     {
         let Seats::Single(seats) = self else {
             return Sought::Unknown;
         };
-        let Some(number) = seats.remove(from) else {
+        let from = Seat {
+            party: *party,
+            name: *old,
+        };
+        let to = Seat {
+            party: *party,
+            name: *new,
+        };
+        let Some(number) = seats.remove(&from) else {
             return Sought::Nothing;
         };
-        if seats.contains_key(to) {
+        if seats.contains_key(&to) {
             *self = Seats::Unknown;
             return Sought::Unknown;
         }
-        let Ok(_) = seats.insert(*to, number) else {
+        let Ok(_) = seats.insert(to, number) else {
             *self = Seats::Unknown;
             return Sought::Unknown;
         };

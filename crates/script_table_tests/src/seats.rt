@@ -47,8 +47,8 @@ fn another_name(rt: HostRuntime) -> Result<(), Fail> {
         party,
         name: name(b"l"),
     };
-    assert!(rt; number(seats.rename(&handle, &loan)) == 1);
+    assert!(rt; number(seats.rename(&party, &handle.name, &loan.name)) == 1);
     assert!(rt; number(seats.find(&handle)) == 0 && number(seats.find(&loan)) == 1);
-    assert!(rt; number(seats.rename(&handle, &loan)) == 0);
+    assert!(rt; number(seats.rename(&party, &handle.name, &loan.name)) == 0);
     Ok(())
 }

@@ -195,15 +195,7 @@ impl NamedThings {
         ensures err { OnErr result (self.new ≡ self.old) }
     {
         self.seats.reserve()?;
-        let from = Seat {
-            party: *party,
-            name: *old,
-        };
-        let to = Seat {
-            party: *party,
-            name: *new,
-        };
-        match self.seats.rename(&from, &to) {
+        match self.seats.rename(party, old, new) {
             Sought::Nothing => {}
             Sought::Only(place) => rename_at(place as usize, new, &mut self.places),
             Sought::Unknown => rename_all(party, old, new, &mut self.places),
