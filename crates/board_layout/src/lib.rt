@@ -11,6 +11,7 @@ mod key_memory;
 mod key_words;
 mod keys;
 mod numbers;
+mod opening;
 mod plan_types;
 mod planning;
 mod shape;
@@ -25,6 +26,7 @@ pub use key_memory::{
     KeyMemory, KeyMemoryError, MAX_BLACKBOARD_KEY_ALIGNMENT, MAX_BLACKBOARD_KEY_SIZE,
 };
 pub use keys::{is_key, key_of, same_keys};
+pub use opening::{push_cell, push_zeros};
 pub use plan_types::{Plan, PlanError};
 pub use planning::plan;
 pub use shape::{CellPlace, CellShape, Shape};

@@ -1,12 +1,12 @@
 //! A new board: its entries, its words, and what is published of it at first.
-ghost use Rattle.std.specs.Prelude.{◌≡◌, ◌++◌, ◌∷◌, [], All, IfOk, OnOk, length, map, replicate};
-ghost use Rattle.board_layout.specs.Layout.{opening_cell, opening_words};
+ghost use Rattle.std.specs.Prelude.{◌≡◌, [], All, IfOk, length, map};
+ghost use Rattle.board_layout.specs.Layout.{opening_words};
 ghost use Rattle.board_model.specs.Replies.{added_of};
 ghost use Rattle.board_model.specs.Tables as tables;
 ghost use Rattle.board_model.specs.TypeTable as types;
 ghost use Rattle.script_board_rows.specs.NewBoards.{AreFirstLists, IsOpened, IsOpenedAt, IsSmallPlace, first_values};
 
-use board_layout::{CellPlace, Plan, PlanError, Shape, plan};
+use board_layout::{CellPlace, Plan, PlanError, Shape, plan, push_cell, push_zeros};
 use board_model::{AddedEntry, Entry, Value, Words, key_bytes, type_of, value_detail, value_words};
 use std::alloc::{AllocError, Global};
 
@@ -35,25 +35,6 @@ fn shapes_of(alloc: Global, added: &[AddedEntry]) -> Result<Vec<Shape>, AllocErr
         })?;
     }
     Ok(shapes)
-}
-
-fn push_zeros(words: &mut Vec<u64>, count: u64) -> Result<(), AllocError>
-    ensures { OnOk result (words.new.items ≡ words.old.items ++ replicate count 0) }
-{
-    for _ in 0..count {
-        words.push(0)?;
-    }
-    Ok(())
-}
-
-fn push_cell(words: &mut Vec<u64>, cell: &CellPlace, value: &[u64]) -> Result<(), AllocError>
-    ensures { OnOk result
-        (words.new.items ≡ words.old.items ++ opening_cell cell.now value.now) }
-{
-    words.push(1)?;
-    push_zeros(words, cell.head.saturating_sub(1))?;
-    words.extend_from_slice(value)?;
-    push_zeros(words, cell.words)
 }
 
 // The words of the cells, which open with the values.

@@ -1,6 +1,6 @@
 use Rattle.std.proofs.Common.{◌≡◌, ◌++◌}
 use Rattle.std.specs.Prelude.{replicate}
-use Rattle.script_board_rows.proofs.new_board.push_zeros.Given as goal
+use Rattle.board_layout.proofs.opening.push_zeros.Given as goal
 
 abbrev pub invariant-loop : goal.invariant-loop
 invariant-loop l = l.words.items ≡ l.fn.words.items ++ replicate l.counter 0
