@@ -216,46 +216,6 @@ pub fn calls_of(
     Ok(Some(Calls { width, call, count }))
 }
 
-/// The task on a cell that the words after the first spell, if they do.
-///
-/// # Errors
-/// `AllocError` where memory is refused.
-pub fn solo_of(
-    alloc: Global,
-    width: &str,
-    call: &str,
-    count: &str,
-) -> Result<Option<Task>, AllocError>
-    ensures spelled { IfOk result (λ o.
-        IfSome o (IsTaskOf (cell_words (codes "solo") width.now call.now count.now))) }
-    ensures found { (calls : Calls) → AreCallsOf width.now call.now count.now calls → IfOk result IsSome }
-{
-    let Some(calls) = calls_of(alloc, width, call, count)? else {
-        return Ok(None);
-    };
-    Ok(Some(Task::Solo(calls)))
-}
-
-/// The task on typed handles that the words after the first spell, if they do.
-///
-/// # Errors
-/// `AllocError` where memory is refused.
-pub fn typed_of(
-    alloc: Global,
-    width: &str,
-    call: &str,
-    count: &str,
-) -> Result<Option<Task>, AllocError>
-    ensures spelled { IfOk result (λ o.
-        IfSome o (IsTaskOf (cell_words (codes "typed") width.now call.now count.now))) }
-    ensures found { (calls : Calls) → AreCallsOf width.now call.now count.now calls → IfOk result IsSome }
-{
-    let Some(calls) = calls_of(alloc, width, call, count)? else {
-        return Ok(None);
-    };
-    Ok(Some(Task::Typed(calls)))
-}
-
 /// The task of four words that they spell, if they do.
 ///
 /// # Errors
@@ -274,8 +234,8 @@ pub fn cell_task_of(
 {
     match what {
         "shared" => shared_of(alloc, width, how, count),
-        "solo" => solo_of(alloc, width, how, count),
-        "typed" => typed_of(alloc, width, how, count),
+        "solo" => Ok(calls_of(alloc, width, how, count)?.map(Task::Solo)),
+        "typed" => Ok(calls_of(alloc, width, how, count)?.map(Task::Typed)),
         _ => Ok(None),
     }
 }
