@@ -100,17 +100,11 @@ fn goes<R: Wait + Abort, K: KindOfEvents + Drop>(
     rt: &R,
     ends: Ends<K>,
 ) -> (Result<(), NotifierNotifyError>, bool, bool) {
-    let Ends {
-        registry,
-        listener,
-        notifier,
-        alloc,
-    } = ends;
-    listener.release(rt);
-    let before = is_free(rt, alloc, &registry);
-    let answer = notifier.notify(rt, TriggerId::new(200));
-    notifier.release(rt);
-    (answer, before, is_free(rt, alloc, &registry))
+    ends.listener.release(rt);
+    let before = is_free(rt, ends.alloc, &ends.registry);
+    let answer = ends.notifier.notify(rt, TriggerId::new(200));
+    ends.notifier.release(rt);
+    (answer, before, is_free(rt, ends.alloc, &ends.registry))
 }
 
 #[test]
@@ -129,21 +123,15 @@ fn go_in_turn<R: Wait + Abort>(
     rt: &R,
     ends: Ends<SetOfIds>,
 ) -> (Option<NotifierCreateError>, bool, bool) {
-    let Ends {
-        registry,
-        listener,
-        notifier,
-        alloc,
-    } = ends;
-    let second = opens(rt, b"e", &registry)
+    let second = opens(rt, b"e", &ends.registry)
         .open(rt)
         .expect(rt, "a held name");
-    listener.release(rt);
-    let late = opens(rt, b"e", &registry).open(rt).err();
-    notifier.release(rt);
-    let before = is_free(rt, alloc, &registry);
+    ends.listener.release(rt);
+    let late = opens(rt, b"e", &ends.registry).open(rt).err();
+    ends.notifier.release(rt);
+    let before = is_free(rt, ends.alloc, &ends.registry);
     second.release(rt);
-    (late, before, is_free(rt, alloc, &registry))
+    (late, before, is_free(rt, ends.alloc, &ends.registry))
 }
 
 #[test]
