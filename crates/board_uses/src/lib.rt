@@ -1,5 +1,5 @@
-//! The tests of monitoring and channels by their public names alone; and channels used by code over their trait alone: what
-//! typed calls do behind their locks, of which their clauses say little.
+//! The tests of monitoring and channels by their public names alone; and these and storages used by code over their traits
+//! alone: what typed calls do behind their locks, of which their clauses say little.
 #![tactic(auto)]
 
 #[cfg(test)]
@@ -12,3 +12,5 @@ mod channels;
 mod monitoring;
 #[cfg(test)]
 mod same;
+#[cfg(test)]
+mod storages;
