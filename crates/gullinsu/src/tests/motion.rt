@@ -22,8 +22,8 @@ impl Motion {
     };
 }
 
-// A field as a word.
-fn word(field: u64) -> u64
+/// A field as a word.
+pub(super) fn word(field: u64) -> u64
     ensures same { result ≡ field }
     ensures small { field < 2 ^ 64 }
 {

@@ -3,6 +3,7 @@ ghost use Rattle.std.specs.Prelude.{◌≡◌, ◌^◌, ◌<◌, [], ◌∷◌, 
 ghost use Rattle.std.proofs.Common.{rules};
 ghost use Rattle.gullinsu.specs.OwnTypes.{none_small, one_more, whole_words};
 
+use super::motion::word;
 use crate::prelude::ZeroCopySend;
 use std::test::*;
 
@@ -12,14 +13,6 @@ struct Position {
     x: u64,
     y: u64,
     z: u64,
-}
-
-// A field as a word.
-fn word(field: u64) -> u64
-    ensures same { result ≡ field }
-    ensures small { field < 2 ^ 64 }
-{
-    field
 }
 
 impl ZeroCopySend for Position {
