@@ -185,85 +185,71 @@ fn a_name_is_taken_when_lent(rt: HostRuntime) -> Result<(), Fail> {
     Ok(())
 }
 
-// Code over the trait alone: a name that is taken is seen alive, until it is let go.
-fn is_taken_and_released<R: Wait + Abort, M: Monitoring>(
-    rt: &R,
+// A name of any monitoring, for code over the trait alone.
+#[derive(Drop)]
+struct Named<'a, R, M: Monitoring> {
+    rt: &'a R,
     alloc: Global,
-    registry: &M::Registry,
-    name: &FileName,
-) -> Result<(), Fail>
+    registry: &'a M::Registry,
+    name: &'a FileName,
+}
+
+impl<R: Wait + Abort, M: Monitoring> Named<'_, R, M>
 where
     M::Token: Drop,
     M::Monitor: Drop,
 {
-    let token = M::Builder::new(name, registry)?.token(rt, alloc)?;
-    let monitor = M::Builder::new(name, registry)?.monitor()?;
-    let alive = monitor.state(rt);
-    token.release(rt);
-    same(
-        rt,
-        &(alive, monitor.state(rt)),
-        &(Ok(State::Alive), Ok(State::DoesNotExist)),
-    );
-    Ok(())
-}
+    fn builder(&self) -> Result<M::Builder, Fail> {
+        Ok(M::Builder::new(self.name, self.registry)?)
+    }
 
-// Code over the trait alone: a name that was left is dead, also after its cleaner gave up.
-fn is_left_dead<R: Wait + Abort, M: Monitoring>(
-    rt: &R,
-    alloc: Global,
-    registry: &M::Registry,
-    name: &FileName,
-) -> Result<(), Fail>
-where
-    M::Token: Drop,
-    M::Monitor: Drop,
-{
-    let token = M::Builder::new(name, registry)?.token(rt, alloc)?;
-    token.abandon(rt);
-    let cleaner = M::Builder::new(name, registry)?.cleaner(rt)?;
-    cleaner.relinquish(rt);
-    let monitor = M::Builder::new(name, registry)?.monitor()?;
-    same(rt, &monitor.state(rt), &Ok(State::Dead));
-    Ok(())
-}
+    // It is taken and seen alive, until it is let go.
+    fn is_taken_and_released(&self) -> Result<(), Fail> {
+        let token = self.builder()?.token(self.rt, self.alloc)?;
+        let monitor = self.builder()?.monitor()?;
+        let alive = monitor.state(self.rt);
+        token.release(self.rt);
+        same(
+            self.rt,
+            &(alive, monitor.state(self.rt)),
+            &(Ok(State::Alive), Ok(State::DoesNotExist)),
+        );
+        Ok(())
+    }
 
-// Code over the trait alone: the name of the dead is gone once it was cleaned up.
-fn is_cleaned_up<R: Wait + Abort, M: Monitoring>(
-    rt: &R,
-    registry: &M::Registry,
-    name: &FileName,
-) -> Result<(), Fail>
-where
-    M::Monitor: Drop,
-{
-    let cleaner = M::Builder::new(name, registry)?.cleaner(rt)?;
-    cleaner.release(rt);
-    let monitor = M::Builder::new(name, registry)?.monitor()?;
-    same(rt, &monitor.state(rt), &Ok(State::DoesNotExist));
-    Ok(())
-}
+    // It is left and dead, also after its cleaner gave up.
+    fn is_left_dead(&self) -> Result<(), Fail> {
+        let token = self.builder()?.token(self.rt, self.alloc)?;
+        token.abandon(self.rt);
+        let cleaner = self.builder()?.cleaner(self.rt)?;
+        cleaner.relinquish(self.rt);
+        let monitor = self.builder()?.monitor()?;
+        same(self.rt, &monitor.state(self.rt), &Ok(State::Dead));
+        Ok(())
+    }
 
-// Code over the trait alone: a name is there until it is removed, once.
-fn is_removed<R: Wait + Abort, M: Monitoring>(
-    rt: &R,
-    alloc: Global,
-    registry: &M::Registry,
-    name: &FileName,
-) -> Result<(), Fail>
-where
-    M::Token: Drop,
-{
-    let config = Configuration::with_suffix(&M::default_suffix());
-    let token = M::Builder::new(name, registry)?.token(rt, alloc)?;
-    let before = M::does_exist_cfg(rt, registry, name, &config);
-    let first = M::remove_cfg(rt, registry, name, &config);
-    let second = M::remove_cfg(rt, registry, name, &config);
-    token.abandon(rt);
-    let after = M::does_exist_cfg(rt, registry, name, &config);
-    same(rt, &(before, after), &(Ok(true), Ok(false)));
-    same(rt, &(first, second), &(Ok(true), Ok(false)));
-    Ok(())
+    // It is gone once the dead was cleaned up.
+    fn is_cleaned_up(&self) -> Result<(), Fail> {
+        self.builder()?.cleaner(self.rt)?.release(self.rt);
+        let monitor = self.builder()?.monitor()?;
+        same(self.rt, &monitor.state(self.rt), &Ok(State::DoesNotExist));
+        Ok(())
+    }
+
+    // It is there until it is removed, once.
+    fn is_removed(&self) -> Result<(), Fail> {
+        let (rt, registry, name) = (self.rt, self.registry, self.name);
+        let config = Configuration::with_suffix(&M::default_suffix());
+        let token = self.builder()?.token(rt, self.alloc)?;
+        let before = M::does_exist_cfg(rt, registry, name, &config);
+        let first = M::remove_cfg(rt, registry, name, &config);
+        let second = M::remove_cfg(rt, registry, name, &config);
+        token.abandon(rt);
+        let after = M::does_exist_cfg(rt, registry, name, &config);
+        same(rt, &(before, after), &(Ok(true), Ok(false)));
+        same(rt, &(first, second), &(Ok(true), Ok(false)));
+        Ok(())
+    }
 }
 
 // The token of another name is left alone.
@@ -278,12 +264,18 @@ fn any_monitoring_is_used_by_the_traits(rt: HostRuntime) -> Result<(), Fail> {
     let (alloc, name) = (rt.alloc(), FileName::new(b"t")?);
     let registry = MonitoringRegistry::new(alloc)?;
     let stranger = Builder::new(&FileName::new(b"u")?, &registry)?.token(&rt, alloc)?;
-    is_taken_and_released::<_, ProcessLocalMonitoring>(&rt, alloc, &registry, &name)?;
+    let named = Named::<_, ProcessLocalMonitoring> {
+        rt: &rt,
+        alloc,
+        registry: &registry,
+        name: &name,
+    };
+    named.is_taken_and_released()?;
     stays_alive(&rt, &registry)?;
-    is_left_dead::<_, ProcessLocalMonitoring>(&rt, alloc, &registry, &name)?;
-    is_cleaned_up::<_, ProcessLocalMonitoring>(&rt, &registry, &name)?;
+    named.is_left_dead()?;
+    named.is_cleaned_up()?;
     stays_alive(&rt, &registry)?;
-    is_removed::<_, ProcessLocalMonitoring>(&rt, alloc, &registry, &name)?;
+    named.is_removed()?;
     stays_alive(&rt, &registry)?;
     stranger.release(&rt);
     Ok(())
