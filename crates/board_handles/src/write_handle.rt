@@ -33,21 +33,6 @@ impl<K, V: ZeroCopySend, P> Model for EntryHandleMut<K, V, P> {
 }
 
 impl<K, V: ZeroCopySend, P> EntryHandleMut<K, V, P> {
-    pub(crate) fn new(
-        found: Found,
-        end: WriteEnd,
-        words: Vec<u64>,
-        places: Vec<Option<u64>>,
-        domain: Domain,
-    ) -> EntryHandleMut<K, V, P>
-        requires buffers { (length words.items ≡ V.WORDS) × (length places.items ≡ V.WORDS) }
-        requires width { (arc_value end.cell).width ≡ V.WORDS }
-        ensures handle { result ≡ record { found = found; held = end_seen end } }
-        ensures width { result.held.cell.width ≡ V.WORDS }
-    {
-        EntryHandleMut::of(Writing::new(found, end, words, places, domain))
-    }
-
     // The handle that has this.
     pub(crate) fn of(writing: Writing<V>) -> EntryHandleMut<K, V, P>
         ensures { result ≡ writing.handle }

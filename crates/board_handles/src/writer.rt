@@ -16,6 +16,7 @@ use crate::port_ids::UniqueWriterId;
 use crate::release::{give_up, give_up_writing};
 use crate::state::DomainState;
 use crate::write_handle::EntryHandleMut;
+use crate::writing::Writing;
 use board_cells::BoardCells;
 use board_layout::{BoardKey, TypeDetail, TypeVariant, ZeroCopySend};
 use board_names::{EntryHandleMutError, WriterCreateError};
@@ -189,7 +190,7 @@ fn take_handle<K, V: ZeroCopySend, P>(
         domain,
     } = room;
     match take_end_of(tables, board, found.entry) {
-        Some(end) => EntryHandleMut::new(found, end, words, places, domain),
+        Some(end) => EntryHandleMut::of(Writing::new(found, end, words, places, domain)),
         // An end is parked there.
         None => unreachable!(),
     }
