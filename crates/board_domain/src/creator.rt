@@ -183,9 +183,17 @@ impl<K: BoardKey, P> Creator<K, P> {
         ensures width { AllByRecursion TakesItsWords self.entries }
         ensures nodes { state.new.nodes ≡ state.old.nodes }
     {
-        let set = attributes.into_set();
-        match new_board::<K>(state, self.node, &self.name, self.limits, set, self.entries) {
-            Ok(kept) => Ok(PortFactory::new(self.alloc, kept, self.name, self.domain)),
+        let Creator {
+            node,
+            name,
+            limits,
+            entries,
+            alloc,
+            domain,
+            marker: _,
+        } = self;
+        match new_board::<K>(state, node, &name, limits, attributes.into_set(), entries) {
+            Ok(kept) => Ok(PortFactory::new(alloc, kept, name, domain)),
             Err(why) => Err(why),
         }
     }
@@ -242,20 +250,22 @@ impl<K: BoardKey, P> Creator<K, P> {
         ensures attributes { IfOk result (λ f. f.attributes ≡ attributes) }
         ensures width { AllByRecursion TakesItsWords self.entries }
     {
+        let Creator {
+            node,
+            name,
+            limits,
+            entries,
+            alloc,
+            domain,
+            marker: _,
+        } = self;
         let set = attributes.into_set();
         let made = {
-            let mut state = self.domain.lock(rt);
-            new_board::<K>(
-                &mut state,
-                self.node,
-                &self.name,
-                self.limits,
-                set,
-                self.entries,
-            )
+            let mut state = domain.lock(rt);
+            new_board::<K>(&mut state, node, &name, limits, set, entries)
         };
         match made {
-            Ok(kept) => Ok(PortFactory::new(self.alloc, kept, self.name, self.domain)),
+            Ok(kept) => Ok(PortFactory::new(alloc, kept, name, domain)),
             Err(why) => Err(why),
         }
     }
