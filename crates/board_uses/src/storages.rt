@@ -17,6 +17,33 @@ use std::thread;
 use std::thread::Threads;
 use std::time::{Clock, Duration};
 
+// The name and the configuration of what follows.
+fn one_name<S: StaticStorage>() -> Result<(FileName, Configuration), Fail> {
+    let suffix = S::default_suffix();
+    Ok((FileName::new(b"z")?, Configuration::with_suffix(&suffix)))
+}
+
+// A name is there once its storage is filled.
+fn is_filled<R: Wait + Abort, S: StaticStorage + Drop>(
+    rt: &R,
+    alloc: Global,
+    registry: &S::Registry,
+    (name, config): (&FileName, &Configuration),
+) -> Result<(), Fail> {
+    let absent = S::does_exist_cfg(rt, registry, name, config);
+    let locked = S::Builder::new(name, registry)?.create_locked(rt, alloc)?;
+    let early = S::does_exist_cfg(rt, registry, name, config);
+    let _storage = locked.unlock(rt, alloc, &[4, 5])?;
+    let late = S::does_exist_cfg(rt, registry, name, config);
+    same(rt, &(absent, late), &(Ok(false), Ok(true)));
+    same(
+        rt,
+        &early,
+        &Err(NamedConceptDoesExistError::UnderlyingResourcesBeingSetUp),
+    );
+    Ok(())
+}
+
 // What this builder opens has its bytes: so many, which stand in the front of these three.
 fn has_bytes<R: Wait + Abort, S: StaticStorage + Drop>(
     rt: &R,
@@ -34,101 +61,35 @@ fn has_bytes<R: Wait + Abort, S: StaticStorage + Drop>(
     Ok(storage)
 }
 
-// The name `z` under a configuration, among the storages of a registry, for code over the trait alone.
-#[derive(Drop)]
-struct Place<'a, R, S: StaticStorage> {
-    rt: &'a R,
-    alloc: Global,
-    registry: &'a S::Registry,
-    name: FileName,
-    config: Configuration,
+// What is opened has the bytes that were written, and gives up a name that it owns.
+fn is_opened_and_released<R: Wait + Abort, S: StaticStorage + Drop>(
+    rt: &R,
+    registry: &S::Registry,
+    (name, config): (&FileName, &Configuration),
+) -> Result<(), Fail> {
+    let builder = S::Builder::new(name, registry)?;
+    let mut storage = has_bytes::<_, S>(rt, builder, (2, [4, 5, 0]))?;
+    storage.acquire_ownership();
+    storage.release(rt);
+    let held = S::does_exist_cfg(rt, registry, name, config);
+    same(rt, &held, &Ok(false));
+    Ok(())
 }
 
-impl<'a, R: Wait + Abort, S: StaticStorage + Drop> Place<'a, R, S> {
-    // Under the configuration that storages start with.
-    fn new(rt: &'a R, alloc: Global, registry: &'a S::Registry) -> Result<Place<'a, R, S>, Fail> {
-        let name = FileName::new(b"z")?;
-        let config = Configuration::with_suffix(&S::default_suffix());
-        Ok(Place {
-            rt,
-            alloc,
-            registry,
-            name,
-            config,
-        })
-    }
-
-    fn builder(&self) -> Result<S::Builder, Fail> {
-        Ok(S::Builder::new(&self.name, self.registry)?)
-    }
-
-    fn configured(&self) -> Result<S::Builder, Fail> {
-        Ok(self.builder()?.config(&self.config))
-    }
-
-    fn exists(&self) -> Result<bool, NamedConceptDoesExistError> {
-        S::does_exist_cfg(self.rt, self.registry, &self.name, &self.config)
-    }
-
-    // The name is there once its storage is filled.
-    fn is_filled(&self) -> Result<(), Fail> {
-        let absent = self.exists();
-        let locked = self.builder()?.create_locked(self.rt, self.alloc)?;
-        let early = self.exists();
-        let _storage = locked.unlock(self.rt, self.alloc, &[4, 5])?;
-        same(self.rt, &(absent, self.exists()), &(Ok(false), Ok(true)));
-        let unset = NamedConceptDoesExistError::UnderlyingResourcesBeingSetUp;
-        same(self.rt, &early, &Err(unset));
-        Ok(())
-    }
-
-    // What is opened has the bytes that were written, and gives up the name once it owns it.
-    fn is_opened_and_released(&self) -> Result<(), Fail> {
-        let mut storage = has_bytes::<_, S>(self.rt, self.builder()?, (2, [4, 5, 0]))?;
-        storage.acquire_ownership();
-        storage.release(self.rt);
-        same(self.rt, &self.exists(), &Ok(false));
-        Ok(())
-    }
-
-    // The name is removed once, and then nobody opens it.
-    fn is_removed(&self) -> Result<(), Fail> {
-        let _made = self.builder()?.create(self.rt, self.alloc, &[6])?;
-        let first = S::remove_cfg(self.rt, self.registry, &self.name, &self.config);
-        let second = S::remove_cfg(self.rt, self.registry, &self.name, &self.config);
-        same(self.rt, &(first, second), &(Ok(true), Ok(false)));
-        let gone = self.builder()?.open(self.rt, 0).err();
-        same(self.rt, &gone, &Some(StaticStorageOpenError::DoesNotExist));
-        Ok(())
-    }
-
-    // What is filled under this configuration is opened under it, and let go.
-    fn is_filled_apart(&self) -> Result<(), Fail> {
-        let locked = self.configured()?.create_locked(self.rt, self.alloc)?;
-        let _filled = locked.unlock(self.rt, self.alloc, &[4, 5])?;
-        let storage = has_bytes::<_, S>(self.rt, self.configured()?, (2, [4, 5, 0]))?;
-        storage.release(self.rt);
-        Ok(())
-    }
-
-    // And what is made at once.
-    fn is_made_apart(&self) -> Result<(), Fail> {
-        let _made = self.configured()?.create(self.rt, self.alloc, &[6])?;
-        let _opened = has_bytes::<_, S>(self.rt, self.configured()?, (1, [6, 0, 0]))?;
-        Ok(())
-    }
-
-    // The name has a storage of its own under each configuration.
-    fn are_apart(&self) -> Result<(), Fail> {
-        for config in others(&S::default_suffix())? {
-            let other = Place { config, ..*self };
-            other.is_filled_apart()?;
-            other.is_made_apart()?;
-            let both = (&self.config, &other.config);
-            goes_alone::<_, S>(self.rt, self.alloc, self.registry, &self.name, both)?;
-        }
-        Ok(())
-    }
+// A name is removed once, and then nobody opens it.
+fn is_removed<R: Wait + Abort, S: StaticStorage + Drop>(
+    rt: &R,
+    alloc: Global,
+    registry: &S::Registry,
+    (name, config): (&FileName, &Configuration),
+) -> Result<(), Fail> {
+    let _made = S::Builder::new(name, registry)?.create(rt, alloc, &[6])?;
+    let first = S::remove_cfg(rt, registry, name, config);
+    let second = S::remove_cfg(rt, registry, name, config);
+    same(rt, &(first, second), &(Ok(true), Ok(false)));
+    let gone = S::Builder::new(name, registry)?.open(rt, 0);
+    same(rt, &gone.err(), &Some(StaticStorageOpenError::DoesNotExist));
+    Ok(())
 }
 
 // The storages before and behind it are as they were.
@@ -148,24 +109,72 @@ fn stand_beside<R: Wait + Abort>(
 fn any_static_storage_is_used_by_the_traits(rt: HostRuntime) -> Result<(), Fail> {
     let alloc = rt.alloc();
     let registry = StaticRegistry::new(alloc)?;
+    let (name, config) = one_name::<Storage>()?;
     let (before, behind) = (FileName::new(b"y")?, FileName::new(b"zz")?);
     let _first = Builder::new(&before, &registry)?.create(&rt, alloc, &[1])?;
     let _last = Builder::new(&behind, &registry)?.create(&rt, alloc, &[2, 3, 6])?;
-    let place = Place::<_, Storage>::new(&rt, alloc, &registry)?;
-    place.is_filled()?;
-    place.is_opened_and_released()?;
-    place.is_removed()?;
+    is_filled::<_, Storage>(&rt, alloc, &registry, (&name, &config))?;
+    is_opened_and_released::<_, Storage>(&rt, &registry, (&name, &config))?;
+    is_removed::<_, Storage>(&rt, alloc, &registry, (&name, &config))?;
     stand_beside(&rt, &registry, (&before, &behind))
+}
+
+// What is filled under this configuration is opened under it, and let go.
+fn is_filled_apart<R: Wait + Abort, S: StaticStorage + Drop>(
+    rt: &R,
+    alloc: Global,
+    registry: &S::Registry,
+    (name, config): (&FileName, &Configuration),
+) -> Result<(), Fail> {
+    let builder = S::Builder::new(name, registry)?.config(config);
+    let _filled = builder
+        .create_locked(rt, alloc)?
+        .unlock(rt, alloc, &[4, 5])?;
+    let builder = S::Builder::new(name, registry)?.config(config);
+    let storage = has_bytes::<_, S>(rt, builder, (2, [4, 5, 0]))?;
+    storage.release(rt);
+    Ok(())
+}
+
+// And what is made at once.
+fn is_made_apart<R: Wait + Abort, S: StaticStorage + Drop>(
+    rt: &R,
+    alloc: Global,
+    registry: &S::Registry,
+    (name, config): (&FileName, &Configuration),
+) -> Result<(), Fail> {
+    let builder = S::Builder::new(name, registry)?.config(config);
+    let _made = builder.create(rt, alloc, &[6])?;
+    let builder = S::Builder::new(name, registry)?.config(config);
+    let _opened = has_bytes::<_, S>(rt, builder, (1, [6, 0, 0]))?;
+    Ok(())
+}
+
+// The name has a storage of its own under each configuration.
+fn are_apart<R: Wait + Abort, S: StaticStorage + Drop>(
+    rt: &R,
+    alloc: Global,
+    registry: &S::Registry,
+    (name, usual): (&FileName, &Configuration),
+) -> Result<(), Fail> {
+    for other in others(&S::default_suffix())? {
+        is_filled_apart::<_, S>(rt, alloc, registry, (name, &other))?;
+        is_made_apart::<_, S>(rt, alloc, registry, (name, &other))?;
+        goes_alone::<_, S>(rt, alloc, registry, name, (usual, &other))?;
+    }
+    Ok(())
 }
 
 #[test]
 fn storages_of_one_name_differ_by_their_configuration(rt: HostRuntime) -> Result<(), Fail> {
     let alloc = rt.alloc();
     let registry = StaticRegistry::new(alloc)?;
-    let place = Place::<_, Storage>::new(&rt, alloc, &registry)?;
-    let _made = place.configured()?.create(&rt, alloc, &[1, 2, 3])?;
-    place.are_apart()?;
-    let _opened = has_bytes::<_, Storage>(&rt, place.configured()?, (3, [1, 2, 3]))?;
+    let (name, usual) = one_name::<Storage>()?;
+    let builder = Builder::new(&name, &registry)?.config(&usual);
+    let _made = builder.create(&rt, alloc, &[1, 2, 3])?;
+    are_apart::<_, Storage>(&rt, alloc, &registry, (&name, &usual))?;
+    let builder = Builder::new(&name, &registry)?.config(&usual);
+    let _opened = has_bytes::<_, Storage>(&rt, builder, (3, [1, 2, 3]))?;
     Ok(())
 }
 
