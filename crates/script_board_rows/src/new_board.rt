@@ -1,5 +1,5 @@
 //! A new board: its entries, its words, and what is published of it at first.
-ghost use Rattle.std.specs.Prelude.{◌≡◌, [], All, IfOk, length, map};
+ghost use Rattle.std.specs.Prelude.{◌≡◌, ◌∷◌, [], All, IfOk, length, map};
 ghost use Rattle.board_layout.specs.Layout.{opening_words};
 ghost use Rattle.board_model.specs.Replies.{added_of};
 ghost use Rattle.board_model.specs.Tables as tables;
