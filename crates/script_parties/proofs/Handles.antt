@@ -20,13 +20,12 @@ use Rattle.board_model.specs.TableCalls.{entry_asked, entry_mut_asked, entry_mut
 use Rattle.board_model.specs.Things.{Held}
 use Rattle.board_model.specs.TypeTable.{key_detail, type_of_key}
 use Rattle.script_parties.specs.Named.{IsNamed, party_at, things_of}
-use Rattle.script_parties.specs.Numbered.{from}
 use Rattle.script_parties.specs.Parties.{IsAsked, Parties}
 use Rattle.script_parties.proofs.Asked.{answered_made, answered_refused, err_of, ok_of, told_made, told_refused}
 use Rattle.script_parties.proofs.Counts.{AreSame, handles-same}
 use Rattle.script_parties.proofs.Growth.{IsMore, same_things}
 use Rattle.script_parties.proofs.Places.{IsThing}
-use Rattle.script_parties.proofs.Ports.{one_left, shown}
+use Rattle.script_parties.proofs.Ports.{from, one_left, shown}
 use Rattle.board_service.specs.declared.made.Found.{Found}
 use Rattle.board_service.specs.Domain.{Domain, after_entry, after_entry_mut, entry_answer, entry_for, entry_mut_answer, found, held, stands_as, is_thing, spent, thing_or_none}
 

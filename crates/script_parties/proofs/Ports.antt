@@ -8,13 +8,13 @@ use Rattle.board_names.specs.declared.errors.boards.ReaderCreateError.TheVariant
 use Rattle.board_names.specs.declared.errors.boards.WriterCreateError.{WriterCreateError}
 use Rattle.board_names.specs.declared.errors.boards.WriterCreateError.TheVariants as writer_error
 use Rattle.board_model.specs.declared.tables.Board.{Board}
+use Rattle.board_model.specs.declared.tables.Kind.{Kind}
 use Rattle.board_model.specs.declared.tables.Kind.TheVariants as kind
 use Rattle.board_model.specs.declared.tables.Thing.{Thing}
 use Rattle.board_model.specs.Tables.{board_at}
 use Rattle.board_model.specs.TableCalls.{first_of, reader_refusals, with_reader, with_writer, writer_refusals}
 use Rattle.board_model.specs.Things.{Held}
 use Rattle.script_parties.specs.Named.{IsNamed, party_at, things_of}
-use Rattle.script_parties.specs.Numbered.{from}
 use Rattle.script_parties.specs.Parties.{IsReader, IsWriter, Parties}
 use Rattle.script_parties.proofs.Asked.{answered_made, answered_refused, err_of, ok_of, told_made, told_refused}
 use Rattle.script_parties.proofs.Counts.{AreSame, readers-same, writers-same}
@@ -38,6 +38,10 @@ view_same list at given d after e f = ap (λ a. shown list after (things_of a af
 pub named_same : {C : Type 0} (nodes given_nodes : List (List ℕ)) (at given : ℕ → Option Held) (d after : Domain C) → given_nodes ≡ nodes → given ≡ at → after ≡ d → IsNamed nodes at d → IsNamed given_nodes given after
 named_same nodes given_nodes at given d after n e f h =
     subst (λ ps. IsNamed ps given after) (sym n) (subst (λ a. IsNamed nodes a after) (sym e) (subst (λ x. IsNamed nodes at x) (sym f) h))
+
+-- a thing that a party has from another
+abbrev pub from : Held → List ℕ → Kind → Held
+from of name k = record { holder = of.holder; name = name; board = of.board; kind = k }
 
 -- numbers are left to draw
 pub few_left : (a b : ℕ) → a < 2 ^ 63 → b < 2 ^ 63 → (spent a || spent b) ≡ false

@@ -1,8 +1,6 @@
 -- The names of things by the things' numbers, with the index of parties and names. No public clause speaks of this.
 use Rattle.std.specs.Prelude.{◌≡◌, ℕ, ◌<◌, Bool, true, false, ◌&&◌, find, if◌then◌else◌, nat_eq, nat_lt, option_map, List, [], ◌∷◌, Option, Some, None}
 use Rattle.std.specs.HashMap.{get}
-use Rattle.board_model.specs.declared.tables.Kind.{Kind}
-use Rattle.board_model.specs.declared.tables.Kind.TheVariants as kind
 use Rattle.board_model.specs.declared.tables.Thing.{Thing}
 use Rattle.board_model.specs.Tables.{holds_at}
 use Rattle.board_model.specs.Things.{Held}
@@ -42,20 +40,6 @@ pub record IsNames (t : NamedThings) (things : ℕ → Option Held) : Type 0 whe
 abbrev pub IsNamesOf : NamedThings → (ℕ → Option Held) → Option ℕ → Type 0
 IsNamesOf t things None = IsNames t things
 IsNamesOf t things (Some number) = IsNames t (put number None things)
-
--- the names are those of another time, with one for this thing under a number that was free
-abbrev pub IsNamesWith : NamedThings → NamedThings → ℕ → Held → Type 0
-IsNamesWith new old number thing = (things : ℕ → Option Held) → IsNames old things → things number ≡ None → IsNames new (put number (Some thing) things)
-
--- ---- new things
-
--- a factory that a party has of a board
-abbrev pub factory_of : List ℕ → List ℕ → ℕ → Held
-factory_of party name board = record { holder = party; name = name; board = board; kind = kind.Factory }
-
--- a thing that a party has from another
-abbrev pub from : Held → List ℕ → Kind → Held
-from of name k = record { holder = of.holder; name = name; board = of.board; kind = k }
 
 -- ---- things, each told by its name and by the core
 

@@ -4,13 +4,13 @@ ghost use Rattle.std.specs.HashMap.{get, keys, spare};
 ghost use Rattle.board_model.specs.Tables.{holds_at};
 ghost use Rattle.board_model.specs.Things as held;
 ghost use Rattle.script_parties.specs.Numbered as numbered;
-ghost use Rattle.script_parties.specs.Numbered.{AreNames, IsFirst, IsLeast, IsNames, IsNamesOf, IsNamesWith, is_seat, renamed_seat, seat_anew, seat_at};
+ghost use Rattle.script_parties.specs.Numbered.{AreNames, IsFirst, IsLeast, IsNames, IsNamesOf, is_seat, renamed_seat, seat_anew, seat_at};
 ghost use Rattle.script_seats.specs.Seats as seats;
 ghost use Rattle.script_seats.specs.Seats.{is_at, nothing, put, seat_of};
 
 use crate::lookups::Held;
 use crate::short_seat::ShortSeat;
-use board_model::{Kind, Name, Thing};
+use board_model::Name;
 use board_service::ThingId;
 use script_seats::{Seat, Seats, Sought};
 use std::alloc::{AllocError, Global};
@@ -140,7 +140,8 @@ impl NamedThings {
     pub(crate) fn push(&mut self, number: ThingId, thing: &Held)
         requires room { 0 < spare self.old.names }
         requires seat { seats.HasRoom self.old.seats }
-        ensures { IsNamesWith self.new self.old number thing.now }
+        ensures { (things : ℕ → Option held.Held) → IsNames self.old things → things number ≡ None
+            → IsNames self.new (put number (Some thing.now) things) }
     {
         self.seats.push(thing, number.0);
         let seat = Seat {
@@ -151,21 +152,6 @@ impl NamedThings {
             // There is room.
             unreachable!()
         };
-    }
-
-    /// One thing more, of the holder and the board of another one, under a number that is free. Takes no memory: there is room.
-    pub(crate) fn push_beside(&mut self, number: ThingId, other: &Held, name: Name, kind: Kind)
-        requires room { 0 < spare self.old.names }
-        requires seat { seats.HasRoom self.old.seats }
-        ensures { IsNamesWith self.new self.old number (numbered.from other.now name kind) }
-    {
-        let thing = Thing {
-            holder: other.holder,
-            name,
-            board: other.board,
-            kind,
-        };
-        self.push(number, &thing);
     }
 
     /// Takes away the first thing that a party holds under a name; tells its number. Takes no memory.

@@ -1,21 +1,16 @@
 //! What the calls make, where nothing refuses them and memory is given.
-ghost use Rattle.std.specs.Prelude.{◌≡◌, ◌<◌, true, IfOk, OnErr};
-ghost use Rattle.std.specs.HashMap.{spare};
+ghost use Rattle.std.specs.Prelude.{◌≡◌, true, IfOk, OnErr};
 ghost use Rattle.std.specs.Str.{bytes_eq};
-ghost use Rattle.indexmap.specs.IndexSet as index_set;
 ghost use Rattle.board_model.specs.LineGrammar.{is_board_name};
 ghost use Rattle.board_model.specs.Tables as tables;
-ghost use Rattle.script_parties.specs.Named.{nodes_with};
-ghost use Rattle.script_parties.specs.Numbered.{IsNamesWith, factory_of};
 ghost use Rattle.script_parties.specs.Parties.{IsCreate, IsEntry, IsEntryMut, IsFew, IsJoined, IsReader, IsWriter, IsStandingThing};
 ghost use Rattle.script_parties.specs.Shown.{HasKeyType};
-ghost use Rattle.script_seats.specs.Seats as seats;
 ghost use Rattle.board_service.specs.Domain.{CanJoin};
 
 use super::PartyDomain;
 use crate::adding::entries_for;
 use crate::lookups::{Held, join, node_for};
-use crate::named::{NamedThings, number_of};
+use crate::named::number_of;
 use crate::typed_calls::{create_in, entry_in, entry_mut_in};
 use board_concepts::AttributeSet;
 use board_layout::Text;
@@ -27,34 +22,8 @@ use board_names::{
     BlackboardCreateError, EntryHandleError, EntryHandleMutError, ReaderCreateError, ServiceName,
     WriterCreateError,
 };
-use board_service::{BoardWords, Made, NodeId};
-use indexmap::IndexSet;
+use board_service::{BoardWords, NodeId};
 use std::alloc::AllocError;
-
-// The party joins the nodes, where it is none, and has a factory of the board with the number. Takes no memory: there is room.
-fn push_factory(
-    party: Name,
-    factory: Name,
-    made: Made,
-    nodes: &mut IndexSet<Name>,
-    names: &mut NamedThings,
-)
-    requires node { 0 < index_set.spare nodes.old }
-    requires room { 0 < spare names.old.names }
-    requires seat { seats.HasRoom names.old.seats }
-    ensures nodes { nodes.new.keys ≡ nodes_with party nodes.old.keys }
-    ensures names { IsNamesWith names.new names.old made.thing
-        (factory_of party factory made.number) }
-{
-    join(party, nodes);
-    let thing = Thing {
-        holder: party,
-        name: factory,
-        board: made.number,
-        kind: Kind::Factory,
-    };
-    names.push(made.thing, &thing);
-}
 
 impl<C: BoardWords + Drop> PartyDomain<C> {
     /// The same as `create`, but want of memory may come in place of a refusal.
@@ -89,7 +58,14 @@ impl<C: BoardWords + Drop> PartyDomain<C> {
             entries,
         ) {
             Ok(made) => {
-                push_factory(party, factory, made, &mut self.nodes, &mut self.names);
+                join(party, &mut self.nodes);
+                let thing = Thing {
+                    holder: party,
+                    name: factory,
+                    board: made.number,
+                    kind: Kind::Factory,
+                };
+                self.names.push(made.thing, &thing);
                 Ok(Reply::Number(made.number))
             }
             Err(BlackboardCreateError::OutOfMemory) => Err(AllocError),
@@ -116,7 +92,14 @@ impl<C: BoardWords + Drop> PartyDomain<C> {
         let name = ServiceName::from_text(name);
         match self.core.open_unrefused(node, &name) {
             Ok(made) => {
-                push_factory(party, factory, made, &mut self.nodes, &mut self.names);
+                join(party, &mut self.nodes);
+                let thing = Thing {
+                    holder: party,
+                    name: factory,
+                    board: made.number,
+                    kind: Kind::Factory,
+                };
+                self.names.push(made.thing, &thing);
                 Ok(Reply::Number(made.number))
             }
             Err(error) => Err(error),
@@ -134,8 +117,13 @@ impl<C: BoardWords + Drop> PartyDomain<C> {
         let number = number_of(factory, &self.names);
         match self.core.reader(number) {
             Ok(made) => {
-                let kind = Kind::Reader { port: made.number };
-                self.names.push_beside(made.thing, factory, name, kind);
+                let thing = Thing {
+                    holder: factory.holder,
+                    name,
+                    board: factory.board,
+                    kind: Kind::Reader { port: made.number },
+                };
+                self.names.push(made.thing, &thing);
                 Ok(Reply::Number(made.number))
             }
             Err(ReaderCreateError::OutOfMemory) => Err(AllocError),
@@ -154,8 +142,13 @@ impl<C: BoardWords + Drop> PartyDomain<C> {
         let number = number_of(factory, &self.names);
         match self.core.writer(number) {
             Ok(made) => {
-                let kind = Kind::Writer { port: made.number };
-                self.names.push_beside(made.thing, factory, name, kind);
+                let thing = Thing {
+                    holder: factory.holder,
+                    name,
+                    board: factory.board,
+                    kind: Kind::Writer { port: made.number },
+                };
+                self.names.push(made.thing, &thing);
                 Ok(Reply::Number(made.number))
             }
             Err(WriterCreateError::OutOfMemory) => Err(AllocError),
@@ -183,8 +176,13 @@ impl<C: BoardWords + Drop> PartyDomain<C> {
         let number = number_of(reader, &self.names);
         match entry_in(&mut self.core, number, key, &value_detail(value_type)) {
             Ok(found) => {
-                let kind = Kind::ReadHandle { entry: found.entry };
-                self.names.push_beside(found.thing, reader, name, kind);
+                let thing = Thing {
+                    holder: reader.holder,
+                    name,
+                    board: reader.board,
+                    kind: Kind::ReadHandle { entry: found.entry },
+                };
+                self.names.push(found.thing, &thing);
                 Ok(Reply::Number(found.place))
             }
             Err(EntryHandleError::OutOfMemory) => Err(AllocError),
@@ -212,11 +210,16 @@ impl<C: BoardWords + Drop> PartyDomain<C> {
         let number = number_of(writer, &self.names);
         match entry_mut_in(&mut self.core, number, key, &value_detail(value_type)) {
             Ok(found) => {
-                let kind = Kind::WriteHandle {
-                    entry: found.entry,
-                    port: writer.kind.port(),
+                let thing = Thing {
+                    holder: writer.holder,
+                    name,
+                    board: writer.board,
+                    kind: Kind::WriteHandle {
+                        entry: found.entry,
+                        port: writer.kind.port(),
+                    },
                 };
-                self.names.push_beside(found.thing, writer, name, kind);
+                self.names.push(found.thing, &thing);
                 Ok(Reply::Number(found.place))
             }
             Err(EntryHandleMutError::OutOfMemory) => Err(AllocError),

@@ -3,13 +3,13 @@ use Rattle.board_model.specs.declared.answer.Reply.TheVariants as reply
 use Rattle.board_names.specs.declared.errors.boards.WriterCreateError.TheVariants as writer_error
 use Rattle.board_model.specs.declared.tables.Kind.TheVariants as kind
 use Rattle.script_parties.specs.Named.{things_of}
-use Rattle.script_parties.specs.Numbered.{from, seat_at, things_by}
+use Rattle.script_parties.specs.Numbered.{seat_at, things_by}
 use Rattle.script_parties.specs.Parties.{IsFew, IsWriter}
 use Rattle.script_parties.proofs.Asked.{carried}
 use Rattle.script_parties.proofs.Growth.{named_more, next_free, things_more}
 use Rattle.script_parties.proofs.NamesAndThings.{given_names, on_err, settled, shown_still, still, told}
 use Rattle.script_parties.proofs.Places.{has_number, stands_in, thing_of_call}
-use Rattle.script_parties.proofs.Ports.{writer_made, writer_not_made, shown}
+use Rattle.script_parties.proofs.Ports.{from, writer_made, writer_not_made, shown}
 use Rattle.script_seats.specs.Seats.{put}
 use Rattle.script_parties.proofs.party_domain.PartyDomain.add_writer.Goals as goal
 
@@ -41,8 +41,8 @@ invariant_of-self-in-Ok g c =
     let i = thing_of_call s.nodes.keys at at s.core x c.number_of-number.result h refl stands (c.number_of-number.ensures at (given_names s.names c.reserve.new.self at c.self.invariant.0 c.reserve.ensures.index c.reserve.ensures.names)) in
     let new = from x c.args.name (kind.Writer c.in-Ok.made.number) in
     let both = writer_made g.C.Words.list s.nodes.keys at s.core c.writer.new.self x c.number_of-number.result c.args.name c.in-Ok.made h i c.in-Ok.ensures.answer c.in-Ok.ensures.ok in
-    let names = c.push_beside.ensures at (given_names s.names c.reserve.new.self at c.self.invariant.0 c.reserve.ensures.index c.reserve.ensures.names) (next_free s.nodes.keys at at s.core c.in-Ok.made.thing h refl both.1.next) in
-    settled c.push_beside.new.self s.nodes.keys (put c.in-Ok.made.thing (Some new) at) c.writer.new.self names (named_more s.nodes.keys at s.core c.writer.new.self c.in-Ok.made.thing new h both.1)
+    let names = c.push.ensures at (given_names s.names c.reserve.new.self at c.self.invariant.0 c.reserve.ensures.index c.reserve.ensures.names) (next_free s.nodes.keys at at s.core c.in-Ok.made.thing h refl both.1.next) in
+    settled c.push.new.self s.nodes.keys (put c.in-Ok.made.thing (Some new) at) c.writer.new.self names (named_more s.nodes.keys at s.core c.writer.new.self c.in-Ok.made.thing new h both.1)
 
 pub returns-in-Ok-clause-asked : goal.returns-in-Ok-clause-asked
 returns-in-Ok-clause-asked g c =
@@ -54,10 +54,10 @@ returns-in-Ok-clause-asked g c =
     let i = thing_of_call s.nodes.keys at at s.core x c.number_of-number.result h refl stands (c.number_of-number.ensures at (given_names s.names c.reserve.new.self at c.self.invariant.0 c.reserve.ensures.index c.reserve.ensures.names)) in
     let new = from x c.args.name (kind.Writer c.in-Ok.made.number) in
     let both = writer_made g.C.Words.list s.nodes.keys at s.core c.writer.new.self x c.number_of-number.result c.args.name c.in-Ok.made h i c.in-Ok.ensures.answer c.in-Ok.ensures.ok in
-    let names = c.push_beside.ensures at (given_names s.names c.reserve.new.self at c.self.invariant.0 c.reserve.ensures.index c.reserve.ensures.names) (next_free s.nodes.keys at at s.core c.in-Ok.made.thing h refl both.1.next) in
+    let names = c.push.ensures at (given_names s.names c.reserve.new.self at c.self.invariant.0 c.reserve.ensures.index c.reserve.ensures.names) (next_free s.nodes.keys at at s.core c.in-Ok.made.thing h refl both.1.next) in
     carried (λ now xs. IsWriter now (shown g.C.Words.list c.writer.new.self xs) c.args.name x (reply.Number c.in-Ok.made.number)) (shown g.C.Words.list s.core (things_of at s.core)) c.args.self.now
-    (things_of at s.core ++ new ∷ []) (things_of (things_by (seat_at c.push_beside.new.self) c.writer.new.self) c.writer.new.self)
-    c.self.view_is (ap (λ a. things_of a c.writer.new.self) (told s.nodes.keys (seat_at c.push_beside.new.self) (put c.in-Ok.made.thing (Some new) at) c.writer.new.self names.names (named_more s.nodes.keys at s.core c.writer.new.self c.in-Ok.made.thing new h both.1)) ∙ things_more s.nodes.keys at s.core c.writer.new.self c.in-Ok.made.thing new h both.1) both.0
+    (things_of at s.core ++ new ∷ []) (things_of (things_by (seat_at c.push.new.self) c.writer.new.self) c.writer.new.self)
+    c.self.view_is (ap (λ a. things_of a c.writer.new.self) (told s.nodes.keys (seat_at c.push.new.self) (put c.in-Ok.made.thing (Some new) at) c.writer.new.self names.names (named_more s.nodes.keys at s.core c.writer.new.self c.in-Ok.made.thing new h both.1)) ∙ things_more s.nodes.keys at s.core c.writer.new.self c.in-Ok.made.thing new h both.1) both.0
 
 pub returns-in-Err-clause-asked : goal.returns-in-Err-clause-asked
 returns-in-Err-clause-asked g c =
