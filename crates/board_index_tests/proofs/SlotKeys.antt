@@ -5,7 +5,7 @@ use Rattle.board_layout.specs.Keys.{IsEqualByBytes}
 use Rattle.board_layout.proofs.EqualBytes.{keys_same}
 use Rattle.board_index_tests.specs.declared.slot.Slot.{Slot}
 
--- two numbers that are equal each are the same list
+-- lists of two numbers are the same where both numbers are
 two_same : (x y u v : ℕ) → (nat_eq x u && nat_eq y v) ≡ true → ◌≡◌ {A = List ℕ} (x ∷ y ∷ []) (u ∷ v ∷ [])
 two_same x y u v e =
     let first : x ≡ u = grind (arith, e) in

@@ -31,8 +31,13 @@ fn entry_of<K: BoardKey, R: Abort>(rt: &R, alloc: Global, key: &K) -> EntryRow {
     }
 }
 
-// A board with these keys.
-fn board_of<K: BoardKey, R: Abort>(rt: &R, alloc: Global, keys: &[K]) -> BoardRow
+// A board with these keys, which says of them whether those that are equal have the same bytes.
+fn board_of<K: BoardKey, R: Abort>(
+    rt: &R,
+    alloc: Global,
+    keys: &[K],
+    equal_by_bytes: bool,
+) -> BoardRow
     requires { K.SIZE ≤ 64 }
 {
     let mut entries = Vec::new(alloc);
@@ -43,7 +48,7 @@ fn board_of<K: BoardKey, R: Abort>(rt: &R, alloc: Global, keys: &[K]) -> BoardRo
         number: 1,
         name: ServiceName::new("board").expect(rt, "a name"),
         key: TypeDetail::new::<K>(TypeVariant::FixedSize),
-        equal_by_bytes: K::is_equal_by_bytes(),
+        equal_by_bytes,
         max_readers: 1,
         max_nodes: 1,
         max_writers: 1,
@@ -71,12 +76,12 @@ fn slot(number: u64) -> Slot {
 }
 
 // A board of so many entries, under numbers.
-fn board_of_numbers<R: Abort>(rt: &R, alloc: Global, count: u64) -> BoardRow {
+fn board_of_numbers<R: Abort>(rt: &R, alloc: Global, count: u64, equal_by_bytes: bool) -> BoardRow {
     let mut keys = Vec::new(alloc);
     for key in 0..count {
         keys.push(key).expect(rt, "memory");
     }
-    board_of(rt, alloc, &keys)
+    board_of(rt, alloc, &keys, equal_by_bytes)
 }
 
 // A board of so many entries, under the slots of a shelf.
@@ -85,12 +90,12 @@ fn board_of_slots<R: Abort>(rt: &R, alloc: Global, count: u64) -> BoardRow {
     for number in 0..count {
         keys.push(slot(number)).expect(rt, "memory");
     }
-    board_of(rt, alloc, &keys)
+    board_of(rt, alloc, &keys, Slot::is_equal_by_bytes())
 }
 
 #[test]
 fn a_board_of_256_numbers_has_an_index(rt: HostRuntime) {
-    let board = board_of_numbers(&rt, rt.alloc(), 256);
+    let board = board_of_numbers(&rt, rt.alloc(), 256, u64::is_equal_by_bytes());
     for (key, place) in [
         (0u64, Some(0)),
         (200, Some(200)),
@@ -102,7 +107,7 @@ fn a_board_of_256_numbers_has_an_index(rt: HostRuntime) {
 }
 
 #[test]
-fn so_has_one_of_256_slots(rt: HostRuntime) {
+fn a_board_of_256_slots_has_an_index(rt: HostRuntime) {
     let board = board_of_slots(&rt, rt.alloc(), 256);
     for (number, place) in [
         (0, Some(0)),
@@ -120,18 +125,24 @@ fn so_has_one_of_256_slots(rt: HostRuntime) {
 }
 
 #[test]
-fn boards_of_255_have_none(rt: HostRuntime) {
-    let numbers = board_of_numbers(&rt, rt.alloc(), 255);
+fn boards_of_255_entries_have_no_index(rt: HostRuntime) {
+    let numbers = board_of_numbers(&rt, rt.alloc(), 255, true);
     same(&rt, &place_by_bytes(&numbers, &0u64), &None);
     let slots = board_of_slots(&rt, rt.alloc(), 255);
     same(&rt, &place_by_bytes(&slots, &slot(0)), &None);
 }
 
 #[test]
-fn a_board_whose_keys_are_equal_whatever_their_case_has_none(rt: HostRuntime) {
+fn an_index_gives_no_answer_for_keys_that_are_equal_whatever_their_case(rt: HostRuntime) {
     let keys = [F8 {
         bytes: *b"keyboard",
     }; 256];
-    let board = board_of(&rt, rt.alloc(), &keys);
+    let board = board_of(&rt, rt.alloc(), &keys, F8::is_equal_by_bytes());
     same(&rt, &place_by_bytes(&board, &keys[0]), &None);
+}
+
+#[test]
+fn a_board_has_no_index_where_equal_keys_may_differ_in_their_bytes(rt: HostRuntime) {
+    let board = board_of_numbers(&rt, rt.alloc(), 256, false);
+    same(&rt, &place_by_bytes(&board, &0u64), &None);
 }

@@ -1,5 +1,4 @@
-//! Whether a board has an index of its keys, and which entry it gives: for numbers, for keys that are equal whatever their
-//! case, and for a type of keys of one's own (`Slot`), which says that its keys are equal only where their bytes are, and
+//! Whether a board has an index of its keys, and which entry it gives: for numbers, and for a type of keys of one's own (`Slot`), which says that its keys are equal only where their bytes are, and
 //! has that proved (`proofs/SlotKeys`).
 #![tactic(auto)]
 
