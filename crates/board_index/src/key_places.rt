@@ -10,7 +10,7 @@ use board_layout::{BoardKey, KeyMemory};
 use std::alloc::{AllocError, Global};
 use std::collections::HashMap;
 
-// With as many entries or more, a board has an index of its keys. With fewer, they are compared one after another nearly as fast.
+// With as many entries or more, a board has an index of its keys. With fewer, they are compared one after another, which takes at most some half longer.
 const MANY: usize = 256;
 
 // A key's bytes are bytes, as callers that find one by them need to know.

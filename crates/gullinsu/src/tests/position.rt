@@ -1,5 +1,5 @@
 //! Where a car stands: a value of three fields, by the lemmas for any number of them.
-ghost use Rattle.std.specs.Prelude.{◌≡◌, ◌^◌, ◌<◌, [], ◌∷◌, slice_index, refl, codes};
+ghost use Rattle.std.specs.Prelude.{◌^◌, ◌<◌, [], ◌∷◌, slice_index, refl, codes};
 ghost use Rattle.std.proofs.Common.{rules};
 ghost use Rattle.gullinsu.specs.OwnTypes.{none_small, one_more, whole_words};
 
