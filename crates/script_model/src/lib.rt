@@ -3,7 +3,7 @@
 //! Begin with `specs/ScriptSession`: right answers, the state after a line, and the lawful sessions. The rules of an answer
 //! stand in `ScriptRules`. `ScriptTurns` says what a line is on account of events; a line that is none of that is answered
 //! by the rules of boards. `ScriptOutput` has the sessions whose lines are those of an input, and their output. The laws are
-//! public functions without a body. `made_names` and `reports` are what code that runs lines and code that judges them both ask.
+//! public functions without a body. `made_names` and `reports` serve the code that runs lines and the code that judges them.
 #![tactic(auto)]
 
 pub mod answer_laws;

@@ -1,4 +1,4 @@
-//! The names of the things that calls make. A party gives no name twice, be it to a thing of a board or of an event.
+//! The names of the things that calls make. A party holds no two things under one name, be they of boards or of events.
 ghost use Rattle.std.specs.Prelude.{◌≡◌};
 ghost use Rattle.board_model.specs.Requests as requests;
 ghost use Rattle.script_model.specs.ScriptEvents as events;
