@@ -37,7 +37,7 @@ pub use lists::{
 };
 pub use tables::{Board, Entry, Kind, Limits, NewLimits, Thing, ThingKind};
 pub use type_table::{
-    key_bytes, key_detail, key_of, key_type_of, same_key_type, same_type, same_variant, type_of,
-    type_of_key, value_detail, value_type_of, value_words,
+    have_key_type, key_bytes, key_detail, key_of, key_type_of, same_key_type, same_type,
+    same_variant, type_of, type_of_key, value_detail, value_type_of, value_words,
 };
 pub use value::{AddedEntry, Key, KeyType, Value, ValueType};

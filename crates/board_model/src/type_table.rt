@@ -1,10 +1,12 @@
 //! The key types and value types of a script: their details, the words of a value, and the bytes of a key.
 ghost use Rattle.std.specs.Prelude.{◌≡◌, ◌≤◌, ◌++◌, ◌∷◌, [], IfOk, length, take};
+ghost use Rattle.std.specs.List.{list_all};
 ghost use Rattle.board_layout.specs.Bytes.{padded};
+ghost use Rattle.board_model.specs.LawfulSession.{has_key_type};
 ghost use Rattle.board_model.specs.ShortKeys.{IsShortKey};
 ghost use Rattle.board_model.specs.TypeTable as types;
 
-use crate::value::{Key, KeyType, Value, ValueType};
+use crate::value::{AddedEntry, Key, KeyType, Value, ValueType};
 use board_layout::{F8, KeyMemory, Text, TypeDetail, TypeVariant};
 use std::alloc::{AllocError, Global};
 
@@ -104,6 +106,15 @@ pub fn same_key_type(a: KeyType, b: KeyType) -> bool
         (KeyType::F8, KeyType::F8) => true,
         _ => false,
     }
+}
+
+/// Whether the keys of all entries are of this type.
+pub fn have_key_type(key_type: KeyType, entries: &[AddedEntry]) -> bool
+    ensures { result ≡ list_all (has_key_type key_type) entries.now }
+{
+    entries
+        .iter()
+        .all(|entry| same_key_type(type_of_key(&entry.key), key_type))
 }
 
 // The bytes with zeros behind them.

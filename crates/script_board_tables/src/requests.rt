@@ -1,6 +1,5 @@
 //! Looking up what a call uses.
 ghost use Rattle.std.specs.Prelude.{◌≡◌, IfOk, length};
-ghost use Rattle.std.specs.List.{list_all};
 ghost use Rattle.board_model.specs.declared.line.Call.TheVariants as call;
 ghost use Rattle.board_model.specs.LawfulSession as session;
 ghost use Rattle.board_model.specs.Tables as model;
@@ -12,10 +11,9 @@ use crate::calls::{BoardCall, Fetch, Lent, Look, Publishing, TableCall};
 use crate::tables::{BoardTables, LoanWords};
 use board_layout::TypeDetail;
 use board_model::{
-    AddedEntries, AddedEntry, AttributeKeys, Attributes, BoardName, Call, Entry, Key, KeyType,
-    Limits, LongName, Name, NewLimits, Requirements, ThingKind, Value, ValueType, Words,
-    key_detail, same_key_type, same_type, type_of, type_of_key, value_detail, value_type_of,
-    value_words,
+    AddedEntries, AttributeKeys, Attributes, BoardName, Call, Entry, Key, KeyType, Limits,
+    LongName, Name, NewLimits, Requirements, ThingKind, Value, ValueType, Words, have_key_type,
+    key_detail, same_type, type_of, type_of_key, value_detail, value_type_of, value_words,
 };
 use script_board_rows::Reading;
 use script_things::Held;
@@ -85,15 +83,6 @@ fn copied_needs(alloc: Global, needs: &Requirements) -> Result<Requirements, All
     })
 }
 
-// Whether the keys are of this type.
-fn are_typed(key_type: KeyType, entries: &[AddedEntry]) -> bool
-    ensures { result ≡ list_all (session.has_key_type key_type) entries.now }
-{
-    entries
-        .iter()
-        .all(|entry| same_key_type(type_of_key(&entry.key), key_type))
-}
-
 fn all_put(words: &[Option<u64>]) -> bool
     ensures { result ≡ session.all_put words.now }
 {
@@ -152,7 +141,7 @@ impl BoardTables {
             attributes: copied_attributes(self.alloc, attributes)?,
             entries: copied_entries(self.alloc, entries)?,
         });
-        found.typed = are_typed(key_type, entries.as_slice());
+        found.typed = have_key_type(key_type, entries.as_slice());
         Ok(Some(found))
     }
 

@@ -1,8 +1,6 @@
 //! Lines `begin P CALL`.
 ghost use Rattle.std.specs.Prelude.{◌≡◌, ◌+◌, ◌<◌, ◌≤◌, ◌^◌, ◌||◌, true, Some, None, IfOk, OnErr, OnOk, find, is_some, not};
-ghost use Rattle.std.specs.List.{list_all};
 ghost use Rattle.board_layout.specs.Layout.{cell_shape};
-ghost use Rattle.board_model.specs.LawfulSession.{has_key_type};
 ghost use Rattle.board_model.specs.Tables as tables;
 ghost use Rattle.board_model.specs.TypeTable as types;
 ghost use Rattle.board_model.specs.declared.answer.Reason.TheVariants as reason;
@@ -18,22 +16,13 @@ use crate::lookups::put_task;
 use crate::machine::{BoardMachine, TableTask, Task};
 use crate::not_begun::NotBegun;
 use board_model::{
-    AddedEntries, AddedEntry, Answer, Attributes, BoardName, Call, Key, KeyType, Kind, Limits,
-    Name, Reason, Requirements, ThingKind, Value, ValueType, same_key_type, type_of, type_of_key,
-    value_words,
+    AddedEntries, Answer, Attributes, BoardName, Call, Key, KeyType, Kind, Limits, Name, Reason,
+    Requirements, ThingKind, Value, ValueType, have_key_type, type_of, value_words,
 };
 use board_ports::{CellShape, ReadCore, WriteCore};
 use board_service::{BoardWords, EntryRow, KeptType};
 use script_parties::Held;
 use std::alloc::AllocError;
-
-fn have_key_type(key_type: KeyType, entries: &[AddedEntry]) -> bool
-    ensures { result ≡ list_all (has_key_type key_type) entries.now }
-{
-    entries
-        .iter()
-        .all(|e| same_key_type(type_of_key(&e.key), key_type))
-}
 
 /// Nothing where it holds, else the refusal.
 pub(crate) fn require(holds: bool, why: Reason) -> Result<(), Reason>
