@@ -37,3 +37,4 @@ on_err (Err e) P Q f h = f h
 pub on_errs : {T E : Type 0} (r : Result T E) (P Q R : Type 0) → (P → Q → R) → OnErr r P → OnErr r Q → OnErr r R
 on_errs (Ok a) P Q R f h k = h
 on_errs (Err e) P Q R f h k = f h k
+

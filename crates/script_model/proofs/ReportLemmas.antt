@@ -45,3 +45,4 @@ some_ids bits base i count below some =
       | inl f ↦ some_where (λ j. bit_at bits (j - base) == 1) base i count below (rw same f)
       | inr f ↦ absurd (let none = subst (λ (b : Bool). 0 < length (if b then (base + i) ∷ [] else [])) f some in omega (arith, none))
     ]
+
