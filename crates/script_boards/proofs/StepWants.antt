@@ -1,6 +1,6 @@
 -- Steps that want memory take some.
 use Rattle.std.proofs.Common.{◌≡◌, ℕ, ◌+◌, Bool, true, false, List, length, refl, sym, ap, subst, ◌∙◌, Option, Some, None, inl, inr, ◌⊎◌}
-use Rattle.std.specs.Prelude.{◌==◌, is_none, is_some, slice_index}
+use Rattle.std.specs.Prelude.{◌==◌, is_none, is_some, slice_index, OnErr, Result, Ok, Err}
 use Rattle.board_layout.specs.declared.shape.CellShape.{CellShape}
 use Rattle.board_cell_model.specs.declared.access.Access.{Access}
 use Rattle.board_cell_model.specs.OwedAccesses.{Reading, finished, hear, is_finished, opening, owed_read, to_read, trying}
@@ -87,6 +87,11 @@ module _ {C : Type 0} (mid : BoardMachine C) (s : State) (tables : s.standing.ta
   task_takes (table_task.Gen x) q is h = absurd h
 
 -- ---- gets that keep their value
+
+-- what holds anyway
+pub anyway : {T E : Type 0} (r : Result T E) (X : Type 0) → X → OnErr r X
+anyway (Ok a) X x = tt
+anyway (Err e) X x = x
 
 wrong : {A : Type 0} → false ≡ true → A
 wrong e = absurd cc

@@ -38,3 +38,7 @@ pub on_errs : {T E : Type 0} (r : Result T E) (P Q R : Type 0) → (P → Q → 
 on_errs (Ok a) P Q R f h k = h
 on_errs (Err e) P Q R f h k = f h k
 
+-- what holds anyway
+pub anyway : {T E : Type 0} (r : Result T E) (X : Type 0) → X → OnErr r X
+anyway (Ok a) X x = tt
+anyway (Err e) X x = x

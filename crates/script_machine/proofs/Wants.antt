@@ -63,6 +63,11 @@ pub answered_wants : {C T E : Type 0} (r : Result T E) (m : Machine C) (l : Line
 answered_wants r m l out a lacks alone right takes =
     told_wants r m (line.Board l) out (of_boards a) lacks (λ s count rep reached. right_on_boards s l a (alone s count rep reached) (right s count rep reached)) takes
 
+-- what holds anyway
+pub anyway : {T E : Type 0} (r : Result T E) (X : Type 0) → X → OnErr r X
+anyway (Ok t) X x = tt
+anyway (Err e) X x = x
+
 -- a line that takes memory
 pub takes_anyway : {C T E : Type 0} (r : Result T E) (m : Machine C) (l : ScriptLine) (out : Vec ℕ) → TakesMemory m l → OnErr r (MayWant m l out)
 takes_anyway (Ok t) m l out takes = tt

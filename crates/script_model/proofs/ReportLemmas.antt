@@ -1,6 +1,6 @@
 -- The ids of one bit more.
 use Rattle.std.proofs.Common.{◌≡◌, ℕ, zero, suc, ◌+◌, ◌<◌, Bool, true, List, [], ◌∷◌, ◌++◌, length, append_assoc, arith, refl, sym, ap, subst, ◌∙◌, inl, inr}
-use Rattle.std.specs.Prelude.{if◌then◌else◌, ◌==◌, ◌-◌}
+use Rattle.std.specs.Prelude.{if◌then◌else◌, ◌==◌, ◌-◌, Result, Ok, Err, OnErr}
 use Rattle.std.specs.Int.{bit_at}
 use Rattle.board_event_model.specs.Ids.{ids_where}
 use Rattle.board_event_model.proofs.SetLemmas.{either}
@@ -46,3 +46,7 @@ some_ids bits base i count below some =
       | inr f ↦ absurd (let none = subst (λ (b : Bool). 0 < length (if b then (base + i) ∷ [] else [])) f some in omega (arith, none))
     ]
 
+-- what holds anyway
+pub anyway : {T E : Type 0} (r : Result T E) (X : Type 0) → X → OnErr r X
+anyway (Ok a) X x = tt
+anyway (Err e) X x = x

@@ -1,6 +1,6 @@
 -- What a call is told that is refused, and that a core's refusal is that of the definitions.
 use Rattle.std.proofs.Common.{arith, ◌≡◌, ◌==◌, ℕ, ◌+◌, ◌||◌, Bool, List, [], ◌∷◌, length, refl, Option, Some, sym, ap, ◌∙◌, subst}
-use Rattle.std.specs.Prelude.{nat_eq}
+use Rattle.std.specs.Prelude.{nat_eq, OnErr, Result, Ok, Err}
 use Rattle.std.specs.List.{list_any}
 use Rattle.board_layout.specs.declared.type_detail.TypeDetail.{TypeDetail}
 use Rattle.board_model.specs.declared.answer.Reply.TheVariants as reply
@@ -77,6 +77,11 @@ pub entry_mut_refused : (p : Parties) (x : Held) (name : List ℕ) (k : Key) (ty
 entry_mut_refused p x name k type why e =
     let f = entry_wanted p x k type in
     told_refused p (λ e. reply.EntryMutError e) (entry_mut_refusal p x k type) (id_of f) (with_write_handle p.tables x name f) why e
+
+-- what holds anyway holds after a failure
+pub anyway : {T E : Type 0} (r : Result T E) (X : Type 0) → X → OnErr r X
+anyway (Ok t) X x = tt
+anyway (Err e) X x = x
 
 -- ---- a core's refusal is that of the definitions
 

@@ -11,9 +11,9 @@ use super::DomainCore;
 use crate::cells::Cells;
 use crate::ids::NodeId;
 use crate::made::Made;
-use crate::refusals::number_of_named;
+use crate::refusals::{number_of_named, open_refusal};
 use board_concepts::AttributeVerifier;
-use board_layout::BoardKey;
+use board_layout::{BoardKey, TypeDetail, TypeVariant};
 use board_model::{Kind, Limits, ThingKind};
 use board_names::{BlackboardOpenError, ServiceName};
 use std::alloc::AllocError;
@@ -44,7 +44,18 @@ impl<C: Cells> DomainCore<C> {
             IfOk result (λ m. IsHeldAs self.new keys m.thing ThingKind.Factory) }
         ensures kept { KeepsHeld self.old self.new }
     {
-        if let Some(why) = self.open_refusal::<K>(node, name, limits, verifier) {
+        let key = TypeDetail::new::<K>(TypeVariant::FixedSize);
+        let refusal = open_refusal(
+            node,
+            name,
+            &key,
+            &limits,
+            verifier,
+            &self.boards,
+            &self.things,
+            self.things.last(),
+        );
+        if let Some(why) = refusal {
             return Err(why);
         }
         match self.open_unrefused(node, name) {

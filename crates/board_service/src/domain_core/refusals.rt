@@ -5,7 +5,6 @@ ghost use Rattle.board_layout.specs.Keys.{is_key, same_keys};
 ghost use Rattle.board_layout.specs.Bytes.{details};
 ghost use Rattle.board_model.specs.TableCalls.{first_of};
 ghost use Rattle.board_model.specs.Tables as tables;
-ghost use Rattle.board_model.specs.TypeTable.{same_type};
 ghost use Rattle.board_service.specs.Domain as domain;
 ghost use Rattle.board_service.specs.Entries.{HaveShapes, added};
 
@@ -58,10 +57,7 @@ impl<C: Cells> DomainCore<C> {
         ensures first { result ≡ first_of (domain.open_list self.now node name.now
             (details K.type_bytes K.SIZE K.ALIGNMENT) limits verifier.now) }
 
-        // Where nothing refuses it, the board's keys are of the type, and `open_unrefused` may be called.
-        ensures alike { let key = details K.type_bytes K.SIZE K.ALIGNMENT in
-            IfNone result (tables.holds_at (tables.board_named self.now.tables name.now)
-            (λ b. same_type b.key key) ≡ true) }
+        // Where nothing refuses it, `open_unrefused` may be called.
         ensures joins { IfNone result (domain.CanJoin nat_eq self.now.tables node name.now) }
         ensures below { IfNone result (self.now.last_thing < 2 ^ 64 - 2) }
     {

@@ -5,7 +5,7 @@ use Rattle.board_event_core.specs.EventTable.{IsNotifierAnswer, names_of}
 use Rattle.script_events.specs.Left.{HasNotifierMore}
 use Rattle.script_events.proofs.Asks.{notifier_done, notifier_makes, notifier_named}
 use Rattle.script_events.specs.PartyEvents.{held_in}
-use Rattle.board_names.proofs.KeyLemmas.{on_err_anyway}
+use Rattle.script_events.proofs.Options.{anyway}
 use Rattle.script_events.proofs.asking.add_notifier.Goals as goal
 
 pub returns-in_ok-put-in-Ok-clause-told : goal.returns-in_ok-put-in-Ok-clause-told
@@ -18,7 +18,7 @@ pub returns-in_err-put-in-Ok-clause-memory : goal.returns-in_err-put-in-Ok-claus
 returns-in_err-put-in-Ok-clause-memory c =
     let t = c.args.events.now in
     let answer : IsNotifierAnswer t (Ok c.in-Ok.number) (at (names_of c.args.kind t) c.args.event.now) = rw c.full_name.ensures at c.in-Ok.ensures.answer in
-    on_err_anyway _ _ (notifier_makes t (held_in c.args.things.now) c.args.party c.args.name c.args.kind c.args.event.now c.in-Ok.number answer)
+    anyway _ _ (notifier_makes t (held_in c.args.things.now) c.args.party c.args.name c.args.kind c.args.event.now c.in-Ok.number answer)
 
 pub returns-in_err-put-in-Ok-clause-events : goal.returns-in_err-put-in-Ok-clause-events
 returns-in_err-put-in-Ok-clause-events c =
@@ -26,4 +26,4 @@ returns-in_err-put-in-Ok-clause-events c =
     let answer : IsNotifierAnswer t (Ok c.in-Ok.number) (at (names_of c.args.kind t) c.args.event.now) = rw c.full_name.ensures at c.in-Ok.ensures.answer in
     let named : at (names_of c.args.kind t) c.args.event.now ≡ Some c.in-Ok.number = notifier_named t c.in-Ok.number (at (names_of c.args.kind t) c.args.event.now) answer in
     let more : HasNotifierMore t c.notifier.new.self c.args.kind c.args.event.now = (c.in-Ok.number, named, c.in-Ok.ensures.ok) in
-    on_err_anyway _ _ more
+    anyway _ _ more

@@ -6,7 +6,7 @@ use Rattle.board_names.specs.declared.errors.event.ListenerCreateError.TheVarian
 use Rattle.board_event_core.specs.EventTable.{listen_answer, table_listened, names_of}
 use Rattle.script_events.proofs.Asks.{listen_done, listen_drawn, listen_makes, listen_wanted, no_listener}
 use Rattle.script_events.specs.PartyEvents.{held_in}
-use Rattle.board_names.proofs.KeyLemmas.{on_err_anyway}
+use Rattle.script_events.proofs.Options.{anyway}
 use Rattle.script_events.proofs.asking.listen.Goals as goal
 
 pub returns-in_ok-put-in-Ok-clause-told : goal.returns-in_ok-put-in-Ok-clause-told
@@ -20,7 +20,7 @@ pub returns-in_err-put-in-Ok-clause-memory : goal.returns-in_err-put-in-Ok-claus
 returns-in_err-put-in-Ok-clause-memory c =
     let t = c.args.events.now in
     let answer : Ok c.in-Ok.number ≡ listen_answer t (at (names_of c.args.kind t) c.args.event.now) = rw c.full_name.ensures at (c.in-Ok.ensures.answer (λ e. cc)) in
-    on_err_anyway _ _ (listen_makes t (held_in c.args.things.now) c.args.party c.args.name c.args.kind c.args.event.now c.args.max (listen_drawn t c.in-Ok.number (at (names_of c.args.kind t) c.args.event.now) answer).0)
+    anyway _ _ (listen_makes t (held_in c.args.things.now) c.args.party c.args.name c.args.kind c.args.event.now c.args.max (listen_drawn t c.in-Ok.number (at (names_of c.args.kind t) c.args.event.now) answer).0)
 
 pub returns-in-Err-OutOfMemory-clause-memory : goal.returns-in-Err-OutOfMemory-clause-memory
 returns-in-Err-OutOfMemory-clause-memory c =
@@ -32,7 +32,7 @@ returns-in-Err-OutOfMemory-clause-memory c =
 pub returns-in_err-put-in-Ok-clause-events : goal.returns-in_err-put-in-Ok-clause-events
 returns-in_err-put-in-Ok-clause-events c =
     let made : c.listen.new.self ≡ table_listened c.args.events.now c.args.kind c.args.event.now c.args.max = rw c.full_name.ensures at c.in-Ok.ensures.ok in
-    on_err_anyway _ _ (inr made)
+    anyway _ _ (inr made)
 
 pub returns-in-Err-OutOfMemory-clause-events : goal.returns-in-Err-OutOfMemory-clause-events
 returns-in-Err-OutOfMemory-clause-events c = inl c.in-Err-OutOfMemory.ensures.err

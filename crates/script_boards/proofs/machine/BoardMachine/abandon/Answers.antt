@@ -3,7 +3,7 @@ use Rattle.script_boards.specs.Machine.{task_of}
 use Rattle.script_boards.specs.Steps.{was_abandoned}
 use Rattle.script_boards.proofs.Abandonments.{abandon_again, abandoned_is, party_leaves}
 use Rattle.script_boards.proofs.PartyTasks.{is_free}
-use Rattle.board_names.proofs.KeyLemmas.{on_err_anyway}
+use Rattle.script_boards.proofs.StepWants.{anyway}
 use Rattle.script_boards.proofs.machine.BoardMachine.abandon.Goals as goal
 
 pub returns-then-is_gone-clause-serves : goal.returns-then-is_gone-clause-serves
@@ -23,10 +23,10 @@ returns-clause-serves g c =
 pub returns-in_err-put_task-clause-memory : goal.returns-in_err-put_task-clause-memory
 returns-in_err-put_task-clause-memory g c =
     let m = c.args.self.now in
-    on_err_anyway c.from_residual.result _ (λ s rep reached. rw (is_free (task_of m) s.parties rep.parties c.args.party c.in_err-put_task.ensures.absent) refl)
+    anyway c.from_residual.result _ (λ s rep reached. rw (is_free (task_of m) s.parties rep.parties c.args.party c.in_err-put_task.ensures.absent) refl)
 
 pub returns-in_err-put_task-clause-held : goal.returns-in_err-put_task-clause-held
-returns-in_err-put_task-clause-held g c = on_err_anyway c.from_residual.result _ (record { domain = refl; values = refl; loans = refl })
+returns-in_err-put_task-clause-held g c = anyway c.from_residual.result _ (record { domain = refl; values = refl; loans = refl })
 
 pub returns-in_err-put_task-clause-parties : goal.returns-in_err-put_task-clause-parties
-returns-in_err-put_task-clause-parties g c = on_err_anyway c.from_residual.result _ c.in_err-put_task.ensures.same
+returns-in_err-put_task-clause-parties g c = anyway c.from_residual.result _ c.in_err-put_task.ensures.same

@@ -7,7 +7,7 @@ use Rattle.board_model.specs.LawfulSession.{IsRight, call_reason}
 use Rattle.script_boards.specs.Machine.{Represents, task_of}
 use Rattle.script_boards.proofs.CallChecks.{begin_begun, begin_refused, begin_takes, reason_for, wanted_for}
 use Rattle.script_boards.proofs.PartyTasks.{is_free}
-use Rattle.board_names.proofs.KeyLemmas.{on_err_anyway}
+use Rattle.script_boards.proofs.StepWants.{anyway}
 use Rattle.script_boards.proofs.machine.BoardMachine.begin_free.Goals as goal
 
 pub returns-in-Err-Refused-clause-serves : goal.returns-in-Err-Refused-clause-serves
@@ -35,7 +35,7 @@ pub returns-in_err-put_task-in-Ok-clause-memory : goal.returns-in_err-put_task-i
 returns-in_err-put_task-in-Ok-clause-memory g c =
     let m = c.args.self.now in
     let party = c.args.party in
-    on_err_anyway c.from_residual.result _ (λ s rep reached.
+    anyway c.from_residual.result _ (λ s rep reached.
     let rep2 = subst (λ x. Represents x s) (sym c.generation_for-generation.ensures.same) rep in
     begin_takes s party c.args.call (is_free (task_of m) s.parties rep.parties party c.requires.free) (c.in-Ok.ensures s rep2 reached.sound).0)
 

@@ -9,8 +9,7 @@ use Rattle.script_boards.specs.TaskWants.{keeps_value}
 use Rattle.script_boards.proofs.OwedTasks.{can_go_on, has_read, heard_last, heard_more, owed_runs}
 use Rattle.script_boards.proofs.OwedWords.{task_goes_on}
 use Rattle.script_boards.proofs.ReadSteps.{read_ends, read_goes_on, task_has_read, word_stands}
-use Rattle.board_names.proofs.KeyLemmas.{on_err_anyway}
-use Rattle.script_boards.proofs.StepWants.{get_takes}
+use Rattle.script_boards.proofs.StepWants.{anyway, get_takes}
 use Rattle.script_boards.proofs.machine.BoardMachine.step_read.Goals as goal
 
 pub read_word-value-requires : goal.read_word-value-requires
@@ -92,7 +91,7 @@ returns-in_err-told-in-Some-clause-memory g c =
     let mid = record c.read_word-value.new.self { parties = c.hear.new.tasks } in
     let ends = heard_last (task_of m) (task_of c.read_word-value.new.self) (task_of mid) party owes.task v same.rest.parties c.hear.result c.in-Some.task heard c.in-Some.is in
     let keeps = subst (λ (t : Task). keeps_value t ≡ true) ends.task c.in_err-told-in-Some.ensures.memory in
-    on_err_anyway c.from_residual.result _ (λ s rep reached.
+    anyway c.from_residual.result _ (λ s rep reached.
     let runs = owed_runs m party o owes s rep in
     rw runs.runs
     (get_takes s.memory (ask s.standing s.published party runs.r.request).reply runs.r owes.task c.args.read v runs.task owes.owes

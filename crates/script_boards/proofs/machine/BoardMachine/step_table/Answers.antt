@@ -4,8 +4,7 @@ use Rattle.script_boards.specs.declared.step.OwedAccess.TheVariants as owed
 use Rattle.script_boards.specs.Machine.{IsTableTask, IsTaskOf}
 use Rattle.script_boards.proofs.Bounds.{bounded}
 use Rattle.script_boards.proofs.OwedTasks.{owed_is, owed_runs}
-use Rattle.board_names.proofs.KeyLemmas.{on_err_anyway}
-use Rattle.script_boards.proofs.StepWants.{task_takes}
+use Rattle.script_boards.proofs.StepWants.{anyway, task_takes}
 use Rattle.script_boards.proofs.TableSteps.{task_can_run, task_right}
 use Rattle.script_boards.proofs.machine.BoardMachine.step_table.Goals as goal
 
@@ -40,7 +39,7 @@ returns-in_err-told-in-Table-clause-memory g c =
     let owes = c.requires.owes in
     let is = owed_is m party owed.Table owes c.remove.result c.in-Some.task c.remove.ensures.value c.in-Some.is in
     let mid = record m { parties = c.remove.new.self } in
-    on_err_anyway c.from_residual.result _ (λ s rep reached.
+    anyway c.from_residual.result _ (λ s rep reached.
     let runs = owed_runs m party owed.Table owes s rep in
     let asked : IsTableTask c.in-Table.task runs.r.request = subst (λ (t : Task). IsTaskOf t runs.r.request runs.r.so_far) (sym is ∙ c.in-Table.is) runs.task in
     rw runs.runs (task_takes mid s rep.tables party runs.r.so_far c.in-Table.task runs.r.request asked c.in_err-told-in-Table.ensures.memory))

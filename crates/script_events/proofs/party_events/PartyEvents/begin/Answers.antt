@@ -1,7 +1,7 @@
 use Rattle.std.proofs.Common.{refl}
 use Rattle.script_events.proofs.Checks.{begun_turn}
 use Rattle.script_events.proofs.Expiries.{refused_turn}
-use Rattle.board_names.proofs.KeyLemmas.{on_err_anyway}
+use Rattle.script_events.proofs.Options.{anyway}
 use Rattle.script_events.proofs.Tasks.{not_running}
 use Rattle.script_events.proofs.party_events.PartyEvents.begin.Goals as goal
 
@@ -20,10 +20,10 @@ returns-in-Err-clause-told c =
 
 pub returns-in_err-insert-in-Ok-clause-memory : goal.returns-in_err-insert-in-Ok-clause-memory
 returns-in_err-insert-in-Ok-clause-memory c =
-    on_err_anyway c.from_residual.result _ (λ x count few sound rep boards same.
+    anyway c.from_residual.result _ (λ x count few sound rep boards same.
     let checked = (rw c.in-Ok.is at c.check.ensures) x count few sound rep boards same in
     rw checked.1 refl)
 
 pub returns-in_err-insert-in-Ok-clause-left : goal.returns-in_err-insert-in-Ok-clause-left
 returns-in_err-insert-in-Ok-clause-left c =
-    on_err_anyway c.from_residual.result _ (record { events = refl; things = refl; calls = c.in_err-insert-in-Ok.ensures.err })
+    anyway c.from_residual.result _ (record { events = refl; things = refl; calls = c.in_err-insert-in-Ok.ensures.err })

@@ -9,7 +9,7 @@ use Rattle.script_model.specs.ScriptEvents.{end_told, is_for_all}
 use Rattle.script_events.specs.declared.step.Stepped.TheVariants as stepped
 use Rattle.script_model.specs.Reports.{StartsWord}
 use Rattle.script_events.specs.PartyEvents.{event_call}
-use Rattle.board_names.proofs.KeyLemmas.{on_err_anyway}
+use Rattle.script_events.proofs.Options.{anyway}
 use Rattle.script_events.proofs.Running.{same_many, turn_words}
 use Rattle.script_events.proofs.Steps.{gives_at}
 use Rattle.script_events.proofs.rows.Act.step.Goals as goal
@@ -36,10 +36,10 @@ returns-then-is_last-clause-told c =
 pub returns-in_err-report-clause-memory : goal.returns-in_err-report-clause-memory
 returns-in_err-report-clause-memory c =
     let step = c.step-step.ensures in
-    on_err_anyway c.from_residual.result _ (gives_at c.args.events.now c.args.self.now.event (event_call c.args.self.now.call) c.step-step.result.access c.step-step.result.answer step.right step.owes
+    anyway c.from_residual.result _ (gives_at c.args.events.now c.args.self.now.event (event_call c.args.self.now.call) c.step-step.result.access c.step-step.result.answer step.right step.owes
     (subst (λ (p : EventProgress). 0 < length (reported p)) step.progress c.in_err-report.ensures.memory))
 
 pub returns-in_err-report-clause-events : goal.returns-in_err-report-clause-events
 returns-in_err-report-clause-events c =
     let step = c.step-step.ensures in
-    on_err_anyway c.from_residual.result _ (step.memory ∙ ap (λ (a : EventAccess). changed c.args.events.now c.args.self.now.event (λ e. after e a)) step.owes)
+    anyway c.from_residual.result _ (step.memory ∙ ap (λ (a : EventAccess). changed c.args.events.now c.args.self.now.event (λ e. after e a)) step.owes)

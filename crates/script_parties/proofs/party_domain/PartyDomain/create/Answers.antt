@@ -3,8 +3,7 @@ use Rattle.std.specs.Prelude.{IfOk}
 use Rattle.board_model.specs.declared.attributes.Attribute.{Attribute}
 use Rattle.script_parties.specs.Parties.{IsCreate}
 use Rattle.script_parties.specs.Refusals.{create_refusal}
-use Rattle.board_names.proofs.KeyLemmas.{on_err_anyway}
-use Rattle.script_parties.proofs.Refused.{create_refused}
+use Rattle.script_parties.proofs.Refused.{anyway, create_refused}
 use Rattle.script_parties.proofs.party_domain.PartyDomain.create.Goals as goal
 
 pub returns-in-Some-clause-asked : goal.returns-in-Some-clause-asked
@@ -19,4 +18,4 @@ returns-in-None-clause-asked g c =
 pub returns-in-None-clause-memory : goal.returns-in-None-clause-memory
 returns-in-None-clause-memory g c =
     let why = c.create_refusal.ensures ∙ ap (λ es. create_refusal c.args.self.now c.args.name c.args.key_type es) c.as_slice.ensures in
-    on_err_anyway c.add_board.result _ (sym why ∙ c.in-None.is)
+    anyway c.add_board.result _ (sym why ∙ c.in-None.is)

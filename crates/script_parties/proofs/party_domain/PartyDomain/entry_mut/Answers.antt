@@ -1,10 +1,9 @@
 use Rattle.std.proofs.Common.{sym, ◌∙◌}
-use Rattle.board_names.proofs.KeyLemmas.{on_err_anyway}
-use Rattle.script_parties.proofs.Refused.{entry_mut_refused}
+use Rattle.script_parties.proofs.Refused.{anyway, entry_mut_refused}
 use Rattle.script_parties.proofs.party_domain.PartyDomain.entry_mut.Goals as goal
 
 pub returns-in-Some-clause-asked : goal.returns-in-Some-clause-asked
 returns-in-Some-clause-asked g c = entry_mut_refused c.args.self.now c.args.writer.now c.args.name c.args.key.now c.args.value_type c.in-Some.why (sym c.entry_mut_refusal.ensures ∙ c.in-Some.is)
 
 pub returns-in-None-clause-memory : goal.returns-in-None-clause-memory
-returns-in-None-clause-memory g c = on_err_anyway c.add_write_handle.result _ (sym c.entry_mut_refusal.ensures ∙ c.in-None.is)
+returns-in-None-clause-memory g c = anyway c.add_write_handle.result _ (sym c.entry_mut_refusal.ensures ∙ c.in-None.is)

@@ -4,8 +4,7 @@ use Rattle.board_model.specs.declared.attributes.Requirements.{Requirements}
 use Rattle.board_model.specs.TypeTable.{key_detail}
 use Rattle.script_parties.specs.Refusals.{open_refusal}
 use Rattle.script_parties.proofs.Openings.{opened_joined, party_joins}
-use Rattle.board_names.proofs.KeyLemmas.{on_err_anyway}
-use Rattle.script_parties.proofs.Refused.{open_refused}
+use Rattle.script_parties.proofs.Refused.{anyway, open_refused}
 use Rattle.script_parties.proofs.party_domain.PartyDomain.open.Goals as goal
 
 pub returns-in-Some-clause-asked : goal.returns-in-Some-clause-asked
@@ -27,4 +26,4 @@ returns-clause-asked g c =
 pub returns-clause-memory : goal.returns-clause-memory
 returns-clause-memory g c =
     let why = c.open_refusal.ensures ∙ ap (λ (needs : Requirements). open_refusal c.args.self.now c.args.party c.args.name c.args.key_type c.args.limits needs) c.needs_for-needs.ensures in
-    on_err_anyway c.add_factory.result _ (sym why ∙ c.in-None.is)
+    anyway c.add_factory.result _ (sym why ∙ c.in-None.is)
