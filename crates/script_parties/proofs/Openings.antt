@@ -30,7 +30,7 @@ use Rattle.board_model.specs.Tables.{Added, Tables, board_named, entries_of, hol
 use Rattle.board_model.specs.TableCalls.{asked, asks_above, create_refusals, created, first_of, has_all_nodes, joined, number_of, open_refusals}
 use Rattle.board_model.specs.Things.{Held}
 use Rattle.board_model.specs.TypeTable.{key_detail, same_key, same_type, value_words}
-use Rattle.script_parties.specs.Named.{AreParties, HasShortKey, HasShortKeys, IsNamed, IsOfNode, node_number, nodes_with, party_at, things_of}
+use Rattle.script_parties.specs.Named.{AreParties, HasShortKey, HasShortKeys, IsNamed, IsOfNode, factory_of, node_number, nodes_with, party_at, things_of}
 use Rattle.board_model.specs.ShortKeys.{IsShortKey}
 use Rattle.script_parties.specs.Parties.{IsCreate, IsJoined, IsOpen, Parties, words_with}
 use Rattle.script_parties.proofs.Asked.{answered_made, answered_refused, err_of, ok_of, told_made}
@@ -40,10 +40,6 @@ use Rattle.script_parties.proofs.Ports.{few_left, shown}
 use Rattle.board_service.specs.declared.made.Made.{Made}
 use Rattle.board_service.specs.Domain.{CanJoin, Domain, after_create, after_open, create_answer, made, spent}
 use Rattle.board_service.specs.Entries.{IsOpening, first_words}
-
--- a factory that a party has of a board
-abbrev pub factory_of : List ℕ → List ℕ → ℕ → Held
-factory_of party name board = record { holder = party; name = name; board = board; kind = kind.Factory }
 
 -- ---- boards that stand
 

@@ -74,6 +74,10 @@ abbrev pub held_or_none : Option Held → Held
 held_or_none None = record { holder = []; name = []; board = 0; kind = kind.Factory }
 held_or_none (Some t) = t
 
+-- a factory that a party has of a board
+abbrev pub factory_of : List ℕ → List ℕ → ℕ → Held
+factory_of party name board = record { holder = party; name = name; board = board; kind = kind.Factory }
+
 -- the core's things by their names, in its order
 abbrev pub named_things : (ℕ → Option Held) → List (Thing ℕ ℕ) → List Held
 named_things things ts = map (λ (t : Thing ℕ ℕ). held_or_none (things t.name)) ts

@@ -10,7 +10,7 @@ ghost use Rattle.script_seats.specs.Seats.{is_at, nothing, put, seat_of};
 
 use crate::lookups::Held;
 use crate::short_seat::ShortSeat;
-use board_model::Name;
+use board_model::{Kind, Name, Thing};
 use board_service::ThingId;
 use script_seats::{Seat, Seats, Sought};
 use std::alloc::{AllocError, Global};
@@ -152,6 +152,22 @@ impl NamedThings {
             // There is room.
             unreachable!()
         };
+    }
+
+    /// One thing more, of this thing's party and board, under a number that is free. Takes no memory: there is room.
+    pub(crate) fn push_beside(&mut self, number: ThingId, name: Name, of: &Held, kind: Kind)
+        requires room { 0 < spare self.old.names }
+        requires seat { seats.HasRoom self.old.seats }
+        ensures { (things : ℕ → Option held.Held) → IsNames self.old things → things number ≡ None
+            → IsNames self.new (put number (Some (record of.now { name = name; kind = kind })) things) }
+    {
+        let thing = Thing {
+            holder: of.holder,
+            name,
+            board: of.board,
+            kind,
+        };
+        self.push(number, &thing);
     }
 
     /// Takes away the first thing that a party holds under a name; tells its number. Takes no memory.

@@ -92,15 +92,9 @@ pub(crate) fn entry_in<C: Cells>(
         (entry_sought core.old reader key.now value.now)) }
     ensures err { OnErr result (core.new ≡ core.old) }
 {
-    match key {
-        Key::U64(n) => {
-            let key = *n;
-            core.entry::<u64>(reader, &key, value)
-        }
-        Key::F8(text) => {
-            let key = f8_of(text);
-            core.entry::<F8>(reader, &key, value)
-        }
+    match *key {
+        Key::U64(n) => core.entry::<u64>(reader, &n, value),
+        Key::F8(text) => core.entry::<F8>(reader, &f8_of(&text), value),
     }
 }
 
@@ -116,15 +110,9 @@ pub(crate) fn entry_refusal_in<C: Cells>(
     ensures { result ≡ first_of (domain.entry_list core.now
         (entry_sought core.now reader key.now value.now)) }
 {
-    match key {
-        Key::U64(n) => {
-            let key = *n;
-            core.entry_refusal::<u64>(reader, &key, value)
-        }
-        Key::F8(text) => {
-            let key = f8_of(text);
-            core.entry_refusal::<F8>(reader, &key, value)
-        }
+    match *key {
+        Key::U64(n) => core.entry_refusal::<u64>(reader, &n, value),
+        Key::F8(text) => core.entry_refusal::<F8>(reader, &f8_of(&text), value),
     }
 }
 
@@ -145,15 +133,9 @@ pub(crate) fn entry_mut_in<C: Cells>(
         (entry_sought core.old writer key.now value.now)) }
     ensures err { OnErr result (core.new ≡ core.old) }
 {
-    match key {
-        Key::U64(n) => {
-            let key = *n;
-            core.entry_mut::<u64>(writer, &key, value)
-        }
-        Key::F8(text) => {
-            let key = f8_of(text);
-            core.entry_mut::<F8>(writer, &key, value)
-        }
+    match *key {
+        Key::U64(n) => core.entry_mut::<u64>(writer, &n, value),
+        Key::F8(text) => core.entry_mut::<F8>(writer, &f8_of(&text), value),
     }
 }
 
@@ -169,14 +151,8 @@ pub(crate) fn entry_mut_refusal_in<C: Cells>(
     ensures { result ≡ first_of (domain.entry_mut_list core.now (domain.held core.now writer)
         (entry_sought core.now writer key.now value.now)) }
 {
-    match key {
-        Key::U64(n) => {
-            let key = *n;
-            core.entry_mut_refusal::<u64>(writer, &key, value)
-        }
-        Key::F8(text) => {
-            let key = f8_of(text);
-            core.entry_mut_refusal::<F8>(writer, &key, value)
-        }
+    match *key {
+        Key::U64(n) => core.entry_mut_refusal::<u64>(writer, &n, value),
+        Key::F8(text) => core.entry_mut_refusal::<F8>(writer, &f8_of(&text), value),
     }
 }

@@ -1,16 +1,22 @@
 //! What the calls make, where nothing refuses them and memory is given.
-ghost use Rattle.std.specs.Prelude.{◌≡◌, true, IfOk, OnErr};
+ghost use Rattle.std.specs.Prelude.{◌≡◌, ◌<◌, ℕ, IfOk, None, OnErr, Option, Some, true};
+ghost use Rattle.std.specs.HashMap as hash_map;
 ghost use Rattle.std.specs.Str.{bytes_eq};
 ghost use Rattle.board_model.specs.LineGrammar.{is_board_name};
 ghost use Rattle.board_model.specs.Tables as tables;
+ghost use Rattle.board_model.specs.Things as held;
+ghost use Rattle.indexmap.specs.IndexSet as index_set;
+ghost use Rattle.script_parties.specs.Named.{factory_of, nodes_with};
+ghost use Rattle.script_parties.specs.Numbered.{IsNames};
 ghost use Rattle.script_parties.specs.Parties.{IsCreate, IsEntry, IsEntryMut, IsFew, IsJoined, IsReader, IsWriter, IsStandingThing};
 ghost use Rattle.script_parties.specs.Shown.{HasKeyType};
 ghost use Rattle.board_service.specs.Domain.{CanJoin};
+ghost use Rattle.script_seats.specs.Seats.{HasRoom, put};
 
 use super::PartyDomain;
 use crate::adding::entries_for;
 use crate::lookups::{Held, join, node_for};
-use crate::named::number_of;
+use crate::named::{NamedThings, number_of};
 use crate::typed_calls::{create_in, entry_in, entry_mut_in};
 use board_concepts::AttributeSet;
 use board_layout::Text;
@@ -22,8 +28,35 @@ use board_names::{
     BlackboardCreateError, EntryHandleError, EntryHandleMutError, ReaderCreateError, ServiceName,
     WriterCreateError,
 };
-use board_service::{BoardWords, NodeId};
+use board_service::{BoardWords, Made, NodeId};
+use indexmap::IndexSet;
 use std::alloc::AllocError;
+
+// One factory more, of the board that was made or opened. Its party is a node from now on. Takes no memory: there is room.
+fn push_factory(
+    made: &Made,
+    party: Name,
+    name: Name,
+    nodes: &mut IndexSet<Name>,
+    names: &mut NamedThings,
+)
+    requires node { 0 < index_set.spare nodes.old }
+    requires room { 0 < hash_map.spare names.old.names }
+    requires seat { HasRoom names.old.seats }
+    ensures nodes { nodes.new.keys ≡ nodes_with party nodes.old.keys }
+    ensures names { (things : ℕ → Option held.Held) → IsNames names.old things
+        → things made.now.thing ≡ None → IsNames names.new
+        (put made.now.thing (Some (factory_of party name made.now.number)) things) }
+{
+    join(party, nodes);
+    let thing = Thing {
+        holder: party,
+        name,
+        board: made.number,
+        kind: Kind::Factory,
+    };
+    names.push(made.thing, &thing);
+}
 
 impl<C: BoardWords + Drop> PartyDomain<C> {
     /// The same as `create`, but want of memory may come in place of a refusal.
@@ -58,14 +91,7 @@ impl<C: BoardWords + Drop> PartyDomain<C> {
             entries,
         ) {
             Ok(made) => {
-                join(party, &mut self.nodes);
-                let thing = Thing {
-                    holder: party,
-                    name: factory,
-                    board: made.number,
-                    kind: Kind::Factory,
-                };
-                self.names.push(made.thing, &thing);
+                push_factory(&made, party, factory, &mut self.nodes, &mut self.names);
                 Ok(Reply::Number(made.number))
             }
             Err(BlackboardCreateError::OutOfMemory) => Err(AllocError),
@@ -92,14 +118,7 @@ impl<C: BoardWords + Drop> PartyDomain<C> {
         let name = ServiceName::from_text(name);
         match self.core.open_unrefused(node, &name) {
             Ok(made) => {
-                join(party, &mut self.nodes);
-                let thing = Thing {
-                    holder: party,
-                    name: factory,
-                    board: made.number,
-                    kind: Kind::Factory,
-                };
-                self.names.push(made.thing, &thing);
+                push_factory(&made, party, factory, &mut self.nodes, &mut self.names);
                 Ok(Reply::Number(made.number))
             }
             Err(error) => Err(error),
@@ -117,13 +136,8 @@ impl<C: BoardWords + Drop> PartyDomain<C> {
         let number = number_of(factory, &self.names);
         match self.core.reader(number) {
             Ok(made) => {
-                let thing = Thing {
-                    holder: factory.holder,
-                    name,
-                    board: factory.board,
-                    kind: Kind::Reader { port: made.number },
-                };
-                self.names.push(made.thing, &thing);
+                let kind = Kind::Reader { port: made.number };
+                self.names.push_beside(made.thing, name, factory, kind);
                 Ok(Reply::Number(made.number))
             }
             Err(ReaderCreateError::OutOfMemory) => Err(AllocError),
@@ -142,13 +156,8 @@ impl<C: BoardWords + Drop> PartyDomain<C> {
         let number = number_of(factory, &self.names);
         match self.core.writer(number) {
             Ok(made) => {
-                let thing = Thing {
-                    holder: factory.holder,
-                    name,
-                    board: factory.board,
-                    kind: Kind::Writer { port: made.number },
-                };
-                self.names.push(made.thing, &thing);
+                let kind = Kind::Writer { port: made.number };
+                self.names.push_beside(made.thing, name, factory, kind);
                 Ok(Reply::Number(made.number))
             }
             Err(WriterCreateError::OutOfMemory) => Err(AllocError),
@@ -176,13 +185,8 @@ impl<C: BoardWords + Drop> PartyDomain<C> {
         let number = number_of(reader, &self.names);
         match entry_in(&mut self.core, number, key, &value_detail(value_type)) {
             Ok(found) => {
-                let thing = Thing {
-                    holder: reader.holder,
-                    name,
-                    board: reader.board,
-                    kind: Kind::ReadHandle { entry: found.entry },
-                };
-                self.names.push(found.thing, &thing);
+                let kind = Kind::ReadHandle { entry: found.entry };
+                self.names.push_beside(found.thing, name, reader, kind);
                 Ok(Reply::Number(found.place))
             }
             Err(EntryHandleError::OutOfMemory) => Err(AllocError),
@@ -210,16 +214,11 @@ impl<C: BoardWords + Drop> PartyDomain<C> {
         let number = number_of(writer, &self.names);
         match entry_mut_in(&mut self.core, number, key, &value_detail(value_type)) {
             Ok(found) => {
-                let thing = Thing {
-                    holder: writer.holder,
-                    name,
-                    board: writer.board,
-                    kind: Kind::WriteHandle {
-                        entry: found.entry,
-                        port: writer.kind.port(),
-                    },
+                let kind = Kind::WriteHandle {
+                    entry: found.entry,
+                    port: writer.kind.port(),
                 };
-                self.names.push(found.thing, &thing);
+                self.names.push_beside(found.thing, name, writer, kind);
                 Ok(Reply::Number(found.place))
             }
             Err(EntryHandleMutError::OutOfMemory) => Err(AllocError),

@@ -15,8 +15,8 @@ returns-in-U64-clause-ok g c = subst (λ (o : Option (ℕ × Entry)). OnOk c.ent
 
 pub returns-in-F8-clause-answer : goal.returns-in-F8-clause-answer
 returns-in-F8-clause-answer g c = λ h. c.entry_mut-in-F8.ensures.answer h
-    ∙ ap (λ (o : Option (ℕ × Entry)). domain.entry_mut_answer c.args.core.now (domain.held c.args.core.now c.args.writer) o) (found_by_text c.args.core.now c.requires.keys c.in-F8.text c.f8_of-key.result (search rules) c.f8_of-key.ensures c.args.key.now c.in-F8.is (domain.held c.args.core.now c.args.writer) c.args.value.now)
+    ∙ ap (λ (o : Option (ℕ × Entry)). domain.entry_mut_answer c.args.core.now (domain.held c.args.core.now c.args.writer) o) (found_by_text c.args.core.now c.requires.keys c.in-F8.text c.f8_of.result (search rules) c.f8_of.ensures c.args.key.now c.in-F8.is (domain.held c.args.core.now c.args.writer) c.args.value.now)
 
 pub returns-in-F8-clause-ok : goal.returns-in-F8-clause-ok
 returns-in-F8-clause-ok g c = subst (λ (o : Option (ℕ × Entry)). OnOk c.entry_mut-in-F8.result (c.entry_mut-in-F8.new.self ≡ domain.after_entry_mut c.args.core.now (domain.held c.args.core.now c.args.writer) o))
-    (found_by_text c.args.core.now c.requires.keys c.in-F8.text c.f8_of-key.result (search rules) c.f8_of-key.ensures c.args.key.now c.in-F8.is (domain.held c.args.core.now c.args.writer) c.args.value.now) c.entry_mut-in-F8.ensures.ok
+    (found_by_text c.args.core.now c.requires.keys c.in-F8.text c.f8_of.result (search rules) c.f8_of.ensures c.args.key.now c.in-F8.is (domain.held c.args.core.now c.args.writer) c.args.value.now) c.entry_mut-in-F8.ensures.ok

@@ -11,4 +11,4 @@ returns-in-U64 g c = c.entry_refusal.ensures
 
 pub returns-in-F8 : goal.returns-in-F8
 returns-in-F8 g c = c.entry_refusal-in-F8.ensures
-    ∙ ap (λ (o : Option (ℕ × Entry)). first_of (domain.entry_list c.args.core.now o)) (found_by_text c.args.core.now c.requires.keys c.in-F8.text c.f8_of-key.result (search rules) c.f8_of-key.ensures c.args.key.now c.in-F8.is (domain.held c.args.core.now c.args.reader) c.args.value.now)
+    ∙ ap (λ (o : Option (ℕ × Entry)). first_of (domain.entry_list c.args.core.now o)) (found_by_text c.args.core.now c.requires.keys c.in-F8.text c.f8_of.result (search rules) c.f8_of.ensures c.args.key.now c.in-F8.is (domain.held c.args.core.now c.args.reader) c.args.value.now)

@@ -2,13 +2,13 @@ use Rattle.std.proofs.Common.{rules, ◌≢◌, Some, [], ◌∷◌, ◌++◌, m
 use Rattle.board_model.specs.declared.answer.Reply.TheVariants as reply
 use Rattle.board_names.specs.declared.errors.boards.BlackboardCreateError.TheVariants as create_error
 use Rattle.board_model.specs.Replies as replies
-use Rattle.script_parties.specs.Named.{IsNamed, node_number, nodes_with, things_of}
+use Rattle.script_parties.specs.Named.{IsNamed, factory_of, node_number, nodes_with, things_of}
 use Rattle.script_parties.specs.Numbered.{seat_at, things_by}
 use Rattle.script_parties.specs.Parties.{IsCreate, IsFew}
 use Rattle.script_parties.proofs.Asked.{carried}
 use Rattle.script_parties.proofs.BoardNames.{service_name}
 use Rattle.script_parties.proofs.Growth.{named_more, named_with, next_free, things_more}
-use Rattle.script_parties.proofs.Openings.{IsCreated, create_made, create_not_made, factory_of}
+use Rattle.script_parties.proofs.Openings.{IsCreated, create_made, create_not_made}
 use Rattle.script_parties.proofs.NamesAndThings.{given_names, on_err, settled, shown_still, still, told}
 use Rattle.script_parties.proofs.Ports.{shown}
 use Rattle.script_seats.specs.Seats.{put}
@@ -35,10 +35,10 @@ invariant_of-self-in-Ok g c =
     let both = create_made g.C.Cells.words g.C.Words.list s.nodes.keys at s.core c.create_in.new.core c.args.party c.args.factory c.args.name c.args.key_type c.args.limits c.args.attributes c.args.entries.now
     c.node_for.result c.from_text-name.result c.args.attributes (map as_added c.in_ok-entries.entries.items) c.in-Ok.made ok.0 g.met.C.BoardWords.known h o c.in_ok-entries.ensures.keys c.in-Ok.ensures.answer ok.2 ok.3 in
     let all = nodes_with c.args.party s.nodes.keys in
-    let names = c.push.ensures at (given_names s.names c.reserve-2.new.self at c.self.invariant.0 c.reserve-2.ensures.index c.reserve-2.ensures.names) (next_free s.nodes.keys at at s.core c.in-Ok.made.thing h refl both.1.next) in
+    let names = c.push_factory.ensures.names at (given_names s.names c.reserve-2.new.self at c.self.invariant.0 c.reserve-2.ensures.index c.reserve-2.ensures.names) (next_free s.nodes.keys at at s.core c.in-Ok.made.thing h refl both.1.next) in
     let named = named_more all at s.core c.create_in.new.core c.in-Ok.made.thing new (named_with c.args.party s.nodes.keys at s.core h) both.1 in
-    let joined = sym (c.join.ensures ∙ ap (λ ps. nodes_with c.args.party ps) c.reserve.ensures.keys) in
-    settled c.push.new.self c.join.new.nodes.keys (put c.in-Ok.made.thing (Some new) at) c.create_in.new.core names (subst (λ ps. IsNamed ps (put c.in-Ok.made.thing (Some new) at) c.create_in.new.core) joined named)
+    let joined = sym (c.push_factory.ensures.nodes ∙ ap (λ ps. nodes_with c.args.party ps) c.reserve.ensures.keys) in
+    settled c.push_factory.new.names c.push_factory.new.nodes.keys (put c.in-Ok.made.thing (Some new) at) c.create_in.new.core names (subst (λ ps. IsNamed ps (put c.in-Ok.made.thing (Some new) at) c.create_in.new.core) joined named)
 
 pub returns-in-Ok-clause-asked : goal.returns-in-Ok-clause-asked
 returns-in-Ok-clause-asked g c =
@@ -57,11 +57,11 @@ returns-in-Ok-clause-asked g c =
     let both = create_made g.C.Cells.words g.C.Words.list s.nodes.keys at s.core c.create_in.new.core c.args.party c.args.factory c.args.name c.args.key_type c.args.limits c.args.attributes c.args.entries.now
     c.node_for.result c.from_text-name.result c.args.attributes (map as_added c.in_ok-entries.entries.items) c.in-Ok.made ok.0 g.met.C.BoardWords.known h o c.in_ok-entries.ensures.keys c.in-Ok.ensures.answer ok.2 ok.3 in
     let all = nodes_with c.args.party s.nodes.keys in
-    let names = c.push.ensures at (given_names s.names c.reserve-2.new.self at c.self.invariant.0 c.reserve-2.ensures.index c.reserve-2.ensures.names) (next_free s.nodes.keys at at s.core c.in-Ok.made.thing h refl both.1.next) in
+    let names = c.push_factory.ensures.names at (given_names s.names c.reserve-2.new.self at c.self.invariant.0 c.reserve-2.ensures.index c.reserve-2.ensures.names) (next_free s.nodes.keys at at s.core c.in-Ok.made.thing h refl both.1.next) in
     carried (λ now xs. IsCreate now (shown g.C.Words.list c.create_in.new.core xs) c.args.party c.args.factory c.args.name c.args.key_type c.args.limits c.args.attributes c.args.entries.now (reply.Number c.in-Ok.made.number))
-    (shown g.C.Words.list s.core (things_of at s.core)) c.args.self.now (things_of at s.core ++ new ∷ []) (things_of (things_by (seat_at c.push.new.self) c.create_in.new.core) c.create_in.new.core)
+    (shown g.C.Words.list s.core (things_of at s.core)) c.args.self.now (things_of at s.core ++ new ∷ []) (things_of (things_by (seat_at c.push_factory.new.names) c.create_in.new.core) c.create_in.new.core)
     c.self.view_is
-    (ap (λ a. things_of a c.create_in.new.core) (told all (seat_at c.push.new.self) (put c.in-Ok.made.thing (Some new) at) c.create_in.new.core names.names (named_more all at s.core c.create_in.new.core c.in-Ok.made.thing new (named_with c.args.party s.nodes.keys at s.core h) both.1)) ∙ things_more all at s.core c.create_in.new.core c.in-Ok.made.thing new (named_with c.args.party s.nodes.keys at s.core h) both.1) both.0
+    (ap (λ a. things_of a c.create_in.new.core) (told all (seat_at c.push_factory.new.names) (put c.in-Ok.made.thing (Some new) at) c.create_in.new.core names.names (named_more all at s.core c.create_in.new.core c.in-Ok.made.thing new (named_with c.args.party s.nodes.keys at s.core h) both.1)) ∙ things_more all at s.core c.create_in.new.core c.in-Ok.made.thing new (named_with c.args.party s.nodes.keys at s.core h) both.1) both.0
 
 pub returns-in-Err-clause-asked : goal.returns-in-Err-clause-asked
 returns-in-Err-clause-asked g c =

@@ -2,13 +2,13 @@ use Rattle.std.proofs.Common.{Some, [], ◌∷◌, ◌++◌, sym, ap, ◌∙◌,
 use Rattle.std.specs.Str.{bytes_eq}
 use Rattle.board_model.specs.declared.answer.Reply.TheVariants as reply
 use Rattle.board_service.specs.Domain.{CanJoin}
-use Rattle.script_parties.specs.Named.{IsNamed, node_number, nodes_with, things_of}
+use Rattle.script_parties.specs.Named.{IsNamed, factory_of, node_number, nodes_with, things_of}
 use Rattle.script_parties.specs.Numbered.{seat_at, things_by}
 use Rattle.script_parties.specs.Parties.{IsJoined, Parties}
 use Rattle.script_parties.proofs.Asked.{carried}
 use Rattle.script_parties.proofs.BoardNames.{service_name}
 use Rattle.script_parties.proofs.Growth.{named_more, named_with, next_free, things_more}
-use Rattle.script_parties.proofs.Openings.{factory_of, node_joins, open_made}
+use Rattle.script_parties.proofs.Openings.{node_joins, open_made}
 use Rattle.script_parties.proofs.NamesAndThings.{given_names, on_err, settled, shown_still, still, told}
 use Rattle.script_parties.proofs.Ports.{shown}
 use Rattle.script_seats.specs.Seats.{put}
@@ -35,10 +35,10 @@ invariant_of-self-in-Ok g c =
     let new = factory_of c.args.party c.args.factory c.in-Ok.made.number in
     let both = open_made g.C.Words.list s.nodes.keys at s.core c.open_unrefused.new.self c.args.party c.args.factory c.args.name
     c.node_for.result c.from_text-name.result c.in-Ok.made h node_is c.from_text-name.ensures c.in-Ok.ensures.made c.in-Ok.ensures.ok in
-    let names = c.push.ensures at (given_names s.names c.reserve-2.new.self at c.self.invariant.0 c.reserve-2.ensures.index c.reserve-2.ensures.names) (next_free s.nodes.keys at at s.core c.in-Ok.made.thing h refl both.1.next) in
+    let names = c.push_factory.ensures.names at (given_names s.names c.reserve-2.new.self at c.self.invariant.0 c.reserve-2.ensures.index c.reserve-2.ensures.names) (next_free s.nodes.keys at at s.core c.in-Ok.made.thing h refl both.1.next) in
     let named = named_more all at s.core c.open_unrefused.new.self c.in-Ok.made.thing new (named_with c.args.party s.nodes.keys at s.core h) both.1 in
-    let joined = sym (c.join.ensures ∙ ap (λ ps. nodes_with c.args.party ps) c.reserve.ensures.keys) in
-    settled c.push.new.self c.join.new.nodes.keys (put c.in-Ok.made.thing (Some new) at) c.open_unrefused.new.self names (subst (λ ps. IsNamed ps (put c.in-Ok.made.thing (Some new) at) c.open_unrefused.new.self) joined named)
+    let joined = sym (c.push_factory.ensures.nodes ∙ ap (λ ps. nodes_with c.args.party ps) c.reserve.ensures.keys) in
+    settled c.push_factory.new.names c.push_factory.new.nodes.keys (put c.in-Ok.made.thing (Some new) at) c.open_unrefused.new.self names (subst (λ ps. IsNamed ps (put c.in-Ok.made.thing (Some new) at) c.open_unrefused.new.self) joined named)
 
 pub returns-in-Ok-clause-joined : goal.returns-in-Ok-clause-joined
 returns-in-Ok-clause-joined g c =
@@ -50,11 +50,11 @@ returns-in-Ok-clause-joined g c =
     let new = factory_of c.args.party c.args.factory c.in-Ok.made.number in
     let both = open_made g.C.Words.list s.nodes.keys at s.core c.open_unrefused.new.self c.args.party c.args.factory c.args.name
     c.node_for.result c.from_text-name.result c.in-Ok.made h node_is c.from_text-name.ensures c.in-Ok.ensures.made c.in-Ok.ensures.ok in
-    let names = c.push.ensures at (given_names s.names c.reserve-2.new.self at c.self.invariant.0 c.reserve-2.ensures.index c.reserve-2.ensures.names) (next_free s.nodes.keys at at s.core c.in-Ok.made.thing h refl both.1.next) in
+    let names = c.push_factory.ensures.names at (given_names s.names c.reserve-2.new.self at c.self.invariant.0 c.reserve-2.ensures.index c.reserve-2.ensures.names) (next_free s.nodes.keys at at s.core c.in-Ok.made.thing h refl both.1.next) in
     carried (λ now xs. IsJoined now (shown g.C.Words.list c.open_unrefused.new.self xs) c.args.party c.args.factory c.args.name (reply.Number c.in-Ok.made.number))
-    (shown g.C.Words.list s.core (things_of at s.core)) c.args.self.now (things_of at s.core ++ new ∷ []) (things_of (things_by (seat_at c.push.new.self) c.open_unrefused.new.self) c.open_unrefused.new.self)
+    (shown g.C.Words.list s.core (things_of at s.core)) c.args.self.now (things_of at s.core ++ new ∷ []) (things_of (things_by (seat_at c.push_factory.new.names) c.open_unrefused.new.self) c.open_unrefused.new.self)
     c.self.view_is
-    (ap (λ a. things_of a c.open_unrefused.new.self) (told all (seat_at c.push.new.self) (put c.in-Ok.made.thing (Some new) at) c.open_unrefused.new.self names.names (named_more all at s.core c.open_unrefused.new.self c.in-Ok.made.thing new (named_with c.args.party s.nodes.keys at s.core h) both.1)) ∙ things_more all at s.core c.open_unrefused.new.self c.in-Ok.made.thing new (named_with c.args.party s.nodes.keys at s.core h) both.1) both.0
+    (ap (λ a. things_of a c.open_unrefused.new.self) (told all (seat_at c.push_factory.new.names) (put c.in-Ok.made.thing (Some new) at) c.open_unrefused.new.self names.names (named_more all at s.core c.open_unrefused.new.self c.in-Ok.made.thing new (named_with c.args.party s.nodes.keys at s.core h) both.1)) ∙ things_more all at s.core c.open_unrefused.new.self c.in-Ok.made.thing new (named_with c.args.party s.nodes.keys at s.core h) both.1) both.0
 
 pub invariant_of-self-in_err-reserve-2 : goal.invariant_of-self-in_err-reserve-2
 invariant_of-self-in_err-reserve-2 g c =

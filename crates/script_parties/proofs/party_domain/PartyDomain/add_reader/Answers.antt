@@ -41,8 +41,8 @@ invariant_of-self-in-Ok g c =
     let i = thing_of_call s.nodes.keys at at s.core x c.number_of-number.result h refl stands (c.number_of-number.ensures at (given_names s.names c.reserve.new.self at c.self.invariant.0 c.reserve.ensures.index c.reserve.ensures.names)) in
     let new = from x c.args.name (kind.Reader c.in-Ok.made.number) in
     let both = reader_made g.C.Words.list s.nodes.keys at s.core c.reader.new.self x c.number_of-number.result c.args.name c.in-Ok.made h i c.in-Ok.ensures.answer c.in-Ok.ensures.ok in
-    let names = c.push.ensures at (given_names s.names c.reserve.new.self at c.self.invariant.0 c.reserve.ensures.index c.reserve.ensures.names) (next_free s.nodes.keys at at s.core c.in-Ok.made.thing h refl both.1.next) in
-    settled c.push.new.self s.nodes.keys (put c.in-Ok.made.thing (Some new) at) c.reader.new.self names (named_more s.nodes.keys at s.core c.reader.new.self c.in-Ok.made.thing new h both.1)
+    let names = c.push_beside.ensures at (given_names s.names c.reserve.new.self at c.self.invariant.0 c.reserve.ensures.index c.reserve.ensures.names) (next_free s.nodes.keys at at s.core c.in-Ok.made.thing h refl both.1.next) in
+    settled c.push_beside.new.self s.nodes.keys (put c.in-Ok.made.thing (Some new) at) c.reader.new.self names (named_more s.nodes.keys at s.core c.reader.new.self c.in-Ok.made.thing new h both.1)
 
 pub returns-in-Ok-clause-asked : goal.returns-in-Ok-clause-asked
 returns-in-Ok-clause-asked g c =
@@ -54,10 +54,10 @@ returns-in-Ok-clause-asked g c =
     let i = thing_of_call s.nodes.keys at at s.core x c.number_of-number.result h refl stands (c.number_of-number.ensures at (given_names s.names c.reserve.new.self at c.self.invariant.0 c.reserve.ensures.index c.reserve.ensures.names)) in
     let new = from x c.args.name (kind.Reader c.in-Ok.made.number) in
     let both = reader_made g.C.Words.list s.nodes.keys at s.core c.reader.new.self x c.number_of-number.result c.args.name c.in-Ok.made h i c.in-Ok.ensures.answer c.in-Ok.ensures.ok in
-    let names = c.push.ensures at (given_names s.names c.reserve.new.self at c.self.invariant.0 c.reserve.ensures.index c.reserve.ensures.names) (next_free s.nodes.keys at at s.core c.in-Ok.made.thing h refl both.1.next) in
+    let names = c.push_beside.ensures at (given_names s.names c.reserve.new.self at c.self.invariant.0 c.reserve.ensures.index c.reserve.ensures.names) (next_free s.nodes.keys at at s.core c.in-Ok.made.thing h refl both.1.next) in
     carried (λ now xs. IsReader now (shown g.C.Words.list c.reader.new.self xs) c.args.name x (reply.Number c.in-Ok.made.number)) (shown g.C.Words.list s.core (things_of at s.core)) c.args.self.now
-    (things_of at s.core ++ new ∷ []) (things_of (things_by (seat_at c.push.new.self) c.reader.new.self) c.reader.new.self)
-    c.self.view_is (ap (λ a. things_of a c.reader.new.self) (told s.nodes.keys (seat_at c.push.new.self) (put c.in-Ok.made.thing (Some new) at) c.reader.new.self names.names (named_more s.nodes.keys at s.core c.reader.new.self c.in-Ok.made.thing new h both.1)) ∙ things_more s.nodes.keys at s.core c.reader.new.self c.in-Ok.made.thing new h both.1) both.0
+    (things_of at s.core ++ new ∷ []) (things_of (things_by (seat_at c.push_beside.new.self) c.reader.new.self) c.reader.new.self)
+    c.self.view_is (ap (λ a. things_of a c.reader.new.self) (told s.nodes.keys (seat_at c.push_beside.new.self) (put c.in-Ok.made.thing (Some new) at) c.reader.new.self names.names (named_more s.nodes.keys at s.core c.reader.new.self c.in-Ok.made.thing new h both.1)) ∙ things_more s.nodes.keys at s.core c.reader.new.self c.in-Ok.made.thing new h both.1) both.0
 
 pub returns-in-Err-clause-asked : goal.returns-in-Err-clause-asked
 returns-in-Err-clause-asked g c =

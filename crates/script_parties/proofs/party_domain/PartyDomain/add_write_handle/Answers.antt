@@ -57,8 +57,8 @@ invariant_of-self-in-Ok g c =
     let ok = subst (λ v. c.entry_mut_in.new.core ≡ after_entry_mut s.core (held s.core n) (entry_for s.core (held s.core n) (keeps_key c.args.key.now) v)) c.value_detail.ensures c.in-Ok.ensures.ok in
     let new = from x c.args.name (kind.WriteHandle c.in-Ok.found.entry c.port.result) in
     let both = entry_mut_made g.C.Words.list s.nodes.keys at s.core c.entry_mut_in.new.core x n c.args.name (keeps_key c.args.key.now) (value_detail c.args.value_type) c.in-Ok.found c.port.result h i c.port.ensures answer ok in
-    let names = c.push.ensures at (given_names s.names c.reserve.new.self at c.self.invariant.0 c.reserve.ensures.index c.reserve.ensures.names) (next_free s.nodes.keys at at s.core c.in-Ok.found.thing h refl both.1.next) in
-    settled c.push.new.self s.nodes.keys (put c.in-Ok.found.thing (Some new) at) c.entry_mut_in.new.core names (named_more s.nodes.keys at s.core c.entry_mut_in.new.core c.in-Ok.found.thing new h both.1)
+    let names = c.push_beside.ensures at (given_names s.names c.reserve.new.self at c.self.invariant.0 c.reserve.ensures.index c.reserve.ensures.names) (next_free s.nodes.keys at at s.core c.in-Ok.found.thing h refl both.1.next) in
+    settled c.push_beside.new.self s.nodes.keys (put c.in-Ok.found.thing (Some new) at) c.entry_mut_in.new.core names (named_more s.nodes.keys at s.core c.entry_mut_in.new.core c.in-Ok.found.thing new h both.1)
 
 pub returns-in-Ok-clause-asked : goal.returns-in-Ok-clause-asked
 returns-in-Ok-clause-asked g c =
@@ -73,10 +73,10 @@ returns-in-Ok-clause-asked g c =
     let ok = subst (λ v. c.entry_mut_in.new.core ≡ after_entry_mut s.core (held s.core n) (entry_for s.core (held s.core n) (keeps_key c.args.key.now) v)) c.value_detail.ensures c.in-Ok.ensures.ok in
     let new = from x c.args.name (kind.WriteHandle c.in-Ok.found.entry c.port.result) in
     let both = entry_mut_made g.C.Words.list s.nodes.keys at s.core c.entry_mut_in.new.core x n c.args.name (keeps_key c.args.key.now) (value_detail c.args.value_type) c.in-Ok.found c.port.result h i c.port.ensures answer ok in
-    let names = c.push.ensures at (given_names s.names c.reserve.new.self at c.self.invariant.0 c.reserve.ensures.index c.reserve.ensures.names) (next_free s.nodes.keys at at s.core c.in-Ok.found.thing h refl both.1.next) in
+    let names = c.push_beside.ensures at (given_names s.names c.reserve.new.self at c.self.invariant.0 c.reserve.ensures.index c.reserve.ensures.names) (next_free s.nodes.keys at at s.core c.in-Ok.found.thing h refl both.1.next) in
     carried (λ now xs. IsEntryMut now (shown g.C.Words.list c.entry_mut_in.new.core xs) c.args.name x c.args.key.now c.args.value_type (reply.Number c.in-Ok.found.place)) (shown g.C.Words.list s.core (things_of at s.core)) c.args.self.now
-    (things_of at s.core ++ new ∷ []) (things_of (things_by (seat_at c.push.new.self) c.entry_mut_in.new.core) c.entry_mut_in.new.core)
-    c.self.view_is (ap (λ a. things_of a c.entry_mut_in.new.core) (told s.nodes.keys (seat_at c.push.new.self) (put c.in-Ok.found.thing (Some new) at) c.entry_mut_in.new.core names.names (named_more s.nodes.keys at s.core c.entry_mut_in.new.core c.in-Ok.found.thing new h both.1)) ∙ things_more s.nodes.keys at s.core c.entry_mut_in.new.core c.in-Ok.found.thing new h both.1) both.0
+    (things_of at s.core ++ new ∷ []) (things_of (things_by (seat_at c.push_beside.new.self) c.entry_mut_in.new.core) c.entry_mut_in.new.core)
+    c.self.view_is (ap (λ a. things_of a c.entry_mut_in.new.core) (told s.nodes.keys (seat_at c.push_beside.new.self) (put c.in-Ok.found.thing (Some new) at) c.entry_mut_in.new.core names.names (named_more s.nodes.keys at s.core c.entry_mut_in.new.core c.in-Ok.found.thing new h both.1)) ∙ things_more s.nodes.keys at s.core c.entry_mut_in.new.core c.in-Ok.found.thing new h both.1) both.0
 
 pub returns-in-Err-clause-asked : goal.returns-in-Err-clause-asked
 returns-in-Err-clause-asked g c =
