@@ -417,6 +417,32 @@ impl<C: BoardWords + Drop> BoardMachine<C> {
         }
     }
 
+    // What a free party's call has to do is its task from now on, or the call is refused.
+    #[inline(always)]
+    fn begin_checked(
+        &mut self,
+        party: Name,
+        checked: Result<Task, NotBegun>,
+    ) -> Result<Option<Reason>, AllocError>
+        requires { HasNoTask self.old party }
+        ensures serves { IfOk result (λ why. (call : Call) → Checks self.old party call checked
+            → Serves self.old self.new (line.Begin party call) (begun_unless why)) }
+        ensures memory { OnErr result ((call : Call) → Checks self.old party call checked
+            → MayWant self.old (line.Begin party call)) }
+        ensures drawn { OnOk result (self.new.domain.drawn ≡ self.old.domain.drawn) }
+    {
+        match checked {
+            Ok(task) => {
+                put_task(party, task, &mut self.parties)?;
+                Ok(None)
+            }
+            Err(not_begun) => match not_begun {
+                NotBegun::Refused(why) => Ok(Some(why)),
+                NotBegun::OutOfMemory => Err(AllocError),
+            },
+        }
+    }
+
     // A line `begin P CALL` of a free party.
     fn begin_free(&mut self, party: Name, call: Call) -> Result<Answer, AllocError>
         requires led { IsLed self.old }
@@ -426,13 +452,10 @@ impl<C: BoardWords + Drop> BoardMachine<C> {
         ensures drawn { OnOk result (self.new.domain.drawn ≤ self.old.domain.drawn + 1) }
     {
         let generation = self.generation_for(&party, &call);
-        match self.check(&party, call, generation) {
-            Ok(task) => {
-                put_task(party, task, &mut self.parties)?;
-                Ok(Answer::Begun)
-            }
-            Err(NotBegun::Refused(why)) => Ok(Answer::Refused(why)),
-            Err(NotBegun::OutOfMemory) => Err(AllocError),
+        let checked = self.check(&party, call, generation);
+        match self.begin_checked(party, checked)? {
+            Some(why) => Ok(Answer::Refused(why)),
+            None => Ok(Answer::Begun),
         }
     }
 
@@ -478,14 +501,8 @@ impl<C: BoardWords + Drop> BoardMachine<C> {
             (line.Begin party (call.Update handle value))) }
         ensures drawn { OnOk result (self.new.domain.drawn ≤ self.old.domain.drawn + 1) }
     {
-        match self.start_update(&party, &handle, value) {
-            Ok(task) => {
-                put_task(party, task, &mut self.parties)?;
-                Ok(None)
-            }
-            Err(NotBegun::Refused(why)) => Ok(Some(why)),
-            Err(NotBegun::OutOfMemory) => Err(AllocError),
-        }
+        let checked = self.start_update(&party, &handle, value);
+        self.begin_checked(party, checked)
     }
 
     /// A line `begin P update M VAL`: why it is refused, if it is. Else the call has begun.
@@ -521,14 +538,8 @@ impl<C: BoardWords + Drop> BoardMachine<C> {
         ensures memory { OnErr result (MayWant self.old (line.Begin party (call.Get handle None))) }
         ensures drawn { OnOk result (self.new.domain.drawn ≤ self.old.domain.drawn + 1) }
     {
-        match self.check_get(&party, &handle, None) {
-            Ok(task) => {
-                put_task(party, task, &mut self.parties)?;
-                Ok(None)
-            }
-            Err(NotBegun::Refused(why)) => Ok(Some(why)),
-            Err(NotBegun::OutOfMemory) => Err(AllocError),
-        }
+        let checked = self.check_get(&party, &handle, None);
+        self.begin_checked(party, checked)
     }
 
     /// A line `begin P get H`: why it is refused, if it is. Else the call has begun.
