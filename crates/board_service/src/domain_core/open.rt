@@ -1,9 +1,11 @@
 //! Further factories of a board.
-ghost use Rattle.std.specs.Prelude.{◌≡◌, ◌<◌, ◌-◌, ◌^◌, nat_eq, IfOk, OnOk, OnErr};
+ghost use Rattle.std.specs.Prelude.{◌≡◌, ◌<◌, ◌-◌, ◌^◌, true, nat_eq, IfOk, OnOk, OnErr};
 ghost use Rattle.board_layout.specs.Answer.{Answers, Refuses};
 ghost use Rattle.board_layout.specs.Bytes.{details};
+ghost use Rattle.board_layout.specs.declared.type_detail.TypeDetail.{TypeDetail};
 ghost use Rattle.board_model.specs.TableCalls.{number_of};
-ghost use Rattle.board_model.specs.Tables.{board_named};
+ghost use Rattle.board_model.specs.Tables.{board_named, holds_at};
+ghost use Rattle.board_model.specs.TypeTable.{same_type};
 ghost use Rattle.board_service.specs.Domain as domain;
 ghost use Rattle.board_service.specs.Facts.{IsHeldAs, KeepsHeld};
 
@@ -11,9 +13,9 @@ use super::DomainCore;
 use crate::cells::Cells;
 use crate::ids::NodeId;
 use crate::made::Made;
-use crate::refusals::{number_of_named, open_refusal};
+use crate::refusals::number_of_named;
 use board_concepts::AttributeVerifier;
-use board_layout::{BoardKey, TypeDetail, TypeVariant};
+use board_layout::BoardKey;
 use board_model::{Kind, Limits, ThingKind};
 use board_names::{BlackboardOpenError, ServiceName};
 use std::alloc::AllocError;
@@ -44,18 +46,7 @@ impl<C: Cells> DomainCore<C> {
             IfOk result (λ m. IsHeldAs self.new keys m.thing ThingKind.Factory) }
         ensures kept { KeepsHeld self.old self.new }
     {
-        let key = TypeDetail::new::<K>(TypeVariant::FixedSize);
-        let refusal = open_refusal(
-            node,
-            name,
-            &key,
-            &limits,
-            verifier,
-            &self.boards,
-            &self.things,
-            self.things.last(),
-        );
-        if let Some(why) = refusal {
+        if let Some(why) = self.open_refusal::<K>(node, name, limits, verifier) {
             return Err(why);
         }
         match self.open_unrefused(node, name) {
@@ -75,6 +66,12 @@ impl<C: Cells> DomainCore<C> {
             (λ m. m ≡ domain.made self.old (number_of (board_named self.old.tables name.now))) }
         ensures ok { OnOk result (self.new ≡ domain.after_open self.old node name.now) }
         ensures err { OnErr result (self.new ≡ self.old) }
+
+        // With keys of the board's own type, the factory is held as one of a board with such keys.
+        ensures held { (key : TypeDetail)
+            → holds_at (board_named self.old.tables name.now) (λ b. same_type b.key key) ≡ true
+            → IfOk result (λ m. IsHeldAs self.new key m.thing ThingKind.Factory) }
+        ensures kept { KeepsHeld self.old self.new }
     {
         let number = number_of_named(name, &self.boards);
         let thing = self.add_thing(node, number, Kind::Factory)?;

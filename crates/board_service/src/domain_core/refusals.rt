@@ -5,6 +5,7 @@ ghost use Rattle.board_layout.specs.Keys.{is_key, same_keys};
 ghost use Rattle.board_layout.specs.Bytes.{details};
 ghost use Rattle.board_model.specs.TableCalls.{first_of};
 ghost use Rattle.board_model.specs.Tables as tables;
+ghost use Rattle.board_model.specs.TypeTable.{same_type};
 ghost use Rattle.board_service.specs.Domain as domain;
 ghost use Rattle.board_service.specs.Entries.{HaveShapes, added};
 
@@ -60,6 +61,8 @@ impl<C: Cells> DomainCore<C> {
         // Where nothing refuses it, `open_unrefused` may be called.
         ensures joins { IfNone result (domain.CanJoin nat_eq self.now.tables node name.now) }
         ensures below { IfNone result (self.now.last_thing < 2 ^ 64 - 2) }
+        ensures alike { IfNone result (tables.holds_at (tables.board_named self.now.tables name.now)
+            (λ b. same_type b.key (details K.type_bytes K.SIZE K.ALIGNMENT)) ≡ true) }
     {
         let key = TypeDetail::new::<K>(TypeVariant::FixedSize);
         open_refusal(
