@@ -2,6 +2,5 @@ pub mod EntryLemmas
 pub mod AskedLemmas
 pub mod HeldLemmas
 pub mod KeptLemmas
-pub mod SomewhereLemmas
 pub mod WalkLemmas
 pub mod NodeLaws

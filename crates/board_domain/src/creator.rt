@@ -12,7 +12,7 @@ ghost use Rattle.board_service.specs.Facts.{IsHeldAs};
 ghost use Rattle.board_domain.specs.Services.{AddsEntry, new_creator, allowing_readers, allowing_nodes, allowing_writers, factory_made};
 ghost use Rattle.board_domain.specs.Factories.{KeepsBoard};
 
-use crate::kept::new_board;
+use crate::kept::{NewBoard, new_board};
 use crate::port_factory::PortFactory;
 use board_concepts::AttributeSpecifier;
 use board_handles::{Domain, DomainState};
@@ -29,35 +29,28 @@ use std::sync::Wait;
 /// Clauses see the node that asks, the name, the limits, and the entries so far.
 #[derive(Drop)]
 pub struct Creator<K: BoardKey, P> {
-    node: NodeId,
-    name: ServiceName,
-    limits: NewLimits,
-    entries: Vec<NewEntry>,
+    asked: NewBoard,
     alloc: Global,
     domain: Domain,
     marker: PhantomData<(K, P)>,
 }
 
 impl<K: BoardKey, P> Model for Creator<K, P> {
-    ghost use Rattle.std.specs.Prelude.{◌≤◌, ◌<◌, length, map, All};
+    ghost use Rattle.std.specs.Prelude.{◌≤◌, ◌<◌, length, All};
     ghost use Rattle.std.specs.List.{AllByRecursion};
     ghost use Rattle.board_layout.specs.Layout.{IsShape};
     ghost use Rattle.board_model.specs.Tables.{shapes_of};
-    ghost use Rattle.board_service.specs.Entries.{TakesItsWords, as_added};
+    ghost use Rattle.board_service.specs.Entries.{TakesItsWords};
+    ghost use Rattle.board_domain.specs.Kept.{seen_of};
     ghost use Rattle.board_domain.specs.Services.{CreatorSeen};
 
     ghost Value = { CreatorSeen };
 
-    ghost view = { λ s. record {
-      node = s.node;
-      name = s.name;
-      limits = s.limits;
-      entries = map as_added s.entries.items;
-    } };
+    ghost view = { λ s. seen_of s.asked };
 
-    ghost invariant = { λ s. All IsShape (shapes_of (map as_added s.entries.items))
-        × (0 < length s.entries.items → K.SIZE ≤ 64)
-        × AllByRecursion TakesItsWords (map as_added s.entries.items) };
+    ghost invariant = { λ s. All IsShape (shapes_of (seen_of s.asked).entries)
+        × (0 < length (seen_of s.asked).entries → K.SIZE ≤ 64)
+        × AllByRecursion TakesItsWords (seen_of s.asked).entries };
 }
 
 impl<K: BoardKey, P> Creator<K, P> {
@@ -69,17 +62,20 @@ impl<K: BoardKey, P> Creator<K, P> {
     ) -> Creator<K, P>
         ensures { result ≡ new_creator node name }
     {
-        Creator {
-            node,
-            name,
-            limits: NewLimits {
-                shared: Limits {
-                    max_readers: None,
-                    max_nodes: None,
-                },
-                max_writers: None,
+        let limits = NewLimits {
+            shared: Limits {
+                max_readers: None,
+                max_nodes: None,
             },
-            entries: Vec::new(alloc),
+            max_writers: None,
+        };
+        Creator {
+            asked: NewBoard {
+                node,
+                name,
+                limits,
+                entries: Vec::new(alloc),
+            },
             alloc,
             domain,
             marker: PhantomData,
@@ -90,7 +86,7 @@ impl<K: BoardKey, P> Creator<K, P> {
     pub fn max_readers(mut self, value: u64) -> Self
         ensures { result ≡ record self { limits = allowing_readers self.limits value } }
     {
-        self.limits.shared.max_readers = Some(value);
+        self.asked.limits.shared.max_readers = Some(value);
         self
     }
 
@@ -98,7 +94,7 @@ impl<K: BoardKey, P> Creator<K, P> {
     pub fn max_nodes(mut self, value: u64) -> Self
         ensures { result ≡ record self { limits = allowing_nodes self.limits value } }
     {
-        self.limits.shared.max_nodes = Some(value);
+        self.asked.limits.shared.max_nodes = Some(value);
         self
     }
 
@@ -106,7 +102,7 @@ impl<K: BoardKey, P> Creator<K, P> {
     pub fn max_writers(mut self, value: u64) -> Self
         ensures { result ≡ record self { limits = allowing_writers self.limits value } }
     {
-        self.limits.max_writers = Some(value);
+        self.asked.limits.max_writers = Some(value);
         self
     }
 
@@ -129,7 +125,7 @@ impl<K: BoardKey, P> Creator<K, P> {
             Err(why) => return Err(why),
         };
         let mut more = self;
-        match more.entries.push(added) {
+        match more.asked.entries.push(added) {
             Ok(()) => Ok(more),
             Err(_) => Err(AddError::OutOfMemory),
         }
@@ -183,19 +179,10 @@ impl<K: BoardKey, P> Creator<K, P> {
         ensures width { AllByRecursion TakesItsWords self.entries }
         ensures nodes { state.new.nodes ≡ state.old.nodes }
     {
-        let Creator {
-            node,
-            name,
-            limits,
-            entries,
-            alloc,
-            domain,
-            marker: _,
-        } = self;
-        match new_board::<K>(state, node, &name, limits, attributes.into_set(), entries) {
-            Ok(kept) => Ok(PortFactory::new(alloc, kept, name, domain)),
-            Err(why) => Err(why),
-        }
+        let asked = self.asked;
+        let name = asked.name;
+        let kept = new_board::<K>(state, asked, attributes.into_set())?;
+        Ok(PortFactory::new(self.alloc, kept, name, self.domain))
     }
 
     /// `create` over the domain's state itself.
@@ -250,24 +237,13 @@ impl<K: BoardKey, P> Creator<K, P> {
         ensures attributes { IfOk result (λ f. f.attributes ≡ attributes) }
         ensures width { AllByRecursion TakesItsWords self.entries }
     {
-        let Creator {
-            node,
-            name,
-            limits,
-            entries,
-            alloc,
-            domain,
-            marker: _,
-        } = self;
-        let set = attributes.into_set();
+        let asked = self.asked;
+        let name = asked.name;
         let made = {
-            let mut state = domain.lock(rt);
-            new_board::<K>(&mut state, node, &name, limits, set, entries)
+            let mut state = self.domain.lock(rt);
+            new_board::<K>(&mut state, asked, attributes.into_set())
         };
-        match made {
-            Ok(kept) => Ok(PortFactory::new(alloc, kept, name, domain)),
-            Err(why) => Err(why),
-        }
+        Ok(PortFactory::new(self.alloc, made?, name, self.domain))
     }
 
     /// Makes the board, and a factory of it for the node.

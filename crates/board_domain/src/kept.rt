@@ -1,15 +1,14 @@
 //! What a factory keeps of its board, and how boards are made and opened behind the lock.
-ghost use Rattle.std.specs.Prelude.{◌≡◌, ◌≤◌, ◌<◌, Some, length, map, option_map, All, IfOk, IsSome, OnOk, OnErr};
+ghost use Rattle.std.specs.Prelude.{◌≡◌, ◌≤◌, ◌<◌, Some, length, option_map, All, IfOk, IsSome, OnOk, OnErr};
 ghost use Rattle.board_layout.specs.Answer.{Answers, Refuses, with_value};
 ghost use Rattle.board_layout.specs.Bytes.{details};
 ghost use Rattle.board_layout.specs.Keys.{same_keys};
 ghost use Rattle.board_layout.specs.Layout.{IsShape};
 ghost use Rattle.board_model.specs.Tables.{board_at, shapes_of};
 ghost use Rattle.board_service.specs.Domain as calls;
-ghost use Rattle.board_service.specs.Entries.{as_added};
 ghost use Rattle.board_service.specs.Facts.{IsHeldAs};
 ghost use Rattle.board_domain.specs.Asked.{IsAsAsked, config_asked};
-ghost use Rattle.board_domain.specs.Kept.{attributes_of, kept_made, KeepsBoard};
+ghost use Rattle.board_domain.specs.Kept.{attributes_of, kept_made, seen_of, KeepsBoard};
 ghost use Rattle.board_domain.specs.LentForms as lent;
 
 use board_concepts::{AttributeSet, AttributeVerifier};
@@ -26,6 +25,15 @@ pub(crate) struct Kept {
     pub(crate) made: Made,
     pub(crate) config: StaticConfig,
     pub(crate) attributes: AttributeSet,
+}
+
+/// What a new board is asked to be, but for its attributes: the node that asks, the name, the limits, and the entries so far.
+#[derive(Drop)]
+pub(crate) struct NewBoard {
+    pub(crate) node: NodeId,
+    pub(crate) name: ServiceName,
+    pub(crate) limits: NewLimits,
+    pub(crate) entries: Vec<NewEntry>,
 }
 
 // What is fixed of a board that stands, with its attributes.
@@ -78,55 +86,53 @@ fn kept_of(tables: &DomainCore<BoardCells>, made: Made) -> Result<Kept, AllocErr
 /// As the tables' `create`. All stays as it was.
 pub(crate) fn new_board<K: BoardKey>(
     state: &mut DomainState,
-    node: NodeId,
-    name: &ServiceName,
-    limits: NewLimits,
+    asked: NewBoard,
     attributes: AttributeSet,
-    entries: Vec<NewEntry>,
 ) -> Result<Kept, BlackboardCreateError>
-    requires size { 0 < length entries.items → K.SIZE ≤ 64 }
-    requires shapes { All IsShape (shapes_of (map as_added entries.items)) }
+    requires size { 0 < length (seen_of asked).entries → K.SIZE ≤ 64 }
+    requires shapes { All IsShape (shapes_of (seen_of asked).entries) }
     ensures answer { let same_key = same_keys K.eq K.value_of K.SIZE K.WORDS in
-        let added = map as_added entries.items in
-        let answer = calls.create_answer state.old.tables same_key name.now added in
+        let seen = seen_of asked in
+        let answer = calls.create_answer state.old.tables same_key seen.name seen.entries in
         Answers (with_value kept_made result) BlackboardCreateError.OutOfMemory answer }
     ensures refused { let same_key = same_keys K.eq K.value_of K.SIZE K.WORDS in
-        let added = map as_added entries.items in
-        let answer = calls.create_answer state.old.tables same_key name.now added in
+        let seen = seen_of asked in
+        let answer = calls.create_answer state.old.tables same_key seen.name seen.entries in
         Refuses (with_value kept_made result) answer }
     ensures ok { let keys = details K.type_bytes K.SIZE K.ALIGNMENT in
-        let added = map as_added entries.items in
-        let asked = lent.new_board node name.now keys limits attributes added in
-        OnOk result (lent.IsMade asked state.old.tables state.new.tables) }
+        let board = lent.asked_board (seen_of asked) keys attributes in
+        OnOk result (lent.IsMade board state.old.tables state.new.tables) }
     ensures held { let keys = details K.type_bytes K.SIZE K.ALIGNMENT in
         IfOk result (λ k. IsHeldAs state.new.tables keys k.made.thing ThingKind.Factory) }
     ensures err { OnErr result (state.new.tables ≡ state.old.tables) }
     ensures kept { IfOk result (λ k. KeepsBoard state.new.tables k) }
     ensures config { let keys = details K.type_bytes K.SIZE K.ALIGNMENT in
-        let config = config_asked keys limits (length (map as_added entries.items)) in
+        let config = config_asked keys asked.limits (length (seen_of asked).entries) in
         IfOk result (λ k. k.config ≡ config) }
     ensures attributes { IfOk result (λ k. k.attributes ≡ attributes) }
     ensures nodes { state.new.nodes ≡ state.old.nodes }
 {
     state.tables.facts();
-    if let Some(why) = state.tables.create_refusal::<K>(name, entries.as_slice()) {
+    let refusal = state
+        .tables
+        .create_refusal::<K>(&asked.name, asked.entries.as_slice());
+    if let Some(why) = refusal {
         return Err(why);
     }
     // The factory's memory is taken before the tables change.
     let Ok(copied) = copied(&attributes) else {
         return Err(BlackboardCreateError::OutOfMemory);
     };
-    match state.tables.create::<K>(
-        node,
-        name,
-        limits.shared,
-        limits.max_writers,
+    let entries = asked.entries;
+    let made = state.tables.create::<K>(
+        asked.node,
+        &asked.name,
+        asked.limits.shared,
+        asked.limits.max_writers,
         attributes,
         entries,
-    ) {
-        Ok(made) => Ok(kept_with(&state.tables, made, copied)),
-        Err(why) => Err(why),
-    }
+    )?;
+    Ok(kept_with(&state.tables, made, copied))
 }
 
 /// Makes one more factory of a board, for a node.
@@ -156,10 +162,7 @@ pub(crate) fn open_board<K: BoardKey>(
     ensures nodes { state.new.nodes ≡ state.old.nodes }
 {
     state.tables.facts();
-    let made = match state.tables.open_answer::<K>(node, name, limits, verifier) {
-        Ok(made) => made,
-        Err(why) => return Err(why),
-    };
+    let made = state.tables.open_answer::<K>(node, name, limits, verifier)?;
     // The factory's memory is taken before the tables change.
     let Ok(kept) = kept_of(&state.tables, made) else {
         return Err(BlackboardOpenError::OutOfMemory);

@@ -108,10 +108,8 @@ impl<K: BoardKey, P> Opener<K, P> {
             IfOk result (λ f. IsAsAsked keys self.limits needs f.config f.attributes) }
         ensures nodes { state.new.nodes ≡ state.old.nodes }
     {
-        match open_board::<K>(state, self.node, &self.name, self.limits, verifier) {
-            Ok(kept) => Ok(PortFactory::new(self.alloc, kept, self.name, self.domain)),
-            Err(why) => Err(why),
-        }
+        let kept = open_board::<K>(state, self.node, &self.name, self.limits, verifier)?;
+        Ok(PortFactory::new(self.alloc, kept, self.name, self.domain))
     }
 
     /// `open` over the domain's state itself.
@@ -161,10 +159,7 @@ impl<K: BoardKey, P> Opener<K, P> {
             let mut state = self.domain.lock(rt);
             open_board::<K>(&mut state, self.node, &self.name, self.limits, verifier)
         };
-        match opened {
-            Ok(kept) => Ok(PortFactory::new(self.alloc, kept, self.name, self.domain)),
-            Err(why) => Err(why),
-        }
+        Ok(PortFactory::new(self.alloc, opened?, self.name, self.domain))
     }
 
     /// Opens the board, and gives a factory of it for the node.
