@@ -1,8 +1,8 @@
 //! The check of a source.
-ghost use Rattle.std.specs.Prelude.{◌≡◌, ◌≢◌, ◌≤◌, Err, IfOk, IsErrOf};
-ghost use Rattle.board_model.specs.Lines.{Rose};
-ghost use Rattle.script_loop.specs.Streams.{one_fault_more};
+ghost use Rattle.std.specs.Prelude.{IfOk};
+ghost use Rattle.script_loop.specs.Runs.{stream_of};
 ghost use Rattle.script_pairs.specs.Checks.{Checks, IsReadToEnd};
+ghost use Rattle.script_pairs.specs.Faults.{TellsFaults};
 ghost use Rattle.board_check.specs.Top.{AcceptsRuns};
 
 use script_judge::Judge;
@@ -27,17 +27,9 @@ pub fn check<S: Source>(alloc: Global, source: &mut S) -> Result<Verdict, CheckE
     // The lines and the output of a run, in turn, are told to be lawful.
     ensures runs { AcceptsRuns (S.left source.old) result }
 
-    // It fails to read only where the source's count of faults rises, by one: a failed read isn't tried once more.
-    ensures cause { IsErrOf result CheckError.ReadFault
-        → Rose (S.faults source.old) (S.faults source.new) }
-    ensures told { result ≢ Err CheckError.ReadFault → S.faults source.new ≡ S.faults source.old }
-    ensures once { IsErrOf result CheckError.ReadFault
-        → S.faults source.new ≡ one_fault_more (S.faults source.old) }
-    ensures later { S.faults source.old ≤ S.faults source.new }
-    ensures reads { S.never_fails source.old → result ≢ Err CheckError.ReadFault }
-
-    // The source isn't read behind its end: one whose reads may fail only there doesn't fail here.
-    ensures before_end { S.never_fails_before_end source.old → result ≢ Err CheckError.ReadFault }
+    // Faults of the source are told.
+    ensures faults { TellsFaults (stream_of S.left S.faults source.old source.new)
+        (S.never_fails source.old) (S.never_fails_before_end source.old) result }
 {
     let mut judge = Judge::new(alloc);
     check_pairs(alloc, MAX_PAIRS, &mut judge, source)

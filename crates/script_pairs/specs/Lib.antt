@@ -1,2 +1,3 @@
 pub mod PairLines
+pub mod Faults
 pub mod Checks

@@ -1,7 +1,9 @@
 -- What a reader of the lines of pairs has in hand, and what it found.
-use Rattle.std.specs.Prelude.{◌≡◌, ℕ, ◌-◌, ◌<◌, ◌≤◌, Bool, true, false, List, [], ◌∷◌, ◌++◌, length, take, drop, Option, Some, None, ⊤}
-use Rattle.std.specs.Io.KnownBytes.{IsAtEnd, prepend_known}
-use Rattle.board_model.specs.Lines.{IsOneLine, TakesLine, lines_of}
+use Rattle.std.specs.Prelude.{◌≡◌, ℕ, ◌-◌, ◌<◌, ◌≤◌, Bool, true, false, List, [], ◌∷◌, ◌++◌, length, take, drop, Option, Some, None, ⊤, Result, IsOk, OnErr, OnOk}
+use Rattle.std.specs.Io.KnownBytes.{IsAtEnd, Keeps, prepend_known}
+use Rattle.board_model.specs.Lines.{HasCause, IsOneLine, TakesLine, lines_of}
+use Rattle.script_loop.specs.Reader.{TillEnd}
+use Rattle.script_loop.specs.Runs.{CountStays, HasFailedOnce, Stream}
 use Rattle.script_pairs.specs.declared.pair_lines.PairLines.{PairLines}
 use Rattle.script_pairs.specs.declared.pair_lines.Found.{Found}
 use Rattle.script_pairs.specs.declared.pair_lines.Found.TheVariants.{Line, Long, End}
@@ -22,6 +24,23 @@ to_come r left = prepend_known (in_hand r) left
 pub record NeedsByte (r : PairLines) : Type 0 where
   pub none : in_hand r ≡ []
   pub unended : has_ended r ≡ false
+
+-- bytes were looked for, and those to come are as before; of the source's reads, `never` is that none fails, and `sure` that none does here,
+-- and `still_never` and `still_sure` are what is known of it afterwards: that none fails, and that none does till one has told the end
+pub record Refills {T E : Type 0} (old new : PairLines) (source : Stream) (never still_never sure still_sure : Type 0) (result : Result T E) : Type 0 where
+  pub kept : Keeps (to_come old source.before) (to_come new source.after)
+  -- bytes are in hand, or the source is at its end
+  pub some : OnOk result (has_ended new ≡ false → 0 < length (in_hand new))
+  pub none : OnOk result (has_ended new ≡ true → in_hand new ≡ [])
+  pub one_source : OnOk result (has_ended new ≡ true → IsAtEnd source.after)
+  -- it fails only where the source's count of faults rises, by one
+  pub cause : HasCause source.faults_before source.faults_after result
+  pub told : OnOk result (CountStays source)
+  pub once : OnErr result (HasFailedOnce source)
+  pub unfailing : never → IsOk result
+  pub never_later : never → still_never
+  pub before_end : sure → IsOk result
+  pub still_before : sure → OnOk result (TillEnd (has_ended new) still_sure)
 
 -- the first line has more than so many bytes
 pub record IsLonger (most : ℕ) (bytes : List ℕ) : Type 0 where

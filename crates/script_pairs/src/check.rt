@@ -1,12 +1,12 @@
 //! Pairs that are judged one after another.
-ghost use Rattle.std.specs.Prelude.{◌≡◌, ◌≢◌, ◌≤◌, ◌-◌, Err, IfNone, IfOk, IfSome, IsErrOf, IsTrue, OnOk, false, length, take, ℕ};
-ghost use Rattle.board_model.specs.Lines.{Rose};
+ghost use Rattle.std.specs.Prelude.{◌≡◌, ◌≤◌, ◌-◌, IfNone, IfOk, IfSome, IsTrue, OnOk, false, length, take, ℕ};
 ghost use Rattle.script_model.specs.ScriptGrammar.{IsScriptLine};
 ghost use Rattle.script_model.specs.ScriptSession.{Session, start};
 ghost use Rattle.script_model.specs.ScriptTurns.{ScriptState};
 ghost use Rattle.script_loop.specs.Machines.{StandsFor};
-ghost use Rattle.script_loop.specs.Streams.{one_fault_more};
+ghost use Rattle.script_loop.specs.Runs.{stream_of};
 ghost use Rattle.script_pairs.specs.Checks.{Checks, IsBroken, IsReadToEnd, TellsEach};
+ghost use Rattle.script_pairs.specs.Faults.{TellsFaults};
 
 use crate::lines::line_of;
 use crate::pair_lines::{Found, PairLines};
@@ -96,17 +96,9 @@ pub fn check_pairs<T: KnowsAnswers, S: Source>(
     // Where it is `Lawful` the source was read to its end.
     ensures end { IfOk result (λ verdict. IsReadToEnd verdict (S.left source.new)) }
 
-    // It fails to read only where the source's count of faults rises, by one: a failed read isn't tried once more.
-    ensures cause { IsErrOf result CheckError.ReadFault
-        → Rose (S.faults source.old) (S.faults source.new) }
-    ensures told { result ≢ Err CheckError.ReadFault → S.faults source.new ≡ S.faults source.old }
-    ensures once { IsErrOf result CheckError.ReadFault
-        → S.faults source.new ≡ one_fault_more (S.faults source.old) }
-    ensures later { S.faults source.old ≤ S.faults source.new }
-    ensures reads { S.never_fails source.old → result ≢ Err CheckError.ReadFault }
-
-    // The source isn't read behind its end: one whose reads may fail only there doesn't fail here.
-    ensures before_end { S.never_fails_before_end source.old → result ≢ Err CheckError.ReadFault }
+    // Faults of the source are told.
+    ensures faults { TellsFaults (stream_of S.left S.faults source.old source.new)
+        (S.never_fails source.old) (S.never_fails_before_end source.old) result }
 {
     let mut reader = PairLines::new(alloc)?;
     let mut line = Vec::new(alloc);

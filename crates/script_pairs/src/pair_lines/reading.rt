@@ -1,10 +1,12 @@
 //! How lines and answers are read in turn.
-ghost use Rattle.std.specs.Prelude.{◌≡◌, ◌≢◌, ◌≤◌, ◌<◌, ◌↔◌, [], Err, IfErr, IfOk, IsErrOf, IsOk, IsTrue, OnErr, OnOk, drop, false, length, true};
+ghost use Rattle.std.specs.Prelude.{◌≡◌, ◌≢◌, ◌≤◌, ◌<◌, ◌↔◌, [], Err, IfErr, IfOk, IsOk, IsTrue, OnErr, OnOk, drop, false, length, true};
 ghost use Rattle.std.specs.Io.KnownBytes.{IsAtEnd, Keeps};
-ghost use Rattle.board_model.specs.Lines.{HasCause, Rose};
+ghost use Rattle.board_model.specs.Lines.{HasCause};
 ghost use Rattle.script_loop.specs.Reader.{HasMore, TillEnd};
+ghost use Rattle.script_loop.specs.Runs.{stream_of};
 ghost use Rattle.script_loop.specs.Streams.{one_fault_more};
-ghost use Rattle.script_pairs.specs.PairLines.{IsFound, NeedsByte, TakesPart, has_ended, in_hand, to_come};
+ghost use Rattle.script_pairs.specs.Faults.{TellsFaults};
+ghost use Rattle.script_pairs.specs.PairLines.{IsFound, NeedsByte, Refills, TakesPart, has_ended, in_hand, to_come};
 
 use super::{CHUNK, Found, PairLines};
 use crate::verdict::CheckError;
@@ -71,19 +73,10 @@ impl PairLines {
     // Reads a chunk where nothing is in hand, and notes where none is left.
     fn fill<S: Source>(&mut self, source: &mut S) -> Result<(), Failed>
         requires { in_hand self.old ≡ [] }
-        ensures kept { Keeps (to_come self.old (S.left source.old))
-            (to_come self.new (S.left source.new)) }
-        ensures some { OnOk result (has_ended self.new ≡ false → 0 < length (in_hand self.new)) }
-        ensures none { OnOk result (has_ended self.new ≡ true → in_hand self.new ≡ []) }
-        ensures ended { OnOk result (has_ended self.new ≡ true → IsAtEnd (S.left source.new)) }
-        ensures cause { HasCause (S.faults source.old) (S.faults source.new) result }
-        ensures told { OnOk result (S.faults source.new ≡ S.faults source.old) }
-        ensures once { OnErr result (S.faults source.new ≡ one_fault_more (S.faults source.old)) }
-        ensures unfailing { S.never_fails source.old → IsOk result }
-        ensures never_later { S.never_fails source.old → S.never_fails source.new }
-        ensures before_end { S.never_fails_before_end source.old → IsOk result }
-        ensures still_before { S.never_fails_before_end source.old
-            → OnOk result (TillEnd (has_ended self.new) (S.never_fails_before_end source.new)) }
+        ensures { Refills self.old self.new (stream_of S.left S.faults source.old source.new)
+            (S.never_fails source.old) (S.never_fails source.new)
+            (S.never_fails_before_end source.old)
+            (S.never_fails_before_end source.new) result }
     {
         self.start = 0;
         self.end = 0;
@@ -97,19 +90,10 @@ impl PairLines {
     fn refill<S: Source>(&mut self, source: &mut S) -> Result<(), Failed>
         requires one_source { has_ended self.old ≡ true → IsAtEnd (S.left source.old) }
         requires none { has_ended self.old ≡ true → in_hand self.old ≡ [] }
-        ensures kept { Keeps (to_come self.old (S.left source.old))
-            (to_come self.new (S.left source.new)) }
-        ensures some { OnOk result (has_ended self.new ≡ false → 0 < length (in_hand self.new)) }
-        ensures none { OnOk result (has_ended self.new ≡ true → in_hand self.new ≡ []) }
-        ensures one_source { OnOk result (has_ended self.new ≡ true → IsAtEnd (S.left source.new)) }
-        ensures cause { HasCause (S.faults source.old) (S.faults source.new) result }
-        ensures told { OnOk result (S.faults source.new ≡ S.faults source.old) }
-        ensures once { OnErr result (S.faults source.new ≡ one_fault_more (S.faults source.old)) }
-        ensures unfailing { S.never_fails source.old → IsOk result }
-        ensures never_later { S.never_fails source.old → S.never_fails source.new }
-        ensures before_end { TillEnd (has_ended self.old) (S.never_fails_before_end source.old) → IsOk result }
-        ensures still_before { TillEnd (has_ended self.old) (S.never_fails_before_end source.old)
-            → OnOk result (TillEnd (has_ended self.new) (S.never_fails_before_end source.new)) }
+        ensures { Refills self.old self.new (stream_of S.left S.faults source.old source.new)
+            (S.never_fails source.old) (S.never_fails source.new)
+            (TillEnd (has_ended self.old) (S.never_fails_before_end source.old))
+            (S.never_fails_before_end source.new) result }
     {
         if self.ended || !self.hand_is_empty() {
             return Ok(());
@@ -154,19 +138,10 @@ impl PairLines {
         ensures at_end { IfOk result (λ found. found ≡ Found.End → IsAtEnd (S.left source.new)) }
         ensures none { OnOk result (has_ended self.new ≡ true → in_hand self.new ≡ []) }
         ensures kind { result ≢ Err CheckError.TooLong }
-        ensures cause { IsErrOf result CheckError.ReadFault
-            → Rose (S.faults source.old) (S.faults source.new) }
-        ensures told { result ≢ Err CheckError.ReadFault
-            → S.faults source.new ≡ S.faults source.old }
-        ensures once { IsErrOf result CheckError.ReadFault
-            → S.faults source.new ≡ one_fault_more (S.faults source.old) }
-        ensures later { S.faults source.old ≤ S.faults source.new }
-        ensures unfailing { S.never_fails source.old → result ≢ Err CheckError.ReadFault }
+        ensures faults { TellsFaults (stream_of S.left S.faults source.old source.new)
+            (S.never_fails source.old)
+            (TillEnd (has_ended self.old) (S.never_fails_before_end source.old)) result }
         ensures never_later { S.never_fails source.old → S.never_fails source.new }
-
-        // The source isn't read behind its end: one whose reads may fail only there doesn't fail here.
-        ensures before_end { TillEnd (has_ended self.old) (S.never_fails_before_end source.old)
-            → result ≢ Err CheckError.ReadFault }
         ensures still_before { TillEnd (has_ended self.old) (S.never_fails_before_end source.old)
             → OnOk result (TillEnd (has_ended self.new) (S.never_fails_before_end source.new)) }
     {

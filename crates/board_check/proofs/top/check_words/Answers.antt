@@ -19,11 +19,11 @@ returns-in-Ok-clause-ran g c = λ none. record {
   end = rw c.in-Ok.is at c.check.ensures.end;
   runs = rw c.in-Ok.is at c.check.ensures.runs;
   ending = c.tell.ensures.ending;
-  read = rw c.in-Ok.is at c.check.ensures.once;
+  read = rw c.in-Ok.is at c.check.ensures.faults.once;
   write = write_failed c.in-Ok.verdict _ _ _ c.tell.ensures.ending;
-  read_told = rw c.in-Ok.is at c.check.ensures.told;
+  read_told = rw c.in-Ok.is at c.check.ensures.faults.told;
   write_told = c.tell.ensures.told;
-  read_later = c.check.ensures.later;
+  read_later = c.check.ensures.faults.later;
   write_later = c.tell.ensures.later;
 }
 
@@ -47,18 +47,18 @@ returns-in-Err-clause-ran g c = λ none. record {
   end = tt;
   runs = rw c.in-Err.is at c.check.ensures.runs;
   ending = unjudged c.in-Err.error _ c.as_of_run.ensures _ _ _ refl c.end_with.ensures.is c.end_with.ensures.noted;
-  read = rw c.in-Err.is at c.check.ensures.once;
+  read = rw c.in-Err.is at c.check.ensures.faults.once;
   write = λ four. absurd (no_write_fault c.in-Err.error (sym (c.end_with.ensures.is ∙ error_of c.in-Err.error _ c.as_of_run.ensures) ∙ four));
-  read_told = rw c.in-Err.is at c.check.ensures.told;
+  read_told = rw c.in-Err.is at c.check.ensures.faults.told;
   write_told = λ other. refl;
-  read_later = c.check.ensures.later;
+  read_later = c.check.ensures.faults.later;
   write_later = omega arith;
 }
 
 pub returns-in-Err-clause-runs : goal.returns-in-Err-clause-runs
 returns-in-Err-clause-runs g c = λ none sure takes run.
     inr (c.end_with.ensures.is ∙ error_of c.in-Err.error _ c.as_of_run.ensures ∙ run_spent c.in-Err.error _ (rw c.in-Err.is at c.check.ensures.runs) run
-    (λ (q : c.in-Err.error ≡ error.ReadFault). rw c.in-Err.is at c.check.ensures.reads sure (ap (λ (e : CheckError). Err e) q)))
+    (λ (q : c.in-Err.error ≡ error.ReadFault). rw c.in-Err.is at c.check.ensures.faults.reads sure (ap (λ (e : CheckError). Err e) q)))
 
 pub returns-in-Err-clause-usage_only : goal.returns-in-Err-clause-usage_only
 returns-in-Err-clause-usage_only g c = λ two. absurd (bad_status c.as_of_run.result 2 (omega arith) (sym c.end_with.ensures.is ∙ two))
@@ -77,7 +77,7 @@ returns-in-Err-clause-silent g c = λ few. absurd (error_is_above c.as_of_run.re
 
 pub returns-in-Err-clause-reads : goal.returns-in-Err-clause-reads
 returns-in-Err-clause-reads g c = λ sure three.
-    rw c.in-Err.is at c.check.ensures.reads sure (ap (λ (e : CheckError). Err e) (three_is_read c.in-Err.error (sym (c.end_with.ensures.is ∙ error_of c.in-Err.error _ c.as_of_run.ensures) ∙ three)))
+    rw c.in-Err.is at c.check.ensures.faults.reads sure (ap (λ (e : CheckError). Err e) (three_is_read c.in-Err.error (sym (c.end_with.ensures.is ∙ error_of c.in-Err.error _ c.as_of_run.ensures) ∙ three)))
 
 pub returns-in-Err-clause-writes : goal.returns-in-Err-clause-writes
 returns-in-Err-clause-writes g c = λ takes four. absurd (no_write_fault c.in-Err.error (sym (c.end_with.ensures.is ∙ error_of c.in-Err.error _ c.as_of_run.ensures) ∙ four))
@@ -87,7 +87,7 @@ returns-in-Ok-clause-before_end g c = λ sure three. verdict_is_not_three c.in-O
 
 pub returns-in-Err-clause-before_end : goal.returns-in-Err-clause-before_end
 returns-in-Err-clause-before_end g c = λ sure three.
-    rw c.in-Err.is at c.check.ensures.before_end sure (ap (λ (e : CheckError). Err e) (three_is_read c.in-Err.error (sym (c.end_with.ensures.is ∙ error_of c.in-Err.error _ c.as_of_run.ensures) ∙ three)))
+    rw c.in-Err.is at c.check.ensures.faults.before_end sure (ap (λ (e : CheckError). Err e) (three_is_read c.in-Err.error (sym (c.end_with.ensures.is ∙ error_of c.in-Err.error _ c.as_of_run.ensures) ∙ three)))
 
 pub returns-in-Ok-clause-complete : goal.returns-in-Ok-clause-complete
 returns-in-Ok-clause-complete g c = λ none sure takes few. judged c.in-Ok.verdict _ (c.tell.ensures.unfailing takes)
@@ -95,4 +95,4 @@ returns-in-Ok-clause-complete g c = λ none sure takes few. judged c.in-Ok.verdi
 pub returns-in-Err-clause-complete : goal.returns-in-Err-clause-complete
 returns-in-Err-clause-complete g c = λ none sure takes few.
     inr (inr (c.end_with.ensures.is ∙ error_of c.in-Err.error _ c.as_of_run.ensures ∙ few_spent c.in-Err.error _ (rw c.in-Err.is at c.check.ensures.checks) few
-    (λ (q : c.in-Err.error ≡ error.ReadFault). rw c.in-Err.is at c.check.ensures.reads sure (ap (λ (e : CheckError). Err e) q))))
+    (λ (q : c.in-Err.error ≡ error.ReadFault). rw c.in-Err.is at c.check.ensures.faults.reads sure (ap (λ (e : CheckError). Err e) q))))

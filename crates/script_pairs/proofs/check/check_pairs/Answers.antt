@@ -70,7 +70,7 @@ loop-n-preserved g c =
       judged = goes_on _ _ _ _ _ _ _ _ _ _ _ _ j f.0 c.in-Some.asked spelled h.0 k right c.most_bytes.result c.most_bytes.ensures h.1 same;
       one_source = c.in_ok-found.ensures.one_source;
       none = c.in_ok-found.ensures.none;
-      same = c.in_ok-found.ensures.told (λ e. cc) ∙ c.in_ok-next.ensures.told (λ e. cc) ∙ c.loop-n.invariant.same;
+      same = c.in_ok-found.ensures.faults.told (λ e. cc) ∙ c.in_ok-next.ensures.faults.told (λ e. cc) ∙ c.loop-n.invariant.same;
       unfailing = λ never. c.in_ok-found.ensures.never_later (c.in_ok-next.ensures.never_later (c.loop-n.invariant.unfailing never));
       before_end = λ sure. c.in_ok-found.ensures.still_before (c.in_ok-next.ensures.still_before (c.loop-n.invariant.before_end sure));
     }
