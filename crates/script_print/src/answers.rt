@@ -28,10 +28,25 @@ pub(crate) fn push_digits(n: u64, out: &mut Vec<u8>) -> Result<(), AllocError>
     push_more_digits(n, out)
 }
 
-// Adds the digits of a number of two digits or more. Apart, so that `push_digits` is short. The short ones are copied in one go.
-#[inline(never)]
+// Adds the digits of a number of two digits or more, by one of two functions that stand apart, so that `push_digits` is short.
+#[inline(always)]
 fn push_more_digits(n: u64, out: &mut Vec<u8>) -> Result<(), AllocError>
     requires { 10 ≤ n }
+    ensures ok { OnOk result (out.new.items ≡ out.old.items ++ decimal n) }
+    ensures room { OnErr result (LacksRoomFor out.old (decimal n)) }
+    ensures grows { vec_capacity out.old ≤ vec_capacity out.new }
+{
+    if n < 10000 {
+        return push_few_digits(n, out);
+    }
+    push_many_digits(n, out)
+}
+
+// Adds the digits of a number of two to four. They are copied in one go.
+#[inline(never)]
+fn push_few_digits(n: u64, out: &mut Vec<u8>) -> Result<(), AllocError>
+    requires low { 10 ≤ n }
+    requires high { n < 10000 }
     ensures ok { OnOk result (out.new.items ≡ out.old.items ++ decimal n) }
     ensures room { OnErr result (LacksRoomFor out.old (decimal n)) }
     ensures grows { vec_capacity out.old ≤ vec_capacity out.new }
@@ -42,9 +57,16 @@ fn push_more_digits(n: u64, out: &mut Vec<u8>) -> Result<(), AllocError>
     if n < 1000 {
         return push_three_digits(n, out);
     }
-    if n < 10000 {
-        return push_four_digits(n, out);
-    }
+    push_four_digits(n, out)
+}
+
+// Adds the digits of any number, by way of a buffer.
+#[inline(never)]
+fn push_many_digits(n: u64, out: &mut Vec<u8>) -> Result<(), AllocError>
+    ensures ok { OnOk result (out.new.items ≡ out.old.items ++ decimal n) }
+    ensures room { OnErr result (LacksRoomFor out.old (decimal n)) }
+    ensures grows { vec_capacity out.old ≤ vec_capacity out.new }
+{
     let mut buffer = Buffer::new();
     out.extend_from_slice(buffer.format(n).as_bytes())
 }
@@ -99,14 +121,17 @@ fn push_four_digits(n: u64, out: &mut Vec<u8>) -> Result<(), AllocError>
     ])
 }
 
-// Adds a space and the number.
+// Adds a space and the number. Of a number below ten both are added in one go.
 pub(crate) fn push_number(n: u64, out: &mut Vec<u8>) -> Result<(), AllocError>
     ensures ok { OnOk result (out.new.items ≡ out.old.items ++ number_text n) }
     ensures room { OnErr result (LacksRoomFor out.old (number_text n)) }
     ensures grows { vec_capacity out.old ≤ vec_capacity out.new }
 {
+    if n < 10 {
+        return out.extend_from_slice(&[b' ', digit(n)]);
+    }
     out.push(b' ')?;
-    push_digits(n, out)
+    push_more_digits(n, out)
 }
 
 // Adds a place and its value behind a word.

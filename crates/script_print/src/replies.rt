@@ -121,7 +121,8 @@ fn push_names(names: &[Name], out: &mut Vec<u8>) -> Result<(), AllocError>
     Ok(())
 }
 
-// Adds a word, and a number behind a space.
+// Adds a word, and a number behind a space. Inlined, so that the word is copied as it stands there.
+#[inline(always)]
 pub(crate) fn push_counted(word: &[u8], n: u64, out: &mut Vec<u8>) -> Result<(), AllocError>
     ensures ok { OnOk result (out.new.items ≡ out.old.items ++ (word.now ++ number_text n)) }
     ensures room { OnErr result (LacksRoomFor out.old (word.now ++ number_text n)) }
