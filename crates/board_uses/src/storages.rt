@@ -3,7 +3,8 @@ use crate::apart::{goes_alone, others};
 use crate::same::same;
 use board_names::{
     Configuration, FileName, NamedConceptBuilder, NamedConceptConfiguration,
-    NamedConceptDoesExistError, NamedConceptMgmt, StaticStorageOpenError, StaticStorageUnlockError,
+    NamedConceptDoesExistError, NamedConceptMgmt, NamedConceptRemoveError, StaticStorageOpenError,
+    StaticStorageUnlockError,
 };
 use board_store::{
     Builder, Locked, StaticRegistry, StaticStorage, StaticStorageBuilder, StaticStorageLocked,
@@ -17,164 +18,192 @@ use std::thread;
 use std::thread::Threads;
 use std::time::{Clock, Duration};
 
-// The name and the configuration of what follows.
-fn one_name<S: StaticStorage>() -> Result<(FileName, Configuration), Fail> {
-    let suffix = S::default_suffix();
-    Ok((FileName::new(b"z")?, Configuration::with_suffix(&suffix)))
+// A storage that is still to be filled, as the builders of `S` make it.
+type LockedOf<S> = <<S as StaticStorage>::Builder as StaticStorageBuilder>::Locked;
+
+// A name under a configuration.
+#[derive(Clone, Copy)]
+struct OneName {
+    name: FileName,
+    config: Configuration,
+    // Whether its builders are told the configuration. They start with the usual one.
+    is_told: bool,
 }
 
-// A name is there once its storage is filled.
-fn is_filled<R: Wait + Abort, S: StaticStorage + Drop>(
-    rt: &R,
+impl OneName {
+    // Under the usual configuration of `S`, which no builder is told.
+    fn untold<S: StaticStorage>(name: &[u8]) -> Result<OneName, Fail> {
+        Ok(OneName {
+            name: FileName::new(name)?,
+            config: Configuration::with_suffix(&S::default_suffix()),
+            is_told: false,
+        })
+    }
+
+    fn under(&self, config: &Configuration) -> OneName {
+        OneName {
+            name: self.name,
+            config: *config,
+            is_told: true,
+        }
+    }
+}
+
+// The storages of one registry, for code over the traits alone.
+#[derive(Drop)]
+struct Storages<'a, R, S: StaticStorage> {
+    rt: &'a R,
     alloc: Global,
-    registry: &S::Registry,
-    (name, config): (&FileName, &Configuration),
-) -> Result<(), Fail> {
-    let absent = S::does_exist_cfg(rt, registry, name, config);
-    let locked = S::Builder::new(name, registry)?.create_locked(rt, alloc)?;
-    let early = S::does_exist_cfg(rt, registry, name, config);
-    let _storage = locked.unlock(rt, alloc, &[4, 5])?;
-    let late = S::does_exist_cfg(rt, registry, name, config);
-    same(rt, &(absent, late), &(Ok(false), Ok(true)));
-    same(
-        rt,
-        &early,
-        &Err(NamedConceptDoesExistError::UnderlyingResourcesBeingSetUp),
-    );
-    Ok(())
+    registry: &'a S::Registry,
 }
 
-// What this builder opens has its bytes: so many, which stand in the front of these three.
-fn has_bytes<R: Wait + Abort, S: StaticStorage + Drop>(
-    rt: &R,
-    builder: S::Builder,
-    (len, wanted): (u64, [u8; 3]),
-) -> Result<S, Fail> {
-    let storage = builder.open(rt, 0)?;
-    let mut bytes = [0u8; 3];
-    same(
-        rt,
-        &(storage.len(), storage.read(&mut bytes)),
-        &(len, Ok(())),
-    );
-    same(rt, &bytes, &wanted);
-    Ok(storage)
-}
+impl<R: Wait + Abort, S: StaticStorage + Drop> Storages<'_, R, S> {
+    fn builder(&self, one: &OneName) -> Result<S::Builder, Fail> {
+        let builder = S::Builder::new(&one.name, self.registry)?;
+        Ok(if one.is_told {
+            builder.config(&one.config)
+        } else {
+            builder
+        })
+    }
 
-// What is opened has the bytes that were written, and gives up a name that it owns.
-fn is_opened_and_released<R: Wait + Abort, S: StaticStorage + Drop>(
-    rt: &R,
-    registry: &S::Registry,
-    (name, config): (&FileName, &Configuration),
-) -> Result<(), Fail> {
-    let builder = S::Builder::new(name, registry)?;
-    let mut storage = has_bytes::<_, S>(rt, builder, (2, [4, 5, 0]))?;
-    storage.acquire_ownership();
-    storage.release(rt);
-    let held = S::does_exist_cfg(rt, registry, name, config);
-    same(rt, &held, &Ok(false));
-    Ok(())
-}
+    fn make(&self, one: &OneName, contents: &[u8]) -> Result<S, Fail> {
+        Ok(self.builder(one)?.create(self.rt, self.alloc, contents)?)
+    }
 
-// A name is removed once, and then nobody opens it.
-fn is_removed<R: Wait + Abort, S: StaticStorage + Drop>(
-    rt: &R,
-    alloc: Global,
-    registry: &S::Registry,
-    (name, config): (&FileName, &Configuration),
-) -> Result<(), Fail> {
-    let _made = S::Builder::new(name, registry)?.create(rt, alloc, &[6])?;
-    let first = S::remove_cfg(rt, registry, name, config);
-    let second = S::remove_cfg(rt, registry, name, config);
-    same(rt, &(first, second), &(Ok(true), Ok(false)));
-    let gone = S::Builder::new(name, registry)?.open(rt, 0);
-    same(rt, &gone.err(), &Some(StaticStorageOpenError::DoesNotExist));
-    Ok(())
-}
+    fn lock(&self, one: &OneName) -> Result<LockedOf<S>, Fail> {
+        Ok(self.builder(one)?.create_locked(self.rt, self.alloc)?)
+    }
 
-// The storages before and behind it are as they were.
-fn stand_beside<R: Wait + Abort>(
-    rt: &R,
-    registry: &StaticRegistry,
-    (before, behind): (&FileName, &FileName),
-) -> Result<(), Fail> {
-    let first = Builder::new(before, registry)?;
-    let _first = has_bytes::<_, Storage>(rt, first, (1, [1, 0, 0]))?;
-    let last = Builder::new(behind, registry)?;
-    let _last = has_bytes::<_, Storage>(rt, last, (3, [2, 3, 6]))?;
-    Ok(())
+    fn fill(&self, locked: LockedOf<S>, contents: &[u8]) -> Result<S, Fail> {
+        Ok(locked.unlock(self.rt, self.alloc, contents)?)
+    }
+
+    // What is opened has these bytes: so many, which stand in the front of three.
+    fn open(&self, one: &OneName, wanted: (u64, [u8; 3])) -> Result<S, Fail> {
+        let storage = self.builder(one)?.open(self.rt, 0)?;
+        let mut bytes = [0u8; 3];
+        storage.read(&mut bytes)?;
+        same(self.rt, &(storage.len(), bytes), &wanted);
+        Ok(storage)
+    }
+
+    fn find(&self, one: &OneName) -> Result<bool, NamedConceptDoesExistError> {
+        S::does_exist_cfg(self.rt, self.registry, &one.name, &one.config)
+    }
+
+    fn remove(&self, one: &OneName) -> Result<bool, NamedConceptRemoveError> {
+        S::remove_cfg(self.rt, self.registry, &one.name, &one.config)
+    }
+
+    // A name is there once its storage is filled.
+    fn is_filled(&self, one: &OneName) -> Result<(), Fail> {
+        let absent = self.find(one);
+        let locked = self.lock(one)?;
+        let early = self.find(one);
+        let _storage = self.fill(locked, &[4, 5])?;
+        let set_up = NamedConceptDoesExistError::UnderlyingResourcesBeingSetUp;
+        same(
+            self.rt,
+            &[absent, early, self.find(one)],
+            &[Ok(false), Err(set_up), Ok(true)],
+        );
+        Ok(())
+    }
+
+    // What is opened has the bytes that were written, and gives up a name that it owns.
+    fn is_opened_and_released(&self, one: &OneName) -> Result<(), Fail> {
+        let mut storage = self.open(one, (2, [4, 5, 0]))?;
+        storage.acquire_ownership();
+        storage.release(self.rt);
+        same(self.rt, &self.find(one), &Ok(false));
+        Ok(())
+    }
+
+    // A name is removed once, and then nobody opens it.
+    fn is_removed(&self, one: &OneName) -> Result<(), Fail> {
+        let _made = self.make(one, &[6])?;
+        let removed = [self.remove(one), self.remove(one)];
+        same(self.rt, &removed, &[Ok(true), Ok(false)]);
+        let gone = self.builder(one)?.open(self.rt, 0).err();
+        same(self.rt, &gone, &Some(StaticStorageOpenError::DoesNotExist));
+        Ok(())
+    }
+
+    // These two have their bytes, and no other name is there.
+    fn are_alone(&self, (before, behind): (&OneName, &OneName)) -> Result<(), Fail> {
+        let names = S::list_cfg(self.rt, self.alloc, self.registry, &before.config)?;
+        same(
+            self.rt,
+            &names.as_slice(),
+            &[before.name, behind.name].as_slice(),
+        );
+        let _before = self.open(before, (1, [1, 0, 0]))?;
+        let _behind = self.open(behind, (3, [2, 3, 6]))?;
+        Ok(())
+    }
+
+    // What is filled is opened, and let go.
+    fn is_filled_and_let_go(&self, one: &OneName) -> Result<(), Fail> {
+        let locked = self.lock(one)?;
+        let _filled = self.fill(locked, &[4, 5])?;
+        self.open(one, (2, [4, 5, 0]))?.release(self.rt);
+        Ok(())
+    }
+
+    // And what is made at once is opened.
+    fn is_made(&self, one: &OneName) -> Result<(), Fail> {
+        let _made = self.make(one, &[6])?;
+        let _opened = self.open(one, (1, [6, 0, 0]))?;
+        Ok(())
+    }
+
+    // A name has a storage of its own under this configuration, which goes alone.
+    fn is_apart(&self, usual: &OneName, other: &Configuration) -> Result<(), Fail> {
+        let one = usual.under(other);
+        self.is_filled_and_let_go(&one)?;
+        self.is_made(&one)?;
+        let both = (&usual.config, other);
+        goes_alone::<_, S>(self.rt, self.alloc, self.registry, &one.name, both)
+    }
 }
 
 #[test]
 fn any_static_storage_is_used_by_the_traits(rt: HostRuntime) -> Result<(), Fail> {
-    let alloc = rt.alloc();
-    let registry = StaticRegistry::new(alloc)?;
-    let (name, config) = one_name::<Storage>()?;
-    let (before, behind) = (FileName::new(b"y")?, FileName::new(b"zz")?);
-    let _first = Builder::new(&before, &registry)?.create(&rt, alloc, &[1])?;
-    let _last = Builder::new(&behind, &registry)?.create(&rt, alloc, &[2, 3, 6])?;
-    is_filled::<_, Storage>(&rt, alloc, &registry, (&name, &config))?;
-    is_opened_and_released::<_, Storage>(&rt, &registry, (&name, &config))?;
-    is_removed::<_, Storage>(&rt, alloc, &registry, (&name, &config))?;
-    stand_beside(&rt, &registry, (&before, &behind))
-}
-
-// What is filled under this configuration is opened under it, and let go.
-fn is_filled_apart<R: Wait + Abort, S: StaticStorage + Drop>(
-    rt: &R,
-    alloc: Global,
-    registry: &S::Registry,
-    (name, config): (&FileName, &Configuration),
-) -> Result<(), Fail> {
-    let builder = S::Builder::new(name, registry)?.config(config);
-    let _filled = builder
-        .create_locked(rt, alloc)?
-        .unlock(rt, alloc, &[4, 5])?;
-    let builder = S::Builder::new(name, registry)?.config(config);
-    let storage = has_bytes::<_, S>(rt, builder, (2, [4, 5, 0]))?;
-    storage.release(rt);
-    Ok(())
-}
-
-// And what is made at once.
-fn is_made_apart<R: Wait + Abort, S: StaticStorage + Drop>(
-    rt: &R,
-    alloc: Global,
-    registry: &S::Registry,
-    (name, config): (&FileName, &Configuration),
-) -> Result<(), Fail> {
-    let builder = S::Builder::new(name, registry)?.config(config);
-    let _made = builder.create(rt, alloc, &[6])?;
-    let builder = S::Builder::new(name, registry)?.config(config);
-    let _opened = has_bytes::<_, S>(rt, builder, (1, [6, 0, 0]))?;
-    Ok(())
-}
-
-// The name has a storage of its own under each configuration.
-fn are_apart<R: Wait + Abort, S: StaticStorage + Drop>(
-    rt: &R,
-    alloc: Global,
-    registry: &S::Registry,
-    (name, usual): (&FileName, &Configuration),
-) -> Result<(), Fail> {
-    for other in others(&S::default_suffix())? {
-        is_filled_apart::<_, S>(rt, alloc, registry, (name, &other))?;
-        is_made_apart::<_, S>(rt, alloc, registry, (name, &other))?;
-        goes_alone::<_, S>(rt, alloc, registry, name, (usual, &other))?;
-    }
-    Ok(())
+    let registry = StaticRegistry::new(rt.alloc())?;
+    let storages = Storages::<_, Storage> {
+        rt: &rt,
+        alloc: rt.alloc(),
+        registry: &registry,
+    };
+    let (before, behind) = (
+        OneName::untold::<Storage>(b"y")?,
+        OneName::untold::<Storage>(b"zz")?,
+    );
+    let _first = storages.make(&before, &[1])?;
+    let _last = storages.make(&behind, &[2, 3, 6])?;
+    let one = OneName::untold::<Storage>(b"z")?;
+    storages.is_filled(&one)?;
+    storages.is_opened_and_released(&one)?;
+    storages.is_removed(&one)?;
+    storages.are_alone((&before, &behind))
 }
 
 #[test]
 fn storages_of_one_name_differ_by_their_configuration(rt: HostRuntime) -> Result<(), Fail> {
-    let alloc = rt.alloc();
-    let registry = StaticRegistry::new(alloc)?;
-    let (name, usual) = one_name::<Storage>()?;
-    let builder = Builder::new(&name, &registry)?.config(&usual);
-    let _made = builder.create(&rt, alloc, &[1, 2, 3])?;
-    are_apart::<_, Storage>(&rt, alloc, &registry, (&name, &usual))?;
-    let builder = Builder::new(&name, &registry)?.config(&usual);
-    let _opened = has_bytes::<_, Storage>(&rt, builder, (3, [1, 2, 3]))?;
+    let registry = StaticRegistry::new(rt.alloc())?;
+    let storages = Storages::<_, Storage> {
+        rt: &rt,
+        alloc: rt.alloc(),
+        registry: &registry,
+    };
+    let untold = OneName::untold::<Storage>(b"z")?;
+    let usual = untold.under(&untold.config);
+    let _made = storages.make(&usual, &[1, 2, 3])?;
+    for other in others(&Storage::default_suffix())? {
+        storages.is_apart(&usual, &other)?;
+    }
+    let _opened = storages.open(&usual, (3, [1, 2, 3]))?;
     Ok(())
 }
 
