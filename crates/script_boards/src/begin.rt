@@ -15,9 +15,10 @@ ghost use Rattle.script_boards.specs.Wants.{MayWant};
 use crate::lookups::put_task;
 use crate::machine::{BoardMachine, TableTask, Task};
 use crate::not_begun::NotBegun;
+use crate::value_update::ValueUpdate;
 use board_model::{
     AddedEntries, Answer, Attributes, BoardName, Call, Key, KeyType, Kind, Limits, Name, Reason,
-    Requirements, ThingKind, Value, ValueType, have_key_type, type_of, value_words,
+    Requirements, ThingKind, Value, ValueType, have_key_type, type_of,
 };
 use board_ports::{CellShape, ReadCore, WriteCore};
 use board_service::{BoardWords, EntryRow, KeptType};
@@ -229,11 +230,9 @@ impl<C: BoardWords + Drop> BoardMachine<C> {
         let found = used(found)?;
         let entry = self.entry_held(&found);
         require(is_value_of(value, entry), Reason::Type)?;
-        let core = write_core(entry, generation);
-        let words = value_words(self.alloc, value)?;
         Ok(Task::Update {
             board: found.board,
-            call: core.update(words),
+            call: ValueUpdate::new(entry.cell.shape(), generation, value),
         })
     }
 
@@ -471,17 +470,11 @@ impl<C: BoardWords + Drop> BoardMachine<C> {
         };
         let entry = self.entry_held(&found);
         require(is_value_of(value, entry), Reason::Type)?;
-        let known = read_core(entry);
-        let generation = self.domain.load(found.board, known.shape.first);
-        let words = value_words(self.alloc, value)?;
-        let core = WriteCore {
-            shape: known.shape,
-            entry_id: known.entry_id,
-            generation,
-        };
+        let shape = entry.cell.shape();
+        let generation = self.domain.load(found.board, shape.first);
         Ok(Task::Update {
             board: found.board,
-            call: core.update(words),
+            call: ValueUpdate::new(shape, generation, value),
         })
     }
 

@@ -20,6 +20,7 @@ mod refusals;
 mod release;
 mod short_steps;
 mod step;
+mod value_update;
 mod words;
 
 pub use machine::BoardMachine;

@@ -10,7 +10,8 @@ use crate::begin::{is_value_of, require, write_core};
 use crate::lookups::set_word;
 use crate::machine::{BoardMachine, TableTask, Task};
 use crate::not_begun::NotBegun;
-use board_model::{Name, Reason, Reply, ThingKind, Value, value_words};
+use crate::value_update::ValueUpdate;
+use board_model::{Name, Reason, Reply, ThingKind, Value};
 use board_ports::LoanCore;
 use board_service::BoardWords;
 use script_parties::Held;
@@ -135,17 +136,15 @@ impl<C: BoardWords + Drop> BoardMachine<C> {
             generation }
         ensures { Checks self.now party.now (call.Fill loan handle value) result }
     {
-        let Some((found, put)) = self.loan_held(party, &loan) else {
+        let Some((found, _)) = self.loan_held(party, &loan) else {
             return Err(NotBegun::Refused(Reason::Unknown));
         };
         let entry = self.entry_held(&found);
         self.require_free(party, &handle)?;
         require(is_value_of(value, entry), Reason::Type)?;
-        let core = LoanCore::lent(write_core(entry, generation), put);
-        let words = value_words(self.alloc, value)?;
         Ok(Task::Fill {
             board: found.board,
-            call: core.fill(words),
+            call: ValueUpdate::new(entry.cell.shape(), generation, value),
             loan,
             handle,
         })

@@ -14,7 +14,6 @@ use board_service::BoardWords;
 use script_seats::Seat;
 use std::alloc::AllocError;
 use std::collections::HashMap;
-use std::collections::hash_map::Entry;
 
 /// The party has the task from now on.
 #[inline(always)]
@@ -35,17 +34,18 @@ pub(crate) fn put_task(
 }
 
 /// The party's call made an access; a read gave this word. Its task is taken out if that was its last access.
+#[inline(always)]
 pub(crate) fn hear(party: &Name, word: u64, tasks: &mut HashMap<Name, Task>) -> Option<Task>
     requires { IsSomeAnd (get bytes_eq tasks.old party.now) CanGoOn }
     ensures { HasHeard (get bytes_eq tasks.old) (get bytes_eq tasks.new) party.now word result }
 {
-    match tasks.entry(*party) {
-        Ok(Entry::Occupied(mut entry)) => match entry.get_mut().took(word) {
-            Progress::More => None,
-            Progress::Done => Some(entry.remove()),
-        },
+    let Some(task) = tasks.get_mut(party) else {
         // The party's call runs.
-        _ => unreachable!(),
+        unreachable!()
+    };
+    match task.took(word) {
+        Progress::More => None,
+        Progress::Done => tasks.remove(party),
     }
 }
 

@@ -1,5 +1,6 @@
 //! The machine: the domain, and the calls that run.
-use board_cell::{FreshCall, GetCall, PublishCall, PutCall, UpdateCall};
+use crate::value_update::ValueUpdate;
+use board_cell::{FreshCall, GetCall, PublishCall, PutCall};
 use board_model::{
     AddedEntries, Attributes, BoardName, Key, KeyType, Limits, Name, NewLimits, Requirements,
     ValueType, Words,
@@ -92,7 +93,7 @@ pub(crate) enum Task {
     },
     Update {
         board: u64,
-        call: UpdateCall,
+        call: ValueUpdate,
     },
     Put {
         board: u64,
@@ -110,7 +111,7 @@ pub(crate) enum Task {
     },
     Fill {
         board: u64,
-        call: UpdateCall,
+        call: ValueUpdate,
         loan: Name,
         handle: Name,
     },

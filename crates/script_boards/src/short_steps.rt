@@ -8,7 +8,8 @@ ghost use Rattle.script_boards.specs.Steps as steps;
 ghost use Rattle.script_boards.specs.Steps.{CanGoOn};
 
 use crate::machine::{BoardMachine, Task};
-use board_cell::{Access as CellAccess, GetCall, UpdateCall};
+use crate::value_update::ValueUpdate;
+use board_cell::{Access as CellAccess, GetCall};
 use board_cell_model::Access;
 use board_model::Name;
 use board_service::BoardWords;
@@ -56,7 +57,7 @@ fn read_word<C: BoardWords + Drop>(
 #[inline(always)]
 fn write_word<C: BoardWords + Drop>(
     board: u64,
-    call: &mut UpdateCall,
+    call: &mut ValueUpdate,
     domain: &mut PartyDomain<C>,
 ) -> Access
     requires goes_on { call.old.written ≤ length call.old.words }
@@ -68,7 +69,7 @@ fn write_word<C: BoardWords + Drop>(
         unreachable!()
     };
     domain.store(board, word, value);
-    let _ = call.took(0);
+    let _ = call.took();
     Access::Write { board, word, value }
 }
 

@@ -123,7 +123,7 @@ impl Task {
                 value: _,
             } => call.took(word),
             Task::Fresh { board: _, call } => call.took(word),
-            Task::Update { board: _, call } => call.took(word),
+            Task::Update { board: _, call } => call.took(),
             Task::Put {
                 board: _,
                 call,
@@ -142,7 +142,7 @@ impl Task {
                 call,
                 loan: _,
                 handle: _,
-            } => call.took(word),
+            } => call.took(),
             _ => Progress::Done,
         }
     }
@@ -259,6 +259,7 @@ impl<C: BoardWords + Drop> BoardMachine<C> {
     }
 
     // What a call that has read its last word is told. The value read is kept where the call names it.
+    #[inline(always)]
     fn tell_read(&mut self, party: Name, task: Task) -> Result<Reply, AllocError>
         requires { HasRead task }
         ensures told { IfOk result (IsReadTold self.old self.new party task) }

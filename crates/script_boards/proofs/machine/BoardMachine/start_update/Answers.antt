@@ -1,7 +1,8 @@
-use Rattle.std.proofs.Common.{◌≡◌, ℕ, ◌<◌, ◌^◌, List, length, rules, refl, sym, ap, subst, ◌∙◌, true}
+use Rattle.std.proofs.Common.{◌≡◌, ℕ, ◌<◌, ◌^◌, List, rules, refl, sym, ap, subst, ◌∙◌, true}
 use Rattle.board_layout.specs.declared.shape.CellShape.{CellShape}
-use Rattle.board_layout.specs.Layout.{cell_end}
+use Rattle.board_layout.specs.Layout.{cell_end, cell_shape}
 use Rattle.board_cell.specs.Calls.{Updating}
+use Rattle.board_model.specs.declared.tables.Entry.{Entry}
 use Rattle.board_model.specs.Tables.{entry_of}
 use Rattle.board_model.specs.TypeTable.{same_type, type_of, value_detail, value_words}
 use Rattle.script_boards.proofs.Bounds.{bounded}
@@ -18,30 +19,29 @@ load-generation-requires g c =
     let x = c.in-Some.found in
     let e = c.entry_held-entry.result.now in
     let led = c.requires in
-    has_counter_word m x.board (entry_of x.kind) e c.entry_held-entry.ensures (entry_has_counter m led.state led.represents led.reached.sound x.board (entry_of x.kind) e c.entry_held-entry.ensures) c.read_core-known.result.shape c.read_core-known.ensures
+    has_counter_word m x.board (entry_of x.kind) e c.entry_held-entry.ensures (entry_has_counter m led.state led.represents led.reached.sound x.board (entry_of x.kind) e c.entry_held-entry.ensures) c.shape-shape.result (c.shape-shape.ensures ∙ ap (λ (e : Entry). cell_shape e.cell) c.entry.view_is)
 
-pub update-requires-clause-width : goal.update-requires-clause-width
-update-requires-clause-width g c =
+pub new-requires-clause-width : goal.new-requires-clause-width
+new-requires-clause-width g c =
     let t : same_type (value_detail (type_of c.args.value)) c.entry_held-entry.result.now.value ≡ true = search rules in
-    let w : c.in_ok-words.words.items ≡ value_words c.args.value = search rules in
     let led = c.requires in
-    ap (λ (ws : List ℕ). length ws) w ∙ value_fits c.args.self.now led.state led.represents led.reached.sound c.in-Some.found.board (entry_of c.in-Some.found.kind) c.entry_held-entry.result.now c.entry_held-entry.ensures c.args.value t
-    ∙ ap (λ (x : CellShape). x.words) (sym c.read_core-known.ensures)
+    value_fits c.args.self.now led.state led.represents led.reached.sound c.in-Some.found.board (entry_of c.in-Some.found.kind) c.entry_held-entry.result.now c.entry_held-entry.ensures c.args.value t
+    ∙ ap (λ (x : CellShape). x.words) (sym (c.shape-shape.ensures ∙ ap (λ (e : Entry). cell_shape e.cell) c.entry.view_is))
 
-pub update-requires-clause-shape : goal.update-requires-clause-shape
-update-requires-clause-shape g c =
+pub new-requires-clause-shape : goal.new-requires-clause-shape
+new-requires-clause-shape g c =
     let led = c.requires in
-    subst (λ (x : CellShape). cell_end x < 2 ^ 64) (sym c.read_core-known.ensures)
+    subst (λ (x : CellShape). cell_end x < 2 ^ 64) (sym (c.shape-shape.ensures ∙ ap (λ (e : Entry). cell_shape e.cell) c.entry.view_is))
     (cell_is_low c.args.self.now led.state led.represents led.reached.sound c.in-Some.found.board (entry_of c.in-Some.found.kind) c.entry_held-entry.result.now c.entry_held-entry.ensures)
 
-pub update-requires-clause-room : goal.update-requires-clause-room
-update-requires-clause-room g c =
+pub new-requires-clause-room : goal.new-requires-clause-room
+new-requires-clause-room g c =
     let m = c.args.self.now in
     let x = c.in-Some.found in
     let e = c.entry_held-entry.result.now in
     let led = c.requires in
     counter_is_low m led.state led.represents led.reached.sound x.board (entry_of x.kind) e c.entry_held-entry.ensures c.load-generation.result (bounded led.state led.reached)
-    (is_counter m x.board (entry_of x.kind) e c.entry_held-entry.ensures c.read_core-known.result.shape c.read_core-known.ensures c.load-generation.result c.load-generation.ensures.value)
+    (is_counter m x.board (entry_of x.kind) e c.entry_held-entry.ensures c.shape-shape.result (c.shape-shape.ensures ∙ ap (λ (e : Entry). cell_shape e.cell) c.entry.view_is) c.load-generation.result c.load-generation.ensures.value)
 
 pub returns-clause-checks : goal.returns-clause-checks
 returns-clause-checks g c =
@@ -49,7 +49,6 @@ returns-clause-checks g c =
     let x = c.in-Some.found in
     let e = c.entry_held-entry.result.now in
     let t : same_type (value_detail (type_of c.args.value)) e.value ≡ true = search rules in
-    let w : c.in_ok-words.words.items ≡ value_words c.args.value = search rules in
-    λ s rep sound. update_begins m s rep sound x.board (entry_of x.kind) e c.entry_held-entry.ensures c.args.party.now c.args.handle.now x c.args.value c.load-generation.result c.in_ok-words.words.items c.update.result
-    (c.update.ensures ∙ ap (λ (y : CellShape). an_update y c.load-generation.result c.in_ok-words.words.items) c.read_core-known.ensures) refl refl (sym c.handle_held.ensures ∙ c.in-Some.is) t
-    (is_counter m x.board (entry_of x.kind) e c.entry_held-entry.ensures c.read_core-known.result.shape c.read_core-known.ensures c.load-generation.result c.load-generation.ensures.value) w
+    λ s rep sound. update_begins m s rep sound x.board (entry_of x.kind) e c.entry_held-entry.ensures c.args.party.now c.args.handle.now x c.args.value c.load-generation.result (value_words c.args.value) c.new.result
+    (c.new.ensures ∙ ap (λ (y : CellShape). an_update y c.load-generation.result (value_words c.args.value)) (c.shape-shape.ensures ∙ ap (λ (e : Entry). cell_shape e.cell) c.entry.view_is)) refl refl (sym c.handle_held.ensures ∙ c.in-Some.is) t
+    (is_counter m x.board (entry_of x.kind) e c.entry_held-entry.ensures c.shape-shape.result (c.shape-shape.ensures ∙ ap (λ (e : Entry). cell_shape e.cell) c.entry.view_is) c.load-generation.result c.load-generation.ensures.value) refl
