@@ -6,6 +6,7 @@ use Rattle.board_model.specs.LawfulSession.{is_typed_key}
 use Rattle.board_model.specs.Replies.{id_number, info_of}
 use Rattle.board_model.specs.Tables.{Tables, board_at}
 use Rattle.board_model.specs.Things.{Held, thing_of, with_name}
+use Rattle.script_parties.specs.declared.lookups.FoundThing.{FoundThing}
 use Rattle.script_parties.specs.Overview.{standing_with}
 use Rattle.script_parties.specs.Parties.{Parties}
 
@@ -16,6 +17,10 @@ named_tables t things = record { boards = t.boards; things = things; last_board 
 -- the thing that a party holds under a name
 abbrev pub party_thing : Parties → List ℕ → List ℕ → Option Held
 party_thing p party name = thing_of p.tables.things party name
+
+-- what is found of a thing: its board and its kind
+abbrev pub found_of : Held → FoundThing
+found_of x = record { board = x.board; kind = x.kind }
 
 -- the key is of the type of the keys of the thing's board
 abbrev pub HasKeyType : Parties → Held → Key → Type 0

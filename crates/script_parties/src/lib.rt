@@ -18,5 +18,5 @@ mod short_name;
 mod short_seat;
 mod typed_calls;
 
-pub use lookups::Held;
+pub use lookups::{FoundThing, Held};
 pub use party_domain::PartyDomain;

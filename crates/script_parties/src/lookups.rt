@@ -4,12 +4,19 @@ ghost use Rattle.indexmap.specs.IndexSet.{spare};
 ghost use Rattle.script_parties.specs.Named.{node_number, nodes_with};
 
 use board_layout::Text;
-use board_model::{Name, Thing};
+use board_model::{Kind, Name, Thing};
 use board_names::ServiceName;
 use indexmap::IndexSet;
 
 /// A thing of a board, under its party and its name.
 pub type Held = Thing<Name, Name>;
+
+/// What is found of a thing that a party holds: its board and its kind, without the names.
+#[derive(Clone, Copy, Debug, PartialEq, Eq)]
+pub struct FoundThing {
+    pub board: u64,
+    pub kind: Kind,
+}
 
 /// The number of a party that is a node, or the next number.
 pub(crate) fn node_for(party: &Name, nodes: &IndexSet<Name>) -> u64

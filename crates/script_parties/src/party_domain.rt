@@ -8,7 +8,7 @@ ghost use Rattle.board_model.specs.Things.{of_kind};
 ghost use Rattle.board_service.specs.Domain as domain;
 ghost use Rattle.script_parties.specs.Overview.{keys_shown};
 ghost use Rattle.script_parties.specs.Parties.{HasWord, IsCreate, IsEntry, IsEntryMut, IsFew, IsLoaded, IsOpen, IsReader, IsReleased, IsStored, IsWriter, IsStandingThing, board_words, no_parties};
-ghost use Rattle.script_parties.specs.Shown.{HasKeyType, id_shown, info_shown, party_thing, renamed};
+ghost use Rattle.script_parties.specs.Shown.{HasKeyType, found_of, id_shown, info_shown, party_thing, renamed};
 ghost use Rattle.script_parties.specs.Refusals.{IsUnrefused, create_refusal, entry_mut_refusal, entry_refusal, open_refusal, reader_refusal, writer_refusal};
 
 mod making;
@@ -16,7 +16,7 @@ mod refusals;
 
 use crate::adding::{attributes_for, needs_for};
 use crate::lists::{keys_of, nodes_at};
-use crate::lookups::{Held, name_text};
+use crate::lookups::{FoundThing, Held, name_text};
 use crate::named::NamedThings;
 use board_cell::Words;
 use board_layout::Text;
@@ -147,6 +147,25 @@ impl<C: BoardWords + Drop> PartyDomain<C> {
         };
         match self.thing_under(&seat) {
             Some(thing) if thing.kind.is(kind) => Some(thing),
+            _ => None,
+        }
+    }
+
+    /// The same, without the names.
+    #[inline(always)]
+    pub fn found_of_kind(&self, kind: ThingKind, party: &Name, name: &Name) -> Option<FoundThing>
+        ensures { result
+            ≡ option_map found_of (of_kind kind (party_thing self.now party.now name.now)) }
+    {
+        let seat = Seat {
+            party: *party,
+            name: *name,
+        };
+        match self.thing_under(&seat) {
+            Some(thing) if thing.kind.is(kind) => Some(FoundThing {
+                board: thing.board,
+                kind: thing.kind,
+            }),
             _ => None,
         }
     }
