@@ -8,9 +8,9 @@ ghost use Rattle.board_model.specs.AnswerGrammar.{access_text, answer_line, answ
 ghost use Rattle.script_print.specs.Room.{LacksRoomFor};
 
 use crate::names::refusal_line;
-use crate::replies::push_reply;
+use crate::replies::{push_reply, push_value_read};
 use board_cell_model::Access;
-use board_model::{Answer, Reason, Reply};
+use board_model::{Answer, Reason, Reply, ValueType};
 use itoa::Buffer;
 use std::alloc::AllocError;
 
@@ -361,6 +361,30 @@ pub fn push_access_made(access: Access, is_done: bool, out: &mut Vec<u8>) -> Res
     if is_done {
         return out.extend_from_slice(b" = ok\n");
     }
+    out.push(b'\n')?;
+    Ok(())
+}
+
+/// Adds the line of the last step of a get.
+///
+/// # Errors
+/// `AllocError` where memory is refused, and only where the buffer has no room for the line; then a front of it may have been added.
+pub fn push_got(
+    access: Access,
+    value_type: ValueType,
+    words: &[u64],
+    generation: u64,
+    out: &mut Vec<u8>,
+) -> Result<(), AllocError>
+    ensures ok { OnOk result (out.new.items ≡ out.old.items
+        ++ answer_line (answer.Step access (Some (reply.Got value_type words.now generation)))) }
+    ensures room { OnErr result (LacksRoomFor out.old
+        (answer_line (answer.Step access (Some (reply.Got value_type words.now generation))))) }
+    ensures grows { vec_capacity out.old ≤ vec_capacity out.new }
+{
+    push_access(access, out)?;
+    out.extend_from_slice(b" = ")?;
+    push_value_read(value_type, words, generation, out)?;
     out.push(b'\n')?;
     Ok(())
 }

@@ -9,6 +9,7 @@ mod names;
 mod replies;
 
 pub use answers::{
-    push_access_made, push_answer, push_begun, push_gone, push_refused, push_step, push_words,
+    push_access_made, push_answer, push_begun, push_gone, push_got, push_refused, push_step,
+    push_words,
 };
 pub use event_answers::{push_event_asked, push_event_step, push_expired};

@@ -1,6 +1,7 @@
 //! The bytes of replies, which are added to a buffer of the caller's.
 ghost use Rattle.std.specs.Prelude.{◌≡◌, ◌≤◌, ◌++◌, ◌∷◌, ◌==◌, OnErr, OnOk, decimal, map, slice_index, vec_capacity};
 ghost use Rattle.std.specs.List.{flat_map, join_with_byte};
+ghost use Rattle.board_model.specs.declared.answer.Reply.TheVariants as reply;
 ghost use Rattle.board_model.specs.AnswerGrammar.{info_text, key_item_text, name_item_text, number_text, reply_text, words_text};
 ghost use Rattle.board_model.specs.LineGrammar.{key_text};
 ghost use Rattle.script_print.specs.Room.{LacksRoomFor};
@@ -168,6 +169,23 @@ fn push_info(info: &Info, out: &mut Vec<u8>) -> Result<(), AllocError>
     push_counts(info, out)
 }
 
+// Adds a value that was read, and its generation.
+pub(crate) fn push_value_read(
+    value_type: ValueType,
+    words: &[u64],
+    generation: u64,
+    out: &mut Vec<u8>,
+) -> Result<(), AllocError>
+    ensures ok { OnOk result (out.new.items
+        ≡ out.old.items ++ reply_text (reply.Got value_type words.now generation)) }
+    ensures room { OnErr result (LacksRoomFor out.old
+        (reply_text (reply.Got value_type words.now generation))) }
+    ensures grows { vec_capacity out.old ≤ vec_capacity out.new }
+{
+    push_value(value_type, words, out)?;
+    push_counted(b" gen", generation, out)
+}
+
 // Adds what a finished call is told.
 pub(crate) fn push_reply(reply: &Reply, out: &mut Vec<u8>) -> Result<(), AllocError>
     ensures ok { OnOk result (out.new.items ≡ out.old.items ++ reply_text reply.now) }
@@ -181,10 +199,7 @@ pub(crate) fn push_reply(reply: &Reply, out: &mut Vec<u8>) -> Result<(), AllocEr
             value_type,
             words,
             generation,
-        } => {
-            push_value(*value_type, words.as_slice(), out)?;
-            push_counted(b" gen", *generation, out)
-        }
+        } => push_value_read(*value_type, words.as_slice(), *generation, out),
         Reply::Fresh(true) => out.extend_from_slice(b"true"),
         Reply::Fresh(false) => out.extend_from_slice(b"false"),
         Reply::Keys(keys) => {
