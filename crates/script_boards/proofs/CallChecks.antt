@@ -1,6 +1,6 @@
 -- Lines that begin a call.
 use Rattle.std.proofs.Common.{◌≡◌, ℕ, ◌+◌, ◌^◌, ◌<◌, Bool, true, false, cond, List, length, arith, refl, sym, ap, subst, ◌∙◌, Option, Some, None}
-use Rattle.std.specs.Prelude.{◌||◌, is_some, not, IsErrAnd, Result, Ok, Err}
+use Rattle.std.specs.Prelude.{◌||◌, is_some, not, option_map, IsErrAnd, Result, Ok, Err}
 use Rattle.std.proofs.lemmas.Result.{err_from_is_err_and}
 use Rattle.board_layout.specs.declared.type_detail.TypeDetail.{TypeDetail}
 use Rattle.board_model.specs.declared.answer.Answer.TheVariants as answer
@@ -30,6 +30,8 @@ use Rattle.board_model.specs.Sound.{BoardTables, HasEntry, HasEntryAt, IsTyped, 
 use Rattle.board_model.proofs.OpeningLemmas.{sized}
 use Rattle.board_model.proofs.ThingLemmas.{all_found}
 use Rattle.board_cell.specs.Calls.{Getting, Updating}
+use Rattle.script_parties.specs.declared.lookups.FoundThing.{FoundThing}
+use Rattle.script_parties.specs.Shown.{found_of}
 use Rattle.script_boards.specs.declared.machine.BoardMachine.{BoardMachine}
 use Rattle.script_boards.specs.declared.machine.Task.{Task}
 use Rattle.script_boards.specs.declared.machine.Task.TheVariants as task
@@ -88,6 +90,29 @@ taken_is m s rep party None = refl
 taken_is m s rep party (Some name) =
     ap (λ t. is_some (thing_of t.things party name) || is_some (s.standing.values party name)) rep.tables
     ∙ ap (λ (k : Option Kept). is_some (thing_of m.domain.tables.things party name) || is_some k) (rep.values party name)
+
+-- ---- what is found
+
+-- the thing that this was found of
+pub record IsFound (o : Option Held) (f : FoundThing) : Type 0 where
+  pub thing : Held
+  pub there : o ≡ Some thing
+  pub is : f ≡ found_of thing
+
+abbrev a_found : FoundThing → Option FoundThing
+a_found f = Some f
+
+one_found : (x y : FoundThing) → a_found x ≡ Some y → y ≡ x
+one_found x y e = cc
+
+pub found_in : (o : Option Held) (f : FoundThing) → option_map found_of o ≡ Some f → IsFound o f
+found_in None f e = absurd (let x : None ≡ a_found f = e in cc)
+found_in (Some x) f e = record { thing = x; there = refl; is = one_found (found_of x) f e }
+
+-- where nothing was found there is nothing
+pub none_found : (o : Option Held) → option_map found_of o ≡ None → o ≡ None
+none_found None e = refl
+none_found (Some x) e = absurd (let y : a_found (found_of x) ≡ None = e in cc)
 
 -- ---- handles
 

@@ -2,6 +2,7 @@ pub mod Abandonments
 pub mod Bounds
 pub mod CallChecks
 pub mod EmptyMaps
+pub mod GetSteps
 pub mod Listings
 pub mod LoanChecks
 pub mod LoanSteps

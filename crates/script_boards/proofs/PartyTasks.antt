@@ -1,6 +1,10 @@
 -- The tasks of parties, and the parties that they stand for.
 use Rattle.std.proofs.Common.{◌≡◌, ℕ, Bool, true, false, cond, List, refl, sym, ap, subst, ◌∙◌, Option, Some, None}
+use Rattle.std.proofs.lemmas.Slice.Eq.{bytes_eq-Decides}
+use Rattle.std.specs.Option.{option_flatten}
 use Rattle.std.specs.Str.{bytes_eq}
+use Rattle.board_cell.specs.declared.access.Progress.TheVariants as progress
+use Rattle.board_cell.specs.Calls.{progress_of}
 use Rattle.board_cell_model.specs.declared.access.Access.{Access}
 use Rattle.board_cell_model.specs.declared.access.Access.TheVariants as access
 use Rattle.board_model.specs.Requests.{Request}
@@ -23,6 +27,12 @@ pub record IsRunning (parties : List ℕ → Party) (party : List ℕ) (own : Ta
 
 abbrev pub a_task : Task → Option Task
 a_task t = Some t
+
+abbrev pub some_place : Option Task → Option (Option Task)
+some_place x = Some x
+
+abbrev pub no_place : Option (Option Task)
+no_place = None
 
 pub one_task : (x y : Task) → a_task x ≡ Some y → x ≡ y
 one_task x y e = cc
@@ -108,3 +118,44 @@ put_after tasks mid new party w same put p = put p ∙ ap (λ (f : List ℕ → 
 -- none after a change
 pub put_before : (tasks mid new : List ℕ → Option Task) (party : List ℕ) (w : Option Task) → IsPut tasks mid party w → new ≡ mid → IsPut tasks new party w
 put_before tasks mid new party w put same p = ap (λ (f : List ℕ → Option Task). f p) same ∙ put p
+
+-- ---- places
+
+module _ (old new : List ℕ → Option (Option Task)) (party : List ℕ) (x : Option Task) where
+  -- a party whose place is written has what was written there
+  pub placed : ((p : List ℕ) → new p ≡ cond (bytes_eq party p) (some_place x) (old p)) → IsPut (λ p. option_flatten (old p)) (λ p. option_flatten (new p)) party x
+  placed put p = ap option_flatten (put p) ∙ at (bytes_eq party p)
+    where
+      at : (b : Bool) → option_flatten (cond b (some_place x) (old p)) ≡ cond b x (option_flatten (old p))
+      at true = refl
+      at false = refl
+
+-- a party whose place goes has nothing
+pub unplaced : (old new : List ℕ → Option (Option Task)) (party : List ℕ) → ((p : List ℕ) → new p ≡ cond (bytes_eq party p) no_place (old p)) → IsPut (λ p. option_flatten (old p)) (λ p. option_flatten (new p)) party None
+unplaced old new party taken p = ap option_flatten (taken p) ∙ at (bytes_eq party p)
+  where
+    at : (b : Bool) → option_flatten (cond b no_place (old p)) ≡ cond b None (option_flatten (old p))
+    at true = refl
+    at false = refl
+
+-- where a party is given what it has, nothing changes
+pub put_same : (old new : List ℕ → Option Task) (party : List ℕ) (x : Option Task) → IsPut old new party x → old party ≡ x → (p : List ℕ) → new p ≡ old p
+put_same old new party x put e p = put p ∙ at (bytes_eq party p) refl
+  where
+    at : (b : Bool) → bytes_eq party p ≡ b → cond b x (old p) ≡ old p
+    at true h = sym e ∙ ap old ((bytes_eq-Decides party p).0 h)
+    at false h = refl
+
+-- what was put is there
+pub put_there : (old new : List ℕ → Option Task) (party : List ℕ) (x : Option Task) → IsPut old new party x → new party ≡ x
+put_there old new party x put = put party ∙ ap (λ (b : Bool). cond b x (old party)) ((bytes_eq-Decides party party).1 refl)
+
+-- ---- how far a call is
+
+pub progress_more : (b : Bool) → progress_of b ≡ progress.More → b ≡ false
+progress_more false e = refl
+progress_more true e = absurd cc
+
+pub progress_done : (b : Bool) → progress_of b ≡ progress.Done → b ≡ true
+progress_done true e = refl
+progress_done false e = absurd cc

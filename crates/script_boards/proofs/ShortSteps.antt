@@ -104,18 +104,22 @@ put_and_taken tasks mid new party t put taken p = taken p ∙ at (bytes_eq party
     at true e = refl
     at false e = e
 
+-- a machine that has the same domain, tasks, values and loans stands for the same states
+pub alike_represents : {C : Type 0} (m new : BoardMachine C) → new.domain ≡ m.domain → ((p : List ℕ) → task_of new p ≡ task_of m p) → kept new ≡ kept m → lent_words new ≡ lent_words m → (s : State) → Represents m s → Represents new s
+alike_represents m new domain tasks values loans s rep = record {
+  tables = rep.tables ∙ sym (ap (λ (d : Parties). d.tables) domain);
+  words = ap (λ (d : Parties). d.words) domain ∙ rep.words ∙ ap (λ (d : Parties). words_of_boards s.memory d.tables.boards) (sym domain);
+  parties = λ p. subst (λ (o : Option Task). IsKeptOf o (s.parties p)) (sym (tasks p)) (rep.parties p);
+  loans = λ p n. rep.loans p n ∙ sym (of_name loans p n);
+  values = λ p n. rep.values p n ∙ sym (of_name values p n);
+}
+
 -- ---- nothing changed
 
 module _ {C : Type 0} (m new : BoardMachine C) (same : IsSame m new) where
   -- it stands for the same states
   pub same_represents : (s : State) → Represents m s → Represents new s
-  same_represents s rep = record {
-    tables = rep.tables ∙ sym (ap (λ (d : Parties). d.tables) same.domain);
-    words = ap (λ (d : Parties). d.words) same.domain ∙ rep.words ∙ ap (λ (d : Parties). words_of_boards s.memory d.tables.boards) (sym same.domain);
-    parties = λ p. subst (λ (o : Option Task). IsKeptOf o (s.parties p)) (sym (ap (λ (f : List ℕ → Option Task). f p) same.rest.parties)) (rep.parties p);
-    loans = λ p n. rep.loans p n ∙ sym (of_name same.rest.loans p n);
-    values = λ p n. rep.values p n ∙ sym (of_name same.rest.values p n);
-  }
+  same_represents s rep = alike_represents m new same.domain (λ p. ap (λ (f : List ℕ → Option Task). f p) same.rest.parties) same.rest.values same.rest.loans s rep
 
   -- and is led as before
   pub same_led : IsLed m → IsLed new

@@ -18,6 +18,8 @@ use Rattle.board_model.specs.Sound.{Sound}
 use Rattle.board_model.specs.declared.tables.ThingKind.{ThingKind}
 use Rattle.board_model.specs.declared.tables.ThingKind.TheVariants as thing_kind
 use Rattle.board_model.specs.Things.{Held, of_kind, thing_of}
+use Rattle.script_parties.specs.declared.lookups.FoundThing.{FoundThing}
+use Rattle.script_parties.specs.Shown.{found_of}
 use Rattle.script_boards.specs.declared.machine.BoardMachine.{BoardMachine}
 use Rattle.script_boards.specs.declared.machine.Task.{Task}
 use Rattle.script_boards.specs.declared.not_begun.NotBegun.{NotBegun}
@@ -50,6 +52,12 @@ pub record IsHandle {C : Type 0} (m : BoardMachine C) (x : Held) : Type 0 where
   pub name : List ℕ
   pub found : thing_of m.domain.tables.things party name ≡ Some x
   pub handle : is_handle x.kind ≡ true
+
+-- what is found of a handle that some party holds
+pub record IsFoundHandle {C : Type 0} (m : BoardMachine C) (f : FoundThing) : Type 0 where
+  pub thing : Held
+  pub handle : IsHandle m thing
+  pub found : f ≡ found_of thing
 
 -- the party runs no call, and isn't gone
 abbrev pub HasNoTask : {C : Type 0} → BoardMachine C → List ℕ → Type 0

@@ -1,4 +1,5 @@
 pub mod Begins
+pub mod GetSteps
 pub mod ShortBegins
 pub mod ShortSteps
 pub mod LoanCalls

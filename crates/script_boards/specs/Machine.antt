@@ -1,6 +1,7 @@
 -- The state of a script that a machine stands for.
 use Rattle.std.specs.Prelude.{◌≡◌, ℕ, ◌<◌, ◌^◌, Bool, List, length, Option, Some, None, is_some, option_map}
 use Rattle.std.specs.HashMap as hash
+use Rattle.std.specs.Option.{option_flatten}
 use Rattle.std.specs.Str.{bytes_eq}
 use Rattle.board_cell_model.specs.declared.access.Access.{Access}
 use Rattle.board_model.specs.declared.answer.Answer.{Answer}
@@ -24,14 +25,19 @@ use Rattle.script_boards.specs.declared.machine.KeptValue.{KeptValue}
 use Rattle.script_boards.specs.declared.machine.BoardMachine.{BoardMachine}
 use Rattle.script_boards.specs.declared.machine.Task.{Task}
 use Rattle.script_boards.specs.declared.machine.Task.TheVariants as task
+use Rattle.script_boards.specs.declared.tasks.PartyTasks.{PartyTasks}
 use Rattle.script_boards.specs.declared.machine.TableTask.{TableTask}
 use Rattle.script_boards.specs.declared.machine.TableTask.TheVariants as table_task
 
 -- ---- running calls
 
 -- what the call of a party has still to do, or that the party is gone
+abbrev pub task_in : PartyTasks → List ℕ → Option Task
+task_in tasks party = option_flatten (hash.get bytes_eq tasks.places party)
+
+-- the same, of a machine
 abbrev pub task_of : {C : Type 0} → BoardMachine C → List ℕ → Option Task
-task_of m party = hash.get bytes_eq m.parties party
+task_of m party = task_in m.parties party
 
 -- the call of a task on the tables is this request
 abbrev pub IsTableTask : TableTask → Request → Type 0

@@ -20,6 +20,7 @@ use Rattle.script_boards.specs.declared.short_steps.ShortWay.TheVariants as way
 use Rattle.script_boards.specs.declared.step.OwedAccess.TheVariants as owed
 use Rattle.script_boards.specs.declared.step.OwedRead.{OwedRead}
 use Rattle.script_boards.specs.declared.step.OwedWrite.{OwedWrite}
+use Rattle.script_boards.specs.GetSteps.{RunsPlainGet}
 use Rattle.script_boards.specs.Machine.{Serves}
 use Rattle.script_boards.specs.Steps.{IsOwedBy, IsSame, ends_call, ticked}
 
@@ -105,4 +106,5 @@ short_answer made = answer.Step made.access (if made.is_done then Some reply.Don
 abbrev pub IsShortWay : {C : Type 0} → BoardMachine C → BoardMachine C → List ℕ → ShortWay → Type 0
 IsShortWay old new party way.Idle = Serves old new (line.Step party) (answer.Refused reason.Idle)
 IsShortWay old new party (way.Made made) = Serves old new (line.Step party) (short_answer made)
+IsShortWay old new party way.Get = IsSame old new × RunsPlainGet new party
 IsShortWay old new party way.Nowhere = IsSame old new

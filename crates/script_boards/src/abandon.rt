@@ -7,7 +7,6 @@ ghost use Rattle.script_boards.specs.Steps as steps;
 ghost use Rattle.script_boards.specs.Steps.{HoldsAsBefore};
 ghost use Rattle.script_boards.specs.Wants.{MayWant};
 
-use crate::lookups::put_task;
 use crate::machine::{BoardMachine, Task};
 use board_model::{Answer, Name, Reason};
 use board_service::BoardWords;
@@ -35,13 +34,13 @@ impl<C: BoardWords + Drop> BoardMachine<C> {
 
         // After want of memory nothing was abandoned.
         ensures held { OnErr result (HoldsAsBefore self.old self.new) }
-        ensures parties { OnErr result (IsUnchanged self.old.parties self.new.parties) }
+        ensures parties { OnErr result (IsUnchanged self.old.parties.places self.new.parties.places) }
         ensures drawn { OnOk result (self.new.domain.drawn ≤ self.old.domain.drawn + 1) }
     {
         if self.is_gone(&party) {
             return Ok(Answer::Refused(Reason::Abandoned));
         }
-        put_task(party, Task::Gone, &mut self.parties)?;
+        self.parties.put(party, Task::Gone)?;
         Ok(Answer::Gone)
     }
 }

@@ -1,18 +1,18 @@
 //! Lines `begin P CALL`.
-ghost use Rattle.std.specs.Prelude.{◌≡◌, ◌+◌, ◌<◌, ◌≤◌, ◌^◌, ◌||◌, true, Some, None, IfOk, OnErr, OnOk, find, is_some, not};
+ghost use Rattle.std.specs.Prelude.{◌≡◌, ◌+◌, ◌<◌, ◌≤◌, ◌^◌, ◌||◌, true, Some, None, IfOk, OnErr, OnOk, find, is_some, not, option_map};
 ghost use Rattle.board_layout.specs.Layout.{cell_shape};
 ghost use Rattle.board_model.specs.Tables as tables;
 ghost use Rattle.board_model.specs.TypeTable as types;
 ghost use Rattle.board_model.specs.declared.answer.Reason.TheVariants as reason;
 ghost use Rattle.board_model.specs.declared.line.Call.TheVariants as call;
 ghost use Rattle.board_model.specs.declared.line.Line.TheVariants as line;
+ghost use Rattle.script_parties.specs.Shown.{found_of};
 ghost use Rattle.script_boards.specs.Machine.{IsLed, Serves, kept, tables_of};
-ghost use Rattle.script_boards.specs.Begins.{Checks, HasGeneration, HasNoTask, IsHandle, IsRequired, IsUsed, handle_held, has_id, holds, holds_any, thing_held, written_by};
+ghost use Rattle.script_boards.specs.Begins.{Checks, HasGeneration, HasNoTask, IsFoundHandle, IsHandle, IsRequired, IsUsed, handle_held, has_id, holds, holds_any, thing_held, written_by};
 ghost use Rattle.script_boards.specs.Loans.{lent_words};
 ghost use Rattle.script_boards.specs.ShortBegins.{begun_unless};
 ghost use Rattle.script_boards.specs.Wants.{MayWant};
 
-use crate::lookups::put_task;
 use crate::machine::{BoardMachine, TableTask, Task};
 use crate::not_begun::NotBegun;
 use crate::value_update::ValueUpdate;
@@ -22,7 +22,7 @@ use board_model::{
 };
 use board_ports::{CellShape, ReadCore, WriteCore};
 use board_service::{BoardWords, EntryRow, KeptType};
-use script_parties::Held;
+use script_parties::{FoundThing, Held};
 use std::alloc::AllocError;
 
 /// Nothing where it holds, else the refusal.
@@ -142,6 +142,18 @@ impl<C: BoardWords + Drop> BoardMachine<C> {
             .held_of_kind(ThingKind::WriteHandle, party, name)
     }
 
+    // The same, without the names.
+    #[inline(always)]
+    fn handle_found(&self, party: &Name, name: &Name) -> Option<FoundThing>
+        ensures { result ≡ option_map found_of (handle_held self.now party.now name.now) }
+    {
+        if self.is_lent(party, name) {
+            return None;
+        }
+        self.domain
+            .found_of_kind(ThingKind::WriteHandle, party, name)
+    }
+
     /// The entry of a handle that a party holds.
     pub(crate) fn entry_held(&self, handle: &Held) -> &EntryRow
         requires led { IsLed self.now }
@@ -149,9 +161,23 @@ impl<C: BoardWords + Drop> BoardMachine<C> {
         ensures { tables.entry_at (tables_of self.now) handle.now.board
             (tables.entry_of handle.now.kind) ≡ Some result.now }
     {
+        self.entry_found(&FoundThing {
+            board: handle.board,
+            kind: handle.kind,
+        })
+    }
+
+    // The same, where its names don't matter.
+    #[inline(always)]
+    fn entry_found(&self, handle: &FoundThing) -> &EntryRow
+        requires led { IsLed self.now }
+        requires held { IsFoundHandle self.now handle.now }
+        ensures { tables.entry_at (tables_of self.now) handle.now.board
+            (tables.entry_of handle.now.kind) ≡ Some result.now }
+    {
         match self.domain.entry_at(handle.board, handle.kind.entry()) {
             Some(entry) => entry,
-            // `IsLed` and `IsHandle`: the entry of a handle stands.
+            // `IsLed` and `IsFoundHandle`: the entry of a handle stands.
             None => unreachable!(),
         }
     }
@@ -182,8 +208,13 @@ impl<C: BoardWords + Drop> BoardMachine<C> {
         requires { IsLed self.now }
         ensures { Checks self.now party.now (call.Get handle.now value) result }
     {
-        let found = self.thing_used(ThingKind::ReadHandle, party, handle)?;
-        let entry = self.entry_held(&found);
+        let Some(found) = self
+            .domain
+            .found_of_kind(ThingKind::ReadHandle, party, handle)
+        else {
+            return Err(NotBegun::Refused(Reason::Unknown));
+        };
+        let entry = self.entry_found(&found);
         require(!self.holds_any(party, &value), Reason::Taken)?;
         let core = read_core(entry);
         let buffer = Vec::from_elem(self.alloc, 0, core.shape.words as usize)?;
@@ -432,7 +463,7 @@ impl<C: BoardWords + Drop> BoardMachine<C> {
     {
         match checked {
             Ok(task) => {
-                put_task(party, task, &mut self.parties)?;
+                self.parties.put(party, task)?;
                 Ok(None)
             }
             Err(not_begun) => match not_begun {
@@ -465,10 +496,10 @@ impl<C: BoardWords + Drop> BoardMachine<C> {
         ensures checks { Checks self.old party.now (call.Update handle.now value) result }
         ensures same { self.new ≡ self.old }
     {
-        let Some(found) = self.handle_held(party, handle) else {
+        let Some(found) = self.handle_found(party, handle) else {
             return Err(NotBegun::Refused(Reason::Unknown));
         };
-        let entry = self.entry_held(&found);
+        let entry = self.entry_found(&found);
         require(is_value_of(value, entry), Reason::Type)?;
         let shape = entry.cell.shape();
         let generation = self.domain.load(found.board, shape.first);

@@ -6,12 +6,14 @@
 //! which states of boards it stands for. Its calls are lines of boards: `begin` (may the call begin, and what has it to
 //! do), `step` (one access: a call on the domain, a word read, a word written), `release` (a thing goes, and a board
 //! with its last thing), `abandon`, and the listing of a board's words. `step_short` is a short way for steps of updates,
-//! for those of gets and fills that owe a word, and for those of parties that run no call. `loans` has the calls on loans, `lookups` what stands in the maps and
-//! how it comes and goes, `refusals` what the machine of scripts asks where a name is that of a listener or notifier.
+//! for those of gets and fills that owe a word, and for those of parties that run no call; `step_get` is one for the other
+//! steps of gets that keep no value. `tasks` has the calls that run, `loans` the calls on loans, `lookups` what stands in the
+//! maps of values and loans, `refusals` what the machine of scripts asks where a name is that of a listener or notifier.
 #![tactic(auto)]
 
 mod abandon;
 mod begin;
+mod get_steps;
 mod loans;
 mod lookups;
 mod machine;
@@ -20,8 +22,10 @@ mod refusals;
 mod release;
 mod short_steps;
 mod step;
+mod tasks;
 mod value_update;
 mod words;
 
+pub use get_steps::{GetStep, ReadValue};
 pub use machine::BoardMachine;
 pub use short_steps::{ShortStep, ShortWay};

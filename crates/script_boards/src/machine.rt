@@ -1,4 +1,5 @@
 //! The machine: the domain, and the calls that run.
+use crate::tasks::PartyTasks;
 use crate::value_update::ValueUpdate;
 use board_cell::{FreshCall, GetCall, PublishCall, PutCall};
 use board_model::{
@@ -133,8 +134,8 @@ pub struct BoardMachine<C: BoardWords> {
     pub(crate) alloc: Global,
     /// The boards, their words, and the things that parties hold.
     pub(crate) domain: PartyDomain<C>,
-    /// What the call of a party has still to do, for each party that runs one, and for each that is gone.
-    pub(crate) parties: HashMap<Name, Task>,
+    /// What the call of a party has still to do.
+    pub(crate) parties: PartyTasks,
     /// The values that parties keep, by party and name.
     pub(crate) values: HashMap<Seat, KeptValue>,
     /// The words that were put into each loan, by its party and name. A loan is a write handle under the name.

@@ -29,6 +29,7 @@ impl<C: BoardWords + Drop> BoardMachine<C> {
     }
 
     /// Why a line is refused that only a free party may have. None where the party is free.
+    #[inline(always)]
     pub fn refusal_of_party(&self, party: &Name) -> Option<Reason>
         ensures reason { OfEach self.now (λ s. result ≡ free_reason (s.parties party.now) None) }
         ensures free { IfNone result (HasNoTask self.now party.now) }

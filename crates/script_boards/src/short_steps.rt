@@ -1,6 +1,7 @@
 //! The short way of a line `step P`: a word is read or written, and nothing is told, or `ok` with the last write of an update.
 //! It leads to the refusal of a party that runs no call, too.
 ghost use Rattle.std.specs.Prelude.{◌≡◌, ◌≤◌, false, length};
+ghost use Rattle.board_cell.specs.Calls.{progress_of};
 ghost use Rattle.board_cell_model.specs.OwedAccesses.{is_finished};
 ghost use Rattle.script_boards.specs.Machine.{IsLed};
 ghost use Rattle.script_boards.specs.ShortSteps.{HasOwedWords, HasReadWord, HasWrittenWord, IsShortWay, IsWordRead, IsWordWritten, MakesAccess};
@@ -9,7 +10,7 @@ ghost use Rattle.script_boards.specs.Steps.{CanGoOn};
 
 use crate::machine::{BoardMachine, Task};
 use crate::value_update::ValueUpdate;
-use board_cell::{Access as CellAccess, GetCall};
+use board_cell::{Access as CellAccess, GetCall, Progress};
 use board_cell_model::Access;
 use board_model::Name;
 use board_service::BoardWords;
@@ -29,28 +30,31 @@ pub enum ShortWay {
     Idle,
     /// An access was made.
     Made(ShortStep),
+    /// To `step_get`: a get that keeps no value owes its counter.
+    Get,
     /// Nowhere: `step` answers the line.
     Nowhere,
 }
 
 // A get reads the word that it owes.
 #[inline(always)]
-fn read_word<C: BoardWords + Drop>(
+pub(crate) fn read_word<C: BoardWords + Drop>(
     board: u64,
     call: &mut GetCall,
     domain: &mut PartyDomain<C>,
-) -> Access
+) -> (Access, Progress)
     requires goes_on { is_finished call.old.reading ≡ false }
     requires word { HasReadWord domain.old board call.old }
-    ensures { IsWordRead domain.old domain.new board call.old call.new result }
+    ensures read { IsWordRead domain.old domain.new board call.old call.new result.0 }
+    ensures progress { result.1 ≡ progress_of (is_finished call.new.reading) }
 {
     let CellAccess::Read { word } = call.next() else {
         // A get reads.
         unreachable!()
     };
     let value = domain.load(board, word);
-    let _ = call.took(value);
-    Access::Read { board, word, value }
+    let progress = call.took(value);
+    (Access::Read { board, word, value }, progress)
 }
 
 // An update or a fill writes the word that it owes.
@@ -97,10 +101,13 @@ impl Task {
                 call,
                 value_type: _,
                 value: _,
-            } if call.owes_word() => Some(ShortStep {
-                access: read_word(*board, call, domain),
-                is_done: false,
-            }),
+            } if call.owes_word() => {
+                let (access, _) = read_word(*board, call, domain);
+                Some(ShortStep {
+                    access,
+                    is_done: false,
+                })
+            }
             Task::Fill {
                 board,
                 call,
@@ -123,14 +130,26 @@ impl<C: BoardWords + Drop> BoardMachine<C> {
         ensures steps { IsShortWay self.old self.new party.now result }
         ensures drawn { self.new.domain.drawn ≡ self.old.domain.drawn }
     {
-        let Some(task) = self.parties.get_mut(party) else {
+        let keeps_place = self.parties.keeps_places();
+        let Some(place) = self.parties.places.get_mut(party) else {
+            return ShortWay::Idle;
+        };
+        let Some(task) = place else {
             return ShortWay::Idle;
         };
         let Some(made) = task.make_access(&mut self.domain) else {
-            return ShortWay::Nowhere;
+            return if task.is_plain_get() {
+                ShortWay::Get
+            } else {
+                ShortWay::Nowhere
+            };
         };
         if made.is_done {
-            let _ = self.parties.remove(party);
+            if keeps_place {
+                *place = None;
+            } else {
+                let _ = self.parties.places.remove(party);
+            }
         }
         ShortWay::Made(made)
     }

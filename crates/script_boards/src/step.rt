@@ -11,7 +11,6 @@ ghost use Rattle.script_boards.specs.TaskWants.{TaskMayWant, keeps_value};
 ghost use Rattle.script_boards.specs.Wants.{MayWant};
 ghost use Rattle.script_boards.specs.declared.step.OwedAccess.TheVariants as owed;
 
-use crate::lookups::{go_on, hear};
 use crate::machine::{BoardMachine, KeptValue, TableTask, Task};
 use board_cell::{Access as CellAccess, Progress};
 use board_cell_model::Access;
@@ -304,7 +303,7 @@ impl<C: BoardWords + Drop> BoardMachine<C> {
         ensures memory { OnErr result (MayWant self.old (line.Step party.now)) }
         ensures drawn { OnOk result (self.new.domain.drawn ≤ self.old.domain.drawn + 1) }
     {
-        let Some(task) = self.parties.remove(party) else {
+        let Some(task) = self.parties.take(party) else {
             // `Owes`: the party's call runs.
             unreachable!()
         };
@@ -335,7 +334,7 @@ impl<C: BoardWords + Drop> BoardMachine<C> {
             word: read.word,
             value,
         };
-        match hear(party, value, &mut self.parties) {
+        match self.parties.hear(party, value) {
             None => Ok(Answer::Step {
                 access,
                 reply: None,
@@ -364,7 +363,7 @@ impl<C: BoardWords + Drop> BoardMachine<C> {
             value: write.value,
         };
         if write.is_last {
-            let Some(task) = self.parties.remove(party) else {
+            let Some(task) = self.parties.take(party) else {
                 // `Owes`: the party's call runs.
                 unreachable!()
             };
@@ -374,7 +373,7 @@ impl<C: BoardWords + Drop> BoardMachine<C> {
                 reply: Some(Reply::Done),
             }
         } else {
-            go_on(party, &mut self.parties);
+            self.parties.go_on(party);
             Answer::Step {
                 access,
                 reply: None,

@@ -10,12 +10,12 @@ use board_model::Value;
 use std::marker::Model;
 
 /// A publication of a value, one access after another: its words go into the spare copy in order, and then the counter is
-/// raised. `board_cell`'s `UpdateCall` does the same for a list of any length, and wants memory for it.
+/// raised. `board_cell`'s `UpdateCall` does the same for a list of any length, which is the caller's.
 #[derive(Drop, Debug)]
 pub(crate) struct ValueUpdate {
     shape: CellShape,
     generation: u64,
-    /// As many as the cell has, with zeros behind them.
+    /// As many as the cell has; those behind them are never looked at.
     words: [u64; 4],
     written: u64,
 }
@@ -33,7 +33,7 @@ impl Model for ValueUpdate {
         × (s.written ≤ s.shape.words + 1) };
 }
 
-// The words of a value, with zeros behind them.
+// The words of a value, and what fills the array.
 #[inline(always)]
 fn padded_words(value: Value) -> [u64; 4]
     ensures words { take (length (types.value_words value)) result ≡ types.value_words value }

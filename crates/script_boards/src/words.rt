@@ -7,6 +7,7 @@ ghost use Rattle.script_boards.specs.Machine.{Represents, drawn_by};
 ghost use Rattle.script_boards.specs.Wants.{MayWant};
 
 use crate::machine::BoardMachine;
+use crate::tasks::PartyTasks;
 use board_service::BoardWords;
 use script_parties::PartyDomain;
 use std::alloc::{AllocError, Global};
@@ -21,7 +22,7 @@ impl<C: BoardWords + Drop> BoardMachine<C> {
         BoardMachine {
             alloc,
             domain: PartyDomain::new(alloc),
-            parties: HashMap::new(alloc),
+            parties: PartyTasks::new(alloc),
             values: HashMap::new(alloc),
             loans: HashMap::new(alloc),
         }

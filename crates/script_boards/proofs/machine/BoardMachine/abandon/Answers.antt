@@ -18,15 +18,15 @@ returns-clause-serves g c =
     let m = c.args.self.now in
     let party = c.args.party in
     let was : was_abandoned (task_of m party) ≡ false = sym c.is_gone.ensures ∙ c.if-is_gone.false in
-    λ s rep reached l. party_leaves m _ s rep party l (record { domain = refl; values = refl; loans = refl }) was c.in_ok-put_task.ensures.put
+    λ s rep reached l. party_leaves m _ s rep party l (record { domain = refl; values = refl; loans = refl }) was c.in_ok-put.ensures.put
 
-pub returns-in_err-put_task-clause-memory : goal.returns-in_err-put_task-clause-memory
-returns-in_err-put_task-clause-memory g c =
+pub returns-in_err-put-clause-memory : goal.returns-in_err-put-clause-memory
+returns-in_err-put-clause-memory g c =
     let m = c.args.self.now in
-    anyway c.from_residual.result _ (λ s rep reached. rw (is_free (task_of m) s.parties rep.parties c.args.party c.in_err-put_task.ensures.absent) refl)
+    anyway c.from_residual.result _ (λ s rep reached. rw (is_free (task_of m) s.parties rep.parties c.args.party c.in_err-put.ensures.absent) refl)
 
-pub returns-in_err-put_task-clause-held : goal.returns-in_err-put_task-clause-held
-returns-in_err-put_task-clause-held g c = anyway c.from_residual.result _ (record { domain = refl; values = refl; loans = refl })
+pub returns-in_err-put-clause-held : goal.returns-in_err-put-clause-held
+returns-in_err-put-clause-held g c = anyway c.from_residual.result _ (record { domain = refl; values = refl; loans = refl })
 
-pub returns-in_err-put_task-clause-parties : goal.returns-in_err-put_task-clause-parties
-returns-in_err-put_task-clause-parties g c = anyway c.from_residual.result _ c.in_err-put_task.ensures.same
+pub returns-in_err-put-clause-parties : goal.returns-in_err-put-clause-parties
+returns-in_err-put-clause-parties g c = anyway c.from_residual.result _ c.in_err-put.ensures.same

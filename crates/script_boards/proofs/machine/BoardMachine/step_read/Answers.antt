@@ -39,7 +39,7 @@ tell_read-requires g c =
     let same = c.read_word-value.ensures.same in
     let v = c.read_word-value.result in
     let heard = c.hear.ensures owes.task (ap (λ (f : List ℕ → Option Task). f party) same.rest.parties ∙ owes.stands) in
-    let mid = record c.read_word-value.new.self { parties = c.hear.new.tasks } in
+    let mid = record c.read_word-value.new.self { parties = c.hear.new.self } in
     let ends = heard_last (task_of m) (task_of c.read_word-value.new.self) (task_of mid) party owes.task v same.rest.parties c.hear.result c.in-Some.task heard c.in-Some.is in
     subst HasRead (sym ends.task) (has_read owes.task c.args.read v owes.owes ends.last)
 
@@ -55,7 +55,7 @@ returns-in-None-clause-serves g c =
     let word : c.args.read.word < 2 ^ 64 = search rules in
     let value : v < 2 ^ 64 = search rules in
     let heard = c.hear.ensures owes.task (ap (λ (f : List ℕ → Option Task). f party) same.rest.parties ∙ owes.stands) in
-    let mid = record c.read_word-value.new.self { parties = c.hear.new.tasks } in
+    let mid = record c.read_word-value.new.self { parties = c.hear.new.self } in
     let goes = heard_more (task_of m) (task_of c.read_word-value.new.self) (task_of mid) party owes.task v same.rest.parties c.hear.result heard c.in-None.is in
     λ s rep reached l.
     read_goes_on m s rep reached.sound party owes.task (owed_runs m party o owes s rep) c.args.read owes.owes v c.read_word-value.ensures.value board word value l _
@@ -73,7 +73,7 @@ returns-in_ok-told-in-Some-clause-serves g c =
     let word : c.args.read.word < 2 ^ 64 = search rules in
     let value : v < 2 ^ 64 = search rules in
     let heard = c.hear.ensures owes.task (ap (λ (f : List ℕ → Option Task). f party) same.rest.parties ∙ owes.stands) in
-    let mid = record c.read_word-value.new.self { parties = c.hear.new.tasks } in
+    let mid = record c.read_word-value.new.self { parties = c.hear.new.self } in
     let ends = heard_last (task_of m) (task_of c.read_word-value.new.self) (task_of mid) party owes.task v same.rest.parties c.hear.result c.in-Some.task heard c.in-Some.is in
     λ s rep reached l.
     read_ends m s rep reached.sound party owes.task (owed_runs m party o owes s rep) c.args.read owes.owes v c.read_word-value.ensures.value board word value l mid c.tell_read.new.self
@@ -88,7 +88,7 @@ returns-in_err-told-in-Some-clause-memory g c =
     let same = c.read_word-value.ensures.same in
     let v = c.read_word-value.result in
     let heard = c.hear.ensures owes.task (ap (λ (f : List ℕ → Option Task). f party) same.rest.parties ∙ owes.stands) in
-    let mid = record c.read_word-value.new.self { parties = c.hear.new.tasks } in
+    let mid = record c.read_word-value.new.self { parties = c.hear.new.self } in
     let ends = heard_last (task_of m) (task_of c.read_word-value.new.self) (task_of mid) party owes.task v same.rest.parties c.hear.result c.in-Some.task heard c.in-Some.is in
     let keeps = subst (λ (t : Task). keeps_value t ≡ true) ends.task c.in_err-told-in-Some.ensures.memory in
     anyway c.from_residual.result _ (λ s rep reached.

@@ -15,30 +15,30 @@ run_table-requires g c =
     let owes = c.requires.owes in
     let led = c.requires.led in
     let runs = owed_runs m party owed.Table owes led.state led.represents in
-    let is = owed_is m party owed.Table owes c.remove.result c.in-Some.task c.remove.ensures.value c.in-Some.is in
+    let is = owed_is m party owed.Table owes c.take.result c.in-Some.task c.take.ensures.task c.in-Some.is in
     let asked : IsTableTask c.in-Table.task runs.r.request = subst (λ (t : Task). IsTaskOf t runs.r.request runs.r.so_far) (sym is ∙ c.in-Table.is) runs.task in
-    let mid = record m { parties = c.remove.new.self } in
-    task_can_run m led.state led.represents led.reached party owes.task runs mid m refl refl c.remove.ensures.updates.0 refl refl c.in-Table.task (bounded led.state led.reached) led.few asked
+    let mid = record m { parties = c.take.new.self } in
+    task_can_run m led.state led.represents led.reached party owes.task runs mid m refl refl c.take.ensures.rest refl refl c.in-Table.task (bounded led.state led.reached) led.few asked
 
 pub returns-clause-serves : goal.returns-clause-serves
 returns-clause-serves g c =
     let m = c.args.self.now in
     let party = c.args.party.now in
     let owes = c.requires.owes in
-    let is = owed_is m party owed.Table owes c.remove.result c.in-Some.task c.remove.ensures.value c.in-Some.is in
-    let mid = record m { parties = c.remove.new.self } in
+    let is = owed_is m party owed.Table owes c.take.result c.in-Some.task c.take.ensures.task c.in-Some.is in
+    let mid = record m { parties = c.take.new.self } in
     λ s rep reached l.
     let runs = owed_runs m party owed.Table owes s rep in
     let asked : IsTableTask c.in-Table.task runs.r.request = subst (λ (t : Task). IsTaskOf t runs.r.request runs.r.so_far) (sym is ∙ c.in-Table.is) runs.task in
-    task_right m s rep reached party owes.task runs mid c.run_table.new.self refl refl c.remove.ensures.updates.0 refl refl c.in-Table.task c.in_ok-told-in-Table.told asked c.in_ok-told-in-Table.ensures.told l
+    task_right m s rep reached party owes.task runs mid c.run_table.new.self refl refl c.take.ensures.rest refl refl c.in-Table.task c.in_ok-told-in-Table.told asked c.in_ok-told-in-Table.ensures.told l
 
 pub returns-in_err-told-in-Table-clause-memory : goal.returns-in_err-told-in-Table-clause-memory
 returns-in_err-told-in-Table-clause-memory g c =
     let m = c.args.self.now in
     let party = c.args.party.now in
     let owes = c.requires.owes in
-    let is = owed_is m party owed.Table owes c.remove.result c.in-Some.task c.remove.ensures.value c.in-Some.is in
-    let mid = record m { parties = c.remove.new.self } in
+    let is = owed_is m party owed.Table owes c.take.result c.in-Some.task c.take.ensures.task c.in-Some.is in
+    let mid = record m { parties = c.take.new.self } in
     anyway c.from_residual.result _ (λ s rep reached.
     let runs = owed_runs m party owed.Table owes s rep in
     let asked : IsTableTask c.in-Table.task runs.r.request = subst (λ (t : Task). IsTaskOf t runs.r.request runs.r.so_far) (sym is ∙ c.in-Table.is) runs.task in

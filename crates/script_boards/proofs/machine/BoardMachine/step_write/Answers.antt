@@ -31,7 +31,7 @@ pub unreachable-requires : goal.unreachable-requires
 unreachable-requires g c =
     let m = c.args.self.now in
     let party = c.args.party.now in
-    was_found m party (owed.Write c.args.write) c.requires.owes c.remove.result (c.remove.ensures.value ∙ ap (λ (f : List ℕ → Option Task). f party) c.write_word.ensures.rest.parties) c.in_default.is
+    was_found m party (owed.Write c.args.write) c.requires.owes c.take.result (c.take.ensures.task ∙ ap (λ (f : List ℕ → Option Task). f party) c.write_word.ensures.rest.parties) c.in_default.is
 
 pub settle-requires : goal.settle-requires
 settle-requires g c =
@@ -41,8 +41,8 @@ settle-requires g c =
     let owes = c.requires.owes in
     let led = c.requires.led in
     let runs = owed_runs m party o owes led.state led.represents in
-    let is = owed_is m party o owes c.remove.result c.in-Some.task (c.remove.ensures.value ∙ ap (λ (f : List ℕ → Option Task). f party) c.write_word.ensures.rest.parties) c.in-Some.is in
-    let mid = record c.write_word.new.self { parties = c.remove.new.self } in
+    let is = owed_is m party o owes c.take.result c.in-Some.task (c.take.ensures.task ∙ ap (λ (f : List ℕ → Option Task). f party) c.write_word.ensures.rest.parties) c.in-Some.is in
+    let mid = record c.write_word.new.self { parties = c.take.new.self } in
     subst (λ (t : Task). CanSettle mid party t) (sym is) (can_settle m led.state led.represents led.reached.sound party owes.task runs mid c.write_word.ensures.rest.loans owes.task runs.task)
 
 pub returns-in-Some-clause-serves : goal.returns-in-Some-clause-serves
@@ -54,12 +54,12 @@ returns-in-Some-clause-serves g c =
     let board : c.args.write.board < 2 ^ 64 = search rules in
     let word : c.args.write.word < 2 ^ 64 = search rules in
     let value : c.args.write.value < 2 ^ 64 = search rules in
-    let is = owed_is m party o owes c.remove.result c.in-Some.task (c.remove.ensures.value ∙ ap (λ (f : List ℕ → Option Task). f party) c.write_word.ensures.rest.parties) c.in-Some.is in
-    let mid = record c.write_word.new.self { parties = c.remove.new.self } in
+    let is = owed_is m party o owes c.take.result c.in-Some.task (c.take.ensures.task ∙ ap (λ (f : List ℕ → Option Task). f party) c.write_word.ensures.rest.parties) c.in-Some.is in
+    let mid = record c.write_word.new.self { parties = c.take.new.self } in
     let settled = subst (λ (t : Task). IsSettled mid c.settle.new.self party t) is c.settle.ensures in
     λ s rep reached l.
     write_ends m s rep reached.sound party owes.task (owed_runs m party o owes s rep) c.args.write owes.owes c.write_word.new.self c.write_word.ensures
-    (record { board = board; word = word; value = value }) l mid c.settle.new.self refl refl refl refl c.remove.ensures.updates.0 c.if-write.true settled
+    (record { board = board; word = word; value = value }) l mid c.settle.new.self refl refl refl refl c.take.ensures.rest c.if-write.true settled
 
 pub returns-else-write-clause-serves : goal.returns-else-write-clause-serves
 returns-else-write-clause-serves g c =

@@ -8,8 +8,8 @@ use Rattle.script_boards.specs.Steps.{IsOwedBy}
 use Rattle.script_boards.proofs.ShortSteps.{owed_write_of}
 use Rattle.script_boards.proofs.machine.Task.make_access.Goals as goal
 
-pub read_word-requires-clause-word : goal.read_word-requires-clause-word
-read_word-requires-clause-word g c = λ word e.
+pub read_word-access-requires-clause-word : goal.read_word-access-requires-clause-word
+read_word-access-requires-clause-word g c = λ word e.
     let r : OwedRead = record { board = c.in-Get.board; word = word } in
     c.requires.words.reads r (subst (λ (t : Task). IsOwedBy t (owed.Read r)) (sym c.in-Get.is) e)
 
