@@ -9,6 +9,7 @@ ghost use Rattle.board_model.specs.LineGrammar.{IsLine, IsNumber};
 ghost use Rattle.board_model.specs.Requests as requests;
 ghost use Rattle.script_model.specs.ScriptEvents.{runs_on_events};
 ghost use Rattle.script_model.specs.ScriptTurns.{takes_event_name};
+ghost use Rattle.script_boards.specs.GetSteps.{RunsPlainGet};
 ghost use Rattle.script_boards.specs.Machine.{drawn_by};
 ghost use Rattle.script_boards.specs.ShortBegins.{begun_unless};
 ghost use Rattle.script_events.specs.PartyEvents as events;
@@ -24,8 +25,8 @@ use script_boards::ShortWay;
 use script_events::Stepped;
 use script_model::new_name;
 use script_print::{
-    push_access_made, push_answer, push_begun, push_event_asked, push_event_step, push_refused,
-    push_words,
+    push_access_made, push_answer, push_begun, push_event_asked, push_event_step, push_got,
+    push_refused, push_words,
 };
 use std::alloc::AllocError;
 
@@ -169,8 +170,37 @@ impl<C: BoardWords + Drop> Machine<C> {
         }
         match self.boards.step_short(party) {
             ShortWay::Made(made) => push_access_made(made.access, made.is_done, out),
+            ShortWay::Get => self.step_get(party, out),
             ShortWay::Idle => push_refused(Reason::Idle, out),
             ShortWay::Nowhere => self.step_on_boards(party, out),
+        }
+    }
+
+    // A step of a party that runs a get which keeps no value. Apart, as others are.
+    #[inline(never)]
+    fn step_get(&mut self, party: &Name, out: &mut Vec<u8>) -> Result<(), AllocError>
+        requires led { IsLed self.old }
+        requires line { IsLine (board_line.Step party.now) }
+        requires runs { events.OfEach self.old.events (λ x. runs_on_events x party.now ≡ false) }
+        requires get { RunsPlainGet self.old.boards party.now }
+        requires empty { out.old.items ≡ [] }
+        ensures tells { OnOk result (TellsOfBoards self.old self.new (board_line.Step party.now)
+            out.new.items) }
+        ensures memory { OnErr result (BoardMayWant self.old (board_line.Step party.now) out.old) }
+        ensures room { vec_capacity out.old ≤ vec_capacity out.new }
+        ensures drawn { OnOk result (drawn_by self.new.boards ≤ drawn_by self.old.boards + 1) }
+    {
+        let step = self.boards.step_get(party);
+        let access = step.access;
+        match step.told {
+            None => push_access_made(access, false, out),
+            Some(read) => push_got(
+                access,
+                read.value_type,
+                read.words.as_slice(),
+                read.generation,
+                out,
+            ),
         }
     }
 

@@ -62,6 +62,31 @@ returns-in-Idle-clause-memory g c =
     (λ s count rep reached. (idle s.boards rep.boards reached.boards c.requires.line).0)
     (λ s count rep reached no. absurd (no tt))
 
+-- ---- a step of a get that keeps no value, of the same machine
+
+pub step_get-requires-clause-led : goal.step_get-requires-clause-led
+step_get-requires-clause-led g c =
+    let get = subst (λ (o : ShortWay). IsShortWay c.args.self.now.boards c.step_short.new.self c.args.party.now o) c.in-Get.is c.step_short.ensures.steps in
+    led_same c.args.self.now c.step_short.new.self get.0 c.requires.led
+
+pub step_get-requires-clause-runs : goal.step_get-requires-clause-runs
+step_get-requires-clause-runs g c = λ x count few sound rep. sym (c.runs.ensures x count few sound rep) ∙ c.if-runs.false
+
+pub step_get-requires-clause-get : goal.step_get-requires-clause-get
+step_get-requires-clause-get g c =
+    let get = subst (λ (o : ShortWay). IsShortWay c.args.self.now.boards c.step_short.new.self c.args.party.now o) c.in-Get.is c.step_short.ensures.steps in
+    get.1
+
+pub returns-in-Get-clause-tells : goal.returns-in-Get-clause-tells
+returns-in-Get-clause-tells g c =
+    let get = subst (λ (o : ShortWay). IsShortWay c.args.self.now.boards c.step_short.new.self c.args.party.now o) c.in-Get.is c.step_short.ensures.steps in
+    on_ok (tells_same c.args.self.now c.step_short.new.self get.0 _ (line.Board (board_line.Step c.args.party.now)) _) c.step_get.result c.step_get.ensures.tells
+
+pub returns-in-Get-clause-memory : goal.returns-in-Get-clause-memory
+returns-in-Get-clause-memory g c =
+    let get = subst (λ (o : ShortWay). IsShortWay c.args.self.now.boards c.step_short.new.self c.args.party.now o) c.in-Get.is c.step_short.ensures.steps in
+    err_then c.step_get.result c.step_get.ensures.memory (wants_same c.args.self.now c.step_short.new.self get.0 (line.Board (board_line.Step c.args.party.now)) c.args.out.now)
+
 -- ---- another one, of the same machine
 
 pub step_on_boards-requires-clause-led : goal.step_on_boards-requires-clause-led
