@@ -192,7 +192,7 @@ impl<C: BoardWords + Drop> Machine<C> {
     {
         let step = self.boards.step_get(party);
         let access = step.access;
-        match step.told {
+        match &step.told {
             None => push_access_made(access, false, out),
             Some(read) => push_got(
                 access,

@@ -1,4 +1,4 @@
-use Rattle.std.proofs.Common.{◌≡◌, ℕ, List, Option, false, ap, subst, sym, Some, None, ◌∙◌}
+use Rattle.std.proofs.Common.{◌≡◌, ℕ, List, Option, false, ap, subst, Some, None, ◌∙◌}
 use Rattle.std.specs.Prelude.{OnErr, option_map}
 use Rattle.board_cell_model.specs.declared.access.Access.{Access}
 use Rattle.board_model.specs.AnswerGrammar.{answer_line}
@@ -48,28 +48,28 @@ returns-in-None-clause-memory g c =
 
 -- ---- its last
 
-pub returns-in-Some-clause-tells : goal.returns-in-Some-clause-tells
-returns-in-Some-clause-tells g c =
+pub returns-clause-tells : goal.returns-clause-tells
+returns-clause-tells g c =
     let party = c.args.party.now in
     let step = c.step_get-step.result in
     let read = c.in-Some.read in
     let serves = subst (λ (o : Option ReadValue). Serves c.args.self.now.boards c.step_get-step.new.self (board_line.Step party) (answered step.access o)) c.in-Some.is c.step_get-step.ensures.serves in
     let same : answer.Step step.access (Some (reply.Got read.value_type c.as_slice.result.now read.generation)) ≡ answered step.access (Some read) =
-    ap (λ (ws : List ℕ). answer.Step step.access (Some (reply.Got read.value_type ws read.generation))) (c.as_slice.ensures ∙ ap (λ (r : ReadValue). r.words) c.in-Some.read-is) in
+    ap (λ (ws : List ℕ). answer.Step step.access (Some (reply.Got read.value_type ws read.generation))) c.as_slice.ensures in
     on_ok (λ e s count rep reached.
     let runs : runs_on_events s.events party ≡ false = c.requires.runs s.events count reached.few reached.sound.events rep.events in
     let served = serves s.boards rep.boards reached.boards c.requires.line in
     told_alone _ s (board_line.Step party) (answered step.access (Some read)) _ (step_alone s party runs) c.requires.line served.0
     (record { alive = rep.alive; boards = served.1; events = rep.events }) (from_nothing _ _ _ c.requires.empty e ∙ ap answer_line same)) c.push_got.result c.push_got.ensures.ok
 
-pub returns-in-Some-clause-memory : goal.returns-in-Some-clause-memory
-returns-in-Some-clause-memory g c =
+pub returns-clause-memory : goal.returns-clause-memory
+returns-clause-memory g c =
     let party = c.args.party.now in
     let step = c.step_get-step.result in
     let read = c.in-Some.read in
     let serves = subst (λ (o : Option ReadValue). Serves c.args.self.now.boards c.step_get-step.new.self (board_line.Step party) (answered step.access o)) c.in-Some.is c.step_get-step.ensures.serves in
     let same : answer.Step step.access (Some (reply.Got read.value_type c.as_slice.result.now read.generation)) ≡ answered step.access (Some read) =
-    ap (λ (ws : List ℕ). answer.Step step.access (Some (reply.Got read.value_type ws read.generation))) (c.as_slice.ensures ∙ ap (λ (r : ReadValue). r.words) c.in-Some.read-is) in
+    ap (λ (ws : List ℕ). answer.Step step.access (Some (reply.Got read.value_type ws read.generation))) c.as_slice.ensures in
     answered_wants c.push_got.result c.args.self.now (board_line.Step party) c.args.out.now (answered step.access (Some read))
     (subst (λ (a : Answer). OnErr c.push_got.result (LacksRoomFor c.args.out.now (answer_line a))) same c.push_got.ensures.room)
     (λ s count rep reached. step_alone s party (c.requires.runs s.events count reached.few reached.sound.events rep.events))
