@@ -65,7 +65,7 @@ fn name_of_one(a: u8) -> Option<Name>
     ensures { result ≡ read_name (a ∷ []) }
 {
     if is_name_byte(a) {
-        return Some(Text::of(&[a]));
+        return Some(Text::of_few([a, 0, 0, 0, 0, 0, 0, 0], 1));
     }
     None
 }
@@ -76,12 +76,23 @@ fn name_of_two(a: u8, b: u8) -> Option<Name>
     ensures { result ≡ read_name (a ∷ b ∷ []) }
 {
     if is_name_byte(a) && is_name_byte(b) {
-        return Some(Text::of(&[a, b]));
+        return Some(Text::of_few([a, b, 0, 0, 0, 0, 0, 0], 2));
     }
     None
 }
 
-// A name, where it is one. Those of one or two bytes, as most are, are looked at and copied without a loop.
+#[inline(always)]
+#[tactic(auto, unfolding(script_grammar::specs::TokenReading::read_name))]
+fn name_of_three(a: u8, b: u8, c: u8) -> Option<Name>
+    ensures { result ≡ read_name (a ∷ b ∷ c ∷ []) }
+{
+    if is_name_byte(a) && is_name_byte(b) && is_name_byte(c) {
+        return Some(Text::of_few([a, b, c, 0, 0, 0, 0, 0], 3));
+    }
+    None
+}
+
+// A name, where it is one. Those of up to three bytes, as most are, are looked at and copied without a loop.
 #[inline(always)]
 pub(crate) fn name_of(text: &[u8]) -> Option<Name>
     ensures { result ≡ read_name text.now }
@@ -89,6 +100,7 @@ pub(crate) fn name_of(text: &[u8]) -> Option<Name>
     match text {
         [a] => name_of_one(*a),
         [a, b] => name_of_two(*a, *b),
+        [a, b, c] => name_of_three(*a, *b, *c),
         _ => name_by_bytes(text),
     }
 }
